@@ -1,0 +1,86 @@
+ghost use Rattle.std.specs.Prelude.{◌≡◌, ◌≤◌, ◌+◌, length, drop, Some, None, []};
+
+use crate::{Failed, Sink, Source};
+use std::alloc::Global;
+
+/// Bytes in memory, and the places of the calls that fail.
+#[derive(Drop)]
+pub struct MemSource {
+    bytes: Vec<u8>,
+    at: usize,
+    failing: Vec<u64>,
+    calls: u64,
+    faults: u64,
+    ghost within: { at ≤ length bytes.items },
+}
+
+impl MemSource {
+    pub fn new(bytes: Vec<u8>, failing: Vec<u64>) -> Self {
+        MemSource {
+            bytes,
+            at: 0,
+            failing,
+            calls: 0,
+            faults: 0,
+        }
+    }
+}
+
+impl Source for MemSource {
+    ghost left = { λ s. Some (drop s.at s.bytes.items) };
+
+    ghost faults = { λ s. s.faults };
+
+    fn read(&mut self, into: &mut [u8]) -> Result<usize, Failed> {
+        self.calls = self.calls.saturating_add(1);
+        if self.failing.contains(&self.calls) {
+            self.faults = self.faults.saturating_add(1);
+            return Err(Failed);
+        }
+        let count = into.len().min(self.bytes.len() - self.at);
+        into[..count].copy_from_slice(&self.bytes[self.at..self.at + count]);
+        self.at += count;
+        Ok(count)
+    }
+}
+
+/// Bytes written to memory, and the places of the calls that fail.
+#[derive(Drop)]
+pub struct MemSink {
+    bytes: Vec<u8>,
+    failing: Vec<u64>,
+    calls: u64,
+    faults: u64,
+}
+
+impl MemSink {
+    pub fn new(alloc: Global, failing: Vec<u64>) -> Self {
+        MemSink {
+            bytes: Vec::new(alloc),
+            failing,
+            calls: 0,
+            faults: 0,
+        }
+    }
+
+    pub fn bytes(&self) -> &[u8]
+        ensures { result.now ≡ self.now.bytes.items }
+    {
+        &self.bytes
+    }
+}
+
+impl Sink for MemSink {
+    ghost held = { λ s. Some s.bytes.items };
+
+    ghost faults = { λ s. s.faults };
+
+    fn write(&mut self, bytes: &[u8]) -> Result<usize, Failed> {
+        self.calls = self.calls.saturating_add(1);
+        if self.failing.contains(&self.calls) || self.bytes.extend_from_slice(bytes).is_err() {
+            self.faults = self.faults.saturating_add(1);
+            return Err(Failed);
+        }
+        Ok(bytes.len())
+    }
+}
