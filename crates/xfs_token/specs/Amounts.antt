@@ -1,5 +1,5 @@
 -- Dispense amounts: what the values of the keys DISPENSE1 to DISPENSE9 say, in thousandths of a currency's unit.
-use Rattle.std.specs.Prelude.{◌≡◌, ℕ, ◌+◌, ◌-◌, ◌*◌, ◌/◌, ◌%◌, ◌≤◌, ◌==◌, ◌&&◌, ◌||◌, not, nat_le, Bool, true, false, List, [], ◌∷◌, ◌++◌, length, take, drop, codes, if◌then◌else◌, fold, map, find, is_some, None, Some, unwrap_or}
+use Rattle.std.specs.Prelude.{◌≡◌, ℕ, ◌+◌, ◌-◌, ◌*◌, ◌/◌, ◌%◌, ◌≤◌, ◌==◌, ◌&&◌, ◌||◌, not, nat_le, nat_lt, IsTrue, Bool, true, false, List, [], ◌∷◌, ◌++◌, length, take, drop, codes, if◌then◌else◌, fold, map, find, is_some, None, Some, unwrap_or}
 use Rattle.std.specs.Option.{option_map, option_and_then}
 use Rattle.std.specs.declared.option.Option.{Option}
 use Rattle.std.specs.List.{list_all, list_any, before_first}
@@ -67,14 +67,29 @@ read_amounts (text ∷ texts) = option_and_then (λ amount. option_map (λ amoun
 abbrev pub has_currency : List ℕ → List (List ℕ × ℕ) → Bool
 has_currency currency amounts = list_any (λ a. bytes_eq a.0 currency) amounts
 
--- the currencies differ from each other
-abbrev pub are_different : List (List ℕ × ℕ) → Bool
-are_different [] = true
-are_different (a ∷ rest) = not (has_currency a.0 rest) && are_different rest
+-- amounts behind earlier ones: each currency is new behind all before it
+abbrev pub are_new : List (List ℕ × ℕ) → List (List ℕ × ℕ) → Bool
+are_new earlier [] = true
+are_new earlier (a ∷ rest) = not (has_currency a.0 earlier) && are_new (earlier ++ a ∷ []) rest
+
+-- an amount that may be paid: a currency's letters, and at most 999,999,999,999 thousandths
+abbrev pub is_payable : List ℕ → ℕ → Bool
+is_payable currency n = is_currency currency && nat_le n 999999999999
+
+-- one to nine amounts that may be paid, of different currencies
+pub record IsAmounts (amounts : List (List ℕ × ℕ)) : Type 0 where
+  pub low : 1 ≤ length amounts
+  pub high : length amounts ≤ 9
+  pub payable : IsTrue (list_all (λ a. is_payable a.0 a.1) amounts)
+  pub different : IsTrue (are_new [] amounts)
+
+-- an amount that may be added to these
+abbrev pub may_add : List (List ℕ × ℕ) → List ℕ → ℕ → Bool
+may_add amounts currency n = is_payable currency n && nat_lt (length amounts) 9 && not (has_currency currency amounts)
 
 -- amounts, where there is one and their currencies differ
 abbrev pub valid_amounts : List (List ℕ × ℕ) → Option (List (List ℕ × ℕ))
-valid_amounts amounts = if nat_le 1 (length amounts) && are_different amounts then Some amounts else None
+valid_amounts amounts = if nat_le 1 (length amounts) && are_new [] amounts then Some amounts else None
 
 -- the amounts of a token, currency and thousandths
 unfoldable pub amounts_of : Parts → Option (List (List ℕ × ℕ))

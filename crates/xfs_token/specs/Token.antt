@@ -32,10 +32,9 @@ is_value_byte b = nat_le 33 b && nat_le b 126 && not (b == 44) && not (b == 61)
 abbrev pub is_nonce : List ℕ → Bool
 is_nonce nonce = nat_le 1 (length nonce) && nat_le (length nonce) 128 && list_all is_upper_hex nonce
 
--- a key: a letter, and at most 31 letters and digits
+-- a key: 1 to 32 letters and digits, the first a letter
 abbrev pub is_key : List ℕ → Bool
-is_key [] = false
-is_key (b ∷ bs) = is_letter b && list_all is_key_byte bs && nat_le (length bs) 31
+is_key key = nat_le 1 (length key) && nat_le (length key) 32 && is_letter (slice_index key 0) && list_all is_key_byte key
 
 abbrev pub is_reserved : List ℕ → Bool
 is_reserved key = bytes_eq key (codes "NONCE") || bytes_eq key (codes "TOKENFORMAT") || bytes_eq key (codes "TOKENLENGTH") || bytes_eq key (codes "HMACSHA256")
