@@ -5,7 +5,7 @@ use Rattle.std.specs.declared.option.Option.{Option}
 use Rattle.std.specs.List.{list_all, list_any, before_first}
 use Rattle.std.specs.Str.{bytes_eq}
 use Rattle.std.specs.Fmt.{decimal}
-use Rattle.xfs_token.specs.Token.{Parts, is_digit, is_letter}
+use Rattle.xfs_token.specs.Token.{Parts, Genuine, is_digit, is_letter}
 
 -- the number that decimal digits write
 abbrev pub number_of : List ℕ → ℕ
@@ -32,14 +32,17 @@ filled digits = take 3 (digits ++ codes "000")
 abbrev pub thousandths : List ℕ → List ℕ → ℕ
 thousandths whole part = 1000 * number_of whole + number_of (filled (drop 1 part))
 
+-- an amount of a number, what stands from its point on, and a currency, where each is of the grammar
+abbrev pub amount_from : List ℕ → List ℕ → List ℕ → Option (List ℕ × ℕ)
+amount_from whole part currency = if is_whole whole && is_part part && is_currency currency then Some (currency, thousandths whole part) else None
+
+-- a number is cut before its first point
+abbrev pub amount_before : List ℕ → List ℕ → Option (List ℕ × ℕ)
+amount_before number currency = let whole = before_first (λ b. b == 46) number in amount_from whole (drop (length whole) number) currency
+
 -- the currency and the thousandths of an amount's text: its last three bytes, and the number before them
 unfoldable pub read_amount : List ℕ → Option (List ℕ × ℕ)
-read_amount text =
-    let number = take (length text - 3) text in
-    let currency = drop (length text - 3) text in
-    let whole = before_first (λ b. b == 46) number in
-    let part = drop (length whole) number in
-    if is_whole whole && is_part part && is_currency currency then Some (currency, thousandths whole part) else None
+read_amount text = amount_before (take (length text - 3) text) (drop (length text - 3) text)
 
 -- the key of a number from 1 to 9
 abbrev pub dispense_key : ℕ → List ℕ
@@ -103,12 +106,25 @@ amount_in amounts currency = unwrap_or (option_map (λ a. a.1) (find (λ a. byte
 unfoldable pub amount : Parts → List ℕ → ℕ
 amount t currency = amount_in (unwrap_or (amounts_of t) []) currency
 
--- the text of an amount: two decimals, and a third where the last thousandth is not 0
+-- a point and two decimals of thousandths, and a third where the last thousandth is not 0
+abbrev pub decimals : ℕ → List ℕ
+decimals n =
+    if n % 10 == 0 then 46 ∷ (48 + n / 100 % 10) ∷ (48 + n / 10 % 10) ∷ []
+    else 46 ∷ (48 + n / 100 % 10) ∷ (48 + n / 10 % 10) ∷ (48 + n % 10) ∷ []
+
+-- the text of an amount
 abbrev pub amount_text : List ℕ → ℕ → List ℕ
-amount_text currency n =
-    decimal (n / 1000) ++ codes "." ++ (48 + n / 100 % 10) ∷ (48 + n / 10 % 10) ∷ (if n % 10 == 0 then [] else (48 + n % 10) ∷ []) ++ currency
+amount_text currency n = decimal (n / 1000) ++ decimals n ++ currency
 
 -- the dispense keys of amounts, from the number n on
 abbrev pub dispense_pairs : ℕ → List (List ℕ × ℕ) → List (List ℕ × List ℕ)
 dispense_pairs n [] = []
 dispense_pairs n (a ∷ rest) = (dispense_key n, amount_text a.0 a.1) ∷ dispense_pairs (n + 1) rest
+
+-- the bytes are a genuine token with this nonce, and these amounts under the dispense keys in their order
+pub record IsMade (key nonce : List ℕ) (amounts : List (List ℕ × ℕ)) (bytes : List ℕ) : Type 0 where
+  pub token : Parts
+  pub genuine : Genuine key token bytes
+  pub nonce_kept : token.nonce ≡ nonce
+  pub pairs : token.pairs ≡ dispense_pairs 1 amounts
+  pub amounts_kept : amounts_of token ≡ Some amounts

@@ -75,9 +75,13 @@ abbrev pub pairs_text : List (List ℕ × List ℕ) → List ℕ
 pairs_text [] = []
 pairs_text (p ∷ ps) = codes "," ++ p.0 ++ codes "=" ++ p.1 ++ pairs_text ps
 
+-- the bytes before the HMAC, which it covers, of a token whose length field has the number n
+unfoldable pub covered : List ℕ → List (List ℕ × List ℕ) → ℕ → List ℕ
+covered nonce pairs n = codes "NONCE=" ++ nonce ++ codes ",TOKENFORMAT=1,TOKENLENGTH=" ++ four_digits n ++ pairs_text pairs
+
 -- the text of a token whose length field has the number n
 unfoldable pub form : Parts → ℕ → List ℕ
-form t n = codes "NONCE=" ++ t.nonce ++ codes ",TOKENFORMAT=1,TOKENLENGTH=" ++ four_digits n ++ pairs_text t.pairs ++ codes ",HMACSHA256=" ++ encode_upper t.mac
+form t n = covered t.nonce t.pairs n ++ codes ",HMACSHA256=" ++ encode_upper t.mac
 
 -- these bytes spell this token
 pub record Spells (t : Parts) (bytes : List ℕ) : Type 0 where

@@ -4,6 +4,9 @@
 mod amounts;
 mod faults;
 mod grammar;
+mod minting;
+mod text;
 
 pub use amounts::Amounts;
 pub use faults::TokenFault;
+pub use minting::{MakeFault, make};
