@@ -1,4 +1,9 @@
 pub mod AmountsLemmas
 pub mod AmountText
+pub mod Front
+pub mod HexText
+pub mod Keys
 pub mod Minted
+pub mod Stuck
+pub mod Tails
 pub mod Written

@@ -96,3 +96,17 @@ made key nonce code text amounts total good valid is_mac sum coded built =
       pairs = refl;
       amounts_kept = amounts_of-dispense_pairs nonce code amounts valid;
     }
+
+-- a text that was built with its own length spells the token
+pub spelled : (t : Parts) (text : List ℕ) (total : ℕ) → IsWellFormed t → total ≡ length t.nonce + length (pairs_text t.pairs) + 113 → total ≤ 1024 → text ≡ covered t.nonce t.pairs total ++ codes ",HMACSHA256=" ++ encode_upper t.mac → Spells t text
+spelled t text total formed sum few built =
+    let form_is : text ≡ form t total = built ∙ sym (form_is_covered t total) in
+    let len : length text ≡ total = ap length form_is ∙ length-form t total formed.mac.long ∙ sym sum in
+    record { formed = formed; text = form_is ∙ ap (λ (n : ℕ). form t n) (sym len); short = omega arith }
+
+-- a token has one text
+pub one_text : (t : Parts) (a b : List ℕ) → Spells t a → Spells t b → a ≡ b
+one_text t a b x y =
+    let la : length a ≡ length t.nonce + length (pairs_text t.pairs) + 113 = ap length x.text ∙ length-form t (length a) x.formed.mac.long in
+    let lb : length b ≡ length t.nonce + length (pairs_text t.pairs) + 113 = ap length y.text ∙ length-form t (length b) y.formed.mac.long in
+    x.text ∙ ap (λ (n : ℕ). form t n) (la ∙ sym lb) ∙ sym y.text

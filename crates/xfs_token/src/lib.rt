@@ -5,8 +5,13 @@ mod amounts;
 mod faults;
 mod grammar;
 mod minting;
+mod pair;
+mod signing;
 mod text;
+mod token;
 
 pub use amounts::Amounts;
 pub use faults::TokenFault;
 pub use minting::{MakeFault, make};
+pub use signing::{WriteFault, genuine, write};
+pub use token::{BuildFault, Token};
