@@ -77,9 +77,9 @@ read_amount-joined whole part currency w p c =
 
 pub is_part-decimals : (n : ℕ) → is_part (decimals n) ≡ true
 is_part-decimals n = elim (cases_Bool (n % 10 == 0)) [
-    | inl two ↦ rw two (and_from _ _ refl (both (n / 100 % 10) (n / 10 % 10) [] (omega arith) (omega arith) refl))
-    | inr three ↦ rw three (and_from _ _ refl (both (n / 100 % 10) (n / 10 % 10) ((48 + n % 10) ∷ []) (omega arith) (omega arith) (and_from _ _ (digit_is (n % 10) (omega arith)) refl)))
-  ]
+  | inl two ↦ rw two (and_from _ _ refl (both (n / 100 % 10) (n / 10 % 10) [] (omega arith) (omega arith) refl))
+  | inr three ↦ rw three (and_from _ _ refl (both (n / 100 % 10) (n / 10 % 10) ((48 + n % 10) ∷ []) (omega arith) (omega arith) (and_from _ _ (digit_is (n % 10) (omega arith)) refl)))
+]
   where
     both : (a b : ℕ) (rest : List ℕ) → a < 10 → b < 10 → list_all is_digit rest ≡ true → list_all is_digit ((48 + a) ∷ (48 + b) ∷ rest) ≡ true
     both a b rest ha hb hr = and_from _ _ (digit_is a ha) (and_from _ _ (digit_is b hb) hr)

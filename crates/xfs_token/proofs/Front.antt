@@ -40,6 +40,7 @@ stuck_no_nonce text fails = stuck_now NonceThen text _ some_nonce (stops text fa
     none : (nonce rest more : List ℕ) (b : ℕ) → is_upper_hex b ≡ false → is_nonce nonce ≡ true → b ∷ more ≡ nonce ++ 44 ∷ rest → ⊥
     none [] rest more b f good e = both_ways true refl (sym good)
     none (x ∷ xs) rest more b f good e = let h : b ≡ x = cc in both_ways (is_upper_hex x) (and_parts (is_upper_hex x) (list_all is_upper_hex xs) (nonce_digits (x ∷ xs) good)).0 (sym (ap is_upper_hex h) ∙ f)
+
     stops : (text : List ℕ) → FirstFails is_upper_hex text → Stops NonceThen [] text
     stops [] f = λ v. no_stop is_upper_hex [] v.nonce v.rest 44 refl refl v.is
     stops (b ∷ bs) f = λ more v. none v.nonce v.rest more b f v.good v.is
@@ -47,19 +48,20 @@ stuck_no_nonce text fails = stuck_now NonceThen text _ some_nonce (stops text fa
 -- a nonce that no comma follows is where the text is stuck: another digit follows only where there are 128
 pub stuck_nonce : (nonce rest : List ℕ) → is_nonce nonce ≡ true → (length nonce ≡ 128) ⊎ FirstFails is_upper_hex rest → FirstFails (λ b. b == 44) rest → IsStuck NonceThen (nonce ++ rest) (length rest)
 stuck_nonce nonce rest good full comma = record {
-    good = nonce;
-    bad = rest;
-    cut = refl;
-    left_is = refl;
-    more = 44 ∷ _;
-    begins = nonce_into nonce _ good some_format;
-    stops = stops rest full comma;
-  }
+  good = nonce;
+  bad = rest;
+  cut = refl;
+  left_is = refl;
+  more = 44 ∷ _;
+  begins = nonce_into nonce _ good some_format;
+  stops = stops rest full comma;
+}
   where
     stop : (b : ℕ) (more : List ℕ) → (length nonce ≡ 128) ⊎ (is_upper_hex b ≡ false) → (b == 44) ≡ false → (v : NonceThen (nonce ++ b ∷ more)) → (is_upper_hex b ≡ true) ⊎ (is_upper_hex b ≡ false) → ⊥
     stop b more full k v (inr f) = eqb-false b 44 k (same_run is_upper_hex nonce v.nonce more v.rest b 44 (nonce_digits nonce good) (nonce_digits v.nonce v.good) f refl v.is).1
     stop b more (inl long) k v (inl t) = no_longer is_upper_hex nonce v.nonce more v.rest b 44 (nonce_digits nonce good) t refl (let h = nonce_most v.nonce v.good in omega arith) v.is
     stop b more (inr f) k v (inl t) = both_ways (is_upper_hex b) t f
+
     stops : (rest : List ℕ) → (length nonce ≡ 128) ⊎ FirstFails is_upper_hex rest → FirstFails (λ b. b == 44) rest → Stops NonceThen nonce rest
     stops [] f k = λ v. no_stop is_upper_hex nonce v.nonce v.rest 44 (nonce_digits nonce good) refl v.is
     stops (b ∷ bs) f k = λ more v. stop b more f k v (cases_Bool (is_upper_hex b))

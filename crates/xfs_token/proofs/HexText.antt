@@ -13,11 +13,11 @@ use Rattle.xfs_token.proofs.Stuck.{both_ways}
 use Rattle.xfs_token.proofs.Tails.{FirstFails}
 
 -- a test passes at each number below
-abbrev below : (ℕ → Bool) → ℕ → Bool
+abbrev pub below : (ℕ → Bool) → ℕ → Bool
 below p zero = true
 below p (suc n) = p n && below p n
 
-below-at : (p : ℕ → Bool) (n k : ℕ) → below p n ≡ true → k < n → p k ≡ true
+pub below-at : (p : ℕ → Bool) (n k : ℕ) → below p n ≡ true → k < n → p k ≡ true
 below-at p zero k h lt = absurd (omega arith)
 below-at p (suc n) k h lt =
     let parts = and_parts (p n) (below p n) h in
@@ -83,6 +83,7 @@ hex_of (suc n) (a ∷ b ∷ digits) h e =
     fits : (v : ℕ) (vs : List ℕ) → v < 256 → ((i : ℕ) → slice_index vs i < 256) → (i : ℕ) → slice_index (v ∷ vs) i < 256
     fits v vs h k zero = h
     fits v vs h k (suc i) = k i
+
     pair : (a b a' b' : ℕ) (xs ys : List ℕ) → a ≡ a' → b ≡ b' → xs ≡ ys → a ∷ b ∷ xs ≡ a' ∷ b' ∷ ys
     pair a b a' b' xs ys p q r = cc
 
@@ -125,6 +126,7 @@ stuck_mac_short digits rest h short fails =
   where
     none : (xs more : List ℕ) (b : ℕ) → is_upper_hex b ≡ false → list_all is_upper_hex (xs ++ b ∷ more) ≡ true → ⊥
     none xs more b f all = both_ways (is_upper_hex b) (and_parts (is_upper_hex b) (list_all is_upper_hex more) (and_parts (list_all is_upper_hex xs) (list_all is_upper_hex (b ∷ more)) (sym (list_all-append is_upper_hex xs (b ∷ more)) ∙ all)).1).0 f
+
     stops : (rest : List ℕ) → FirstFails is_upper_hex rest → Stops MacEnd digits rest
     stops [] f = λ m. let e = ap length m.is ∙ length-encode_with upper_digits m.mac in let k = m.is_mac.long in absurd (omega arith)
     stops (b ∷ bs) f = λ more m. none digits more b f (ap (list_all is_upper_hex) m.is ∙ all_hex m.mac m.is_mac.bytes)
@@ -132,11 +134,11 @@ stuck_mac_short digits rest h short fails =
 -- 64 digits, and then a byte
 pub stuck_mac_long : (digits bs : List ℕ) (b : ℕ) → list_all is_upper_hex digits ≡ true → length digits ≡ 64 → IsStuck MacEnd (digits ++ b ∷ bs) (length (b ∷ bs))
 stuck_mac_long digits bs b h long = record {
-    good = digits;
-    bad = b ∷ bs;
-    cut = refl;
-    left_is = refl;
-    more = [];
-    begins = subst MacEnd (sym (append-nil digits)) (mac_of digits h long);
-    stops = λ more m. let e = ap length m.is ∙ length-encode_with upper_digits m.mac in let k = m.is_mac.long in let l = length-append digits (b ∷ more) in absurd (omega arith);
-  }
+  good = digits;
+  bad = b ∷ bs;
+  cut = refl;
+  left_is = refl;
+  more = [];
+  begins = subst MacEnd (sym (append-nil digits)) (mac_of digits h long);
+  stops = λ more m. let e = ap length m.is ∙ length-encode_with upper_digits m.mac in let k = m.is_mac.long in let l = length-append digits (b ∷ more) in absurd (omega arith);
+}

@@ -47,6 +47,7 @@ stuck_no_key earlier text fails = stuck_now (Tail earlier) text ending (some_tai
     none : (key rest more : List ℕ) (b : ℕ) → is_letter b ≡ false → is_key key ≡ true → b ∷ more ≡ key ++ 61 ∷ rest → ⊥
     none [] rest more b f good e = both_ways true refl (sym good)
     none (x ∷ xs) rest more b f good e = let h : b ≡ x = cc in both_ways (is_letter x) (key_parts (x ∷ xs) good).first (sym (ap is_letter h) ∙ f)
+
     stops : (text : List ℕ) → FirstFails is_letter text → Stops (Tail earlier) [] text
     stops [] f = λ t. let k = key_front earlier [] t in no_stop is_key_byte [] k.key k.rest 61 refl refl k.is
     stops (b ∷ bs) f = λ more t. let k = key_front earlier (b ∷ more) t in none k.key k.rest more b f k.good k.is
@@ -54,19 +55,20 @@ stuck_no_key earlier text fails = stuck_now (Tail earlier) text ending (some_tai
 -- a key that no equals sign follows is where the text is stuck: another byte of a key follows only where there are 32
 pub stuck_key : (earlier : List (List ℕ × List ℕ)) (key rest : List ℕ) → is_key key ≡ true → Frees earlier key → (length key ≡ 32) ⊎ FirstFails is_key_byte rest → FirstFails (λ b. b == 61) rest → IsStuck (Tail earlier) (key ++ rest) (length rest)
 stuck_key earlier key rest good f full equals = record {
-    good = key;
-    bad = rest;
-    cut = refl;
-    left_is = refl;
-    more = f.end ++ (61 ∷ (codes "A" ++ 44 ∷ ending));
-    begins = frees_tail earlier key f;
-    stops = stops rest full equals;
-  }
+  good = key;
+  bad = rest;
+  cut = refl;
+  left_is = refl;
+  more = f.end ++ (61 ∷ (codes "A" ++ 44 ∷ ending));
+  begins = frees_tail earlier key f;
+  stops = stops rest full equals;
+}
   where
     stop : (b : ℕ) (more : List ℕ) → (length key ≡ 32) ⊎ (is_key_byte b ≡ false) → (b == 61) ≡ false → (k : KeyFront earlier (key ++ b ∷ more)) → (is_key_byte b ≡ true) ⊎ (is_key_byte b ≡ false) → ⊥
     stop b more full e k (inr f) = eqb-false b 61 e (same_run is_key_byte key k.key more k.rest b 61 (key_bytes key good) (key_bytes k.key k.good) f refl k.is).1
     stop b more (inl long) e k (inl t) = no_longer is_key_byte key k.key more k.rest b 61 (key_bytes key good) t refl (let h = (key_parts k.key k.good).high in omega arith) k.is
     stop b more (inr f) e k (inl t) = both_ways (is_key_byte b) t f
+
     stops : (rest : List ℕ) → (length key ≡ 32) ⊎ FirstFails is_key_byte rest → FirstFails (λ b. b == 61) rest → Stops (Tail earlier) key rest
     stops [] full e = λ t. let k = key_front earlier key t in no_stop is_key_byte key k.key k.rest 61 (key_bytes key good) refl k.is
     stops (b ∷ bs) full e = λ more t. stop b more full e (key_front earlier (key ++ b ∷ more) t) (cases_Bool (is_key_byte b))
@@ -74,43 +76,48 @@ stuck_key earlier key rest good f full equals = record {
 -- a key that is reserved or there already is stuck at its equals sign
 pub stuck_taken : (earlier : List (List ℕ × List ℕ)) (key rest : List ℕ) → is_key key ≡ true → bytes_eq key (codes "HMACSHA256") ≡ false → is_free_key key earlier ≡ false → Frees earlier key → IsStuck (Tail earlier) (key ++ 61 ∷ rest) (length (61 ∷ rest))
 stuck_taken earlier key rest good other taken f = record {
-    good = key;
-    bad = 61 ∷ rest;
-    cut = refl;
-    left_is = refl;
-    more = f.end ++ (61 ∷ (codes "A" ++ 44 ∷ ending));
-    begins = frees_tail earlier key f;
-    stops = λ more t. both_ways (is_free_key key earlier) (key_is_free earlier key more good other t) taken;
-  }
+  good = key;
+  bad = 61 ∷ rest;
+  cut = refl;
+  left_is = refl;
+  more = f.end ++ (61 ∷ (codes "A" ++ 44 ∷ ending));
+  begins = frees_tail earlier key f;
+  stops = λ more t. both_ways (is_free_key key earlier) (key_is_free earlier key more good other t) taken;
+}
 
 -- a key of 32 bytes that is there already is stuck at its last byte
 pub stuck_last : (earlier : List (List ℕ × List ℕ)) (key rest : List ℕ) (b : ℕ) → is_key (key ++ b ∷ []) ≡ true → length key ≡ 31 → has_key (key ++ b ∷ []) earlier ≡ true → Frees earlier key → IsStuck (Tail earlier) (key ++ b ∷ rest) (length (b ∷ rest))
 stuck_last earlier key rest b good long taken f = record {
-    good = key;
-    bad = b ∷ rest;
-    cut = refl;
-    left_is = refl;
-    more = f.end ++ (61 ∷ (codes "A" ++ 44 ∷ ending));
-    begins = frees_tail earlier key f;
-    stops = λ more t. none more (subst (Tail earlier) (sym (append_assoc key (b ∷ []) more)) t);
-  }
+  good = key;
+  bad = b ∷ rest;
+  cut = refl;
+  left_is = refl;
+  more = f.end ++ (61 ∷ (codes "A" ++ 44 ∷ ending));
+  begins = frees_tail earlier key f;
+  stops = λ more t. none more (subst (Tail earlier) (sym (append_assoc key (b ∷ []) more)) t);
+}
   where
     whole : List ℕ
     whole = key ++ b ∷ []
+
     len : length (key ++ b ∷ []) ≡ 32
     len = let l = length-append key (b ∷ []) in omega (arith, l)
+
     other : bytes_eq (key ++ b ∷ []) (codes "HMACSHA256") ≡ false
     other = elim (cases_Bool (bytes_eq (key ++ b ∷ []) (codes "HMACSHA256"))) [
       | inl same ↦ (let e = ap length ((bytes_eq-Decides (key ++ b ∷ []) (codes "HMACSHA256")).0 same) in absurd (omega (arith, e, len)))
       | inr no_same ↦ no_same
     ]
+
     no_free : is_free_key (key ++ b ∷ []) earlier ≡ true → ⊥
     no_free h = both_ways (has_key (key ++ b ∷ []) earlier) taken (not-true (has_key (key ++ b ∷ []) earlier) (and_parts (is_key (key ++ b ∷ []) && not (is_reserved (key ++ b ∷ []))) (not (has_key (key ++ b ∷ []) earlier)) h).1)
+
     next : (d : ℕ) (more : List ℕ) → Tail earlier (key ++ b ∷ [] ++ d ∷ more) → (k : KeyFront earlier (key ++ b ∷ [] ++ d ∷ more)) → (is_key_byte d ≡ true) ⊎ (is_key_byte d ≡ false) → ⊥
     next d more t k (inl key_byte) = no_longer is_key_byte (key ++ b ∷ []) k.key more k.rest d 61 (key_bytes (key ++ b ∷ []) good) key_byte refl (let h = (key_parts k.key k.good).high in omega (arith, len)) k.is
     next d more t k (inr stop) =
         let r = same_run is_key_byte (key ++ b ∷ []) k.key more k.rest d 61 (key_bytes (key ++ b ∷ []) good) (key_bytes k.key k.good) stop refl k.is in
         no_free (key_is_free earlier (key ++ b ∷ []) more good other (subst (λ (x : ℕ). Tail earlier (key ++ b ∷ [] ++ x ∷ more)) r.1 t))
+
     none : (more : List ℕ) → Tail earlier (key ++ b ∷ [] ++ more) → ⊥
     none [] t = let k = key_front earlier (key ++ b ∷ [] ++ []) t in no_stop is_key_byte (key ++ b ∷ []) k.key k.rest 61 (key_bytes (key ++ b ∷ []) good) refl (sym (append-nil (key ++ b ∷ [])) ∙ k.is)
     none (d ∷ more) t = next d more t (key_front earlier (key ++ b ∷ [] ++ d ∷ more) t) (cases_Bool (is_key_byte d))

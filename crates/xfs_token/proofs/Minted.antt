@@ -51,6 +51,7 @@ value_byte b low high = and_from _ _ (and_from _ _ (and_from _ _ (le-leb 33 b (o
     top : b ≤ 60 ⊎ (62 ≤ b) × (b ≤ 126) → b ≤ 126
     top (inl h) = omega arith
     top (inr h) = omega arith
+
     other : b ≤ 60 ⊎ (62 ≤ b) × (b ≤ 126) → b ≡ 61 → ⊥
     other (inl h) e = absurd (omega arith)
     other (inr h) e = absurd (omega arith)

@@ -11,14 +11,14 @@ both_ways b t f = absurd (cc)
 -- what is stuck in the second part is stuck in the whole
 pub stuck_behind : (L M : List ℕ → Type 0) (front text : List ℕ) (left : ℕ) → ((rest : List ℕ) → L rest → M (front ++ rest)) → ((rest : List ℕ) → M (front ++ rest) → L rest) → IsStuck L text left → IsStuck M (front ++ text) left
 stuck_behind L M front text left into back s = record {
-    good = front ++ s.good;
-    bad = s.bad;
-    cut = ap (λ (l : List ℕ). front ++ l) s.cut ∙ sym (append_assoc front s.good s.bad);
-    left_is = s.left_is;
-    more = s.more;
-    begins = subst M (sym (append_assoc front s.good s.more)) (into (s.good ++ s.more) s.begins);
-    stops = both s.bad s.stops;
-  }
+  good = front ++ s.good;
+  bad = s.bad;
+  cut = ap (λ (l : List ℕ). front ++ l) s.cut ∙ sym (append_assoc front s.good s.bad);
+  left_is = s.left_is;
+  more = s.more;
+  begins = subst M (sym (append_assoc front s.good s.more)) (into (s.good ++ s.more) s.begins);
+  stops = both s.bad s.stops;
+}
   where
     both : (bad : List ℕ) → Stops L s.good bad → Stops M (front ++ s.good) bad
     both [] h = λ m. h (back s.good m)
@@ -33,18 +33,20 @@ pub stuck_word : (L : List ℕ → Type 0) (word text some : List ℕ) → L som
 stuck_word L [] text some l less = absurd (omega arith)
 stuck_word L (w ∷ word) [] some l less = stuck_now (WordThen (w ∷ word) L) [] (w ∷ word ++ some) (record { rest = some; is = refl; then = l }) (λ m. let e = m.is in cc)
 stuck_word L (w ∷ word) (b ∷ text) some l less = elim (cases_Bool (nat_eq b w)) [
-    | inl same ↦ (
-        let e : b ≡ w = eqb-true b w same in
-        let less' : common_prefix_len nat_eq text word < length word = shorter same less in
-        let inner = stuck_behind (WordThen word L) (WordThen (w ∷ word) L) (w ∷ []) text _ (λ rest m. record { rest = m.rest; is = ap (λ (l : List ℕ). w ∷ l) m.is; then = m.then }) (λ rest m. record { rest = m.rest; is = tail_same m.is; then = m.then }) (stuck_word L word text some l less') in
-        rw (same, e) (subst (IsStuck (WordThen (w ∷ word) L) (w ∷ text)) (omega arith) inner))
-    | inr other ↦ rw other (subst (IsStuck (WordThen (w ∷ word) L) (b ∷ text)) (omega arith) (stuck_now (WordThen (w ∷ word) L) (b ∷ text) (w ∷ word ++ some) (record { rest = some; is = refl; then = l }) (λ more m. eqb-false b w other (head_same m.is))))
-  ]
+  | inl same ↦ (
+      let e : b ≡ w = eqb-true b w same in
+      let less' : common_prefix_len nat_eq text word < length word = shorter same less in
+      let inner = stuck_behind (WordThen word L) (WordThen (w ∷ word) L) (w ∷ []) text _ (λ rest m. record { rest = m.rest; is = ap (λ (l : List ℕ). w ∷ l) m.is; then = m.then }) (λ rest m. record { rest = m.rest; is = tail_same m.is; then = m.then }) (stuck_word L word text some l less') in
+      rw (same, e) (subst (IsStuck (WordThen (w ∷ word) L) (w ∷ text)) (omega arith) inner))
+  | inr other ↦ rw other (subst (IsStuck (WordThen (w ∷ word) L) (b ∷ text)) (omega arith) (stuck_now (WordThen (w ∷ word) L) (b ∷ text) (w ∷ word ++ some) (record { rest = some; is = refl; then = l }) (λ more m. eqb-false b w other (head_same m.is))))
+]
   where
     shorter : nat_eq b w ≡ true → cond (nat_eq b w) (1 + common_prefix_len nat_eq text word) 0 < suc (length word) → common_prefix_len nat_eq text word < length word
     shorter same h = let k = rw same at h in omega arith
+
     tail_same : {x y : ℕ} {xs ys : List ℕ} → x ∷ xs ≡ y ∷ ys → xs ≡ ys
     tail_same h = cc
+
     head_same : {x y : ℕ} {xs ys : List ℕ} → x ∷ xs ≡ y ∷ ys → x ≡ y
     head_same h = cc
 

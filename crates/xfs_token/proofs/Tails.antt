@@ -48,20 +48,22 @@ key_is earlier key rest h t = let r = same_run is_key_byte key t.key rest t.rest
 -- behind a free key and its equals sign stands a value
 pub value_into : (earlier : List (List ℕ × List ℕ)) (key rest : List ℕ) → is_free_key key earlier ≡ true → ValueThen earlier key rest → Tail earlier (key ++ 61 ∷ rest)
 value_into earlier key rest free v = record {
-    pairs = (key, v.value) ∷ v.then.pairs;
-    mac = v.then.mac;
-    follow = and_from (is_free_key key earlier && is_value v.value) (may_follow (earlier ++ (key, v.value) ∷ []) v.then.pairs) (and_from (is_free_key key earlier) (is_value v.value) free v.good) v.then.follow;
-    is_mac = v.then.is_mac;
-    is = ap (λ (l : List ℕ). key ++ 61 ∷ l) (v.is ∙ ap (λ (l : List ℕ). v.value ++ 44 ∷ l) v.then.is);
-  }
+  pairs = (key, v.value) ∷ v.then.pairs;
+  mac = v.then.mac;
+  follow = and_from (is_free_key key earlier && is_value v.value) (may_follow (earlier ++ (key, v.value) ∷ []) v.then.pairs) (and_from (is_free_key key earlier) (is_value v.value) free v.good) v.then.follow;
+  is_mac = v.then.is_mac;
+  is = ap (λ (l : List ℕ). key ++ 61 ∷ l) (v.is ∙ ap (λ (l : List ℕ). v.value ++ 44 ∷ l) v.then.is);
+}
 
 pub value_back : (earlier : List (List ℕ × List ℕ)) (key rest : List ℕ) → is_key key ≡ true → bytes_eq key (codes "HMACSHA256") ≡ false → Tail earlier (key ++ 61 ∷ rest) → ValueThen earlier key rest
 value_back earlier key rest good other t = cases front.next
   where
     front : KeyFront earlier (key ++ 61 ∷ rest)
     front = key_front earlier (key ++ 61 ∷ rest) t
+
     same : (front.key ≡ key) × (front.rest ≡ rest)
     same = key_is earlier key rest (key_bytes key good) front
+
     cases : ((front.key ≡ codes "HMACSHA256") × MacEnd front.rest) ⊎ ((is_free_key front.key earlier ≡ true) × ValueThen earlier front.key front.rest) → ValueThen earlier key rest
     cases (inl h) = absurd (both_ways (bytes_eq key (codes "HMACSHA256")) ((bytes_eq-Decides key (codes "HMACSHA256")).1 (sym same.0 ∙ h.0)) other)
     cases (inr h) = subst (λ (r : List ℕ). ValueThen earlier key r) same.1 (subst (λ (k : List ℕ). ValueThen earlier k front.rest) same.0 h.1)
@@ -72,8 +74,10 @@ key_is_free earlier key rest good other t = cases front.next
   where
     front : KeyFront earlier (key ++ 61 ∷ rest)
     front = key_front earlier (key ++ 61 ∷ rest) t
+
     same : (front.key ≡ key) × (front.rest ≡ rest)
     same = key_is earlier key rest (key_bytes key good) front
+
     cases : ((front.key ≡ codes "HMACSHA256") × MacEnd front.rest) ⊎ ((is_free_key front.key earlier ≡ true) × ValueThen earlier front.key front.rest) → is_free_key key earlier ≡ true
     cases (inl h) = absurd (both_ways (bytes_eq key (codes "HMACSHA256")) ((bytes_eq-Decides key (codes "HMACSHA256")).1 (sym same.0 ∙ h.0)) other)
     cases (inr h) = subst (λ (k : List ℕ). is_free_key k earlier ≡ true) same.0 h.0
@@ -86,8 +90,10 @@ mac_back earlier rest t = cases front.next
   where
     front : KeyFront earlier (codes "HMACSHA256" ++ 61 ∷ rest)
     front = key_front earlier (codes "HMACSHA256" ++ 61 ∷ rest) t
+
     same : (front.key ≡ codes "HMACSHA256") × (front.rest ≡ rest)
     same = key_is earlier (codes "HMACSHA256") rest refl front
+
     cases : ((front.key ≡ codes "HMACSHA256") × MacEnd front.rest) ⊎ ((is_free_key front.key earlier ≡ true) × ValueThen earlier front.key front.rest) → MacEnd rest
     cases (inl h) = subst MacEnd same.1 h.1
     cases (inr h) = absurd (both_ways (is_free_key (codes "HMACSHA256") earlier) (subst (λ (k : List ℕ). is_free_key k earlier ≡ true) same.0 h.0) refl)
@@ -118,7 +124,6 @@ abbrev pub ending : List ℕ
 ending = codes "HMACSHA256=" ++ encode_upper (replicate 32 0)
 
 pub some_tail : (earlier : List (List ℕ × List ℕ)) → Tail earlier ending
-
 some_tail earlier = mac_into earlier (encode_upper (replicate 32 0)) zeros
 
 -- this byte, if there is one, fails the test
@@ -133,6 +138,7 @@ stuck_no_value earlier key text fails = stuck_now (ValueThen earlier key) text (
     none : (value rest more : List ℕ) (b : ℕ) → is_value_byte b ≡ false → is_value value ≡ true → b ∷ more ≡ value ++ 44 ∷ rest → ⊥
     none [] rest more b f good e = both_ways true refl (sym good)
     none (x ∷ xs) rest more b f good e = let h : b ≡ x = cc in both_ways (is_value_byte x) (and_parts (is_value_byte x) (list_all is_value_byte xs) (value_bytes (x ∷ xs) good)).0 (sym (ap is_value_byte h) ∙ f)
+
     stops : (text : List ℕ) → FirstFails is_value_byte text → Stops (ValueThen earlier key) [] text
     stops [] f = λ v. no_stop is_value_byte [] v.value v.rest 44 refl refl v.is
     stops (b ∷ bs) f = λ more v. none v.value v.rest more b f v.good v.is
@@ -140,14 +146,14 @@ stuck_no_value earlier key text fails = stuck_now (ValueThen earlier key) text (
 -- a value that no comma follows is where the text is stuck
 pub stuck_value : (earlier : List (List ℕ × List ℕ)) (key value rest : List ℕ) → is_value value ≡ true → FirstFails is_value_byte rest → FirstFails (λ b. b == 44) rest → IsStuck (ValueThen earlier key) (value ++ rest) (length rest)
 stuck_value earlier key value rest good fails comma = record {
-    good = value;
-    bad = rest;
-    cut = refl;
-    left_is = refl;
-    more = 44 ∷ ending;
-    begins = comma_into earlier key value ending good (some_tail (earlier ++ (key, value) ∷ []));
-    stops = stops rest fails comma;
-  }
+  good = value;
+  bad = rest;
+  cut = refl;
+  left_is = refl;
+  more = 44 ∷ ending;
+  begins = comma_into earlier key value ending good (some_tail (earlier ++ (key, value) ∷ []));
+  stops = stops rest fails comma;
+}
   where
     stops : (rest : List ℕ) → FirstFails is_value_byte rest → FirstFails (λ b. b == 44) rest → Stops (ValueThen earlier key) value rest
     stops [] f k = λ v. no_stop is_value_byte value v.value v.rest 44 (value_bytes value good) refl v.is

@@ -73,6 +73,11 @@ abbrev pub first_is : ℕ → List ℕ → Bool
 first_is byte [] = false
 first_is byte (b ∷ bs) = b == byte
 
+-- whether a text begins with a byte that passes a test
+abbrev pub first_in : (ℕ → Bool) → List ℕ → Bool
+first_in p [] = false
+first_in p (b ∷ bs) = p b
+
 -- a nonce stands here, and a comma behind it
 pub record IsNonceAt (text : List ℕ) (n : ℕ) : Type 0 where
   pub good : IsTrue (is_nonce (take n text))

@@ -99,8 +99,6 @@ impl Amounts {
     fn has(&self, currency: Currency) -> bool
         ensures { result ≡ has_currency currency self.now }
     {
-        self.list()
-            .iter()
-            .any(|a| a.0 == currency)
+        self.list().iter().any(|a| a.0 == currency)
     }
 }

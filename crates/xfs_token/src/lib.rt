@@ -7,6 +7,8 @@ mod grammar;
 mod minting;
 mod pair;
 mod signing;
+#[cfg(test)]
+mod tests;
 mod text;
 mod token;
 

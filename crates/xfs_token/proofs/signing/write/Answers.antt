@@ -31,7 +31,7 @@ returns-clause-ok c =
     let front = c.in_ok-text.ensures t.pairs (c.deref.ensures.value ∙ pairs) in
     spelled t _ (length c.nonce.result.now + c.len.result + 113) c.pairs.ensures.formed (omega (arith, p, k, ok)) (omega arith)
     (c.in_ok-push_mac.ensures.items ∙ ap (λ (l : List ℕ). l ++ codes ",HMACSHA256=" ++ encode_upper c.mac.result) (front ∙ ap (λ (l : List ℕ). covered l t.pairs (length c.nonce.result.now + c.len.result + 113)) c.nonce-2.ensures)
-      ∙ ap (λ (l : List ℕ). covered t.nonce t.pairs (length c.nonce.result.now + c.len.result + 113) ++ codes ",HMACSHA256=" ++ encode_upper l) c.mac.ensures)
+    ∙ ap (λ (l : List ℕ). covered t.nonce t.pairs (length c.nonce.result.now + c.len.result + 113) ++ codes ",HMACSHA256=" ++ encode_upper l) c.mac.ensures)
 
 pub returns-clause-one : goal.returns-clause-one
 returns-clause-one c bytes s = one_text c.args.token.now bytes c.push_mac.new.text.items s (returns-clause-ok c)

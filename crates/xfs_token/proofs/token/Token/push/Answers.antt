@@ -11,10 +11,10 @@ use Rattle.xfs_token.proofs.token.Token.push.Goals as goal
 formed : (nonce mac : List ℕ) (xs : List Pair) (p : Pair) (key value : List ℕ) → IsWellFormed (parts nonce xs mac) → p.key.items ≡ key → p.value.items ≡ value → is_free_key key (map pair_of xs) ≡ true → is_value value ≡ true
     → IsWellFormed (parts nonce (xs ++ p ∷ []) mac)
 formed nonce mac xs p key value h ek ev free good = record {
-    nonce = h.nonce;
-    pairs = ap (may_follow []) (map-append pair_of xs (p ∷ [])) ∙ may_follow-push [] (map pair_of xs) (pair_of p) h.pairs (ap (λ (k : List ℕ). is_free_key k (map pair_of xs)) ek ∙ free) (ap is_value ev ∙ good);
-    mac = h.mac;
-  }
+  nonce = h.nonce;
+  pairs = ap (may_follow []) (map-append pair_of xs (p ∷ [])) ∙ may_follow-push [] (map pair_of xs) (pair_of p) h.pairs (ap (λ (k : List ℕ). is_free_key k (map pair_of xs)) ek ∙ free) (ap is_value ev ∙ good);
+  mac = h.mac;
+}
 
 pub invariant_of-self-2 : goal.invariant_of-self-2
 invariant_of-self-2 c =
@@ -25,4 +25,4 @@ invariant_of-self-2 c =
     let view : c.args.self.now.pairs ≡ map pair_of inside.pairs.items = ap (λ (t : Parts). t.pairs) (sym c.self.view_is) in
     subst (λ (l : List Pair). IsWellFormed (parts inside.nonce.items l inside.mac)) (sym items)
     (formed inside.nonce.items inside.mac inside.pairs.items pair c.args.key.now c.args.value.now c.self.invariant c.in_ok-key.ensures.items c.in_ok-value.ensures.items
-      (ap (is_free_key c.args.key.now) (sym view) ∙ c.requires.key) c.requires.value)
+    (ap (is_free_key c.args.key.now) (sym view) ∙ c.requires.key) c.requires.value)
