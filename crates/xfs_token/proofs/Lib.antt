@@ -1,0 +1,12 @@
+pub mod AmountsLemmas
+pub mod AmountText
+pub mod Ends
+pub mod Fresh
+pub mod Front
+pub mod HexText
+pub mod Keys
+pub mod Minted
+pub mod Runs
+pub mod Stuck
+pub mod Tails
+pub mod Written

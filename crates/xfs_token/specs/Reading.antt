@@ -1,0 +1,94 @@
+-- What may stand at a place of a token's text, and that a text goes on from there no further.
+use Rattle.std.specs.Prelude.{◌≡◌, ℕ, ◌≤◌, ◌==◌, Bool, true, List, [], ◌∷◌, ◌++◌, length, take, drop, codes, IsTrue, false, ◌+◌, ◌||◌}
+use Rattle.std.specs.Str.{bytes_eq}
+use Rattle.hex.specs.Hex.{encode_upper}
+use Rattle.xfs_token.specs.Token.{IsMac, is_nonce, is_value, is_free_key, may_follow, four_digits}
+
+-- no text of the language goes on from here as this rest does
+abbrev pub Stops : (List ℕ → Type 0) → List ℕ → List ℕ → Type 0
+Stops L good [] = ¬ (L good)
+Stops L good (b ∷ bs) = (more : List ℕ) → ¬ (L (good ++ b ∷ more))
+
+-- a text, with so many bytes left where its longest front that begins a text of the language ends
+pub record IsStuck (L : List ℕ → Type 0) (text : List ℕ) (left : ℕ) : Type 0 where
+  pub good : List ℕ
+  pub bad : List ℕ
+  pub cut : text ≡ good ++ bad
+  pub left_is : length bad ≡ left
+  pub more : List ℕ
+  pub begins : L (good ++ more)
+  pub stops : Stops L good bad
+
+-- a word, and behind it a text of the language
+pub record WordThen (word : List ℕ) (L : List ℕ → Type 0) (text : List ℕ) : Type 0 where
+  pub rest : List ℕ
+  pub is : text ≡ word ++ rest
+  pub then : L rest
+
+-- from behind a comma on: the pairs that are left, each with its comma behind it, and the HMAC
+abbrev pub tail_text : List (List ℕ × List ℕ) → List ℕ → List ℕ
+tail_text [] mac = codes "HMACSHA256=" ++ encode_upper mac
+tail_text (p ∷ ps) mac = p.0 ++ 61 ∷ (p.1 ++ 44 ∷ tail_text ps mac)
+
+-- what may stand behind the comma after these pairs
+pub record Tail (earlier : List (List ℕ × List ℕ)) (text : List ℕ) : Type 0 where
+  pub pairs : List (List ℕ × List ℕ)
+  pub mac : List ℕ
+  pub follow : IsTrue (may_follow earlier pairs)
+  pub is_mac : IsMac mac
+  pub is : text ≡ tail_text pairs mac
+
+-- what may stand behind the equals sign of the HMAC
+pub record MacEnd (text : List ℕ) : Type 0 where
+  pub mac : List ℕ
+  pub is_mac : IsMac mac
+  pub is : text ≡ encode_upper mac
+
+-- what may stand behind the equals sign of a key
+pub record ValueThen (earlier : List (List ℕ × List ℕ)) (key text : List ℕ) : Type 0 where
+  pub value : List ℕ
+  pub rest : List ℕ
+  pub good : IsTrue (is_value value)
+  pub is : text ≡ value ++ 44 ∷ rest
+  pub then : Tail (earlier ++ (key, value) ∷ []) rest
+
+-- the four digits of the length, a comma and the tail
+pub record LengthThen (text : List ℕ) : Type 0 where
+  pub number : ℕ
+  pub rest : List ℕ
+  pub small : number ≤ 9999
+  pub is : text ≡ four_digits number ++ 44 ∷ rest
+  pub then : Tail [] rest
+
+-- a nonce, a comma and what follows
+pub record NonceThen (text : List ℕ) : Type 0 where
+  pub nonce : List ℕ
+  pub rest : List ℕ
+  pub good : IsTrue (is_nonce nonce)
+  pub is : text ≡ nonce ++ 44 ∷ rest
+  pub then : WordThen (codes "TOKENFORMAT=1,TOKENLENGTH=") LengthThen rest
+
+-- whether a text begins with a byte
+abbrev pub first_is : ℕ → List ℕ → Bool
+first_is byte [] = false
+first_is byte (b ∷ bs) = b == byte
+
+-- whether a text begins with a byte that passes a test
+abbrev pub first_in : (ℕ → Bool) → List ℕ → Bool
+first_in p [] = false
+first_in p (b ∷ bs) = p b
+
+-- a nonce stands here, and a comma behind it
+pub record IsNonceAt (text : List ℕ) (n : ℕ) : Type 0 where
+  pub good : IsTrue (is_nonce (take n text))
+  pub is : text ≡ take n text ++ 44 ∷ drop (n + 1) text
+
+-- a key that may follow the pairs stands here, or that of the HMAC, and an equals sign behind it
+pub record IsKeyAt (earlier : List (List ℕ × List ℕ)) (text : List ℕ) (n : ℕ) : Type 0 where
+  pub good : IsTrue (bytes_eq (take n text) (codes "HMACSHA256") || is_free_key (take n text) earlier)
+  pub is : text ≡ take n text ++ 61 ∷ drop (n + 1) text
+
+-- a value stands here, and a comma behind it
+pub record IsValueAt (text : List ℕ) (n : ℕ) : Type 0 where
+  pub good : IsTrue (is_value (take n text))
+  pub is : text ≡ take n text ++ 44 ∷ drop (n + 1) text

@@ -1,0 +1,19 @@
+//! The dispense token: its one spelling, both ways, its HMAC and its amounts.
+#![tactic(auto)]
+
+mod amounts;
+mod faults;
+mod grammar;
+mod minting;
+mod pair;
+mod signing;
+#[cfg(test)]
+mod tests;
+mod text;
+mod token;
+
+pub use amounts::Amounts;
+pub use faults::TokenFault;
+pub use minting::{MakeFault, make};
+pub use signing::{WriteFault, genuine, write};
+pub use token::{BuildFault, Token};
