@@ -1,5 +1,9 @@
 pub mod Faults
+pub mod Keys
 pub mod Mechanism
 pub mod Motions
 pub mod Orders
 pub mod Sim
+pub mod SimWatch
+pub mod Tracks
+pub mod Watches

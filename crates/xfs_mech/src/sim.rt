@@ -46,6 +46,27 @@ impl SimMech {
         }
     }
 
+    /// A mechanism that goes on with a list and has no faults to come.
+    pub fn resume(alloc: Global, units: UnitTable, places: Places, motions: Vec<Motion>) -> SimMech
+        requires { PlacesFit units places }
+        ensures units { units_of result ≡ units }
+        ensures places { places_of result ≡ places }
+        ensures motions { motions_of result ≡ motions.items }
+        ensures faults { faults_of result ≡ [] }
+        ensures calls { calls_of result ≡ 0 }
+        ensures failures { failures_of result ≡ 0 }
+    {
+        let _few = units.len();
+        SimMech {
+            units,
+            places,
+            motions,
+            faults: Vec::new(alloc),
+            calls: 0,
+            failures: 0,
+        }
+    }
+
     /// What it did, the oldest first.
     pub fn motions(&self) -> &[Motion]
         ensures { result.now ≡ motions_of self.now }
