@@ -1,10 +1,22 @@
 //! Counts of notes, added and taken from one another unit by unit.
 
-ghost use Rattle.std.specs.Prelude.{◌≡◌, ℕ, ◌+◌, ◌≤◌};
+ghost use Rattle.std.specs.Prelude.{◌≡◌, ℕ, ◌+◌, ◌≤◌, ◌↔◌, IsTrue};
 ghost use Rattle.xfs_base.specs.Counts.{at, LiesIn};
 ghost use Rattle.xfs_mech.specs.Faults.{first_notes};
 
 use xfs_base::Counts;
+
+/// Whether counts lie within others, unit by unit.
+pub fn lies_in(a: &Counts, b: &Counts) -> bool
+    ensures { IsTrue result ↔ LiesIn a.now b.now }
+{
+    for i in 0..8 {
+        if a.0[i] > b.0[i] {
+            return false;
+        }
+    }
+    true
+}
 
 pub(crate) fn plus(a: &Counts, b: &Counts) -> Counts
     requires { (u : ℕ) → at a.now u + at b.now u ≤ 4000000000 }

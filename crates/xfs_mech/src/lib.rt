@@ -5,6 +5,7 @@
 mod counts;
 mod fault;
 mod key;
+mod limits;
 mod mechanism;
 mod motion;
 mod order;
@@ -16,8 +17,10 @@ mod touch;
 mod tracks;
 mod watch;
 
+pub use counts::lies_in;
 pub use fault::Fault;
 pub use key::KeyName;
+pub use limits::{MOST_IN_A_UNIT, MOST_NOTES, can_load, places_fit, totals};
 pub use mechanism::Mechanism;
 pub use motion::{Motion, Outcome};
 pub use order::Order;

@@ -9,7 +9,7 @@ ghost use Rattle.xfs_mech.specs.Watches.{Hands};
 use crate::{News, Touch};
 
 /// What watches a card slot, a key pad or an outlet.
-pub trait Watch {
+pub trait Watch: Drop {
     /// The touches to come, where the object tells them.
     ghost coming: { Self → Option (List Touch) };
 
