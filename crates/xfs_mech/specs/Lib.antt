@@ -5,5 +5,6 @@ pub mod Motions
 pub mod Orders
 pub mod Sim
 pub mod SimWatch
+pub mod Sums
 pub mod Tracks
 pub mod Watches

@@ -1,9 +1,8 @@
 -- What a watch hands over: the touches to come, the first one first.
-use Rattle.std.specs.Prelude.{◌≡◌, ℕ, ◌<◌, List, [], ◌∷◌, Some, None}
+use Rattle.std.specs.Prelude.{◌≡◌, List, [], ◌∷◌, Some, None}
 use Rattle.std.specs.declared.option.Option.{Option}
 use Rattle.xfs_mech.specs.declared.touch.Touch.{Touch}
 use Rattle.xfs_mech.specs.declared.touch.News.{News}
-use Rattle.xfs_mech.specs.declared.touch.News.TheVariants as News
 
 -- what is to come after this news of it: a touch was the first, quiet comes only where none is to come, and a failure hands over none
 abbrev pub Tells : List Touch → News → List Touch → Type 0
