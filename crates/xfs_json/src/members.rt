@@ -1,4 +1,4 @@
-ghost use Rattle.std.specs.Prelude.{◌≡◌, option_map};
+ghost use Rattle.std.specs.Prelude.{◌≡◌, ◌≤◌, option_map, IfOk, IfSome};
 ghost use Rattle.serde_json.specs.Find.{as_bool, as_str, as_object};
 ghost use Rattle.serde_json.specs.View.{view, members_view};
 ghost use Rattle.xfs_json.specs.Members.{member_of, member_as, whole_in, result_map};
@@ -13,7 +13,8 @@ pub struct Shape;
 /// A member that is a whole number from `low` to `high`, or None where it is absent or null.
 /// A number with a point or an exponent, `-0` and a number past 64 bits are no whole numbers.
 pub fn whole(value: &Value, name: &str, low: u64, high: u64) -> Result<Option<u64>, Shape>
-    ensures { result ≡ member_as (whole_in low high) (member_of name.now (view value.now)) }
+    ensures number { result ≡ member_as (whole_in low high) (member_of name.now (view value.now)) }
+    ensures bounds { IfOk result (λ found. IfSome found (λ n. (low ≤ n) × (n ≤ high))) }
 {
     match member(value, name) {
         None => Ok(None),
