@@ -1,1 +1,2 @@
+mod CommandLaws
 mod NameLaws

@@ -3,7 +3,10 @@
 #![tactic(auto)]
 
 mod code;
+mod command;
+mod fields;
 mod name;
 
 pub use code::{Code, Status};
+pub use command::{Envelope, LONGEST_MESSAGE, Refuse, Why, read};
 pub use name::{Name, NameFault};
