@@ -1,11 +1,11 @@
 ghost use Rattle.std.specs.Prelude.{◌≡◌, Ok, Err, IfOk, option_map, is_some};
 ghost use Rattle.serde_json.specs.Find.{get};
 ghost use Rattle.serde_json.specs.View.{view};
-ghost use Rattle.xfs_envelope.specs.Fields.{header_of, is_of_type, name_at, id_at, usable_id_at, timeout_at, version_at, payload_at, needed, optional, or_else, empty};
+ghost use Rattle.xfs_envelope.specs.Fields.{header_of, is_of_type, name_at, id_at, usable_id_at, timeout_at, version_at, status_at, code_at, payload_at, needed, optional, or_else, empty};
 ghost use Rattle.xfs_envelope.specs.declared.name.NameFault.TheVariants.{Form};
 
 use crate::name::is_version;
-use crate::{Name, NameFault};
+use crate::{Code, Name, NameFault, Status};
 use std::alloc::Global;
 use xfs_json::{Map, Shape, Value, whole, words};
 
@@ -76,6 +76,32 @@ pub(crate) fn has_right_version(header: &Value) -> bool
         Ok(Some(text)) => is_version(text),
         Ok(None) => true,
         Err(Shape) => false,
+    }
+}
+
+pub(crate) fn status_at(header: &Value) -> Result<Option<Status>, Shape>
+    ensures { result ≡ status_at (view header.now) }
+{
+    match words(header, "status") {
+        Ok(Some(text)) => match Status::of(text) {
+            Some(status) => Ok(Some(status)),
+            None => Err(Shape),
+        },
+        Ok(None) => Ok(None),
+        Err(Shape) => Err(Shape),
+    }
+}
+
+pub(crate) fn code_at(header: &Value) -> Result<Option<Code>, Shape>
+    ensures { result ≡ code_at (view header.now) }
+{
+    match words(header, "completionCode") {
+        Ok(Some(text)) => match Code::of(text) {
+            Some(code) => Ok(Some(code)),
+            None => Err(Shape),
+        },
+        Ok(None) => Ok(None),
+        Err(Shape) => Err(Shape),
     }
 }
 

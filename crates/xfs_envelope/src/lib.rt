@@ -2,11 +2,13 @@
 //! and unsolicited messages are written and read back.
 #![tactic(auto)]
 
+mod answer;
 mod code;
 mod command;
 mod fields;
 mod name;
 
+pub use answer::{Answer, AnswerFault};
 pub use code::{Code, Status};
 pub use command::{Envelope, LONGEST_MESSAGE, Refuse, Why, read};
 pub use name::{Name, NameFault};
