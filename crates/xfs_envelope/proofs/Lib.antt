@@ -1,2 +1,3 @@
 mod CommandLaws
+mod FieldLaws
 mod NameLaws

@@ -6,9 +6,11 @@ mod answer;
 mod code;
 mod command;
 mod fields;
+mod messages;
 mod name;
 
 pub use answer::{Answer, AnswerFault};
 pub use code::{Code, Status};
 pub use command::{Envelope, LONGEST_MESSAGE, Refuse, Why, read};
+pub use messages::{acknowledge, completion, event, unsolicited};
 pub use name::{Name, NameFault};
