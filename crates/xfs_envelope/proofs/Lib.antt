@@ -1,3 +1,4 @@
 mod CommandLaws
 mod FieldLaws
 mod NameLaws
+mod ReplyLaws

@@ -9,8 +9,11 @@ mod fields;
 mod messages;
 mod name;
 
-pub use answer::{Answer, AnswerFault};
+pub use answer::{Answer, AnswerFault, read_answer};
 pub use code::{Code, Status};
 pub use command::{Envelope, LONGEST_MESSAGE, Refuse, Why, read};
 pub use messages::{acknowledge, completion, event, unsolicited};
 pub use name::{Name, NameFault};
+
+#[cfg(test)]
+mod tests;

@@ -1,4 +1,4 @@
-ghost use Rattle.std.specs.Prelude.{◌≡◌, ◌≤◌, Some, true, false, option_copied, is_some, IfOk, OnOk};
+ghost use Rattle.std.specs.Prelude.{◌≡◌, ◌≤◌, ◌<◌, ◌^◌, Some, true, false, option_copied, is_some, IfSome, IfOk, OnOk};
 ghost use Rattle.serde_json.specs.Data.{depth, put, string};
 ghost use Rattle.serde_json.specs.Find.{as_object};
 ghost use Rattle.serde_json.specs.View.{view, members_view};
@@ -86,7 +86,9 @@ fn new_acknowledge_header(
     id: Option<u64>,
     status: Option<Status>,
 ) -> Result<Value, AllocError>
-    ensures { IfOk result (λ h. view h ≡ acknowledge_header (option_copied name.entry) id status) }
+    ensures header { IfOk result (λ h. view h ≡ acknowledge_header (option_copied name.entry) id status) }
+    ensures name { OnOk result (IfSome (option_copied name.entry) (λ n. is_name n ≡ true)) }
+    ensures id { OnOk result (IfSome id (λ n. n < 2 ^ 64)) }
 {
     let mut members = Map::new(alloc);
     if let Some(name) = name {
