@@ -32,7 +32,11 @@ fn reads_127_nested_lists_and_no_more(rt: HostRuntime) -> Result<(), Fail> {
     for (depth, is_json) in [(127, true), (128, false)] {
         let opening = "[".repeat(rt.alloc(), depth)?;
         let text = format!(in rt.alloc(); "{opening}{}", "]".repeat(rt.alloc(), depth)?)?;
-        assert_eq!(rt; parse(rt.alloc(), text.as_bytes()).is_ok(), is_json, "{depth}");
+        assert_eq!(rt;
+            parse(rt.alloc(), text.as_bytes()).is_ok(),
+            is_json,
+            "{depth}"
+        );
     }
     Ok(())
 }
@@ -60,7 +64,8 @@ fn a_whole_number_has_no_point_exponent_or_minus(rt: HostRuntime) -> Result<(), 
 
 #[test]
 fn members_have_their_types(rt: HostRuntime) -> Result<(), Fail> {
-    let text = "{\"t\":\"\\\"\\\\\\/\\b\\f\\n\\r\\t\\u00E9\\uD83D\\uDE00\",\"b\":true,\"o\":{\"x\":1}}";
+    let text =
+        "{\"t\":\"\\\"\\\\\\/\\b\\f\\n\\r\\t\\u00E9\\uD83D\\uDE00\",\"b\":true,\"o\":{\"x\":1}}";
     let value = parse(rt.alloc(), text.as_bytes()).ok().ok_or("JSON")?;
     assert_eq!(rt; words(&value, "t"), Ok(Some("\"\\/\u{8}\u{c}\n\r\té😀")));
     assert_eq!(rt; truth(&value, "b"), Ok(Some(true)));

@@ -1,4 +1,3 @@
-use Rattle.std.proofs.Common.{rules}
 use Rattle.xfs_json.proofs.ReadingLaws.{reading-Some}
 use Rattle.xfs_json.proofs.texts.text.Goals as goal
 
