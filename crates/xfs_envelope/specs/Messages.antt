@@ -1,9 +1,15 @@
 -- The value of each message of a service; its members stand in the order of their names' bytes.
-use Rattle.std.specs.Prelude.{ℕ, List, codes, Option, Some, None, option_map}
-use Rattle.serde_json.specs.Data.{Data, number, unsigned, string, object, Members, member, no_members}
+use Rattle.std.specs.Prelude.{◌≡◌, ◌≤◌, ℕ, List, codes, false, IsSome, Option, Some, None, option_map}
+use Rattle.serde_json.specs.Data.{Data, number, unsigned, string, object, Members, member, no_members, depth}
+use Rattle.serde_json.specs.Find.{as_object}
+use Rattle.serde_json.specs.Written.{has_float}
 use Rattle.xfs_envelope.specs.declared.code.Code.{Code}
 use Rattle.xfs_envelope.specs.declared.code.Status.{Status}
 use Rattle.xfs_envelope.specs.Codes.{code_text, status_text}
+
+-- a payload that can be sent: an object without floats, nested at most 120 deep
+abbrev pub IsPayload : Data → Type 0
+IsPayload d = IsSome (as_object d) × (has_float d ≡ false) × (depth d ≤ 120)
 
 -- a member that may be absent, before others
 abbrev pub with_if : List ℕ → Option Data → Members → Members

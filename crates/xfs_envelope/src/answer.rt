@@ -32,7 +32,10 @@ pub enum Answer {
         payload: Value,
     },
     /// Something happened that belongs to no command.
-    Unsolicited { name: Name, payload: Value },
+    Unsolicited {
+        name: Name,
+        payload: Value,
+    },
 }
 
 /// Why a text is no answer: it has other fields, or memory ran out.
@@ -124,7 +127,12 @@ fn completion_of(alloc: Global, value: Value) -> Result<Answer, AnswerFault>
         return Err(AnswerFault::Shape);
     };
     match take_payload(alloc, value) {
-        Some(payload) => Ok(Answer::Completion { id, name, code, payload }),
+        Some(payload) => Ok(Answer::Completion {
+            id,
+            name,
+            code,
+            payload,
+        }),
         None => Err(AnswerFault::Shape),
     }
 }

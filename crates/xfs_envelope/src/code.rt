@@ -125,6 +125,9 @@ impl Status {
     pub fn of(text: &str) -> Option<Status>
         ensures { result ≡ status_of text.now }
     {
-        STATUSES.iter().copied().find(|status| status.text() == text)
+        STATUSES
+            .iter()
+            .copied()
+            .find(|status| status.text() == text)
     }
 }

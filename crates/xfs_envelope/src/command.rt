@@ -5,10 +5,11 @@ ghost use Rattle.xfs_envelope.specs.Commands.{command_in, command_of, given, sai
 ghost use Rattle.xfs_envelope.specs.Fields.{or_else, payload_at, empty};
 ghost use Rattle.xfs_envelope.specs.declared.command.Why.TheVariants.{BadPayload, Memory};
 
-use crate::{Name, NameFault};
 use crate::fields::{
-    has_right_version, header_of, id_at, is_of_type, name_at, take_payload, timeout_at, usable_id_at,
+    has_right_version, header_of, id_at, is_of_type, name_at, take_payload, timeout_at,
+    usable_id_at,
 };
+use crate::{Name, NameFault};
 use std::alloc::Global;
 use xfs_json::{JsonFault, Value, parse};
 
@@ -79,8 +80,16 @@ pub fn read(alloc: Global, text: &[u8]) -> Result<Envelope, Refuse>
         Err(why) => return Err(Refuse { why, id }),
     };
     match take_payload(alloc, value) {
-        Some(payload) => Ok(Envelope { name: head.name, id: head.id, timeout: head.timeout, payload }),
-        None => Err(Refuse { why: Why::BadPayload, id }),
+        Some(payload) => Ok(Envelope {
+            name: head.name,
+            id: head.id,
+            timeout: head.timeout,
+            payload,
+        }),
+        None => Err(Refuse {
+            why: Why::BadPayload,
+            id,
+        }),
     }
 }
 

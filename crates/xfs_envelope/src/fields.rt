@@ -35,10 +35,7 @@ pub(crate) fn name_at(alloc: Global, header: &Value) -> Result<Option<Name>, Nam
     ensures form { result ≡ Err Form → name_at (view header.now) ≡ Err record {} }
 {
     match words(header, "name") {
-        Ok(Some(text)) => match Name::of(alloc, text) {
-            Ok(name) => Ok(Some(name)),
-            Err(fault) => Err(fault),
-        },
+        Ok(Some(text)) => Ok(Some(Name::of(alloc, text)?)),
         Ok(None) => Ok(None),
         Err(Shape) => Err(NameFault::Form),
     }

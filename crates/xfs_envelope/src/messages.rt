@@ -1,9 +1,8 @@
-ghost use Rattle.std.specs.Prelude.{◌≡◌, ◌≤◌, ◌<◌, ◌^◌, Some, true, false, option_copied, is_some, IfSome, IfOk, OnOk};
-ghost use Rattle.serde_json.specs.Data.{depth, put, string};
-ghost use Rattle.serde_json.specs.Find.{as_object};
+ghost use Rattle.std.specs.Prelude.{◌≡◌, ◌<◌, ◌^◌, Some, IsTrue, option_copied, IfSome, IfOk, OnOk};
+ghost use Rattle.serde_json.specs.Data.{put, string};
 ghost use Rattle.serde_json.specs.View.{view, members_view};
-ghost use Rattle.serde_json.specs.Written.{has_float, compact_text};
-ghost use Rattle.xfs_envelope.specs.Messages.{acknowledge_header, event_header, completion_header, unsolicited_header, headed, framed};
+ghost use Rattle.serde_json.specs.Written.{compact_text};
+ghost use Rattle.xfs_envelope.specs.Messages.{acknowledge_header, event_header, completion_header, unsolicited_header, headed, framed, IsPayload};
 ghost use Rattle.xfs_envelope.specs.Names.{is_name};
 ghost use Rattle.xfs_envelope.specs.Replies.{Reply, reply_in};
 
@@ -32,10 +31,8 @@ pub fn acknowledge(
 
 /// The text that something happened while the command with this id was carried out.
 pub fn event(alloc: Global, name: &str, id: u64, payload: &Value) -> Result<Vec<u8>, Memory>
-    requires name { is_name name.now ≡ true }
-    requires object { is_some (as_object (view payload.now)) ≡ true }
-    requires no_float { has_float (view payload.now) ≡ false }
-    requires depth { depth (view payload.now) ≤ 120 }
+    requires name { IsTrue (is_name name.now) }
+    requires payload { IsPayload (view payload.now) }
     ensures text { IfOk result (λ t. t.items
         ≡ compact_text (framed (event_header name.now id) (view payload.now))) }
     ensures reads_back { IfOk result (λ t. reply_in t.items
@@ -53,9 +50,7 @@ pub fn completion(
     code: Code,
     payload: &Value,
 ) -> Result<Vec<u8>, Memory>
-    requires object { is_some (as_object (view payload.now)) ≡ true }
-    requires no_float { has_float (view payload.now) ≡ false }
-    requires depth { depth (view payload.now) ≤ 120 }
+    requires payload { IsPayload (view payload.now) }
     ensures text { IfOk result (λ t. t.items
         ≡ compact_text (framed (completion_header name.now id code) (view payload.now))) }
     ensures reads_back { IfOk result (λ t. reply_in t.items
@@ -67,10 +62,8 @@ pub fn completion(
 
 /// The text that something happened which belongs to no command.
 pub fn unsolicited(alloc: Global, name: &str, payload: &Value) -> Result<Vec<u8>, Memory>
-    requires name { is_name name.now ≡ true }
-    requires object { is_some (as_object (view payload.now)) ≡ true }
-    requires no_float { has_float (view payload.now) ≡ false }
-    requires depth { depth (view payload.now) ≤ 120 }
+    requires name { IsTrue (is_name name.now) }
+    requires payload { IsPayload (view payload.now) }
     ensures text { IfOk result (λ t. t.items
         ≡ compact_text (framed (unsolicited_header name.now) (view payload.now))) }
     ensures reads_back { IfOk result (λ t. reply_in t.items
@@ -87,7 +80,7 @@ fn new_acknowledge_header(
     status: Option<Status>,
 ) -> Result<Value, AllocError>
     ensures header { IfOk result (λ h. view h ≡ acknowledge_header (option_copied name.entry) id status) }
-    ensures name { OnOk result (IfSome (option_copied name.entry) (λ n. is_name n ≡ true)) }
+    ensures name { OnOk result (IfSome (option_copied name.entry) (λ n. IsTrue (is_name n))) }
     ensures id { OnOk result (IfSome id (λ n. n < 2 ^ 64)) }
 {
     let mut members = Map::new(alloc);

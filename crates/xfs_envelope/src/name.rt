@@ -1,4 +1,4 @@
-ghost use Rattle.std.specs.Prelude.{◌≡◌, true, false, Err, IfOk};
+ghost use Rattle.std.specs.Prelude.{◌≡◌, false, Err, IfOk, OnOk, IsTrue};
 ghost use Rattle.std.specs.List.{list_all};
 ghost use Rattle.std.specs.Char.{is_ascii_alphanumeric, is_ascii_digit};
 ghost use Rattle.xfs_envelope.specs.Names.{is_part, is_name, is_number, is_version};
@@ -22,20 +22,20 @@ pub enum NameFault {
 }
 
 impl Model for Name {
-    ghost use Rattle.std.specs.Prelude.{◌≡◌, ℕ, List, true, string_bytes};
+    ghost use Rattle.std.specs.Prelude.{ℕ, List, IsTrue, string_bytes};
     ghost use Rattle.xfs_envelope.specs.Names.{is_name};
 
     ghost Value = { List ℕ };
 
     ghost view = { λ n. string_bytes n.text };
 
-    ghost invariant = { λ n. is_name (string_bytes n.text) ≡ true };
+    ghost invariant = { λ n. IsTrue (is_name (string_bytes n.text)) };
 }
 
 impl Name {
     pub fn new(alloc: Global, text: &[u8]) -> Result<Name, NameFault>
         ensures text { IfOk result (λ n. n ≡ text.now) }
-        ensures name { IfOk result (λ n. is_name text.now ≡ true) }
+        ensures name { OnOk result (IsTrue (is_name text.now)) }
         ensures form { result ≡ Err Form → is_name text.now ≡ false }
     {
         match str::from_utf8(text) {
@@ -46,7 +46,7 @@ impl Name {
 
     pub(crate) fn of(alloc: Global, text: &str) -> Result<Name, NameFault>
         ensures text { IfOk result (λ n. n ≡ text.now) }
-        ensures name { IfOk result (λ n. is_name text.now ≡ true) }
+        ensures name { OnOk result (IsTrue (is_name text.now)) }
         ensures form { result ≡ Err Form → is_name text.now ≡ false }
     {
         if !is_name(text) {
@@ -60,7 +60,7 @@ impl Name {
 
     pub fn as_str(&self) -> &str
         ensures text { result.now ≡ self.now }
-        ensures name { is_name self.now ≡ true }
+        ensures name { IsTrue (is_name self.now) }
     {
         self.text.as_str()
     }
@@ -80,9 +80,7 @@ fn is_part(part: &[u8]) -> bool
 {
     match part {
         [first, rest @ ..] => {
-            first.is_ascii_uppercase()
-                && rest.len() <= 63
-                && are_alphanumeric(rest)
+            first.is_ascii_uppercase() && rest.len() <= 63 && are_alphanumeric(rest)
         }
         [] => false,
     }
