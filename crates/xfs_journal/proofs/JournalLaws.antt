@@ -6,7 +6,7 @@ use Rattle.std.proofs.lemmas.List.Sums.{fold_push}
 use Rattle.std.proofs.lemmas.Bool.{eq-eqb, ne_eqb}
 use Rattle.std.proofs.lemmas.Option.{slice_get_within}
 use Rattle.xfs_journal.specs.declared.record.Rec.{Rec}
-use Rattle.xfs_journal.specs.Journal.{Reading, nothing_read, record_at, reading, reading_after, live_of, live_at, live_after, Finding, found_after, finding_after, is_place, token_of, Walk, Marking, mark_after, marking_after, last_mark, Binding, bound_after, binding_after, bind_of, next_number}
+use Rattle.xfs_journal.specs.Journal.{Reading, nothing_read, record_at, reading, reading_after, live_of, live_at, live_after, Finding, found_after, finding_after, is_place, token_of, Walk, Marking, mark_after, marking_after, last_mark, Binding, bound_after, binding_after, bind_of, next_number, next_issue}
 use Rattle.xfs_journal.specs.declared.record.Rec.TheVariants.{Issue, Clear, Boot, Bind, Order, Done, Load}
 
 pub slice_get-push : {X : Type 0} (xs : List X) (x : X) (i : ℕ) → i < length xs → slice_get (xs ++ x ∷ []) i ≡ slice_get xs i
@@ -104,21 +104,6 @@ pub Walk-push : {S : Type 0} (step : S → Rec → S) (Owes : S → Rec → Type
 Walk-push step Owes s [] r w o = (o, tt)
 Walk-push step Owes s (x ∷ xs) r w o = (w.0, Walk-push step Owes (step s x) xs r w.1 o)
 
--- the loop that reads the records in turn
-pub live_of-more : (J : List Rec) (i : ℕ) (r : Rec) → i < length J → r ≡ get_or J i r → live_of (take (i + 1) J) ≡ live_after i (live_of (take i J)) r
-live_of-more J i r lt is =
-    let more : take (i + 1) J ≡ take i J ++ r ∷ [] = take_more J i r lt ∙ ap (λ (y : Rec). take i J ++ y ∷ []) (sym is) in
-    let len : length (take i J) ≡ i = length-take-le i J (omega arith) in
-    ap live_of more ∙ live_of-push (take i J) r ∙ ap (λ (n : ℕ). live_after n (live_of (take i J)) r) len
-
-pub token_of-more : (J : List Rec) (i p : ℕ) (r : Rec) → i < length J → r ≡ get_or J i r
-    → token_of (take (i + 1) J) p ≡ found_after p (record { read = record { count = i; live = live_of (take i J) }; token = token_of (take i J) p }) r
-token_of-more J i p r lt is =
-    let more : take (i + 1) J ≡ take i J ++ r ∷ [] = take_more J i r lt ∙ ap (λ (y : Rec). take i J ++ y ∷ []) (sym is) in
-    let len : length (take i J) ≡ i = length-take-le i J (omega arith) in
-    ap (λ (l : List Rec). token_of l p) more ∙ token_of-push (take i J) r p
-    ∙ ap (λ (n : ℕ). found_after p (record { read = record { count = n; live = live_of (take i J) }; token = token_of (take i J) p }) r) len
-
 marking-count_from : (m : Marking) (J : List Rec) → (fold marking_after m J).count ≡ m.count + length J
 marking-count_from m [] = omega arith
 marking-count_from m (r ∷ rs) = let e = marking-count_from (marking_after m r) rs in omega (arith, e)
@@ -139,5 +124,5 @@ bind_of-push J r p =
     ∙ ap (λ (x : Reading). bound_after p (record { read = x; place = bind_of J p }) r) e
     ∙ ap (λ (n : ℕ). bound_after p (record { read = record { count = n; live = live_of J }; place = bind_of J p }) r) (reading-count J)
 
-pub next_number-push : (J : List Rec) (r : Rec) → fold next_number 1 (J ++ r ∷ []) ≡ next_number (fold next_number 1 J) r
-next_number-push J r = fold_push next_number 1 J r
+pub next_issue-push : (J : List Rec) (r : Rec) → next_issue (J ++ r ∷ []) ≡ next_number (next_issue J) r
+next_issue-push J r = fold_push next_number 1 J r

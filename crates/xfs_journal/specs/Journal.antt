@@ -78,6 +78,10 @@ abbrev pub next_number : ℕ → Rec → ℕ
 next_number n (Issue number word) = n + 1
 next_number n r = n
 
+-- the number of the next issue: one more than there are
+abbrev pub next_issue : List Rec → ℕ
+next_issue records = fold next_number 1 records
+
 abbrev pub CarriesNumber : ℕ → Rec → Type 0
 CarriesNumber n (Issue number word) = number ≡ n
 CarriesNumber n r = ⊤
