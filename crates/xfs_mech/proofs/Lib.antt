@@ -1,1 +1,3 @@
+pub mod CountLaws
 pub mod MotionLaws
+pub mod SumLaws

@@ -1,3 +1,10 @@
+pub mod Faults
+pub mod Keys
 pub mod Mechanism
 pub mod Motions
 pub mod Orders
+pub mod Sim
+pub mod SimWatch
+pub mod Sums
+pub mod Tracks
+pub mod Watches

@@ -1,0 +1,4 @@
+mod CommandLaws
+mod FieldLaws
+mod NameLaws
+mod ReplyLaws

@@ -1,0 +1,6 @@
+pub mod Codes
+pub mod Commands
+pub mod Fields
+pub mod Messages
+pub mod Names
+pub mod Replies

@@ -1,0 +1,85 @@
+use super::*;
+use serde_json::json;
+use std::test::Fail;
+
+// Texts of the grammar of RFC 8259, and others.
+#[test]
+fn reads_json_and_nothing_else(rt: HostRuntime) {
+    for (text, is_json) in [
+        (" [1, {}] \n", true),
+        ("null", true),
+        ("{\"a\":1,\"a\":2}", true),
+        ("18446744073709551616", true),
+        ("", false),
+        ("[", false),
+        ("[1,]", false),
+        ("{} x", false),
+        ("01", false),
+        ("1e999", false),
+        ("'a'", false),
+        ("\"\\uD83D\"", false),
+        ("\"\n\"", false),
+    ] {
+        let read = parse(rt.alloc(), text.as_bytes());
+        assert_eq!(rt; read.is_ok(), is_json, "{text}");
+        assert_eq!(rt; matches!(read, Err(JsonFault::NotJson)), !is_json, "{text}");
+    }
+    assert!(rt; parse(rt.alloc(), &[34, 255, 34]).is_err());
+}
+
+#[test]
+fn reads_127_nested_lists_and_no_more(rt: HostRuntime) -> Result<(), Fail> {
+    for (depth, is_json) in [(127, true), (128, false)] {
+        let opening = "[".repeat(rt.alloc(), depth)?;
+        let text = format!(in rt.alloc(); "{opening}{}", "]".repeat(rt.alloc(), depth)?)?;
+        assert_eq!(rt;
+            parse(rt.alloc(), text.as_bytes()).is_ok(),
+            is_json,
+            "{depth}"
+        );
+    }
+    Ok(())
+}
+
+#[test]
+fn a_whole_number_has_no_point_exponent_or_minus(rt: HostRuntime) -> Result<(), Fail> {
+    for (text, number) in [
+        ("{}", Ok(None)),
+        ("{\"n\":null}", Ok(None)),
+        ("{\"n\":0}", Ok(Some(0))),
+        ("{\"n\":7,\"n\":8}", Ok(Some(8))),
+        ("{\"n\":18446744073709551615}", Ok(Some(u64::MAX))),
+        ("{\"n\":18446744073709551616}", Err(Shape)),
+        ("{\"n\":-0}", Err(Shape)),
+        ("{\"n\":-1}", Err(Shape)),
+        ("{\"n\":1.0}", Err(Shape)),
+        ("{\"n\":1e3}", Err(Shape)),
+        ("{\"n\":\"1\"}", Err(Shape)),
+    ] {
+        let value = parse(rt.alloc(), text.as_bytes()).ok().ok_or("JSON")?;
+        assert_eq!(rt; whole(&value, "n", 0, u64::MAX), number, "{text}");
+    }
+    Ok(())
+}
+
+#[test]
+fn members_have_their_types(rt: HostRuntime) -> Result<(), Fail> {
+    let text =
+        "{\"t\":\"\\\"\\\\\\/\\b\\f\\n\\r\\t\\u00E9\\uD83D\\uDE00\",\"b\":true,\"o\":{\"x\":1}}";
+    let value = parse(rt.alloc(), text.as_bytes()).ok().ok_or("JSON")?;
+    assert_eq!(rt; words(&value, "t"), Ok(Some("\"\\/\u{8}\u{c}\n\r\té😀")));
+    assert_eq!(rt; truth(&value, "b"), Ok(Some(true)));
+    assert_eq!(rt; words(&value, "b"), Err(Shape));
+    assert_eq!(rt; truth(&value, "o"), Err(Shape));
+    assert!(rt; matches!(object(&value, "o"), Ok(Some(_))));
+    assert!(rt; matches!(object(&value, "t"), Err(Shape)));
+    Ok(())
+}
+
+#[test]
+fn a_text_is_compact_and_its_members_are_in_order(rt: HostRuntime) -> Result<(), Fail> {
+    let value = json!(in rt.alloc(); {"b": 1u64, "a": true})?;
+    let written = text(rt.alloc(), &value).ok().ok_or("memory")?;
+    assert_eq!(rt; written.as_slice(), "{\"a\":true,\"b\":1}".as_bytes());
+    Ok(())
+}

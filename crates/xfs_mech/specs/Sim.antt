@@ -1,0 +1,54 @@
+-- A mechanism in memory: its list, its places, and the faults that it was made with.
+use Rattle.std.specs.Prelude.{◌≡◌, ℕ, ◌+◌, ◌-◌, ◌^◌, min, List, Bool, is_some, if◌then◌else◌}
+use Rattle.std.specs.Vec.{vec_len, vec_capacity}
+use Rattle.std.specs.declared.option.Option.{Option}
+use Rattle.xfs_base.specs.declared.counts.Places.{Places}
+use Rattle.xfs_base.specs.declared.money.NoteKind.{NoteKind}
+use Rattle.xfs_mech.specs.declared.fault.Fault.{Fault}
+use Rattle.xfs_mech.specs.declared.motion.Motion.{Motion}
+use Rattle.xfs_mech.specs.declared.sim.SimMech.{SimMech}
+use Rattle.xfs_mech.specs.declared.silent.SilentMech.{SilentMech}
+use Rattle.xfs_mech.specs.Faults.{fault_at}
+
+abbrev pub units_of : SimMech → List NoteKind
+units_of m = m.units
+
+abbrev pub places_of : SimMech → Places
+places_of m = m.places
+
+abbrev pub motions_of : SimMech → List Motion
+motions_of m = m.motions.items
+
+abbrev pub room_of : SimMech → ℕ
+room_of m = vec_capacity m.motions - vec_len m.motions
+
+-- the faults that it was made with
+abbrev pub faults_of : SimMech → List Fault
+faults_of m = m.faults.items
+
+-- how many calls of execute, taken and load were made
+abbrev pub calls_of : SimMech → ℕ
+calls_of m = m.calls
+
+-- how often it failed
+abbrev pub failures_of : SimMech → ℕ
+failures_of m = m.failures
+
+-- a count of 64 bits after one more, which stands still at its last value
+abbrev pub next : ℕ → ℕ
+next count = min (count + 1) (2 ^ 64 - 1)
+
+-- the fault that the next call meets
+abbrev pub due : SimMech → Option Fault
+due m = fault_at (faults_of m) (next (calls_of m))
+
+-- one more call was made, and it failed exactly where a fault was due
+pub record Counted (old new : SimMech) (failed : Bool) : Type 0 where
+  pub met : failed ≡ is_some (due old)
+  pub calls : calls_of new ≡ next (calls_of old)
+  pub failures : failures_of new ≡ (if failed then next (failures_of old) else failures_of old)
+  pub faults : faults_of new ≡ faults_of old
+
+-- the mechanism that a silent one wraps
+abbrev pub inner_of : SilentMech → SimMech
+inner_of m = m.inner

@@ -1,0 +1,210 @@
+ghost use Rattle.std.specs.Prelude.{◌≡◌};
+ghost use Rattle.xfs_mech.specs.Mechanism.{source_of};
+
+use crate::{
+    Fault, KeyName, Kind, Mechanism, Motion, News, Order, Outcome, SilentMech, SimMech, SimWatch,
+    Touch, Tracks, Watch, can_load, lies_in, places_fit,
+};
+use std::alloc::Global;
+use std::process::Abort;
+use std::test::Fail;
+use xfs_base::{Counts, Currency, NoteKind, Places, UnitTable};
+
+const NONE: Counts = Counts([0; 8]);
+
+const FULL: Counts = Counts([100, 100, 100, 100, 0, 0, 0, 0]);
+
+// EUR 10, EUR 20, EUR 50 and USD 20.
+fn units() -> Result<UnitTable, Fail> {
+    let euro = Currency::new(b"EUR").ok_or("letters")?;
+    let dollar = Currency::new(b"USD").ok_or("letters")?;
+    let kinds = [(euro, 10), (euro, 20), (euro, 50), (dollar, 20)];
+    let kinds = kinds.map(|(currency, value)| NoteKind { currency, value });
+    Ok(UnitTable::new(&kinds).ok_or("table")?)
+}
+
+fn places(units: Counts) -> Places {
+    Places {
+        units,
+        transport: NONE,
+        outlet: NONE,
+        taken: NONE,
+        retracted: NONE,
+        rejected: NONE,
+    }
+}
+
+fn source(kind: Kind, places: &Places) -> Counts
+    ensures { result ≡ source_of kind places.now }
+{
+    match kind {
+        Kind::Stack => places.units,
+        Kind::Present | Kind::Reject => places.transport,
+        Kind::Retract => places.outlet,
+    }
+}
+
+// Carries out an order on any mechanism.
+fn carry<M: Mechanism>(rt: &impl Abort, mech: &mut M, kind: Kind, counts: Counts) -> Outcome {
+    let ready = mech.ready();
+    assert!(rt; ready.is_ok());
+    assert!(rt; lies_in(&counts, &source(kind, &mech.survey())));
+    mech.execute(Order::new(1, kind, counts))
+}
+
+// What the last of these orders did and where the notes lie then, over 100 notes in each unit.
+fn carried(
+    rt: &impl Abort,
+    alloc: Global,
+    fault: Fault,
+    orders: &[(Kind, Counts)],
+) -> Result<(Option<Outcome>, Places), Fail> {
+    let (units, begun) = (units()?, places(FULL));
+    assert!(rt; places_fit(&units, &begun));
+    let mut mech = SimMech::new(alloc, units, begun, vec![in alloc; fault]?);
+    let mut last = None;
+    for (kind, counts) in orders {
+        last = Some(carry(rt, &mut mech, *kind, *counts));
+    }
+    Ok((last, mech.survey()))
+}
+
+// A present that leaves a note behind, a stack that diverts a note, and one that takes the notes
+// of lower units first.
+#[test]
+fn a_fault_leaves_part_of_an_order(rt: HostRuntime) -> Result<(), Fail> {
+    let few = |first, second| Counts([first, second, 0, 0, 0, 0, 0, 0]);
+    let at = |call, moved, diverted| Fault {
+        call,
+        moved,
+        diverted,
+    };
+    let stop = |moved, diverted| Some(Outcome {
+        moved,
+        diverted,
+        failed: true,
+    });
+    let alone = [(Kind::Stack, few(3, 0))];
+    let both = [(Kind::Stack, few(0, 2)), (Kind::Present, few(0, 2))];
+    let order = [(Kind::Stack, few(2, 2))];
+    let (last, now) = carried(&rt, rt.alloc(), at(2, 1, 0), &both)?;
+    assert_eq!(rt; last, stop(few(0, 1), NONE));
+    assert_eq!(rt;
+        (now.units.0[1], now.transport, now.outlet),
+        (98, few(0, 1), few(0, 1))
+    );
+    let (last, now) = carried(&rt, rt.alloc(), at(1, 1, 1), &alone)?;
+    assert_eq!(rt; last, stop(few(1, 0), few(1, 0)));
+    assert_eq!(rt;
+        (now.units.0[0], now.transport, now.rejected),
+        (98, few(1, 0), few(1, 0))
+    );
+    let (last, _) = carried(&rt, rt.alloc(), at(1, 3, 1), &order)?;
+    assert_eq!(rt; last, stop(few(2, 1), few(0, 1)));
+    Ok(())
+}
+
+// A load that fails adds no entry; a taking that doesn't fail takes the whole outlet.
+#[test]
+fn reports_add_an_entry_only_where_they_succeed(rt: HostRuntime) -> Result<(), Fail> {
+    let (units, mut begun) = (units()?, places(FULL));
+    begun.outlet = FULL;
+    assert!(rt; places_fit(&units, &begun) && can_load(&units, &begun, 1, 9_900));
+    let fault = Fault {
+        call: 1,
+        moved: 9,
+        diverted: 9,
+    };
+    let mut mech = SimMech::new(rt.alloc(), units, begun, vec![in rt.alloc(); fault]?);
+    mech.ready()?;
+    let failed = mech.load(1, 9_900);
+    assert_eq!(rt;
+        (failed.moved, failed.failed, mech.motions().len()),
+        (NONE, true, 0)
+    );
+    let loaded = mech.load(1, 9_900);
+    assert_eq!(rt;
+        (loaded.moved.0[0], mech.survey().units.0[0]),
+        (9_900, 10_000)
+    );
+    mech.ready()?;
+    assert_eq!(rt; mech.taken().moved, FULL);
+    assert_eq!(rt;
+        mech.motions().last().copied(),
+        Some(Motion::Taken { counts: FULL })
+    );
+    Ok(())
+}
+
+#[test]
+fn a_silent_mechanism_goes_on_with_a_list(rt: HostRuntime) -> Result<(), Fail> {
+    let (units, begun) = (units()?, places(FULL));
+    assert!(rt; places_fit(&units, &begun));
+    let motions = vec![in rt.alloc();
+        Motion::Loaded {
+            unit: 2,
+            count: 100
+        },
+    ]?;
+    let mut mech = SilentMech::new(SimMech::resume(rt.alloc(), units, begun, motions));
+    assert_eq!(rt; carry(&rt, &mut mech, Kind::Stack, FULL).moved, FULL);
+    assert_eq!(rt; carry(&rt, &mut mech, Kind::Reject, FULL).moved, FULL);
+    assert_eq!(rt; (mech.survey().units, mech.survey().rejected), (NONE, FULL));
+    Ok(())
+}
+
+#[test]
+fn limits_of_places_and_of_a_load(rt: HostRuntime) -> Result<(), Fail> {
+    let units = units()?;
+    for (first, fifth, taken, fits) in [
+        (10_000, 0, 3_999_990_000, true),
+        (10_001, 0, 0, false),
+        (10_000, 0, 3_999_990_001, false),
+        (0, 1, 0, false),
+    ] {
+        let mut all = places(Counts([first, 0, 0, 0, fifth, 0, 0, 0]));
+        all.taken = Counts([taken, 0, 0, 0, 0, 0, 0, 0]);
+        assert_eq!(rt; places_fit(&units, &all), fits);
+    }
+    for (unit, count, can) in [
+        (1, 9_900, true),
+        (1, 9_901, false),
+        (5, 1, false),
+        (0, 1, false),
+    ] {
+        assert_eq!(rt; can_load(&units, &places(FULL), unit, count), can);
+    }
+    Ok(())
+}
+
+#[test]
+fn a_watch_keeps_a_touch_over_a_failing_call(rt: HostRuntime) -> Result<(), Fail> {
+    let touches = vec![in rt.alloc(); Touch::CardTaken, Touch::Key(KeyName::Zero)]?;
+    let mut watch = SimWatch::new(touches, vec![in rt.alloc(); 2]?);
+    assert!(rt; matches!(watch.next(), News::Touch(Touch::CardTaken)));
+    assert!(rt; matches!(watch.next(), News::Failed));
+    assert!(rt; matches!(watch.next(), News::Touch(Touch::Key(KeyName::Zero))));
+    assert!(rt; matches!(watch.next(), News::Quiet));
+    Ok(())
+}
+
+#[test]
+fn tracks_have_1_to_255_bytes(rt: HostRuntime) -> Result<(), Fail> {
+    for (len, there) in [(0, false), (1, true), (255, true), (256, false)] {
+        let bytes = vec![in rt.alloc(); b'0'; len]?;
+        let tracks = Tracks::new(None, None, Some(bytes));
+        assert_eq!(rt; tracks.is_some(), there);
+        assert_eq!(rt;
+            tracks.and_then(|t| t.track(3).map(|b| b.len())),
+            there.then_some(len)
+        );
+    }
+    Ok(())
+}
+
+#[test]
+fn keys_by_their_names(rt: HostRuntime) {
+    assert_eq!(rt; KeyName::named("backspace"), Some(KeyName::Backspace));
+    assert_eq!(rt; KeyName::named("Enter"), None);
+    assert_eq!(rt; KeyName::Four.name(), "four");
+}
