@@ -1,0 +1,9 @@
+//! The lines of a script: how the input is cut into them, and how each command reads one.
+#![tactic(auto)]
+
+mod feed;
+mod line;
+
+
+pub use line::{Line, LineFault};
+
