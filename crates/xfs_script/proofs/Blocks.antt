@@ -1,6 +1,6 @@
 -- A block of bytes that a source writes into, and its front that is dropped.
-use Rattle.std.proofs.Common.{◌≡◌, ℕ, ◌+◌, ◌-◌, ◌≤◌, List, [], ◌++◌, length, take, drop, Ok, Err, IfOk, None, Some, refl, ap, sym, subst, ◌∙◌, arith, append_assoc, length-append}
-use Rattle.std.proofs.lemmas.List.{length-take-le, drop-take, drop-drop, take-append-le, append-nil, drop_all}
+use Rattle.std.proofs.Common.{◌≡◌, ℕ, ◌+◌, ◌-◌, ◌≤◌, List, [], ◌++◌, length, take, drop, Ok, Err, IfOk, None, Some, refl, ap, sym, subst, ◌∙◌, arith, append_assoc, length-append, length-drop, min}
+use Rattle.std.proofs.lemmas.List.{length-take-le, drop-take, drop-drop, take-append-le, append-nil, drop_all, drop_min}
 use Rattle.std.proofs.Math.Seq.{take-append-add}
 use Rattle.std.specs.declared.result.Result.{Result}
 use Rattle.std.specs.declared.option.Option.{Option}
@@ -70,29 +70,41 @@ Grows-trans r s t x y z p q = record {
 pub Grows-measure : (r s : Reading) (x y : Option (List ℕ)) → Grows r s x y → length s.pending + r.given ≡ length r.pending + s.given
 Grows-measure r s x y p = omega (arith, ap length p.pending, length-append r.pending p.bytes, p.given)
 
-pub Drops-same : (r : Reading) (x : Option (List ℕ)) → Drops r r x x
-Drops-same r x = record {
-  bytes = [];
-  dropped = [];
-  pending = sym (append-nil r.pending);
-  no_end = refl;
-  given = omega arith;
-  handed = refl;
-  taken = Consumes-same x;
-}
-
--- what is kept without a line feed is dropped, and the source gives more
-pub Drops-more : (r s t u : Reading) (x y z : Option (List ℕ)) → Drops r s x y → line_end s.pending ≡ length s.pending → t ≡ record s { pending = [] } → Grows t u y z → Drops r u x z
-Drops-more r s t u x y z p none cleared q =
-    let kept : u.pending ≡ q.bytes = q.pending ∙ ap (λ k. k.pending ++ q.bytes) cleared in
+pub Drops-none : (r s : Reading) (x : Option (List ℕ)) → line_end r.pending ≡ length r.pending → s ≡ record r { pending = [] } → Drops r s x x
+Drops-none r s x none cleared =
+    let empty : s.pending ≡ [] = ap (λ k. k.pending) cleared in
     record {
-      bytes = p.bytes ++ q.bytes;
-      dropped = p.dropped ++ s.pending;
-      pending = ap (λ xs. (p.dropped ++ s.pending) ++ xs) kept ∙ (ap (λ xs. xs ++ q.bytes) p.pending ∙ append_assoc r.pending p.bytes q.bytes);
-      no_end = line_end-append p.dropped s.pending p.no_end ∙ (ap (λ n. length p.dropped + n) none ∙ sym (length-append p.dropped s.pending));
-      given = omega (arith, p.given, q.given, ap (λ k. k.given) cleared, length-append p.bytes q.bytes);
-      handed = q.handed ∙ (ap (λ k. k.handed) cleared ∙ p.handed);
-      taken = Consumes-append x y z p.bytes q.bytes p.taken q.taken;
+      bytes = [];
+      no_end = rw (append-nil r.pending) none;
+      given = omega (arith, ap (λ k. k.given) cleared, ap length empty);
+      handed = ap (λ k. k.handed) cleared;
+      taken = rw empty (Consumes-same x);
+    }
+
+-- nothing is kept, and the source gives more
+pub Drops-more : (r s u : Reading) (x y z : Option (List ℕ)) → Drops r s x y → s.pending ≡ [] → Grows s u y z → Drops r u x z
+Drops-more r s u x y z p empty q =
+    let kept : u.pending ≡ q.bytes = q.pending ∙ ap (λ k. k ++ q.bytes) empty in
+    let before : p.bytes ++ s.pending ≡ p.bytes = ap (λ k. p.bytes ++ k) empty ∙ append-nil p.bytes in
+    record {
+      bytes = p.bytes;
+      no_end = p.no_end;
+      given = omega (arith, p.given, q.given, ap length kept, ap length empty);
+      handed = q.handed ∙ p.handed;
+      taken = rw kept (Consumes-append x y z p.bytes q.bytes (rw before at p.taken) q.taken);
+    }
+
+-- what is kept without a line feed is dropped too
+pub Drops-all : (r u v : Reading) (x z : Option (List ℕ)) → Drops r u x z → line_end u.pending ≡ length u.pending → v ≡ record u { pending = [] } → Drops r v x z
+Drops-all r u v x z p none cleared =
+    let empty : v.pending ≡ [] = ap (λ k. k.pending) cleared in
+    let e : r.pending ++ (p.bytes ++ u.pending) ≡ (r.pending ++ p.bytes) ++ u.pending = sym (append_assoc r.pending p.bytes u.pending) in
+    record {
+      bytes = p.bytes ++ u.pending;
+      no_end = rw e (line_end-append (r.pending ++ p.bytes) u.pending p.no_end ∙ (ap (λ n. length (r.pending ++ p.bytes) + n) none ∙ sym (length-append (r.pending ++ p.bytes) u.pending)));
+      given = omega (arith, p.given, ap (λ k. k.given) cleared, length-append p.bytes u.pending, ap length empty);
+      handed = ap (λ k. k.handed) cleared ∙ p.handed;
+      taken = rw (empty, append-nil (p.bytes ++ u.pending)) p.taken;
     }
 
 pub Grows-searched : (r s : Reading) (x y : Option (List ℕ)) → Grows r s x y → line_end r.pending ≡ length r.pending → length r.pending ≤ line_end s.pending
@@ -104,3 +116,12 @@ pub cleared : (s t : Reading) (n : ℕ) → length s.pending ≤ n → t ≡ rec
 cleared s t n all e =
     let emptied : List ℕ → Reading = λ xs. record s { pending = xs } in
     e ∙ ap emptied (drop_all n s.pending all)
+
+-- a line that ends at a place, and the byte behind it, are taken off the front of a block
+pub line_off_is : (items : List ℕ) (start stop end many : ℕ) → start ≤ stop → stop ≤ length items → many ≡ min (end + 1) (stop - start)
+    → take (stop - (start + many)) (drop (start + many) items) ≡ drop (end + 1) (take (stop - start) (drop start items))
+line_off_is items start stop end many low high is =
+    let kept : List ℕ = take (stop - start) (drop start items) in
+    let long : length kept ≡ stop - start = length-take-le (stop - start) (drop start items) (omega (arith, length-drop start items)) in
+    let most : many ≡ min (end + 1) (length kept) = omega arith in
+    skipped items start stop many (omega arith) ∙ (ap (λ k. drop k kept) most ∙ drop_min (end + 1) kept)

@@ -1,2 +1,4 @@
 pub mod Blocks
+pub mod Cases
 pub mod Ends
+pub mod Due

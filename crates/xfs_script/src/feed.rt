@@ -1,13 +1,17 @@
-ghost use Rattle.std.specs.Prelude.{◌≡◌, ◌+◌, ◌-◌, ◌<◌, ◌≤◌, length, drop, take, Ok, IfOk, OnErr};
+ghost use Rattle.std.specs.Prelude.{◌≡◌, ◌≢◌, ◌+◌, ◌-◌, ◌<◌, ◌≤◌, length, drop, take, Ok, Err, IfOk, OnOk, OnErr};
 ghost use Rattle.std.specs.Io.KnownBytes.{IsAtEnd};
-ghost use Rattle.xfs_base.specs.Causes.{HasCause};
-ghost use Rattle.xfs_script.specs.Lines.{line_end};
-ghost use Rattle.xfs_script.specs.Reading.{nothing_read, Grows, Drops, GivesBehind};
-ghost use Rattle.xfs_script.specs.Found.{IsFound, IsOpen};
+ghost use Rattle.xfs_base.specs.Causes.{HasCause, Rose};
+ghost use Rattle.xfs_script.specs.Lines.{line_end, without_return};
+ghost use Rattle.xfs_script.specs.Reading.{nothing_read, line_off, Grows, Drops, GivesBehind};
+ghost use Rattle.xfs_script.specs.Found.{IsFound, IsOpen, IsPassed, IsRefusal};
+ghost use Rattle.xfs_script.specs.Answer.{ReadsLine, IsAnswer, line_answer};
+ghost use Rattle.xfs_script.specs.declared.line.LineFault.TheVariants as LineFault;
 
 use std::alloc::{AllocError, Global};
 use std::marker::Model;
-use xfs_base::{Failed, Source};
+use xfs_base::{Bytes, Failed, Source};
+
+use crate::line::{Line, LineFault};
 
 use memchr::memchr;
 
@@ -44,7 +48,7 @@ pub(crate) enum Found {
 }
 
 impl Model for Feed {
-    ghost use Rattle.std.specs.Prelude.{◌≡◌, ◌+◌, ◌-◌, ◌≤◌, take, drop, length};
+    ghost use Rattle.std.specs.Prelude.{◌≡◌, ◌≢◌, ◌+◌, ◌-◌, ◌≤◌, take, drop, length};
     ghost use Rattle.xfs_script.specs.Reading.{Reading};
 
     ghost Value = { Reading };
@@ -133,20 +137,83 @@ impl Feed {
         }
     }
 
-    /// Drops what is kept of a line, and reads on until its end is known.
-    pub(crate) fn skip_line<S: Source>(&mut self, source: &mut S) -> Result<Found, Failed>
+    /// Drops what is kept of a line, and reads on until its end is known, or no more may be read.
+    pub(crate) fn skip_line<S: Source>(&mut self, source: &mut S) -> Result<bool, Failed>
         requires { IsOpen self.old }
         ensures drops { Drops self.old self.new (S.left source.old) (S.left source.new) }
-        ensures ok { IfOk result (IsFound self.new (S.left source.new)) }
+        ensures ok { IfOk result (IsPassed self.new (S.left source.new)) }
         ensures bound { self.new.given ≤ 67108864 }
         ensures cause { HasCause (S.faults source.old) (S.faults source.new) result }
     {
+        self.skip(self.len());
         'dropping: loop {
-            self.skip(self.len());
             match self.seek(source)? {
-                Found::Long => {}
-                found => return Ok(found),
+                Found::Long => self.skip(self.len()),
+                Found::Feed(_) | Found::End => return Ok(true),
+                Found::Quota => return Ok(false),
             }
+        }
+    }
+
+    /// Takes the first line off the bytes to come.
+    pub(crate) fn next_line<S: Source>(
+        &mut self,
+        alloc: Global,
+        source: &mut S,
+    ) -> Result<Option<Line>, LineFault>
+        ensures reads { ReadsLine self.old self.new (S.left source.old) (S.left source.new) result }
+        ensures later { S.faults source.old ≤ S.faults source.new }
+        ensures cause { result ≡ Err LineFault.Read → Rose (S.faults source.old) (S.faults source.new) }
+    {
+        match self.seek(source) {
+            Ok(Found::Feed(place)) => self.hand_out(alloc, place),
+            Ok(Found::End) if self.len() == 0 => Ok(None),
+            Ok(Found::End) => self.hand_out(alloc, self.len()),
+            Ok(Found::Quota) => Err(LineFault::Quota),
+            Ok(Found::Long) => Err(self.refuse_line(source)),
+            Err(_) => Err(LineFault::Read),
+        }
+    }
+
+    // The line that ends at `end` is handed out.
+    fn hand_out(&mut self, alloc: Global, end: usize) -> Result<Option<Line>, LineFault>
+        requires within { end ≤ length self.old.pending }
+        requires some { 0 < length self.old.pending }
+        ensures is { IsAnswer result (line_answer (self.old.handed + 1) (without_return (take end self.old.pending))) }
+        ensures only { result ≢ Err LineFault.Read }
+        ensures ok { OnOk result (self.new ≡ line_off self.old end) }
+        ensures err { OnErr result (self.new ≡ self.old) }
+    {
+        let line = line_of(&self.bytes()[..end]);
+        let number = self.handed + 1;
+        if line.len() > 70_000 {
+            return Err(LineFault::TooLong { number });
+        }
+        let Ok(text) = Vec::from_slice(alloc, line) else {
+            return Err(LineFault::Memory);
+        };
+        self.start += (end + 1).min(self.len());
+        self.handed = number;
+        Ok(Some(Line {
+            number,
+            text: Bytes::new(text),
+        }))
+    }
+
+    // A line that is too long is read to its end.
+    fn refuse_line<S: Source>(&mut self, source: &mut S) -> LineFault
+        requires { IsOpen self.old }
+        ensures drops { Drops self.old self.new (S.left source.old) (S.left source.new) }
+        ensures bound { self.new.given ≤ 67108864 }
+        ensures is { IsRefusal self.old.handed self.new (S.left source.new) result }
+        ensures later { S.faults source.old ≤ S.faults source.new }
+        ensures cause { result ≡ LineFault.Read → Rose (S.faults source.old) (S.faults source.new) }
+    {
+        let number = self.handed + 1;
+        match self.skip_line(source) {
+            Ok(true) => LineFault::TooLong { number },
+            Ok(false) => LineFault::Quota,
+            Err(_) => LineFault::Read,
         }
     }
 
@@ -199,5 +266,15 @@ fn end_of_line(bytes: &[u8], from: usize) -> usize
     match memchr(b'\n', &bytes[from..]) {
         Some(i) => from + i,
         None => bytes.len(),
+    }
+}
+
+// The bytes without one carriage return at their end.
+fn line_of(bytes: &[u8]) -> &[u8]
+    ensures { result.now ≡ without_return bytes.now }
+{
+    match bytes {
+        [line @ .., b'\r'] => line,
+        _ => bytes,
     }
 }

@@ -3,7 +3,9 @@
 
 mod feed;
 mod line;
+mod lines;
 
 
 pub use line::{Line, LineFault};
+pub use lines::Lines;
 
