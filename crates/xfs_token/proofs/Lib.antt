@@ -1,0 +1,4 @@
+pub mod AmountsLemmas
+pub mod AmountText
+pub mod Minted
+pub mod Written

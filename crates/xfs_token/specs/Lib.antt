@@ -1,0 +1,4 @@
+pub mod Amounts
+pub mod Classes
+pub mod Fault
+pub mod Token
