@@ -26,31 +26,31 @@ line_over k l over = cond-false (nat_le (length l) 70000) _ _ over
 
 not_none : (k : ℕ) (l : List ℕ) → line_answer k l ≡ Ok None → ⊥
 not_none k l h = elim (cases_Bool (nat_le (length l) 70000)) [
-    inl fits ↦ (let e = line_fits k l fits in cc)
+  | inl fits ↦ (let e = line_fits k l fits in cc)
   | inr over ↦ (let e = line_over k l over in cc)
-  ]
+]
 
 not_quota : (k : ℕ) (l : List ℕ) → line_answer k l ≡ Err Quota → ⊥
 not_quota k l h = elim (cases_Bool (nat_le (length l) 70000)) [
-    inl fits ↦ (let e = line_fits k l fits in cc)
+  | inl fits ↦ (let e = line_fits k l fits in cc)
   | inr over ↦ (let e = line_over k l over in cc)
-  ]
+]
 
 line_some : (k : ℕ) (l : List ℕ) (line : Line) → line_answer k l ≡ Ok (Some line) → (line.number ≡ k) × (length line.text ≤ 70000)
 line_some k l line h = elim (cases_Bool (nat_le (length l) 70000)) [
-    inl fits ↦
+  | inl fits ↦
       let e = line_fits k l fits in
       let made : Line = record { number = k; text = l } in
       let same : made ≡ line = cc in
       (ap (λ v. v.number) (sym same), omega (arith, ap (λ v. length v.text) same, leb-true (length l) 70000 fits))
   | inr over ↦ (let e = line_over k l over in absurd (let bad : ⊥ = cc in bad))
-  ]
+]
 
 line_long : (k m : ℕ) (l : List ℕ) → line_answer k l ≡ Err (TooLong m) → m ≡ k
 line_long k m l h = elim (cases_Bool (nat_le (length l) 70000)) [
-    inl fits ↦ (let e = line_fits k l fits in cc)
+  | inl fits ↦ (let e = line_fits k l fits in cc)
   | inr over ↦ (let e = line_over k l over in cc)
-  ]
+]
 
 gives_grown : (r s : Reading) (x y : Option (List ℕ)) → Grows r s x y → Gives r s x y
 gives_grown r s x y g = record { bytes = g.bytes; given = g.given; taken = g.taken }
@@ -106,8 +106,8 @@ unfolding answer_of
 same_answer r s xs ys g bound =
     let all : r.given + length xs ≡ s.given + length ys = omega (arith, ap length g.taken, length-append g.bytes ys, g.given) in
     ap (λ h. answer_on h (bytes_within r xs) (r.given + length xs)) (sym g.handed)
-      ∙ (ap (λ t. answer_on s.handed t (r.given + length xs)) (within_grown r s xs ys g bound)
-      ∙ ap (λ k. answer_on s.handed (bytes_within s ys) k) all)
+    ∙ (ap (λ t. answer_on s.handed t (r.given + length xs)) (within_grown r s xs ys g bound)
+    ∙ ap (λ k. answer_on s.handed (bytes_within s ys) k) all)
 
 -- a source at its end gives nothing more
 within_end : (s : Reading) (ys : List ℕ) → ys ≡ [] → bytes_within s ys ≡ s.pending
@@ -125,8 +125,7 @@ none_told r s None y g few none at_end empty = tt
 none_told r s (Some xs) None g few none at_end empty = absurd g.taken
 none_told r s (Some xs) (Some ys) g few none at_end empty =
     let w = within_end s ys at_end in
-    let all : r.pending ++ xs ≡ [] = ahead_is r s xs ys g ∙ (ap (λ t. t ++ ys) empty ∙ at_end) in
-    (
+    let all : r.pending ++ xs ≡ [] = ahead_is r s xs ys g ∙ (ap (λ t. t ++ ys) empty ∙ at_end) in (
       same_answer r s xs ys g (omega arith) ∙ due_none s ys (ap has_line_feed w ∙ no_feed [] s.pending refl none) (omega (arith, ap length at_end)) (ap length w ∙ ap length empty),
       ap (λ t. Some t) (ap (λ t. t ++ ys) empty ∙ (at_end ∙ sym (ap rest all))),
     )
@@ -167,9 +166,9 @@ quota_read r s x y g none full = record {
 
 without_return-le : (bs : List ℕ) → length bs - 1 ≤ length (without_return bs)
 without_return-le bs = elim (cases_Bool (slice_index bs (length bs - 1) == 13)) [
-    inl fits ↦ (let e = cond-true (slice_index bs (length bs - 1) == 13) (take (length bs - 1) bs) bs fits in omega (arith, ap length e, length-take-le (length bs - 1) bs (omega arith)))
+  | inl fits ↦ (let e = cond-true (slice_index bs (length bs - 1) == 13) (take (length bs - 1) bs) bs fits in omega (arith, ap length e, length-take-le (length bs - 1) bs (omega arith)))
   | inr over ↦ (let e = cond-false (slice_index bs (length bs - 1) == 13) (take (length bs - 1) bs) bs over in omega (arith, ap length e))
-  ]
+]
 
 -- a line whose front is too long is too long
 long_first : (k : ℕ) (d t : List ℕ) → line_end d ≡ length d → 70001 < length d → line_answer k (first_line (d ++ t)) ≡ Err (TooLong k)
@@ -185,21 +184,21 @@ refused_told s u ys zs d bound long Memory is = tt
 refused_told s u ys zs d bound long Quota is =
     let w : bytes_within s ys ≡ (s.pending ++ d.bytes) ++ u.pending = within_dropped s u ys zs d bound ∙ ap (λ t. (s.pending ++ d.bytes) ++ t) (within_full u zs is.1) in
     due_quota s ys (ap has_line_feed w ∙ no_feed (s.pending ++ d.bytes) u.pending d.no_end is.0)
-      (omega (arith, is.1, d.given, ap length d.taken, length-append (d.bytes ++ u.pending) zs, length-append d.bytes u.pending))
+    (omega (arith, is.1, d.given, ap length d.taken, length-append (d.bytes ++ u.pending) zs, length-append d.bytes u.pending))
 refused_told s u ys zs d bound long (TooLong n) is =
     let front : List ℕ = s.pending ++ d.bytes in
     let w : bytes_within s ys ≡ front ++ bytes_within u zs = within_dropped s u ys zs d bound in
     let size : 70001 < length front = omega (arith, length-append s.pending d.bytes) in
     let same : line_answer (s.handed + 1) (first_line (bytes_within s ys)) ≡ Err (TooLong n) =
-      ap (λ t. line_answer (s.handed + 1) (first_line t)) w ∙ (long_first (s.handed + 1) front (bytes_within u zs) d.no_end size ∙ ap (λ k. Err (TooLong k)) (sym is.0)) in
+    ap (λ t. line_answer (s.handed + 1) (first_line t)) w ∙ (long_first (s.handed + 1) front (bytes_within u zs) d.no_end size ∙ ap (λ k. Err (TooLong k)) (sym is.0)) in
     elim is.1 [
-      inl found ↦
-        let more : List ℕ = take (67108864 - u.given) zs in
-        let e = line_end-append_found u.pending more found in
-        due_first s ys (ap has_line_feed w ∙ has_feed front (bytes_within u zs) d.no_end (omega (arith, e, length-append u.pending more))) ∙ same
-    | inr ends ↦
-        let e : bytes_within u zs ≡ u.pending = within_end u zs ends.1 in
-        due_last s ys (ap has_line_feed w ∙ no_feed front (bytes_within u zs) d.no_end (ap line_end e ∙ (ends.0 ∙ sym (ap length e))))
+      | inl found ↦
+          let more : List ℕ = take (67108864 - u.given) zs in
+          let e = line_end-append_found u.pending more found in
+          due_first s ys (ap has_line_feed w ∙ has_feed front (bytes_within u zs) d.no_end (omega (arith, e, length-append u.pending more))) ∙ same
+      | inr ends ↦
+          let e : bytes_within u zs ≡ u.pending = within_end u zs ends.1 in
+          due_last s ys (ap has_line_feed w ∙ no_feed front (bytes_within u zs) d.no_end (ap line_end e ∙ (ends.0 ∙ sym (ap length e))))
           (omega (arith, ends.2, d.given, ap length d.taken, length-append (d.bytes ++ u.pending) zs, length-append d.bytes u.pending, ap length ends.1))
           (omega (arith, ap length w, length-append front (bytes_within u zs)))
           ∙ same

@@ -30,8 +30,8 @@ taken_more n m bs ys e =
 within_given : (r s : Reading) (xs ys bs : List ℕ) → xs ≡ bs ++ ys → s.given ≡ r.given + length bs → s.given ≤ 67108864 → bytes_within r xs ≡ (r.pending ++ bs) ++ take (67108864 - s.given) ys
 within_given r s xs ys bs taken given bound =
     ap (λ t. r.pending ++ take (67108864 - r.given) t) taken
-      ∙ (ap (λ t. r.pending ++ t) (taken_more (67108864 - r.given) (67108864 - s.given) bs ys (omega arith))
-      ∙ sym (append_assoc r.pending bs (take (67108864 - s.given) ys)))
+    ∙ (ap (λ t. r.pending ++ t) (taken_more (67108864 - r.given) (67108864 - s.given) bs ys (omega arith))
+    ∙ sym (append_assoc r.pending bs (take (67108864 - s.given) ys)))
 
 pub within_grown : (r s : Reading) (xs ys : List ℕ) → Grows r s (Some xs) (Some ys) → s.given ≤ 67108864 → bytes_within r xs ≡ bytes_within s ys
 within_grown r s xs ys g bound = within_given r s xs ys g.bytes g.taken g.given bound ∙ ap (λ t. t ++ take (67108864 - s.given) ys) (sym g.pending)
@@ -40,8 +40,8 @@ pub within_dropped : (r s : Reading) (xs ys : List ℕ) (d : Drops r s (Some xs)
 within_dropped r s xs ys d bound =
     let more : List ℕ = take (67108864 - s.given) ys in
     within_given r s xs ys (d.bytes ++ s.pending) d.taken (omega (arith, d.given, length-append d.bytes s.pending)) bound
-      ∙ (ap (λ t. t ++ more) (sym (append_assoc r.pending d.bytes s.pending))
-      ∙ append_assoc (r.pending ++ d.bytes) s.pending more)
+    ∙ (ap (λ t. t ++ more) (sym (append_assoc r.pending d.bytes s.pending))
+    ∙ append_assoc (r.pending ++ d.bytes) s.pending more)
 
 pub ahead_is : (r s : Reading) (xs ys : List ℕ) → Grows r s (Some xs) (Some ys) → r.pending ++ xs ≡ s.pending ++ ys
 ahead_is r s xs ys g =
@@ -70,15 +70,15 @@ pub due_last : (r : Reading) (xs : List ℕ) → has_line_feed (bytes_within r x
 unfolding answer_of
 due_last r xs none few some =
     cond-false (has_line_feed (bytes_within r xs)) _ _ none
-      ∙ (cond-false (nat_le 67108864 (r.given + length xs)) _ _ (lt-leb 67108864 (r.given + length xs) few)
-      ∙ cond-true (nat_lt 0 (length (bytes_within r xs))) _ _ (lt-ltb 0 (length (bytes_within r xs)) some))
+    ∙ (cond-false (nat_le 67108864 (r.given + length xs)) _ _ (lt-leb 67108864 (r.given + length xs) few)
+    ∙ cond-true (nat_lt 0 (length (bytes_within r xs))) _ _ (lt-ltb 0 (length (bytes_within r xs)) some))
 
 pub due_none : (r : Reading) (xs : List ℕ) → has_line_feed (bytes_within r xs) ≡ false → r.given + length xs < 67108864 → length (bytes_within r xs) ≡ 0 → answer_of r xs ≡ Ok None
 unfolding answer_of
 due_none r xs none few empty =
     cond-false (has_line_feed (bytes_within r xs)) _ _ none
-      ∙ (cond-false (nat_le 67108864 (r.given + length xs)) _ _ (lt-leb 67108864 (r.given + length xs) few)
-      ∙ cond-false (nat_lt 0 (length (bytes_within r xs))) _ _ (le-ltb 0 (length (bytes_within r xs)) (omega arith)))
+    ∙ (cond-false (nat_le 67108864 (r.given + length xs)) _ _ (lt-leb 67108864 (r.given + length xs) few)
+    ∙ cond-false (nat_lt 0 (length (bytes_within r xs))) _ _ (le-ltb 0 (length (bytes_within r xs)) (omega arith)))
 
 -- what is due where the first line of the kept bytes ends at n
 pub record Due (r s : Reading) (n : ℕ) (x y : Option (List ℕ)) : Type 0 where
@@ -98,8 +98,8 @@ due_feed r s n (Some xs) (Some ys) g bound is low =
     let line : take (line_end (s.pending ++ more)) (s.pending ++ more) ≡ take n s.pending = ap (λ k. take k (s.pending ++ more)) place ∙ take-append-le n s.pending more (omega arith) in
     record {
       answer = due_first r xs (ap has_line_feed e ∙ has_feed [] (s.pending ++ more) refl (omega (arith, place, length-append s.pending more)))
-        ∙ ap (λ t. line_answer (r.handed + 1) (first_line t)) e
-        ∙ ap (λ t. line_answer (r.handed + 1) (without_return t)) line;
+          ∙ ap (λ t. line_answer (r.handed + 1) (first_line t)) e
+          ∙ ap (λ t. line_answer (r.handed + 1) (without_return t)) line;
       rest = ap (λ t. Some t) (sym (ap rest (ahead_is r s xs ys g) ∙ (ap (λ k. drop (k + 1) (s.pending ++ ys)) place_all ∙ drop-append-le (n + 1) s.pending ys (omega arith))));
       same = ap (λ t. Some t) (sym (ahead_is r s xs ys g));
     }
@@ -112,8 +112,8 @@ due_end_nil r s xs g few none some =
     let size = ap length g.taken in
     record {
       answer = due_last r xs (ap has_line_feed e ∙ no_feed [] s.pending refl none) (omega (arith, size, length-append g.bytes [], g.given)) (omega (arith, ap length e))
-        ∙ (ap (λ t. line_answer (r.handed + 1) (first_line t)) e
-        ∙ ap (λ n. line_answer (r.handed + 1) (without_return (take n s.pending))) none);
+          ∙ (ap (λ t. line_answer (r.handed + 1) (first_line t)) e
+          ∙ ap (λ n. line_answer (r.handed + 1) (without_return (take n s.pending))) none);
       rest = ap (λ t. Some t) (append-nil (drop (length s.pending + 1) s.pending) ∙ (ap (λ n. drop (n + 1) s.pending) (sym none) ∙ ap rest (sym all)));
       same = ap (λ t. Some t) (append-nil s.pending ∙ sym all);
     }

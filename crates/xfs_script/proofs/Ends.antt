@@ -15,14 +15,14 @@ pub found_is : (xs : List ℕ) (from i : ℕ) → from ≤ line_end xs → IsFir
 found_is xs from i low first =
     let size = length-drop from xs in
     let below : (k : ℕ) → k < from + i → is_line_feed (get_or xs k 0) ≡ false =
-      λ k h. elim (cases_lt k from) [
-        inl early ↦ fails_before_first is_line_feed xs k 0 (omega arith)
+    λ k h. elim (cases_lt k from) [
+      | inl early ↦ fails_before_first is_line_feed xs k 0 (omega arith)
       | inr late ↦
           let e : from + (k - from) ≡ k = omega arith in
           let none = false_from_ne_true (is_line_feed (get_or (drop from xs) (k - from) 0)) (first.0.before (k - from) (omega arith) (omega arith)) in
           let at = get_or-drop from xs (k - from) 0 in
           rw (← e) (rw at at none)
-      ] in
+    ] in
     let here = get_or-drop from xs i 0 in
     let high = first.0.high in
     position_or_len_is is_line_feed xs (from + i) 0 (omega (arith, size, high)) below (λ h. rw here at first.1)
@@ -31,14 +31,14 @@ pub none_is : (xs : List ℕ) (from : ℕ) → from ≤ line_end xs → IsFirstB
 none_is xs from low nowhere =
     let size = length-drop from xs in
     let below : (k : ℕ) → k < length xs → is_line_feed (get_or xs k 0) ≡ false =
-      λ k h. elim (cases_lt k from) [
-        inl early ↦ fails_before_first is_line_feed xs k 0 (omega arith)
+    λ k h. elim (cases_lt k from) [
+      | inl early ↦ fails_before_first is_line_feed xs k 0 (omega arith)
       | inr late ↦
           let e : from + (k - from) ≡ k = omega arith in
           let none = false_from_ne_true (is_line_feed (get_or (drop from xs) (k - from) 0)) (nowhere (k - from) (omega arith) (omega (arith, size))) in
           let at = get_or-drop from xs (k - from) 0 in
           rw (← e) (rw at at none)
-      ] in
+    ] in
     position_or_len_is is_line_feed xs (length xs) 0 (omega arith) below (λ h. absurd (omega arith))
 
 -- a text with no line feed, and another behind it

@@ -7,13 +7,11 @@ ghost use Rattle.xfs_script.specs.Found.{IsFound, IsOpen, IsPassed, IsRefusal};
 ghost use Rattle.xfs_script.specs.Answer.{ReadsLine, IsAnswer, line_answer};
 ghost use Rattle.xfs_script.specs.declared.line.LineFault.TheVariants as LineFault;
 
+use crate::line::{Line, LineFault};
+use memchr::memchr;
 use std::alloc::{AllocError, Global};
 use std::marker::Model;
 use xfs_base::{Bytes, Failed, Source};
-
-use crate::line::{Line, LineFault};
-
-use memchr::memchr;
 
 /// How many bytes are asked of a source at once.
 const PIECE: usize = 65_536;

@@ -4,8 +4,8 @@
 mod feed;
 mod line;
 mod lines;
-
+#[cfg(test)]
+mod tests;
 
 pub use line::{Line, LineFault};
 pub use lines::Lines;
-

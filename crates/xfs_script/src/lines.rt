@@ -4,12 +4,11 @@ ghost use Rattle.xfs_script.specs.Reading.{nothing_read};
 ghost use Rattle.xfs_script.specs.Answer.{ReadsLine};
 ghost use Rattle.xfs_script.specs.declared.line.LineFault.TheVariants as LineFault;
 
+use crate::feed::Feed;
+use crate::line::{Line, LineFault};
 use std::alloc::Global;
 use std::marker::Model;
 use xfs_base::Source;
-
-use crate::feed::Feed;
-use crate::line::{Line, LineFault};
 
 /// Cuts the input of a command into its lines, in whatever pieces the source gives it.
 ///
