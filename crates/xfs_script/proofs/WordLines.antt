@@ -1,0 +1,29 @@
+-- A line that begins with a verb, and lines that no verb has.
+use Rattle.std.proofs.Common.{◌≡◌, ℕ, ◌<◌, List, ◌++◌, length, take, drop, refl, ap, sym, ◌∙◌, arith, length-append}
+use Rattle.std.proofs.lemmas.List.{take-append-drop, take_at}
+use Rattle.xfs_script.specs.Guard.{IsGuardLine, IsWordLine, IsMint}
+use Rattle.xfs_script.specs.declared.guard_line.GuardLine.{GuardLine}
+use Rattle.xfs_script.specs.declared.guard_line.GuardLine.TheVariants.{Skip, Issue, Clear, Mint, Present, Reject, Retract, Take, Restart, Show}
+
+pub field_is : (text front begin field : List ℕ) → begin ≡ take (length front) text → field ≡ drop (length front) text → begin ≡ front → text ≡ front ++ field
+field_is text front begin field begins behind same =
+    sym (take-append-drop (length front) text) ∙ (ap (λ t. t ++ drop (length front) text) (sym begins ∙ same) ∙ ap (λ t. front ++ t) (sym behind))
+
+pub no_field : (text front begin : List ℕ) → begin ≡ take (length front) text → (begin ≡ front → ⊥) → (field : List ℕ) → text ≡ front ++ field → ⊥
+no_field text front begin begins other field is =
+    other (begins ∙ (ap (λ t. take (length front) t) is ∙ take_at front field (length front) refl))
+
+pub short_field : (text front : List ℕ) → length text < length front → (field : List ℕ) → text ≡ front ++ field → ⊥
+short_field text front short field is = absurd (let bad : ⊥ = omega (arith, ap length is, length-append front field) in bad)
+
+pub no_line : (text : List ℕ) → ((line : GuardLine) → IsWordLine text line → ⊥) → ((amounts : List (List ℕ × ℕ)) → IsMint text amounts → ⊥) → (line : GuardLine) → IsGuardLine text line → ⊥
+no_line text word mint Skip is = word Skip is
+no_line text word mint Issue is = word Issue is
+no_line text word mint Clear is = word Clear is
+no_line text word mint (Mint amounts) is = mint amounts is
+no_line text word mint Present is = word Present is
+no_line text word mint Reject is = word Reject is
+no_line text word mint Retract is = word Retract is
+no_line text word mint Take is = word Take is
+no_line text word mint Restart is = word Restart is
+no_line text word mint Show is = word Show is

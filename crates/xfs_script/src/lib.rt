@@ -1,0 +1,16 @@
+//! The lines of a script: how the input is cut into them, and how each command reads one.
+#![tactic(auto)]
+
+mod amount;
+mod digits;
+mod feed;
+mod guard_line;
+mod line;
+mod lines;
+mod word;
+#[cfg(test)]
+mod tests;
+
+pub use guard_line::{GuardLine, ScriptFault, read_guard};
+pub use line::{Line, LineFault};
+pub use lines::Lines;
