@@ -1,0 +1,6 @@
+//! Denominations of cash: whether counts of notes may be dispensed.
+#![tactic(auto)]
+
+mod asked;
+
+pub use asked::{CountFault, check};
