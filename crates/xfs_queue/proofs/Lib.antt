@@ -1,1 +1,5 @@
+pub mod Entries
 pub mod InOrder
+pub mod Index
+pub mod Kept
+pub mod Places

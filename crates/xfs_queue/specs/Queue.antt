@@ -3,8 +3,10 @@ use Rattle.std.specs.Prelude.{◌≡◌, ℕ, ◌≤◌, ◌==◌, ◌&&◌, ◌
 use Rattle.std.specs.declared.option.Option.{Option}
 use Rattle.std.specs.List.{list_any}
 use Rattle.xfs_base.specs.declared.moment.ClientId.{ClientId}
-use Rattle.xfs_base.specs.declared.moment.TheConstants.{LAST_MOMENT}
+use Rattle.xfs_base.specs.declared.moment.Moment.{Moment}
+use Rattle.xfs_queue.specs.declared.command.Line.{Line}
 use Rattle.xfs_queue.specs.declared.command.Stage.{Stage}
+use Rattle.xfs_queue.specs.declared.command.Stage.TheVariants.{Waiting}
 use Rattle.xfs_queue.specs.declared.command.Ticket.{Ticket}
 use Rattle.xfs_queue.specs.declared.command.Ids.{Ids}
 use Rattle.xfs_queue.specs.declared.command.OfferFault.{OfferFault}
@@ -19,7 +21,10 @@ module _ {J : Type 0} where
     pub running : AllPairs (λ a b. (is_running a.stage && is_running b.stage) ≡ false) q
     pub service : length q ≤ 256
     pub client : (c : ClientId) → count_by (is_of c) q ≤ 32
-    pub moments : All (λ a. a.accepted.0 ≤ LAST_MOMENT) q
+
+  -- a command as it is accepted
+  abbrev pub offered : ClientId → ℕ → Line → ℕ → Moment → J → Command J
+  offered client id line timeout now job = record { client = client; id = id; line = line; accepted = now; timeout = timeout; marked = false; stage = Waiting; job = job }
 
   -- the command that the ticket names
   abbrev pub command_at : List (Command J) → Ticket → Option (Command J)

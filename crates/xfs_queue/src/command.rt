@@ -1,7 +1,9 @@
 ghost use Rattle.std.specs.Prelude.{◌≡◌, ◌≤◌};
 ghost use Rattle.xfs_base.specs.declared.moment.TheConstants.{LAST_MOMENT};
-ghost use Rattle.xfs_queue.specs.Commands.{is_ticket, ticket_of, is_at, is_of, is_waiting, is_running, is_ready, is_on, waits_on, has_deadline, deadline, is_due};
+ghost use Rattle.xfs_queue.specs.Commands.{is_ticket, ticket_of, is_at, is_of, is_waiting, is_running, is_ready, is_on, waits_on, has_deadline, deadline, is_due, names, pending_of};
+ghost use Rattle.xfs_queue.specs.Deadlines.{entry};
 
+use crate::deadlines::Entry;
 use thiserror::Error;
 use xfs_base::{ClientId, Moment, Numbers};
 
@@ -87,6 +89,19 @@ impl<J> Command<J> {
         }
     }
 
+    pub(crate) fn entry(&self) -> Option<Entry>
+        requires { self.now.accepted.0 ≤ LAST_MOMENT }
+        ensures { result ≡ entry self.now }
+    {
+        if !self.has_deadline() {
+            return None;
+        }
+        Some(Entry {
+            deadline: self.deadline(),
+            ticket: self.ticket(),
+        })
+    }
+
     pub(crate) fn is_at(&self, ticket: Ticket) -> bool
         ensures { result ≡ is_at ticket self.now }
     {
@@ -137,10 +152,22 @@ impl<J> Command<J> {
     }
 
     pub(crate) fn is_due(&self, now: Moment) -> bool
-        requires { self.now.accepted.0 ≤ LAST_MOMENT }
         ensures { result ≡ is_due now self.now }
     {
-        self.timeout != 0 && self.deadline() <= now.0
+        self.timeout != 0
+            && self.accepted.0 <= now.0
+            && now.0 - self.accepted.0 >= u64::from(self.timeout)
+    }
+}
+
+impl Ids {
+    pub(crate) fn names(&self, id: u64) -> bool
+        ensures { result ≡ names self.now id }
+    {
+        match self {
+            Ids::All => true,
+            Ids::These(ids) => ids.list().contains(&id),
+        }
     }
 }
 
