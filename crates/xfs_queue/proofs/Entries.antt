@@ -90,12 +90,8 @@ module _ {J : Type 0} where
   entries_same f same [] = refl
   entries_same f same (a ∷ q) = rw (same a, entries_same f same q) refl
 
-  entry_marked : (b : Bool) (a : Command J) → entry (cond b (record a { marked = true }) a) ≡ entry a
-  entry_marked true a = refl
-  entry_marked false a = refl
-
   pub entries_canceled : (client : ClientId) (ids : Ids) (q : List (Command J)) → entries (canceled q client ids) ≡ entries q
-  entries_canceled client ids q = entries_same _ (λ a. entry_marked (is_named client ids a && not (is_ready a.stage)) a) q
+  entries_canceled client ids q = entries_same _ (λ a. refl) q
 
   entry_with_job : (b : Bool) (job : J) (a : Command J) → entry (cond b (record a { job = job }) a) ≡ entry a
   entry_with_job true job a = refl
@@ -116,7 +112,7 @@ module _ {J : Type 0} where
 
   pub entries_without_client : (client : ClientId) (q : List (Command J)) → entries (without_client q client) ≡ filter (is_others client) (entries q)
   entries_without_client client q =
-      entries_same _ (λ a. entry_marked (is_of client a) a) (filter (λ a. not (is_of client a) || is_running a.stage) q)
+      entries_same _ (λ a. refl) (filter (λ a. not (is_of client a) || is_running a.stage) q)
       ∙ entries-filter _ (is_others client) (entry_of_others client) (entry_of_client client) q
 
   -- the deadlines are those of the entries

@@ -1,7 +1,7 @@
 -- What a queue keeps: ids that differ, one command that runs, and the limits.
-use Rattle.std.proofs.Common.{◌≡◌, ℕ, suc, ◌+◌, ◌≤◌, ◌<◌, ◌==◌, ◌&&◌, not, nat_lt, Bool, true, false, cond, List, [], ◌∷◌, ◌++◌, Option, None, Some, length, get_or, map, filter, find, count_by, All, AllPairs, refl, ap, sym, ◌∙◌, inl, inr, arith, rules, ltb}
+use Rattle.std.proofs.Common.{◌≡◌, ℕ, suc, ◌+◌, ◌≤◌, ◌<◌, ◌==◌, ◌&&◌, ◌||◌, not, nat_lt, Bool, true, false, cond, List, [], ◌∷◌, ◌++◌, Option, None, Some, length, get_or, map, filter, find, count_by, All, AllPairs, refl, ap, sym, ◌∙◌, inl, inr, arith, rules, ltb}
 use Rattle.std.specs.List.{list_any}
-use Rattle.std.proofs.lemmas.Bool.{cases_Bool, or_parts, and_left, and_right, not-false, ltb-true, eqb-true, ne_eqb, cases_eq, true≢false}
+use Rattle.std.proofs.lemmas.Bool.{cases_Bool, or_parts, and_left, and_right, leb-false, eqb-true, ne_eqb, cases_eq, true≢false}
 use Rattle.std.proofs.lemmas.List.{length-map, get_or-map, length-append}
 use Rattle.std.proofs.lemmas.List.Elements.{All-cons}
 use Rattle.std.proofs.lemmas.List.Kept.{AllPairs-filter}
@@ -16,7 +16,7 @@ use Rattle.xfs_queue.specs.declared.command.OfferFault.{OfferFault}
 use Rattle.xfs_queue.specs.declared.command.OfferFault.TheVariants.{Busy, TooMany}
 use Rattle.xfs_queue.specs.declared.command.Command.{Command}
 use Rattle.xfs_queue.specs.Commands.{ticket_of, is_ticket, is_at, is_of, is_waiting, is_running, is_ready}
-use Rattle.xfs_queue.specs.Queue.{IsQueue, offer_fault, with_stage, with_job, without, is_named, canceled, without_client}
+use Rattle.xfs_queue.specs.Queue.{IsQueue, offer_fault, with_stage, with_job, without, is_named, canceled, without_client, mark}
 use Rattle.xfs_queue.proofs.Places.{AreApart, same_ticket, none≢some}
 
 AllPairs-map : {X : Type 0} (R S : X → X → Type 0) (f : X → X) → ((a b : X) → R a b → S (f a) (f b)) → (xs : List X) → AllPairs R xs → AllPairs S (map f xs)
@@ -102,8 +102,8 @@ module _ {J : Type 0} where
   queue_after_push q a none waits is =
       let facts = no_faults _ _ _ none in
       let apart = none_from_list_any (is_at (ticket_of a)) q facts.0 in
-      let room : count_by (is_of a.client) q < 32 = ltb-true _ _ (not-false _ facts.1) in
-      let space : length q < 256 = ltb-true _ _ (not-false _ facts.2) in
+      let room : count_by (is_of a.client) q < 32 = leb-false _ _ facts.1 in
+      let space : length q < 256 = leb-false _ _ facts.2 in
       record {
         ids = all_pairs_push AreApart q a is.ids (λ k d within. is_ticket-comm (ticket_of (get_or q k d)) (ticket_of a) ∙ apart k d within);
         running = all_pairs_push NotBoth q a is.running (λ k d within. and_right _ _ waits);
@@ -140,17 +140,8 @@ module _ {J : Type 0} where
       ]) q (λ i j d lt within. (is.ids i j d lt within, none i d (omega arith), none j d within))) is
 
   -- a mark
-  ticket_marked : (b : Bool) (a : Command J) → ticket_of (cond b (record a { marked = true }) a) ≡ ticket_of a
-  ticket_marked true a = refl
-  ticket_marked false a = refl
-
-  stage_marked : (b : Bool) (a : Command J) → (cond b (record a { marked = true }) a).stage ≡ a.stage
-  stage_marked true a = refl
-  stage_marked false a = refl
-
-  marked_queue : (m : Command J → Bool) (q : List (Command J)) → IsQueue q → IsQueue (map (λ a. cond (m a) (record a { marked = true }) a) q)
-  marked_queue m q is = queue_after_map _ (λ a. ticket_marked (m a) a) q
-      (AllPairs-map NotBoth NotBoth _ (λ a b h. rw (stage_marked (m a) a, stage_marked (m b) b) h) q is.running) is
+  marked_queue : (m : Command J → Bool) (q : List (Command J)) → IsQueue q → IsQueue (map (λ a. mark (m a) a) q)
+  marked_queue m q is = queue_after_map _ (λ a. refl) q (AllPairs-map NotBoth NotBoth _ (λ a b h. h) q is.running) is
 
   pub queue_canceled : (client : ClientId) (ids : Ids) (q : List (Command J)) → IsQueue q → IsQueue (canceled q client ids)
   queue_canceled client ids q is = marked_queue (λ a. is_named client ids a && not (is_ready a.stage)) q is

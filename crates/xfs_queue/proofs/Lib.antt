@@ -3,3 +3,4 @@ pub mod InOrder
 pub mod Index
 pub mod Kept
 pub mod Places
+pub mod Whole

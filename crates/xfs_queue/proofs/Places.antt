@@ -1,10 +1,12 @@
 -- A ticket names one place of the list: a write and a removal there.
-use Rattle.std.proofs.Common.{◌≡◌, ℕ, zero, suc, ◌+◌, ◌≤◌, ◌<◌, ◌==◌, ◌&&◌, not, Bool, true, false, cond, List, [], ◌∷◌, length, get_or, map, filter, remove, set, find, position, slice_get, ltb, Option, None, Some, All, AllPairs, refl, ap, sym, ◌∙◌, inl, inr, arith, rules}
+use Rattle.std.proofs.Common.{◌≡◌, ℕ, zero, suc, ◌+◌, ◌≤◌, ◌<◌, ◌==◌, ◌&&◌, not, Bool, true, false, cond, List, [], ◌∷◌, ◌++◌, take, drop, length, get_or, map, filter, remove, set, find, position, slice_get, ltb, Option, None, Some, All, AllPairs, refl, ap, sym, ◌∙◌, inl, inr, arith, rules}
 use Rattle.std.proofs.lemmas.Bool.{cases_Bool, and_parts, eqb-true, true≢false, false≢true, lt-ltb, le-ltb, cases_lt, or_cases, or_left, or_right}
 use Rattle.std.specs.List.{list_any, position_or_len}
 use Rattle.std.proofs.lemmas.List.Quantifiers.{position-Some}
 use Rattle.std.proofs.lemmas.List.Folds.{find_at}
 use Rattle.std.proofs.lemmas.Option.{slice_get_read}
+use Rattle.std.proofs.lemmas.List.Edits.{map_over_more}
+use Rattle.xfs_queue.specs.Queue.{mark}
 use Rattle.xfs_queue.specs.declared.command.Ticket.{Ticket}
 use Rattle.xfs_queue.specs.declared.command.Command.{Command}
 use Rattle.xfs_queue.specs.Commands.{ticket_of, is_ticket, is_at, is_waiting}
@@ -20,10 +22,10 @@ same_ticket t u v h =
 pub none≢some : {X : Type 0} (x : X) → None ≡ Some x → ⊥
 none≢some x e = cc
 
-ltb-suc : (n m : ℕ) → ltb n m ≡ ltb (suc n) (suc m)
+ltb-suc : (n m : ℕ) → ltb n m ≡ ltb (1 + n) (suc m)
 ltb-suc n m = elim (cases_lt n m) [
-  | inl l ↦ lt-ltb n m l ∙ sym (lt-ltb (suc n) (suc m) (omega arith))
-  | inr g ↦ le-ltb n m g ∙ sym (le-ltb (suc n) (suc m) (omega arith))
+  | inl l ↦ lt-ltb n m l ∙ sym (lt-ltb (1 + n) (suc m) (omega arith))
+  | inr g ↦ le-ltb n m g ∙ sym (le-ltb (1 + n) (suc m) (omega arith))
 ]
 
 some-injective : {X : Type 0} (x y : X) → Some x ≡ Some y → x ≡ y
@@ -116,3 +118,9 @@ module _ {J : Type 0} where
     | inl here ↦ or_left (is_at t a) (list_any (is_at t) q) ((and_parts (is_at t a) (is_waiting a.stage) here).0)
     | inr rest ↦ or_right (is_at t a) (list_any (is_at t) q) (pending_from_waiting t q rest)
   ]
+
+  -- a loop that marks
+  pub marked_more : (m : Command J → Bool) (xs ys : List (Command J)) (i : ℕ) (x : Command J) (b : Bool) → i < length xs → ys ≡ map (λ a. mark (m a) a) (take i xs) ++ drop i xs
+      → x ≡ get_or ys i x → b ≡ m (get_or ys i x) → set ys i (mark b (get_or ys i x)) ≡ map (λ a. mark (m a) a) (take (i + 1) xs) ++ drop (i + 1) xs
+  marked_more m xs ys i x b within done is e =
+      ap (λ z. set ys i (mark b z)) (sym is) ∙ ap (λ d. set ys i (mark d x)) (e ∙ ap m (sym is)) ∙ map_over_more (λ a. mark (m a) a) xs ys i x within done is

@@ -1,5 +1,5 @@
 -- A queue is the plain list of the pending commands of a service, in order of arrival.
-use Rattle.std.specs.Prelude.{◌≡◌, ℕ, ◌≤◌, ◌==◌, ◌&&◌, ◌||◌, not, nat_lt, Bool, true, false, IsTrue, List, length, map, filter, find, count_by, filter_map, All, AllPairs, None, Some, if◌then◌else◌}
+use Rattle.std.specs.Prelude.{◌≡◌, ℕ, ◌≤◌, ◌==◌, ◌&&◌, ◌||◌, not, nat_le, Bool, true, false, IsTrue, List, length, map, filter, find, count_by, filter_map, All, AllPairs, None, Some, if◌then◌else◌}
 use Rattle.std.specs.declared.option.Option.{Option}
 use Rattle.std.specs.List.{list_any}
 use Rattle.xfs_base.specs.declared.moment.ClientId.{ClientId}
@@ -40,8 +40,8 @@ module _ {J : Type 0} where
   abbrev pub offer_fault : List (Command J) → ClientId → ℕ → Option OfferFault
   offer_fault q client id =
       if list_any (is_at record { client = client; id = id }) q then Some Busy
-      else if not (nat_lt (count_by (is_of client) q) 32) then Some TooMany
-      else if not (nat_lt (length q) 256) then Some TooMany
+      else if nat_le 32 (count_by (is_of client) q) then Some TooMany
+      else if nat_le 256 (length q) then Some TooMany
       else None
 
   -- the list with the ticket's command at another stage
@@ -60,15 +60,21 @@ module _ {J : Type 0} where
   abbrev pub is_named : ClientId → Ids → Command J → Bool
   is_named client ids a = is_of client a && names ids a.id
 
+  -- the command, marked too where this holds
+  abbrev pub mark : Bool → Command J → Command J
+  mark holds a = record a { marked = a.marked || holds }
+
   -- the list with the client's named commands marked, but for those that have their result
   abbrev pub canceled : List (Command J) → ClientId → Ids → List (Command J)
-  canceled q client ids = map (λ a. if is_named client ids a && not (is_ready a.stage) then record a { marked = true } else a) q
+  canceled q client ids = map (λ a. mark (is_named client ids a && not (is_ready a.stage)) a) q
+
+  -- the list with the client's commands marked
+  abbrev pub marked_of : List (Command J) → ClientId → List (Command J)
+  marked_of q client = map (λ a. mark (is_of client a) a) q
 
   -- the list without the client's commands, but for its running one, which is marked
   abbrev pub without_client : List (Command J) → ClientId → List (Command J)
-  without_client q client =
-      map (λ a. if is_of client a then record a { marked = true } else a)
-      (filter (λ a. not (is_of client a) || is_running a.stage) q)
+  without_client q client = marked_of (filter (λ a. not (is_of client a) || is_running a.stage) q) client
 
   -- the deadlines of the waiting commands of the device line that have one
   abbrev pub deadlines : List (Command J) → List ℕ

@@ -1,7 +1,8 @@
 ghost use Rattle.std.specs.Prelude.{◌≡◌, ◌≤◌};
 ghost use Rattle.xfs_base.specs.declared.moment.TheConstants.{LAST_MOMENT};
-ghost use Rattle.xfs_queue.specs.Commands.{is_ticket, ticket_of, is_at, is_of, is_waiting, is_running, is_ready, is_on, waits_on, has_deadline, deadline, is_due, names, pending_of};
+ghost use Rattle.xfs_queue.specs.Commands.{is_ticket, ticket_of, is_at, is_of, is_waiting, is_running, is_ready, is_on, waits_on, has_deadline, deadline, is_due, names};
 ghost use Rattle.xfs_queue.specs.Deadlines.{entry};
+ghost use Rattle.xfs_queue.specs.Queue.{is_named};
 
 use crate::deadlines::Entry;
 use thiserror::Error;
@@ -112,6 +113,12 @@ impl<J> Command<J> {
         ensures { result ≡ is_of client self.now }
     {
         self.client.0 == client.0
+    }
+
+    pub(crate) fn is_named(&self, client: ClientId, ids: &Ids) -> bool
+        ensures { result ≡ is_named client ids.now self.now }
+    {
+        self.is_of(client) && ids.names(self.id)
     }
 
     pub(crate) fn is_waiting(&self) -> bool

@@ -1,7 +1,7 @@
-ghost use Rattle.std.specs.Prelude.{◌≡◌, ◌≤◌, ◌==◌, [], ℕ, All, OnOk, OnErr, MatchOption, Contains, filter, insert, not};
+ghost use Rattle.std.specs.Prelude.{◌≡◌, ◌≤◌, ◌==◌, ◌++◌, ◌∷◌, [], List, All, OnOk, OnErr, MatchOption, Contains, filter, not};
 ghost use Rattle.std.specs.List.Sorted.{IsNonDecreasingBy};
 ghost use Rattle.xfs_queue.specs.Commands.{is_ticket};
-ghost use Rattle.xfs_queue.specs.Deadlines.{IsPlace};
+ghost use Rattle.xfs_queue.specs.Deadlines.{IsIndex, IsPlace};
 ghost use Rattle.xfs_queue.specs.declared.deadlines.Entry.{Entry};
 
 use crate::Ticket;
@@ -51,7 +51,7 @@ impl Deadlines {
     }
 
     pub(crate) fn add(&mut self, entry: Entry) -> Result<(), AllocError>
-        ensures ok { OnOk result ((at : ℕ) × (self.new ≡ insert self.old at entry)) }
+        ensures ok { OnOk result ((es : List Entry) → IsIndex self.old es → IsIndex self.new (es ++ entry ∷ [])) }
         ensures err { OnErr result (self.new ≡ self.old) }
     {
         let at = place_of(&self.entries, entry.deadline);

@@ -1,7 +1,8 @@
-ghost use Rattle.std.specs.Prelude.{◌≡◌, ◌++◌, List, Some, false, position, count_by, AllPairs, OnOk, OnErr};
+ghost use Rattle.std.specs.Prelude.{◌≡◌, ◌++◌, ◌≤◌, List, Some, false, length, position, count_by, AllPairs, OnOk, OnErr};
 ghost use Rattle.std.specs.Option.{option_to_list};
+ghost use Rattle.std.specs.List.{list_any};
 ghost use Rattle.xfs_queue.specs.Commands.{is_at, is_of, ticket_of};
-ghost use Rattle.xfs_queue.specs.Queue.{IsPending, with_stage, offer_fault};
+ghost use Rattle.xfs_queue.specs.Queue.{IsPending, with_stage, offer_fault, is_named, canceled, marked_of};
 ghost use Rattle.xfs_queue.specs.Deadlines.{IsIndex};
 ghost use Rattle.xfs_queue.specs.declared.deadlines.Entry.{Entry};
 
@@ -39,6 +40,7 @@ impl<J> Queue<J> {
     ghost use Rattle.std.specs.Borrow.{sem};
     ghost use Rattle.xfs_base.specs.declared.moment.TheConstants.{LAST_MOMENT};
     ghost use Rattle.xfs_queue.specs.Commands.{ticket_of, pending_of, is_at, is_waiting, is_running, is_ready, waits_on, is_due};
+    ghost use Rattle.xfs_queue.specs.Lending.{LendsJob};
     ghost use Rattle.xfs_queue.specs.Queue.{IsQueue, IsPending, IsWaiting, command_at, offered, offer_fault, with_stage, without, is_named, canceled, without_client, deadlines};
     ghost use Rattle.xfs_queue.specs.declared.command.OfferFault.TheVariants.{Memory};
     ghost use Rattle.xfs_queue.specs.declared.command.Stage.TheVariants.{Waiting, Running, Ready};
@@ -126,8 +128,7 @@ impl<J> Queue<J> {
     pub fn holds(&self, client: ClientId, id: u64) -> bool
         ensures { result ≡ list_any (is_at record { client = client; id = id }) self.now }
     {
-        let ticket = Ticket { client, id };
-        self.commands.iter().any(|command| command.is_at(ticket))
+        is_pending(&self.commands, Ticket { client, id })
     }
 
     /// The least deadline of the waiting commands of the device line that have a timeout.
@@ -175,8 +176,9 @@ impl<J> Queue<J> {
         ensures err { IfErr result (λ e. (e.0 ≡ job) × (self.new ≡ self.old)) }
         ensures refused { MatchOption (offer_fault self.old client id) (IfErr result (λ e. e.1 ≡ Memory)) (λ f. result ≡ Err (job, f)) }
     {
-        if let Some(fault) = fault_of(&self.commands, client, id) {
-            return Err((job, fault));
+        match fault_of(&self.commands, client, id) {
+            Some(fault) => return Err((job, fault)),
+            None => {}
         }
         if self.commands.reserve(1).is_err() {
             return Err((job, OfferFault::Memory));
@@ -191,8 +193,9 @@ impl<J> Queue<J> {
             stage: Stage::Waiting,
             job,
         };
-        if add_entry(&mut self.deadlines, command.entry()).is_err() {
-            return Err((command.job, OfferFault::Memory));
+        match add_entry(&mut self.deadlines, command.entry()) {
+            Ok(()) => {}
+            Err(_) => return Err((command.job, OfferFault::Memory)),
         }
         self.commands.push_reserved(command);
         Ok(())
@@ -217,6 +220,17 @@ impl<J> Queue<J> {
         self.deadlines.remove(ticket);
     }
 
+    /// The command's job, for writing.
+    pub fn job(&mut self, ticket: Ticket) -> &mut J
+        requires { IsPending self.old ticket }
+        ensures* writes_back { sem 𝓛 (LendsJob J.row self.entry ticket result) }
+        ensures now { option_map (λ a. a.job) (command_at self.old ticket) ≡ Some result.now }
+    {
+        let at = place(&self.commands, ticket);
+        let command = &mut self.commands[at];
+        &mut command.job
+    }
+
     /// Takes a command out.
     pub fn remove(&mut self, ticket: Ticket) -> Pending<J>
         requires { IsPending self.old ticket }
@@ -239,16 +253,9 @@ impl<J> Queue<J> {
         ensures count { result ≡ count_by (is_named client ids.now) self.old }
         ensures marked { self.new ≡ canceled self.old client ids.now }
     {
-        let mut count = 0;
-        for command in self.commands.iter_mut() {
-            if command.is_of(client) && ids.names(command.id) {
-                count += 1;
-                if !command.is_ready() {
-                    command.marked = true;
-                }
-            }
-        }
-        count
+        let count = count_named(&self.commands, client, ids);
+        mark_named(&mut self.commands, client, ids);
+        count as u32
     }
 }
 
@@ -262,11 +269,7 @@ impl<J: Drop> Queue<J> {
     {
         self.commands
             .retain(|command| !command.is_of(client) || command.is_running());
-        for command in self.commands.iter_mut() {
-            if command.is_of(client) {
-                command.marked = true;
-            }
-        }
+        mark_client(&mut self.commands, client);
         self.deadlines.remove_client(client);
     }
 }
@@ -274,8 +277,7 @@ impl<J: Drop> Queue<J> {
 fn fault_of<J>(commands: &[Command<J>], client: ClientId, id: u64) -> Option<OfferFault>
     ensures { result ≡ offer_fault commands.now client id }
 {
-    let ticket = Ticket { client, id };
-    if commands.iter().any(|command| command.is_at(ticket)) {
+    if is_pending(commands, Ticket { client, id }) {
         return Some(OfferFault::Busy);
     }
     if count_of(commands, client) >= 32 {
@@ -285,6 +287,12 @@ fn fault_of<J>(commands: &[Command<J>], client: ClientId, id: u64) -> Option<Off
         return Some(OfferFault::TooMany);
     }
     None
+}
+
+fn is_pending<J>(commands: &[Command<J>], ticket: Ticket) -> bool
+    ensures { result ≡ list_any (is_at ticket) commands.now }
+{
+    commands.iter().any(|command| command.is_at(ticket))
 }
 
 fn count_of<J>(commands: &[Command<J>], client: ClientId) -> usize
@@ -302,7 +310,10 @@ fn add_entry(deadlines: &mut Deadlines, entry: Option<Entry>) -> Result<(), Allo
 {
     match entry {
         None => Ok(()),
-        Some(entry) => deadlines.add(entry),
+        Some(entry) => {
+            deadlines.add(entry)?;
+            Ok(())
+        }
     }
 }
 
@@ -322,11 +333,37 @@ fn first_place<J>(commands: &[Command<J>], ticket: Ticket) -> Option<usize>
     commands.iter().position(|command| command.is_at(ticket))
 }
 
-fn set_stage<J>(commands: &mut [Command<J>], ticket: Ticket, stage: Stage)
-    requires ids { AllPairs (λ a b. is_at (ticket_of a) b ≡ false) commands.old }
-    requires pending { IsPending commands.old ticket }
-    ensures { commands.new ≡ with_stage commands.old ticket stage }
+fn set_stage<J>(commands: &mut Vec<Command<J>>, ticket: Ticket, stage: Stage)
+    requires ids { AllPairs (λ a b. is_at (ticket_of a) b ≡ false) commands.old.items }
+    requires pending { IsPending commands.old.items ticket }
+    ensures { commands.new.items ≡ with_stage commands.old.items ticket stage }
 {
     let at = place(commands, ticket);
     commands[at].stage = stage;
+}
+
+fn count_named<J>(commands: &[Command<J>], client: ClientId, ids: &Ids) -> usize
+    ensures count { result ≡ count_by (is_named client ids.now) commands.now }
+    ensures bound { result ≤ length commands.now }
+{
+    commands
+        .iter()
+        .filter(|command| command.is_named(client, ids))
+        .count()
+}
+
+fn mark_named<J>(commands: &mut [Command<J>], client: ClientId, ids: &Ids)
+    ensures { commands.new ≡ canceled commands.old client ids.now }
+{
+    for command in commands.iter_mut() {
+        command.marked |= command.is_named(client, ids) & !command.is_ready();
+    }
+}
+
+fn mark_client<J>(commands: &mut [Command<J>], client: ClientId)
+    ensures { commands.new ≡ marked_of commands.old client }
+{
+    for command in commands.iter_mut() {
+        command.marked |= command.is_of(client);
+    }
 }

@@ -1,0 +1,7 @@
+use Rattle.std.proofs.Common.{List, ◌++◌, subst, sym}
+use Rattle.std.specs.Option.{option_to_list}
+use Rattle.xfs_queue.specs.Deadlines.{IsIndex}
+use Rattle.xfs_queue.proofs.queue.add_entry.Goals as goal
+
+pub returns-in_ok-add-in-Some-clause-ok : goal.returns-in_ok-add-in-Some-clause-ok
+returns-in_ok-add-in-Some-clause-ok c = λ es is. rw c.in-Some.is (c.in_ok-add-in-Some.ensures.ok es is)
