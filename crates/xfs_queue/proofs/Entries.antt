@@ -1,5 +1,5 @@
 -- The deadlines of a list of commands, after each change of it.
-use Rattle.std.proofs.Common.{◌≡◌, ℕ, suc, ◌≤◌, ◌<◌, ◌==◌, nat_le, ◌&&◌, ◌||◌, not, Bool, true, false, cond, List, [], ◌∷◌, Option, None, Some, length, get_or, map, filter, find, All, Contains, MatchOption, refl, ap, sym, ◌∙◌, inl, inr, arith, rules}
+use Rattle.std.proofs.Common.{◌≡◌, suc, ◌≤◌, ◌<◌, ◌==◌, nat_le, ◌&&◌, ◌||◌, not, Bool, true, false, cond, List, [], ◌∷◌, Option, None, Some, get_or, map, filter, find, All, Contains, MatchOption, refl, ap, sym, ◌∙◌, inl, inr, arith}
 use Rattle.std.specs.List.{cons_option}
 use Rattle.std.proofs.lemmas.Bool.{cases_Bool, not_from_true, not_from_false, or_parts, and_right, lt-leb, true≢false}
 use Rattle.std.proofs.lemmas.List.Elements.{All-contains, All-map}
@@ -13,10 +13,10 @@ use Rattle.xfs_queue.specs.declared.command.Ticket.{Ticket}
 use Rattle.xfs_queue.specs.declared.command.Ids.{Ids}
 use Rattle.xfs_queue.specs.declared.command.Command.{Command}
 use Rattle.xfs_queue.specs.declared.deadlines.Entry.{Entry}
-use Rattle.xfs_queue.specs.Commands.{ticket_of, is_ticket, is_at, is_of, is_waiting, is_running, is_ready, is_on, waits_on, has_deadline, deadline, is_due}
+use Rattle.xfs_queue.specs.Commands.{ticket_of, is_ticket, is_at, is_of, is_waiting, is_running, waits_on, has_deadline, deadline, is_due}
 use Rattle.xfs_queue.specs.Deadlines.{IsIndex, entry, entries}
 use Rattle.xfs_queue.proofs.InOrder.{IsLeast}
-use Rattle.xfs_queue.specs.Queue.{with_stage, with_job, without, is_named, canceled, without_client, deadlines}
+use Rattle.xfs_queue.specs.Queue.{with_stage, with_job, without, canceled, without_client, deadlines}
 
 -- the entries but for the ticket's, and but for the client's
 abbrev pub is_other : Ticket → Entry → Bool

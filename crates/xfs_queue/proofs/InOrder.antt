@@ -1,5 +1,5 @@
 -- The index of deadlines: its first entry, and what stays in order.
-use Rattle.std.proofs.Common.{◌≡◌, ℕ, ◌≤◌, ◌<◌, zero, List, [], ◌∷◌, Option, None, Some, length, All, Contains, MatchOption, slice_get, insert, subst, sym, refl, arith}
+use Rattle.std.proofs.Common.{◌≡◌, ℕ, ◌≤◌, List, [], ◌∷◌, Option, All, Contains, MatchOption, slice_get, insert, subst, sym, refl, arith}
 use Rattle.std.specs.List.Sorted.{IsNonDecreasingBy}
 use Rattle.std.proofs.lemmas.List.Sorted.{IsNonDecreasingBy-insert}
 use Rattle.xfs_queue.specs.declared.deadlines.Entry.{Entry}

@@ -1,7 +1,7 @@
 -- What a queue keeps: ids that differ, one command that runs, and the limits.
-use Rattle.std.proofs.Common.{◌≡◌, ℕ, suc, ◌+◌, ◌≤◌, ◌<◌, ◌==◌, ◌&&◌, ◌||◌, not, nat_lt, Bool, true, false, cond, List, [], ◌∷◌, ◌++◌, Option, None, Some, length, get_or, map, filter, find, count_by, All, AllPairs, refl, ap, sym, ◌∙◌, inl, inr, arith, rules, ltb}
+use Rattle.std.proofs.Common.{◌≡◌, ℕ, suc, ◌≤◌, ◌<◌, ◌==◌, ◌&&◌, not, Bool, true, false, cond, List, [], ◌∷◌, ◌++◌, None, Some, length, get_or, map, filter, find, count_by, All, AllPairs, refl, ap, sym, ◌∙◌, inl, inr, arith}
 use Rattle.std.specs.List.{list_any}
-use Rattle.std.proofs.lemmas.Bool.{cases_Bool, or_parts, and_left, and_right, leb-false, eqb-true, ne_eqb, cases_eq, true≢false}
+use Rattle.std.proofs.lemmas.Bool.{cases_Bool, or_parts, and_left, and_right, leb-false, eqb-true, ne_eqb, cases_eq}
 use Rattle.std.proofs.lemmas.List.{length-map, get_or-map, length-append}
 use Rattle.std.proofs.lemmas.List.Elements.{All-cons}
 use Rattle.std.proofs.lemmas.List.Kept.{AllPairs-filter}
@@ -9,14 +9,13 @@ use Rattle.std.proofs.lemmas.List.Quantifiers.{all_pairs_push}
 use Rattle.std.proofs.lemmas.List.Sums.{length-filter, count_by-le-length, sum_by_push}
 use Rattle.xfs_base.specs.declared.moment.ClientId.{ClientId}
 use Rattle.xfs_queue.specs.declared.command.Stage.{Stage}
-use Rattle.xfs_queue.specs.declared.command.Stage.TheVariants.{Waiting, Running, Ready}
+use Rattle.xfs_queue.specs.declared.command.Stage.TheVariants.{Running}
 use Rattle.xfs_queue.specs.declared.command.Ticket.{Ticket}
 use Rattle.xfs_queue.specs.declared.command.Ids.{Ids}
-use Rattle.xfs_queue.specs.declared.command.OfferFault.{OfferFault}
 use Rattle.xfs_queue.specs.declared.command.OfferFault.TheVariants.{Busy, TooMany}
 use Rattle.xfs_queue.specs.declared.command.Command.{Command}
-use Rattle.xfs_queue.specs.Commands.{ticket_of, is_ticket, is_at, is_of, is_waiting, is_running, is_ready}
-use Rattle.xfs_queue.specs.Queue.{IsQueue, offer_fault, with_stage, with_job, without, is_named, canceled, without_client, mark}
+use Rattle.xfs_queue.specs.Commands.{ticket_of, is_ticket, is_at, is_of, is_running, is_ready}
+use Rattle.xfs_queue.specs.Queue.{IsQueue, offer_fault, with_stage, with_job, is_named, canceled, without_client, mark}
 use Rattle.xfs_queue.proofs.Places.{AreApart, same_ticket, none≢some}
 
 AllPairs-map : {X : Type 0} (R S : X → X → Type 0) (f : X → X) → ((a b : X) → R a b → S (f a) (f b)) → (xs : List X) → AllPairs R xs → AllPairs S (map f xs)

@@ -1,12 +1,11 @@
 -- A queue and its index, after each change.
-use Rattle.std.proofs.Common.{◌≡◌, ℕ, Bool, true, false, List, [], ◌∷◌, ◌++◌, Option, None, Some, filter, find, take, drop, length, arith, refl, ap, sym, ◌∙◌}
+use Rattle.std.proofs.Common.{◌≡◌, ℕ, false, List, [], ◌∷◌, ◌++◌, Option, None, Some, filter, find, take, drop, length, arith, refl, ap, ◌∙◌}
 use Rattle.std.specs.Option.{option_to_list}
 use Rattle.std.specs.List.{cons_option}
 use Rattle.std.proofs.lemmas.List.{drop_all, take_all, append-nil}
 use Rattle.std.proofs.lemmas.List.Elements.{filter_map-append}
 use Rattle.xfs_base.specs.declared.moment.ClientId.{ClientId}
-use Rattle.xfs_queue.specs.declared.command.Stage.{Stage}
-use Rattle.xfs_queue.specs.declared.command.Stage.TheVariants.{Waiting, Running, Ready}
+use Rattle.xfs_queue.specs.declared.command.Stage.TheVariants.{Running, Ready}
 use Rattle.xfs_queue.specs.declared.command.Ticket.{Ticket}
 use Rattle.xfs_queue.specs.declared.command.Ids.{Ids}
 use Rattle.xfs_queue.specs.declared.command.Command.{Command}

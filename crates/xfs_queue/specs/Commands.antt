@@ -1,5 +1,5 @@
 -- A pending command is named by its client and id; its deadline is the accepted moment plus the timeout, and has come where the timeout isn't 0 and the moment is at least that.
-use Rattle.std.specs.Prelude.{◌≡◌, ℕ, ◌+◌, ◌==◌, ◌&&◌, ◌||◌, not, nat_le, Bool, true, false, List}
+use Rattle.std.specs.Prelude.{ℕ, ◌+◌, ◌==◌, ◌&&◌, not, nat_le, Bool, true, false}
 use Rattle.std.specs.List.{list_any}
 use Rattle.xfs_base.specs.declared.moment.ClientId.{ClientId}
 use Rattle.xfs_base.specs.declared.moment.Moment.{Moment}

@@ -1,5 +1,5 @@
 -- A queue is the plain list of the pending commands of a service, in order of arrival.
-use Rattle.std.specs.Prelude.{◌≡◌, ℕ, ◌≤◌, ◌==◌, ◌&&◌, ◌||◌, not, nat_le, Bool, true, false, IsTrue, List, length, map, filter, find, count_by, filter_map, All, AllPairs, None, Some, if◌then◌else◌}
+use Rattle.std.specs.Prelude.{◌≡◌, ℕ, ◌≤◌, ◌&&◌, ◌||◌, not, nat_le, Bool, false, IsTrue, List, length, map, filter, find, count_by, filter_map, AllPairs, None, Some, if◌then◌else◌}
 use Rattle.std.specs.declared.option.Option.{Option}
 use Rattle.std.specs.List.{list_any}
 use Rattle.xfs_base.specs.declared.moment.ClientId.{ClientId}

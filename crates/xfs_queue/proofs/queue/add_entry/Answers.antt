@@ -1,6 +1,3 @@
-use Rattle.std.proofs.Common.{List, ◌++◌, subst, sym}
-use Rattle.std.specs.Option.{option_to_list}
-use Rattle.xfs_queue.specs.Deadlines.{IsIndex}
 use Rattle.xfs_queue.proofs.queue.add_entry.Goals as goal
 
 pub returns-in_ok-add-in-Some-clause-ok : goal.returns-in_ok-add-in-Some-clause-ok

@@ -1,6 +1,5 @@
-use Rattle.std.proofs.Common.{arith, ◌&&◌, not}
-use Rattle.xfs_queue.specs.Commands.{is_of, is_ready}
-use Rattle.xfs_queue.specs.Queue.{is_named}
+use Rattle.std.proofs.Common.{arith}
+use Rattle.xfs_queue.specs.Commands.{is_of}
 use Rattle.xfs_queue.proofs.Places.{marked_more}
 use Rattle.xfs_queue.proofs.queue.mark_client.Goals as goal
 

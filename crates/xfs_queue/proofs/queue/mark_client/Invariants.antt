@@ -1,6 +1,6 @@
-use Rattle.std.proofs.Common.{◌≡◌, ◌&&◌, ◌||◌, ◌++◌, not, map, take, drop}
-use Rattle.xfs_queue.specs.Commands.{is_of, is_ready}
-use Rattle.xfs_queue.specs.Queue.{is_named, mark}
+use Rattle.std.proofs.Common.{◌≡◌, ◌++◌, map, take, drop}
+use Rattle.xfs_queue.specs.Commands.{is_of}
+use Rattle.xfs_queue.specs.Queue.{mark}
 use Rattle.xfs_queue.proofs.queue.mark_client.Given as goal
 
 abbrev pub invariant-loop-command : goal.invariant-loop-command

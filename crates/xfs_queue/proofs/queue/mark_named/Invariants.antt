@@ -1,5 +1,5 @@
-use Rattle.std.proofs.Common.{◌≡◌, ◌&&◌, ◌||◌, ◌++◌, not, map, take, drop}
-use Rattle.xfs_queue.specs.Commands.{is_of, is_ready}
+use Rattle.std.proofs.Common.{◌≡◌, ◌&&◌, ◌++◌, not, map, take, drop}
+use Rattle.xfs_queue.specs.Commands.{is_ready}
 use Rattle.xfs_queue.specs.Queue.{is_named, mark}
 use Rattle.xfs_queue.proofs.queue.mark_named.Given as goal
 

@@ -1,4 +1,4 @@
-use Rattle.std.proofs.Common.{sym, rules}
+use Rattle.std.proofs.Common.{sym}
 use Rattle.xfs_queue.specs.Commands.{is_at}
 use Rattle.xfs_queue.proofs.Places.{not_placed}
 use Rattle.xfs_queue.proofs.queue.place.Goals as goal

@@ -1,6 +1,6 @@
-use Rattle.std.proofs.Common.{List, subst, sym, rules, insert, ◌++◌, ◌∷◌, []}
+use Rattle.std.proofs.Common.{List, subst}
 use Rattle.xfs_queue.specs.declared.deadlines.Entry.{Entry}
-use Rattle.xfs_queue.specs.Deadlines.{IsPlace, IsIndex}
+use Rattle.xfs_queue.specs.Deadlines.{IsPlace}
 use Rattle.xfs_queue.proofs.InOrder.{in_order_after_insert}
 use Rattle.xfs_queue.proofs.Index.{index_after_insert}
 use Rattle.xfs_queue.proofs.deadlines.Deadlines.add.Goals as goal

@@ -1,4 +1,4 @@
-use Rattle.std.proofs.Common.{rules, sym, ◌∙◌}
+use Rattle.std.proofs.Common.{◌∙◌}
 use Rattle.xfs_queue.proofs.InOrder.{first_least}
 use Rattle.xfs_queue.proofs.deadlines.Deadlines.first.Goals as goal
 

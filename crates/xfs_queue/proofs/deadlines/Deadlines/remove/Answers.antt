@@ -1,4 +1,4 @@
-use Rattle.std.proofs.Common.{rules, not, ◌==◌}
+use Rattle.std.proofs.Common.{rules, not}
 use Rattle.std.proofs.lemmas.Fn.{filter_same}
 use Rattle.std.proofs.lemmas.List.Kept.{IsNonDecreasingBy-filter}
 use Rattle.xfs_queue.specs.Commands.{is_ticket}

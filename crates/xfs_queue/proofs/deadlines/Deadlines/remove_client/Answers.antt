@@ -1,7 +1,6 @@
 use Rattle.std.proofs.Common.{rules, not, ◌==◌}
 use Rattle.std.proofs.lemmas.Fn.{filter_same}
 use Rattle.std.proofs.lemmas.List.Kept.{IsNonDecreasingBy-filter}
-use Rattle.xfs_queue.specs.Commands.{is_ticket}
 use Rattle.xfs_queue.specs.declared.deadlines.Entry.{Entry}
 use Rattle.xfs_queue.proofs.deadlines.Deadlines.remove_client.Goals as goal
 

@@ -1,4 +1,4 @@
-use Rattle.std.proofs.Common.{rules, length, ap, sym, ◌∙◌, ◌≡◌, arith}
+use Rattle.std.proofs.Common.{length, ap, ◌∙◌, ◌≡◌}
 use Rattle.std.proofs.lemmas.List.{length-map}
 use Rattle.xfs_queue.specs.Queue.{canceled}
 use Rattle.xfs_queue.proofs.Whole.{whole_slice, whole_canceled}

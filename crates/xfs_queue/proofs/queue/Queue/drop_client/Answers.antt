@@ -1,8 +1,8 @@
-use Rattle.std.proofs.Common.{rules, length, filter, not, ◌||◌, ap, sym, ◌∙◌, ◌≡◌, arith}
+use Rattle.std.proofs.Common.{rules, length, not, ◌||◌, ap, ◌∙◌, ◌≡◌}
 use Rattle.std.proofs.lemmas.List.{length-map}
 use Rattle.std.proofs.lemmas.Fn.{filter_same}
 use Rattle.xfs_queue.specs.Commands.{is_of, is_running}
-use Rattle.xfs_queue.specs.Queue.{marked_of, without_client}
+use Rattle.xfs_queue.specs.Queue.{marked_of}
 use Rattle.xfs_queue.proofs.Whole.{whole_slice, whole_without_client}
 use Rattle.xfs_queue.proofs.queue.Queue.drop_client.Goals as goal
 

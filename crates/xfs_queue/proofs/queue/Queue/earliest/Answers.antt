@@ -1,4 +1,4 @@
-use Rattle.std.proofs.Common.{Some, None, rules}
+use Rattle.std.proofs.Common.{Some, None}
 use Rattle.xfs_queue.proofs.Entries.{earliest_is}
 use Rattle.xfs_queue.proofs.queue.Queue.earliest.Goals as goal
 

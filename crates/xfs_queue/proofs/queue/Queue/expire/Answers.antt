@@ -1,4 +1,4 @@
-use Rattle.std.proofs.Common.{ap, sym, rules}
+use Rattle.std.proofs.Common.{ap, sym}
 use Rattle.xfs_queue.specs.Commands.{ticket_of}
 use Rattle.std.specs.Option.{option_map}
 use Rattle.xfs_queue.proofs.Entries.{none_due_yet, none_due_at_all}

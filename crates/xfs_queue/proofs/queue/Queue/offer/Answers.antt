@@ -1,4 +1,4 @@
-use Rattle.std.proofs.Common.{rules, refl, sym, ◌∙◌}
+use Rattle.std.proofs.Common.{refl, sym}
 use Rattle.xfs_queue.specs.Queue.{offered}
 use Rattle.xfs_queue.proofs.Whole.{whole_offered}
 use Rattle.xfs_queue.proofs.queue.Queue.offer.Goals as goal

@@ -1,6 +1,6 @@
-use Rattle.std.proofs.Common.{rules, ◌≡◌, Some, ap, sym, ◌∙◌, position}
+use Rattle.std.proofs.Common.{ap, ◌∙◌}
 use Rattle.std.specs.Option.{option_map}
-use Rattle.xfs_queue.specs.Commands.{is_at, pending_of}
+use Rattle.xfs_queue.specs.Commands.{pending_of}
 use Rattle.xfs_queue.proofs.Places.{removed, taken}
 use Rattle.xfs_queue.proofs.Whole.{whole_without}
 use Rattle.xfs_queue.proofs.queue.Queue.remove.Goals as goal

@@ -1,4 +1,3 @@
-use Rattle.std.proofs.Common.{rules, sym}
 use Rattle.xfs_queue.proofs.Places.{pending_from_waiting}
 use Rattle.xfs_queue.proofs.Whole.{whole_started}
 use Rattle.xfs_queue.proofs.queue.Queue.start.Goals as goal
