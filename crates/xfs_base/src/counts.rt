@@ -1,4 +1,4 @@
-ghost use Rattle.std.specs.Prelude.{◌≡◌, sum};
+ghost use Rattle.std.specs.Prelude.{◌≡◌, ◌<◌, ◌^◌, sum};
 ghost use Rattle.xfs_base.specs.Money.{value};
 
 use crate::Currency;
@@ -43,7 +43,8 @@ impl Counts {
 
     /// What the notes are worth in a currency, in thousandths of its unit.
     pub fn value(&self, units: &UnitTable, currency: Currency) -> u128
-        ensures { result ≡ value units.now self.now currency }
+        ensures value { result ≡ value units.now self.now currency }
+        ensures small { result < 2 ^ 65 }
     {
         value_of(units.kinds(), &self.0, currency)
     }

@@ -1,4 +1,4 @@
-ghost use Rattle.std.specs.Prelude.{◌≡◌, ◌+◌, ◌-◌, ◌<◌, ◌≤◌, ◌↔◌, length, All, IsSome, IfSome, slice_get};
+ghost use Rattle.std.specs.Prelude.{◌≡◌, ◌+◌, ◌-◌, ◌<◌, ◌≤◌, ◌^◌, ◌↔◌, length, All, IsSome, IfSome, slice_get};
 ghost use Rattle.xfs_base.specs.Money.{value_from, kind_of};
 ghost use Rattle.xfs_base.specs.Values.{IsNoteValue};
 
@@ -104,7 +104,8 @@ fn table_of(kinds: &[NoteKind]) -> UnitTable
 pub(crate) fn value_of(kinds: &[NoteKind], counts: &[u32; 8], currency: Currency) -> u128
     requires few { length kinds.now ≤ 8 }
     requires values { All (λ k. IsNoteValue k.value) kinds.now }
-    ensures { result ≡ value_from kinds.now 0 counts.now currency }
+    ensures value { result ≡ value_from kinds.now 0 counts.now currency }
+    ensures small { result < 2 ^ 65 }
 {
     let mut total = 0u128;
     for (i, k) in kinds.iter().enumerate() {
