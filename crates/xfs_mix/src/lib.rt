@@ -2,5 +2,6 @@
 #![tactic(auto)]
 
 mod asked;
+mod least;
 
 pub use asked::{CountFault, check};
