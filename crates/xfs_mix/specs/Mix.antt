@@ -1,0 +1,67 @@
+-- A mix for an amount is counts of notes that lie within what is there, are of one currency, and are worth exactly the amount; it is least where no other has fewer notes.
+use Rattle.std.specs.Prelude.{◌≡◌, ℕ, Bool, true, ◌+◌, ◌*◌, ◌≤◌, ◌<◌, List, length, sum, MatchOption, All, None, Some, slice_get, slice_index, slice_index_or, slice_set, nat_le, if◌then◌else◌}
+use Rattle.std.specs.declared.option.Option.{Option}
+use Rattle.std.specs.Option.{option_map_or}
+use Rattle.std.specs.Str.{bytes_eq}
+use Rattle.xfs_base.specs.declared.counts.Counts.{Counts}
+use Rattle.xfs_base.specs.declared.money.NoteKind.{NoteKind}
+use Rattle.xfs_base.specs.Counts.{at, LiesIn}
+use Rattle.xfs_base.specs.Money.{value}
+
+-- how many notes of a unit, from 0, may be used: those that are there, where the unit is of the currency
+abbrev pub usable : List NoteKind → Counts → List ℕ → ℕ → ℕ
+usable units have currency u = option_map_or (λ k. if bytes_eq k.currency currency then at have u else 0) (slice_get units u) 0
+
+-- counts for an amount in whole units of the currency
+pub record IsMix (units : List NoteKind) (have : Counts) (currency : List ℕ) (amount : ℕ) (n : Counts) : Type 0 where
+  pub within : (u : ℕ) → at n u ≤ usable units have currency u
+  pub worth : value units n currency ≡ 1000 * amount
+
+-- no mix for the amount has fewer notes
+abbrev pub IsLeast : List NoteKind → Counts → List ℕ → ℕ → Counts → Type 0
+IsLeast units have currency amount n = (m : Counts) → IsMix units have currency amount m → sum n.0 ≤ sum m.0
+
+-- counts for an amount within limits
+pub record IsWithin (units : List NoteKind) (limits : Counts) (currency : List ℕ) (amount : ℕ) (n : Counts) : Type 0 where
+  pub lies : LiesIn n limits
+  pub worth : value units n currency ≡ 1000 * amount
+
+-- the least counts for an amount within limits, if there are any
+abbrev pub IsBest : List NoteKind → Counts → List ℕ → ℕ → Option Counts → Type 0
+IsBest units limits currency amount best =
+    MatchOption best ((m : Counts) → IsWithin units limits currency amount m → ⊥)
+    (λ n. (length n.0 ≡ 8) × IsWithin units limits currency amount n × ((m : Counts) → IsWithin units limits currency amount m → sum n.0 ≤ sum m.0))
+
+-- the best for each amount below the table's length
+abbrev pub IsTable : List NoteKind → Counts → List ℕ → List (Option Counts) → Type 0
+IsTable units limits currency table = (a : ℕ) (d : Option Counts) → a < length table → IsBest units limits currency a (slice_index_or table a d)
+
+-- one list of numbers is another, with k more at a place
+pub record IsRaised (u k : ℕ) (old new : List ℕ) : Type 0 where
+  pub here : slice_index new u ≡ slice_index old u + k
+  pub others : (w : ℕ) → (w ≡ u → ⊥) → slice_index new w ≡ slice_index old w
+
+-- counts with n more of a unit
+abbrev pub with_more : Counts → ℕ → ℕ → Counts
+with_more q u n = record { 0 = slice_set q.0 u (at q u + n) }
+
+-- the better of what is there, and of another with n more of a unit
+abbrev pub better_of : ℕ → ℕ → Option Counts → Option Counts → Option Counts
+better_of u n o None = o
+better_of u n None (Some q) = Some (with_more q u n)
+better_of u n (Some b) (Some q) = if nat_le (sum b.0) (sum (with_more q u n).0) then Some b else Some (with_more q u n)
+
+-- the unit at a place is of the currency, and n more of its notes are allowed: at most one more than all that were
+pub record IsMore (ks : List NoteKind) (cur : List ℕ) (u n v : ℕ) (old new : Counts) : Type 0 where
+  pub kind : NoteKind
+  pub stands : slice_get ks u ≡ Some kind
+  pub of : bytes_eq kind.currency cur ≡ true
+  pub worth : kind.value ≡ v
+  pub some : 0 < n
+  pub few : n ≤ at old u + 1
+  pub raised : IsRaised u n old.0 new.0
+
+-- the table in the middle of a pass: from the place a on the new notes are counted in
+pub record IsPassed (ks : List NoteKind) (cur : List ℕ) (old new : Counts) (a : ℕ) (table : List (Option Counts)) : Type 0 where
+  pub done : (b : ℕ) (d : Option Counts) → a ≤ b → b < length table → IsBest ks new cur b (slice_index_or table b d)
+  pub left : (b : ℕ) (d : Option Counts) → b < a → b < length table → IsBest ks old cur b (slice_index_or table b d)

@@ -1,0 +1,4 @@
+pub mod Commands
+pub mod Deadlines
+pub mod Lending
+pub mod Queue
