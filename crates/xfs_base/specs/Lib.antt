@@ -1,4 +1,5 @@
 pub mod Causes
 pub mod Counts
+pub mod Memories
 pub mod Money
 pub mod Values

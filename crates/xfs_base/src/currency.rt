@@ -11,10 +11,13 @@ pub struct Currency {
 
 impl Model for Currency {
     ghost use Rattle.std.specs.Prelude.{ℕ, List};
+    ghost use Rattle.xfs_base.specs.Values.{IsCurrency};
 
     ghost Value = { List ℕ };
 
     ghost view = { λ c. c.letters };
+
+    ghost invariant = { λ c. IsCurrency c.letters };
 
     ghost inverse = { λ l. record { letters = l } };
 }
@@ -35,7 +38,8 @@ impl Currency {
     }
 
     pub fn letters(self) -> [u8; 3]
-        ensures { result ≡ self }
+        ensures now { result ≡ self }
+        ensures valid { IsCurrency result }
     {
         self.letters
     }

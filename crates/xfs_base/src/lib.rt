@@ -20,3 +20,6 @@ pub use moment::{ClientId, Clock, FixedClock, Moment, Service};
 pub use money::{Milli, NoteKind, UnitTable};
 pub use std_stream::{StdSink, StdSource};
 pub use stream::{Sink, Source, write_all};
+
+#[cfg(test)]
+mod tests;

@@ -15,7 +15,15 @@ pub struct MemSource {
 }
 
 impl MemSource {
-    pub fn new(bytes: Vec<u8>, failing: Vec<u64>) -> Self {
+    ghost use Rattle.std.specs.Prelude.{◌≡◌};
+    ghost use Rattle.xfs_base.specs.Memories.{left_of, failing_reads, reads_of};
+
+    /// `failing` has the places, from 1, of the calls that fail.
+    pub fn new(bytes: Vec<u8>, failing: Vec<u64>) -> MemSource
+        ensures left { left_of result ≡ bytes.items }
+        ensures failing { failing_reads result ≡ failing.items }
+        ensures calls { reads_of result ≡ 0 }
+    {
         MemSource {
             bytes,
             at: 0,
@@ -54,7 +62,15 @@ pub struct MemSink {
 }
 
 impl MemSink {
-    pub fn new(alloc: Global, failing: Vec<u64>) -> Self {
+    ghost use Rattle.std.specs.Prelude.{◌≡◌, []};
+    ghost use Rattle.xfs_base.specs.Memories.{taken_of, failing_writes, writes_of};
+
+    /// `failing` has the places, from 1, of the calls that fail.
+    pub fn new(alloc: Global, failing: Vec<u64>) -> MemSink
+        ensures taken { taken_of result ≡ [] }
+        ensures failing { failing_writes result ≡ failing.items }
+        ensures calls { writes_of result ≡ 0 }
+    {
         MemSink {
             bytes: Vec::new(alloc),
             failing,
@@ -63,8 +79,9 @@ impl MemSink {
         }
     }
 
+    /// What it has taken.
     pub fn bytes(&self) -> &[u8]
-        ensures { result.now ≡ self.now.bytes.items }
+        ensures { result.now ≡ taken_of self.now }
     {
         &self.bytes
     }

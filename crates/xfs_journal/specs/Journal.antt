@@ -1,0 +1,128 @@
+-- The journal: a list of records, the oldest first. A record's number is its place, from 1.
+use Rattle.std.specs.Prelude.{◌≡◌, ℕ, zero, suc, ◌+◌, ◌-◌, ◌==◌, Bool, false, List, [], ◌∷◌, ◌++◌, take, fold, Some, None, slice_get, if◌then◌else◌, ⊤}
+use Rattle.std.specs.declared.option.Option.{Option}
+use Rattle.hex.specs.Hex.{encode_upper}
+use Rattle.std.specs.Int.{to_be_bytes, w64}
+use Rattle.xfs_journal.specs.declared.record.Rec.{Rec}
+use Rattle.xfs_journal.specs.declared.record.Rec.TheVariants.{Issue, Clear, Boot, Bind}
+
+-- the record of a number
+abbrev pub record_at : List Rec → ℕ → Option Rec
+record_at records zero = None
+record_at records (suc i) = slice_get records i
+
+-- How many records there are, and which issue lives after them: the last mark, where that's an issue.
+-- Marks are issues, clears and boots.
+pub record Reading : Type 0 where
+  pub count : ℕ
+  pub live : Option ℕ
+
+abbrev pub live_after : ℕ → Option ℕ → Rec → Option ℕ
+live_after count live (Issue number word) = Some (count + 1)
+live_after count live Clear = None
+live_after count live (Boot places) = None
+live_after count live r = live
+
+abbrev pub reading_after : Reading → Rec → Reading
+reading_after r rec = record { count = r.count + 1; live = live_after r.count r.live rec }
+
+abbrev pub nothing_read : Reading
+nothing_read = record { count = 0; live = None }
+
+abbrev pub reading : List Rec → Reading
+reading records = fold reading_after nothing_read records
+
+-- the issue that lives after the records
+abbrev pub live_of : List Rec → Option ℕ
+live_of records = (reading records).live
+
+-- the issue in whose segment the record of this number stands
+abbrev pub live_at : List Rec → ℕ → Option ℕ
+live_at records n = live_of (take (n - 1) records)
+
+abbrev pub is_place : ℕ → Option ℕ → Bool
+is_place p None = false
+is_place p (Some q) = q == p
+
+abbrev pub first_token : Option (List ℕ) → List ℕ → Option (List ℕ)
+first_token None token = Some token
+first_token (Some t) token = Some t
+
+abbrev pub first_place : Option ℕ → ℕ → Option ℕ
+first_place None place = Some place
+first_place (Some q) place = Some q
+
+-- the token that was bound first while the issue at p lived
+pub record Finding : Type 0 where
+  pub read : Reading
+  pub token : Option (List ℕ)
+
+abbrev pub found_after : ℕ → Finding → Rec → Option (List ℕ)
+found_after p f (Issue number word) = if f.read.count + 1 == p then None else f.token
+found_after p f (Bind token) = if is_place p f.read.live then first_token f.token token else f.token
+found_after p f r = f.token
+
+abbrev pub finding_after : ℕ → Finding → Rec → Finding
+finding_after p f r = record { read = reading_after f.read r; token = found_after p f r }
+
+abbrev pub token_of : List Rec → ℕ → Option (List ℕ)
+token_of records p = (fold (finding_after p) (record { read = nothing_read; token = None }) records).token
+
+-- Walks along a list: what each record owes, given what came before it.
+abbrev pub Walk : {S : Type 0} → (S → Rec → S) → (S → Rec → Type 0) → S → List Rec → Type 0
+Walk step Owes s [] = ⊤
+Walk step Owes s (r ∷ rs) = Owes s r × Walk step Owes (step s r) rs
+
+-- the n-th issue carries the number n
+abbrev pub next_number : ℕ → Rec → ℕ
+next_number n (Issue number word) = n + 1
+next_number n r = n
+
+-- the number of the next issue: one more than there are
+abbrev pub next_issue : List Rec → ℕ
+next_issue records = fold next_number 1 records
+
+abbrev pub CarriesNumber : ℕ → Rec → Type 0
+CarriesNumber n (Issue number word) = number ≡ n
+CarriesNumber n r = ⊤
+
+abbrev pub Numbered : List Rec → Type 0
+Numbered records = Walk next_number CarriesNumber 1 records
+
+-- the text of an issue's nonce: the 16 upper-case hexadecimal digits of its word, then the 16 of its number
+abbrev pub nonce_text : ℕ → ℕ → List ℕ
+nonce_text number word = encode_upper (to_be_bytes w64 word ++ to_be_bytes w64 number)
+
+-- how many records there are, and the number of the last mark, or 0 before the first
+pub record Marking : Type 0 where
+  pub count : ℕ
+  pub mark : ℕ
+
+abbrev pub mark_after : ℕ → ℕ → Rec → ℕ
+mark_after count mark (Issue number word) = count + 1
+mark_after count mark Clear = count + 1
+mark_after count mark (Boot places) = count + 1
+mark_after count mark r = mark
+
+abbrev pub marking_after : Marking → Rec → Marking
+marking_after m rec = record { count = m.count + 1; mark = mark_after m.count m.mark rec }
+
+-- the number of the last mark, which is an issue, a clear or a boot; 0 where there is none
+abbrev pub last_mark : List Rec → ℕ
+last_mark records = (fold marking_after (record { count = 0; mark = 0 }) records).mark
+
+-- the number of the record that bound a token first while the issue at p lived
+pub record Binding : Type 0 where
+  pub read : Reading
+  pub place : Option ℕ
+
+abbrev pub bound_after : ℕ → Binding → Rec → Option ℕ
+bound_after p f (Issue number word) = if f.read.count + 1 == p then None else f.place
+bound_after p f (Bind token) = if is_place p f.read.live then first_place f.place (f.read.count + 1) else f.place
+bound_after p f r = f.place
+
+abbrev pub binding_after : ℕ → Binding → Rec → Binding
+binding_after p f r = record { read = reading_after f.read r; place = bound_after p f r }
+
+abbrev pub bind_of : List Rec → ℕ → Option ℕ
+bind_of records p = (fold (binding_after p) (record { read = nothing_read; place = None }) records).place

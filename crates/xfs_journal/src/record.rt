@@ -1,0 +1,21 @@
+use crate::Text;
+use xfs_base::{Counts, Kind, Places};
+
+/// One record of the journal. A record's number is its place, from 1.
+#[derive(Debug, Drop)]
+pub enum Rec {
+    /// A nonce was issued: its number among the issues, and the word that the seed gave for it.
+    Issue { number: u64, word: u64 },
+    /// The live nonce was cleared.
+    Clear,
+    /// The machine started or was reset: where its notes lay then.
+    Boot { places: Places },
+    /// This token serves the live nonce from now on.
+    Bind { token: Text },
+    /// The mechanism may move these notes.
+    Order { kind: Kind, counts: Counts },
+    /// What the order before it moved and diverted.
+    Done { moved: Counts, diverted: Counts },
+    /// The operator added so many notes to a unit, which counts from 1.
+    Load { unit: u8, count: u32 },
+}

@@ -1,0 +1,3 @@
+pub mod Mechanism
+pub mod Motions
+pub mod Orders
