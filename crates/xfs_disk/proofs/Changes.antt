@@ -1,13 +1,13 @@
 -- What one more step does to the images of a disk in memory.
-use Rattle.std.proofs.Common.{◌≡◌, ◌⊎◌, inl, inr, ⊎_elim, ℕ, ◌+◌, ◌-◌, ◌≤◌, min, List, [], ◌∷◌, ◌++◌, length, take, drop, reverse, replicate, refl, sym, ◌∙◌, ap, subst, arith, append_assoc, length-append, take-append-drop, length-take, length-drop, take_at, drop_at, drop-drop}
+use Rattle.std.proofs.Common.{◌≡◌, ◌⊎◌, inl, inr, ⊎_elim, ℕ, ◌≤◌, List, [], ◌∷◌, ◌++◌, length, reverse, sym, ◌∙◌, ap, subst, arith, length-append}
 use Rattle.std.specs.Prelude.{IsTrue}
 use Rattle.std.proofs.lemmas.Bool.{and_from}
 use Rattle.std.proofs.lemmas.List.{reverse-append, length-reverse}
-use Rattle.xfs_disk.specs.Disk.{Torn, Cut, Elapses, Follows, AddsNone, Only, overlaid, resized}
+use Rattle.xfs_disk.specs.Disk.{Elapses, Follows, AddsNone, Only}
 use Rattle.xfs_disk.specs.Steps.{before, Makes, MayLeave, LeftSince, stands, is_sound}
 use Rattle.xfs_disk.specs.Images.{here}
 use Rattle.xfs_disk.specs.declared.step.Step.{Step}
-use Rattle.xfs_disk.specs.declared.step.Step.TheVariants.{Write, Resize, Sync}
+use Rattle.xfs_disk.specs.declared.step.Step.TheVariants.{Sync}
 
 pub newest_first : (ss ns : List Step) (s : Step) → ns ≡ ss ++ s ∷ [] → reverse ns ≡ s ∷ reverse ss
 newest_first ss ns s is = ap reverse is ∙ reverse-append ss (s ∷ [])

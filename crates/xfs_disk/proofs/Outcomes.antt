@@ -1,11 +1,11 @@
 -- What a write, a change of the length and a sync in memory do to the images, by their outcome.
-use Rattle.std.proofs.Common.{◌≡◌, ◌⊎◌, inl, inr, ℕ, ◌-◌, ◌≤◌, min, List, [], ◌∷◌, ◌++◌, length, take, drop, reverse, Vec, Global, refl, sym, ◌∙◌, ap, subst, arith}
+use Rattle.std.proofs.Common.{◌≡◌, ◌⊎◌, inl, inr, ℕ, ◌-◌, ◌≤◌, min, List, [], ◌∷◌, ◌++◌, length, take, drop, reverse, Vec, Global, refl, sym, subst}
 use Rattle.std.specs.Prelude.{IsTrue, OnOk, OnErr, Ok, Err}
 use Rattle.std.specs.declared.result.Result.{Result}
 use Rattle.xfs_disk.specs.Disk.{Torn, Cut, Elapses, Follows, AddsNone, overlaid, resized}
 use Rattle.xfs_disk.specs.Steps.{MayLeave, LeftSince, is_sound}
 use Rattle.xfs_disk.specs.declared.step.Step.{Step}
-use Rattle.xfs_disk.specs.declared.step.Step.TheVariants.{Write, Resize, Sync}
+use Rattle.xfs_disk.specs.declared.step.Step.TheVariants.{Write, Resize}
 use Rattle.xfs_disk.proofs.Changes.{Noted, elapses, elapses_same, follows, keeps_sound, unchanged}
 use Rattle.xfs_disk.proofs.Crash.{torn_same, cut_same}
 use Rattle.xfs_disk.proofs.Written.{torn_written, back, stands_written, cut_done}

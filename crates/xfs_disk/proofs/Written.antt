@@ -1,5 +1,5 @@
 -- A write and a change of the length, as steps.
-use Rattle.std.proofs.Common.{◌≡◌, ◌⊎◌, inl, inr, ⊎_elim, ℕ, zero, suc, ◌+◌, ◌-◌, ◌<◌, ◌≤◌, ◌==◌, min, max, nat_le, ◌&&◌, ◌||◌, List, [], ◌∷◌, ◌++◌, length, take, drop, replicate, refl, sym, ◌∙◌, ap, ap₂, subst, arith, append_assoc, append-nil, length-append, length-take, length-drop, take-append-drop, take_at, drop_at, drop-drop}
+use Rattle.std.proofs.Common.{◌≡◌, ◌⊎◌, inl, inr, ℕ, ◌+◌, ◌-◌, ◌<◌, ◌≤◌, ◌==◌, min, max, nat_le, ◌&&◌, ◌||◌, List, ◌++◌, length, take, drop, replicate, sym, ◌∙◌, ap, ap₂, arith, append_assoc, append-nil, length-append, length-take, length-drop, take-append-drop, drop_at, drop-drop}
 use Rattle.std.specs.Prelude.{IsTrue}
 use Rattle.std.proofs.lemmas.Bool.{cases_lt, and_from, or_left, or_right, le-leb, eq-eqb}
 use Rattle.std.proofs.lemmas.List.{drop_all, take-append-le, take_all, take-take, length-replicate}

@@ -1,4 +1,4 @@
-use Rattle.std.proofs.Common.{◌≡◌, [], ◌∷◌, ◌++◌, ◌+◌, ◌-◌, min, take, drop, length, rules, arith}
+use Rattle.std.proofs.Common.{◌≡◌, [], ◌∷◌, ◌++◌, ◌-◌, min, take, drop, length, rules}
 use Rattle.xfs_disk.proofs.memory.overwrite.Goals as goal
 use Rattle.xfs_disk.specs.declared.step.Step.TheVariants.{Write}
 

@@ -1,4 +1,3 @@
-use Rattle.std.proofs.Common.{length}
 use Rattle.xfs_disk.proofs.Outcomes.{by_outcome, both, cut_images}
 use Rattle.xfs_disk.proofs.memory.MemDiskDisk.cut.Goals as goal
 

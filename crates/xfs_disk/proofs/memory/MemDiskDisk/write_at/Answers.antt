@@ -1,4 +1,3 @@
-use Rattle.std.proofs.Common.{length}
 use Rattle.xfs_disk.proofs.Outcomes.{by_outcome, both, write_time, write_images, write_sound}
 use Rattle.xfs_disk.proofs.memory.MemDiskDisk.write_at.Goals as goal
 
