@@ -1,1 +1,4 @@
 pub mod JournalLaws
+mod Moments
+mod Opening
+mod Told

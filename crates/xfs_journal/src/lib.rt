@@ -1,6 +1,7 @@
 //! The journal of the dispenser: its records, and what is read of a list of them.
 #![tactic(auto)]
 
+mod gate;
 mod record;
 mod text;
 
