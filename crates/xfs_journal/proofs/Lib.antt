@@ -1,4 +1,5 @@
 pub mod JournalLaws
 mod Moments
 mod Opening
+mod Pieces
 mod Told
