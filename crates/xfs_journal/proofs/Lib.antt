@@ -1,3 +1,4 @@
+mod Appended
 pub mod JournalLaws
 mod Moments
 mod Opening

@@ -25,6 +25,7 @@ pub record IsAtRest (images : List ℕ → Type 0) (records : List Rec) (bytes :
 
 pub record IsKept (held : Option (List ℕ)) (images : List ℕ → Type 0) (records : List Rec) (shut : Bool) (end : ℕ) : Type 0 where
   pub place : end ≡ length (front records)
+  pub of_table : AllByRecursion IsRecord records
   pub at_rest : shut ≡ false → IfTold held (IsAtRest images records)
 
 -- a limit is passed by this list

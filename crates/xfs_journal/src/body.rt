@@ -56,6 +56,7 @@ fn put_counts(out: &mut Vec<u8>, counts: &Counts)
 fn put_places(out: &mut Vec<u8>, places: &Places)
     requires room { length out.old.items + 192 ≤ vec_capacity out.old }
     ensures items { out.new.items ≡ out.old.items ++ places_bytes places.now }
+    ensures len { length out.new.items ≡ length out.old.items + 192 }
     ensures units { AreCounts places.now.units × AreCounts places.now.transport }
     ensures outlet { AreCounts places.now.outlet × AreCounts places.now.taken }
     ensures rejected { AreCounts places.now.retracted × AreCounts places.now.rejected }
@@ -85,6 +86,7 @@ pub(crate) fn put_body(out: &mut Vec<u8>, rec: &Rec)
     requires unit { HasUnit rec.now }
     requires room { length out.old.items + 1025 ≤ vec_capacity out.old }
     ensures items { out.new.items ≡ out.old.items ++ body rec.now }
+    ensures len { length out.new.items ≤ length out.old.items + 1025 }
     ensures of_table { IsRecord rec.now }
     ensures capacity { vec_capacity out.old ≤ vec_capacity out.new }
 {
@@ -117,4 +119,21 @@ pub(crate) fn put_body(out: &mut Vec<u8>, rec: &Rec)
             put_count(out, *count);
         }
     }
+}
+
+// What is written behind the gate: the length, the body, and a closing gate byte.
+pub(crate) fn fill(out: &mut Vec<u8>, rec: &Rec)
+    requires unit { HasUnit rec.now }
+    requires room { 1028 ≤ vec_capacity out.old }
+    ensures items { out.new.items ≡ framed rec.now ++ 0 ∷ [] }
+    ensures of_table { IsRecord rec.now }
+    ensures capacity { 1028 ≤ vec_capacity out.new }
+{
+    out.clear();
+    put(out, &[0, 0]);
+    put_body(out, rec);
+    let [high, low] = ((out.len() - 2) as u16).to_be_bytes();
+    out[0] = high;
+    out[1] = low;
+    put(out, &[0]);
 }
