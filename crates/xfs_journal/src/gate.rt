@@ -39,7 +39,13 @@ pub(crate) fn write_behind<D: Disk>(disk: &mut D, gate: u64, bytes: &[u8]) -> Re
 }
 
 // Writes the record whose bytes these are behind the last of the list, which ends at the gate byte.
-pub(crate) fn write_record<D: Disk>(disk: &mut D, records: &[Rec], rec: &Rec, end: u64, bytes: &[u8]) -> Result<(), Failed>
+pub(crate) fn write_record<D: Disk>(
+    disk: &mut D,
+    records: &[Rec],
+    rec: &Rec,
+    end: u64,
+    bytes: &[u8],
+) -> Result<(), Failed>
     requires kept { IsKept (D.held disk.old) (D.images disk.old) records.now false end }
     requires of_table { IsRecord rec.now }
     requires bytes { bytes.now ≡ framed rec.now ++ 0 ∷ [] }

@@ -62,7 +62,10 @@ impl<D: Disk> Journal<D> {
         ensures bytes { result.bytes ≡ self.now.limits.bytes - size self.now.records }
     {
         Limits {
-            records: self.limits.records.saturating_sub(self.records.len() as u64),
+            records: self
+                .limits
+                .records
+                .saturating_sub(self.records.len() as u64),
             bytes: self.limits.bytes.saturating_sub(self.end).saturating_sub(1),
         }
     }

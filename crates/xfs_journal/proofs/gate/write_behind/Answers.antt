@@ -22,7 +22,7 @@ returns-clause-any_moment g c = on_told _ _ (λ old told.
     let mid = c.in_ok-write_synced.ensures.written ∙ ap (option_map (λ all. overlaid all (c.args.gate + 1) x)) told in
     let only = from_told _ _ c.in_ok-write_synced.ensures.durable _ mid in
     weaken g.D.Disk.moment g.D.Disk.images_since _ _ _ (IsEither (take c.args.gate old) x) (λ f p. ⊎_elim (first_image _ old x c.args.gate start f) (second_image _ old x c.args.gate start _ only f) p)
-        (joins g.D.Disk.moment g.D.Disk.images_since _ _ _ _ _ c.write_synced.ensures.any_moment c.write_synced-2.ensures.any_moment))
+    (joins g.D.Disk.moment g.D.Disk.images_since _ _ _ _ _ c.write_synced.ensures.any_moment c.write_synced-2.ensures.any_moment))
 
 pub returns-clause-images : goal.returns-clause-images
 returns-clause-images g c = on_told _ _ (λ old told.
