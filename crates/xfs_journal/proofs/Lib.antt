@@ -1,1 +1,8 @@
+mod Appended
+pub mod Decoding
 pub mod JournalLaws
+mod Moments
+mod Opening
+mod Pieces
+mod Told
+pub mod Unique

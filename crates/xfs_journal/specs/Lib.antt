@@ -1,1 +1,4 @@
+pub mod Gate
+pub mod Image
 pub mod Journal
+pub mod JournalView

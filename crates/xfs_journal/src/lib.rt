@@ -1,9 +1,17 @@
 //! The journal of the dispenser: its records, and what is read of a list of them.
 #![tactic(auto)]
 
+mod body;
+mod faults;
+mod gate;
+mod journal;
+mod limits;
 mod record;
 mod text;
 
+pub use faults::AppendFault;
+pub use journal::Journal;
+pub use limits::Limits;
 pub use record::Rec;
 pub use text::Text;
 pub use xfs_base::Kind;

@@ -1,0 +1,4 @@
+mod Changes
+mod Crash
+mod Outcomes
+mod Written

@@ -1,0 +1,5 @@
+pub mod Disk
+pub mod Images
+pub mod MemDisk
+pub mod Steps
+pub mod Wrapped

@@ -1,0 +1,29 @@
+-- What a disk in memory shows.
+use Rattle.std.specs.Prelude.{ℕ, List, length, reverse}
+use Rattle.xfs_disk.specs.declared.memory.MemDisk.{MemDisk}
+use Rattle.xfs_disk.specs.declared.step.Step.{Step}
+use Rattle.xfs_disk.specs.Steps.{MayLeave, LeftSince}
+
+-- what a read gives
+abbrev pub bytes_of : MemDisk → List ℕ
+bytes_of m = m.bytes.items
+
+-- its steps, the newest first
+abbrev pub steps_of : MemDisk → List Step
+steps_of m = reverse m.steps.items
+
+-- its images
+abbrev pub IsImage : MemDisk → List ℕ → Type 0
+IsImage m = MayLeave (bytes_of m) (steps_of m)
+
+-- the number of its steps
+abbrev pub moment_of : MemDisk → ℕ
+moment_of m = length m.steps.items
+
+-- its images of the moments from one on
+abbrev pub WasImage : MemDisk → ℕ → List ℕ → Type 0
+WasImage m = LeftSince (bytes_of m) (steps_of m)
+
+-- how often a growth was refused
+abbrev pub faults_of : MemDisk → ℕ
+faults_of m = m.faults

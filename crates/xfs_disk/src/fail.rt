@@ -1,0 +1,95 @@
+//! A disk whose calls fail at given places.
+ghost use Rattle.xfs_base.specs.Causes.{HasCause};
+ghost use Rattle.std.specs.Prelude.{◌≡◌, ◌+◌, Some};
+ghost use Rattle.xfs_disk.specs.MemDisk.{bytes_of, steps_of, moment_of, faults_of, IsImage, WasImage};
+ghost use Rattle.xfs_disk.specs.Images.{as_read, counts_now, only_now};
+
+use crate::{Disk, MemDisk};
+use xfs_base::Failed;
+
+/// Fails the calls at these places, from 1, and goes on. All five methods are counted together. A call that is
+/// failed does nothing.
+#[derive(Drop)]
+pub struct FailDisk {
+    inner: MemDisk,
+    failing: Vec<u64>,
+    calls: u64,
+    failed: u64,
+}
+
+impl FailDisk {
+    ghost use Rattle.xfs_disk.specs.Wrapped.{failing_inner};
+
+    pub fn new(inner: MemDisk, failing: Vec<u64>) -> FailDisk
+        ensures inner { failing_inner result ≡ inner }
+    {
+        FailDisk {
+            inner,
+            failing,
+            calls: 0,
+            failed: 0,
+        }
+    }
+
+    /// The disk in memory.
+    pub fn inner(self) -> MemDisk
+        ensures { result ≡ failing_inner self }
+    {
+        self.inner
+    }
+}
+
+// Counts a call, and fails it where it is one of these.
+fn pass(failing: &[u64], calls: &mut u64, failed: &mut u64) -> Result<(), Failed>
+    ensures cause { HasCause failed.old failed.new result }
+{
+    *calls = calls.saturating_add(1);
+    if failing.contains(calls) {
+        *failed = failed.saturating_add(1);
+        return Err(Failed);
+    }
+    Ok(())
+}
+
+impl Disk for FailDisk {
+    ghost held = { λ f. Some (bytes_of f.inner) };
+
+    ghost images = { λ f. IsImage f.inner };
+
+    ghost moment = { λ f. moment_of f.inner };
+
+    ghost images_since = { λ f. WasImage f.inner };
+
+    ghost faults = { λ f. faults_of f.inner + f.failed };
+
+    ghost as_read = { λ f all told. as_read (bytes_of f.inner) (steps_of f.inner) all told };
+
+    ghost counts_now = { λ f t c le now. counts_now (bytes_of f.inner) (steps_of f.inner) t c now };
+
+    ghost only_now = { λ f c left. only_now (bytes_of f.inner) f.inner.steps.items c left };
+
+    fn len(&mut self) -> Result<u64, Failed> {
+        pass(&self.failing, &mut self.calls, &mut self.failed)?;
+        self.inner.len()
+    }
+
+    fn read(&mut self, at: u64, into: &mut [u8]) -> Result<usize, Failed> {
+        pass(&self.failing, &mut self.calls, &mut self.failed)?;
+        self.inner.read(at, into)
+    }
+
+    fn write_at(&mut self, at: u64, bytes: &[u8]) -> Result<(), Failed> {
+        pass(&self.failing, &mut self.calls, &mut self.failed)?;
+        self.inner.write_at(at, bytes)
+    }
+
+    fn cut(&mut self, len: u64) -> Result<(), Failed> {
+        pass(&self.failing, &mut self.calls, &mut self.failed)?;
+        self.inner.cut(len)
+    }
+
+    fn sync(&mut self) -> Result<(), Failed> {
+        pass(&self.failing, &mut self.calls, &mut self.failed)?;
+        self.inner.sync()
+    }
+}

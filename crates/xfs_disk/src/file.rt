@@ -1,0 +1,84 @@
+//! A file as a disk.
+ghost use Rattle.std.specs.Prelude.{◌≡◌, None, Ok, IfOk};
+ghost use Rattle.std.proofs.lemmas.Option.{none-some};
+ghost use Rattle.xfs_base.specs.Causes.{HasCause};
+
+use crate::Disk;
+use std::fs::File;
+use std::io;
+use std::os::unix::fs::FileExt;
+use xfs_base::Failed;
+
+/// A disk over an open file, which tells nothing. It counts the calls that failed.
+#[derive(Drop)]
+pub struct FileDisk {
+    file: File,
+    faults: u64,
+}
+
+impl FileDisk {
+    pub fn new(file: File) -> FileDisk {
+        FileDisk { file, faults: 0 }
+    }
+
+    // Counts a failure.
+    fn counted<T: Drop>(&mut self, answer: io::Result<T>) -> Result<T, Failed>
+        ensures cause { HasCause self.old.faults self.new.faults result }
+        ensures same { IfOk result (λ x. answer ≡ Ok x) }
+    {
+        match answer {
+            Ok(value) => Ok(value),
+            Err(_) => {
+                self.faults = self.faults.saturating_add(1);
+                Err(Failed)
+            }
+        }
+    }
+}
+
+impl Disk for FileDisk {
+    ghost held = { λ _. None };
+
+    ghost images = { λ _ _. ⊥ };
+
+    ghost moment = { λ _. 0 };
+
+    ghost images_since = { λ _ _ _. ⊥ };
+
+    ghost faults = { λ d. d.faults };
+
+    ghost as_read = { λ d all told. absurd (none-some all told) };
+
+    ghost counts_now = { λ d t c le now. now };
+
+    ghost only_now = { λ d c left. left };
+
+    fn len(&mut self) -> Result<u64, Failed> {
+        let answer = length_of(&self.file);
+        self.counted(answer)
+    }
+
+    fn read(&mut self, at: u64, into: &mut [u8]) -> Result<usize, Failed> {
+        let answer = self.file.read_at(into, at);
+        self.counted(answer)
+    }
+
+    fn write_at(&mut self, at: u64, bytes: &[u8]) -> Result<(), Failed> {
+        let answer = self.file.write_all_at(bytes, at);
+        self.counted(answer)
+    }
+
+    fn cut(&mut self, len: u64) -> Result<(), Failed> {
+        let answer = self.file.set_len(len);
+        self.counted(answer)
+    }
+
+    fn sync(&mut self) -> Result<(), Failed> {
+        let answer = self.file.sync_all();
+        self.counted(answer)
+    }
+}
+
+fn length_of(file: &File) -> io::Result<u64> {
+    Ok(file.metadata()?.len())
+}

@@ -1,0 +1,257 @@
+//! A disk in memory. It keeps what each call changed, so a crash may leave all that the contract allows.
+ghost use Rattle.std.specs.Prelude.{◌≡◌, ◌+◌, ◌-◌, ◌<◌, ◌≤◌, min, ◌++◌, [], ◌∷◌, Some, length, take, drop, replicate, reverse, IsTrue, OnOk, OnErr};
+ghost use Rattle.xfs_base.specs.Causes.{Rose};
+ghost use Rattle.xfs_disk.specs.declared.step.Step.TheVariants.{Write, Resize, Sync};
+ghost use Rattle.xfs_disk.specs.Disk.{overlaid, resized};
+ghost use Rattle.xfs_disk.specs.Steps.{MayLeave, LeftSince, is_sound, synced, blotted, crashed};
+ghost use Rattle.xfs_disk.specs.Images.{as_read, counts_now, only_now};
+
+use crate::Disk;
+use crate::step::Step;
+use std::alloc::{AllocError, Global};
+use std::mem;
+use xfs_base::Failed;
+
+/// A disk in memory. It fails only where memory for what it keeps is refused; then nothing has changed.
+#[derive(Drop)]
+pub struct MemDisk {
+    alloc: Global,
+    bytes: Vec<u8>,
+    steps: Vec<Step>,
+    reads: u64,
+    widest: u64,
+    faults: u64,
+    ghost sound: { IsTrue (is_sound bytes.items (reverse steps.items)) },
+}
+
+impl MemDisk {
+    ghost use Rattle.std.specs.Prelude.{◌≡◌, [], IsTrue};
+    ghost use Rattle.xfs_disk.specs.Steps.{crashed};
+    ghost use Rattle.xfs_disk.specs.MemDisk.{bytes_of, steps_of, IsImage};
+
+    /// A disk with these bytes, all of them synced.
+    pub fn new(alloc: Global, bytes: Vec<u8>) -> MemDisk
+        ensures bytes { bytes_of result ≡ bytes.items }
+        ensures settled { steps_of result ≡ [] }
+    {
+        MemDisk {
+            alloc,
+            bytes,
+            steps: Vec::new(alloc),
+            reads: 0,
+            widest: 0,
+            faults: 0,
+        }
+    }
+
+    /// What a read gives.
+    pub fn bytes(&self) -> &[u8]
+        ensures { result.now ≡ bytes_of self.now }
+    {
+        &self.bytes
+    }
+
+    /// The number of its reads, or the last value of a `u64`.
+    pub fn reads(&self) -> u64 {
+        self.reads
+    }
+
+    /// The length of the longest buffer that a read was handed, 0 before the first read.
+    pub fn widest(&self) -> u64 {
+        self.widest
+    }
+
+    /// One of its images, all of it synced. With pick 0 all is lost since the last sync; another pick leaves its
+    /// last eight bits in each byte of the newest write.
+    pub fn crash(self, pick: u64) -> MemDisk
+        ensures image { IsImage self (bytes_of result) }
+        ensures picked { bytes_of result ≡ crashed pick (bytes_of self) (steps_of self) }
+        ensures settled { steps_of result ≡ [] }
+    {
+        MemDisk::new(self.alloc, leave(self.bytes, self.steps, pick))
+    }
+}
+
+impl Disk for MemDisk {
+    ghost held = { λ m. Some m.bytes.items };
+
+    ghost images = { λ m. MayLeave m.bytes.items (reverse m.steps.items) };
+
+    ghost moment = { λ m. length m.steps.items };
+
+    ghost images_since = { λ m. LeftSince m.bytes.items (reverse m.steps.items) };
+
+    ghost faults = { λ m. m.faults };
+
+    ghost as_read = { λ m all told. as_read m.bytes.items (reverse m.steps.items) all told };
+
+    ghost counts_now = { λ m t c le now. counts_now m.bytes.items (reverse m.steps.items) t c now };
+
+    ghost only_now = { λ m c left. only_now m.bytes.items m.steps.items c left };
+
+    fn len(&mut self) -> Result<u64, Failed> {
+        Ok(self.bytes.len() as u64)
+    }
+
+    fn read(&mut self, at: u64, into: &mut [u8]) -> Result<usize, Failed> {
+        self.reads = self.reads.saturating_add(1);
+        self.widest = self.widest.max(into.len() as u64);
+        let all = self.bytes.as_slice();
+        let start = all.len().min(at as usize);
+        let count = into.len().min(all.len() - start);
+        into[..count].copy_from_slice(&all[start..start + count]);
+        Ok(count)
+    }
+
+    fn write_at(&mut self, at: u64, bytes: &[u8]) -> Result<(), Failed> {
+        if overwrite(
+            self.alloc,
+            &mut self.bytes,
+            &mut self.steps,
+            at as usize,
+            bytes,
+        )
+        .is_err()
+        {
+            return Err(fault(&mut self.faults));
+        }
+        Ok(())
+    }
+
+    fn cut(&mut self, len: u64) -> Result<(), Failed> {
+        if resize(self.alloc, &mut self.bytes, &mut self.steps, len).is_err() {
+            return Err(fault(&mut self.faults));
+        }
+        Ok(())
+    }
+
+    fn sync(&mut self) -> Result<(), Failed> {
+        if note(&mut self.steps).is_err() {
+            return Err(fault(&mut self.faults));
+        }
+        Ok(())
+    }
+}
+
+// Counts a fault.
+fn fault(faults: &mut u64) -> Failed
+    ensures rose { Rose faults.old faults.new }
+    ensures later { faults.old ≤ faults.new }
+{
+    *faults = faults.saturating_add(1);
+    Failed
+}
+
+// Notes a sync.
+fn note(steps: &mut Vec<Step>) -> Result<(), AllocError>
+    ensures ok { OnOk result (steps.new.items ≡ steps.old.items ++ Sync ∷ []) }
+    ensures err { OnErr result (steps.new.items ≡ steps.old.items) }
+{
+    steps.reserve(1)?;
+    steps.push_reserved(Step::Sync);
+    Ok(())
+}
+
+// Writes and notes the step, or leaves both as they are.
+fn overwrite(
+    alloc: Global,
+    all: &mut Vec<u8>,
+    steps: &mut Vec<Step>,
+    at: usize,
+    bytes: &[u8],
+) -> Result<(), AllocError>
+    requires { at ≤ length all.old.items }
+    ensures written { OnOk result (all.new.items ≡ overlaid all.old.items at bytes.now) }
+    ensures noted { OnOk result ((was : _) × (was.items ≡ take (min (length bytes.now) (length all.old.items - at)) (drop at all.old.items))
+        × (steps.new.items ≡ steps.old.items ++ Write at (length bytes.now) was ∷ [])) }
+    ensures err { OnErr result ((all.new.items ≡ all.old.items) × (steps.new.items ≡ steps.old.items)) }
+{
+    let over = bytes.len().min(all.len() - at);
+    let was = all[at..at + over].to_vec(alloc)?;
+    steps.reserve(1)?;
+    all.extend_from_slice(&bytes[over..])?;
+    all[at..at + over].copy_from_slice(&bytes[..over]);
+    steps.push_reserved(Step::Write {
+        at,
+        len: bytes.len(),
+        was,
+    });
+    Ok(())
+}
+
+// Sets the length and notes the step, or leaves both as they are.
+fn resize(
+    alloc: Global,
+    all: &mut Vec<u8>,
+    steps: &mut Vec<Step>,
+    len: u64,
+) -> Result<(), AllocError>
+    ensures cut { OnOk result (all.new.items ≡ resized all.old.items len) }
+    ensures noted { OnOk result ((was : _) × (was.items ≡ all.old.items)
+        × (steps.new.items ≡ steps.old.items ++ Resize len was ∷ [])) }
+    ensures err { OnErr result ((all.new.items ≡ all.old.items) × (steps.new.items ≡ steps.old.items)) }
+{
+    let size = len as usize;
+    let mut next = all[..all.len().min(size)].to_vec(alloc)?;
+    next.resize(size, 0)?;
+    steps.reserve(1)?;
+    let was = mem::replace(all, next);
+    steps.push_reserved(Step::Resize { len, was });
+    Ok(())
+}
+
+fn leave(bytes: Vec<u8>, steps: Vec<Step>, pick: u64) -> Vec<u8>
+    requires { IsTrue (is_sound bytes.items (reverse steps.items)) }
+    ensures { result.items ≡ crashed pick bytes.items (reverse steps.items) }
+{
+    if pick == 0 {
+        lose(bytes, steps)
+    } else {
+        blot(bytes, steps, (pick % 256) as u8)
+    }
+}
+
+// Takes back what was done since the last sync.
+fn lose(mut bytes: Vec<u8>, mut steps: Vec<Step>) -> Vec<u8>
+    requires { IsTrue (is_sound bytes.items (reverse steps.items)) }
+    ensures { result.items ≡ synced bytes.items (reverse steps.items) }
+{
+    while let Some(step) = steps.pop() {
+        match step {
+            Step::Write { at, len, was } => undo(&mut bytes, at, len, &was),
+            Step::Resize { was, .. } => bytes = was,
+            Step::Sync => return bytes,
+        }
+    }
+    bytes
+}
+
+fn undo(bytes: &mut Vec<u8>, at: usize, len: usize, was: &[u8])
+    requires within { at + len ≤ length bytes.old.items }
+    requires no_longer { length was.now ≤ len }
+    requires shorter { length was.now < len → at + len ≡ length bytes.old.items }
+    ensures { bytes.new.items ≡ take at bytes.old.items ++ was.now ++ drop (at + len) bytes.old.items }
+{
+    if was.len() < len {
+        bytes.truncate(at + was.len());
+    }
+    bytes[at..at + was.len()].copy_from_slice(was);
+}
+
+// Leaves one byte in the range of the newest write.
+fn blot(mut bytes: Vec<u8>, mut steps: Vec<Step>, byte: u8) -> Vec<u8>
+    requires { IsTrue (is_sound bytes.items (reverse steps.items)) }
+    ensures { result.items ≡ blotted byte bytes.items (reverse steps.items) }
+{
+    if let Some(Step::Write { at, len, .. }) = steps.pop() {
+        smear(&mut bytes, at, len, byte);
+    }
+    bytes
+}
+
+fn smear(bytes: &mut Vec<u8>, at: usize, len: usize, byte: u8)
+    requires { at + len ≤ length bytes.old.items }
+    ensures { bytes.new.items ≡ overlaid bytes.old.items at (replicate len byte) }
+{
+    bytes[at..at + len].fill(byte);
+}

@@ -1,0 +1,33 @@
+-- How a run of disk calls goes on, moment by moment.
+use Rattle.std.proofs.Common.{inl, inr, ⊎_elim, ℕ, ◌⊎◌, List, arith}
+use Rattle.xfs_disk.specs.Disk.{Elapses, LeavesOnly}
+
+module _ {D : Type 0} (moment : D → ℕ) (since : D → ℕ → List ℕ → Type 0) where
+  -- before the first call
+  pub started : (old : D) (P : List ℕ → Type 0) → ((c : List ℕ) → since old (moment old) c → P c) → LeavesOnly moment since old old P
+  started old P here = record { later = omega arith; each = here; before = λ t c le left. inl left }
+
+  -- one call more, after which a crash leaves what has P
+  pub goes_on : (old mid new : D) (P images : List ℕ → Type 0) → LeavesOnly moment since old mid P → Elapses (moment mid) (moment new) (since mid) (since new) images
+      → ((c : List ℕ) → images c → P c) → LeavesOnly moment since old new P
+  goes_on old mid new P images so_far time here = record {
+    later = omega (arith, so_far.later, time.later);
+    each = λ c left. ⊎_elim (so_far.each c) (here c) (time.nothing_else (moment old) c so_far.later left);
+    before = λ t c le left. ⊎_elim (so_far.before t c le) (λ now. inr (here c now)) (time.nothing_else t c (omega (arith, le, so_far.later)) left);
+  }
+
+  -- a weaker fact
+  pub weaken : (old new : D) (P Q : List ℕ → Type 0) → ((c : List ℕ) → P c → Q c) → LeavesOnly moment since old new P → LeavesOnly moment since old new Q
+  weaken old new P Q implies run = record {
+    later = run.later;
+    each = λ c left. implies c (run.each c left);
+    before = λ t c le left. ⊎_elim (λ past. inl past) (λ p. inr (implies c p)) (run.before t c le left);
+  }
+
+  -- one run after another
+  pub joins : (old mid new : D) (P Q : List ℕ → Type 0) → LeavesOnly moment since old mid P → LeavesOnly moment since mid new Q → LeavesOnly moment since old new (λ c. P c ⊎ Q c)
+  joins old mid new P Q first second = record {
+    later = omega (arith, first.later, second.later);
+    each = λ c left. ⊎_elim (λ past. inl (first.each c past)) (λ q. inr q) (second.before (moment old) c first.later left);
+    before = λ t c le left. ⊎_elim (λ past. ⊎_elim (λ was. inl was) (λ p. inr (inl p)) (first.before t c le past)) (λ q. inr (inr q)) (second.before t c (omega (arith, le, first.later)) left);
+  }

@@ -1,0 +1,14 @@
+-- Facts of what an object holds, where it tells it.
+use Rattle.std.proofs.Common.{◌≡◌, None, Some, refl, subst}
+use Rattle.std.specs.declared.option.Option.{Option}
+use Rattle.xfs_base.specs.Causes.{IfTold}
+
+pub on_told : {T : Type 0} (o : Option T) (P : T → Type 0) → ((x : T) → o ≡ Some x → P x) → IfTold o P
+on_told None P each = tt
+on_told (Some x) P each = each x refl
+
+pub from_told : {T : Type 0} (o : Option T) (P : T → Type 0) → IfTold o P → (x : T) → o ≡ Some x → P x
+from_told {T} o P told x is = subst (λ (q : Option T). IfTold q P) is told
+
+pub goes : {X : Type 0} (A B C : X → Type 0) → ((x : X) → A x → B x) → ((x : X) → B x → C x) → (x : X) → A x → C x
+goes A B C f g x a = g x (f x a)

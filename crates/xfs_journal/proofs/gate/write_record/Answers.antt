@@ -1,0 +1,29 @@
+use Rattle.std.proofs.Common.{refl}
+use Rattle.xfs_journal.specs.JournalView.{StandsForEither}
+use Rattle.xfs_journal.proofs.Appended.{asks, stands_after, kept_after, stands_at_rest, on_ok}
+use Rattle.xfs_journal.proofs.Moments.{weaken}
+use Rattle.xfs_journal.proofs.Told.{on_told, from_told, goes}
+use Rattle.xfs_journal.proofs.gate.write_record.Goals as goal
+
+pub write_behind-requires-clause-closed : goal.write_behind-requires-clause-closed
+write_behind-requires-clause-closed g c =
+    asks _ _ _ (g.D.Disk.images c.args.disk.now) c.args.records.now c.args.rec.now c.args.end c.args.bytes.now c.requires.kept c.requires.of_table c.requires.bytes refl
+
+pub returns-clause-ok : goal.returns-clause-ok
+returns-clause-ok g c =
+    on_ok c.write_behind.result _ _ (kept_after _ _ _ _ c.args.records.now c.args.rec.now c.args.end c.args.bytes.now c.requires.kept c.requires.of_table c.requires.bytes c.write_behind.ensures.told) c.write_behind.ensures.ok
+
+pub returns-clause-any_moment : goal.returns-clause-any_moment
+returns-clause-any_moment g c = on_told _ _ (λ b known.
+    weaken g.D.Disk.moment g.D.Disk.images_since _ _ _ (StandsForEither c.args.records.now c.args.rec.now)
+    (stands_after _ _ _ (g.D.Disk.images c.args.disk.now) c.args.records.now c.args.rec.now c.args.end c.args.bytes.now c.requires.kept c.requires.of_table c.requires.bytes c.write_behind.ensures.told b known)
+    (from_told _ _ c.write_behind.ensures.any_moment b known))
+
+pub returns-clause-images : goal.returns-clause-images
+returns-clause-images g c = on_told _ _ (λ b known.
+    goes _ _ (StandsForEither c.args.records.now c.args.rec.now) (from_told _ _ c.write_behind.ensures.images b known)
+    (stands_after _ _ _ (g.D.Disk.images c.args.disk.now) c.args.records.now c.args.rec.now c.args.end c.args.bytes.now c.requires.kept c.requires.of_table c.requires.bytes c.write_behind.ensures.told b known))
+
+pub returns-clause-acknowledged : goal.returns-clause-acknowledged
+returns-clause-acknowledged g c =
+    on_ok c.write_behind.result _ _ (λ o. stands_at_rest _ _ _ _ (kept_after _ _ _ _ c.args.records.now c.args.rec.now c.args.end c.args.bytes.now c.requires.kept c.requires.of_table c.requires.bytes c.write_behind.ensures.told o)) c.write_behind.ensures.ok

@@ -1,0 +1,61 @@
+//! Writing behind a closed gate byte, and then opening it.
+ghost use Rattle.std.specs.Prelude.{◌≡◌, List, ℕ, ◌+◌, ◌<◌, ◌≤◌, ◌^◌, [], ◌∷◌, ◌++◌, false, is_some, option_map, length, take, OnOk, OnErr};
+ghost use Rattle.xfs_base.specs.Causes.{HasCause, IfTold};
+ghost use Rattle.xfs_disk.specs.Disk.{overlaid, Torn, Follows, Only, LeavesOnly};
+ghost use Rattle.xfs_journal.specs.Image.{IsRecord, Stands, framed};
+ghost use Rattle.xfs_journal.specs.JournalView.{IsKept, StandsForEither, passes};
+ghost use Rattle.xfs_journal.specs.Gate.{IsClosed, IsOpened, IsEither, MayBecome};
+
+use crate::{Limits, Rec};
+use xfs_base::Failed;
+use xfs_disk::Disk;
+
+// Writes, and syncs what was written.
+pub(crate) fn write_synced<D: Disk>(disk: &mut D, at: u64, bytes: &[u8]) -> Result<(), Failed>
+    requires within { IfTold (D.held disk.old) (λ all. at ≤ length all) }
+    ensures written { OnOk result (D.held disk.new ≡ option_map (λ all. overlaid all at bytes.now) (D.held disk.old)) }
+    ensures durable { OnOk result (IfTold (D.held disk.new) (λ all. Only all (D.images disk.new))) }
+    ensures told { is_some (D.held disk.new) ≡ is_some (D.held disk.old) }
+    ensures crash { Follows (Torn at (length bytes.now)) (D.images disk.old) (D.images disk.new) }
+    ensures any_moment { LeavesOnly D.moment D.images_since disk.old disk.new (MayBecome (D.images disk.old) at (length bytes.now)) }
+    ensures cause { HasCause (D.faults disk.old) (D.faults disk.new) result }
+{
+    disk.write_at(at, bytes)?;
+    disk.sync()
+}
+
+// Writes the bytes behind the gate, and opens it when they are synced.
+pub(crate) fn write_behind<D: Disk>(disk: &mut D, gate: u64, bytes: &[u8]) -> Result<(), Failed>
+    requires small { gate + 1 < 2 ^ 64 }
+    requires closed { IfTold (D.held disk.old) (λ all. (gate < length all) × IsClosed (take gate all) all × Only all (D.images disk.old)) }
+    ensures ok { OnOk result (IfTold (D.held disk.old) (λ old. IfTold (D.held disk.new) (λ all. IsOpened (take gate old) bytes.now all × Only all (D.images disk.new)))) }
+    ensures told { is_some (D.held disk.new) ≡ is_some (D.held disk.old) }
+    ensures any_moment { IfTold (D.held disk.old) (λ old. LeavesOnly D.moment D.images_since disk.old disk.new (IsEither (take gate old) bytes.now)) }
+    ensures images { IfTold (D.held disk.old) (λ old. (c : _) → D.images disk.new c → IsEither (take gate old) bytes.now c) }
+    ensures cause { HasCause (D.faults disk.old) (D.faults disk.new) result }
+{
+    write_synced(disk, gate + 1, bytes)?;
+    write_synced(disk, gate, &[1])
+}
+
+// Writes the record whose bytes these are behind the last of the list, which ends at the gate byte.
+pub(crate) fn write_record<D: Disk>(
+    disk: &mut D,
+    records: &[Rec],
+    rec: &Rec,
+    end: u64,
+    bytes: &[u8],
+) -> Result<(), Failed>
+    requires kept { IsKept (D.held disk.old) (D.images disk.old) records.now false end }
+    requires of_table { IsRecord rec.now }
+    requires bytes { bytes.now ≡ framed rec.now ++ 0 ∷ [] }
+    requires small { end + 1 < 2 ^ 64 }
+    ensures ok { OnOk result (IsKept (D.held disk.new) (D.images disk.new) (records.now ++ rec.now ∷ []) false (end + length bytes.now)) }
+    ensures told { is_some (D.held disk.new) ≡ is_some (D.held disk.old) }
+    ensures any_moment { IfTold (D.held disk.old) (λ _. LeavesOnly D.moment D.images_since disk.old disk.new (StandsForEither records.now rec.now)) }
+    ensures images { IfTold (D.held disk.old) (λ _. (c : List ℕ) → D.images disk.new c → StandsForEither records.now rec.now c) }
+    ensures acknowledged { OnOk result (IfTold (D.held disk.new) (λ _. (c : List ℕ) → D.images disk.new c → Stands c (records.now ++ rec.now ∷ []))) }
+    ensures cause { HasCause (D.faults disk.old) (D.faults disk.new) result }
+{
+    write_behind(disk, end, bytes)
+}
