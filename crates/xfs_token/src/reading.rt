@@ -6,7 +6,7 @@ ghost use Rattle.xfs_token.specs.Classes.{class_has};
 ghost use Rattle.xfs_token.specs.Token as grammar;
 ghost use Rattle.xfs_token.specs.Token.{IsMac, four_digits, pairs_text};
 ghost use Rattle.xfs_token.specs.Pairs.{pair_of};
-ghost use Rattle.xfs_token.specs.Reading.{first_in, first_is, IsStuck, IsNonceAt, IsKeyAt, IsValueAt, LengthThen, MacEnd, NonceThen, Tail, ValueThen};
+ghost use Rattle.xfs_token.specs.Reading.{decimal_number, first_in, first_is, IsStuck, IsNonceAt, IsKeyAt, IsValueAt, IsLengthAt, LengthThen, MacEnd, NonceThen, Tail, ValueThen};
 
 use crate::grammar::{Class, is_reserved, run_len};
 use crate::pair::{Pair, has_key};
@@ -144,4 +144,33 @@ pub(crate) fn mac_of(text: &[u8]) -> Result<[u8; 32], usize>
         Ok(mac) => Ok(mac),
         Err(_) => Err(0),
     }
+}
+
+// The number in the length field, which a comma follows; else how many bytes are left at the fault.
+pub(crate) fn length_field(text: &[u8]) -> Result<usize, usize>
+    ensures ok { IfOk result (λ n. IsLengthAt text.now n) }
+    ensures err { IfErr result (λ left. IsStuck LengthThen text.now left) }
+{
+    let n = run_len(cut(text, 4), Class::Digit);
+    let (digits, rest) = text.split_at(n);
+    if n < 4 {
+        return Err(rest.len());
+    }
+    if !begins(rest, b',') {
+        return Err(rest.len());
+    }
+    Ok(number_in(digits))
+}
+
+fn number_in(digits: &[u8]) -> usize
+    requires { 4 ≤ length digits.now }
+    ensures { result ≡ decimal_number digits.now }
+{
+    1000 * digit(digits[0]) + 100 * digit(digits[1]) + 10 * digit(digits[2]) + digit(digits[3])
+}
+
+fn digit(b: u8) -> usize
+    ensures { result ≡ b - 48 }
+{
+    usize::from(b.saturating_sub(48))
 }
