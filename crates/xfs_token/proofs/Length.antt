@@ -1,15 +1,17 @@
 -- Where the length field ends in a text, or is stuck.
 use Rattle.std.proofs.Common.{◌≡◌, ℕ, zero, suc, ◌+◌, ◌-◌, ◌*◌, ◌/◌, ◌%◌, ◌<◌, ◌≤◌, ◌==◌, Bool, true, false, not, ◌&&◌, cond, List, [], ◌∷◌, ◌++◌, length, take, drop, replicate, refl, sym, ◌∙◌, ap, subst, arith, inl, inr, length-append, append_assoc}
-use Rattle.std.specs.Prelude.{◌⊎◌, slice_index}
-use Rattle.std.specs.List.{list_all}
+use Rattle.std.specs.Prelude.{◌⊎◌, codes, slice_index, nat_eq}
+use Rattle.std.specs.List.{list_all, common_prefix_len}
 use Rattle.std.proofs.lemmas.Bool.{and_parts, and_from, cases_Bool, eqb-true, eqb-false}
 use Rattle.std.proofs.lemmas.List.Folds.{list_all-append}
-use Rattle.std.proofs.lemmas.List.{take-append-drop, length-take-le}
+use Rattle.std.proofs.lemmas.List.{take-append-drop, length-take-le, drop-drop}
+use Rattle.std.proofs.lemmas.List.Sums.{common_prefix_len-le}
+use Rattle.xfs_token.proofs.Words.{stuck_behind_word, word_in_front}
 use Rattle.xfs_token.specs.Token.{is_digit, four_digits}
-use Rattle.xfs_token.specs.Reading.{Stops, IsStuck, LengthThen, IsLengthAt, first_is}
-use Rattle.xfs_token.proofs.Stuck.{both_ways, same_run, no_longer, no_stop}
+use Rattle.xfs_token.specs.Reading.{Stops, IsStuck, WordThen, LengthThen, IsFormatAt, IsLengthAt, first_is}
+use Rattle.xfs_token.proofs.Stuck.{stuck_word, both_ways, same_run, no_longer, no_stop}
 use Rattle.xfs_token.proofs.Tails.{FirstFails, some_tail, ending}
-use Rattle.xfs_token.proofs.Front.{number_from, number_of_digits}
+use Rattle.xfs_token.proofs.Front.{some_length, number_from, number_of_digits}
 use Rattle.xfs_token.proofs.AmountText.{digit_is}
 use Rattle.xfs_token.proofs.Runs.{Run, byte_behind, other_first}
 
@@ -103,3 +105,22 @@ length_ends text digits rest n r full d e comma =
     let is = byte_behind text n 44 (ap (first_is 44) (sym e) ∙ comma) in
     let five : n + 1 ≡ 5 = omega arith in
     record { small = f.0; is = is ∙ ap (λ (x : List ℕ). x ++ 44 ∷ drop (n + 1) text) (sym d ∙ f.1) ∙ ap (λ (k : ℕ). four_digits (number_in digits) ++ 44 ∷ drop k text) five }
+
+-- the format's word and a length field
+pub format_short : (text : List ℕ) (n : ℕ) → n ≡ common_prefix_len nat_eq text (codes "TOKENFORMAT=1,TOKENLENGTH=") → n < 26 → IsStuck (WordThen (codes "TOKENFORMAT=1,TOKENLENGTH=") LengthThen) text (length text - n)
+format_short text n e lt = subst (λ (k : ℕ). IsStuck (WordThen (codes "TOKENFORMAT=1,TOKENLENGTH=") LengthThen) text (length text - k)) (sym e) (stuck_word LengthThen (codes "TOKENFORMAT=1,TOKENLENGTH=") text (four_digits 0 ++ 44 ∷ ending) some_length (subst (λ (k : ℕ). k < 26) e lt))
+
+format_cut : (text rest : List ℕ) (n : ℕ) → n ≡ common_prefix_len nat_eq text (codes "TOKENFORMAT=1,TOKENLENGTH=") → 26 ≤ n → rest ≡ drop 26 text → codes "TOKENFORMAT=1,TOKENLENGTH=" ++ rest ≡ text
+format_cut text rest n e le r = ap (λ (l : List ℕ). codes "TOKENFORMAT=1,TOKENLENGTH=" ++ l) r ∙ sym (word_in_front (codes "TOKENFORMAT=1,TOKENLENGTH=") text (subst (λ (k : ℕ). 26 ≤ k) e le))
+
+pub format_within : (text : List ℕ) (n : ℕ) → n ≡ common_prefix_len nat_eq text (codes "TOKENFORMAT=1,TOKENLENGTH=") → n ≤ length text
+format_within text n e = subst (λ (k : ℕ). k ≤ length text) (sym e) (common_prefix_len-le nat_eq text (codes "TOKENFORMAT=1,TOKENLENGTH=")).0
+
+pub format_stuck : (text rest : List ℕ) (n left : ℕ) → n ≡ common_prefix_len nat_eq text (codes "TOKENFORMAT=1,TOKENLENGTH=") → 26 ≤ n → rest ≡ drop 26 text → IsStuck LengthThen rest left → IsStuck (WordThen (codes "TOKENFORMAT=1,TOKENLENGTH=") LengthThen) text left
+format_stuck text rest n left e le r s = subst (λ (l : List ℕ). IsStuck (WordThen (codes "TOKENFORMAT=1,TOKENLENGTH=") LengthThen) l left) (format_cut text rest n e le r) (stuck_behind_word LengthThen (codes "TOKENFORMAT=1,TOKENLENGTH=") rest left s)
+
+pub format_ends : (text rest : List ℕ) (n number : ℕ) → n ≡ common_prefix_len nat_eq text (codes "TOKENFORMAT=1,TOKENLENGTH=") → 26 ≤ n → rest ≡ drop 26 text → IsLengthAt rest number → IsFormatAt text number
+format_ends text rest n number e le r a = record {
+    small = a.small;
+    is = sym (format_cut text rest n e le r) ∙ ap (λ (l : List ℕ). codes "TOKENFORMAT=1,TOKENLENGTH=" ++ l) (a.is ∙ ap (λ (l : List ℕ). four_digits number ++ 44 ∷ l) (ap (drop 5) r ∙ drop-drop 5 26 text));
+  }

@@ -101,3 +101,8 @@ pub record IsLengthAt (text : List ℕ) (number : ℕ) : Type 0 where
 -- the number that four digits write
 abbrev pub decimal_number : List ℕ → ℕ
 decimal_number ds = 1000 * (slice_index ds 0 - 48) + 100 * (slice_index ds 1 - 48) + 10 * (slice_index ds 2 - 48) + (slice_index ds 3 - 48)
+
+-- the format and a length field of this number stand here
+pub record IsFormatAt (text : List ℕ) (number : ℕ) : Type 0 where
+  pub small : number ≤ 9999
+  pub is : text ≡ codes "TOKENFORMAT=1,TOKENLENGTH=" ++ (four_digits number ++ 44 ∷ drop 31 text)

@@ -6,7 +6,7 @@ ghost use Rattle.xfs_token.specs.Classes.{class_has};
 ghost use Rattle.xfs_token.specs.Token as grammar;
 ghost use Rattle.xfs_token.specs.Token.{IsMac, four_digits, pairs_text};
 ghost use Rattle.xfs_token.specs.Pairs.{pair_of};
-ghost use Rattle.xfs_token.specs.Reading.{decimal_number, first_in, first_is, IsStuck, IsNonceAt, IsKeyAt, IsValueAt, IsLengthAt, LengthThen, MacEnd, NonceThen, Tail, ValueThen};
+ghost use Rattle.xfs_token.specs.Reading.{decimal_number, first_in, first_is, IsStuck, IsNonceAt, IsKeyAt, IsValueAt, IsFormatAt, IsLengthAt, LengthThen, MacEnd, NonceThen, Tail, ValueThen, WordThen};
 
 use crate::grammar::{Class, is_reserved, run_len};
 use crate::pair::{Pair, has_key};
@@ -173,4 +173,21 @@ fn digit(b: u8) -> usize
     ensures { result ≡ b - 48 }
 {
     usize::from(b.saturating_sub(48))
+}
+
+// The number in the length field, from behind the nonce's comma on; else how many bytes are left
+// at the fault.
+pub(crate) fn format_field(text: &[u8]) -> Result<usize, usize>
+    ensures ok { IfOk result (λ n. IsFormatAt text.now n) }
+    ensures err { IfErr result (λ left. IsStuck (WordThen (codes "TOKENFORMAT=1,TOKENLENGTH=") LengthThen) text.now left) }
+{
+    let n = common_len(text, b"TOKENFORMAT=1,TOKENLENGTH=");
+    if n < 26 {
+        return Err(text.len() - n);
+    }
+    let (_, rest) = text.split_at(26);
+    match length_field(rest) {
+        Ok(number) => Ok(number),
+        Err(left) => Err(left),
+    }
 }
