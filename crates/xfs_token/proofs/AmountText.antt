@@ -16,7 +16,7 @@ record IsWritten (n : ℕ) (ds : List ℕ) : Type 0 where
   digits : list_all is_digit ds ≡ true
   some : 1 ≤ length ds
 
-digit_is : (m : ℕ) → m < 10 → is_digit (48 + m) ≡ true
+pub digit_is : (m : ℕ) → m < 10 → is_digit (48 + m) ≡ true
 digit_is m lt = and_from _ _ (le-leb 48 (48 + m) (omega arith)) (le-leb (48 + m) 57 (omega arith))
 
 number_of-push : (ds : List ℕ) (b : ℕ) → number_of (ds ++ b ∷ []) ≡ 10 * number_of ds + (b - 48)

@@ -1,17 +1,19 @@
 -- Where a nonce, a key, a value and an HMAC end in a text, or are stuck.
 use Rattle.std.proofs.Common.{◌≡◌, ℕ, zero, suc, ◌+◌, ◌-◌, ◌<◌, ◌≤◌, ◌==◌, Bool, true, false, not, ◌&&◌, ◌||◌, cond, List, [], ◌∷◌, ◌++◌, length, take, drop, refl, sym, ◌∙◌, ap, subst, arith, inl, inr, length-append, append_assoc, get_or}
-use Rattle.std.specs.Prelude.{◌⊎◌, codes, slice_index, nat_le}
+use Rattle.std.specs.Prelude.{◌⊎◌, codes, slice_index, nat_le, Ok}
 use Rattle.std.specs.List.{list_all, prefix_len}
 use Rattle.std.specs.Str.{bytes_eq}
 use Rattle.std.proofs.lemmas.Bool.{and_parts, and_from, cases_Bool, cases_lt, eqb-true, eq-eqb, le-leb}
 use Rattle.std.proofs.lemmas.List.Folds.{list_all-append}
-use Rattle.std.proofs.lemmas.List.{take-append-drop, length-take-le, length-drop, take_more}
+use Rattle.std.proofs.lemmas.List.{take-append-drop, length-take-le, length-drop, take_more, append-nil}
+use Rattle.hex.specs.Hex.{decode_sized, decode_pairs, upper_digits}
+use Rattle.hex.proofs.HexLemmas.{length-encode_with, decode_pairs-encode_with, IsDigits-upper_digits}
 use Rattle.xfs_token.specs.Token.{is_upper_hex, is_nonce, is_key, is_key_byte, is_letter, is_value, is_value_byte, is_free_key, is_reserved, has_key, pairs_text}
 use Rattle.xfs_token.specs.Reading.{IsStuck, IsNonceAt, IsKeyAt, IsValueAt, NonceThen, Tail, ValueThen, MacEnd, first_is, first_in}
 use Rattle.xfs_token.proofs.Stuck.{both_ways}
 use Rattle.xfs_token.proofs.Tails.{FirstFails, stuck_no_value, stuck_value}
 use Rattle.xfs_token.proofs.Front.{stuck_no_nonce, stuck_nonce}
-use Rattle.xfs_token.proofs.HexText.{stuck_mac_short, stuck_mac_long}
+use Rattle.xfs_token.proofs.HexText.{mac_of as digits_mac, stuck_mac_short, stuck_mac_long}
 use Rattle.xfs_token.proofs.Keys.{Frees, stuck_no_key, stuck_key, stuck_taken, stuck_last}
 use Rattle.xfs_token.proofs.Fresh.{frees_short, frees_free, longer_no_reserved}
 use Rattle.xfs_token.proofs.Runs.{Run, run_of, byte_behind, other_first}
@@ -178,3 +180,22 @@ not_free_taken earlier key h = ap (λ (b : Bool). is_key key && not (is_reserved
     off : (x : Bool) → (x && false) ≡ false
     off true = refl
     off false = refl
+
+empty_is : {X : Type 0} (xs : List X) → length xs ≡ 0 → xs ≡ []
+empty_is [] h = refl
+empty_is (x ∷ xs) h = absurd (omega arith)
+
+-- 64 digits and nothing behind them are an HMAC
+pub mac_whole : (text rest : List ℕ) (n : ℕ) → Run is_upper_hex 64 text n → 64 ≤ n → rest ≡ drop n text → length rest ≡ 0 → MacEnd text
+mac_whole text rest n r full e none =
+    let few = r.few in
+    let len : length (take n text) ≡ 64 = length-take-le n text r.within ∙ (omega arith) in
+    let all : take n text ≡ text = sym (append-nil (take n text)) ∙ ap (λ (l : List ℕ). take n text ++ l) (sym (empty_is (drop n text) (ap length (sym e) ∙ none))) ∙ take-append-drop n text in
+    subst MacEnd all (digits_mac (take n text) r.all len)
+
+-- the bytes that its digits decode to
+pub decoded : (text : List ℕ) → (m : MacEnd text) → decode_sized text 32 ≡ Ok m.mac
+decoded text m =
+    let len : length text ≡ 64 = ap length m.is ∙ length-encode_with upper_digits m.mac ∙ (let k = m.is_mac.long in omega arith) in
+    let pairs : decode_pairs 0 text ≡ Ok m.mac = ap (decode_pairs 0) m.is ∙ decode_pairs-encode_with upper_digits IsDigits-upper_digits 0 m.mac m.is_mac.bytes in
+    rw len pairs

@@ -9,7 +9,7 @@ use Rattle.xfs_token.specs.Reading.{Stops, IsStuck, WordThen, Tail, NonceThen, L
 use Rattle.xfs_token.proofs.Stuck.{both_ways, stuck_now, same_run, no_longer, no_stop}
 use Rattle.xfs_token.proofs.Tails.{FirstFails, some_tail, ending}
 
-some_length : LengthThen (four_digits 0 ++ 44 ∷ ending)
+pub some_length : LengthThen (four_digits 0 ++ 44 ∷ ending)
 some_length = record { number = 0; rest = ending; small = omega arith; is = refl; then = some_tail [] }
 
 some_format : WordThen (codes "TOKENFORMAT=1,TOKENLENGTH=") LengthThen (codes "TOKENFORMAT=1,TOKENLENGTH=" ++ (four_digits 0 ++ 44 ∷ ending))

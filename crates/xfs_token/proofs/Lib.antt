@@ -5,8 +5,10 @@ pub mod Fresh
 pub mod Front
 pub mod HexText
 pub mod Keys
+pub mod Length
 pub mod Minted
 pub mod Runs
 pub mod Stuck
 pub mod Tails
+pub mod Words
 pub mod Written

@@ -1,5 +1,5 @@
 -- What may stand at a place of a token's text, and that a text goes on from there no further.
-use Rattle.std.specs.Prelude.{◌≡◌, ℕ, ◌≤◌, ◌==◌, Bool, true, List, [], ◌∷◌, ◌++◌, length, take, drop, codes, IsTrue, false, ◌+◌, ◌||◌}
+use Rattle.std.specs.Prelude.{◌≡◌, ℕ, ◌≤◌, ◌==◌, Bool, true, List, [], ◌∷◌, ◌++◌, length, take, drop, codes, IsTrue, false, ◌+◌, ◌-◌, ◌*◌, ◌||◌, slice_index}
 use Rattle.std.specs.Str.{bytes_eq}
 use Rattle.hex.specs.Hex.{encode_upper}
 use Rattle.xfs_token.specs.Token.{IsMac, is_nonce, is_value, is_free_key, may_follow, four_digits}
@@ -92,3 +92,17 @@ pub record IsKeyAt (earlier : List (List ℕ × List ℕ)) (text : List ℕ) (n 
 pub record IsValueAt (text : List ℕ) (n : ℕ) : Type 0 where
   pub good : IsTrue (is_value (take n text))
   pub is : text ≡ take n text ++ 44 ∷ drop (n + 1) text
+
+-- four digits of this number stand here, and a comma behind them
+pub record IsLengthAt (text : List ℕ) (number : ℕ) : Type 0 where
+  pub small : number ≤ 9999
+  pub is : text ≡ four_digits number ++ 44 ∷ drop 5 text
+
+-- the number that four digits write
+abbrev pub decimal_number : List ℕ → ℕ
+decimal_number ds = 1000 * (slice_index ds 0 - 48) + 100 * (slice_index ds 1 - 48) + 10 * (slice_index ds 2 - 48) + (slice_index ds 3 - 48)
+
+-- the format and a length field of this number stand here
+pub record IsFormatAt (text : List ℕ) (number : ℕ) : Type 0 where
+  pub small : number ≤ 9999
+  pub is : text ≡ codes "TOKENFORMAT=1,TOKENLENGTH=" ++ (four_digits number ++ 44 ∷ drop 31 text)

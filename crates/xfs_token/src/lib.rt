@@ -6,6 +6,7 @@ mod faults;
 mod grammar;
 mod minting;
 mod pair;
+mod reading;
 mod signing;
 #[cfg(test)]
 mod tests;

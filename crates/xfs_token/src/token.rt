@@ -1,4 +1,4 @@
-ghost use Rattle.std.specs.Prelude.{◌≡◌, ◌<◌, ◌++◌, ◌∷◌, [], length, map, IfOk, IfErr, OnOk, OnErr, IsTrue, slice_get, Some, Err, true, false};
+ghost use Rattle.std.specs.Prelude.{◌≡◌, ◌<◌, ◌++◌, ◌∷◌, [], length, map, replicate, IfOk, IfErr, OnOk, OnErr, IsTrue, slice_get, Some, Err, true, false};
 ghost use Rattle.std.specs.Option.{option_map};
 ghost use Rattle.xfs_token.specs.Token as grammar;
 ghost use Rattle.xfs_token.specs.Token.{IsMac, IsWellFormed, Parts, is_free_key, is_value};
@@ -57,7 +57,7 @@ impl Model for Token {
 impl Token {
     /// A token with no pairs and an HMAC of zeros.
     pub fn begin(alloc: Global, nonce: &[u8]) -> Result<Token, BuildFault>
-        ensures ok { IfOk result (λ t. (t.nonce ≡ nonce.now) × (t.pairs ≡ [])) }
+        ensures ok { IfOk result (λ t. t ≡ record { nonce = nonce.now; pairs = []; mac = replicate 32 0 }) }
         ensures bad_nonce { grammar.is_nonce nonce.now ≡ false → result ≡ Err BadNonce }
         ensures cause { IfErr result (λ e. e ≡ BadNonce → grammar.is_nonce nonce.now ≡ false) }
     {
@@ -70,7 +70,7 @@ impl Token {
     // A nonce of the grammar needs no second look.
     pub(crate) fn begun(alloc: Global, nonce: &[u8]) -> Result<Token, AllocError>
         requires { IsTrue (grammar.is_nonce nonce.now) }
-        ensures { IfOk result (λ t. (t.nonce ≡ nonce.now) × (t.pairs ≡ [])) }
+        ensures { IfOk result (λ t. t ≡ record { nonce = nonce.now; pairs = []; mac = replicate 32 0 }) }
     {
         Ok(Token {
             nonce: Vec::from_slice(alloc, nonce)?,
