@@ -1,3 +1,4 @@
+pub mod AmountBounds
 pub mod AmountsLemmas
 pub mod AmountText
 pub mod Ends
