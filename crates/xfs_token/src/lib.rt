@@ -2,11 +2,12 @@
 #![tactic(auto)]
 
 mod amount;
-mod amounts;
 mod digits;
+mod dispense;
 mod faults;
 mod grammar;
 mod minting;
+mod money;
 mod pair;
 mod reading;
 mod signing;
@@ -16,8 +17,9 @@ mod text;
 mod token;
 
 pub use amount::read_amount;
-pub use amounts::Amounts;
+pub use dispense::amounts;
 pub use faults::TokenFault;
 pub use minting::{MakeFault, make};
+pub use money::Amounts;
 pub use signing::{WriteFault, genuine, write};
 pub use token::{BuildFault, Token};
