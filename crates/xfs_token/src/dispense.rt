@@ -54,20 +54,9 @@ fn value_of(pairs: &[Pair], number: u8) -> Option<&[u8]>
     requires { number ≤ 9 }
     ensures { option_map (λ v. v.now) result ≡ money.value_under (dispense_key number) (map pair_of pairs.now) }
 {
-    value_under(
-        pairs,
-        &[
-            b'D',
-            b'I',
-            b'S',
-            b'P',
-            b'E',
-            b'N',
-            b'S',
-            b'E',
-            b'0' + number,
-        ],
-    )
+    let mut key = *b"DISPENSE0";
+    key[8] += number;
+    value_under(pairs, &key)
 }
 
 fn value_under<'a>(pairs: &'a [Pair], key: &[u8]) -> Option<&'a [u8]>

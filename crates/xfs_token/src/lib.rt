@@ -2,6 +2,8 @@
 #![tactic(auto)]
 
 mod amount;
+#[cfg(test)]
+mod amount_tests;
 mod digits;
 mod dispense;
 mod faults;

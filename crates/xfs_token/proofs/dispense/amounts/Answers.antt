@@ -28,7 +28,7 @@ loop-number-init c =
     let P : List (List ℕ × ℕ) → Type 0 = λ a. IsAmounts a in
     record {
       same = step_some 1 c.args.token.now.pairs [] c.in_ok-value_of.field-0.now (c.in_ok-currency.currency, c.in_ok-currency.amount.0) (omega arith) (omega arith) here c.in_ok-currency.ensures.found may
-      ∙ ap (λ a. gathered a (drop (2 - 1) (dispense_values c.args.token.now.pairs))) (sym c.in_ok-amounts.ensures.found);
+          ∙ ap (λ a. gathered a (drop (2 - 1) (dispense_values c.args.token.now.pairs))) (sym c.in_ok-amounts.ensures.found);
       valid = subst P (sym c.in_ok-amounts.ensures.found) (one_valid c.in_ok-currency.currency c.in_ok-currency.amount.0 pay);
     }
 
@@ -62,8 +62,8 @@ loop-number-preserved c =
     let P : List (List ℕ × ℕ) → Type 0 = λ a. IsAmounts a in
     record {
       same = c.loop-number.invariant.same
-      ∙ step_some c.loop-number.number c.args.token.now.pairs c.loop-number.amounts c.in-Some.text.now (c.in_ok-currency-2.currency, c.in_ok-currency-2.amount.0) (omega arith) (omega arith) here c.in_ok-currency-2.ensures.found may
-      ∙ ap (λ a. gathered a (drop (c.loop-number.number + 1 - 1) (dispense_values c.args.token.now.pairs))) (sym c.if-not-add.ensures.added);
+          ∙ step_some c.loop-number.number c.args.token.now.pairs c.loop-number.amounts c.in-Some.text.now (c.in_ok-currency-2.currency, c.in_ok-currency-2.amount.0) (omega arith) (omega arith) here c.in_ok-currency-2.ensures.found may
+          ∙ ap (λ a. gathered a (drop (c.loop-number.number + 1 - 1) (dispense_values c.args.token.now.pairs))) (sym c.if-not-add.ensures.added);
       valid = subst P (sym c.if-not-add.ensures.added) (more_valid c.loop-number.amounts c.in_ok-currency-2.currency c.in_ok-currency-2.amount.0 c.loop-number.invariant.valid may);
     }
 
