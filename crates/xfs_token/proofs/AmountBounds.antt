@@ -1,13 +1,13 @@
 -- An amount that is read may be paid: it has a currency's letters and is at most 999,999,999,999 thousandths.
-use Rattle.std.proofs.Common.{◌≡◌, ℕ, zero, suc, ◌+◌, ◌-◌, ◌*◌, ◌<◌, ◌≤◌, ◌==◌, Bool, true, false, ◌&&◌, List, [], ◌∷◌, ◌++◌, length, take, drop, refl, sym, ◌∙◌, ap, subst, arith, inl, inr}
-use Rattle.std.specs.Prelude.{codes, Some, None, fold, find, nat_le, if◌then◌else◌, IfSome, unwrap_or}
+use Rattle.std.proofs.Common.{◌≡◌, ℕ, zero, suc, ◌+◌, ◌-◌, ◌*◌, ◌<◌, ◌≤◌, ◌==◌, Bool, true, ◌&&◌, List, [], ◌∷◌, length, take, drop, refl, arith, inl, inr}
+use Rattle.std.specs.Prelude.{Some, None, fold, nat_le, IfSome, unwrap_or}
 use Rattle.std.specs.Option.{option_map, option_and_then}
 use Rattle.std.specs.declared.option.Option.{Option}
 use Rattle.std.specs.List.{list_all, before_first}
 use Rattle.std.specs.Str.{bytes_eq}
-use Rattle.std.proofs.lemmas.Bool.{and_parts, and_from, le-leb, leb-true, eqb-true, cases_Bool}
+use Rattle.std.proofs.lemmas.Bool.{and_parts, and_from, le-leb, leb-true, cases_Bool}
 use Rattle.xfs_token.specs.Token.{Parts, is_digit}
-use Rattle.xfs_token.specs.Amounts.{number_of, is_whole, is_part, is_currency, is_payable, thousandths, filled, read_amount, read_amounts, amount_from, amount_before, valid_amounts, without_gap, dispense_values, are_new, amounts_of, amount_in, amount}
+use Rattle.xfs_token.specs.Amounts.{number_of, is_whole, is_part, is_currency, is_payable, thousandths, filled, read_amount, read_amounts, amount_from, valid_amounts, without_gap, dispense_values, are_new, amounts_of, amount_in, amount}
 
 -- a number, ten times as often
 times : ℕ → ℕ → ℕ

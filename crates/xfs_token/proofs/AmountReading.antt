@@ -1,6 +1,6 @@
 -- The text of one amount, by its parts: a number, what stands from its point on, and a currency's letters.
-use Rattle.std.proofs.Common.{◌≡◌, ℕ, ◌+◌, ◌-◌, ◌*◌, ◌<◌, ◌≤◌, ◌==◌, ◌&&◌, Bool, true, false, List, [], ◌∷◌, length, take, drop, get_or, None, Some, refl, ap, sym, ◌∙◌, arith}
-use Rattle.std.specs.Prelude.{IfSome, IfNone, ◌↔◌, nat_le}
+use Rattle.std.proofs.Common.{◌≡◌, ℕ, ◌-◌, ◌*◌, ◌<◌, ◌==◌, Bool, true, false, List, [], ◌∷◌, length, take, drop, get_or, None, Some, refl, ap, sym, arith}
+use Rattle.std.specs.Prelude.{IfSome, IfNone, ◌↔◌}
 use Rattle.std.specs.List.{list_all, position_or_len}
 use Rattle.std.specs.declared.option.Option.{Option}
 use Rattle.std.proofs.lemmas.Bool.{false_from_ne_true, and_parts, and_from, leb-true, le-leb, eq-eqb, eqb-true}

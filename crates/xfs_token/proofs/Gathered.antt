@@ -1,15 +1,15 @@
 -- The amounts of a token, gathered from its dispense values one by one.
-use Rattle.std.proofs.Common.{◌≡◌, ℕ, zero, suc, ◌+◌, ◌-◌, ◌<◌, ◌≤◌, ◌&&◌, inl, inr, Bool, true, false, List, [], ◌∷◌, ◌++◌, length, drop, map, None, Some, refl, ap, sym, subst, ◌∙◌, ◌||◌, arith, Bor}
+use Rattle.std.proofs.Common.{◌≡◌, ℕ, zero, suc, ◌+◌, ◌-◌, ◌<◌, ◌≤◌, ◌&&◌, inl, inr, Bool, true, false, List, [], ◌∷◌, ◌++◌, length, drop, None, Some, refl, ap, sym, subst, ◌∙◌, ◌||◌, arith, Bor}
 use Rattle.std.specs.Prelude.{nat_le, is_some, IfSome}
 use Rattle.std.specs.Option.{option_map, option_and_then}
 use Rattle.std.specs.List.{list_all, list_any}
 use Rattle.std.specs.declared.option.Option.{Option}
-use Rattle.std.proofs.lemmas.Bool.{and_from, le-leb, cases_Bool, leb-true, and_parts}
+use Rattle.std.proofs.lemmas.Bool.{and_from, le-leb, cases_Bool, and_parts}
 use Rattle.std.proofs.Math.ListN.{drop_of_length-le}
 use Rattle.xfs_token.specs.Token.{Parts}
 use Rattle.xfs_token.specs.Amounts.{read_amount, read_amounts, are_new, is_payable, may_add, IsAmounts, value_under, dispense_key, dispense_values, without_gap, valid_amounts, amounts_of}
 use Rattle.xfs_token.proofs.AmountBounds.{payable-read_amounts}
-use Rattle.xfs_token.proofs.AmountsBehind.{read_onto, onto_some, onto_full, onto_none, onto_read, onto_all, ReadsBehind, MayFollow}
+use Rattle.xfs_token.proofs.AmountsBehind.{read_onto, onto_some, onto_full, onto_none, onto_read, onto_all}
 
 -- amounts, and behind them those of the values that are left
 abbrev pub gathered : List (List ℕ × ℕ) → List (Option (List ℕ)) → Option (List (List ℕ × ℕ))

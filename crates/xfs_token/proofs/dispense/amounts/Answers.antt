@@ -1,4 +1,4 @@
-use Rattle.std.proofs.Common.{◌≡◌, ◌∙◌, ◌+◌, ◌-◌, drop, is_some, ◌∷◌, [], ◌++◌, List, ℕ, None, Some, ap, sym, subst, arith}
+use Rattle.std.proofs.Common.{◌≡◌, ◌∙◌, ◌+◌, ◌-◌, drop, is_some, [], List, ℕ, None, ap, sym, subst, arith}
 use Rattle.std.specs.List.{list_any}
 use Rattle.xfs_token.specs.Amounts.{dispense_values, IsAmounts, amounts_of, value_under, dispense_key}
 use Rattle.xfs_token.proofs.AmountReading.{IfNone_from}

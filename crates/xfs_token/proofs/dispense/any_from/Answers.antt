@@ -1,4 +1,4 @@
-use Rattle.std.proofs.Common.{◌≡◌, ◌∙◌, sym, map, arith, refl}
+use Rattle.std.proofs.Common.{◌∙◌, sym, map, arith, refl}
 use Rattle.xfs_token.specs.Pairs.{pair_of}
 use Rattle.xfs_token.proofs.Gathered.{any_here, any_later, any_end}
 use Rattle.xfs_token.proofs.dispense.any_from.Goals as goal
