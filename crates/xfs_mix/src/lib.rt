@@ -3,6 +3,8 @@
 
 mod asked;
 mod mix;
+#[cfg(test)]
+mod tests;
 
 pub use asked::{CountFault, check};
 pub use mix::{MixFault, least};
