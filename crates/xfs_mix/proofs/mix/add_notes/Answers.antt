@@ -4,7 +4,7 @@ use Rattle.std.proofs.lemmas.List.{length-set}
 use Rattle.xfs_mix.specs.Mix.{IsMore, IsPassed, with_more, better_of}
 use Rattle.xfs_mix.proofs.Raised.{raised_set}
 use Rattle.xfs_mix.proofs.Best.{passed_one, passed_all}
-use Rattle.xfs_mix.proofs.least.add_notes.Goals as goal
+use Rattle.xfs_mix.proofs.mix.add_notes.Goals as goal
 
 pub loop-a-preserved : goal.loop-a-preserved
 loop-a-preserved c =
@@ -15,8 +15,13 @@ loop-a-preserved c =
     let in_limits : c.args.u < length c.args.limits.now.0 = omega (arith, c.requires.eight, c.requires.unit) in
     let new = with_more c.args.limits.now c.args.u c.args.n in
     let more : IsMore ks c.args.currency c.args.u c.args.n kind.value c.args.limits.now new = record {
-        kind = kind; stands = stands; of = facts.0; worth = refl; some = c.requires.notes.0; few = c.requires.notes.1;
-        raised = raised_set c.args.limits.now.0 c.args.u c.args.n in_limits;
+      kind = kind;
+      stands = stands;
+      of = facts.0;
+      worth = refl;
+      some = c.requires.notes.0;
+      few = c.requires.notes.1;
+      raised = raised_set c.args.limits.now.0 c.args.u c.args.n in_limits;
     } in
     let table = c.loop-a.table in
     let a = c.loop-a.a - 1 in
@@ -33,7 +38,12 @@ returns-clause-table c =
     let in_limits : c.args.u < length c.args.limits.now.0 = omega (arith, c.requires.eight, c.requires.unit) in
     let new = with_more c.args.limits.now c.args.u c.args.n in
     let more : IsMore ks c.args.currency c.args.u c.args.n kind.value c.args.limits.now new = record {
-        kind = kind; stands = stands; of = facts.0; worth = refl; some = c.requires.notes.0; few = c.requires.notes.1;
-        raised = raised_set c.args.limits.now.0 c.args.u c.args.n in_limits;
+      kind = kind;
+      stands = stands;
+      of = facts.0;
+      worth = refl;
+      some = c.requires.notes.0;
+      few = c.requires.notes.1;
+      raised = raised_set c.args.limits.now.0 c.args.u c.args.n in_limits;
     } in
     passed_all ks c.args.currency c.args.u c.args.n kind.value c.args.limits.now new more c.loop-a.a c.loop-a.table (omega arith) c.loop-a.invariant.2
