@@ -1,3 +1,6 @@
+pub mod AmountBounds
+pub mod AmountReading
+pub mod AmountsBehind
 pub mod AmountsLemmas
 pub mod AmountText
 pub mod Ends

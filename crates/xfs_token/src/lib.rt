@@ -1,7 +1,9 @@
 //! The dispense token: its one spelling, both ways, its HMAC and its amounts.
 #![tactic(auto)]
 
+mod amount;
 mod amounts;
+mod digits;
 mod faults;
 mod grammar;
 mod minting;
@@ -13,6 +15,7 @@ mod tests;
 mod text;
 mod token;
 
+pub use amount::read_amount;
 pub use amounts::Amounts;
 pub use faults::TokenFault;
 pub use minting::{MakeFault, make};
