@@ -4,6 +4,7 @@ pub mod Ends
 pub mod Fresh
 pub mod Front
 pub mod HexText
+pub mod Joined
 pub mod Keys
 pub mod Length
 pub mod Minted

@@ -6,6 +6,7 @@ mod faults;
 mod grammar;
 mod minting;
 mod pair;
+mod reader;
 mod reading;
 mod signing;
 #[cfg(test)]
@@ -16,5 +17,6 @@ mod token;
 pub use amounts::Amounts;
 pub use faults::TokenFault;
 pub use minting::{MakeFault, make};
+pub use reader::read;
 pub use signing::{WriteFault, genuine, write};
 pub use token::{BuildFault, Token};
