@@ -11,5 +11,6 @@ pub mod Minted
 pub mod Runs
 pub mod Stuck
 pub mod Tails
+pub mod Whole
 pub mod Words
 pub mod Written
