@@ -143,7 +143,7 @@ loose_as text nonce rest number t f a = record {
   formed = a.formed;
   small = f.small;
   is = f.is ∙ ap (λ (l : List ℕ). codes "NONCE=" ++ (l ++ 44 ∷ (codes "TOKENFORMAT=1,TOKENLENGTH=" ++ (four_digits number ++ 44 ∷ rest)))) (sym a.nonce_kept)
-    ∙ ap (λ (l : List ℕ). codes "NONCE=" ++ (t.nonce ++ 44 ∷ (codes "TOKENFORMAT=1,TOKENLENGTH=" ++ (four_digits number ++ 44 ∷ l)))) a.is ∙ sym (form_is t number);
+      ∙ ap (λ (l : List ℕ). codes "NONCE=" ++ (t.nonce ++ 44 ∷ (codes "TOKENFORMAT=1,TOKENLENGTH=" ++ (four_digits number ++ 44 ∷ l)))) a.is ∙ sym (form_is t number);
 }
 
 -- what ends the reading of a part ends that of the whole

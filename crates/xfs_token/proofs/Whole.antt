@@ -56,8 +56,8 @@ loose_from text m =
       formed = record { nonce = a.good; pairs = e.follow; mac = e.is_mac };
       small = l.small;
       text = m.is ∙ ap (λ (x : List ℕ). codes "NONCE=" ++ x) a.is ∙ ap (λ (x : List ℕ). codes "NONCE=" ++ (a.nonce ++ 44 ∷ x)) f.is
-        ∙ ap (λ (x : List ℕ). codes "NONCE=" ++ (a.nonce ++ 44 ∷ (codes "TOKENFORMAT=1,TOKENLENGTH=" ++ x))) l.is
-        ∙ ap (λ (x : List ℕ). codes "NONCE=" ++ (a.nonce ++ 44 ∷ (codes "TOKENFORMAT=1,TOKENLENGTH=" ++ (four_digits l.number ++ 44 ∷ x)))) e.is ∙ sym (form_is t l.number);
+          ∙ ap (λ (x : List ℕ). codes "NONCE=" ++ (a.nonce ++ 44 ∷ (codes "TOKENFORMAT=1,TOKENLENGTH=" ++ x))) l.is
+          ∙ ap (λ (x : List ℕ). codes "NONCE=" ++ (a.nonce ++ 44 ∷ (codes "TOKENFORMAT=1,TOKENLENGTH=" ++ (four_digits l.number ++ 44 ∷ x)))) e.is ∙ sym (form_is t l.number);
     }
 
 pub left_within : (L : List ℕ → Type 0) (text : List ℕ) (left : ℕ) → IsStuck L text left → left ≤ length text

@@ -8,7 +8,9 @@ ghost use Rattle.xfs_token.specs.Token.{IsMac, Spells, pairs_text};
 
 use crate::faults::Stop;
 use crate::pair::Pair;
-use crate::reading::{begins, common_len, format_field, is_mac_key, key_len, mac_of, nonce_len, value_len};
+use crate::reading::{
+    begins, common_len, format_field, is_mac_key, key_len, mac_of, nonce_len, value_len,
+};
 use crate::{Token, TokenFault};
 use std::alloc::Global;
 

@@ -20,5 +20,5 @@ returns-in_err-nonce-clause-err c =
 pub returns-in_err-number-clause-err : goal.returns-in_err-number-clause-err
 returns-in_err-number-clause-err c =
     let h : IsStuck Loose c.args.bytes.now c.in_err-number.field-0.0 =
-      format_stuck_whole c.args.bytes.now c.split_at.result.1.now c.in_ok-nonce.nonce.now c.in_ok-nonce.rest.now c.common_len-n.result c.in_err-number.field-0.0 c.common_len-n.ensures c.if-n-lt6.false c.split_at.ensures.back c.in_ok-nonce.ensures.ok c.in_err-number.ensures.err in
+    format_stuck_whole c.args.bytes.now c.split_at.result.1.now c.in_ok-nonce.nonce.now c.in_ok-nonce.rest.now c.common_len-n.result c.in_err-number.field-0.0 c.common_len-n.ensures c.if-n-lt6.false c.split_at.ensures.back c.in_ok-nonce.ensures.ok c.in_err-number.ensures.err in
     search rules

@@ -25,10 +25,10 @@ returns-in_err-mac_at-clause-err c =
     let s = c.in_err-mac_at.field-0.0 in
     let key : IsKeyThen ps rest c.in_ok-key.key.now c.in_ok-key.behind.now = subst (λ (l : List (List ℕ × List ℕ)). IsKeyThen l rest c.in_ok-key.key.now c.in_ok-key.behind.now) c.pairs.ensures.pairs c.in_ok-key.ensures.ok in
     let h : IsStopped (Tail []) c.args.text.now s =
-      stopped MacEnd (Tail []) c.in_ok-key.behind.now c.args.text.now s
-      (λ left m. pairs_stuck c.args.text.now rest ps left c.loop-token.invariant.is c.pairs.ensures.formed.pairs
-        (mac_stuck ps rest c.in_ok-key.key.now c.in_ok-key.behind.now left key (sym c.is_mac_key.ensures ∙ c.if-is_mac_key.true) m))
-      c.in_err-mac_at.ensures.err in
+    stopped MacEnd (Tail []) c.in_ok-key.behind.now c.args.text.now s
+    (λ left m. pairs_stuck c.args.text.now rest ps left c.loop-token.invariant.is c.pairs.ensures.formed.pairs
+    (mac_stuck ps rest c.in_ok-key.key.now c.in_ok-key.behind.now left key (sym c.is_mac_key.ensures ∙ c.if-is_mac_key.true) m))
+    c.in_err-mac_at.ensures.err in
     search rules
 
 pub returns-then-is_mac_key-clause-ok : goal.returns-then-is_mac_key-clause-ok
@@ -47,15 +47,15 @@ returns-in_err-value-clause-err c =
     let s = c.in_err-value.field-0.0 in
     let key : IsKeyThen ps rest c.in_ok-key.key.now c.in_ok-key.behind.now = subst (λ (l : List (List ℕ × List ℕ)). IsKeyThen l rest c.in_ok-key.key.now c.in_ok-key.behind.now) c.pairs.ensures.pairs c.in_ok-key.ensures.ok in
     let h : IsStopped (Tail []) c.args.text.now s =
-      stopped (ValueThen ps c.in_ok-key.key.now) (Tail []) c.in_ok-key.behind.now c.args.text.now s
-      (λ left m. pairs_stuck c.args.text.now rest ps left c.loop-token.invariant.is c.pairs.ensures.formed.pairs
-        (value_stuck_whole ps rest c.in_ok-key.key.now c.in_ok-key.behind.now left key (sym c.is_mac_key.ensures ∙ c.if-is_mac_key.false) m))
-      (c.in_err-value.ensures.err ps c.in_ok-key.key.now) in
+    stopped (ValueThen ps c.in_ok-key.key.now) (Tail []) c.in_ok-key.behind.now c.args.text.now s
+    (λ left m. pairs_stuck c.args.text.now rest ps left c.loop-token.invariant.is c.pairs.ensures.formed.pairs
+    (value_stuck_whole ps rest c.in_ok-key.key.now c.in_ok-key.behind.now left key (sym c.is_mac_key.ensures ∙ c.if-is_mac_key.false) m))
+    (c.in_err-value.ensures.err ps c.in_ok-key.key.now) in
     search rules
 
 pub loop-token-preserved : goal.loop-token-preserved
 loop-token-preserved c = record {
   nonce_kept = ap (λ (t : Parts). t.nonce) c.in_ok-push.ensures.ok ∙ c.loop-token.invariant.nonce_kept;
   is = pair_read c.args.text.now c.loop-token.rest.now c.in_ok-key.key.now c.in_ok-key.behind.now c.in_ok-value.value.now c.in_ok-value.after.now c.loop-token.token.pairs c.loop-token.invariant.is c.in_ok-key.ensures.ok.is c.in_ok-value.ensures.ok.is
-    ∙ ap (λ (t : Parts). front_text t.pairs ++ c.in_ok-value.after.now) (sym c.in_ok-push.ensures.ok);
+      ∙ ap (λ (t : Parts). front_text t.pairs ++ c.in_ok-value.after.now) (sym c.in_ok-push.ensures.ok);
 }
