@@ -7,11 +7,13 @@ pub mod Ends
 pub mod Fresh
 pub mod Front
 pub mod HexText
+pub mod Joined
 pub mod Keys
 pub mod Length
 pub mod Minted
 pub mod Runs
 pub mod Stuck
 pub mod Tails
+pub mod Whole
 pub mod Words
 pub mod Written

@@ -8,6 +8,7 @@ mod faults;
 mod grammar;
 mod minting;
 mod pair;
+mod reader;
 mod reading;
 mod signing;
 #[cfg(test)]
@@ -19,5 +20,6 @@ pub use amount::read_amount;
 pub use amounts::Amounts;
 pub use faults::TokenFault;
 pub use minting::{MakeFault, make};
+pub use reader::read;
 pub use signing::{WriteFault, genuine, write};
 pub use token::{BuildFault, Token};
