@@ -4,6 +4,8 @@
 mod asked;
 mod mix;
 #[cfg(test)]
+mod search;
+#[cfg(test)]
 mod tests;
 
 pub use asked::{CountFault, check};

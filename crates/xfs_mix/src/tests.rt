@@ -33,6 +33,45 @@ fn the_fewest_notes_of_the_bench(rt: HostRuntime) {
     }
 }
 
+fn euros(rt: &impl Abort, values: &[u32; 8]) -> UnitTable {
+    let eur = currency(rt, b"EUR");
+    let kinds = values.map(|value| NoteKind {
+        currency: eur,
+        value,
+    });
+    UnitTable::new(&kinds).expect(rt, "a table")
+}
+
+#[test]
+fn eight_units_of_one_currency(rt: HostRuntime) {
+    let units = euros(&rt, &[1, 2, 5, 10, 20, 50, 100, 200]);
+    let eur = currency(&rt, b"EUR");
+    for (each, amount, answer) in [
+        (9, 388, Ok(Counts([1; 8]))),
+        (7, 2716, Ok(Counts([7; 8]))),
+        (8, 3104, Err(MixFault::TooMany)),
+        (8, 3105, Err(MixFault::Nothing)),
+    ] {
+        let mix = least(rt.alloc(), &units, &Counts([each; 8]), eur, amount);
+        assert_eq!(rt; mix, answer, "{amount}");
+    }
+}
+
+#[test]
+fn a_million_in_notes_of_1(rt: HostRuntime) {
+    let units = euros(&rt, &[1; 8]);
+    let eur = currency(&rt, b"EUR");
+    for (first, answer) in [
+        (1_000_000, MixFault::TooMany),
+        (999_999, MixFault::Nothing),
+        (10_000, MixFault::Nothing),
+    ] {
+        let have = Counts([first, 0, 0, 0, 0, 0, 0, 0]);
+        let mix = least(rt.alloc(), &units, &have, eur, 1_000_000);
+        assert_eq!(rt; mix, Err(answer), "{first}");
+    }
+}
+
 // For 75 the largest note first would take one of 40, one of 25 and ten of 1.
 #[test]
 fn fewer_than_the_largest_first(rt: HostRuntime) {
