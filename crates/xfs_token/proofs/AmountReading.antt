@@ -81,3 +81,7 @@ read_is text =
 
 pub amount_parts : (text number letters whole part : List ℕ) (n : ℕ) → number ≡ take (length text - 3) text → letters ≡ drop (length text - 3) text → n ≡ position_or_len (λ b. b == 46) number → whole ≡ take n number → part ≡ drop n number → read_amount text ≡ amount_from whole part letters
 amount_parts text number letters whole part n number_is letters_is n_is whole_is part_is = rw (whole_is, part_is, n_is, number_is, letters_is) (read_is text)
+
+pub IfNone_from : {A : Type 0} (r : Option A) (P : Type 0) → P → IfNone r P
+IfNone_from None P h = h
+IfNone_from (Some a) P h = tt

@@ -6,6 +6,7 @@ pub mod AmountText
 pub mod Ends
 pub mod Fresh
 pub mod Front
+pub mod Gathered
 pub mod HexText
 pub mod Joined
 pub mod Keys

@@ -2,11 +2,14 @@
 #![tactic(auto)]
 
 mod amount;
-mod amounts;
+#[cfg(test)]
+mod amount_tests;
 mod digits;
+mod dispense;
 mod faults;
 mod grammar;
 mod minting;
+mod money;
 mod pair;
 mod reader;
 mod reading;
@@ -17,9 +20,10 @@ mod text;
 mod token;
 
 pub use amount::read_amount;
-pub use amounts::Amounts;
+pub use dispense::amounts;
 pub use faults::TokenFault;
 pub use minting::{MakeFault, make};
+pub use money::Amounts;
 pub use reader::read;
 pub use signing::{WriteFault, genuine, write};
 pub use token::{BuildFault, Token};

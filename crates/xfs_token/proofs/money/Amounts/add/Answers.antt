@@ -3,7 +3,7 @@ use Rattle.std.specs.Prelude.{slice_set}
 use Rattle.std.proofs.lemmas.List.{take_more_set, length-take-le, length-set}
 use Rattle.xfs_token.specs.Amounts.{IsAmounts, is_currency, has_currency}
 use Rattle.xfs_token.proofs.AmountsLemmas.{IsAmounts-push}
-use Rattle.xfs_token.proofs.amounts.Amounts.add.Goals as goal
+use Rattle.xfs_token.proofs.money.Amounts.add.Goals as goal
 
 pub invariant_of-self : goal.invariant_of-self
 invariant_of-self c =
