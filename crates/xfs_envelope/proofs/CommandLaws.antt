@@ -1,11 +1,11 @@
 -- The command of a header whose fields are right.
-use Rattle.std.proofs.Common.{◌≡◌, ℕ, List, Bool, true, false, Option, Some, None, Result, Ok, codes, refl}
+use Rattle.std.proofs.Common.{◌≡◌, ℕ, List, true, Option, Some, None, Result, Ok, codes, refl}
 use Rattle.std.specs.Option.{is_some}
 use Rattle.std.proofs.lemmas.Bool.{false≢true}
 use Rattle.serde_json.specs.Data.{Data}
 use Rattle.xfs_envelope.specs.declared.command.Why.{Why}
 use Rattle.xfs_envelope.specs.declared.command.Why.TheVariants.{BadVersion, BadPayload}
-use Rattle.xfs_envelope.specs.Commands.{Command, command_of, given}
+use Rattle.xfs_envelope.specs.Commands.{command_of, given}
 use Rattle.xfs_envelope.specs.Fields.{is_of_type, name_at, id_at, timeout_at, version_at, payload_at, optional, or_else, empty}
 
 with_version : {X B : Type 0} (version : Option X) (rest : Result B Why) → is_some version ≡ true → given version BadVersion (λ _. rest) ≡ rest

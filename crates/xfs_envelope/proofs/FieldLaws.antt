@@ -1,10 +1,9 @@
 -- A member that is a text, and what the text is read as.
-use Rattle.std.proofs.Common.{◌≡◌, ℕ, List, Bool, true, false, Option, Some, None, option_and_then, Result, Ok, refl, sym, ap}
+use Rattle.std.proofs.Common.{◌≡◌, ℕ, List, Option, Some, None, option_and_then, Ok, sym, ap}
 use Rattle.std.specs.Option.{is_some}
 use Rattle.std.proofs.lemmas.Bool.{false≢true}
 use Rattle.serde_json.specs.Data.{Data}
 use Rattle.serde_json.specs.Find.{as_str}
-use Rattle.xfs_json.specs.declared.members.Shape.{Shape}
 use Rattle.xfs_json.specs.Members.{member_as, shaped}
 use Rattle.xfs_envelope.specs.Fields.{needed}
 

@@ -1,5 +1,5 @@
 -- An acknowledge that was written is read back.
-use Rattle.std.proofs.Common.{◌≡◌, ℕ, ◌<◌, ◌^◌, ◌-◌, List, Bool, true, Option, Some, None, if◌then◌else◌, refl, arith}
+use Rattle.std.proofs.Common.{◌≡◌, ℕ, ◌<◌, ◌^◌, ◌-◌, List, true, Option, Some, None, refl, arith}
 use Rattle.std.specs.Option.{IfSome}
 use Rattle.xfs_json.specs.Members.{whole_in}
 use Rattle.xfs_envelope.specs.declared.code.Status.{Status}

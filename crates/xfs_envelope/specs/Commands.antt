@@ -1,5 +1,5 @@
 -- A command by its text: at most 65,536 bytes, whose header gives type, name, request id, timeout and version in this order, and then the payload; the first that is wrong is the refusal.
-use Rattle.std.specs.Prelude.{ℕ, List, codes, length, not, is_some, Option, Some, None, Result, Ok, Err, nat_lt, if◌then◌else◌}
+use Rattle.std.specs.Prelude.{ℕ, List, codes, length, not, Option, Some, None, Result, Ok, Err, nat_lt, if◌then◌else◌}
 use Rattle.serde_json.specs.Data.{Data}
 use Rattle.serde_json.specs.View.{view}
 use Rattle.xfs_json.specs.Reading.{reading}

@@ -1,7 +1,7 @@
 -- The fields of a message, each as its member's value gives it: nothing where the member is absent or null, and Shape where it breaks its rule.
-use Rattle.std.specs.Prelude.{ℕ, ◌-◌, ◌^◌, List, codes, Bool, Option, Some, None, option_map, option_and_then, is_some, Result, Ok, Err, if◌then◌else◌}
+use Rattle.std.specs.Prelude.{ℕ, ◌-◌, ◌^◌, List, codes, Bool, Option, Some, None, option_and_then, is_some, Result, Ok, Err, if◌then◌else◌}
 use Rattle.std.specs.Str.{bytes_eq}
-use Rattle.serde_json.specs.Data.{Data, object, Members, no_members}
+use Rattle.serde_json.specs.Data.{Data, object, no_members}
 use Rattle.serde_json.specs.Find.{get, as_str, as_object}
 use Rattle.xfs_json.specs.declared.members.Shape.{Shape}
 use Rattle.xfs_json.specs.Members.{member_of, member_as, whole_in}

@@ -1,5 +1,5 @@
 -- What a service answers, by its text: the header's type says which fields are looked at, each of them by its rule.
-use Rattle.std.specs.Prelude.{ℕ, List, codes, Option, Some, None, option_map, option_and_then, if◌then◌else◌}
+use Rattle.std.specs.Prelude.{ℕ, List, codes, Option, None, option_map, option_and_then, if◌then◌else◌}
 use Rattle.serde_json.specs.Data.{Data}
 use Rattle.serde_json.specs.View.{view}
 use Rattle.xfs_json.specs.Reading.{reading}

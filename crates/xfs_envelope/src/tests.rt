@@ -1,8 +1,12 @@
+ghost use Rattle.std.specs.Prelude.{IfOk};
+ghost use Rattle.serde_json.specs.View.{view};
+ghost use Rattle.xfs_envelope.specs.Messages.{IsPayload};
+
 use super::*;
 use serde_json::json;
-use std::alloc::Global;
+use std::alloc::{AllocError, Global};
 use std::test::Fail;
-use xfs_json::Value;
+use xfs_json::{Map, Value};
 
 const STATUS: &str =
     "{\"header\":{\"name\":\"Common.Status\",\"requestId\":1,\"type\":\"command\"}}";
@@ -12,7 +16,7 @@ fn a_command_without_timeout_and_payload(rt: HostRuntime) -> Result<(), Fail> {
     let command = read(rt.alloc(), STATUS.as_bytes()).ok().ok_or("a command")?;
     assert_eq!(rt; command.name.as_str(), "Common.Status");
     assert_eq!(rt; (command.id, command.timeout), (1, 0));
-    assert!(rt; command.payload == Value::Object(xfs_json::Map::new(rt.alloc())));
+    assert!(rt; command.payload == Value::Object(Map::new(rt.alloc())));
     Ok(())
 }
 
@@ -148,100 +152,118 @@ fn as_text(bytes: &Vec<u8>) -> &str {
     str::from_utf8(bytes).unwrap_or("")
 }
 
+// Whether the acknowledge of these has this text, and is read back.
+fn is_acknowledge(
+    alloc: Global,
+    name: Option<&Name>,
+    id: Option<u64>,
+    status: Option<Status>,
+    text: &str,
+) -> bool {
+    match acknowledge(alloc, name, id, status) {
+        Ok(written) => as_text(&written) == text && is_told(alloc, &written, id, status),
+        Err(_) => false,
+    }
+}
+
+fn is_told(alloc: Global, written: &[u8], told_id: Option<u64>, told: Option<Status>) -> bool {
+    match read_answer(alloc, written) {
+        Ok(Answer::Acknowledge { id, status, .. }) => id == told_id && status == told,
+        _ => false,
+    }
+}
+
 #[test]
 fn acknowledges(rt: HostRuntime) -> Result<(), Fail> {
     let alloc = rt.alloc();
     let name = Name::new(alloc, "Common.Cancel".as_bytes())
         .ok()
         .ok_or("a name")?;
-    for (with_name, id, status, text) in [
-        (
-            true,
-            Some(2),
-            None,
-            "{\"header\":{\"name\":\"Common.Cancel\",\"requestId\":2,\"type\":\"acknowledge\",\"version\":\"2.0\"}}",
-        ),
-        (
-            true,
+    let accepted =
+        "{\"header\":{\"name\":\"Common.Cancel\",\"requestId\":2,\"type\":\"acknowledge\",\"version\":\"2.0\"}}";
+    assert!(rt; is_acknowledge(alloc, Some(&name), Some(2), None, accepted));
+    let refused =
+        "{\"header\":{\"name\":\"Common.Cancel\",\"requestId\":0,\"status\":\"invalidRequestID\",\"type\":\"acknowledge\",\"version\":\"2.0\"}}";
+    assert!(rt;
+        is_acknowledge(
+            alloc,
+            Some(&name),
             Some(0),
             Some(Status::InvalidRequestId),
-            "{\"header\":{\"name\":\"Common.Cancel\",\"requestId\":0,\"status\":\"invalidRequestID\",\"type\":\"acknowledge\",\"version\":\"2.0\"}}",
-        ),
-        (
-            false,
+            refused
+        )
+    );
+    let numbered =
+        "{\"header\":{\"requestId\":4,\"status\":\"tooManyRequests\",\"type\":\"acknowledge\",\"version\":\"2.0\"}}";
+    assert!(rt;
+        is_acknowledge(
+            alloc,
+            None,
             Some(4),
             Some(Status::TooManyRequests),
-            "{\"header\":{\"requestId\":4,\"status\":\"tooManyRequests\",\"type\":\"acknowledge\",\"version\":\"2.0\"}}",
-        ),
-        (
-            false,
-            None,
-            Some(Status::InvalidMessage),
-            "{\"header\":{\"status\":\"invalidMessage\",\"type\":\"acknowledge\",\"version\":\"2.0\"}}",
-        ),
-    ] {
-        let name = if with_name { Some(&name) } else { None };
-        let written = acknowledge(alloc, name, id, status).ok().ok_or("memory")?;
-        assert_eq!(rt; as_text(&written), text);
-        let Ok(
-            Answer::Acknowledge {
-                id: heard,
-                name: named,
-                status: why,
-            },
-        ) = read_answer(alloc, &written)
-        else {
-            return Err("an acknowledge".into());
-        };
-        assert_eq!(rt; (heard, named.is_some(), why), (id, with_name, status));
-    }
+            numbered
+        )
+    );
+    let bare =
+        "{\"header\":{\"status\":\"invalidMessage\",\"type\":\"acknowledge\",\"version\":\"2.0\"}}";
+    assert!(rt; is_acknowledge(alloc, None, None, Some(Status::InvalidMessage), bare));
     Ok(())
 }
 
+fn reason(alloc: Global) -> Result<Value, AllocError>
+    ensures { IfOk result (λ v. IsPayload (view v)) }
+{
+    json!(in alloc; {"reasonDescription": "reset"})
+}
+
+fn nothing(alloc: Global) -> Value
+    ensures { IsPayload (view result) }
+{
+    Value::Object(Map::new(alloc))
+}
+
 #[test]
-fn completions_events_and_unsolicited_messages(rt: HostRuntime) -> Result<(), Fail> {
+fn completions(rt: HostRuntime) -> Result<(), Fail> {
     let alloc = rt.alloc();
-    let name = Name::new(alloc, "Common.GetCommandNonce".as_bytes())
+    let name = Name::new(alloc, "Common.ClearCommandNonce".as_bytes())
         .ok()
         .ok_or("a name")?;
-    let payload = json!(in alloc; {"commandNonce": "N"})?;
+    let payload = reason(alloc)?;
     let written = completion(alloc, &name, 1, Code::Success, &payload)
         .ok()
         .ok_or("memory")?;
     assert_eq!(rt;
         as_text(&written),
-        "{\"header\":{\"completionCode\":\"success\",\"name\":\"Common.GetCommandNonce\",\"requestId\":1,\"type\":\"completion\",\"version\":\"2.0\"},\"payload\":{\"commandNonce\":\"N\"}}"
+        "{\"header\":{\"completionCode\":\"success\",\"name\":\"Common.ClearCommandNonce\",\"requestId\":1,\"type\":\"completion\",\"version\":\"2.0\"},\"payload\":{\"reasonDescription\":\"reset\"}}"
     );
-    let Ok(
-        Answer::Completion {
-            id,
-            code,
-            payload: heard,
-            ..
-        },
-    ) = read_answer(alloc, &written)
-    else {
+    let read = read_answer(alloc, &written);
+    let Ok(Answer::Completion { id, code, .. }) = read else {
         return Err("a completion".into());
     };
     assert_eq!(rt; (id, code), (1, Code::Success));
-    assert!(rt; heard == payload);
+    Ok(())
+}
 
-    let empty = json!(in alloc; {})?;
-    let written = event(alloc, "CardReader.InsertCardEvent", 7, &empty)
+#[test]
+fn events(rt: HostRuntime) -> Result<(), Fail> {
+    let alloc = rt.alloc();
+    let payload = nothing(alloc);
+    let written = event(alloc, "CardReader.InsertCardEvent", 7, &payload)
         .ok()
         .ok_or("memory")?;
     assert_eq!(rt;
         as_text(&written),
         "{\"header\":{\"name\":\"CardReader.InsertCardEvent\",\"requestId\":7,\"type\":\"event\",\"version\":\"2.0\"},\"payload\":{}}"
     );
-    assert!(rt;
-        matches!(
-            read_answer(alloc, &written),
-            Ok(Answer::Event { id: 7, .. })
-        )
-    );
+    let read = read_answer(alloc, &written);
+    assert!(rt; matches!(read, Ok(Answer::Event { id: 7, .. })));
+    Ok(())
+}
 
-    let payload = json!(in alloc; {"reasonDescription": "reset"})?;
+#[test]
+fn unsolicited_messages(rt: HostRuntime) -> Result<(), Fail> {
+    let alloc = rt.alloc();
+    let payload = reason(alloc)?;
     let written = unsolicited(alloc, "Common.NonceClearedEvent", &payload)
         .ok()
         .ok_or("memory")?;
@@ -249,7 +271,8 @@ fn completions_events_and_unsolicited_messages(rt: HostRuntime) -> Result<(), Fa
         as_text(&written),
         "{\"header\":{\"name\":\"Common.NonceClearedEvent\",\"type\":\"unsolicited\",\"version\":\"2.0\"},\"payload\":{\"reasonDescription\":\"reset\"}}"
     );
-    assert!(rt; matches!(read_answer(alloc, &written), Ok(Answer::Unsolicited { .. })));
+    let read = read_answer(alloc, &written);
+    assert!(rt; matches!(read, Ok(Answer::Unsolicited { .. })));
     Ok(())
 }
 

@@ -1,5 +1,5 @@
 -- What one more record makes of the bytes.
-use Rattle.std.proofs.Common.{◌≡◌, ◌≢◌, ◌⊎◌, inl, inr, ⊎_elim, ℕ, ◌+◌, ◌<◌, ◌≤◌, List, [], ◌∷◌, ◌++◌, length, take, drop, false, true, true≢false, Some, None, is_some, refl, sym, ◌∙◌, ap, ap₂, subst, arith, append_assoc, append-nil, length-append, take_at}
+use Rattle.std.proofs.Common.{◌≡◌, inl, inr, ℕ, ◌+◌, ◌<◌, List, [], ◌∷◌, ◌++◌, length, take, false, true, true≢false, Some, None, is_some, refl, sym, ◌∙◌, ap, ap₂, subst, arith, append_assoc, append-nil, length-append, take_at}
 use Rattle.std.specs.Prelude.{OnOk, Ok, Err, nat_lt, ◌||◌}
 use Rattle.std.proofs.lemmas.List.{length_push}
 use Rattle.xfs_journal.specs.declared.limits.Limits.{Limits}
@@ -11,7 +11,7 @@ use Rattle.std.specs.Prelude.{Bool}
 use Rattle.xfs_disk.specs.Disk.{Only, LeavesOnly}
 use Rattle.xfs_journal.proofs.Moments.{started}
 use Rattle.xfs_journal.specs.Gate.{IsClosed, IsOpened, IsEither}
-use Rattle.xfs_journal.specs.Image.{IsImage, IsRecord, Stands, front, blocks, framed, magic, size}
+use Rattle.xfs_journal.specs.Image.{IsImage, IsRecord, Stands, front, blocks, framed, magic}
 use Rattle.xfs_journal.specs.JournalView.{IsAtRest, IsKept, StandsForEither, passes}
 use Rattle.xfs_journal.specs.declared.record.Rec.{Rec}
 use Rattle.xfs_journal.proofs.Told.{on_told, from_told}

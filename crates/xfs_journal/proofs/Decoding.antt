@@ -1,7 +1,7 @@
 -- A record is found again in its body, so no two records have one body.
-use Rattle.std.proofs.Common.{◌≡◌, ◌⊎◌, inl, inr, ℕ, zero, suc, ◌+◌, ◌*◌, ◌<◌, ◌≤◌, ◌^◌, List, [], ◌∷◌, ◌++◌, length, take, drop, refl, sym, ◌∙◌, ap, ap₂, subst, arith, append_assoc, append-nil, length-append, take_at, drop_at}
+use Rattle.std.proofs.Common.{◌≡◌, ℕ, zero, suc, ◌*◌, ◌<◌, ◌≤◌, ◌^◌, List, [], ◌∷◌, ◌++◌, length, take, drop, refl, sym, ◌∙◌, ap, ap₂, arith, append_assoc, append-nil, length-append, drop_at}
 use Rattle.std.specs.Prelude.{All, ◌==◌, if◌then◌else◌}
-use Rattle.std.specs.Int.{to_be_bytes, from_be_bytes, w16, w32, w64}
+use Rattle.std.specs.Int.{to_be_bytes, from_be_bytes, w32, w64}
 use Rattle.std.specs.List.{flat_map}
 use Rattle.std.proofs.lemmas.List.Elements.{All-head, All-tail}
 use Rattle.std.proofs.lemmas.Nat.{from_be_bytes-to_be_bytes_4, from_be_bytes-to_be_bytes_8}
@@ -105,12 +105,12 @@ places-back p au at ao ak ar aj =
     let from_t : all ≡ u ++ (t ++ (o ++ (k ++ (r ++ j)))) = from_o ∙ append_assoc u t (o ++ (k ++ (r ++ j))) in
     let from_r : all ≡ (u ++ t ++ o ++ k) ++ (r ++ j) = append_assoc (u ++ t ++ o ++ k) r j in
     built p all
-        (ap counts_in from_t ∙ counts-back p.units (t ++ (o ++ (k ++ (r ++ j)))) au)
-        (ap (λ (l : List ℕ). counts_in (drop 32 l)) from_t ∙ ap counts_in (skip u (t ++ (o ++ (k ++ (r ++ j)))) 32 nu) ∙ counts-back p.transport (o ++ (k ++ (r ++ j))) at)
-        (ap (λ (l : List ℕ). counts_in (drop 64 l)) from_o ∙ ap counts_in (skip (u ++ t) (o ++ (k ++ (r ++ j))) 64 two) ∙ counts-back p.outlet (k ++ (r ++ j)) ao)
-        (ap (λ (l : List ℕ). counts_in (drop 96 l)) from_k ∙ ap counts_in (skip (u ++ t ++ o) (k ++ (r ++ j)) 96 three) ∙ counts-back p.taken (r ++ j) ak)
-        (ap (λ (l : List ℕ). counts_in (drop 128 l)) from_r ∙ ap counts_in (skip (u ++ t ++ o ++ k) (r ++ j) 128 four) ∙ counts-back p.retracted j ar)
-        (ap counts_in (skip (u ++ t ++ o ++ k ++ r) j 160 five) ∙ counts-alone p.rejected aj)
+    (ap counts_in from_t ∙ counts-back p.units (t ++ (o ++ (k ++ (r ++ j)))) au)
+    (ap (λ (l : List ℕ). counts_in (drop 32 l)) from_t ∙ ap counts_in (skip u (t ++ (o ++ (k ++ (r ++ j)))) 32 nu) ∙ counts-back p.transport (o ++ (k ++ (r ++ j))) at)
+    (ap (λ (l : List ℕ). counts_in (drop 64 l)) from_o ∙ ap counts_in (skip (u ++ t) (o ++ (k ++ (r ++ j))) 64 two) ∙ counts-back p.outlet (k ++ (r ++ j)) ao)
+    (ap (λ (l : List ℕ). counts_in (drop 96 l)) from_k ∙ ap counts_in (skip (u ++ t ++ o) (k ++ (r ++ j)) 96 three) ∙ counts-back p.taken (r ++ j) ak)
+    (ap (λ (l : List ℕ). counts_in (drop 128 l)) from_r ∙ ap counts_in (skip (u ++ t ++ o ++ k) (r ++ j) 128 four) ∙ counts-back p.retracted j ar)
+    (ap counts_in (skip (u ++ t ++ o ++ k ++ r) j 160 five) ∙ counts-alone p.rejected aj)
   where
     built : (p : Places) (bs : List ℕ) → counts_in bs ≡ p.units → counts_in (drop 32 bs) ≡ p.transport → counts_in (drop 64 bs) ≡ p.outlet → counts_in (drop 96 bs) ≡ p.taken
         → counts_in (drop 128 bs) ≡ p.retracted → counts_in (drop 160 bs) ≡ p.rejected → places_in bs ≡ p
@@ -134,11 +134,20 @@ no_two_bodies r s is_r is_s same = sym (record-back r is_r) ∙ ap record_of sam
 pub body-short : (r : Rec) → IsRecord r → length (body r) ≤ 1025
 body-short (Issue number word) is = omega arith
 body-short Clear is = omega arith
-body-short (Boot p) is = omega (arith, counts-size p.units is.0, counts-size p.transport is.1, counts-size p.outlet is.2, counts-size p.taken is.3, counts-size p.retracted is.4, counts-size p.rejected is.5,
-    length-append (counts_bytes p.units) (counts_bytes p.transport), length-append (counts_bytes p.units ++ counts_bytes p.transport) (counts_bytes p.outlet),
-    length-append (counts_bytes p.units ++ counts_bytes p.transport ++ counts_bytes p.outlet) (counts_bytes p.taken),
-    length-append (counts_bytes p.units ++ counts_bytes p.transport ++ counts_bytes p.outlet ++ counts_bytes p.taken) (counts_bytes p.retracted),
-    length-append (counts_bytes p.units ++ counts_bytes p.transport ++ counts_bytes p.outlet ++ counts_bytes p.taken ++ counts_bytes p.retracted) (counts_bytes p.rejected))
+body-short (Boot p) is = omega (
+  arith,
+  counts-size p.units is.0,
+  counts-size p.transport is.1,
+  counts-size p.outlet is.2,
+  counts-size p.taken is.3,
+  counts-size p.retracted is.4,
+  counts-size p.rejected is.5,
+  length-append (counts_bytes p.units) (counts_bytes p.transport),
+  length-append (counts_bytes p.units ++ counts_bytes p.transport) (counts_bytes p.outlet),
+  length-append (counts_bytes p.units ++ counts_bytes p.transport ++ counts_bytes p.outlet) (counts_bytes p.taken),
+  length-append (counts_bytes p.units ++ counts_bytes p.transport ++ counts_bytes p.outlet ++ counts_bytes p.taken) (counts_bytes p.retracted),
+  length-append (counts_bytes p.units ++ counts_bytes p.transport ++ counts_bytes p.outlet ++ counts_bytes p.taken ++ counts_bytes p.retracted) (counts_bytes p.rejected),
+)
 body-short (Bind token) is = omega (arith, is.1)
 body-short (Order kind counts) is = omega (arith, counts-size counts is)
 body-short (Done moved diverted) is = omega (arith, counts-size moved is.0, counts-size diverted is.1, length-append (counts_bytes moved) (counts_bytes diverted))

@@ -1,9 +1,9 @@
 -- At most one list has a given image.
-use Rattle.std.proofs.Common.{◌≡◌, ◌≢◌, ℕ, ◌+◌, ◌<◌, ◌≤◌, ◌^◌, List, [], ◌∷◌, ◌++◌, length, take, drop, refl, sym, ◌∙◌, ap, ap₂, subst, arith, append_assoc, length-append, take_at, drop_at}
+use Rattle.std.proofs.Common.{◌≡◌, ◌≢◌, ℕ, ◌<◌, ◌^◌, List, [], ◌∷◌, ◌++◌, length, take, drop, refl, sym, ◌∙◌, ap, ap₂, arith, append_assoc, take_at, drop_at}
 use Rattle.std.specs.Int.{to_be_bytes, from_be_bytes, w16}
 use Rattle.std.specs.List.{AllByRecursion}
 use Rattle.std.proofs.lemmas.Nat.{from_be_bytes-to_be_bytes_2}
-use Rattle.xfs_journal.specs.Image.{IsImage, IsRecord, body, framed, blocks, front, magic}
+use Rattle.xfs_journal.specs.Image.{IsImage, IsRecord, body, framed, blocks, magic}
 use Rattle.xfs_journal.specs.declared.record.Rec.{Rec}
 use Rattle.xfs_journal.proofs.Decoding.{no_two_bodies, body-short}
 
@@ -43,7 +43,7 @@ same_blocks [] (k ∷ K) g h x y all_j all_k shut_g shut_h same = absurd (shut_g
 same_blocks (j ∷ J) [] g h x y all_j all_k shut_g shut_h same = absurd (shut_h (sym (ap head_of same)))
 same_blocks (j ∷ J) (k ∷ K) g h x y all_j all_k shut_g shut_h same =
     let behind : framed j ++ (blocks J ++ g ∷ x) ≡ framed k ++ (blocks K ++ h ∷ y) =
-        sym (append_assoc (framed j) (blocks J) (g ∷ x)) ∙ ap tail_of same ∙ append_assoc (framed k) (blocks K) (h ∷ y) in
+    sym (append_assoc (framed j) (blocks J) (g ∷ x)) ∙ ap tail_of same ∙ append_assoc (framed k) (blocks K) (h ∷ y) in
     let first = one_block j k (blocks J ++ g ∷ x) (blocks K ++ h ∷ y) all_j.0 all_k.0 behind in
     ap₂ (λ (r : Rec) (l : List Rec). r ∷ l) first.0 (same_blocks J K g h x y all_j.1 all_k.1 shut_g shut_h first.1)
 
@@ -51,5 +51,5 @@ pub at_most_one : (bytes : List ℕ) (J K : List Rec) → IsImage bytes J → Is
 at_most_one bytes J K of_j of_k =
     let same = sym of_j.bytes_are ∙ of_k.bytes_are in
     let behind = second_part magic (blocks J ++ of_j.gate ∷ of_j.rest) magic (blocks K ++ of_k.gate ∷ of_k.rest) refl
-        (sym (append_assoc magic (blocks J) (of_j.gate ∷ of_j.rest)) ∙ same ∙ append_assoc magic (blocks K) (of_k.gate ∷ of_k.rest)) in
+    (sym (append_assoc magic (blocks J) (of_j.gate ∷ of_j.rest)) ∙ same ∙ append_assoc magic (blocks K) (of_k.gate ∷ of_k.rest)) in
     same_blocks J K of_j.gate of_k.gate of_j.rest of_k.rest of_j.of_table of_k.of_table of_j.closed of_k.closed behind

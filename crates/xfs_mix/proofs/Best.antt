@@ -145,11 +145,11 @@ passed_one ks cur u n v old new more a table in_q le within passed =
     let p = get_or table (a - n * v) None in
     let best_r : IsBest ks new cur a (better_of u n o p) = best_more ks cur u n v old new more a o p le in_q (passed.left a None (omega arith) within) (passed.left (a - n * v) None (omega arith) (omega arith)) in
     record {
-        done = λ b d ge in_table. elim (cases_eq b a) [
-            inl e ↦ rw e (rw (get_or-set_same table a (better_of u n o p) d within) best_r)
-            | inr ne ↦ rw (get_or-set_other table a b (better_of u n o p) d ne) (passed.done b d (omega (arith, ge, ne)) (rw length-set at in_table))
-        ];
-        left = λ b d lt in_table. rw (get_or-set_other table a b (better_of u n o p) d (λ e. omega (arith, e, lt))) (passed.left b d (omega arith) (rw length-set at in_table));
+      done = λ b d ge in_table. elim (cases_eq b a) [
+        | inl e ↦ rw e (rw (get_or-set_same table a (better_of u n o p) d within) best_r)
+        | inr ne ↦ rw (get_or-set_other table a b (better_of u n o p) d ne) (passed.done b d (omega (arith, ge, ne)) (rw length-set at in_table))
+      ];
+      left = λ b d lt in_table. rw (get_or-set_other table a b (better_of u n o p) d (λ e. omega (arith, e, lt))) (passed.left b d (omega arith) (rw length-set at in_table));
     }
 
 -- the whole table, once the amounts below the worth of the new notes are left

@@ -1,2 +1,3 @@
-pub mod Raised
 pub mod Best
+pub mod First
+pub mod Raised

@@ -1,5 +1,5 @@
 -- A mix for an amount is counts of notes that lie within what is there, are of one currency, and are worth exactly the amount; it is least where no other has fewer notes.
-use Rattle.std.specs.Prelude.{◌≡◌, ℕ, Bool, true, ◌+◌, ◌*◌, ◌≤◌, ◌<◌, List, length, sum, MatchOption, All, None, Some, slice_get, slice_index, slice_index_or, slice_set, nat_le, if◌then◌else◌}
+use Rattle.std.specs.Prelude.{◌≡◌, ℕ, replicate, Bool, true, ◌+◌, ◌*◌, ◌≤◌, ◌<◌, List, length, sum, MatchOption, All, None, Some, slice_get, slice_index, slice_index_or, slice_set, nat_le, if◌then◌else◌}
 use Rattle.std.specs.declared.option.Option.{Option}
 use Rattle.std.specs.Option.{option_map_or}
 use Rattle.std.specs.Str.{bytes_eq}
@@ -65,3 +65,13 @@ pub record IsMore (ks : List NoteKind) (cur : List ℕ) (u n v : ℕ) (old new :
 pub record IsPassed (ks : List NoteKind) (cur : List ℕ) (old new : Counts) (a : ℕ) (table : List (Option Counts)) : Type 0 where
   pub done : (b : ℕ) (d : Option Counts) → a ≤ b → b < length table → IsBest ks new cur b (slice_index_or table b d)
   pub left : (b : ℕ) (d : Option Counts) → b < a → b < length table → IsBest ks old cur b (slice_index_or table b d)
+
+-- no notes are allowed
+abbrev pub none_yet : Counts
+none_yet = record { 0 = replicate 8 0 }
+
+-- the least mix for an amount, if there is one
+abbrev pub IsBestMix : List NoteKind → Counts → List ℕ → ℕ → Option Counts → Type 0
+IsBestMix units have currency amount best =
+    MatchOption best ((m : Counts) → IsMix units have currency amount m → ⊥)
+    (λ n. IsMix units have currency amount n × IsLeast units have currency amount n)

@@ -1,7 +1,12 @@
-//! Denominations of cash: whether counts of notes may be dispensed.
+//! Denominations of cash: the fewest notes for an amount, and whether counts may be dispensed.
 #![tactic(auto)]
 
 mod asked;
-mod least;
+mod mix;
+#[cfg(test)]
+mod search;
+#[cfg(test)]
+mod tests;
 
 pub use asked::{CountFault, check};
+pub use mix::{MixFault, least};

@@ -28,8 +28,9 @@ fn do_first(queue: &mut Queue<u64>) -> Option<u64> {
     let first = queue.next(Line::Device)?;
     queue.start(first);
     let running = queue.running()?;
-    *queue.job(running) += 1000;
-    queue.finish(running);
+    let job = queue.job(running);
+    *job = job.wrapping_add(1000);
+    queue.finish(queue.running()?);
     let ready = queue.ready()?;
     Some(queue.remove(ready).job)
 }

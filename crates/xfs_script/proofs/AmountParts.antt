@@ -1,9 +1,9 @@
 -- Amounts between commas: each that is read is added to those before.
 use Rattle.std.proofs.Common.{◌≡◌, ℕ, ◌+◌, ◌-◌, ◌*◌, ◌<◌, ◌≤◌, ◌==◌, ◌&&◌, not, nat_lt, inl, inr, Bool, true, false, List, [], ◌∷◌, ◌++◌, length, take, drop, get_or, None, Some, refl, ap, sym, subst, ◌∙◌, arith, append_assoc, length-append}
-use Rattle.std.specs.Prelude.{if◌then◌else◌, is_some, IfSome, IfNone, MatchOption, ◌↔◌, nat_le}
+use Rattle.std.specs.Prelude.{if◌then◌else◌, IfSome, IfNone, MatchOption, ◌↔◌, nat_le}
 use Rattle.std.specs.Borrow.{Bor}
 use Rattle.std.specs.Option.{option_map, option_and_then}
-use Rattle.std.specs.List.{list_all, slice_split, position_or_len, All}
+use Rattle.std.specs.List.{list_all, slice_split, position_or_len}
 use Rattle.std.specs.declared.option.Option.{Option}
 use Rattle.std.proofs.lemmas.Bool.{and_parts, and_from, leb-true, le-leb, lt-ltb, ltb-true, not-true, false_from_ne_true, cases_Bool, cond-true, cond-false, eq-eqb, eqb-true}
 use Rattle.std.proofs.lemmas.List.{append-nil, get_or_default, length-take-le}
@@ -11,7 +11,7 @@ use Rattle.std.proofs.lemmas.List.Sums.{position_or_len_is, prefix_len-le-length
 use Rattle.std.proofs.lemmas.List.Splits.{slice_split_none, slice_split_first}
 use Rattle.memchr.specs.Find.{IsFirstByte, is_byte}
 use Rattle.xfs_base.specs.Values.{IsCurrency}
-use Rattle.xfs_token.specs.Token.{is_digit, is_letter}
+use Rattle.xfs_token.specs.Token.{is_letter}
 use Rattle.xfs_token.proofs.AmountsLemmas.{IsAmounts-push}
 use Rattle.xfs_script.specs.Fields.{parts, SpellsAmounts}
 use Rattle.xfs_token.specs.Amounts.{number_of, filled, is_currency, amount_from, amount_before, read_amount, read_amounts, are_new, has_currency, is_payable, may_add, IsAmounts}
@@ -30,7 +30,7 @@ is_currency_from bs h =
 pub is_currency_to : (bs : List ℕ) → IsCurrency bs → is_currency bs ≡ true
 is_currency_to bs h =
     and_from (length bs == 3) (list_all is_letter bs) (eq-eqb (length bs) 3 h.0)
-      (list_all-from_AllPass is_letter bs (λ k d within. (let b = h.1 k d within in and_from _ _ (le-leb 65 (get_or bs k d) b.0) (le-leb (get_or bs k d) 90 b.1))))
+    (list_all-from_AllPass is_letter bs (λ k d within. (let b = h.1 k d within in and_from _ _ (le-leb 65 (get_or bs k d) b.0) (le-leb (get_or bs k d) 90 b.1))))
 
 -- the first place of a byte
 pub first_is : (c : ℕ) (xs : List ℕ) (i : ℕ) → IsFirstByte (is_byte c) xs (Some i) → position_or_len (λ b. b == c) xs ≡ i
@@ -142,9 +142,9 @@ onto_read (text ∷ texts) earlier whole h = found (λ e. onto_read texts e whol
     found : ((e : List (List ℕ × ℕ)) → read_onto e texts ≡ Some whole → ReadsBehind e texts whole) → (o : Option (List ℕ × ℕ)) → read_amount text ≡ o → ReadsBehind earlier (text ∷ texts) whole
     found again None e = absurd (let none = onto_none earlier text texts e in let bad : ⊥ = cc in bad)
     found again (Some a) e = elim (cases_Bool (may_add earlier a.0 a.1)) [
-        inl may ↦ amounts_behind a texts earlier whole text e (again (earlier ++ a ∷ []) (sym (onto_some earlier text texts a e may) ∙ h))
+      | inl may ↦ amounts_behind a texts earlier whole text e (again (earlier ++ a ∷ []) (sym (onto_some earlier text texts a e may) ∙ h))
       | inr full ↦ absurd (let none = onto_full earlier text texts a e full in let bad : ⊥ = cc in bad)
-      ]
+    ]
 
 -- each amount may be added behind those before it
 pub record MayFollow (earlier later : List (List ℕ × ℕ)) : Type 0 where
@@ -173,11 +173,11 @@ onto_all (text ∷ texts) earlier later h m = found (onto_all texts) (read_amoun
     found again None r e f = (let none = each_none text texts e in cc)
     found again (Some a) None e f = (let none = each_some text texts a e ∙ ap (option_map (λ amounts. a ∷ amounts)) f in cc)
     found again (Some a) (Some more) e f =
-      let some = each_some text texts a e ∙ ap (option_map (λ amounts. a ∷ amounts)) f in
-      let is : a ∷ more ≡ later = cc in
-      let P : List (List ℕ × ℕ) → Type 0 = λ l. MayFollow earlier l in
-      let all = subst P (sym is) m in
-      onto_some earlier text texts a e (may_here earlier more a all)
+        let some = each_some text texts a e ∙ ap (option_map (λ amounts. a ∷ amounts)) f in
+        let is : a ∷ more ≡ later = cc in
+        let P : List (List ℕ × ℕ) → Type 0 = λ l. MayFollow earlier l in
+        let all = subst P (sym is) m in
+        onto_some earlier text texts a e (may_here earlier more a all)
         ∙ (again (earlier ++ a ∷ []) more f (may_later earlier more a all)
         ∙ ap (λ l. Some l) (append_assoc earlier (a ∷ []) more ∙ ap (λ l. earlier ++ l) is))
 

@@ -1,15 +1,15 @@
 -- What one call of the reader shows, by how the line ended.
-use Rattle.std.proofs.Common.{◌≡◌, ◌≢◌, ℕ, ◌+◌, ◌-◌, ◌<◌, ◌≤◌, nat_le, true, false, List, [], ◌++◌, length, take, drop, Ok, Err, OnOk, OnErr, None, Some, refl, ap, sym, subst, ◌∙◌, arith, append_assoc, length-append, inl, inr}
-use Rattle.std.specs.Prelude.{slice_index, ◌==◌, if◌then◌else◌}
+use Rattle.std.proofs.Common.{◌≡◌, ℕ, ◌+◌, ◌-◌, ◌<◌, ◌≤◌, nat_le, true, false, List, [], ◌++◌, length, take, Ok, Err, OnOk, OnErr, None, Some, refl, ap, sym, subst, ◌∙◌, arith, length-append, inl, inr}
+use Rattle.std.specs.Prelude.{slice_index, ◌==◌}
 use Rattle.std.proofs.lemmas.Bool.{cond-true, cond-false, lt-leb, leb-true, cases_Bool}
 use Rattle.std.proofs.lemmas.List.{append-nil, take_all, length-take-le}
 use Rattle.std.specs.declared.result.Result.{Result}
 use Rattle.std.specs.declared.option.Option.{Option}
-use Rattle.std.specs.Io.KnownBytes.{Consumes, IsAtEnd, prepend_known}
+use Rattle.std.specs.Io.KnownBytes.{IsAtEnd, prepend_known}
 use Rattle.xfs_base.specs.Causes.{IfTold}
 use Rattle.xfs_script.specs.Lines.{line_end, has_line_feed, first_line, rest, without_return}
 use Rattle.xfs_script.specs.Reading.{Reading, Grows, Drops, Gives, line_off}
-use Rattle.xfs_script.specs.Found.{IsOpen, IsPassed, IsRefusal}
+use Rattle.xfs_script.specs.Found.{IsOpen, IsRefusal}
 use Rattle.xfs_script.specs.Answer.{answer_of, answer_on, bytes_within, bytes_ahead, line_answer, IsAnswer, HasNumber, ReadsLine}
 use Rattle.xfs_script.specs.declared.line.Line.{Line}
 use Rattle.xfs_script.specs.declared.line.LineFault.{LineFault}

@@ -1,21 +1,16 @@
 -- One call of the reader: from what the source gave to the answer that is due.
-use Rattle.std.proofs.Common.{◌≡◌, ◌≢◌, ℕ, ◌+◌, ◌-◌, ◌<◌, ◌≤◌, nat_le, nat_lt, true, false, List, [], ◌++◌, length, take, drop, Ok, Err, IfOk, OnOk, OnErr, None, Some, refl, ap, sym, subst, ◌∙◌, arith, append_assoc, length-append, inl, inr}
-use Rattle.std.specs.Prelude.{◌⊎◌, slice_index, ◌==◌, if◌then◌else◌}
-use Rattle.std.proofs.lemmas.Bool.{cond-true, cond-false, lt-ltb, le-ltb, le-leb, lt-leb, leb-true, leb-false, cases_Bool}
-use Rattle.std.proofs.lemmas.List.{append-nil, take-append-le, drop-append-le, drop_all, take_all, length-take-le}
+use Rattle.std.proofs.Common.{◌≡◌, ℕ, ◌+◌, ◌-◌, ◌<◌, ◌≤◌, nat_le, nat_lt, true, false, List, [], ◌++◌, length, take, drop, Ok, Err, None, Some, refl, ap, sym, subst, ◌∙◌, arith, append_assoc, length-append}
+use Rattle.std.proofs.lemmas.Bool.{cond-true, cond-false, lt-ltb, le-ltb, le-leb, lt-leb}
+use Rattle.std.proofs.lemmas.List.{append-nil, take-append-le, drop-append-le, take_all}
 use Rattle.std.proofs.Math.Seq.{take-append-add}
-use Rattle.std.specs.declared.result.Result.{Result}
 use Rattle.std.specs.declared.option.Option.{Option}
-use Rattle.std.specs.Io.KnownBytes.{Consumes, IsAtEnd, prepend_known}
+use Rattle.std.specs.Io.KnownBytes.{IsAtEnd, prepend_known}
 use Rattle.xfs_base.specs.Causes.{IfTold}
 use Rattle.xfs_script.specs.Lines.{line_end, has_line_feed, first_line, rest, without_return}
-use Rattle.xfs_script.specs.Reading.{Reading, Grows, Drops, Gives, line_off}
-use Rattle.xfs_script.specs.Found.{IsOpen, IsPassed, IsRefusal}
-use Rattle.xfs_script.specs.Answer.{answer_of, bytes_within, bytes_ahead, line_answer, IsAnswer, HasNumber, lines_in, ReadsLine}
-use Rattle.xfs_script.specs.declared.line.Line.{Line}
-use Rattle.xfs_script.specs.declared.line.LineFault.{LineFault}
-use Rattle.xfs_script.specs.declared.line.LineFault.TheVariants.{Read, Quota, TooLong, Memory}
-use Rattle.xfs_script.proofs.Ends.{line_end-le, line_end-append, line_end-append_found}
+use Rattle.xfs_script.specs.Reading.{Reading, Grows, Drops}
+use Rattle.xfs_script.specs.Answer.{answer_of, bytes_within, line_answer}
+use Rattle.xfs_script.specs.declared.line.LineFault.TheVariants.{Quota}
+use Rattle.xfs_script.proofs.Ends.{line_end-append, line_end-append_found}
 
 pub told_map : (x : Option (List ℕ)) (P Q : List ℕ → Type 0) → ((xs : List ℕ) → P xs → Q xs) → IfTold x P → IfTold x Q
 told_map None P Q f h = tt

@@ -1,5 +1,5 @@
 -- The fields of a line: amounts, as in a token's dispense values, joined by commas.
-use Rattle.std.specs.Prelude.{◌≡◌, ℕ, Bool, ◌==◌, List, Some}
+use Rattle.std.specs.Prelude.{◌≡◌, ℕ, ◌==◌, List, Some}
 use Rattle.std.specs.List.{slice_split}
 use Rattle.xfs_token.specs.Amounts.{read_amounts, IsAmounts}
 

@@ -5,11 +5,10 @@ ghost use Rattle.xfs_token.specs.Amounts.{number_of, is_part, filled, amount_fro
 ghost use Rattle.xfs_token.specs.Amounts as money;
 ghost use Rattle.xfs_script.specs.Fields.{parts, SpellsAmounts};
 
+use crate::digits::read_digits;
 use memchr::memchr;
 use xfs_base::{Currency, Milli};
 use xfs_token::Amounts;
-
-use crate::digits::read_digits;
 
 // The amounts that a field has between its commas. None exactly where it isn't one to nine amounts
 // of different currencies.

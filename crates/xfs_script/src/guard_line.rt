@@ -3,10 +3,10 @@ ghost use Rattle.xfs_script.specs.Guard.{IsGuardLine, IsWordLine, IsMint};
 ghost use Rattle.xfs_script.specs.declared.guard_line.GuardLine.{GuardLine};
 ghost use Rattle.xfs_script.specs.declared.guard_line.ScriptFault.TheVariants as ScriptFault;
 
-use xfs_token::Amounts;
-
 use crate::amount::read_amounts;
 use crate::word::{field_of, is_skipped, is_word};
+use std::alloc::Global;
+use xfs_token::Amounts;
 
 /// A line of the command `guard`: its verb with its fields.
 #[derive(Debug, Drop)]
@@ -31,8 +31,8 @@ pub enum ScriptFault {
     Memory,
 }
 
-/// Reads a line of `guard`, which has no end of line.
-pub fn read_guard(text: &[u8]) -> Result<GuardLine, ScriptFault>
+/// Reads a line of `guard`, given without its end. The allocator is for the bytes that a line holds.
+pub fn read_guard(_alloc: Global, text: &[u8]) -> Result<GuardLine, ScriptFault>
     ensures ok { IfOk result (IsGuardLine text.now) }
     ensures not_a_line { result ≡ Err ScriptFault.NotALine → (line : GuardLine) → ¬ IsGuardLine text.now line }
 {

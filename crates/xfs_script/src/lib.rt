@@ -7,9 +7,9 @@ mod feed;
 mod guard_line;
 mod line;
 mod lines;
-mod word;
 #[cfg(test)]
 mod tests;
+mod word;
 
 pub use guard_line::{GuardLine, ScriptFault, read_guard};
 pub use line::{Line, LineFault};

@@ -1,7 +1,9 @@
-use crate::{Line, LineFault, Lines};
+ghost use Rattle.std.specs.Prelude.{None};
+
+use crate::{GuardLine, Line, LineFault, Lines, ScriptFault, read_guard};
 use std::alloc::Global;
 use std::test::Fail;
-use xfs_base::{Failed, MemSource, Source};
+use xfs_base::{Currency, Failed, MemSource, Milli, Source};
 
 /// Gives one byte a call.
 #[derive(Drop)]
@@ -92,22 +94,41 @@ fn long_lines(rt: HostRuntime) -> Result<(), Fail> {
     Ok(())
 }
 
+/// Gives bytes without end, and a line feed at the end of each piece where it is asked to.
+#[derive(Drop)]
+struct Endless {
+    feeds: bool,
+}
+
+impl Source for Endless {
+    ghost left = { λ _. None };
+
+    ghost faults = { λ _. 0 };
+
+    fn read(&mut self, into: &mut [u8]) -> Result<usize, Failed> {
+        if self.feeds && !into.is_empty() {
+            let last = into.len() - 1;
+            into[last] = b'\n';
+        }
+        Ok(into.len())
+    }
+}
+
 #[test]
 fn input_that_is_too_long(rt: HostRuntime) -> Result<(), Fail> {
-    let alloc = rt.alloc();
-    let mut bytes = vec![in alloc; b'#'; 67_108_864]?;
-    for i in 0..1_024usize {
-        if let Some(byte) = bytes.get_mut(65_536 * i + 65_535) {
-            *byte = b'\n';
-        }
-    }
-    let mut source = MemSource::new(bytes, Vec::new(alloc));
-    let mut lines = Lines::new(alloc);
+    let mut lines = Lines::new(rt.alloc());
+    let mut source = Endless { feeds: true };
     for number in 1..1_025u64 {
         assert_eq!(rt; lines.next(&mut source)?.ok_or("a line")?.number, number);
     }
     assert!(rt; matches!(lines.next(&mut source), Err(LineFault::Quota)));
-    assert!(rt; matches!(first(alloc, 67_108_864, b"")?, Err(LineFault::Quota)));
+    let mut without_end = Endless { feeds: false };
+    assert!(rt;
+        matches!(
+            Lines::new(rt.alloc()).next(&mut without_end),
+            Err(LineFault::Quota)
+        )
+    );
     Ok(())
 }
 
@@ -122,4 +143,77 @@ fn source_that_fails(rt: HostRuntime) -> Result<(), Fail> {
     );
     assert!(rt; matches!(lines.next(&mut source), Err(LineFault::Read)));
     Ok(())
+}
+
+#[test]
+fn lines_without_fields(rt: HostRuntime) {
+    let alloc = rt.alloc();
+    assert!(rt; matches!(read_guard(alloc, b""), Ok(GuardLine::Skip)));
+    assert!(rt; matches!(read_guard(alloc, b"# issue"), Ok(GuardLine::Skip)));
+    assert!(rt; matches!(read_guard(alloc, b"issue"), Ok(GuardLine::Issue)));
+    assert!(rt; matches!(read_guard(alloc, b"clear"), Ok(GuardLine::Clear)));
+    assert!(rt; matches!(read_guard(alloc, b"present"), Ok(GuardLine::Present)));
+    assert!(rt; matches!(read_guard(alloc, b"reject"), Ok(GuardLine::Reject)));
+    assert!(rt; matches!(read_guard(alloc, b"retract"), Ok(GuardLine::Retract)));
+    assert!(rt; matches!(read_guard(alloc, b"take"), Ok(GuardLine::Take)));
+    assert!(rt; matches!(read_guard(alloc, b"restart"), Ok(GuardLine::Restart)));
+    assert!(rt; matches!(read_guard(alloc, b"show"), Ok(GuardLine::Show)));
+}
+
+// How many amounts a line mints, and how many thousandths of EUR.
+fn minted(alloc: Global, text: &[u8]) -> Result<(u8, Milli), Fail> {
+    let euro = Currency::new(b"EUR").ok_or("three letters")?;
+    match read_guard(alloc, text)? {
+        GuardLine::Mint(amounts) => Ok((amounts.len(), amounts.of(euro))),
+        _ => Ok((0, Milli(0))),
+    }
+}
+
+#[test]
+fn amounts_of_mint(rt: HostRuntime) -> Result<(), Fail> {
+    let alloc = rt.alloc();
+    let table: [(&[u8], u8, u64); 7] = [
+        (b"mint 50.00EUR", 1, 50_000),
+        (b"mint 1.5EUR", 1, 1_500),
+        (b"mint 1.005EUR", 1, 1_005),
+        (b"mint 007.5EUR", 1, 7_500),
+        (b"mint 0EUR", 1, 0),
+        (b"mint 999999999.999USD,20EUR", 2, 20_000),
+        (
+            b"mint 1AAA,1BBB,1CCC,1DDD,1EEE,1FFF,1GGG,1HHH,2.25EUR",
+            9,
+            2_250,
+        ),
+    ];
+    for (text, count, amount) in table {
+        assert_eq!(rt; minted(alloc, text)?, (count, Milli(amount)));
+    }
+    Ok(())
+}
+
+#[test]
+fn lines_that_are_none(rt: HostRuntime) {
+    let alloc = rt.alloc();
+    let table: [&[u8]; 17] = [
+        b"hello",
+        b"issue ",
+        b" issue",
+        b"Issue",
+        b"mint",
+        b"mint ",
+        b"mint  1EUR",
+        b"mint 1EUR,",
+        b"mint 1EUR,2EUR",
+        b"mint 1.EUR",
+        b"mint .5EUR",
+        b"mint 1.0005EUR",
+        b"mint 1234567890EUR",
+        b"mint 1EU",
+        b"mint 1eur",
+        b"mint EUR",
+        b"mint 1AAA,1BBB,1CCC,1DDD,1EEE,1FFF,1GGG,1HHH,1III,1JJJ",
+    ];
+    for text in table {
+        assert!(rt; matches!(read_guard(alloc, text), Err(ScriptFault::NotALine)));
+    }
 }

@@ -26,5 +26,9 @@ pub(crate) fn field_of<'a>(text: &'a [u8], front: &[u8]) -> Option<&'a [u8]>
         return None;
     }
     let (begin, field) = text.split_at(front.len());
-    if is_word(begin, front) { Some(field) } else { None }
+    if is_word(begin, front) {
+        Some(field)
+    } else {
+        None
+    }
 }

@@ -18,10 +18,10 @@ some_format = record { rest = four_digits 0 ++ 44 ∷ ending; is = refl; then = 
 pub some_nonce : NonceThen (codes "0" ++ 44 ∷ (codes "TOKENFORMAT=1,TOKENLENGTH=" ++ (four_digits 0 ++ 44 ∷ ending)))
 some_nonce = record { nonce = codes "0"; rest = codes "TOKENFORMAT=1,TOKENLENGTH=" ++ (four_digits 0 ++ 44 ∷ ending); good = refl; is = refl; then = some_format }
 
-nonce_digits : (nonce : List ℕ) → is_nonce nonce ≡ true → list_all is_upper_hex nonce ≡ true
+pub nonce_digits : (nonce : List ℕ) → is_nonce nonce ≡ true → list_all is_upper_hex nonce ≡ true
 nonce_digits nonce h = (and_parts (nat_le 1 (length nonce) && nat_le (length nonce) 128) (list_all is_upper_hex nonce) h).1
 
-nonce_most : (nonce : List ℕ) → is_nonce nonce ≡ true → length nonce ≤ 128
+pub nonce_most : (nonce : List ℕ) → is_nonce nonce ≡ true → length nonce ≤ 128
 nonce_most nonce h = leb-true (length nonce) 128 (and_parts (nat_le 1 (length nonce)) (nat_le (length nonce) 128) (and_parts (nat_le 1 (length nonce) && nat_le (length nonce) 128) (list_all is_upper_hex nonce) h).0).1
 
 -- behind a nonce and its comma

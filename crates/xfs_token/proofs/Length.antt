@@ -66,18 +66,19 @@ stuck_few ds rest few h fails =
 
 stuck_four : (ds rest : List ℕ) → length ds ≡ 4 → list_all is_digit ds ≡ true → FirstFails (λ b. b == 44) rest → IsStuck LengthThen (ds ++ rest) (length rest)
 stuck_four ds rest four h fails = record {
-    good = ds;
-    bad = rest;
-    cut = refl;
-    left_is = refl;
-    more = 44 ∷ ending;
-    begins = length_into ds four h;
-    stops = stops rest fails;
-  }
+  good = ds;
+  bad = rest;
+  cut = refl;
+  left_is = refl;
+  more = 44 ∷ ending;
+  begins = length_into ds four h;
+  stops = stops rest fails;
+}
   where
     none : (b : ℕ) (more : List ℕ) (m : LengthThen (ds ++ b ∷ more)) → (b == 44) ≡ false → (is_digit b ≡ true) ⊎ (is_digit b ≡ false) → ⊥
     none b more m k (inl d) = no_longer is_digit ds (four_digits m.number) more m.rest b 44 h d refl (omega arith) m.is
     none b more m k (inr d) = eqb-false b 44 k (same_run is_digit ds (four_digits m.number) more m.rest b 44 h (all_four m.number) d refl m.is).1
+
     stops : (rest : List ℕ) → FirstFails (λ b. b == 44) rest → Stops LengthThen ds rest
     stops [] f = λ m. let e = ap length m.is in absurd (omega arith)
     stops (b ∷ bs) f = λ more m. none b more m f (cases_Bool (is_digit b))
@@ -121,6 +122,6 @@ format_stuck text rest n left e le r s = subst (λ (l : List ℕ). IsStuck (Word
 
 pub format_ends : (text rest : List ℕ) (n number : ℕ) → n ≡ common_prefix_len nat_eq text (codes "TOKENFORMAT=1,TOKENLENGTH=") → 26 ≤ n → rest ≡ drop 26 text → IsLengthAt rest number → IsFormatAt text number
 format_ends text rest n number e le r a = record {
-    small = a.small;
-    is = sym (format_cut text rest n e le r) ∙ ap (λ (l : List ℕ). codes "TOKENFORMAT=1,TOKENLENGTH=" ++ l) (a.is ∙ ap (λ (l : List ℕ). four_digits number ++ 44 ∷ l) (ap (drop 5) r ∙ drop-drop 5 26 text));
-  }
+  small = a.small;
+  is = sym (format_cut text rest n e le r) ∙ ap (λ (l : List ℕ). codes "TOKENFORMAT=1,TOKENLENGTH=" ++ l) (a.is ∙ ap (λ (l : List ℕ). four_digits number ++ 44 ∷ l) (ap (drop 5) r ∙ drop-drop 5 26 text));
+}

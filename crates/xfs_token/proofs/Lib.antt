@@ -8,11 +8,13 @@ pub mod Fresh
 pub mod Front
 pub mod Gathered
 pub mod HexText
+pub mod Joined
 pub mod Keys
 pub mod Length
 pub mod Minted
 pub mod Runs
 pub mod Stuck
 pub mod Tails
+pub mod Whole
 pub mod Words
 pub mod Written

@@ -11,10 +11,10 @@ use Rattle.xfs_token.specs.Token.{IsMac, is_key, is_key_byte, is_letter, is_digi
 use Rattle.xfs_token.specs.Reading.{Stops, IsStuck, WordThen, Tail, MacEnd, ValueThen, tail_text}
 use Rattle.xfs_token.proofs.Stuck.{both_ways, stuck_behind, stuck_now, same_run, no_longer, no_stop}
 
-key_bytes : (key : List ℕ) → is_key key ≡ true → list_all is_key_byte key ≡ true
+pub key_bytes : (key : List ℕ) → is_key key ≡ true → list_all is_key_byte key ≡ true
 key_bytes key h = (and_parts (nat_le 1 (length key) && nat_le (length key) 32 && is_letter (slice_index key 0)) (list_all is_key_byte key) h).1
 
-value_bytes : (value : List ℕ) → is_value value ≡ true → list_all is_value_byte value ≡ true
+pub value_bytes : (value : List ℕ) → is_value value ≡ true → list_all is_value_byte value ≡ true
 value_bytes value h = (and_parts (nat_le 1 (length value)) (list_all is_value_byte value) h).1
 
 -- the tail of these pairs begins with a key and its equals sign

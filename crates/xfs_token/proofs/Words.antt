@@ -6,7 +6,7 @@ use Rattle.std.proofs.lemmas.Bool.{cases_Bool, eqb-true}
 use Rattle.xfs_token.specs.Reading.{IsStuck, WordThen}
 use Rattle.xfs_token.proofs.Stuck.{stuck_behind}
 
-cancel : (word xs ys : List ℕ) → word ++ xs ≡ word ++ ys → xs ≡ ys
+pub cancel : (word xs ys : List ℕ) → word ++ xs ≡ word ++ ys → xs ≡ ys
 cancel [] xs ys e = e
 cancel (w ∷ word) xs ys e = let t : word ++ xs ≡ word ++ ys = cc in cancel word xs ys t
 

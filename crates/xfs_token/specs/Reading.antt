@@ -2,7 +2,9 @@
 use Rattle.std.specs.Prelude.{◌≡◌, ℕ, ◌≤◌, ◌==◌, Bool, true, List, [], ◌∷◌, ◌++◌, length, take, drop, codes, IsTrue, false, ◌+◌, ◌-◌, ◌*◌, ◌||◌, slice_index}
 use Rattle.std.specs.Str.{bytes_eq}
 use Rattle.hex.specs.Hex.{encode_upper}
-use Rattle.xfs_token.specs.Token.{IsMac, is_nonce, is_value, is_free_key, may_follow, four_digits}
+use Rattle.xfs_token.specs.Token.{Parts, IsMac, IsWellFormed, form, is_nonce, is_value, is_free_key, may_follow, four_digits}
+use Rattle.xfs_token.specs.declared.faults.Stop.{Stop}
+use Rattle.xfs_token.specs.declared.faults.Stop.TheVariants.{Left, Memory}
 
 -- no text of the language goes on from here as this rest does
 abbrev pub Stops : (List ℕ → Type 0) → List ℕ → List ℕ → Type 0
@@ -106,3 +108,50 @@ decimal_number ds = 1000 * (slice_index ds 0 - 48) + 100 * (slice_index ds 1 - 4
 pub record IsFormatAt (text : List ℕ) (number : ℕ) : Type 0 where
   pub small : number ≤ 9999
   pub is : text ≡ codes "TOKENFORMAT=1,TOKENLENGTH=" ++ (four_digits number ++ 44 ∷ drop 31 text)
+
+-- a text of the form of a token, from its first byte on
+abbrev pub Loose : List ℕ → Type 0
+Loose text = WordThen (codes "NONCE=") NonceThen text
+
+-- a nonce, a comma and this rest
+pub record IsNonceThen (text nonce rest : List ℕ) : Type 0 where
+  pub good : IsTrue (is_nonce nonce)
+  pub is : text ≡ nonce ++ 44 ∷ rest
+
+-- all that stands before the pairs, with this number in the length field, and this rest
+pub record IsFront (text nonce : List ℕ) (number : ℕ) (rest : List ℕ) : Type 0 where
+  pub good : IsTrue (is_nonce nonce)
+  pub small : number ≤ 9999
+  pub is : text ≡ codes "NONCE=" ++ (nonce ++ 44 ∷ (codes "TOKENFORMAT=1,TOKENLENGTH=" ++ (four_digits number ++ 44 ∷ rest)))
+
+-- a key that may follow the pairs, or that of the HMAC, an equals sign and this rest
+pub record IsKeyThen (earlier : List (List ℕ × List ℕ)) (text key rest : List ℕ) : Type 0 where
+  pub good : IsTrue (bytes_eq key (codes "HMACSHA256") || is_free_key key earlier)
+  pub is : text ≡ key ++ 61 ∷ rest
+
+-- a value, a comma and this rest
+pub record IsValueThen (text value rest : List ℕ) : Type 0 where
+  pub good : IsTrue (is_value value)
+  pub is : text ≡ value ++ 44 ∷ rest
+
+-- the text is that of the pairs and the HMAC of a token with this nonce
+pub record IsTailOf (text nonce : List ℕ) (t : Parts) : Type 0 where
+  pub formed : IsWellFormed t
+  pub nonce_kept : t.nonce ≡ nonce
+  pub is : text ≡ tail_text t.pairs t.mac
+
+-- the text has the form of this token, with this number in its length field
+pub record IsLooseAs (text : List ℕ) (t : Parts) (number : ℕ) : Type 0 where
+  pub formed : IsWellFormed t
+  pub small : number ≤ 9999
+  pub is : text ≡ form t number
+
+-- where the text is stuck; memory may be wanting anywhere
+abbrev pub IsStopped : (List ℕ → Type 0) → List ℕ → Stop → Type 0
+IsStopped L text (Left left) = IsStuck L text left
+IsStopped L text Memory = Unit {0}
+
+-- an equals sign is the last byte
+pub record EndsEqual (text : List ℕ) : Type 0 where
+  pub front : List ℕ
+  pub is : text ≡ front ++ codes "="

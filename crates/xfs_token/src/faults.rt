@@ -24,3 +24,21 @@ impl From<AllocError> for TokenFault {
         TokenFault::Memory
     }
 }
+
+/// Why the reading of a part of a text ended.
+#[derive(Clone, Copy)]
+pub(crate) enum Stop {
+    /// No token goes on as the text does from here, with so many bytes left.
+    Left(usize),
+    Memory,
+}
+
+impl From<AllocError> for Stop {
+    ghost use Rattle.xfs_token.specs.declared.faults.Stop.TheVariants.{Memory};
+
+    ghost from_gives = { λ _ e. e ≡ Memory };
+
+    fn from(_: AllocError) -> Self {
+        Stop::Memory
+    }
+}

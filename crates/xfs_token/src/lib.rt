@@ -11,6 +11,7 @@ mod grammar;
 mod minting;
 mod money;
 mod pair;
+mod reader;
 mod reading;
 mod signing;
 #[cfg(test)]
@@ -23,5 +24,6 @@ pub use dispense::amounts;
 pub use faults::TokenFault;
 pub use minting::{MakeFault, make};
 pub use money::Amounts;
+pub use reader::read;
 pub use signing::{WriteFault, genuine, write};
 pub use token::{BuildFault, Token};

@@ -34,7 +34,7 @@ fn cut(text: &[u8], most: usize) -> &[u8]
     }
 }
 
-fn begins(text: &[u8], byte: u8) -> bool
+pub(crate) fn begins(text: &[u8], byte: u8) -> bool
     ensures { result ≡ first_is byte text.now }
 {
     match text {
@@ -52,7 +52,7 @@ fn first_has(text: &[u8], class: Class) -> bool
     }
 }
 
-fn is_mac_key(key: &[u8]) -> bool
+pub(crate) fn is_mac_key(key: &[u8]) -> bool
     ensures { result ≡ bytes_eq key.now (codes "HMACSHA256") }
 {
     key == b"HMACSHA256".as_slice()

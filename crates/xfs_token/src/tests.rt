@@ -1,4 +1,5 @@
-use crate::{Amounts, BuildFault, MakeFault, Token, genuine, make, write};
+use crate::{Amounts, BuildFault, MakeFault, Token, TokenFault, genuine, make, read, write};
+use std::alloc::Global;
 use std::test::Fail;
 use xfs_base::{Currency, Milli};
 use xfs_hmac::mac;
@@ -74,5 +75,93 @@ fn a_token_is_built_and_written(rt: HostRuntime) -> Result<(), Fail> {
     let signed = write(rt.alloc(), &token)?;
     assert!(rt; genuine(&[0x0b; 32], &signed, &token));
     assert!(rt; !genuine(&[0x0c; 32], &signed, &token));
+    Ok(())
+}
+
+fn fault_of(alloc: Global, text: &[u8]) -> Option<TokenFault> {
+    match read(alloc, text) {
+        Ok(_) => None,
+        Err(fault) => Some(fault),
+    }
+}
+
+#[test]
+fn a_token_is_read_and_written_back(rt: HostRuntime) -> Result<(), Fail> {
+    let token = read(rt.alloc(), TEXT)?;
+    assert_eq!(rt; token.nonce(), NONCE.as_slice());
+    assert_eq!(rt; token.len(), 1);
+    assert_eq!(rt; token.mac(), [0; 32]);
+    assert_eq!(rt; write(rt.alloc(), &token)?.as_slice(), TEXT.as_slice());
+    Ok(())
+}
+
+#[test]
+fn a_fault_has_its_class_and_place(rt: HostRuntime) {
+    let rows: [(&[u8], TokenFault); 9] = [
+        (b"", TokenFault::Format { at: 0 }),
+        (
+            b"NONCE=254611E63B2531576314E86527338D61,TOKENFORMAT=1,TOKENLENGTH=0163,DISPENSE1=50.00EUR,HMACSHA256=0000000000000000000000000000000000000000000000000000000000000000",
+            TokenFault::Format { at: 65 },
+        ),
+        (
+            b"NONCE=254611e63b2531576314e86527338d61,TOKENFORMAT=1,TOKENLENGTH=0164,DISPENSE1=50.00EUR,HMACSHA256=0000000000000000000000000000000000000000000000000000000000000000",
+            TokenFault::Format { at: 12 },
+        ),
+        (
+            b"NONCE=254611E63B2531576314E86527338D61,TOKENFORMAT=1,TOKENLENGTH=0164,DISPENSE1=,HMACSHA256=0000000000000000000000000000000000000000000000000000000000000000",
+            TokenFault::KeyNoValue { at: 80 },
+        ),
+        (
+            b"NONCE=254611E63B2531576314E86527338D61,TOKENFORMAT=1,TOKENLENGTH=0164,DISPENSE1=1.00EUR,DISPENSE1=1.00USD,HMACSHA256=0000000000000000000000000000000000000000000000000000000000000000",
+            TokenFault::Format { at: 97 },
+        ),
+        (
+            b"NONCE=254611E63B2531576314E86527338D61,TOKENFORMAT=1,TOKENLENGTH=0164,ABCDEFGHIJKLMNOPQRSTUVWXYZ012345=1,ABCDEFGHIJKLMNOPQRSTUVWXYZ012345=2,HMACSHA256=0000000000000000000000000000000000000000000000000000000000000000",
+            TokenFault::Format { at: 136 },
+        ),
+        (
+            b"NONCE=254611E63B2531576314E86527338D61,TOKENFORMAT=1,TOKENLENGTH=0164,NONCE=1,HMACSHA256=0000000000000000000000000000000000000000000000000000000000000000",
+            TokenFault::Format { at: 75 },
+        ),
+        (
+            b"NONCE=254611E63B2531576314E86527338D61,TOKENFORMAT=1,TOKENLENGTH=0164,DISPENSE1=50.00EUR,HMACSHA256=a000000000000000000000000000000000000000000000000000000000000000",
+            TokenFault::Format { at: 100 },
+        ),
+        (
+            b"NONCE=254611E63B2531576314E86527338D61,TOKENFORMAT=1,TOKENLENGTH=0164,DISPENSE1=50.00EUR,HMACSHA256=00000000000000000000000000000000000000000000000000000000000000000",
+            TokenFault::Format { at: 164 },
+        ),
+    ];
+    for (text, fault) in rows {
+        assert_eq!(rt; fault_of(rt.alloc(), text), Some(fault));
+    }
+}
+
+#[test]
+fn a_text_that_is_cut_is_faulty_where_it_ends(rt: HostRuntime) {
+    for at in 0..164 {
+        let fault = match at {
+            6 | 51 | 65 | 80 | 100 => TokenFault::KeyNoValue { at: at as u32 },
+            _ => TokenFault::Format { at: at as u32 },
+        };
+        assert_eq!(rt; fault_of(rt.alloc(), &TEXT[..at]), Some(fault));
+    }
+}
+
+#[test]
+fn a_text_of_1024_bytes_is_read_and_a_longer_one_is_not(rt: HostRuntime) -> Result<(), Fail> {
+    let rows = [
+        (b"1024", 876, None),
+        (b"1025", 877, Some(TokenFault::TooLong)),
+    ];
+    for (digits, letters, fault) in rows {
+        let mut text = Vec::new(rt.alloc());
+        text.extend_from_slice(&TEXT[..65])?;
+        text.extend_from_slice(digits)?;
+        text.extend_from_slice(b",X=")?;
+        text.extend_from_slice(&[b'a'; 877][..letters])?;
+        text.extend_from_slice(&TEXT[88..])?;
+        assert_eq!(rt; fault_of(rt.alloc(), &text), fault);
+    }
     Ok(())
 }

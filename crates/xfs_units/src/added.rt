@@ -1,4 +1,4 @@
-ghost use Rattle.std.specs.Prelude.{◌≡◌, ℕ, ◌+◌, ◌<◌, ◌≤◌, ◌≢◌, ◌↔◌, codes, Err, IfOk, IsTrue, IfSome, IfNone, Option, option_and_then, option_map, unwrap_or};
+ghost use Rattle.std.specs.Prelude.{◌≡◌, ℕ, ◌+◌, ◌<◌, ◌≤◌, ◌≢◌, ◌↔◌, Err, Some, IfOk, IsTrue, IfSome, IfNone, option_and_then, unwrap_or};
 ghost use Rattle.serde_json.specs.Find.{get};
 ghost use Rattle.serde_json.specs.View.{view, members_view};
 ghost use Rattle.xfs_base.specs.Counts.{at};
@@ -28,7 +28,8 @@ pub enum AddedFault {
 pub fn read_added(payload: &Value) -> Result<Added, AddedFault>
     ensures shape { result ≡ Err AddedFault.Shape → ¬ AreAdded (storage_of (view payload.now)) }
     ensures unit { result ≡ Err AddedFault.Unit → AreAdded (storage_of (view payload.now)) × ¬ IfSome (storage_of (view payload.now)) AreUnits }
-    ensures ok { IfOk result (λ _. AreAdded (storage_of (view payload.now)) × IfSome (storage_of (view payload.now)) AreUnits) }
+    ensures shaped { IfOk result (λ _. AreAdded (storage_of (view payload.now))) }
+    ensures named { IfOk result (λ _. IfSome (storage_of (view payload.now)) AreUnits) }
     ensures counts { IfOk result (λ added. (u : ℕ) → u < 8 → at added u ≡ added_to (u + 1) (view payload.now)) }
 {
     let Some(storage) = payload.get("storage") else {
@@ -37,13 +38,19 @@ pub fn read_added(payload: &Value) -> Result<Added, AddedFault>
     let Some(units) = storage.as_object() else {
         return Err(AddedFault::Shape);
     };
-    if units.is_empty() || !all_added(units) {
+    if !are_added(units) {
         return Err(AddedFault::Shape);
     }
     if !are_units(units) {
         return Err(AddedFault::Unit);
     }
     Ok(counts_of(storage))
+}
+
+fn are_added(units: &Map) -> bool
+    ensures { IsTrue result ↔ AreAdded (Some (members_view units.now.entries)) }
+{
+    !units.is_empty() && all_added(units)
 }
 
 fn all_added(units: &Map) -> bool

@@ -8,3 +8,6 @@ mod payloads;
 pub use added::{Added, AddedFault, read_added, unit_of};
 pub use book::Book;
 pub use payloads::{name_of, storage};
+
+#[cfg(test)]
+mod tests;

@@ -1,5 +1,4 @@
 use Rattle.std.proofs.Common.{option_map, ap, ◌∙◌}
-use Rattle.serde_json.specs.Find.{get}
 use Rattle.serde_json.specs.View.{view}
 use Rattle.serde_json.proofs.Views.{view-lookup, view-Object}
 use Rattle.xfs_envelope.proofs.fields.take_member.Goals as goal

@@ -1,7 +1,7 @@
 use Rattle.std.proofs.Common.{ap, option_and_then, ◌∙◌}
 use Rattle.std.proofs.lemmas.Result.{IfOk-weaker}
 use Rattle.std.specs.Option.{option_copied}
-use Rattle.xfs_envelope.specs.Messages.{acknowledge_header, headed}
+use Rattle.xfs_envelope.specs.Messages.{headed}
 use Rattle.xfs_envelope.specs.Replies.{reply_of_value}
 use Rattle.xfs_envelope.proofs.ReplyLaws.{acknowledge_back}
 use Rattle.xfs_envelope.proofs.messages.acknowledge.Goals as goal

@@ -1,6 +1,5 @@
-use Rattle.std.proofs.Common.{◌≡◌, ◌∙◌, [], ◌∷◌, ◌++◌, sym, ap}
+use Rattle.std.proofs.Common.{◌∙◌, ◌++◌, sym, ap}
 use Rattle.xfs_journal.specs.Image.{body}
-use Rattle.xfs_journal.specs.declared.record.Rec.TheVariants.{Issue}
 use Rattle.xfs_journal.proofs.Pieces.{behind}
 use Rattle.xfs_journal.proofs.body.put_body.Goals as goal
 

@@ -1,8 +1,8 @@
-use Rattle.std.proofs.Common.{◌≡◌, ◌+◌, [], ◌∷◌, Some, ⊎_elim, length, take, option_map, ◌∙◌, ap, subst, sym}
+use Rattle.std.proofs.Common.{◌+◌, ⊎_elim, take, option_map, ◌∙◌, ap}
 use Rattle.xfs_disk.specs.Disk.{overlaid}
-use Rattle.xfs_journal.specs.Gate.{IsEither, MayBecome}
+use Rattle.xfs_journal.specs.Gate.{IsEither}
 use Rattle.xfs_journal.proofs.Moments.{weaken, joins}
-use Rattle.xfs_journal.proofs.Opening.{first_image, second_image, is_opened, long_enough}
+use Rattle.xfs_journal.proofs.Opening.{first_image, second_image}
 use Rattle.xfs_journal.proofs.Told.{on_told, from_told, goes}
 use Rattle.xfs_journal.proofs.gate.write_behind.Goals as goal
 

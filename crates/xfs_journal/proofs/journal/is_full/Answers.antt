@@ -1,4 +1,4 @@
-use Rattle.std.proofs.Common.{◌≡◌, ◌∙◌, sym, ap, rules, length}
+use Rattle.std.proofs.Common.{◌≡◌, ◌∙◌, sym, rules, length}
 use Rattle.std.specs.Prelude.{nat_lt, ◌||◌, ◌+◌}
 use Rattle.xfs_journal.proofs.Appended.{passes_is}
 use Rattle.xfs_journal.proofs.journal.is_full.Goals as goal

@@ -64,6 +64,6 @@ returns-clause-ok c =
     let run = key_run c.args.text.now c.cut.result.now c.run_len-n.result c.run_len-n.ensures c.cut.ensures (sym c.first_has.ensures ∙ c.if-not-first_has.false) in
     let key : List ℕ = take c.run_len-n.result c.args.text.now in
     let free = free_from (map pair_of c.args.pairs.now) c.args.text.now c.run_len-n.result run (ap is_reserved (sym c.split_at.ensures.front) ∙ sym c.is_reserved.ensures ∙ c.if-is_reserved.false)
-      (ap (λ (k : List ℕ). has_key k (map pair_of c.args.pairs.now)) (sym c.split_at.ensures.front) ∙ sym c.has_key-taken.ensures ∙ c.if-taken.false) in
+    (ap (λ (k : List ℕ). has_key k (map pair_of c.args.pairs.now)) (sym c.split_at.ensures.front) ∙ sym c.has_key-taken.ensures ∙ c.if-taken.false) in
     key_ends (map pair_of c.args.pairs.now) c.args.text.now c.split_at.result.1.now c.run_len-n.result run c.split_at.ensures.back (sym c.begins.ensures ∙ c.if-not-begins.false)
     (ap (λ (b : Bool). bytes_eq key (codes "HMACSHA256") || b) free ∙ always (bytes_eq key (codes "HMACSHA256")))

@@ -22,7 +22,7 @@ returns-then-not-is_empty-clause-err c =
 pub returns-in-Ok-clause-ok : goal.returns-in-Ok-clause-ok
 returns-in-Ok-clause-ok c =
     let m = mac_whole c.args.text.now c.split_at.result.1.now c.run_len-n.result (subst (Run is_upper_hex 64 c.args.text.now) (sym (c.run_len-n.ensures ∙ ap (prefix_len is_upper_hex) c.cut.ensures)) (run_of is_upper_hex 64 c.args.text.now)) c.if-n-lt64.false c.split_at.ensures.back
-      (eqb-true (length c.split_at.result.1.now) 0 (sym c.is_empty.ensures ∙ c.if-not-is_empty.false)) in
+    (eqb-true (length c.split_at.result.1.now) 0 (sym c.is_empty.ensures ∙ c.if-not-is_empty.false)) in
     let d = decoded c.args.text.now m in
     let e : m.mac ≡ c.in-Ok.mac = cc (d, c.in-Ok.ensures) in
     (subst IsMac e m.is_mac, m.is ∙ ap encode_upper e)
@@ -30,6 +30,6 @@ returns-in-Ok-clause-ok c =
 pub returns-in-Err-clause-err : goal.returns-in-Err-clause-err
 returns-in-Err-clause-err c =
     let m = mac_whole c.args.text.now c.split_at.result.1.now c.run_len-n.result (subst (Run is_upper_hex 64 c.args.text.now) (sym (c.run_len-n.ensures ∙ ap (prefix_len is_upper_hex) c.cut.ensures)) (run_of is_upper_hex 64 c.args.text.now)) c.if-n-lt64.false c.split_at.ensures.back
-      (eqb-true (length c.split_at.result.1.now) 0 (sym c.is_empty.ensures ∙ c.if-not-is_empty.false)) in
+    (eqb-true (length c.split_at.result.1.now) 0 (sym c.is_empty.ensures ∙ c.if-not-is_empty.false)) in
     let d = decoded c.args.text.now m in
     absurd (cc (d, c.in-Err.ensures))

@@ -1,4 +1,4 @@
-use Rattle.std.proofs.Common.{◌≡◌, ◌-◌, ◌+◌, arith, ◌∙◌, ap}
+use Rattle.std.proofs.Common.{◌-◌, arith, ◌∙◌, ap}
 use Rattle.serde_json.specs.Data.{put}
 use Rattle.serde_json.specs.View.{view, members_view}
 use Rattle.xfs_units.proofs.UnitLaws.{units-step}

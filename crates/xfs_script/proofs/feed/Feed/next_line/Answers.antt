@@ -1,4 +1,4 @@
-use Rattle.std.proofs.Common.{◌≡◌, ℕ, [], length, arith, sym, subst}
+use Rattle.std.proofs.Common.{◌≡◌, ℕ, length, arith, sym, subst}
 use Rattle.std.proofs.lemmas.List.{nil_from_length}
 use Rattle.xfs_script.proofs.Due.{Due, due_feed, due_end}
 use Rattle.xfs_script.proofs.Cases.{handed_line, none_read, quota_read, refused_read}

@@ -1,0 +1,82 @@
+//! Main's bench over memory, and what a run on it wrote.
+
+ghost use Rattle.std.specs.Prelude.{◌≡◌};
+
+use std::alloc::Global;
+use std::process::Abort;
+use std::test::Fail;
+use xfs_base::{Counts, Currency, MemSink, MemSource, NoteKind, Places, UnitTable};
+use xfs_cli::{Bench, run};
+use xfs_mech::{SimMech, places_fit};
+
+// EUR 10, EUR 20, EUR 50 and USD 20.
+fn units(rt: &impl Abort) -> UnitTable {
+    let eur = Currency::new(b"EUR").expect(rt, "EUR");
+    let usd = Currency::new(b"USD").expect(rt, "USD");
+    let kinds = [(eur, 10), (eur, 20), (eur, 50), (usd, 20)];
+    let kinds = kinds.map(|(currency, value)| NoteKind { currency, value });
+    UnitTable::new(&kinds).expect(rt, "four units")
+}
+
+fn places() -> Places {
+    let none = Counts([0; 8]);
+    Places {
+        units: Counts([100, 100, 100, 100, 0, 0, 0, 0]),
+        transport: none,
+        outlet: none,
+        taken: none,
+        retracted: none,
+        rejected: none,
+    }
+}
+
+/// What a run wrote, and its status.
+#[derive(Drop)]
+pub struct Written {
+    pub status: u8,
+    pub text: Vec<u8>,
+    pub records: usize,
+}
+
+/// Runs the command `word` on a script; the calls of source and sink at these places fail.
+pub fn run_on(
+    rt: &impl Abort,
+    alloc: Global,
+    word: &str,
+    script: &[u8],
+    failing_reads: &[u64],
+    failing_writes: &[u64],
+) -> Result<Written, Fail> {
+
+    let units = units(rt);
+    let places = places();
+    assert!(rt; places_fit(&units, &places));
+    let bench = Bench {
+        mech: SimMech::new(alloc, units.copied(), places, Vec::new(alloc)),
+        key: [0x0b; 32],
+        seed: [0; 32],
+        units,
+    };
+    let mut words = Vec::new(alloc);
+    words.push(String::from_str(alloc, word)?)?;
+    let mut source = MemSource::new(listed(alloc, script)?, numbers(alloc, failing_reads)?);
+    let mut sink = MemSink::new(alloc, numbers(alloc, failing_writes)?);
+    let ended = run(alloc, words.as_slice(), &mut source, &mut sink, bench);
+    Ok(Written {
+        status: ended.status,
+        text: listed(alloc, sink.bytes())?,
+        records: ended.records.len(),
+    })
+}
+
+fn listed(alloc: Global, bytes: &[u8]) -> Result<Vec<u8>, Fail> {
+    let mut list = Vec::new(alloc);
+    list.extend_from_slice(bytes)?;
+    Ok(list)
+}
+
+fn numbers(alloc: Global, places: &[u64]) -> Result<Vec<u64>, Fail> {
+    let mut list = Vec::new(alloc);
+    list.extend_from_slice(places)?;
+    Ok(list)
+}

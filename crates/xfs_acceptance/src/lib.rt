@@ -1,0 +1,7 @@
+//! The worked rows that cross crates, as tests on the top call.
+#![tactic(auto)]
+
+#[cfg(test)]
+mod bench;
+#[cfg(test)]
+mod guard_rows;

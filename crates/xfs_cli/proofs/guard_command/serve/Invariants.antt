@@ -1,0 +1,19 @@
+use Rattle.std.proofs.Common.{◌≡◌, ◌≤◌, List, ℕ, Some}
+use Rattle.xfs_base.specs.Causes.{IfTold}
+use Rattle.xfs_guard.specs.declared.open.Open.TheVariants.{No}
+use Rattle.xfs_guard.specs.Continues.{Continues}
+use Rattle.xfs_script.specs.Reading.{Gives, nothing_read}
+use Rattle.xfs_script.specs.Answer.{bytes_ahead}
+use Rattle.xfs_cli.specs.GuardLines.{behind, AreLines}
+use Rattle.xfs_cli.proofs.LineLaws.{HasRead}
+use Rattle.xfs_cli.proofs.guard_command.serve.Given as goal
+
+abbrev pub invariant-loop : goal.invariant-loop
+invariant-loop g l = record {
+  continues : Continues l.fn.session.guard l.session.guard;
+  none : l.session.guard.open_order ≡ No;
+  source_later : g.S.Source.faults l.fn.source ≤ g.S.Source.faults l.source;
+  sink_later : g.K.Sink.faults l.fn.sink ≤ g.K.Sink.faults l.sink;
+  gives : Gives nothing_read l.lines (g.S.Source.left l.fn.source) (g.S.Source.left l.source);
+  read : HasRead l.lines (g.S.Source.left l.fn.source) (g.S.Source.left l.source);
+}

@@ -1,0 +1,2 @@
+pub mod GuardLines
+pub mod Run

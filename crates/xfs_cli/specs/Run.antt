@@ -1,0 +1,53 @@
+-- What a run of the program keeps, the words that it takes, and how it ends.
+use Rattle.std.specs.Prelude.{◌≡◌, ℕ, ◌<◌, List, [], ◌∷◌, Some, None, String, string_bytes, codes, length}
+use Rattle.std.specs.declared.option.Option.{Option}
+use Rattle.std.specs.declared.alloc.Global.{Global}
+use Rattle.std.specs.Io.KnownBytes.{Consumes}
+use Rattle.xfs_base.specs.declared.money.NoteKind.{NoteKind}
+use Rattle.xfs_base.specs.declared.counts.Places.{Places}
+use Rattle.xfs_mech.specs.declared.motion.Motion.{Motion}
+use Rattle.xfs_journal.specs.declared.record.Rec.{Rec}
+use Rattle.xfs_guard.specs.Agrees.{Agrees}
+use Rattle.xfs_guard.specs.Follows.{Follows}
+use Rattle.xfs_guard.specs.Within.{Within}
+use Rattle.xfs_script.specs.Lines.{first_line}
+use Rattle.xfs_script.specs.declared.line.LineFault.{LineFault}
+use Rattle.xfs_script.specs.declared.line.LineFault.TheVariants.{Read, Quota, TooLong, Memory}
+use Rattle.xfs_cli.specs.GuardLines.{IsLine, behind, AreLines}
+
+-- the words are the one word of a command that is built
+abbrev pub IsGuard : List (String Global) → Type 0
+IsGuard [] = ⊥
+IsGuard (w ∷ []) = string_bytes w ≡ codes "guard"
+IsGuard (w ∷ x ∷ ws) = ⊥
+
+-- the headline: what was put out is within the tokens, and follows the state at entry
+pub record Upholds (key : List ℕ) (units : List NoteKind) (places : Places) (records : List Rec) (motions : List Motion) (places' : Places) : Type 0 where
+  pub within : Within key units records motions
+  pub agrees : Agrees records motions
+  pub follows : Follows [] [] places records motions places'
+
+-- every line of the text is a line
+pub record AllLines (text : List ℕ) : Type 0 where
+  pub many : ℕ
+  pub lines : AreLines many text
+  pub whole : behind many text ≡ []
+
+-- the text has a first line that is none, and before it lines alone
+pub record StopsAtLine (text : List ℕ) : Type 0 where
+  pub many : ℕ
+  pub lines : AreLines many text
+  pub none : ¬ (IsLine (first_line (behind many text)))
+
+-- the source gave as many bytes as there may be
+pub record GaveAll (before after : Option (List ℕ)) : Type 0 where
+  pub bytes : List ℕ
+  pub many : length bytes ≡ 67108864
+  pub taken : Consumes before after bytes
+
+-- the status of a fault of the input
+abbrev pub status_of : LineFault → ℕ
+status_of Read = 3
+status_of Quota = 10
+status_of (TooLong number) = 4
+status_of Memory = 8

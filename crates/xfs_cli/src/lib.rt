@@ -1,0 +1,13 @@
+//! The top call of the program, and the commands that it runs.
+#![tactic(auto)]
+
+mod answer;
+mod bench;
+mod guard_command;
+
+mod say;
+mod top;
+
+pub use bench::{Bench, Ended};
+pub use guard_command::guard;
+pub use top::run;

@@ -1,0 +1,240 @@
+-- What a ledger keeps beside its records is what is read of them.
+use Rattle.std.proofs.Common.{◌≡◌, ◌≢◌, ℕ, zero, suc, ◌+◌, ◌<◌, ◌≤◌, ◌^◌, List, [], ◌∷◌, ◌++◌, length, None, Some, refl, sym, ◌∙◌, ap, arith, length-append}
+use Rattle.std.specs.Prelude.{slice_get, slice_index}
+use Rattle.std.specs.declared.option.Option.{Option}
+use Rattle.std.specs.Option.{option_map}
+use Rattle.xfs_base.specs.declared.money.NoteKind.{NoteKind}
+use Rattle.xfs_journal.specs.declared.record.Rec.{Rec}
+use Rattle.xfs_journal.specs.declared.record.Rec.TheVariants.{Issue, Clear, Boot, Bind, Order, Done, Load}
+use Rattle.xfs_journal.specs.Journal.{record_at, live_of, token_of, bind_of, last_mark, next_issue, nonce_text, next_number, live_after, mark_after, Finding, found_after, Binding, bound_after}
+use Rattle.xfs_journal.proofs.JournalLaws.{live_of-push, token_of-push, bind_of-push, last_mark-push, next_issue-push, record_at-push, record_at-pushed, record_at-within, eqb-same}
+use Rattle.std.proofs.lemmas.Bool.{cases_lt}
+use Rattle.std.proofs.lemmas.Option.{slice_get_past}
+use Rattle.std.proofs.Common.{inl, inr}
+use Rattle.xfs_base.specs.declared.counts.Counts.{Counts}
+use Rattle.xfs_base.specs.declared.counts.Kind.{Kind}
+use Rattle.xfs_base.specs.declared.counts.Kind.TheVariants.{Stack, Present, Reject, Retract}
+use Rattle.xfs_base.specs.Money.{value}
+use Rattle.xfs_guard.specs.Presented.{presented_in, done_worth}
+use Rattle.xfs_guard.proofs.PresentedLaws.{presented_in-push}
+use Rattle.xfs_guard.specs.declared.bound.Live.{Live}
+use Rattle.xfs_guard.specs.declared.bound.Bound.{Bound}
+use Rattle.xfs_guard.specs.declared.nonce.Nonce.{Nonce}
+use Rattle.xfs_guard.specs.Nonce.{nonce_of, live_nonce}
+use Rattle.xfs_guard.specs.Refusals.{bound_token, bound_place}
+use Rattle.xfs_guard.specs.Ledger.{IsLive, IsBound, IsBind, IsRead, AreSums, amounts_kept}
+use Rattle.xfs_guard.specs.Pays.{Fits, Pays, Grows}
+
+abbrev pub nonce_kept : Option Live → Option Nonce
+nonce_kept l = option_map (λ (x : Live). x.nonce) l
+
+abbrev pub place_kept : Option Bound → Option ℕ
+place_kept b = option_map (λ (x : Bound). x.place) b
+
+pub live_nonce-kept : (J : List Rec) (l : Option Live) → IsLive J l → live_nonce J ≡ nonce_kept l
+live_nonce-kept J None h = rw h refl
+live_nonce-kept J (Some l) h = rw (h.0, h.1) refl
+
+pub bound_token-none : (u : List NoteKind) (J : List Rec) (l : Option Live) → IsLive J l → IsBound u J l None → bound_token J ≡ None
+bound_token-none u J None h b = rw h refl
+bound_token-none u J (Some l) h b = rw (h.0, b.0) refl
+
+pub bound_place-none : (u : List NoteKind) (J : List Rec) (l : Option Live) → IsLive J l → IsBound u J l None → bound_place J ≡ None
+bound_place-none u J None h b = rw h refl
+bound_place-none u J (Some l) h b = rw (h.0, b.1) refl
+
+pub bound_token-some : (u : List NoteKind) (J : List Rec) (l : Option Live) (b : Bound) → IsLive J l → IsBound u J l (Some b)
+    → (t : List ℕ) × (bound_token J ≡ Some t) × (record_at J b.place ≡ Some (Bind t)) × (bound_place J ≡ Some b.place)
+bound_token-some u J None b h k = absurd k
+bound_token-some u J (Some l) b h k = (k.token, rw (h.0, k.bound) refl, k.written, rw (h.0, k.place) refl)
+
+-- an issue is written
+pub IsRead-issue : (J : List Rec) (u : List NoteKind) (i m : ℕ) (l : Option Live) (b : Option Bound) (n w : ℕ) (nonce : Nonce)
+    → IsRead J u i m l b → n ≡ next_issue J → nonce.text ≡ nonce_text n w → nonce.number ≡ n
+    → IsRead (J ++ Issue n w ∷ []) u n (length J + 1) (Some (record { place = length J + 1; nonce = nonce })) None
+IsRead-issue J u i m l b n w nonce h is text number = record {
+  issued = rw (next_issue-push J (Issue n w)) (ap (λ k. k + 1) is);
+  few = let e = length-append J (Issue n w ∷ []) in let f = h.few in let g = h.issued in omega (arith, e, f, g, is);
+  marked = sym (last_mark-push J (Issue n w));
+  lives = (live_of-push J (Issue n w), rw (record_at-pushed J (Issue n w)) (ap Some (same nonce text number)));
+  binds = (token_of-push J (Issue n w) (length J + 1) ∙ rw (eqb-same (length J + 1)) refl, bind_of-push J (Issue n w) (length J + 1) ∙ rw (eqb-same (length J + 1)) refl);
+}
+  where
+    same : (x : Nonce) → x.text ≡ nonce_text n w → x.number ≡ n → record { text = nonce_text n w; number = n } ≡ x
+    same x t k = rw (← t, ← k) refl
+
+-- a mark is written after which no issue lives
+pub IsRead-end : (J : List Rec) (u : List NoteKind) (i m : ℕ) (l : Option Live) (b : Option Bound) (r : Rec)
+    → IsRead J u i m l b → ((k : ℕ) → next_number k r ≡ k) → ((k : ℕ) (x : Option ℕ) → live_after k x r ≡ None) → ((k x : ℕ) → mark_after k x r ≡ k + 1)
+    → IsRead (J ++ r ∷ []) u i (length J + 1) None None
+IsRead-end J u i m l b r h same dies marks = record {
+  issued = rw (next_issue-push J r, same (next_issue J)) h.issued;
+  few = let e = length-append J (r ∷ []) in let f = h.few in omega (arith, e, f);
+  marked = sym (last_mark-push J r ∙ marks (length J) (last_mark J));
+  lives = live_of-push J r ∙ dies (length J) (live_of J);
+  binds = tt;
+}
+
+nonce-place : (J : List Rec) (p : ℕ) (n : Nonce) → nonce_of (record_at J p) ≡ Some n → p ≤ length J
+nonce-place J zero n e = omega arith
+nonce-place J (suc i) n e = elim (cases_lt i (length J)) [ inl below ↦ omega arith | inr past ↦ absurd (none (rw (slice_get_past J i past) at e)) ]
+  where
+    none : nonce_of None ≡ Some n → ⊥
+    none x = cc
+
+abbrev pub SameBind : Option Bound → Option Bound → Type 0
+SameBind None None = Unit {0}
+SameBind None (Some c) = ⊥
+SameBind (Some b) None = ⊥
+SameBind (Some b) (Some c) = c.place ≡ b.place
+
+abbrev pub SumsOf : List NoteKind → List Rec → Option Bound → Type 0
+SumsOf u J None = Unit {0}
+SumsOf u J (Some c) = AreSums u J c.amounts c.presented
+
+-- a record that is no mark leaves the live issue
+lives-plain : (J : List Rec) (r : Rec) (l : Option Live) → IsLive J l → ((k : ℕ) (x : Option ℕ) → live_after k x r ≡ x) → IsLive (J ++ r ∷ []) l
+lives-plain J r None h keeps = live_of-push J r ∙ (keeps (length J) (live_of J) ∙ h)
+lives-plain J r (Some l) h keeps = (
+  live_of-push J r ∙ (keeps (length J) (live_of J) ∙ h.0),
+  rw (record_at-push J r l.place (nonce-place J l.place l.nonce h.1)) h.1,
+)
+
+-- a record that is neither a mark nor a bind leaves the bind, where the sums are those of the longer list
+binds-plain : (u : List NoteKind) (J : List Rec) (r : Rec) (l : Option Live) (b c : Option Bound) → IsLive J l → IsBound u J l b → SameBind b c
+    → ((p : ℕ) (f : Finding) → found_after p f r ≡ f.token) → ((p : ℕ) (f : Binding) → bound_after p f r ≡ f.place)
+    → SumsOf u (J ++ r ∷ []) c → IsBound u (J ++ r ∷ []) l c
+binds-plain u J r None None None h k s token place sums = tt
+binds-plain u J r None (Some b) c h k s token place sums = absurd k
+binds-plain u J r None None (Some c) h k s token place sums = absurd s
+binds-plain u J r (Some l) None None h k s token place sums =
+    (token_of-push J r l.place ∙ (token l.place _ ∙ k.0), bind_of-push J r l.place ∙ (place l.place _ ∙ k.1))
+binds-plain u J r (Some l) None (Some c) h k s token place sums = absurd s
+binds-plain u J r (Some l) (Some b) None h k s token place sums = absurd s
+binds-plain u J r (Some l) (Some b) (Some c) h k s token place sums = record {
+  token = k.token;
+  bound = token_of-push J r l.place ∙ (token l.place _ ∙ k.bound);
+  place = bind_of-push J r l.place ∙ (place l.place _ ∙ (k.place ∙ ap Some (sym s)));
+  written = rw s (record_at-push J r b.place (record_at-within J b.place (Bind k.token) k.written).1 ∙ k.written);
+  sums = sums;
+}
+
+-- the sums of a bind that stands
+pub sums-of : (u : List NoteKind) (J : List Rec) (l : Option Live) (b : Option Bound) → IsBound u J l b → SumsOf u J b
+sums-of u J None None k = tt
+sums-of u J None (Some b) k = absurd k
+sums-of u J (Some l) None k = tt
+sums-of u J (Some l) (Some b) k = k.sums
+
+same-bind : (b : Option Bound) → SameBind b b
+same-bind None = tt
+same-bind (Some b) = refl
+
+-- an order is written
+pub IsRead-order : (J : List Rec) (u : List NoteKind) (i m : ℕ) (l : Option Live) (b : Option Bound) (k : Kind) (c : Counts) → IsRead J u i m l b → IsRead (J ++ Order k c ∷ []) u i m l b
+IsRead-order J u i m l b k c h = record {
+  issued = rw (next_issue-push J (Order k c)) h.issued;
+  few = let e = length-append J (Order k c ∷ []) in let f = h.few in omega (arith, e, f);
+  marked = h.marked ∙ sym (last_mark-push J (Order k c));
+  lives = lives-plain J (Order k c) l h.lives (λ n x. refl);
+  binds = binds-plain u J (Order k c) l b b h.lives h.binds (same-bind b) (λ p f. refl) (λ p f. refl) (more b (sums-of u J l b h.binds));
+}
+  where
+    more : (b : Option Bound) → SumsOf u J b → SumsOf u (J ++ Order k c ∷ []) b
+    more None s = tt
+    more (Some b) s = λ j a e. s j a e ∙ sym (presented_in-push u J (Order k c) a.0)
+
+-- what an order did is written
+pub IsRead-done : (J : List Rec) (u : List NoteKind) (i m : ℕ) (l : Option Live) (b c : Option Bound) (n d : Counts) → IsRead J u i m l b → SameBind b c → SumsOf u (J ++ Done n d ∷ []) c
+    → IsRead (J ++ Done n d ∷ []) u i m l c
+IsRead-done J u i m l b c n d h same sums = record {
+  issued = rw (next_issue-push J (Done n d)) h.issued;
+  few = let e = length-append J (Done n d ∷ []) in let f = h.few in omega (arith, e, f);
+  marked = h.marked ∙ sym (last_mark-push J (Done n d));
+  lives = lives-plain J (Done n d) l h.lives (λ n x. refl);
+  binds = binds-plain u J (Done n d) l b c h.lives h.binds same (λ p f. refl) (λ p f. refl) sums;
+}
+
+-- a token is bound
+pub IsRead-bind : (J : List Rec) (u : List NoteKind) (i m : ℕ) (l : Option Live) (b : Option Bound) (t : List ℕ) (c : Bound) → IsRead J u i m l b
+    → (p : ℕ) × (live_of J ≡ Some p) → bound_token J ≡ None → ((cur : List ℕ) → presented_in u J cur ≡ 0) → ((j : ℕ) → slice_index c.presented j ≡ 0) → c.place ≡ length J + 1
+    → IsRead (J ++ Bind t ∷ []) u i m l (Some c)
+IsRead-bind J u i m l b t c h live free fresh zeros place = record {
+  issued = rw (next_issue-push J (Bind t)) h.issued;
+  few = let e = length-append J (Bind t ∷ []) in let f = h.few in omega (arith, e, f);
+  marked = h.marked ∙ sym (last_mark-push J (Bind t));
+  lives = lives-plain J (Bind t) l h.lives (λ n x. refl);
+  binds = bind l b h.lives h.binds;
+}
+  where
+    bind : (l : Option Live) (b : Option Bound) → IsLive J l → IsBound u J l b → IsBound u (J ++ Bind t ∷ []) l (Some c)
+    bind None b h k = let none : Some live.0 ≡ None = sym live.1 ∙ h in cc
+    bind (Some l) (Some b) h k = let none : Some k.token ≡ None = (let e = rw h.0 at free in sym k.bound ∙ e) in cc
+    bind (Some l) None h k = record {
+      token = t;
+      bound = token_of-push J (Bind t) l.place ∙ rw (h.0, k.0, eqb-same l.place) refl;
+      place = bind_of-push J (Bind t) l.place ∙ rw (h.0, k.1, eqb-same l.place) (ap Some (sym place));
+      written = rw place (record_at-pushed J (Bind t));
+      sums = λ j a e. zeros j ∙ sym (presented_in-push u J (Bind t) a.0 ∙ fresh a.0);
+    }
+
+-- what was presented of the bound currencies grows by what the order presented
+pub sums-present : (u : List NoteKind) (J : List Rec) (amounts : List (List ℕ × ℕ)) (old new : List ℕ) (counts m d : Counts) → AreSums u J amounts old → record_at J (length J) ≡ Some (Order Present counts)
+    → ((i : ℕ) (a : List ℕ × ℕ) → slice_get amounts i ≡ Some a → slice_index new i ≡ slice_index old i + value u m a.0) → AreSums u (J ++ Done m d ∷ []) amounts new
+sums-present u J amounts old new counts m d sums last more i a e =
+    let p = presented_in-push u J (Done m d) a.0 in
+    let w : done_worth u a.0 (record_at J (length J)) m ≡ value u m a.0 = rw last refl in
+    omega (arith, more i a e, sums i a e, p, w)
+
+-- an order of another kind presents nothing
+sums-other : (u : List NoteKind) (J : List Rec) (amounts : List (List ℕ × ℕ)) (old : List ℕ) (k : Kind) (counts m d : Counts) → AreSums u J amounts old → record_at J (length J) ≡ Some (Order k counts) → k ≢ Present
+    → AreSums u (J ++ Done m d ∷ []) amounts old
+sums-other u J amounts old k counts m d sums last other i a e =
+    let p = presented_in-push u J (Done m d) a.0 in
+    let w : done_worth u a.0 (record_at J (length J)) m ≡ 0 = rw last (quiet k other) in
+    omega (arith, sums i a e, p, w)
+  where
+    quiet : (k : Kind) → k ≢ Present → done_worth u a.0 (Some (Order k counts)) m ≡ 0
+    quiet Stack other = refl
+    quiet Present other = absurd (other refl)
+    quiet Reject other = refl
+    quiet Retract other = refl
+
+sums-pays : (u : List NoteKind) (J : List Rec) (b c : Option Bound) (k : Kind) (counts m d : Counts) → SumsOf u J b → record_at J (length J) ≡ Some (Order k counts) → Pays u k m b c → SumsOf u (J ++ Done m d ∷ []) c
+sums-pays u J None None k counts m d sums last p = tt
+sums-pays u J None (Some c) k counts m d sums last p = absurd p
+sums-pays u J (Some b) None k counts m d sums last p = absurd p
+sums-pays u J (Some b) (Some c) Present counts m d sums last p = rw p.amounts (sums-present u J b.amounts b.presented c.presented counts m d sums last (p.present refl))
+sums-pays u J (Some b) (Some c) Stack counts m d sums last p = let other : Stack ≢ Present = λ e. cc in rw (p.amounts, p.other other) (sums-other u J b.amounts b.presented Stack counts m d sums last other)
+sums-pays u J (Some b) (Some c) Reject counts m d sums last p = let other : Reject ≢ Present = λ e. cc in rw (p.amounts, p.other other) (sums-other u J b.amounts b.presented Reject counts m d sums last other)
+sums-pays u J (Some b) (Some c) Retract counts m d sums last p = let other : Retract ≢ Present = λ e. cc in rw (p.amounts, p.other other) (sums-other u J b.amounts b.presented Retract counts m d sums last other)
+
+bind-pays : (u : List NoteKind) (b c : Option Bound) (k : Kind) (m : Counts) → Pays u k m b c → SameBind b c
+bind-pays u None None k m p = tt
+bind-pays u None (Some c) k m p = absurd p
+bind-pays u (Some b) None k m p = absurd p
+bind-pays u (Some b) (Some c) k m p = p.place
+
+-- what an order did is written
+pub IsRead-paid : (J : List Rec) (u : List NoteKind) (i m : ℕ) (l : Option Live) (b c : Option Bound) (k : Kind) (n d : Counts) → IsRead J u i m l b
+    → (counts : Counts) × (record_at J (length J) ≡ Some (Order k counts)) → Pays u k n b c → IsRead (J ++ Done n d ∷ []) u i m l c
+IsRead-paid J u i m l b c k n d h last p =
+    IsRead-done J u i m l b c n d h (bind-pays u b c k n p) (sums-pays u J b c k last.0 n d (sums-of u J l b h.binds) last.1 p)
+
+-- what is paid keeps the amounts
+pub amounts-pays : (u : List NoteKind) (b c : Option Bound) (k : Kind) (m : Counts) → Pays u k m b c → amounts_kept c ≡ amounts_kept b
+amounts-pays u None None k m p = refl
+amounts-pays u None (Some c) k m p = absurd p
+amounts-pays u (Some b) None k m p = absurd p
+amounts-pays u (Some b) (Some c) k m p = ap Some p.amounts
+
+-- the sums fit, where what is presented in each currency does
+pub fits-sums : (u : List NoteKind) (J : List Rec) (l : Option Live) (b : Option Bound) (k : Kind) (m : Counts) → IsBound u J l b
+    → (k ≡ Present → (c : List ℕ) → presented_in u J c + value u m c < 2 ^ 64) → Fits u k m b
+fits-sums u J l None k m h small = tt
+fits-sums u J None (Some b) k m h small = absurd h
+fits-sums u J (Some l) (Some b) k m h small = λ is i a e. let s = small is a.0 in let t = h.sums i a e in omega (arith, s, t)
+
+-- the nonce of an issue lives once it is written
+pub live-issued : (J : List Rec) (n w : ℕ) (x : Nonce) → x.text ≡ nonce_text n w → x.number ≡ n → live_nonce (J ++ Issue n w ∷ []) ≡ Some x
+live-issued J n w x text number = rw (live_of-push J (Issue n w), record_at-pushed J (Issue n w)) (ap Some (rw (← text, ← number) refl))

@@ -1,0 +1,10 @@
+pub mod AgreesLaws
+pub mod BudgetLaws
+pub mod ContinueLaws
+pub mod FollowsLaws
+pub mod LedgerLaws
+pub mod OrderLaws
+pub mod PresentedLaws
+pub mod RecordLaws
+pub mod SoundLaws
+pub mod WithinLaws

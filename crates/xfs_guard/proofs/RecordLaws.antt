@@ -1,0 +1,328 @@
+-- What a guard keeps when a record is appended.
+use Rattle.std.proofs.Common.{◌≡◌, ℕ, zero, suc, ◌+◌, ◌-◌, ◌<◌, ◌≤◌, Bool, true, false, List, [], ◌∷◌, ◌++◌, length, None, Some, refl, sym, ◌∙◌, ap, take, zero-add, add-zero, arith, length-append}
+use Rattle.std.proofs.lemmas.List.{length-take}
+use Rattle.std.specs.Prelude.{fold, ⊤}
+use Rattle.std.specs.declared.option.Option.{Option}
+use Rattle.std.specs.List.{sum_by, AllByRecursion, Contains}
+use Rattle.std.proofs.lemmas.List.Sums.{sum_by-cons}
+use Rattle.xfs_base.specs.declared.counts.Counts.{Counts}
+use Rattle.xfs_base.specs.declared.money.NoteKind.{NoteKind}
+use Rattle.xfs_base.specs.declared.counts.Places.{Places}
+use Rattle.xfs_base.specs.declared.counts.Kind.{Kind}
+use Rattle.xfs_base.specs.declared.counts.Kind.TheVariants.{Stack, Present, Reject, Retract}
+use Rattle.xfs_base.specs.Causes.{IfTold}
+use Rattle.xfs_base.specs.Counts.{LiesIn}
+use Rattle.xfs_base.specs.Money.{value}
+use Rattle.xfs_token.specs.Token.{Parts}
+use Rattle.xfs_token.specs.Amounts.{amount, amounts_of}
+use Rattle.xfs_mech.specs.declared.motion.Motion.{Motion}
+use Rattle.xfs_mech.specs.declared.motion.Motion.TheVariants.{Moved, Taken, Loaded}
+use Rattle.xfs_mech.specs.Motions.{NumberIs}
+use Rattle.xfs_mech.specs.Mechanism.{source_of}
+use Rattle.xfs_mech.proofs.MotionLaws.{all-numbers}
+use Rattle.xfs_journal.specs.declared.record.Rec.{Rec}
+use Rattle.xfs_journal.specs.declared.record.Rec.TheVariants.{Issue, Clear, Boot, Bind, Order, Done, Load}
+use Rattle.xfs_journal.specs.Journal.{record_at, live_at, live_of, live_after, token_of, next_number, next_issue, CarriesNumber, Reading, reading_after, nothing_read, is_place}
+use Rattle.xfs_journal.proofs.JournalLaws.{live_of-push, live_at-pushed, token_of-push, record_at-pushed, Walk-push, eqb-same, eqb-no}
+use Rattle.xfs_guard.specs.declared.open.Open.{Open}
+use Rattle.xfs_guard.specs.declared.open.Open.TheVariants.{No, Written, Acted}
+use Rattle.xfs_guard.specs.View.{View}
+use Rattle.xfs_guard.specs.Agrees.{MayFollow, keep_last, IsOrder, IsNoOrder}
+use Rattle.xfs_guard.specs.Within.{Carries, shown, shown_by}
+use Rattle.xfs_guard.specs.Presented.{done_worth, presented_in, pending, unsettled}
+use Rattle.xfs_guard.specs.Budget.{IsFunded, Budget}
+use Rattle.xfs_guard.specs.Sound.{IsReleased, IfPresent, Stands, HasActed, Ties, IsSound}
+use Rattle.xfs_guard.proofs.AgreesLaws.{Agrees-record, numbers_within}
+use Rattle.xfs_guard.proofs.PresentedLaws.{presented_in-push}
+use Rattle.xfs_guard.proofs.WithinLaws.{Within-record, shown-record, carries-record}
+
+-- the guard after a record was appended
+abbrev pub longer : View → Rec → Option (List (List ℕ × ℕ)) → Open → View
+longer v r b o = record v { records = v.records ++ r ∷ []; bound = b; open_order = o }
+
+pub length-pushed : (J : List Rec) (r : Rec) → length (J ++ r ∷ []) ≡ length J + 1
+length-pushed J r = length-append J (r ∷ [])
+
+pub last-pushed : (J : List Rec) (r : Rec) → record_at (J ++ r ∷ []) (length (J ++ r ∷ [])) ≡ Some r
+last-pushed J r = rw length-pushed (record_at-pushed J r)
+
+Ties-record : (v : View) (r : Rec) (w : Option (List (List ℕ × ℕ))) (o : Open) (L : List Motion) → Ties v L → MayFollow (record_at v.records (length v.records)) r
+    → ((k : Kind) (c m d : Counts) → record_at v.records (length v.records) ≡ Some (Order k c) → r ≡ Done m d → Contains L (Moved (length v.records) k m d))
+    → ((p : ℕ) (c : List ℕ) → live_of (v.records ++ r ∷ []) ≡ Some p → shown v.units v.records L p c ≡ presented_in v.units (v.records ++ r ∷ []) c + unsettled v.units o c)
+    → HasActed o (v.records ++ r ∷ []) L → Ties (longer v r w o) L
+Ties-record v r w o L t may done counted acted =
+    let known = numbers_within v.records L t.agrees in record {
+      agrees = Agrees-record v.records r L t.agrees may done;
+      within = Within-record v.key v.units v.records r L known t.within;
+      counted = λ p c lives. shown-record v.units v.records r p c L known ∙ counted p c lives;
+      acted = acted;
+    }
+
+-- an order is written
+pub IsSound-order : (v : View) (k : Kind) (c : Counts) → IsSound v → v.open_order ≡ No → LiesIn c (source_of k v.places)
+    → IfPresent k (IsReleased (v.records ++ Order k c ∷ []))
+    → ((p : ℕ) (b : List ℕ) → live_of v.records ≡ Some p → token_of v.records p ≡ Some b → IsFunded (record v { open_order = Written k c }) p b)
+    → IsSound (longer v (Order k c) v.bound (Written k c))
+IsSound-order v k c s none lies released funded = record {
+  numbered = Walk-push next_number CarriesNumber 1 v.records (Order k c) s.numbered tt;
+  stands = (last-pushed v.records (Order k c), lies, released);
+  budget = record {
+    funded = λ p b lives bound.
+        let f = funded p b (live p lives) (sym (token_of-push v.records (Order k c) p) ∙ bound) in record {
+          token = f.token;
+          carries = carries-record v.key v.records (Order k c) p b f.token f.carries;
+          amounts = f.amounts;
+          amounts_are = f.amounts_are;
+          kept = f.kept;
+          enough = λ cur. let e = presented_in-push v.units v.records (Order k c) cur in let w = f.enough cur in rw e w;
+        };
+    unbound = λ p lives free.
+        let old = s.budget.unbound p (live p lives) (sym (token_of-push v.records (Order k c) p) ∙ free) in
+        (old.0, λ cur. presented_in-push v.units v.records (Order k c) cur ∙ old.1 cur);
+    dead = λ dead. s.budget.dead (sym (live_of-push v.records (Order k c)) ∙ dead);
+  };
+  told = ties v.motions s.told;
+}
+  where
+    live : (p : ℕ) → live_of (v.records ++ Order k c ∷ []) ≡ Some p → live_of v.records ≡ Some p
+    live p lives = sym (live_of-push v.records (Order k c)) ∙ lives
+
+    before : IsNoOrder (record_at v.records (length v.records))
+    before = rw none at s.stands
+
+    ties : (told : Option (List Motion)) → IfTold told (Ties v) → IfTold told (Ties (longer v (Order k c) v.bound (Written k c)))
+    ties None t = tt
+    ties (Some L) t = Ties-record v (Order k c) v.bound (Written k c) L t before (λ k' c' m' d o e. cc)
+        (λ p cur lives. let was = rw none at (t.counted p cur (live p lives)) in was ∙ ap (λ n. n + 0) (sym (presented_in-push v.units v.records (Order k c) cur)))
+        (rw length-pushed (all-numbers (λ n. n ≤ length v.records) (λ n. n < length v.records + 1) L (λ n le. omega arith) (numbers_within v.records L t.agrees)))
+
+-- the worth of a done record is that of the order's motion
+done_worth-settles : (u : List NoteKind) (cur : List ℕ) (last : Option Rec) (k : Kind) (c m d : Counts) (failed : Bool) → last ≡ Some (Order k c)
+    → done_worth u cur last m ≡ unsettled u (Acted k m d failed) cur
+done_worth-settles u cur last Present c m d failed e = rw e refl
+done_worth-settles u cur last Stack c m d failed e = rw e refl
+done_worth-settles u cur last Reject c m d failed e = rw e refl
+done_worth-settles u cur last Retract c m d failed e = rw e refl
+
+-- where no token is bound, nothing that was acted counts
+unsettled-unbound : (v : View) (k : Kind) (m d : Counts) (failed : Bool) (p : ℕ) (cur : List ℕ) → IfPresent k (IsReleased v.records) → live_of v.records ≡ Some p → token_of v.records p ≡ None
+    → unsettled v.units (Acted k m d failed) cur ≡ 0
+unsettled-unbound v Present m d failed p cur r lives free =
+    let same : r.place ≡ p = (let e : Some r.place ≡ Some p = sym r.lives ∙ lives in cc) in
+    let none : Some r.bytes ≡ None = sym r.bound ∙ rw same free in
+    cc
+unsettled-unbound v Stack m d failed p cur r lives free = refl
+unsettled-unbound v Reject m d failed p cur r lives free = refl
+unsettled-unbound v Retract m d failed p cur r lives free = refl
+
+-- the order is settled
+pub IsSound-done : (v : View) (k : Kind) (m d : Counts) (failed : Bool) → IsSound v → v.open_order ≡ Acted k m d failed → IsSound (longer v (Done m d) v.bound No)
+IsSound-done v k m d failed s acted = record {
+  numbered = Walk-push next_number CarriesNumber 1 v.records (Done m d) s.numbered tt;
+  stands = rw last-pushed tt;
+  budget = record {
+    funded = λ p b lives bound.
+        let f = s.budget.funded p b (live p lives) (sym (token_of-push v.records (Done m d) p) ∙ bound) in record {
+          token = f.token;
+          carries = carries-record v.key v.records (Done m d) p b f.token f.carries;
+          amounts = f.amounts;
+          amounts_are = f.amounts_are;
+          kept = f.kept;
+          enough = λ cur. let e = worth cur in let w = rw acted at (f.enough cur) in omega (arith, e, w);
+        };
+    unbound = λ p lives free.
+        let free' = sym (token_of-push v.records (Done m d) p) ∙ free in
+        let old = s.budget.unbound p (live p lives) free' in
+        (old.0, λ cur. let e = worth cur in let z = old.1 cur in let u = unsettled-unbound v k m d failed p cur stands.2 (live p lives) free' in omega (arith, e, z, u));
+    dead = λ dead. s.budget.dead (sym (live_of-push v.records (Done m d)) ∙ dead);
+  };
+  told = ties v.motions s.told;
+}
+  where
+    live : (p : ℕ) → live_of (v.records ++ Done m d ∷ []) ≡ Some p → live_of v.records ≡ Some p
+    live p lives = sym (live_of-push v.records (Done m d)) ∙ lives
+
+    stands : Stands (Acted k m d failed) v.records v.places
+    stands = rw acted at s.stands
+
+    worth : (cur : List ℕ) → presented_in v.units (v.records ++ Done m d ∷ []) cur ≡ presented_in v.units v.records cur + unsettled v.units (Acted k m d failed) cur
+    worth cur = presented_in-push v.units v.records (Done m d) cur
+        ∙ ap (λ n. presented_in v.units v.records cur + n) (done_worth-settles v.units cur (record_at v.records (length v.records)) k stands.0 m d failed stands.1)
+
+    moved : (L : List Motion) → Ties v L → (k' : Kind) (c' m' d' : Counts) → record_at v.records (length v.records) ≡ Some (Order k' c') → Done m d ≡ Done m' d' → Contains L (Moved (length v.records) k' m' d')
+    moved L t k' c' m' d' o e =
+        let mine : Contains L (Moved (length v.records) k m d) = rw acted at t.acted in
+        let same : Some (Order k stands.0) ≡ Some (Order k' c') = sym stands.1 ∙ o in
+        let kinds : k ≡ k' = cc in
+        let ms : m ≡ m' = cc in
+        let ds : d ≡ d' = cc in
+        rw (← kinds, ← ms, ← ds) mine
+
+    may : IsOrder (record_at v.records (length v.records))
+    may = rw stands.1 tt
+
+    ties : (told : Option (List Motion)) → IfTold told (Ties v) → IfTold told (Ties (longer v (Done m d) v.bound No))
+    ties None t = tt
+    ties (Some L) t = Ties-record v (Done m d) v.bound No L t may (moved L t)
+        (λ p cur lives. let was = rw acted at (t.counted p cur (live p lives)) in let e = worth cur in omega (arith, was, e))
+        tt
+
+-- the live issue is one of the records
+abbrev LivesWithin : ℕ → Option ℕ → Type 0
+LivesWithin count None = ⊤
+LivesWithin count (Some p) = p ≤ count
+
+lives-later : (count : ℕ) (l : Option ℕ) → LivesWithin count l → LivesWithin (count + 1) l
+lives-later count None h = tt
+lives-later count (Some p) h = omega arith
+
+lives-step : (count : ℕ) (l : Option ℕ) (r : Rec) → LivesWithin count l → LivesWithin (count + 1) (live_after count l r)
+lives-step count l (Issue n w) h = omega arith
+lives-step count l Clear h = tt
+lives-step count l (Boot p) h = tt
+lives-step count l (Bind t) h = lives-later count l h
+lives-step count l (Order k c) h = lives-later count l h
+lives-step count l (Done m d) h = lives-later count l h
+lives-step count l (Load u n) h = lives-later count l h
+
+lives-from : (s : Reading) (J : List Rec) → LivesWithin s.count s.live → LivesWithin (s.count + length J) (fold reading_after s J).live
+lives-from s [] h = rw add-zero h
+lives-from s (r ∷ rs) h = let e : s.count + suc (length rs) ≡ s.count + 1 + length rs = omega arith in rw e (lives-from (reading_after s r) rs (lives-step s.count s.live r h))
+
+pub lives-within : (J : List Rec) → LivesWithin (length J) (live_of J)
+lives-within J = rw zero-add at (lives-from nothing_read J tt)
+
+is_place-no : (l : Option ℕ) (count p : ℕ) → LivesWithin count l → count < p → is_place p l ≡ false
+is_place-no None count p h lt = refl
+is_place-no (Some q) count p h lt = eqb-no q p (omega arith)
+
+-- nothing was put out for an issue that is yet to come
+pub shown-before : (u : List NoteKind) (J : List Rec) (p : ℕ) (cur : List ℕ) (L : List Motion) → length J < p → shown u J L p cur ≡ 0
+shown-before u J p cur [] lt = refl
+shown-before u J p cur (m ∷ ms) lt = rw (sum_by-cons, none m, shown-before u J p cur ms lt) refl
+  where
+    none : (m : Motion) → shown_by u J p cur m ≡ 0
+    none (Moved n Present moved d) =
+        let few : length (take (n - 1) J) ≤ length J = omega (arith, length-take (n - 1) J) in
+        rw (is_place-no (live_at J n) (length (take (n - 1) J)) p (lives-within (take (n - 1) J)) (omega arith)) refl
+    none (Moved n Stack moved d) = refl
+    none (Moved n Reject moved d) = refl
+    none (Moved n Retract moved d) = refl
+    none (Taken c) = refl
+    none (Loaded i n) = refl
+
+-- a nonce is issued
+pub IsSound-issue : (v : View) (number word : ℕ) → IsSound v → v.open_order ≡ No → number ≡ next_issue v.records → IsSound (longer v (Issue number word) None No)
+IsSound-issue v number word s none is = record {
+  numbered = Walk-push next_number CarriesNumber 1 v.records (Issue number word) s.numbered is;
+  stands = rw last-pushed tt;
+  budget = record {
+    funded = λ p b lives bound. absurd (free p b (place p lives) bound);
+    unbound = λ p lives free. (refl, λ cur. presented_in-push v.units v.records (Issue number word) cur);
+    dead = λ dead. refl;
+  };
+  told = ties v.motions s.told;
+}
+  where
+    place : (p : ℕ) → live_of (v.records ++ Issue number word ∷ []) ≡ Some p → length v.records + 1 ≡ p
+    place p lives = let e : Some (length v.records + 1) ≡ Some p = sym (live_of-push v.records (Issue number word)) ∙ lives in cc
+
+    free : (p : ℕ) (b : List ℕ) → length v.records + 1 ≡ p → token_of (v.records ++ Issue number word ∷ []) p ≡ Some b → ⊥
+    free p b e bound =
+        let t : token_of (v.records ++ Issue number word ∷ []) p ≡ None = token_of-push v.records (Issue number word) p ∙ rw (e, eqb-same p) refl in
+        cc
+
+    before : IsNoOrder (record_at v.records (length v.records))
+    before = rw none at s.stands
+
+    ties : (told : Option (List Motion)) → IfTold told (Ties v) → IfTold told (Ties (longer v (Issue number word) None No))
+    ties None t = tt
+    ties (Some L) t = Ties-record v (Issue number word) None No L t before (λ k' c' m' d' o e. cc)
+        (λ p cur lives.
+        let e = place p lives in
+        let z = shown-before v.units v.records p cur L (omega arith) in
+        let w = presented_in-push v.units v.records (Issue number word) cur in omega (arith, z, w))
+        tt
+
+-- the live nonce is cleared
+pub IsSound-clear : (v : View) → IsSound v → v.open_order ≡ No → IsSound (longer v Clear None No)
+IsSound-clear v s none = record {
+  numbered = Walk-push next_number CarriesNumber 1 v.records Clear s.numbered tt;
+  stands = rw last-pushed tt;
+  budget = record {
+    funded = λ p b lives bound. absurd (gone p lives);
+    unbound = λ p lives free. absurd (gone p lives);
+    dead = λ dead. refl;
+  };
+  told = ties v.motions s.told;
+}
+  where
+    gone : (p : ℕ) → live_of (v.records ++ Clear ∷ []) ≡ Some p → ⊥
+    gone p lives = let e : None ≡ Some p = sym (live_of-push v.records Clear) ∙ lives in cc
+
+    before : IsNoOrder (record_at v.records (length v.records))
+    before = rw none at s.stands
+
+    ties : (told : Option (List Motion)) → IfTold told (Ties v) → IfTold told (Ties (longer v Clear None No))
+    ties None t = tt
+    ties (Some L) t = Ties-record v Clear None No L t before (λ k' c' m' d' o e. cc) (λ p cur lives. absurd (gone p lives)) tt
+
+-- a token is bound to the live nonce, which had none
+pub IsSound-bind : (v : View) (p : ℕ) (b : List ℕ) (t : Parts) (amounts : List (List ℕ × ℕ)) → IsSound v → v.open_order ≡ No → live_of v.records ≡ Some p → token_of v.records p ≡ None
+    → Carries v.key v.records p b t → amounts_of t ≡ Some amounts → ((c : List ℕ) → value v.units v.places.transport c ≤ amount t c)
+    → IsSound (longer v (Bind b) (Some amounts) No)
+IsSound-bind v p b t amounts s none lives unbound carries are enough = record {
+  numbered = Walk-push next_number CarriesNumber 1 v.records (Bind b) s.numbered tt;
+  stands = rw last-pushed tt;
+  budget = record {
+    funded = λ q x l bound. funded q x (live q l) bound;
+    unbound = λ q l free. absurd (taken q (live q l) free);
+    dead = λ dead. (let e : Some p ≡ None = sym lives ∙ (sym (live_of-push v.records (Bind b)) ∙ dead) in cc);
+  };
+  told = ties v.motions s.told;
+}
+  where
+    live : (q : ℕ) → live_of (v.records ++ Bind b ∷ []) ≡ Some q → live_of v.records ≡ Some q
+    live q l = sym (live_of-push v.records (Bind b)) ∙ l
+
+    token : token_of (v.records ++ Bind b ∷ []) p ≡ Some b
+    token = token_of-push v.records (Bind b) p ∙ rw (lives, unbound, eqb-same p) refl
+
+    taken : (q : ℕ) → live_of v.records ≡ Some q → token_of (v.records ++ Bind b ∷ []) q ≡ None → ⊥
+    taken q l free =
+        let same : p ≡ q = cc in
+        let none : Some b ≡ None = sym token ∙ rw (← same) at free in
+        cc
+
+    before : IsNoOrder (record_at v.records (length v.records))
+    before = rw none at s.stands
+
+    funded : (q : ℕ) (x : List ℕ) → live_of v.records ≡ Some q → token_of (v.records ++ Bind b ∷ []) q ≡ Some x → IsFunded (longer v (Bind b) (Some amounts) No) q x
+    funded q x l bound =
+        let same : p ≡ q = cc in
+        let both : Some b ≡ Some x = sym token ∙ rw (← same) at bound in
+        let is : b ≡ x = cc in
+        rw (← same, ← is) (record {
+          token = t;
+          carries = carries-record v.key v.records (Bind b) p b t carries;
+          amounts = amounts;
+          amounts_are = are;
+          kept = refl;
+          enough = λ cur. let w = presented_in-push v.units v.records (Bind b) cur in let z = (s.budget.unbound p lives unbound).1 cur in let n = enough cur in omega (arith, w, z, n);
+        })
+
+    ties : (told : Option (List Motion)) → IfTold told (Ties v) → IfTold told (Ties (longer v (Bind b) (Some amounts) No))
+    ties None u = tt
+    ties (Some L) u = Ties-record v (Bind b) (Some amounts) No L u before (λ k' c' m' d' o e. cc)
+        (λ q cur l. let was = rw none at (u.counted q cur (live q l)) in let w = presented_in-push v.units v.records (Bind b) cur in omega (arith, was, w))
+        tt
+
+-- what an order to present wants of the journal before it
+pub released-order : (J : List Rec) (c : Counts) (p : ℕ) (b : List ℕ) → live_of J ≡ Some p → token_of J p ≡ Some b → IsReleased (J ++ Order Present c ∷ [])
+released-order J c p b lives bound = record {
+  place = p;
+  bytes = b;
+  before = rw length-pushed (live_at-pushed J (Order Present c) ∙ lives);
+  lives = live_of-push J (Order Present c) ∙ lives;
+  bound = token_of-push J (Order Present c) p ∙ bound;
+}

@@ -1,0 +1,165 @@
+-- What was put out stays within the tokens.
+use Rattle.std.proofs.Common.{◌≡◌, ◌⊎◌, inl, inr, ⊎_elim, ℕ, zero, suc, ◌+◌, ◌-◌, ◌<◌, ◌≤◌, ◌==◌, Bool, true, false, List, [], ◌∷◌, ◌++◌, length, None, Some, refl, sym, ◌∙◌, ap, subst, arith, length-append, add-one, add-zero}
+use Rattle.std.specs.Prelude.{slice_get, if◌then◌else◌}
+use Rattle.std.specs.declared.option.Option.{Option}
+use Rattle.std.specs.List.{sum_by, AllByRecursion}
+use Rattle.std.proofs.lemmas.List.Sums.{sum_by_push, sum_by-cons}
+use Rattle.std.proofs.lemmas.Bool.{cases_lt, cases_eq}
+use Rattle.std.proofs.lemmas.Option.{slice_get_past}
+use Rattle.xfs_base.specs.declared.counts.Counts.{Counts}
+use Rattle.xfs_base.specs.declared.money.NoteKind.{NoteKind}
+use Rattle.xfs_base.specs.declared.counts.Kind.{Kind}
+use Rattle.xfs_base.specs.declared.counts.Kind.TheVariants.{Stack, Present, Reject, Retract}
+use Rattle.xfs_base.specs.Money.{value}
+use Rattle.xfs_mech.specs.declared.motion.Motion.{Motion}
+use Rattle.xfs_mech.specs.declared.motion.Motion.TheVariants.{Moved, Taken, Loaded}
+use Rattle.xfs_journal.specs.declared.record.Rec.{Rec}
+use Rattle.xfs_journal.specs.declared.record.Rec.TheVariants.{Issue, Clear, Boot, Bind, Order, Done, Load}
+use Rattle.xfs_journal.specs.Journal.{record_at, live_at, live_of, is_place, token_of}
+use Rattle.xfs_mech.specs.Motions.{NumberIs}
+use Rattle.xfs_guard.specs.Within.{shown_by, shown, HasNonce, Carries, IsCovered, IsPaidFor, IsWithin, Within}
+use Rattle.xfs_journal.proofs.JournalLaws.{record_at-push, record_at-within, live_at-push, token_of-kept, eqb-same, eqb-no}
+use Rattle.xfs_mech.proofs.MotionLaws.{all-append, all-map}
+use Rattle.xfs_token.specs.Token.{Parts}
+use Rattle.xfs_token.specs.Amounts.{amount}
+use Rattle.std.specs.Prelude.{◌≢◌}
+
+-- one more record changes nothing of what was put out
+shown_by-record : (u : List NoteKind) (J : List Rec) (r : Rec) (p : ℕ) (c : List ℕ) (m : Motion) → NumberIs (λ n. n ≤ length J) m → shown_by u (J ++ r ∷ []) p c m ≡ shown_by u J p c m
+shown_by-record u J r p c (Moved n Present m d) le = ap (λ s. if is_place p s then value u m c else 0) (live_at-push J r n (omega arith))
+shown_by-record u J r p c (Moved n Stack m d) le = refl
+shown_by-record u J r p c (Moved n Reject m d) le = refl
+shown_by-record u J r p c (Moved n Retract m d) le = refl
+shown_by-record u J r p c (Taken n) le = refl
+shown_by-record u J r p c (Loaded n m) le = refl
+
+pub shown-record : (u : List NoteKind) (J : List Rec) (r : Rec) (p : ℕ) (c : List ℕ) (L : List Motion) → AllByRecursion (NumberIs (λ n. n ≤ length J)) L → shown u (J ++ r ∷ []) L p c ≡ shown u J L p c
+shown-record u J r p c [] a = refl
+shown-record u J r p c (m ∷ L) a = rw (sum_by-cons, sum_by-cons, shown_by-record u J r p c m a.0, shown-record u J r p c L a.1) refl
+
+pub shown-motion : (u : List NoteKind) (J : List Rec) (p : ℕ) (c : List ℕ) (L : List Motion) (m : Motion) → shown u J (L ++ m ∷ []) p c ≡ shown u J L p c + shown_by u J p c m
+shown-motion u J p c L m = sum_by_push (shown_by u J p c) L m
+
+nonce-within : (J : List Rec) (p : ℕ) (t : List ℕ) → HasNonce (record_at J p) t → p ≤ length J
+nonce-within J zero t h = omega arith
+nonce-within J (suc i) t h = elim (cases_lt i (length J)) [
+  | inl below ↦ omega arith
+  | inr past ↦ absurd (none (rw (slice_get_past J i past) at h))
+]
+  where
+    none : HasNonce None t → ⊥
+    none x = x
+
+nonce-record : (J : List Rec) (r : Rec) (p : ℕ) (t : List ℕ) → HasNonce (record_at J p) t → HasNonce (record_at (J ++ r ∷ []) p) t
+nonce-record J r p t h = rw (record_at-push J r p (nonce-within J p t h)) h
+
+pub carries-record : (key : List ℕ) (J : List Rec) (r : Rec) (p : ℕ) (b : List ℕ) (t : Parts) → Carries key J p b t → Carries key (J ++ r ∷ []) p b t
+carries-record key J r p b t h = record { genuine = h.genuine; nonce = nonce-record J r p t.nonce h.nonce }
+
+covered-record : (key : List ℕ) (u : List NoteKind) (J : List Rec) (r : Rec) (L : List Motion) (p : ℕ) (b : List ℕ) → AllByRecursion (NumberIs (λ n. n ≤ length J)) L
+    → IsCovered key u J L p b → IsCovered key u (J ++ r ∷ []) L p b
+covered-record key u J r L p b a h = record {
+  token = h.token;
+  carries = carries-record key J r p b h.token h.carries;
+  enough = λ c. let e = shown-record u J r p c L a in omega (arith, h.enough c, e);
+}
+
+paid-record : (key : List ℕ) (u : List NoteKind) (J : List Rec) (r : Rec) (L : List Motion) (n : ℕ) → AllByRecursion (NumberIs (λ n. n ≤ length J)) L
+    → IsPaidFor key u J L n → IsPaidFor key u (J ++ r ∷ []) L n
+paid-record key u J r L n a h =
+    let le = (record_at-within J n (Order Present h.counts) h.ordered).1 in record {
+      counts = h.counts;
+      ordered = record_at-push J r n le ∙ h.ordered;
+      place = h.place;
+      lives = live_at-push J r n (omega arith) ∙ h.lives;
+      bytes = h.bytes;
+      bound = token_of-kept J r h.place h.bytes h.bound (nonce-within J h.place h.covered.token.nonce h.covered.carries.nonce);
+      covered = covered-record key u J r L h.place h.bytes a h.covered;
+    }
+
+within_one-record : (key : List ℕ) (u : List NoteKind) (J : List Rec) (r : Rec) (L : List Motion) → AllByRecursion (NumberIs (λ n. n ≤ length J)) L
+    → (m : Motion) → IsWithin key u J L m → IsWithin key u (J ++ r ∷ []) L m
+within_one-record key u J r L a (Moved n Present m d) h = paid-record key u J r L n a h
+within_one-record key u J r L a (Moved n Stack m d) h = tt
+within_one-record key u J r L a (Moved n Reject m d) h = tt
+within_one-record key u J r L a (Moved n Retract m d) h = tt
+within_one-record key u J r L a (Taken c) h = tt
+within_one-record key u J r L a (Loaded i c) h = tt
+
+-- (a) and (b): one more record, a mark or not, keeps Within
+pub Within-record : (key : List ℕ) (u : List NoteKind) (J : List Rec) (r : Rec) (L : List Motion) → AllByRecursion (NumberIs (λ n. n ≤ length J)) L
+    → Within key u J L → Within key u (J ++ r ∷ []) L
+Within-record key u J r L a w = all-map (IsWithin key u J L) (IsWithin key u (J ++ r ∷ []) L) L (within_one-record key u J r L a) w
+
+covered-quiet : (key : List ℕ) (u : List NoteKind) (J : List Rec) (L : List Motion) (m : Motion) (p : ℕ) (b : List ℕ) → ((p : ℕ) (c : List ℕ) → shown_by u J p c m ≡ 0)
+    → IsCovered key u J L p b → IsCovered key u J (L ++ m ∷ []) p b
+covered-quiet key u J L m p b q h = record {
+  token = h.token;
+  carries = h.carries;
+  enough = λ c. let e = shown-motion u J p c L m in let z = q p c in omega (arith, h.enough c, e, z);
+}
+
+-- what a motion was paid for, where each covered segment stays covered
+within_one-motion : (key : List ℕ) (u : List NoteKind) (J : List Rec) (L : List Motion) (m : Motion)
+    → ((p : ℕ) (b : List ℕ) → token_of J p ≡ Some b → IsCovered key u J L p b → IsCovered key u J (L ++ m ∷ []) p b)
+    → (x : Motion) → IsWithin key u J L x → IsWithin key u J (L ++ m ∷ []) x
+within_one-motion key u J L m keeps (Moved n Present moved d) h = record {
+  counts = h.counts;
+  ordered = h.ordered;
+  place = h.place;
+  lives = h.lives;
+  bytes = h.bytes;
+  bound = h.bound;
+  covered = keeps h.place h.bytes h.bound h.covered;
+}
+within_one-motion key u J L m keeps (Moved n Stack moved d) h = tt
+within_one-motion key u J L m keeps (Moved n Reject moved d) h = tt
+within_one-motion key u J L m keeps (Moved n Retract moved d) h = tt
+within_one-motion key u J L m keeps (Taken c) h = tt
+within_one-motion key u J L m keeps (Loaded i c) h = tt
+
+Within-motion : (key : List ℕ) (u : List NoteKind) (J : List Rec) (L : List Motion) (m : Motion)
+    → ((p : ℕ) (b : List ℕ) → token_of J p ≡ Some b → IsCovered key u J L p b → IsCovered key u J (L ++ m ∷ []) p b)
+    → IsWithin key u J (L ++ m ∷ []) m → Within key u J L → Within key u J (L ++ m ∷ [])
+Within-motion key u J L m keeps new w =
+    all-append (IsWithin key u J (L ++ m ∷ [])) L (m ∷ []) (all-map (IsWithin key u J L) (IsWithin key u J (L ++ m ∷ [])) L (within_one-motion key u J L m keeps) w) (new, tt)
+
+-- any motion but a present keeps Within
+pub Within-quiet : (key : List ℕ) (u : List NoteKind) (J : List Rec) (L : List Motion) (m : Motion) → ((p : ℕ) (c : List ℕ) → shown_by u J p c m ≡ 0)
+    → IsWithin key u J (L ++ m ∷ []) m → Within key u J L → Within key u J (L ++ m ∷ [])
+Within-quiet key u J L m q new w = Within-motion key u J L m (λ p b s h. covered-quiet key u J L m p b q h) new w
+
+-- the worth of a present counts in its own segment alone
+shown_by-other : (u : List NoteKind) (J : List Rec) (p n q : ℕ) (c : List ℕ) (m d : Counts) → live_at J n ≡ Some p → p ≢ q → shown_by u J q c (Moved n Present m d) ≡ 0
+shown_by-other u J p n q c m d e ne = rw (e, eqb-no p q ne) refl
+
+pub shown_by-own : (u : List NoteKind) (J : List Rec) (p n : ℕ) (c : List ℕ) (m d : Counts) → live_at J n ≡ Some p → shown_by u J p c (Moved n Present m d) ≡ value u m c
+shown_by-own u J p n c m d e = rw (e, eqb-same p) refl
+
+-- (c) a present that the budget covers keeps Within
+pub Within-present : (key : List ℕ) (u : List NoteKind) (J : List Rec) (L : List Motion) (n p : ℕ) (b : List ℕ) (t : Parts) (c m d : Counts)
+    → record_at J n ≡ Some (Order Present c) → live_at J n ≡ Some p → token_of J p ≡ Some b
+    → Carries key J p b t → ((cur : List ℕ) → shown u J L p cur + value u m cur ≤ amount t cur)
+    → Within key u J L → Within key u J (L ++ Moved n Present m d ∷ [])
+Within-present key u J L n p b t c m d ordered lives bound carries enough w =
+    Within-motion key u J L (Moved n Present m d) keeps (record { counts = c; ordered = ordered; place = p; lives = lives; bytes = b; bound = bound; covered = own }) w
+  where
+    own : IsCovered key u J (L ++ Moved n Present m d ∷ []) p b
+    own = record {
+      token = t;
+      carries = carries;
+      enough = λ cur. let e = shown-motion u J p cur L (Moved n Present m d) in let z = shown_by-own u J p n cur m d lives in omega (arith, enough cur, e, z);
+    }
+
+    other : (q : ℕ) (x : List ℕ) → p ≢ q → IsCovered key u J L q x → IsCovered key u J (L ++ Moved n Present m d ∷ []) q x
+    other q x ne h = record {
+      token = h.token;
+      carries = h.carries;
+      enough = λ cur. let e = shown-motion u J q cur L (Moved n Present m d) in let z = shown_by-other u J p n q cur m d lives ne in omega (arith, h.enough cur, e, z);
+    }
+
+    keeps : (q : ℕ) (x : List ℕ) → token_of J q ≡ Some x → IsCovered key u J L q x → IsCovered key u J (L ++ Moved n Present m d ∷ []) q x
+    keeps q x s h = elim (cases_eq p q) [
+      | inl same ↦ let is : b ≡ x = cc in rw (← same, ← is) own
+      | inr ne ↦ other q x ne h
+    ]

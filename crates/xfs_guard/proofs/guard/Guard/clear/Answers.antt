@@ -1,0 +1,24 @@
+use Rattle.std.proofs.Common.{◌≡◌, ◌≢◌, ◌∙◌, ◌+◌, ap, refl, sym, arith, length, Some, None}
+use Rattle.xfs_guard.specs.declared.open.Open.TheVariants.{No, Written}
+use Rattle.xfs_guard.specs.View.{View}
+use Rattle.xfs_journal.specs.declared.record.Rec.TheVariants.{Clear}
+use Rattle.xfs_guard.proofs.ContinueLaws.{Continues-record, Continues-same}
+use Rattle.xfs_guard.proofs.RecordLaws.{IsSound-clear}
+use Rattle.xfs_guard.proofs.guard.Guard.clear.Goals as goal
+
+pub returns-then-is_none-clause-continues : goal.returns-then-is_none-clause-continues
+returns-then-is_none-clause-continues g c = Continues-same _
+
+pub invariant_of-self-2 : goal.invariant_of-self-2
+invariant_of-self-2 g c =
+    let none : c.self.inside.open_order ≡ No = ap (λ (v : View). v.open_order) c.self.view_is ∙ c.requires in
+    let w = c.in_ok-clear.ensures.ok in record {
+      sound = rw (w.records, w.units, w.bound_is, none) (IsSound-clear _ c.self.invariant.sound none);
+      room = rw none tt;
+      units = c.self.invariant.units ∙ sym w.units;
+    }
+
+pub returns-clause-continues : goal.returns-clause-continues
+returns-clause-continues g c =
+    let w = c.in_ok-clear.ensures.ok in
+    rw (← c.self.view_is, w.records, w.units, w.bound_is) (Continues-record _ Clear _ c.self.inside.open_order c.self.invariant.sound (λ p e. cc))

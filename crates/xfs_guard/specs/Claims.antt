@@ -1,0 +1,6 @@
+-- What is seen of a claim: its token's bytes and its amounts.
+use Rattle.std.specs.Prelude.{ℕ, List}
+
+pub record ClaimView : Type 0 where
+  pub token : List ℕ
+  pub amounts : List (List ℕ × ℕ)

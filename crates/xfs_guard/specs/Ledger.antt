@@ -1,0 +1,47 @@
+-- What a ledger keeps beside its records.
+use Rattle.std.specs.Prelude.{◌≡◌, ℕ, ◌+◌, ◌≤◌, List, length, slice_get, slice_index, Some, None, ⊤}
+use Rattle.std.specs.declared.option.Option.{Option}
+use Rattle.std.specs.Option.{option_map}
+use Rattle.xfs_base.specs.declared.money.NoteKind.{NoteKind}
+use Rattle.xfs_journal.specs.declared.record.Rec.{Rec}
+use Rattle.xfs_journal.specs.declared.record.Rec.TheVariants.{Bind}
+use Rattle.xfs_journal.specs.Journal.{record_at, live_of, token_of, bind_of, last_mark, next_issue}
+use Rattle.xfs_guard.specs.declared.bound.Live.{Live}
+use Rattle.xfs_guard.specs.declared.bound.Bound.{Bound}
+use Rattle.xfs_guard.specs.Nonce.{nonce_of}
+use Rattle.xfs_guard.specs.Presented.{presented_in}
+
+-- the live issue that is kept is that of the records
+abbrev pub IsLive : List Rec → Option Live → Type 0
+IsLive records None = live_of records ≡ None
+IsLive records (Some live) = (live_of records ≡ Some live.place) × (nonce_of (record_at records live.place) ≡ Some live.nonce)
+
+-- for each of these amounts the sum presented in its currency
+abbrev pub AreSums : List NoteKind → List Rec → List (List ℕ × ℕ) → List ℕ → Type 0
+AreSums units records amounts presented = (i : ℕ) (a : List ℕ × ℕ) → slice_get amounts i ≡ Some a → slice_index presented i ≡ presented_in units records a.0
+
+-- the bind of the issue at p is that of the records
+pub record IsBind (units : List NoteKind) (records : List Rec) (p : ℕ) (b : Bound) : Type 0 where
+  pub token : List ℕ
+  pub bound : token_of records p ≡ Some token
+  pub place : bind_of records p ≡ Some b.place
+  pub written : record_at records b.place ≡ Some (Bind token)
+  pub sums : AreSums units records b.amounts b.presented
+
+-- the bind that is kept is that of the live issue
+abbrev pub IsBound : List NoteKind → List Rec → Option Live → Option Bound → Type 0
+IsBound units records None None = ⊤
+IsBound units records None (Some b) = ⊥
+IsBound units records (Some live) None = (token_of records live.place ≡ None) × (bind_of records live.place ≡ None)
+IsBound units records (Some live) (Some b) = IsBind units records live.place b
+
+abbrev pub amounts_kept : Option Bound → Option (List (List ℕ × ℕ))
+amounts_kept bound = option_map (λ (b : Bound). b.amounts) bound
+
+-- what is kept beside the records is what is read of them
+pub record IsRead (records : List Rec) (units : List NoteKind) (issues mark : ℕ) (live : Option Live) (bound : Option Bound) : Type 0 where
+  pub issued : issues + 1 ≡ next_issue records
+  pub few : issues ≤ length records
+  pub marked : mark ≡ last_mark records
+  pub lives : IsLive records live
+  pub binds : IsBound units records live bound

@@ -1,0 +1,19 @@
+-- The nonce of the live Issue.
+use Rattle.std.specs.Prelude.{ℕ, ◌+◌, ◌*◌, ◌^◌, List, Some, None}
+use Rattle.std.specs.Option.{option_and_then}
+use Rattle.std.specs.declared.option.Option.{Option}
+use Rattle.xfs_journal.specs.declared.record.Rec.{Rec}
+use Rattle.xfs_journal.specs.declared.record.Rec.TheVariants.{Issue, Clear, Boot, Bind, Order, Done, Load}
+use Rattle.xfs_journal.specs.Journal.{record_at, live_of, nonce_text}
+use Rattle.xfs_guard.specs.declared.nonce.Nonce.{Nonce}
+
+-- the nonce of an Issue record
+abbrev pub nonce_of : Option Rec → Option Nonce
+nonce_of (Some (Issue number word)) = Some (record { text = nonce_text number word; number = number })
+nonce_of _ = None
+
+-- the nonce of the live Issue
+abbrev pub live_nonce : List Rec → Option Nonce
+live_nonce records = option_and_then (λ p. nonce_of (record_at records p)) (live_of records)
+
+

@@ -1,0 +1,46 @@
+-- What the calls on an open order do.
+use Rattle.std.specs.Prelude.{◌≡◌, ℕ, Bool, List, [], ◌∷◌, ◌++◌, length, Some, None, ⊤}
+use Rattle.std.specs.declared.option.Option.{Option}
+use Rattle.xfs_base.specs.declared.counts.Counts.{Counts}
+use Rattle.xfs_base.specs.declared.counts.Kind.{Kind}
+use Rattle.xfs_mech.specs.declared.motion.Motion.TheVariants.{Moved, Taken, Loaded}
+use Rattle.xfs_mech.specs.Motions.{PlacesOf}
+use Rattle.xfs_mech.specs.Mechanism.{Grows, Carries as MayCarry}
+use Rattle.xfs_journal.specs.declared.record.Rec.TheVariants.{Issue, Clear, Boot, Bind, Order, Done, Load}
+use Rattle.xfs_guard.specs.declared.open.Open.{Open}
+use Rattle.xfs_guard.specs.declared.open.Open.TheVariants.{No, Written, Acted}
+use Rattle.xfs_guard.specs.View.{View}
+
+-- an order is written and not yet acted
+abbrev pub IsWritten : Open → Type 0
+IsWritten (Written kind counts) = ⊤
+IsWritten o = ⊥
+
+-- an order is acted and not yet settled
+abbrev pub IsActed : Open → Type 0
+IsActed (Acted kind moved diverted failed) = ⊤
+IsActed o = ⊥
+
+-- the kind of an order that is written and not yet acted
+abbrev pub kind_unacted : Open → Option Kind
+kind_unacted (Written kind counts) = Some kind
+kind_unacted o = None
+
+-- the written order was carried out
+pub record Acts (old new : View) (moved diverted : Counts) (failed : Bool) : Type 0 where
+  pub kind : Kind
+  pub counts : Counts
+  pub written : old.open_order ≡ Written kind counts
+  pub carried : MayCarry kind counts moved diverted failed
+  pub motions : Grows old.motions (Moved (length old.records) kind moved diverted) new.motions
+  pub places : PlacesOf old.places (Moved (length old.records) kind moved diverted ∷ []) new.places
+  pub same : new ≡ record old { open_order = Acted kind moved diverted failed; motions = new.motions; places = new.places; faults = new.faults }
+
+-- the acted order is settled
+pub record Settles (old new : View) : Type 0 where
+  pub kind : Kind
+  pub moved : Counts
+  pub diverted : Counts
+  pub failed : Bool
+  pub acted : old.open_order ≡ Acted kind moved diverted failed
+  pub same : new ≡ record old { records = old.records ++ Done moved diverted ∷ []; open_order = No }

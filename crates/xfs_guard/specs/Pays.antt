@@ -1,0 +1,39 @@
+-- What an order adds to the sums of a bind: what it presented, in each of the bound currencies.
+use Rattle.std.specs.Prelude.{◌≡◌, ◌≢◌, ℕ, ◌+◌, ◌<◌, ◌^◌, ◌⊎◌, false, List, slice_get, slice_index, Some, None, ⊤}
+use Rattle.std.specs.declared.option.Option.{Option}
+use Rattle.xfs_base.specs.Money.{value}
+use Rattle.xfs_base.specs.declared.counts.Counts.{Counts}
+use Rattle.xfs_base.specs.declared.counts.Kind.{Kind}
+use Rattle.xfs_base.specs.declared.counts.Kind.TheVariants.{Present}
+use Rattle.xfs_base.specs.declared.money.NoteKind.{NoteKind}
+use Rattle.xfs_token.specs.Amounts.{has_currency}
+use Rattle.xfs_guard.specs.declared.bound.Bound.{Bound}
+
+-- the sums stay within 64 bits
+abbrev pub Fits : List NoteKind → Kind → Counts → Option Bound → Type 0
+Fits units kind moved None = ⊤
+Fits units kind moved (Some b) = kind ≡ Present → (i : ℕ) (a : List ℕ × ℕ) → slice_get b.amounts i ≡ Some a → slice_index b.presented i + value units moved a.0 < 2 ^ 64
+
+-- the sums grow by what was presented
+pub record Grows (units : List NoteKind) (kind : Kind) (moved : Counts) (old new : Bound) : Type 0 where
+  pub place : new.place ≡ old.place
+  pub amounts : new.amounts ≡ old.amounts
+  pub present : kind ≡ Present → (i : ℕ) (a : List ℕ × ℕ) → slice_get old.amounts i ≡ Some a → slice_index new.presented i ≡ slice_index old.presented i + value units moved a.0
+  pub other : kind ≢ Present → new.presented ≡ old.presented
+
+abbrev pub Pays : List NoteKind → Kind → Counts → Option Bound → Option Bound → Type 0
+Pays units kind moved None None = ⊤
+Pays units kind moved (Some old) (Some new) = Grows units kind moved old new
+Pays units kind moved old new = ⊥
+
+-- the sum at the place of an amount in this currency
+pub record IsSumAt (amounts : List (List ℕ × ℕ)) (sums currency : List ℕ) (sum : ℕ) : Type 0 where
+  pub place : ℕ
+  pub amount : List ℕ × ℕ
+  pub there : slice_get amounts place ≡ Some amount
+  pub same : amount.0 ≡ currency
+  pub sum_is : sum ≡ slice_index sums place
+
+-- the sum of a currency, and 0 where the amounts have none of it
+abbrev pub IsSumOf : List (List ℕ × ℕ) → List ℕ → List ℕ → ℕ → Type 0
+IsSumOf amounts sums currency sum = IsSumAt amounts sums currency sum ⊎ ((has_currency currency amounts ≡ false) × (sum ≡ 0))

@@ -1,0 +1,63 @@
+-- What a guard keeps from call to call.
+use Rattle.std.specs.Prelude.{◌≡◌, ℕ, ◌+◌, ◌<◌, List, length, Some, None, ⊤}
+use Rattle.std.specs.List.{AllByRecursion, Contains}
+use Rattle.std.specs.declared.option.Option.{Option}
+use Rattle.xfs_base.specs.Causes.{IfTold}
+use Rattle.xfs_base.specs.Counts.{LiesIn}
+use Rattle.xfs_base.specs.declared.counts.Counts.{Counts}
+use Rattle.xfs_base.specs.declared.counts.Places.{Places}
+use Rattle.xfs_base.specs.declared.counts.Kind.{Kind}
+use Rattle.xfs_base.specs.declared.counts.Kind.TheVariants.{Stack, Present, Reject, Retract}
+use Rattle.xfs_base.specs.declared.money.NoteKind.{NoteKind}
+use Rattle.xfs_mech.specs.declared.motion.Motion.{Motion}
+use Rattle.xfs_mech.specs.declared.motion.Motion.TheVariants.{Moved, Taken, Loaded}
+use Rattle.xfs_mech.specs.Motions.{NumberIs}
+use Rattle.xfs_mech.specs.Mechanism.{source_of}
+use Rattle.xfs_journal.specs.declared.record.Rec.{Rec}
+use Rattle.xfs_journal.specs.declared.record.Rec.TheVariants.{Issue, Clear, Boot, Bind, Order, Done, Load}
+use Rattle.xfs_journal.specs.Journal.{record_at, live_at, live_of, token_of, Numbered, next_number}
+use Rattle.xfs_guard.specs.declared.open.Open.{Open}
+use Rattle.xfs_guard.specs.declared.open.Open.TheVariants.{No, Written, Acted}
+use Rattle.xfs_guard.specs.View.{View}
+use Rattle.xfs_guard.specs.Agrees.{Agrees, IsNoOrder}
+use Rattle.xfs_guard.specs.Budget.{Budget}
+use Rattle.xfs_guard.specs.Presented.{presented_in, unsettled}
+use Rattle.xfs_guard.specs.Within.{Within, shown}
+
+-- the newest record is an order to present, in a segment with a token
+pub record IsReleased (records : List Rec) : Type 0 where
+  pub place : ℕ
+  pub bytes : List ℕ
+  pub before : live_at records (length records) ≡ Some place
+  pub lives : live_of records ≡ Some place
+  pub bound : token_of records place ≡ Some bytes
+
+abbrev pub IfPresent : Kind → Type 0 → Type 0
+IfPresent Present P = P
+IfPresent k P = ⊤
+
+-- the open order is the newest record
+abbrev pub Stands : Open → List Rec → Places → Type 0
+Stands No records places = IsNoOrder (record_at records (length records))
+Stands (Written kind counts) records places = (record_at records (length records) ≡ Some (Order kind counts)) × LiesIn counts (source_of kind places) × IfPresent kind (IsReleased records)
+Stands (Acted kind moved diverted failed) records places = (counts : Counts) × (record_at records (length records) ≡ Some (Order kind counts)) × IfPresent kind (IsReleased records)
+
+-- the mechanism's list against the open order
+abbrev pub HasActed : Open → List Rec → List Motion → Type 0
+HasActed No records motions = ⊤
+HasActed (Written kind counts) records motions = AllByRecursion (NumberIs (λ n. n < length records)) motions
+HasActed (Acted kind moved diverted failed) records motions = Contains motions (Moved (length records) kind moved diverted)
+
+-- the journal and the mechanism's list
+pub record Ties (v : View) (motions : List Motion) : Type 0 where
+  pub agrees : Agrees v.records motions
+  pub within : Within v.key v.units v.records motions
+  pub counted : (p : ℕ) (c : List ℕ) → live_of v.records ≡ Some p → shown v.units v.records motions p c ≡ presented_in v.units v.records c + unsettled v.units v.open_order c
+  pub acted : HasActed v.open_order v.records motions
+
+-- what a guard keeps
+pub record IsSound (v : View) : Type 0 where
+  pub numbered : Numbered v.records
+  pub stands : Stands v.open_order v.records v.places
+  pub budget : Budget v
+  pub told : IfTold v.motions (Ties v)

@@ -1,0 +1,18 @@
+use crate::Nonce;
+use xfs_token::Amounts;
+
+/// The live issue: the number of its record, and its nonce.
+#[derive(Clone, Copy, Debug)]
+pub struct Live {
+    pub place: u64,
+    pub nonce: Nonce,
+}
+
+/// The token that is bound to the live nonce: the number of its Bind record, its amounts, and for
+/// each of their currencies what was presented since, in thousandths.
+#[derive(Debug, Drop)]
+pub struct Bound {
+    pub place: u64,
+    pub amounts: Amounts,
+    pub presented: [u64; 9],
+}

@@ -1,0 +1,76 @@
+//! Whether counts pass the amounts of a token.
+
+ghost use Rattle.std.specs.Prelude.{◌≡◌, ◌<◌, ◌^◌};
+ghost use Rattle.xfs_guard.specs.Passed.{spent, is_over, letters_number, earlier, first_currency, passed_in};
+ghost use Rattle.xfs_guard.specs.LedgerView.{IsTold};
+
+use crate::Deny;
+use crate::ledger::Ledger;
+use xfs_base::{Counts, Currency, Milli};
+use xfs_token::Amounts;
+
+// OverBudget, for the first currency of the table in which the counts pass the amounts.
+pub fn passed(
+    ledger: &Ledger,
+    transport: &Counts,
+    amounts: &Amounts,
+    counts: &Counts,
+) -> Option<Deny>
+    requires { IsTold ledger.now }
+    ensures { result ≡ passed_in ledger.now.units ledger.now.records transport.now amounts.now counts.now }
+{
+    let currency = first_over(ledger, transport, amounts, counts)?;
+    let left = u128::from(amounts.of(currency).0).saturating_sub(spent(ledger, transport, currency));
+    Some(Deny::OverBudget {
+        currency,
+        left: Milli(left as u64),
+    })
+}
+
+// The first currency, in the order of letters, in which the counts pass the amounts.
+fn first_over(
+    ledger: &Ledger,
+    transport: &Counts,
+    amounts: &Amounts,
+    counts: &Counts,
+) -> Option<Currency>
+    requires { IsTold ledger.now }
+    ensures { result ≡ first_currency (is_over ledger.now.units ledger.now.records transport.now amounts.now counts.now) ledger.now.units }
+{
+    let kinds = ledger.units().kinds();
+    let mut first = None;
+    for i in 0..kinds.len() {
+        let currency = kinds[kinds.len() - 1 - i].currency;
+        let worth = spent(ledger, transport, currency) + counts.value(ledger.units(), currency);
+        if u128::from(amounts.of(currency).0) < worth {
+            first = Some(before(currency, first));
+        }
+    }
+    first
+}
+
+// What was presented since the live issue, and what lies on the transport.
+fn spent(ledger: &Ledger, transport: &Counts, currency: Currency) -> u128
+    requires { IsTold ledger.now }
+    ensures worth { result ≡ spent ledger.now.units ledger.now.records transport.now currency }
+    ensures small { result < 2 ^ 66 }
+{
+    u128::from(ledger.presented(currency)) + transport.value(ledger.units(), currency)
+}
+
+// Of two currencies the first in the order of letters.
+fn before(currency: Currency, other: Option<Currency>) -> Currency
+    ensures { result ≡ earlier currency other }
+{
+    match other {
+        Some(other) if number(other) < number(currency) => other,
+        _ => currency,
+    }
+}
+
+fn number(currency: Currency) -> u32
+    ensures { result ≡ letters_number currency }
+{
+    let [a, b, c] = currency.letters();
+    u32::from(a) * 65536 + u32::from(b) * 256 + u32::from(c)
+}

@@ -1,0 +1,23 @@
+//! The guard of the dispenser: nonces, tokens, and orders over a journal. It alone hands orders to
+//! the mechanism.
+#![tactic(auto)]
+
+mod ask;
+mod bound;
+mod budget;
+mod claim;
+mod deny;
+mod fail;
+mod guard;
+mod ledger;
+mod nonce;
+mod open;
+
+pub use ask::Ask;
+pub use claim::{Claim, Permit};
+pub use deny::Deny;
+pub use fail::{BootFail, BootFault};
+pub use guard::Guard;
+pub use nonce::Nonce;
+pub use open::Open;
+pub use xfs_base::Kind;
