@@ -1,4 +1,4 @@
--- From where a text is stuck to its fault; and a text spells at most one token.
+-- From where a text is stuck to its fault; a text spells at most one token, and has at most one fault.
 use Rattle.std.proofs.Common.{◌≡◌, ℕ, zero, suc, ◌+◌, ◌-◌, ◌*◌, ◌/◌, ◌%◌, ◌<◌, ◌≤◌, ◌==◌, Bool, true, false, not, ◌&&◌, List, [], ◌∷◌, ◌++◌, length, take, drop, refl, sym, ◌∙◌, ap, subst, arith, inl, inr, length-append, append_assoc}
 use Rattle.std.specs.Prelude.{◌⊎◌, codes, Ok}
 use Rattle.std.specs.declared.result.Result.{Result}
@@ -201,3 +201,40 @@ no_fault t b (Format at) x f = absurd (either f.1)
     either (inl w) = w.no_token t x
     either (inr s) = s.0.no_token (loose_of t b x)
 no_fault t b Memory x f = refl
+
+stuck_place : (b : List ℕ) (m n : ℕ) → IsStuckAt b m → IsStuckAt b n → m ≡ n
+stuck_place b m n x y =
+    let le = x.longest n y.within y.begins in
+    let ge = y.longest m x.within x.begins in
+    omega arith
+
+digits_place : (b : List ℕ) (m n : ℕ) → HasWrongLength b m → HasWrongLength b n → m ≡ n
+digits_place b m n x y =
+    let same = same_form x.loose.token y.loose.token x.loose.number y.loose.number x.loose.formed y.loose.formed x.loose.small y.loose.small (sym x.loose.text ∙ y.loose.text) in
+    x.place ∙ ap (λ (t : Parts). length (codes "NONCE=" ++ t.nonce ++ codes ",TOKENFORMAT=1,TOKENLENGTH=")) same.0 ∙ sym y.place
+
+not_both : (b : List ℕ) (m n : ℕ) → IsStuckAt b m → LacksValue b m → HasWrongLength b n ⊎ (IsStuckAt b n × ¬ (LacksValue b n)) → ⊥
+not_both b m n x l (inl w) = x.no_token w.loose
+not_both b m n x l (inr s) = s.1 (subst (LacksValue b) (stuck_place b m n x s.0) l)
+
+-- a text has at most one fault beside want of memory
+pub one_fault : (b : List ℕ) (e f : TokenFault) → IsFault b e → IsFault b f → ¬ (e ≡ Memory) → ¬ (f ≡ Memory) → e ≡ f
+one_fault b Memory f x y he hf = absurd (he refl)
+one_fault b TooLong Memory x y he hf = absurd (hf refl)
+one_fault b TooLong TooLong x y he hf = refl
+one_fault b TooLong (KeyNoValue n) x y he hf = let h = y.0 in absurd (omega arith)
+one_fault b TooLong (Format n) x y he hf = let h = y.0 in absurd (omega arith)
+one_fault b (KeyNoValue m) Memory x y he hf = absurd (hf refl)
+one_fault b (KeyNoValue m) TooLong x y he hf = let h = x.0 in absurd (omega arith)
+one_fault b (KeyNoValue m) (KeyNoValue n) x y he hf = ap KeyNoValue (stuck_place b m n x.1 y.1)
+one_fault b (KeyNoValue m) (Format n) x y he hf = absurd (not_both b m n x.1 x.2 y.1)
+one_fault b (Format m) Memory x y he hf = absurd (hf refl)
+one_fault b (Format m) TooLong x y he hf = let h = x.0 in absurd (omega arith)
+one_fault b (Format m) (KeyNoValue n) x y he hf = absurd (not_both b n m y.1 y.2 x.1)
+one_fault b (Format m) (Format n) x y he hf = ap Format (same x.1 y.1)
+  where
+    same : HasWrongLength b m ⊎ (IsStuckAt b m × ¬ (LacksValue b m)) → HasWrongLength b n ⊎ (IsStuckAt b n × ¬ (LacksValue b n)) → m ≡ n
+    same (inl v) (inl w) = digits_place b m n v w
+    same (inl v) (inr s) = absurd (s.0.no_token v.loose)
+    same (inr s) (inl w) = absurd (s.0.no_token w.loose)
+    same (inr r) (inr s) = stuck_place b m n r.0 s.0

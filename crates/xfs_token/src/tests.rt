@@ -150,17 +150,17 @@ fn a_text_that_is_cut_is_faulty_where_it_ends(rt: HostRuntime) {
 
 #[test]
 fn a_text_of_1024_bytes_is_read_and_a_longer_one_is_not(rt: HostRuntime) -> Result<(), Fail> {
-    let rows = [
-        (b"1024", 876, None),
-        (b"1025", 877, Some(TokenFault::TooLong)),
+    let rows: [(&[u8], &[u8], Option<TokenFault>); 2] = [
+        (b"1024", &[b'a'; 876], None),
+        (b"1025", &[b'a'; 877], Some(TokenFault::TooLong)),
     ];
-    for (digits, letters, fault) in rows {
+    for (digits, value, fault) in rows {
         let mut text = Vec::new(rt.alloc());
-        text.extend_from_slice(&TEXT[..65])?;
+        text.extend_from_slice(TEXT.split_at(65).0)?;
         text.extend_from_slice(digits)?;
         text.extend_from_slice(b",X=")?;
-        text.extend_from_slice(&[b'a'; 877][..letters])?;
-        text.extend_from_slice(&TEXT[88..])?;
+        text.extend_from_slice(value)?;
+        text.extend_from_slice(TEXT.split_at(88).1)?;
         assert_eq!(rt; fault_of(rt.alloc(), &text), fault);
     }
     Ok(())
