@@ -1,6 +1,10 @@
 pub mod AmountParts
 pub mod Blocks
 pub mod Cases
-pub mod Ends
-pub mod WordLines
 pub mod Due
+pub mod Ends
+pub mod FieldLists
+pub mod Numerals
+pub mod UnitParts
+pub mod UnitTexts
+pub mod WordLines

@@ -1,9 +1,11 @@
 -- A line that begins with a verb, and lines that no verb has.
 use Rattle.std.proofs.Common.{◌≡◌, ℕ, ◌<◌, List, ◌++◌, length, take, drop, refl, ap, sym, ◌∙◌, arith, length-append}
 use Rattle.std.proofs.lemmas.List.{take-append-drop, take_at}
+use Rattle.xfs_base.specs.declared.counts.Counts.{Counts}
+use Rattle.xfs_script.specs.Dispense.{HasFields}
 use Rattle.xfs_script.specs.Guard.{IsGuardLine, IsWordLine, IsMint}
 use Rattle.xfs_script.specs.declared.guard_line.GuardLine.{GuardLine}
-use Rattle.xfs_script.specs.declared.guard_line.GuardLine.TheVariants.{Skip, Issue, Clear, Mint, Present, Reject, Retract, Take, Restart, Show}
+use Rattle.xfs_script.specs.declared.guard_line.GuardLine.TheVariants.{Skip, Issue, Clear, Mint, Dispense, Present, Reject, Retract, Take, Restart, Show}
 
 pub field_is : (text front begin field : List ℕ) → begin ≡ take (length front) text → field ≡ drop (length front) text → begin ≡ front → text ≡ front ++ field
 field_is text front begin field begins behind same =
@@ -16,14 +18,15 @@ no_field text front begin begins other field is =
 pub short_field : (text front : List ℕ) → length text < length front → (field : List ℕ) → text ≡ front ++ field → ⊥
 short_field text front short field is = absurd (let bad : ⊥ = omega (arith, ap length is, length-append front field) in bad)
 
-pub no_line : (text : List ℕ) → ((line : GuardLine) → IsWordLine text line → ⊥) → ((amounts : List (List ℕ × ℕ)) → IsMint text amounts → ⊥) → (line : GuardLine) → IsGuardLine text line → ⊥
-no_line text word mint Skip is = word Skip is
-no_line text word mint Issue is = word Issue is
-no_line text word mint Clear is = word Clear is
-no_line text word mint (Mint amounts) is = mint amounts is
-no_line text word mint Present is = word Present is
-no_line text word mint Reject is = word Reject is
-no_line text word mint Retract is = word Retract is
-no_line text word mint Take is = word Take is
-no_line text word mint Restart is = word Restart is
-no_line text word mint Show is = word Show is
+pub no_line : (text : List ℕ) → ((line : GuardLine) → IsWordLine text line → ⊥) → ((amounts : List (List ℕ × ℕ)) → IsMint text amounts → ⊥) → ((field : List ℕ) (counts : Counts) → HasFields text field counts → ⊥) → (line : GuardLine) → IsGuardLine text line → ⊥
+no_line text word mint dispense Skip is = word Skip is
+no_line text word mint dispense Issue is = word Issue is
+no_line text word mint dispense Clear is = word Clear is
+no_line text word mint dispense (Mint amounts) is = mint amounts is
+no_line text word mint dispense (Dispense token counts) is = dispense is.field counts is.has
+no_line text word mint dispense Present is = word Present is
+no_line text word mint dispense Reject is = word Reject is
+no_line text word mint dispense Retract is = word Retract is
+no_line text word mint dispense Take is = word Take is
+no_line text word mint dispense Restart is = word Restart is
+no_line text word mint dispense Show is = word Show is

@@ -1,7 +1,11 @@
--- The fields of a line: amounts, as in a token's dispense values, joined by commas.
+-- The fields of a line, one space between them; and amounts, as in a token's dispense values, joined by commas.
 use Rattle.std.specs.Prelude.{◌≡◌, ℕ, ◌==◌, List, Some}
 use Rattle.std.specs.List.{slice_split}
 use Rattle.xfs_token.specs.Amounts.{read_amounts, IsAmounts}
+
+-- what stands between the spaces of a line
+abbrev pub fields : List ℕ → List (List ℕ)
+fields text = slice_split (λ b. b == 32) text
 
 -- what stands between the commas of a text
 abbrev pub parts : List ℕ → List (List ℕ)

@@ -2,8 +2,9 @@
 use Rattle.std.specs.Prelude.{◌≡◌, ℕ, List, ◌++◌, codes}
 use Rattle.xfs_script.specs.Words.{IsSkipped}
 use Rattle.xfs_script.specs.Fields.{SpellsAmounts}
+use Rattle.xfs_script.specs.Dispense.{IsDispense}
 use Rattle.xfs_script.specs.declared.guard_line.GuardLine.{GuardLine}
-use Rattle.xfs_script.specs.declared.guard_line.GuardLine.TheVariants.{Skip, Issue, Clear, Mint, Present, Reject, Retract, Take, Restart, Show}
+use Rattle.xfs_script.specs.declared.guard_line.GuardLine.TheVariants.{Skip, Issue, Clear, Mint, Dispense, Present, Reject, Retract, Take, Restart, Show}
 
 -- `mint` and the amounts, one space between them
 pub record IsMint (text : List ℕ) (amounts : List (List ℕ × ℕ)) : Type 0 where
@@ -17,6 +18,7 @@ IsGuardLine text Skip = IsSkipped text
 IsGuardLine text Issue = text ≡ codes "issue"
 IsGuardLine text Clear = text ≡ codes "clear"
 IsGuardLine text (Mint amounts) = IsMint text amounts
+IsGuardLine text (Dispense token counts) = IsDispense text token counts
 IsGuardLine text Present = text ≡ codes "present"
 IsGuardLine text Reject = text ≡ codes "reject"
 IsGuardLine text Retract = text ≡ codes "retract"
@@ -27,4 +29,5 @@ IsGuardLine text Show = text ≡ codes "show"
 -- the same of the lines that have no fields
 abbrev pub IsWordLine : List ℕ → GuardLine → Type 0
 IsWordLine text (Mint amounts) = ⊥
+IsWordLine text (Dispense token counts) = ⊥
 IsWordLine text line = IsGuardLine text line

@@ -1,4 +1,6 @@
 pub mod Answer
+pub mod Counts
+pub mod Dispense
 pub mod Fields
 pub mod Found
 pub mod Guard

@@ -1,11 +1,12 @@
-ghost use Rattle.std.specs.Prelude.{◌≡◌, ◌<◌, ◌≤◌, ◌==◌, ℕ, List, [], ◌∷◌, length, drop, None, Some, IfSome, IfNone, MatchOption, is_some};
+ghost use Rattle.std.specs.Prelude.{◌≡◌, ◌<◌, ◌≤◌, ◌==◌, ℕ, List, length, drop, None, Some, IfSome, IfNone, is_some};
 ghost use Rattle.std.specs.List.{position_or_len, list_all};
 ghost use Rattle.xfs_token.specs.Token.{is_digit};
 ghost use Rattle.xfs_token.specs.Amounts.{number_of, is_part, filled, amount_from};
 ghost use Rattle.xfs_token.specs.Amounts as money;
-ghost use Rattle.xfs_script.specs.Fields.{parts, SpellsAmounts};
+ghost use Rattle.xfs_script.specs.Fields.{SpellsAmounts};
 
 use crate::digits::read_digits;
+use crate::word::cut;
 use memchr::memchr;
 use xfs_base::{Currency, Milli};
 use xfs_token::Amounts;
@@ -16,11 +17,11 @@ pub(crate) fn read_amounts(text: &[u8]) -> Option<Amounts>
     ensures found { IfSome result (SpellsAmounts text.now) }
     ensures none { IfNone result ((amounts : List (List ℕ × ℕ)) → ¬ SpellsAmounts text.now amounts) }
 {
-    let (first, mut rest) = cut(text);
+    let (first, mut rest) = cut(text, b',');
     let (currency, amount) = read_amount(first)?;
     let mut amounts = Amounts::one(currency, amount)?;
     while let Some(behind) = rest {
-        let (part, further) = cut(behind);
+        let (part, further) = cut(behind, b',');
         let (currency, amount) = read_amount(part)?;
         if !amounts.add(currency, amount) {
             return None;
@@ -28,17 +29,6 @@ pub(crate) fn read_amounts(text: &[u8]) -> Option<Amounts>
         rest = further;
     }
     Some(amounts)
-}
-
-// What stands before the first comma, and what stands behind it.
-fn cut(text: &[u8]) -> (&[u8], Option<&[u8]>)
-    ensures parts { MatchOption result.1 (parts text.now ≡ result.0.now ∷ []) (λ behind. parts text.now ≡ result.0.now ∷ parts behind.now) }
-    ensures shorter { IfSome result.1 (λ behind. length behind.now < length text.now) }
-{
-    match memchr(b',', text) {
-        Some(place) => (&text[..place], Some(&text[place + 1..])),
-        None => (text, None),
-    }
 }
 
 // The amount that a text is: a number, and three letters.

@@ -4,8 +4,10 @@ ghost use Rattle.xfs_script.specs.declared.guard_line.GuardLine.{GuardLine};
 ghost use Rattle.xfs_script.specs.declared.guard_line.ScriptFault.TheVariants as ScriptFault;
 
 use crate::amount::read_amounts;
+use crate::dispense::{read_dispense, read_given};
 use crate::word::{field_of, is_skipped, is_word};
 use std::alloc::Global;
+use xfs_base::{Bytes, Counts};
 use xfs_token::Amounts;
 
 /// A line of the command `guard`: its verb with its fields.
@@ -16,12 +18,22 @@ pub enum GuardLine {
     Issue,
     Clear,
     Mint(Amounts),
+    Dispense { token: Given, counts: Counts },
     Present,
     Reject,
     Retract,
     Take,
     Restart,
     Show,
+}
+
+/// The token of a `dispense` line.
+#[derive(Debug, Drop)]
+pub enum Given {
+    /// `@`, the last token that was minted.
+    Last,
+    /// The token's text. It need not be a token.
+    Text(Bytes),
 }
 
 /// Why a line isn't read.
@@ -32,7 +44,7 @@ pub enum ScriptFault {
 }
 
 /// Reads a line of `guard`, given without its end. The allocator is for the bytes that a line holds.
-pub fn read_guard(_alloc: Global, text: &[u8]) -> Result<GuardLine, ScriptFault>
+pub fn read_guard(alloc: Global, text: &[u8]) -> Result<GuardLine, ScriptFault>
     ensures ok { IfOk result (IsGuardLine text.now) }
     ensures not_a_line { result ≡ Err ScriptFault.NotALine → (line : GuardLine) → ¬ IsGuardLine text.now line }
 {
@@ -42,7 +54,13 @@ pub fn read_guard(_alloc: Global, text: &[u8]) -> Result<GuardLine, ScriptFault>
     if let Some(amounts) = read_mint(text) {
         return Ok(GuardLine::Mint(amounts));
     }
-    Err(ScriptFault::NotALine)
+    let Some((field, counts)) = read_dispense(text) else {
+        return Err(ScriptFault::NotALine);
+    };
+    match read_given(alloc, field) {
+        Ok(token) => Ok(GuardLine::Dispense { token, counts }),
+        Err(_) => Err(ScriptFault::Memory),
+    }
 }
 
 // The lines that have no fields.

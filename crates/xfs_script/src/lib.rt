@@ -2,7 +2,10 @@
 #![tactic(auto)]
 
 mod amount;
+mod counts;
+mod counts_field;
 mod digits;
+mod dispense;
 mod feed;
 mod guard_line;
 mod line;
@@ -11,6 +14,7 @@ mod lines;
 mod tests;
 mod word;
 
-pub use guard_line::{GuardLine, ScriptFault, read_guard};
+pub use counts::counts_text;
+pub use guard_line::{Given, GuardLine, ScriptFault, read_guard};
 pub use line::{Line, LineFault};
 pub use lines::Lines;

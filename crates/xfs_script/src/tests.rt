@@ -1,9 +1,9 @@
 ghost use Rattle.std.specs.Prelude.{None};
 
-use crate::{GuardLine, Line, LineFault, Lines, ScriptFault, read_guard};
+use crate::{Given, GuardLine, Line, LineFault, Lines, ScriptFault, counts_text, read_guard};
 use std::alloc::Global;
 use std::test::Fail;
-use xfs_base::{Currency, Failed, MemSource, Milli, Source};
+use xfs_base::{Counts, Currency, Failed, MemSource, Milli, Source};
 
 /// Gives one byte a call.
 #[derive(Drop)]
@@ -163,7 +163,8 @@ fn lines_without_fields(rt: HostRuntime) {
 // How many amounts a line mints, and how many thousandths of EUR.
 fn minted(alloc: Global, text: &[u8]) -> Result<(u8, Milli), Fail> {
     let euro = Currency::new(b"EUR").ok_or("three letters")?;
-    match read_guard(alloc, text)? {
+    let line = read_guard(alloc, text)?;
+    match &line {
         GuardLine::Mint(amounts) => Ok((amounts.len(), amounts.of(euro))),
         _ => Ok((0, Milli(0))),
     }
@@ -216,4 +217,78 @@ fn lines_that_are_none(rt: HostRuntime) {
     for text in table {
         assert!(rt; matches!(read_guard(alloc, text), Err(ScriptFault::NotALine)));
     }
+}
+
+// Whether a line dispenses on the last token, and what it asks.
+fn asked(alloc: Global, text: &[u8]) -> Result<(bool, Counts), Fail> {
+    match read_guard(alloc, text)? {
+        GuardLine::Dispense { token, counts } => Ok((matches!(token, Given::Last), counts)),
+        _ => Ok((false, Counts([0; 8]))),
+    }
+}
+
+#[test]
+fn counts_of_dispense(rt: HostRuntime) -> Result<(), Fail> {
+    let alloc = rt.alloc();
+    let table: [(&[u8], bool, [u32; 8]); 4] = [
+        (b"dispense @ unit3:1", true, [0, 0, 1, 0, 0, 0, 0, 0]),
+        (
+            b"dispense @@ unit1:12,unit2:0",
+            false,
+            [12, 0, 0, 0, 0, 0, 0, 0],
+        ),
+        (
+            b"dispense ~ unit1:2,unit8:1000000",
+            false,
+            [2, 0, 0, 0, 0, 0, 0, 1_000_000],
+        ),
+        (b"dispense A=1 unit4:10", false, [0, 0, 0, 10, 0, 0, 0, 0]),
+    ];
+    for (text, last, counts) in table {
+        assert_eq!(rt; asked(alloc, text)?, (last, Counts(counts)));
+    }
+    Ok(())
+}
+
+#[test]
+fn lines_that_dispense_nothing(rt: HostRuntime) {
+    let alloc = rt.alloc();
+    let table: [&[u8]; 14] = [
+        b"dispense",
+        b"dispense @",
+        b"dispense @ ",
+        b"dispense  unit1:1",
+        b"dispense  @ unit1:1",
+        b"dispense @ unit1:1 ",
+        b"dispense @ unit2:1,unit1:1",
+        b"dispense @ unit1:1,unit1:1",
+        b"dispense @ unit0:1",
+        b"dispense @ unit9:1",
+        b"dispense @ unit1:",
+        b"dispense @ unit1:01",
+        b"dispense @ unit1:1000001",
+        b"dispense @ unit1:1,",
+    ];
+    for text in table {
+        assert!(rt; matches!(read_guard(alloc, text), Err(ScriptFault::NotALine)));
+    }
+}
+
+#[test]
+fn counts_in_answers(rt: HostRuntime) -> Result<(), Fail> {
+    let table: [([u32; 8], &[u8]); 3] = [
+        ([0; 8], b"none"),
+        ([0, 0, 1, 0, 0, 0, 0, 0], b"unit3:1"),
+        (
+            [5, 0, 0, 20, 0, 0, 0, 4_294_967_295],
+            b"unit1:5,unit4:20,unit8:4294967295",
+        ),
+    ];
+    for (counts, expected) in table {
+        assert_eq!(rt;
+            counts_text(rt.alloc(), &Counts(counts))?.as_slice(),
+            expected
+        );
+    }
+    Ok(())
 }

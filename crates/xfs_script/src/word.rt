@@ -1,5 +1,9 @@
-ghost use Rattle.std.specs.Prelude.{◌≡◌, ◌++◌, List, ℕ, IfSome, IfNone, IsTrue, ◌↔◌};
+ghost use Rattle.std.specs.Prelude.{◌≡◌, ◌<◌, ◌==◌, ◌∷◌, ◌++◌, List, [], ℕ, length, IfSome, IfNone, MatchOption, IsTrue, ◌↔◌};
+ghost use Rattle.std.specs.List.{slice_split};
+ghost use Rattle.xfs_script.specs.Fields.{fields};
 ghost use Rattle.xfs_script.specs.Words.{IsSkipped};
+
+use memchr::memchr;
 
 // An empty line, or a comment.
 pub(crate) fn is_skipped(text: &[u8]) -> bool
@@ -31,4 +35,29 @@ pub(crate) fn field_of<'a>(text: &'a [u8], front: &[u8]) -> Option<&'a [u8]>
     } else {
         None
     }
+}
+
+// What stands before the first such byte, and what stands behind it.
+pub(crate) fn cut(text: &[u8], byte: u8) -> (&[u8], Option<&[u8]>)
+    ensures parts { MatchOption result.1 (slice_split (λ b. b == byte) text.now ≡ result.0.now ∷ []) (λ behind. slice_split (λ b. b == byte) text.now ≡ result.0.now ∷ slice_split (λ b. b == byte) behind.now) }
+    ensures shorter { IfSome result.1 (λ behind. length behind.now < length text.now) }
+{
+    match memchr(byte, text) {
+        Some(place) => (&text[..place], Some(&text[place + 1..])),
+        None => (text, None),
+    }
+}
+
+// The fields of a line that has three.
+pub(crate) fn three_fields(text: &[u8]) -> Option<(&[u8], &[u8], &[u8])>
+    ensures found { IfSome result (λ f. fields text.now ≡ f.0.now ∷ f.1.now ∷ f.2.now ∷ []) }
+    ensures none { IfNone result ((a b c : List ℕ) → ¬ (fields text.now ≡ a ∷ b ∷ c ∷ [])) }
+{
+    let (first, behind) = cut(text, b' ');
+    let (second, behind) = cut(behind?, b' ');
+    let (third, behind) = cut(behind?, b' ');
+    if behind.is_some() {
+        return None;
+    }
+    Some((first, second, third))
 }
