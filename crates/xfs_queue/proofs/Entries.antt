@@ -146,10 +146,10 @@ Contains-map : (xs : List Entry) (e : Entry) → Contains xs e → Contains (map
 Contains-map xs e h = (h.0, rw length-map h.1, get_or-map (λ e. e.deadline) xs h.0 e e.deadline h.1 ∙ ap (λ e. e.deadline) h.2)
 
 -- the least entry of the index has the least deadline
-abbrev pub IsEarliest : {J : Type 0} → List (Command J) → Option Entry → Type 0
-IsEarliest q r = MatchOption r (deadlines q ≡ []) (λ e. Contains (deadlines q) e.deadline × All (λ d. e.deadline ≤ d) (deadlines q))
+abbrev pub HasEarliest : {J : Type 0} → List (Command J) → Option Entry → Type 0
+HasEarliest q r = MatchOption r (deadlines q ≡ []) (λ e. Contains (deadlines q) e.deadline × All (λ d. e.deadline ≤ d) (deadlines q))
 
-pub earliest_is : {J : Type 0} (q : List (Command J)) (xs : List Entry) (r : Option Entry) → IsIndex xs (entries q) → IsLeast xs r → IsEarliest q r
+pub earliest_is : {J : Type 0} (q : List (Command J)) (xs : List Entry) (r : Option Entry) → IsIndex xs (entries q) → IsLeast xs r → HasEarliest q r
 earliest_is q xs None is empty = deadlines_are q ∙ ap (map (λ e. e.deadline)) (nothing_covered (entries q) (rw empty at is.covered))
 earliest_is q xs (Some e) is least = rw (deadlines_are q) (
   Contains-map (entries q) e (All-contains (Contains (entries q)) xs e is.backed least.0),

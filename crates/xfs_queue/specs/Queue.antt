@@ -1,5 +1,5 @@
 -- A queue is the plain list of the pending commands of a service, in order of arrival.
-use Rattle.std.specs.Prelude.{◌≡◌, ℕ, ◌≤◌, ◌&&◌, ◌||◌, not, nat_le, Bool, false, IsTrue, List, length, map, filter, find, count_by, filter_map, AllPairs, None, Some, if◌then◌else◌}
+use Rattle.std.specs.Prelude.{◌≡◌, ℕ, ◌≤◌, ◌&&◌, ◌||◌, not, nat_le, Bool, false, IsTrue, List, length, map, filter, find, count_by, filter_map, AllPairs, All, Contains, MatchOption, [], None, Some, if◌then◌else◌}
 use Rattle.std.specs.declared.option.Option.{Option}
 use Rattle.std.specs.List.{list_any}
 use Rattle.xfs_base.specs.declared.moment.ClientId.{ClientId}
@@ -79,3 +79,7 @@ module _ {J : Type 0} where
   -- the deadlines of the waiting commands of the device line that have one
   abbrev pub deadlines : List (Command J) → List ℕ
   deadlines q = filter_map (λ a. if has_deadline a then Some (deadline a) else None) q
+
+  -- the least of these deadlines; none, where there are none
+  abbrev pub IsEarliest : List (Command J) → Option Moment → Type 0
+  IsEarliest q least = MatchOption least (deadlines q ≡ []) (λ m. Contains (deadlines q) m.0 × All (λ d. m.0 ≤ d) (deadlines q))

@@ -3,7 +3,11 @@
 
 mod command;
 mod deadlines;
+#[cfg(test)]
+mod plain;
 mod queue;
+#[cfg(test)]
+mod same_calls;
 #[cfg(test)]
 mod tests;
 

@@ -35,13 +35,13 @@ impl<J> Model for Queue<J> {
 }
 
 impl<J> Queue<J> {
-    ghost use Rattle.std.specs.Prelude.{◌≡◌, ◌≤◌, ◌&&◌, ◌++◌, [], ◌∷◌, IsTrue, IfSome, IsNone, Some, None, Ok, Err, OnOk, IfErr, MatchOption, option_map, find, count_by, All, Contains};
+    ghost use Rattle.std.specs.Prelude.{◌≡◌, ◌≤◌, ◌&&◌, ◌++◌, [], ◌∷◌, IfSome, Some, None, Ok, Err, OnOk, IfErr, MatchOption, option_map, find, count_by};
     ghost use Rattle.std.specs.List.{list_any};
     ghost use Rattle.std.specs.Borrow.{sem};
     ghost use Rattle.xfs_base.specs.declared.moment.TheConstants.{LAST_MOMENT};
     ghost use Rattle.xfs_queue.specs.Commands.{ticket_of, pending_of, is_at, is_waiting, is_running, is_ready, waits_on, is_due};
     ghost use Rattle.xfs_queue.specs.Lending.{LendsJob};
-    ghost use Rattle.xfs_queue.specs.Queue.{IsQueue, IsPending, IsWaiting, command_at, offered, offer_fault, with_stage, without, is_named, canceled, without_client, deadlines};
+    ghost use Rattle.xfs_queue.specs.Queue.{IsQueue, IsPending, IsWaiting, command_at, offered, offer_fault, with_stage, without, is_named, canceled, without_client, IsEarliest};
     ghost use Rattle.xfs_queue.specs.declared.command.OfferFault.TheVariants.{Memory};
     ghost use Rattle.xfs_queue.specs.declared.command.Stage.TheVariants.{Waiting, Running, Ready};
     ghost use Rattle.xfs_queue.specs.declared.command.Line.TheVariants.{Device};
@@ -133,7 +133,7 @@ impl<J> Queue<J> {
 
     /// The least deadline of the waiting commands of the device line that have a timeout.
     pub fn earliest(&self) -> Option<Moment>
-        ensures { MatchOption result (deadlines self.now ≡ []) (λ m. Contains (deadlines self.now) m.0 × All (λ d. m.0 ≤ d) (deadlines self.now)) }
+        ensures { IsEarliest self.now result }
     {
         match self.deadlines.first() {
             Some(entry) => Some(Moment(entry.deadline)),
@@ -274,7 +274,7 @@ impl<J: Drop> Queue<J> {
     }
 }
 
-fn fault_of<J>(commands: &[Command<J>], client: ClientId, id: u64) -> Option<OfferFault>
+pub(crate) fn fault_of<J>(commands: &[Command<J>], client: ClientId, id: u64) -> Option<OfferFault>
     ensures { result ≡ offer_fault commands.now client id }
 {
     if is_pending(commands, Ticket { client, id }) {
@@ -289,7 +289,7 @@ fn fault_of<J>(commands: &[Command<J>], client: ClientId, id: u64) -> Option<Off
     None
 }
 
-fn is_pending<J>(commands: &[Command<J>], ticket: Ticket) -> bool
+pub(crate) fn is_pending<J>(commands: &[Command<J>], ticket: Ticket) -> bool
     ensures { result ≡ list_any (is_at ticket) commands.now }
 {
     commands.iter().any(|command| command.is_at(ticket))
@@ -317,7 +317,7 @@ fn add_entry(deadlines: &mut Deadlines, entry: Option<Entry>) -> Result<(), Allo
     }
 }
 
-fn place<J>(commands: &[Command<J>], ticket: Ticket) -> usize
+pub(crate) fn place<J>(commands: &[Command<J>], ticket: Ticket) -> usize
     requires { IsPending commands.now ticket }
     ensures { position (is_at ticket) commands.now ≡ Some result }
 {
@@ -333,7 +333,7 @@ fn first_place<J>(commands: &[Command<J>], ticket: Ticket) -> Option<usize>
     commands.iter().position(|command| command.is_at(ticket))
 }
 
-fn set_stage<J>(commands: &mut Vec<Command<J>>, ticket: Ticket, stage: Stage)
+pub(crate) fn set_stage<J>(commands: &mut Vec<Command<J>>, ticket: Ticket, stage: Stage)
     requires ids { AllPairs (λ a b. is_at (ticket_of a) b ≡ false) commands.old.items }
     requires pending { IsPending commands.old.items ticket }
     ensures { commands.new.items ≡ with_stage commands.old.items ticket stage }
@@ -342,7 +342,7 @@ fn set_stage<J>(commands: &mut Vec<Command<J>>, ticket: Ticket, stage: Stage)
     commands[at].stage = stage;
 }
 
-fn count_named<J>(commands: &[Command<J>], client: ClientId, ids: &Ids) -> usize
+pub(crate) fn count_named<J>(commands: &[Command<J>], client: ClientId, ids: &Ids) -> usize
     ensures count { result ≡ count_by (is_named client ids.now) commands.now }
     ensures bound { result ≤ length commands.now }
 {
@@ -352,7 +352,7 @@ fn count_named<J>(commands: &[Command<J>], client: ClientId, ids: &Ids) -> usize
         .count()
 }
 
-fn mark_named<J>(commands: &mut [Command<J>], client: ClientId, ids: &Ids)
+pub(crate) fn mark_named<J>(commands: &mut [Command<J>], client: ClientId, ids: &Ids)
     ensures { commands.new ≡ canceled commands.old client ids.now }
 {
     for command in commands.iter_mut() {
@@ -360,7 +360,7 @@ fn mark_named<J>(commands: &mut [Command<J>], client: ClientId, ids: &Ids)
     }
 }
 
-fn mark_client<J>(commands: &mut [Command<J>], client: ClientId)
+pub(crate) fn mark_client<J>(commands: &mut [Command<J>], client: ClientId)
     ensures { commands.new ≡ marked_of commands.old client }
 {
     for command in commands.iter_mut() {
