@@ -4,5 +4,6 @@ pub mod JournalLaws
 mod Moments
 mod Opening
 mod Pieces
+mod Reading
 mod Told
 pub mod Unique

@@ -1,3 +1,4 @@
+pub mod Decode
 pub mod Gate
 pub mod Image
 pub mod Journal

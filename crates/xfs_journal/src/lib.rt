@@ -6,6 +6,7 @@ mod faults;
 mod gate;
 mod journal;
 mod limits;
+mod read;
 mod record;
 mod text;
 
