@@ -92,11 +92,8 @@ record-back (Load unit count) is = ap (λ c. Load unit c) (from_be_bytes-to_be_b
 pub no_two_bodies : (r s : Rec) → IsRecord r → IsRecord s → body r ≡ body s → r ≡ s
 no_two_bodies r s is_r is_s same = sym (record-back r is_r) ∙ ap record_of same ∙ record-back s is_s
 
--- a body fits the two bytes of its length
-pub body-short : (r : Rec) → IsRecord r → length (body r) ≤ 1025
-body-short (Issue number word) is = omega arith
-body-short Clear is = omega arith
-body-short (Boot p) is = omega (
+pub places-size : (p : Places) → IsRecord (Boot p) → length (places_bytes p) ≡ 192
+places-size p is = omega (
   arith,
   counts-size p.units is.0,
   counts-size p.transport is.1,
@@ -110,6 +107,12 @@ body-short (Boot p) is = omega (
   length-append (counts_bytes p.units ++ counts_bytes p.transport ++ counts_bytes p.outlet ++ counts_bytes p.taken) (counts_bytes p.retracted),
   length-append (counts_bytes p.units ++ counts_bytes p.transport ++ counts_bytes p.outlet ++ counts_bytes p.taken ++ counts_bytes p.retracted) (counts_bytes p.rejected),
 )
+
+-- a body fits the two bytes of its length
+pub body-short : (r : Rec) → IsRecord r → length (body r) ≤ 1025
+body-short (Issue number word) is = omega arith
+body-short Clear is = omega arith
+body-short (Boot p) is = omega (arith, places-size p is)
 body-short (Bind token) is = omega (arith, is.1)
 body-short (Order kind counts) is = omega (arith, counts-size counts is)
 body-short (Done moved diverted) is = omega (arith, counts-size moved is.0, counts-size diverted is.1, length-append (counts_bytes moved) (counts_bytes diverted))

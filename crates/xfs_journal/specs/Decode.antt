@@ -1,5 +1,5 @@
 -- The record that a body holds, if it is a body: what stands at each place of it.
-use Rattle.std.specs.Prelude.{ℕ, zero, suc, ◌==◌, if◌then◌else◌, List, [], ◌∷◌, drop}
+use Rattle.std.specs.Prelude.{ℕ, zero, suc, ◌==◌, nat_le, Bool, true, false, ◌&&◌, if◌then◌else◌, List, [], ◌∷◌, drop}
 use Rattle.std.specs.Int.{from_be_bytes, w32, w64}
 use Rattle.xfs_base.specs.declared.counts.Counts.{Counts}
 use Rattle.xfs_base.specs.declared.counts.Kind.{Kind}
@@ -46,3 +46,14 @@ record_in letter bs =
 abbrev pub record_of : List ℕ → Rec
 record_of [] = Clear
 record_of (letter ∷ bs) = record_in letter bs
+
+-- how many bytes stand behind a body's letter
+abbrev pub has_size : ℕ → ℕ → Bool
+has_size letter n =
+    if letter == 0x49 then n == 16
+    else (if letter == 0x43 then n == 0
+    else (if letter == 0x42 then n == 192
+    else (if letter == 0x54 then nat_le 1 n && nat_le n 1024
+    else (if letter == 0x4F then n == 33
+    else (if letter == 0x44 then n == 64
+    else (if letter == 0x4C then n == 5 else false))))))

@@ -9,3 +9,11 @@ pub enum AppendFault {
     /// The disk failed in an earlier call, and the journal wasn't read again since.
     Shut,
 }
+
+/// Why bytes weren't read as a record.
+#[derive(Clone, Copy, Debug, PartialEq, Eq)]
+pub enum BodyFault {
+    /// They are the body of no record.
+    Form,
+    Memory,
+}

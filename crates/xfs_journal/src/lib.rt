@@ -10,9 +10,10 @@ mod read;
 mod record;
 mod text;
 
-pub use faults::AppendFault;
+pub use faults::{AppendFault, BodyFault};
 pub use journal::Journal;
 pub use limits::Limits;
+pub use read::read_body;
 pub use record::Rec;
 pub use text::Text;
 pub use xfs_base::Kind;
