@@ -3,6 +3,7 @@ pub mod Decoding
 pub mod JournalLaws
 mod Moments
 mod Opening
+mod Paged
 mod Pieces
 mod Reading
 mod Told

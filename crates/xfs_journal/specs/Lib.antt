@@ -3,3 +3,4 @@ pub mod Gate
 pub mod Image
 pub mod Journal
 pub mod JournalView
+pub mod Paging

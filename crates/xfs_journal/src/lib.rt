@@ -6,6 +6,7 @@ mod faults;
 mod gate;
 mod journal;
 mod limits;
+mod page;
 mod read;
 mod record;
 mod text;
