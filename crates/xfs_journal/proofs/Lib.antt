@@ -1,4 +1,6 @@
 mod Appended
+mod Blocks
+pub mod Ceasing
 pub mod Decoding
 pub mod JournalLaws
 mod Moments

@@ -1,5 +1,5 @@
 -- What a page shows after it was filled, and after some of it was handed over.
-use Rattle.std.proofs.Common.{◌≡◌, ℕ, ◌+◌, ◌-◌, ◌≤◌, min, List, [], ◌∷◌, ◌++◌, length, take, drop, refl, sym, ◌∙◌, ap, ap₂, subst, arith, drop-drop, length-take, length-drop, take-append-drop, length-append, append_assoc, append-nil}
+use Rattle.std.proofs.Common.{◌≡◌, ℕ, ◌+◌, ◌-◌, ◌<◌, ◌≤◌, min, List, [], ◌∷◌, ◌++◌, length, take, drop, Some, refl, sym, ◌∙◌, ap, ap₂, subst, arith, drop-drop, length-take, length-drop, take-append-drop, length-append, append_assoc, append-nil}
 use Rattle.std.proofs.lemmas.List.{drop-take}
 use Rattle.xfs_disk.specs.Disk.{Gives}
 use Rattle.std.proofs.lemmas.List.{take-append-le, drop-append-le}
@@ -7,7 +7,7 @@ use Rattle.std.proofs.Math.Seq.{take-add}
 use Rattle.std.specs.declared.option.Option.{Option}
 use Rattle.xfs_base.specs.Causes.{IfTold}
 use Rattle.xfs_journal.proofs.Told.{on_told, from_told}
-use Rattle.xfs_journal.specs.Paging.{PageView, Shows, Took, IsQuiet}
+use Rattle.xfs_journal.specs.Paging.{PageView, Shows, Since, Took, IsQuiet}
 
 pub windowed : (bytes : List ℕ) (from to n : ℕ) (w : List ℕ) → n ≤ to - from → w ≡ take (to - from) (drop from bytes) → take (to - (from + n)) (drop (from + n) bytes) ≡ drop n w
 windowed bytes from to n w le is =
@@ -77,3 +77,27 @@ took_none h p o shows = record {
 
 pub took_shows : (h : Option (List ℕ)) (p q : PageView) (o o1 : List ℕ) (k : ℕ) → Took h p q o o1 k → IfTold h (λ b. Shows b q)
 took_shows h p q o o1 k took = on_told h (λ b. Shows b q) (λ b known. (from_told h (λ b. (o1 ≡ o ++ take k (drop p.at b)) × Shows b q) took.bytes b known).1)
+
+pub since_more : (h : Option (List ℕ)) (p q : PageView) (from : ℕ) (o o1 : List ℕ) (k : ℕ) → Since h p from o → Took h p q o o1 k → Since h q from o1
+since_more h p q from o o1 k since took = record {
+  at_is = omega (arith, since.at_is, took.at_is, took.count);
+  bytes = on_told h (λ b. (o1 ≡ take (length o1) (drop from b)) × Shows b q) (λ b known.
+      let s = from_told h (λ b. (o ≡ take (length o) (drop from b)) × Shows b p) since.bytes b known in
+      let t = from_told h (λ b. (o1 ≡ o ++ take k (drop p.at b)) × Shows b q) took.bytes b known in
+      (t.0 ∙ ap₂ (λ (x y : List ℕ). x ++ y) s.0 (ap (λ (n : ℕ). take k (drop n b)) since.at_is ∙ ap (λ (l : List ℕ). take k l) (sym (drop-drop (length o) from b)))
+       ∙ sym (take-add (length o) k (drop from b)) ∙ ap (λ (n : ℕ). take n (drop from b)) (sym took.count), t.1));
+}
+
+pub since_shows : (h : Option (List ℕ)) (p : PageView) (from : ℕ) (o : List ℕ) → Since h p from o → IfTold h (λ b. Shows b p)
+since_shows h p from o since = on_told h (λ b. Shows b p) (λ b known. (from_told h (λ b. (o ≡ take (length o) (drop from b)) × Shows b p) since.bytes b known).1)
+
+pub since_front : (h : Option (List ℕ)) (p : PageView) (from : ℕ) (o : List ℕ) → Since h p from o → (b : List ℕ) → h ≡ Some b → o ≡ take (length o) (drop from b)
+since_front h p from o since b known = (from_told h (λ b. (o ≡ take (length o) (drop from b)) × Shows b p) since.bytes b known).0
+
+pub since_none : (h : Option (List ℕ)) (p : PageView) (from : ℕ) → p.at ≡ from → IfTold h (λ b. Shows b p) → Since h p from []
+since_none h p from is shows = record { at_is = omega (arith, is); bytes = on_told h (λ b. ([] ≡ take 0 (drop from b)) × Shows b p) (λ b known. (refl, from_told h (λ b. Shows b p) shows b known)) }
+
+pub since_short : (h : Option (List ℕ)) (p : PageView) (from : ℕ) (o : List ℕ) (k : ℕ) → Since h p from o → IfTold h (λ b. length b < p.at + k) → IfTold h (λ b. length (drop from b) < length o + k)
+since_short h p from o k since short = on_told h (λ b. length (drop from b) < length o + k) (λ b known.
+    let s = from_told h (λ b. (o ≡ take (length o) (drop from b)) × Shows b p) since.bytes b known in
+    omega (arith, from_told h (λ b. length b < p.at + k) short b known, since.at_is, length-drop from b, s.1.within))

@@ -5,6 +5,7 @@ use Rattle.std.specs.Int.{from_be_bytes, w32}
 use Rattle.std.specs.Prelude.{◌==◌, nat_le, ◌&&◌, true, false}
 use Rattle.xfs_journal.proofs.Decoding.{body-short, counts-size, places-size, record-back}
 use Rattle.xfs_journal.specs.Decode.{numbers, has_size, record_in, record_of, first_byte}
+use Rattle.xfs_journal.specs.Paging.{IsNoBody}
 use Rattle.xfs_journal.specs.Image.{IsRecord, HasUnit, body, counts_bytes, places_bytes}
 use Rattle.xfs_journal.specs.declared.record.Rec.{Rec}
 use Rattle.xfs_journal.specs.declared.record.Rec.TheVariants.{Issue, Clear, Boot, Bind, Order, Done, Load}
@@ -47,9 +48,6 @@ not_empty (Bind token) = omega arith
 not_empty (Order kind counts) = omega arith
 not_empty (Done moved diverted) = omega arith
 not_empty (Load unit count) = omega arith
-
-abbrev pub IsNoBody : List ℕ → Type 0
-IsNoBody bs = (r : Rec) → IsRecord r → body r ≢ bs
 
 pub none_empty : (bs : List ℕ) → length bs ≡ 0 → IsNoBody bs
 none_empty bs none r is same = absurd (omega (arith, none, not_empty r, ap length same))

@@ -17,3 +17,14 @@ pub enum BodyFault {
     Form,
     Memory,
 }
+
+/// Why a disk isn't mounted as a journal.
+#[derive(Clone, Copy, Debug, PartialEq, Eq)]
+pub enum MountFault {
+    /// Its bytes are no journal from this place on: 0 where they don't begin as one, else the place of the gate byte
+    /// whose record isn't whole or isn't of the format, or their length where no byte follows the last record.
+    NotJournal { at: u64 },
+    /// The disk failed in this call: its count of faults rose.
+    Disk,
+    Memory,
+}

@@ -2,6 +2,7 @@
 #![tactic(auto)]
 
 mod body;
+mod block;
 mod faults;
 mod gate;
 mod journal;
@@ -9,9 +10,10 @@ mod limits;
 mod page;
 mod read;
 mod record;
+mod scan;
 mod text;
 
-pub use faults::{AppendFault, BodyFault};
+pub use faults::{AppendFault, BodyFault, MountFault};
 pub use journal::Journal;
 pub use limits::Limits;
 pub use read::read_body;
