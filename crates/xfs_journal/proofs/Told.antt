@@ -1,5 +1,6 @@
 -- Facts of what an object holds, where it tells it.
 use Rattle.std.proofs.Common.{◌≡◌, None, Some, refl, subst}
+use Rattle.std.specs.Prelude.{IfSome}
 use Rattle.std.specs.declared.option.Option.{Option}
 use Rattle.xfs_base.specs.Causes.{IfTold}
 
@@ -9,6 +10,9 @@ on_told (Some x) P each = each x refl
 
 pub from_told : {T : Type 0} (o : Option T) (P : T → Type 0) → IfTold o P → (x : T) → o ≡ Some x → P x
 from_told {T} o P told x is = subst (λ (q : Option T). IfTold q P) is told
+
+pub from_some : {T : Type 0} (o : Option T) (P : T → Type 0) → IfSome o P → (x : T) → o ≡ Some x → P x
+from_some {T} o P found x is = subst (λ (q : Option T). IfSome q P) is found
 
 pub goes : {X : Type 0} (A B C : X → Type 0) → ((x : X) → A x → B x) → ((x : X) → B x → C x) → (x : X) → A x → C x
 goes A B C f g x a = g x (f x a)

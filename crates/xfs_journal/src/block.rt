@@ -122,6 +122,7 @@ pub(crate) fn read_block<D: Disk>(
     requires shows { IfTold (D.held disk.old) (λ all. Shows all page.old) }
     ensures of_table { IfOk result (λ found. IfSome found (λ r. IsRecord r × (page.new.at ≡ page.old.at + length (1 ∷ framed r)))) }
     ensures record { IfOk result (λ found. IfSome found (λ r. IfTold (D.held disk.old) (λ all. (drop page.old.at all ≡ (1 ∷ framed r) ++ drop page.new.at all) × Shows all page.new))) }
+    ensures behind { IfOk result (λ found. found ≡ None → page.new.at ≡ page.old.at + 1) }
     ensures small { page.old.at < 2 ^ 64 }
     ensures shut { IfOk result (λ found. found ≡ None → IfTold (D.held disk.old) (λ all. IsShut (drop page.old.at all))) }
     ensures broken { IfErr result (λ f. (x : ℕ) → f ≡ NotJournal x → (x ≡ page.old.at) × IfTold (D.held disk.old) (λ all. IsBroken (drop page.old.at all))) }

@@ -7,6 +7,7 @@ mod faults;
 mod gate;
 mod journal;
 mod limits;
+mod mount;
 mod page;
 mod read;
 mod record;

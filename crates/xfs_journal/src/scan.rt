@@ -51,7 +51,7 @@ pub(crate) fn read_records<D: Disk>(
     requires room { (1028 ≤ vec_capacity block.old) × (1025 ≤ vec_capacity spare.old) }
     requires start { page.old.at ≡ 0 }
     requires shows { IfTold (D.held disk.old) (λ all. Shows all page.old) }
-    ensures place { IfOk result (λ records. page.new.at ≡ length (front records.items)) }
+    ensures place { IfOk result (λ records. page.new.at ≡ length (front records.items) + 1) }
     ensures of_table { IfOk result (λ records. AllByRecursion IsRecord records.items) }
     ensures image { IfOk result (λ records. IfTold (D.held disk.old) (λ all. IsImage all records.items)) }
     ensures broken { IfErr result (λ f. (x : ℕ) → f ≡ NotJournal x → IfTold (D.held disk.old) (λ all. CeasesAt all x)) }
@@ -62,9 +62,10 @@ pub(crate) fn read_records<D: Disk>(
     read_magic(disk, page, block)?;
     let mut records = Vec::new(alloc);
     while let Some(rec) = read_block(alloc, disk, page, block, spare)? {
-        if records.push(rec).is_err() {
+        if records.reserve(1).is_err() {
             return Err(MountFault::Memory);
         }
+        records.push_reserved(rec);
     }
     Ok(records)
 }
