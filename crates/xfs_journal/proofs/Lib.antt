@@ -3,6 +3,7 @@ mod Blocks
 pub mod Ceasing
 pub mod Decoding
 pub mod JournalLaws
+mod Emptying
 mod Listing
 mod Moments
 mod Opening
