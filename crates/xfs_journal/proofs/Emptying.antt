@@ -10,9 +10,9 @@ use Rattle.xfs_disk.specs.Disk.{overlaid, Torn, Only, LeavesOnly}
 use Rattle.xfs_journal.specs.Gate.{MayBecome}
 use Rattle.xfs_journal.specs.Image.{IsImage, Stands, blocks, front, framed, body, magic}
 use Rattle.xfs_journal.specs.JournalView.{IsAtRest, IsKept}
-use Rattle.xfs_journal.specs.Paging.{IsBroken, CeasesAt}
+use Rattle.xfs_journal.specs.Paging.{IsBroken, IsOldOrShort, CeasesAt}
 use Rattle.xfs_journal.specs.declared.record.Rec.{Rec}
-use Rattle.xfs_journal.proofs.Ceasing.{no_image, image_long}
+use Rattle.xfs_journal.proofs.Ceasing.{no_image, short_empty}
 use Rattle.xfs_journal.proofs.Moments.{weaken}
 use Rattle.xfs_journal.proofs.Told.{on_told, from_told}
 
@@ -22,13 +22,13 @@ no_record rest none r more same = absurd (omega (arith, ap length none, ap lengt
 behind_magic : (c rest : List ℕ) → c ≡ magic ++ rest → length rest ≤ 1 → Stands c []
 behind_magic c [] is le = inr (refl, omega (arith, ap length is), no_image c 8 (inr ([], [], tt, is, inl refl, refl)))
 behind_magic c (g ∷ rest) is le = elim (cases_eq g 1) [
-  | inl open_gate ↦ inr (refl, omega (arith, ap length is, le), no_image c 8 (inr ([], g ∷ rest, tt, is, inr (rest, ap (λ k. k ∷ rest) open_gate, λ r of_table. no_record rest (empty rest le) r), refl)))
+  | inl open_gate ↦ inr (refl, omega (arith, ap length is, le), no_image c 8 (inr ([], g ∷ rest, tt, is, inr (rest, ap (λ k. k ∷ rest) open_gate, λ r of_table. no_record rest (empty g rest le) r), refl)))
   | inr shut ↦ inl (record { of_table = tt; gate = g; rest = rest; closed = shut; bytes_are = is })
 ]
   where
-    empty : (l : List ℕ) → length l + 1 ≤ 1 → l ≡ []
-    empty [] few = refl
-    empty (x ∷ xs) few = absurd (omega (arith, few))
+    empty : (g : ℕ) (l : List ℕ) → length (g ∷ l) ≤ 1 → l ≡ []
+    empty g [] few = refl
+    empty g (x ∷ xs) few = absurd (omega (arith, few))
 
 pub short_stands : (c : List ℕ) → length c ≤ 9 → Stands c []
 short_stands c short = by_magic (pointwise nat_eq (take 8 c) magic) refl
@@ -54,3 +54,8 @@ kept_empty h h2 images2 written durable = record {
     image_of : (h : Option (List ℕ)) (c : List ℕ) → option_map (λ all. overlaid all 0 (magic ++ 0 ∷ [])) h ≡ Some c → IsImage c []
     image_of None c same = absurd (none-some c same)
     image_of (Some all) c same = subst (λ (l : List ℕ). IsImage l []) (same_Some (overlaid all 0 (magic ++ 0 ∷ [])) c same) (emptied all)
+
+-- one of the old images, or at most 9 bytes where the file had no more, stands for the list that each old image stands for
+pub settles : (images : List ℕ → Type 0) (all : List ℕ) (J : List Rec) → images all → ((c : List ℕ) → images c → Stands c J) → (c : List ℕ) → IsOldOrShort images all c → Stands c J
+settles images all J here each c (inl was) = each c was
+settles images all J here each c (inr (short, few)) = subst (λ (l : List Rec). Stands c l) (sym (short_empty all J short (each all here))) (short_stands c few)

@@ -3,7 +3,7 @@ mod Blocks
 pub mod Ceasing
 pub mod Decoding
 pub mod JournalLaws
-mod Emptying
+pub mod Emptying
 mod Listing
 mod Moments
 mod Opening

@@ -15,7 +15,7 @@ mod scan;
 mod text;
 
 pub use faults::{AppendFault, BodyFault, MountFault};
-pub use journal::Journal;
+pub use journal::{Journal, MountFail};
 pub use limits::Limits;
 pub use read::read_body;
 pub use record::Rec;

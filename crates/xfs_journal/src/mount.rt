@@ -5,7 +5,7 @@ ghost use Rattle.xfs_base.specs.Causes.{IfTold, Rose};
 ghost use Rattle.xfs_disk.specs.Disk.{LeavesOnly, Only};
 ghost use Rattle.xfs_journal.specs.Image.{IsImage, IsRecord, Stands, front};
 ghost use Rattle.xfs_journal.specs.JournalView.{IsKept};
-ghost use Rattle.xfs_journal.specs.Paging.{IsQuiet, CeasesAt};
+ghost use Rattle.xfs_journal.specs.Paging.{IsQuiet, IsOldOrShort, CeasesAt};
 ghost use Rattle.xfs_journal.specs.declared.faults.MountFault.TheVariants.{NotJournal, Disk as DiskFault, Memory as NoMemory};
 
 use crate::gate::write_synced;
@@ -78,4 +78,53 @@ fn make_empty<D: Disk>(alloc: Global, disk: &mut D) -> Result<Listed, MountFault
         records: Vec::new(alloc),
         end: 8,
     })
+}
+
+// Reads the records of a synced disk of so many bytes. At most 9 that are no journal become an empty one.
+fn read_or_empty<D: Disk>(
+    alloc: Global,
+    disk: &mut D,
+    len: u64,
+    block: &mut Vec<u8>,
+) -> Result<Listed, MountFault>
+    requires room { 1028 ≤ vec_capacity block.old }
+    requires len { IfTold (D.held disk.old) (λ all. length all ≡ len) }
+    requires durable { IfTold (D.held disk.old) (λ all. Only all (D.images disk.old)) }
+    ensures kept { IfOk result (λ l. IsKept (D.held disk.new) (D.images disk.new) l.records.items false l.end) }
+    ensures stands { IfOk result (λ l. IfTold (D.held disk.old) (λ all. Stands all l.records.items)) }
+    ensures refused { IfErr result (λ f. (at : ℕ) → f ≡ NotJournal at → IfTold (D.held disk.old) (λ all. (9 < length all) × CeasesAt all at)) }
+    ensures unwritten { IfErr result (λ f. (at : ℕ) → f ≡ NotJournal at → IsQuiet D.held D.images D.moment D.images_since D.faults disk.old disk.new) }
+    ensures long { IfTold (D.held disk.old) (λ all. 9 < length all → IsQuiet D.held D.images D.moment D.images_since D.faults disk.old disk.new) }
+    ensures disk { IfErr result (λ f. f ≡ DiskFault → Rose (D.faults disk.old) (D.faults disk.new)) }
+    ensures any_moment { IfTold (D.held disk.old) (λ all. LeavesOnly D.moment D.images_since disk.old disk.new (IsOldOrShort (D.images disk.old) all)) }
+    ensures told { is_some (D.held disk.new) ≡ is_some (D.held disk.old) }
+    ensures faults { D.faults disk.old ≤ D.faults disk.new }
+    ensures capacity { 1028 ≤ vec_capacity block.new }
+{
+    match read_all(alloc, disk, len, block) {
+        Err(MountFault::NotJournal { .. }) if len <= 9 => make_empty(alloc, disk),
+        answer => answer,
+    }
+}
+
+// Syncs a disk and reads its records.
+pub(crate) fn load<D: Disk>(
+    alloc: Global,
+    disk: &mut D,
+    block: &mut Vec<u8>,
+) -> Result<Listed, MountFault>
+    requires room { 1028 ≤ vec_capacity block.old }
+    ensures kept { IfOk result (λ l. IsKept (D.held disk.new) (D.images disk.new) l.records.items false l.end) }
+    ensures stands { IfOk result (λ l. IfTold (D.held disk.old) (λ all. Stands all l.records.items)) }
+    ensures refused { IfErr result (λ f. (at : ℕ) → f ≡ NotJournal at → IfTold (D.held disk.old) (λ all. (9 < length all) × CeasesAt all at)) }
+    ensures unwritten { IfErr result (λ f. (at : ℕ) → f ≡ NotJournal at → IsQuiet D.held D.images D.moment D.images_since D.faults disk.old disk.new) }
+    ensures long { IfTold (D.held disk.old) (λ all. 9 < length all → IsQuiet D.held D.images D.moment D.images_since D.faults disk.old disk.new) }
+    ensures disk { IfErr result (λ f. f ≡ DiskFault → Rose (D.faults disk.old) (D.faults disk.new)) }
+    ensures any_moment { IfTold (D.held disk.old) (λ all. LeavesOnly D.moment D.images_since disk.old disk.new (IsOldOrShort (D.images disk.old) all)) }
+    ensures told { is_some (D.held disk.new) ≡ is_some (D.held disk.old) }
+    ensures faults { D.faults disk.old ≤ D.faults disk.new }
+    ensures capacity { 1028 ≤ vec_capacity block.new }
+{
+    let len = sync_len(disk)?;
+    read_or_empty(alloc, disk, len, block)
 }
