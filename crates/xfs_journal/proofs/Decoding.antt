@@ -9,48 +9,10 @@ use Rattle.xfs_base.specs.declared.counts.Counts.{Counts}
 use Rattle.xfs_base.specs.declared.counts.Kind.{Kind}
 use Rattle.xfs_base.specs.declared.counts.Kind.TheVariants.{Stack, Present, Reject, Retract}
 use Rattle.xfs_base.specs.declared.counts.Places.{Places}
+use Rattle.xfs_journal.specs.Decode.{numbers, counts_in, kind_in, places_in, first_byte, record_in, record_of}
 use Rattle.xfs_journal.specs.Image.{body, counts_bytes, places_bytes, kind_byte, AreCounts, IsRecord}
 use Rattle.xfs_journal.specs.declared.record.Rec.{Rec}
 use Rattle.xfs_journal.specs.declared.record.Rec.TheVariants.{Issue, Clear, Boot, Bind, Order, Done, Load}
-
--- so many numbers of 4 bytes
-abbrev pub numbers : ℕ → List ℕ → List ℕ
-numbers zero bs = []
-numbers (suc n) bs = from_be_bytes w32 (take 4 bs) ∷ numbers n (drop 4 bs)
-
-abbrev pub counts_in : List ℕ → Counts
-counts_in bs = record { 0 = numbers 8 bs }
-
-abbrev pub kind_in : ℕ → Kind
-kind_in b = if b == 1 then Stack else (if b == 2 then Present else (if b == 3 then Reject else Retract))
-
-abbrev pub places_in : List ℕ → Places
-places_in bs = record {
-  units = counts_in bs;
-  transport = counts_in (drop 32 bs);
-  outlet = counts_in (drop 64 bs);
-  taken = counts_in (drop 96 bs);
-  retracted = counts_in (drop 128 bs);
-  rejected = counts_in (drop 160 bs);
-}
-
-abbrev pub first_byte : List ℕ → ℕ
-first_byte [] = 0
-first_byte (b ∷ bs) = b
-
-abbrev pub record_in : ℕ → List ℕ → Rec
-record_in letter bs =
-    if letter == 0x49 then Issue (from_be_bytes w64 (take 8 bs)) (from_be_bytes w64 (drop 8 bs))
-    else (if letter == 0x43 then Clear
-    else (if letter == 0x42 then Boot (places_in bs)
-    else (if letter == 0x54 then Bind bs
-    else (if letter == 0x4F then Order (kind_in (first_byte bs)) (counts_in (drop 1 bs))
-    else (if letter == 0x44 then Done (counts_in bs) (counts_in (drop 32 bs))
-    else Load (first_byte bs) (from_be_bytes w32 (drop 1 bs)))))))
-
-abbrev pub record_of : List ℕ → Rec
-record_of [] = Clear
-record_of (letter ∷ bs) = record_in letter bs
 
 numbers-back : (l rest : List ℕ) → All (λ n. n < 2 ^ 32) l → numbers (length l) (flat_map (to_be_bytes w32) l ++ rest) ≡ l
 numbers-back [] rest all = refl
@@ -130,11 +92,8 @@ record-back (Load unit count) is = ap (λ c. Load unit c) (from_be_bytes-to_be_b
 pub no_two_bodies : (r s : Rec) → IsRecord r → IsRecord s → body r ≡ body s → r ≡ s
 no_two_bodies r s is_r is_s same = sym (record-back r is_r) ∙ ap record_of same ∙ record-back s is_s
 
--- a body fits the two bytes of its length
-pub body-short : (r : Rec) → IsRecord r → length (body r) ≤ 1025
-body-short (Issue number word) is = omega arith
-body-short Clear is = omega arith
-body-short (Boot p) is = omega (
+pub places-size : (p : Places) → IsRecord (Boot p) → length (places_bytes p) ≡ 192
+places-size p is = omega (
   arith,
   counts-size p.units is.0,
   counts-size p.transport is.1,
@@ -148,6 +107,12 @@ body-short (Boot p) is = omega (
   length-append (counts_bytes p.units ++ counts_bytes p.transport ++ counts_bytes p.outlet ++ counts_bytes p.taken) (counts_bytes p.retracted),
   length-append (counts_bytes p.units ++ counts_bytes p.transport ++ counts_bytes p.outlet ++ counts_bytes p.taken ++ counts_bytes p.retracted) (counts_bytes p.rejected),
 )
+
+-- a body fits the two bytes of its length
+pub body-short : (r : Rec) → IsRecord r → length (body r) ≤ 1025
+body-short (Issue number word) is = omega arith
+body-short Clear is = omega arith
+body-short (Boot p) is = omega (arith, places-size p is)
 body-short (Bind token) is = omega (arith, is.1)
 body-short (Order kind counts) is = omega (arith, counts-size counts is)
 body-short (Done moved diverted) is = omega (arith, counts-size moved is.0, counts-size diverted is.1, length-append (counts_bytes moved) (counts_bytes diverted))

@@ -1,6 +1,9 @@
 -- How a run of disk calls goes on, moment by moment.
 use Rattle.std.proofs.Common.{inl, inr, ⊎_elim, ℕ, ◌⊎◌, List, arith}
+use Rattle.std.proofs.Common.{◌∙◌}
+use Rattle.std.specs.declared.option.Option.{Option}
 use Rattle.xfs_disk.specs.Disk.{Elapses, LeavesOnly}
+use Rattle.xfs_journal.specs.Paging.{IsQuiet}
 
 module _ {D : Type 0} (moment : D → ℕ) (since : D → ℕ → List ℕ → Type 0) where
   -- before the first call
@@ -31,3 +34,13 @@ module _ {D : Type 0} (moment : D → ℕ) (since : D → ℕ → List ℕ → T
     each = λ c left. ⊎_elim (λ past. inl (first.each c past)) (λ q. inr q) (second.before (moment old) c first.later left);
     before = λ t c le left. ⊎_elim (λ past. ⊎_elim (λ was. inl was) (λ p. inr (inl p)) (first.before t c le past)) (λ q. inr (inr q)) (second.before t c (omega (arith, le, first.later)) left);
   }
+
+-- readings one after another
+pub quiet_then : {D : Type 0} (held : D → Option (List ℕ)) (images : D → List ℕ → Type 0) (moment : D → ℕ) (since : D → ℕ → List ℕ → Type 0) (faults : D → ℕ) (a b c : D)
+    → IsQuiet held images moment since faults a b → IsQuiet held images moment since faults b c → IsQuiet held images moment since faults a c
+quiet_then held images moment since faults a b c first then = record {
+  same = then.same ∙ first.same;
+  adds_none = λ f left. first.adds_none f (then.adds_none f left);
+  moments = weaken moment since a c (λ f. images a f ⊎ images b f) (images a) (λ f e. ⊎_elim (λ x. x) (first.adds_none f) e) (joins moment since a b c (images a) (images b) first.moments then.moments);
+  later = omega (arith, first.later, then.later);
+}

@@ -1,5 +1,7 @@
 -- Facts of what an object holds, where it tells it.
 use Rattle.std.proofs.Common.{◌≡◌, None, Some, refl, subst}
+use Rattle.std.specs.Prelude.{IfSome, IfOk, Ok, Err}
+use Rattle.std.specs.declared.result.Result.{Result}
 use Rattle.std.specs.declared.option.Option.{Option}
 use Rattle.xfs_base.specs.Causes.{IfTold}
 
@@ -9,6 +11,13 @@ on_told (Some x) P each = each x refl
 
 pub from_told : {T : Type 0} (o : Option T) (P : T → Type 0) → IfTold o P → (x : T) → o ≡ Some x → P x
 from_told {T} o P told x is = subst (λ (q : Option T). IfTold q P) is told
+
+pub from_some : {T : Type 0} (o : Option T) (P : T → Type 0) → IfSome o P → (x : T) → o ≡ Some x → P x
+from_some {T} o P found x is = subst (λ (q : Option T). IfSome q P) is found
+
+pub if_ok : {T E : Type 0} (r : Result T E) (P Q : T → Type 0) → ((x : T) → P x → Q x) → IfOk r P → IfOk r Q
+if_ok (Ok x) P Q f p = f x p
+if_ok (Err e) P Q f p = p
 
 pub goes : {X : Type 0} (A B C : X → Type 0) → ((x : X) → A x → B x) → ((x : X) → B x → C x) → (x : X) → A x → C x
 goes A B C f g x a = g x (f x a)

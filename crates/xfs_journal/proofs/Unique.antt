@@ -10,14 +10,14 @@ use Rattle.xfs_journal.proofs.Decoding.{no_two_bodies, body-short}
 first_part : (a b c d : List ℕ) → length a ≡ length c → a ++ b ≡ c ++ d → a ≡ c
 first_part a b c d size same = sym (take_at a b (length a) refl) ∙ ap (λ (l : List ℕ). take (length a) l) same ∙ take_at c d (length a) (sym size)
 
-second_part : (a b c d : List ℕ) → length a ≡ length c → a ++ b ≡ c ++ d → b ≡ d
+pub second_part : (a b c d : List ℕ) → length a ≡ length c → a ++ b ≡ c ++ d → b ≡ d
 second_part a b c d size same = sym (drop_at a b (length a) refl) ∙ ap (λ (l : List ℕ). drop (length a) l) same ∙ drop_at c d (length a) (sym size)
 
-abbrev head_of : List ℕ → ℕ
+abbrev pub head_of : List ℕ → ℕ
 head_of [] = 0
 head_of (x ∷ xs) = x
 
-abbrev tail_of : List ℕ → List ℕ
+abbrev pub tail_of : List ℕ → List ℕ
 tail_of [] = []
 tail_of (x ∷ xs) = xs
 
@@ -28,7 +28,7 @@ same_size r s is_r is_s same =
     sym (from_be_bytes-to_be_bytes_2 (length (body r)) fits_r) ∙ ap (from_be_bytes w16) same ∙ from_be_bytes-to_be_bytes_2 (length (body s)) fits_s
 
 -- behind one open gate byte each
-one_block : (r s : Rec) (x y : List ℕ) → IsRecord r → IsRecord s → framed r ++ x ≡ framed s ++ y → (r ≡ s) × (x ≡ y)
+pub one_block : (r s : Rec) (x y : List ℕ) → IsRecord r → IsRecord s → framed r ++ x ≡ framed s ++ y → (r ≡ s) × (x ≡ y)
 one_block r s x y is_r is_s same =
     let two = to_be_bytes w16 (length (body r)) in
     let other = to_be_bytes w16 (length (body s)) in

@@ -9,3 +9,22 @@ pub enum AppendFault {
     /// The disk failed in an earlier call, and the journal wasn't read again since.
     Shut,
 }
+
+/// Why bytes weren't read as a record.
+#[derive(Clone, Copy, Debug, PartialEq, Eq)]
+pub enum BodyFault {
+    /// They are the body of no record.
+    Form,
+    Memory,
+}
+
+/// Why a disk isn't mounted as a journal.
+#[derive(Clone, Copy, Debug, PartialEq, Eq)]
+pub enum MountFault {
+    /// Its bytes are no journal from this place on: 0 where they don't begin as one, else the place of the gate byte
+    /// whose record isn't whole or isn't of the format, or their length where no byte follows the last record.
+    NotJournal { at: u64 },
+    /// The disk failed in this call: its count of faults rose.
+    Disk,
+    Memory,
+}

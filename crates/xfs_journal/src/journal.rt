@@ -1,14 +1,19 @@
 //! The journal on a disk: a list of records, each on the disk before it counts.
-ghost use Rattle.std.specs.Prelude.{◌≡◌, ◌≢◌, ◌⊎◌, ℕ, List, ◌+◌, ◌-◌, ◌≤◌, ◌<◌, ◌||◌, nat_lt, [], ◌∷◌, ◌++◌, is_some, length, true, false, Some, Err, IfOk, IfErr, OnOk, OnErr, IfSome};
+ghost use Rattle.std.specs.Prelude.{MatchResult, ◌≡◌, ◌≢◌, ◌⊎◌, ℕ, List, ◌+◌, ◌-◌, ◌≤◌, ◌<◌, ◌||◌, nat_lt, [], ◌∷◌, ◌++◌, is_some, length, true, false, Some, Err, IfOk, IfErr, OnOk, OnErr, IfSome};
 ghost use Rattle.xfs_base.specs.Causes.{IfTold, Rose};
 ghost use Rattle.xfs_disk.specs.Disk.{LeavesOnly};
 ghost use Rattle.xfs_journal.specs.Image.{HasUnit, Stands, framed, front, size};
 ghost use Rattle.xfs_journal.specs.JournalView.{passes, refusal, StandsForEither};
 ghost use Rattle.xfs_journal.specs.declared.faults.AppendFault.TheVariants.{Disk as DiskFault, Memory as NoMemory};
+ghost use Rattle.xfs_journal.specs.Paging.{CeasesAt, IsOldOrShort, IsQuiet};
+ghost use Rattle.xfs_journal.specs.declared.faults.MountFault.TheVariants.{NotJournal, Disk as MountDisk};
+ghost use Rattle.xfs_journal.specs.declared.record.Rec.{Rec};
 
-use crate::body::fill;
+use crate::body::{MOST, fill};
 use crate::gate::write_record;
-use crate::{AppendFault, Limits, Rec};
+use crate::mount::{Listed, load};
+use crate::{AppendFault, Limits, MountFault, Rec};
+use std::alloc::Global;
 use std::marker::Model;
 use xfs_base::Memory;
 use xfs_disk::Disk;
@@ -22,6 +27,13 @@ pub struct Journal<D: Disk> {
     end: u64,
     limits: Limits,
     shut: bool,
+}
+
+/// Why a disk isn't mounted, and the disk.
+#[derive(Drop)]
+pub struct MountFail<D: Disk> {
+    pub why: MountFault,
+    pub disk: D,
 }
 
 impl<D: Disk> Model for Journal<D> {
@@ -42,6 +54,45 @@ impl<D: Disk> Model for Journal<D> {
 }
 
 impl<D: Disk> Journal<D> {
+    /// Syncs the disk and reads its journal. At most 9 bytes that are no journal are made an empty one; a longer file
+    /// is not written, and the disk is handed back with what hindered it.
+    pub fn mount(alloc: Global, disk: D, limits: Limits) -> Result<Journal<D>, MountFail<D>>
+        ensures ok { IfOk result (λ j. IfTold (D.held disk) (λ all. Stands all j.records)) }
+        ensures not_journal { IfErr result (λ f. (at : ℕ) → f.why ≡ NotJournal at → IfTold (D.held disk) (λ all. CeasesAt all at × ((J : List Rec) → ¬ Stands all J))) }
+        ensures disk { IfErr result (λ f. f.why ≡ MountDisk → Rose (D.faults disk) (D.faults f.disk)) }
+        ensures shut { IfOk result (λ j. j.shut ≡ false) }
+        ensures limits { IfOk result (λ j. j.limits ≡ limits) }
+        ensures refused { IfErr result (λ f. (at : ℕ) → f.why ≡ NotJournal at → IsQuiet D.held D.images D.moment D.images_since D.faults disk f.disk) }
+        ensures long { IfTold (D.held disk) (λ all. 9 < length all → MatchResult result
+            (λ j. IsQuiet D.held D.images D.moment D.images_since D.faults disk j.disk)
+            (λ f. IsQuiet D.held D.images D.moment D.images_since D.faults disk f.disk)) }
+        ensures told { MatchResult result (λ j. is_some (D.held j.disk) ≡ is_some (D.held disk)) (λ f. is_some (D.held f.disk) ≡ is_some (D.held disk)) }
+        ensures faults { MatchResult result (λ j. D.faults disk ≤ D.faults j.disk) (λ f. D.faults disk ≤ D.faults f.disk) }
+
+        // A crash at any moment of the call leaves what it might have left before, or at most 9 bytes where the file
+        // had no more; after `Ok` it leaves the list.
+        ensures any_moment { IfTold (D.held disk) (λ all. MatchResult result
+            (λ j. LeavesOnly D.moment D.images_since disk j.disk (IsOldOrShort (D.images disk) all))
+            (λ f. LeavesOnly D.moment D.images_since disk f.disk (IsOldOrShort (D.images disk) all))) }
+        ensures acknowledged { IfOk result (λ j. IfTold (D.held j.disk) (λ _. (c : List ℕ) → D.images j.disk c → Stands c j.records)) }
+    {
+        let mut disk = disk;
+        let Ok(mut buffer) = Vec::with_capacity(alloc, MOST) else {
+            return Err(MountFail { why: MountFault::Memory, disk });
+        };
+        match load(alloc, &mut disk, &mut buffer) {
+            Ok(Listed { records, end }) => Ok(Journal {
+                disk,
+                records,
+                buffer,
+                end,
+                limits,
+                shut: false,
+            }),
+            Err(why) => Err(MountFail { why, disk }),
+        }
+    }
+
     /// Its records, the oldest first.
     pub fn records(&self) -> &[Rec]
         ensures { result.now ≡ self.now.records }

@@ -2,16 +2,22 @@
 #![tactic(auto)]
 
 mod body;
+mod block;
 mod faults;
 mod gate;
 mod journal;
 mod limits;
+mod mount;
+mod page;
+mod read;
 mod record;
+mod scan;
 mod text;
 
-pub use faults::AppendFault;
-pub use journal::Journal;
+pub use faults::{AppendFault, BodyFault, MountFault};
+pub use journal::{Journal, MountFail};
 pub use limits::Limits;
+pub use read::read_body;
 pub use record::Rec;
 pub use text::Text;
 pub use xfs_base::Kind;

@@ -1,0 +1,22 @@
+use Rattle.std.proofs.Common.{◌≡◌, ◌++◌, ◌∷◌, [], ◌+◌, List, ℕ, drop, length, subst, rules}
+use Rattle.std.specs.declared.option.Option.{Option}
+use Rattle.xfs_base.specs.Causes.{IfTold}
+use Rattle.xfs_journal.specs.Image.{framed}
+use Rattle.xfs_journal.specs.Paging.{Shows}
+use Rattle.xfs_journal.proofs.Listing.{one_more}
+use Rattle.xfs_journal.proofs.Moments.{quiet_then}
+use Rattle.xfs_journal.proofs.Told.{from_some}
+use Rattle.xfs_journal.proofs.scan.read_records.Goals as goal
+
+pub loop-records-preserved : goal.loop-records-preserved
+loop-records-preserved g c =
+    let inv = c.loop-records.invariant in
+    let r = c.in-Some.rec in
+    let J = c.loop-records.records.items in
+    let p = c.loop-records.page in
+    let q = c.read_block.new.page in
+    let found = from_some _ _ c.in_ok-rec.ensures.of_table r c.in-Some.is in
+    let next = subst (λ (h : Option (List ℕ)). IfTold h (λ all. (drop p.at all ≡ (1 ∷ framed r) ++ drop q.at all) × Shows all q)) inv.5.same (from_some _ _ c.in_ok-rec.ensures.record r c.in-Some.is) in
+    let more = one_more (g.D.Disk.held c.args.disk.now) J c.push_reserved.new.self.items r p q inv.0 inv.1 inv.2 found next (search rules) in
+    (more.0, more.1, more.2, c.read_block.ensures.capacity.0, c.read_block.ensures.capacity.1,
+     quiet_then g.D.Disk.held g.D.Disk.images g.D.Disk.moment g.D.Disk.images_since g.D.Disk.faults _ _ _ inv.5 c.read_block.ensures.quiet)

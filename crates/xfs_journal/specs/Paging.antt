@@ -1,0 +1,65 @@
+-- What a page shows of a disk's bytes, and what reading leaves as it was.
+use Rattle.std.specs.Prelude.{◌≡◌, ◌⊎◌, ◌≢◌, ℕ, ◌+◌, ◌≤◌, List, [], ◌∷◌, ◌++◌, length, take, drop, slice_index}
+use Rattle.std.specs.Int.{from_be_bytes, w16}
+use Rattle.std.specs.declared.option.Option.{Option}
+use Rattle.std.specs.List.{AllByRecursion}
+use Rattle.xfs_base.specs.Causes.{IfTold}
+use Rattle.xfs_disk.specs.Disk.{AddsNone, LeavesOnly}
+use Rattle.xfs_journal.specs.Image.{IsRecord, body, framed, front, magic}
+use Rattle.xfs_journal.specs.declared.record.Rec.{Rec}
+
+-- the next bytes from a place on, and the length of the whole
+pub record PageView : Type 0 where
+  pub window : List ℕ
+  pub at : ℕ
+  pub len : ℕ
+
+-- the page shows these bytes
+pub record Shows (all : List ℕ) (p : PageView) : Type 0 where
+  pub window_is : drop p.at all ≡ p.window ++ drop (p.at + length p.window) all
+  pub len_is : length all ≡ p.len
+  pub within : p.at ≤ length all
+
+-- the next k bytes were put behind those that had been read
+pub record Took (all : Option (List ℕ)) (old new : PageView) (before now : List ℕ) (k : ℕ) : Type 0 where
+  pub at_is : new.at ≡ old.at + k
+  pub len_is : new.len ≡ old.len
+  pub count : length now ≡ length before + k
+  pub bytes : IfTold all (λ b. (now ≡ before ++ take k (drop old.at b)) × Shows b new)
+
+-- what was read is what stands from a place on, as far as the page has come
+pub record Since (all : Option (List ℕ)) (p : PageView) (from : ℕ) (read : List ℕ) : Type 0 where
+  pub at_is : p.at ≡ from + length read
+  pub bytes : IfTold all (λ b. (read ≡ take (length read) (drop from b)) × Shows b p)
+
+-- a disk was read and synced, but not written
+pub record IsQuiet {D : Type 0} (held : D → Option (List ℕ)) (images : D → List ℕ → Type 0) (moment : D → ℕ) (since : D → ℕ → List ℕ → Type 0) (faults : D → ℕ) (old new : D) : Type 0 where
+  pub same : held new ≡ held old
+  pub adds_none : AddsNone (images old) (images new)
+  pub moments : LeavesOnly moment since old new (images old)
+  pub later : faults old ≤ faults new
+
+-- the length that a block behind a gate byte tells
+abbrev pub size_in : List ℕ → ℕ
+size_in block = from_be_bytes w16 (slice_index block 1 ∷ slice_index block 2 ∷ [])
+
+-- no record has these bytes as its body
+abbrev pub IsNoBody : List ℕ → Type 0
+IsNoBody bytes = (r : Rec) → IsRecord r → body r ≢ bytes
+
+-- a gate byte that isn't open, and anything
+abbrev pub IsShut : List ℕ → Type 0
+IsShut bytes = (gate : ℕ) × (rest : List ℕ) × (gate ≢ 1) × (bytes ≡ gate ∷ rest)
+
+-- no byte, or an open gate byte with no whole record of the format behind it
+abbrev pub IsBroken : List ℕ → Type 0
+IsBroken bytes = (bytes ≡ []) ⊎ ((rest : List ℕ) × (bytes ≡ 1 ∷ rest) × ((r : Rec) → IsRecord r → (more : List ℕ) → rest ≢ framed r ++ more))
+
+-- The place from which bytes are no journal: 0 where they don't begin as one, else that behind the last whole record, where no closed gate byte stands.
+abbrev pub CeasesAt : List ℕ → ℕ → Type 0
+CeasesAt bytes at = ((take 8 bytes ≢ magic) × (at ≡ 0))
+    ⊎ ((records : List Rec) × (rest : List ℕ) × AllByRecursion IsRecord records × (bytes ≡ front records ++ rest) × IsBroken rest × (at ≡ length (front records)))
+
+-- one of the images before, or at most 9 bytes where the file had no more
+abbrev pub IsOldOrShort : (List ℕ → Type 0) → List ℕ → List ℕ → Type 0
+IsOldOrShort images all c = images c ⊎ ((length all ≤ 9) × (length c ≤ 9))

@@ -1,0 +1,130 @@
+//! Reading a disk as a journal, and making an empty one.
+ghost use Rattle.std.specs.Prelude.{◌⊎◌, ◌∷◌, ◌++◌, ◌≡◌, ◌<◌, ◌≤◌, List, ℕ, [], length, false, is_some, vec_capacity, IfOk, IfErr, OnOk, OnErr};
+ghost use Rattle.std.specs.List.{AllByRecursion};
+ghost use Rattle.xfs_base.specs.Causes.{IfTold, Rose};
+ghost use Rattle.xfs_disk.specs.Disk.{LeavesOnly, Only};
+ghost use Rattle.xfs_journal.specs.Image.{IsImage, IsRecord, Stands, front};
+ghost use Rattle.xfs_journal.specs.JournalView.{IsKept};
+ghost use Rattle.xfs_journal.specs.Paging.{IsQuiet, IsOldOrShort, CeasesAt};
+ghost use Rattle.xfs_journal.specs.declared.faults.MountFault.TheVariants.{NotJournal, Disk as DiskFault, Memory as NoMemory};
+
+use crate::gate::write_synced;
+use crate::page::Page;
+use crate::scan::{MAGIC, read_records};
+use crate::{MountFault, Rec};
+use std::alloc::Global;
+use xfs_disk::Disk;
+
+// The list, and the place of its closing gate byte.
+#[derive(Drop)]
+pub(crate) struct Listed {
+    pub(crate) records: Vec<Rec>,
+    pub(crate) end: u64,
+}
+
+// Reads the records of a disk of so many bytes.
+fn read_all<D: Disk>(
+    alloc: Global,
+    disk: &mut D,
+    len: u64,
+    block: &mut Vec<u8>,
+) -> Result<Listed, MountFault>
+    requires room { 1028 ≤ vec_capacity block.old }
+    requires len { IfTold (D.held disk.old) (λ all. length all ≡ len) }
+    ensures place { IfOk result (λ l. (l.end ≡ length (front l.records.items)) × AllByRecursion IsRecord l.records.items) }
+    ensures image { IfOk result (λ l. IfTold (D.held disk.old) (λ all. IsImage all l.records.items)) }
+    ensures broken { IfErr result (λ f. (x : ℕ) → f ≡ NotJournal x → IfTold (D.held disk.old) (λ all. CeasesAt all x)) }
+    ensures disk { IfErr result (λ f. f ≡ DiskFault → Rose (D.faults disk.old) (D.faults disk.new)) }
+    ensures capacity { 1028 ≤ vec_capacity block.new }
+    ensures quiet { IsQuiet D.held D.images D.moment D.images_since D.faults disk.old disk.new }
+{
+    let Ok(mut spare) = Vec::with_capacity(alloc, 1025) else {
+        return Err(MountFault::Memory);
+    };
+    let mut page = Page::new(len);
+    let records = read_records(alloc, disk, &mut page, block, &mut spare)?;
+    let end = page.at() - 1;
+    Ok(Listed { records, end })
+}
+
+// Syncs, and answers the number of bytes.
+fn sync_len<D: Disk>(disk: &mut D) -> Result<u64, MountFault>
+    ensures len { IfOk result (λ n. IfTold (D.held disk.old) (λ all. length all ≡ n)) }
+    ensures durable { OnOk result (IfTold (D.held disk.new) (λ all. Only all (D.images disk.new))) }
+    ensures err { IfErr result (λ f. (f ≡ DiskFault) × Rose (D.faults disk.old) (D.faults disk.new)) }
+    ensures quiet { IsQuiet D.held D.images D.moment D.images_since D.faults disk.old disk.new }
+{
+    if disk.sync().is_err() {
+        return Err(MountFault::Disk);
+    }
+    disk.len().map_err(|_| MountFault::Disk)
+}
+
+// Makes an empty journal of at most 9 bytes.
+fn make_empty<D: Disk>(alloc: Global, disk: &mut D) -> Result<Listed, MountFault>
+    requires short { IfTold (D.held disk.old) (λ all. (length all ≤ 9) × Only all (D.images disk.old)) }
+    ensures ok { IfOk result (λ l. l.records.items ≡ []) }
+    ensures kept { IfOk result (λ l. IsKept (D.held disk.new) (D.images disk.new) l.records.items false l.end) }
+    ensures err { IfErr result (λ f. (f ≡ DiskFault) × Rose (D.faults disk.old) (D.faults disk.new)) }
+    ensures any_moment { IfTold (D.held disk.old) (λ _. LeavesOnly D.moment D.images_since disk.old disk.new (λ c. length c ≤ 9)) }
+    ensures told { is_some (D.held disk.new) ≡ is_some (D.held disk.old) }
+    ensures faults { D.faults disk.old ≤ D.faults disk.new }
+{
+    let [a, b, c, d, e, f, g, h] = MAGIC;
+    if write_synced(disk, 0, &[a, b, c, d, e, f, g, h, 0]).is_err() {
+        return Err(MountFault::Disk);
+    }
+    Ok(Listed {
+        records: Vec::new(alloc),
+        end: 8,
+    })
+}
+
+// Reads the records of a synced disk of so many bytes. At most 9 that are no journal become an empty one.
+fn read_or_empty<D: Disk>(
+    alloc: Global,
+    disk: &mut D,
+    len: u64,
+    block: &mut Vec<u8>,
+) -> Result<Listed, MountFault>
+    requires room { 1028 ≤ vec_capacity block.old }
+    requires len { IfTold (D.held disk.old) (λ all. length all ≡ len) }
+    requires durable { IfTold (D.held disk.old) (λ all. Only all (D.images disk.old)) }
+    ensures kept { IfOk result (λ l. IsKept (D.held disk.new) (D.images disk.new) l.records.items false l.end) }
+    ensures stands { IfOk result (λ l. IfTold (D.held disk.old) (λ all. Stands all l.records.items)) }
+    ensures refused { IfErr result (λ f. (at : ℕ) → f ≡ NotJournal at → IfTold (D.held disk.old) (λ all. (9 < length all) × CeasesAt all at)) }
+    ensures unwritten { IfErr result (λ f. (at : ℕ) → f ≡ NotJournal at → IsQuiet D.held D.images D.moment D.images_since D.faults disk.old disk.new) }
+    ensures long { IfTold (D.held disk.old) (λ all. 9 < length all → IsQuiet D.held D.images D.moment D.images_since D.faults disk.old disk.new) }
+    ensures disk { IfErr result (λ f. f ≡ DiskFault → Rose (D.faults disk.old) (D.faults disk.new)) }
+    ensures any_moment { IfTold (D.held disk.old) (λ all. LeavesOnly D.moment D.images_since disk.old disk.new (IsOldOrShort (D.images disk.old) all)) }
+    ensures told { is_some (D.held disk.new) ≡ is_some (D.held disk.old) }
+    ensures faults { D.faults disk.old ≤ D.faults disk.new }
+    ensures capacity { 1028 ≤ vec_capacity block.new }
+{
+    match read_all(alloc, disk, len, block) {
+        Err(MountFault::NotJournal { .. }) if len <= 9 => make_empty(alloc, disk),
+        answer => answer,
+    }
+}
+
+// Syncs a disk and reads its records.
+pub(crate) fn load<D: Disk>(
+    alloc: Global,
+    disk: &mut D,
+    block: &mut Vec<u8>,
+) -> Result<Listed, MountFault>
+    requires room { 1028 ≤ vec_capacity block.old }
+    ensures kept { IfOk result (λ l. IsKept (D.held disk.new) (D.images disk.new) l.records.items false l.end) }
+    ensures stands { IfOk result (λ l. IfTold (D.held disk.old) (λ all. Stands all l.records.items)) }
+    ensures refused { IfErr result (λ f. (at : ℕ) → f ≡ NotJournal at → IfTold (D.held disk.old) (λ all. (9 < length all) × CeasesAt all at)) }
+    ensures unwritten { IfErr result (λ f. (at : ℕ) → f ≡ NotJournal at → IsQuiet D.held D.images D.moment D.images_since D.faults disk.old disk.new) }
+    ensures long { IfTold (D.held disk.old) (λ all. 9 < length all → IsQuiet D.held D.images D.moment D.images_since D.faults disk.old disk.new) }
+    ensures disk { IfErr result (λ f. f ≡ DiskFault → Rose (D.faults disk.old) (D.faults disk.new)) }
+    ensures any_moment { IfTold (D.held disk.old) (λ all. LeavesOnly D.moment D.images_since disk.old disk.new (IsOldOrShort (D.images disk.old) all)) }
+    ensures told { is_some (D.held disk.new) ≡ is_some (D.held disk.old) }
+    ensures faults { D.faults disk.old ≤ D.faults disk.new }
+    ensures capacity { 1028 ≤ vec_capacity block.new }
+{
+    let len = sync_len(disk)?;
+    read_or_empty(alloc, disk, len, block)
+}
