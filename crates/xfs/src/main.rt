@@ -16,8 +16,7 @@ fn kind(letters: &[u8], value: u32) -> Option<NoteKind> {
 }
 
 // EUR 10, EUR 20, EUR 50 and USD 20.
-fn units() -> Option<UnitTable>
-{
+fn units() -> Option<UnitTable> {
     UnitTable::new(&[
         kind(b"EUR", 10)?,
         kind(b"EUR", 20)?,

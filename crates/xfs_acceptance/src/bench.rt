@@ -47,7 +47,6 @@ pub fn run_on(
     failing_reads: &[u64],
     failing_writes: &[u64],
 ) -> Result<Written, Fail> {
-
     let units = units(rt);
     let places = places();
     assert!(rt; places_fit(&units, &places));

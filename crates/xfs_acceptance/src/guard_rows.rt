@@ -14,13 +14,21 @@ fn scripts_are_answered_line_by_line(rt: HostRuntime) -> Result<(), Fail> {
         ("issue\r\n", 0, NONCE),
         ("mint 1EUR\n", 0, "token none\n"),
         ("take\n", 4, "line 1: not a script line\n"),
-        ("issue\nmint 1EUR,1EUR\n", 4, "nonce E56A5D4028BD86530000000000000001\nline 2: not a script line\n"),
+        (
+            "issue\nmint 1EUR,1EUR\n",
+            4,
+            "nonce E56A5D4028BD86530000000000000001\nline 2: not a script line\n",
+        ),
         ("issue \n", 4, "line 1: not a script line\n"),
     ];
     for (script, status, text) in rows {
         let written = run_on(&rt, rt.alloc(), "guard", script.as_bytes(), &[], &[])?;
         assert_eq!(rt; written.status, status, "status of {script}");
-        assert_eq!(rt; written.text.as_slice(), text.as_bytes(), "answers to {script}");
+        assert_eq!(rt;
+            written.text.as_slice(),
+            text.as_bytes(),
+            "answers to {script}"
+        );
     }
     Ok(())
 }
@@ -28,8 +36,16 @@ fn scripts_are_answered_line_by_line(rt: HostRuntime) -> Result<(), Fail> {
 #[test]
 fn minted_tokens_are_written_by_the_grammar(rt: HostRuntime) -> Result<(), Fail> {
     // The HMACs are those of Python's hmac and hashlib under the key of 32 bytes 0x0b.
-    let written = run_on(&rt, rt.alloc(), "guard", b"issue\nmint 1.5EUR,1.005USD\n", &[], &[])?;
-    let token = "token NONCE=E56A5D4028BD86530000000000000001,TOKENFORMAT=1,TOKENLENGTH=0182,DISPENSE1=1.50EUR,DISPENSE2=1.005USD,HMACSHA256=61B7C860900E8A20EE2F91E677513C70FAE26616610E6F8006840E3BCB91EE31\n";
+    let written = run_on(
+        &rt,
+        rt.alloc(),
+        "guard",
+        b"issue\nmint 1.5EUR,1.005USD\n",
+        &[],
+        &[],
+    )?;
+    let token =
+        "token NONCE=E56A5D4028BD86530000000000000001,TOKENFORMAT=1,TOKENLENGTH=0182,DISPENSE1=1.50EUR,DISPENSE2=1.005USD,HMACSHA256=61B7C860900E8A20EE2F91E677513C70FAE26616610E6F8006840E3BCB91EE31\n";
     let text = format!(in rt.alloc(); "{NONCE}{token}")?;
     assert_eq!(rt; written.status, 0);
     assert_eq!(rt; written.text.as_slice(), text.as_bytes());
@@ -64,7 +80,10 @@ fn a_comment_of_70001_bytes_is_no_line(rt: HostRuntime) -> Result<(), Fail> {
     script.push(b'\n')?;
     let written = run_on(&rt, rt.alloc(), "guard", &script, &[], &[])?;
     assert_eq!(rt; written.status, 4);
-    assert_eq!(rt; written.text.as_slice(), b"line 1: not a script line\n".as_slice());
+    assert_eq!(rt;
+        written.text.as_slice(),
+        b"line 1: not a script line\n".as_slice()
+    );
     Ok(())
 }
 

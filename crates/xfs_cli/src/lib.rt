@@ -4,7 +4,6 @@
 mod answer;
 mod bench;
 mod guard_command;
-
 mod say;
 mod top;
 

@@ -34,11 +34,19 @@ impl From<AllocError> for SayFault {
 }
 
 /// Writes a line of two parts in one piece, and its line feed.
-pub fn say<K: Sink>(alloc: Global, sink: &mut K, first: &[u8], second: &[u8]) -> Result<(), SayFault>
+pub fn say<K: Sink>(
+    alloc: Global,
+    sink: &mut K,
+    first: &[u8],
+    second: &[u8],
+) -> Result<(), SayFault>
     ensures later { K.faults sink.old ≤ K.faults sink.new }
     ensures cause { result ≡ Err SayFault.Write → Rose (K.faults sink.old) (K.faults sink.new) }
 {
-    let mut line = Vec::with_capacity(alloc, first.len().saturating_add(second.len()).saturating_add(1))?;
+    let mut line = Vec::with_capacity(
+        alloc,
+        first.len().saturating_add(second.len()).saturating_add(1),
+    )?;
     line.extend_from_slice(first)?;
     line.extend_from_slice(second)?;
     line.push(b'\n')?;

@@ -15,5 +15,3 @@ nonce_of _ = None
 -- the nonce of the live Issue
 abbrev pub live_nonce : List Rec → Option Nonce
 live_nonce records = option_and_then (λ p. nonce_of (record_at records p)) (live_of records)
-
-

@@ -20,7 +20,9 @@ pub fn passed(
     ensures { result ≡ passed_in ledger.now.units ledger.now.records transport.now amounts.now counts.now }
 {
     let currency = first_over(ledger, transport, amounts, counts)?;
-    let left = u128::from(amounts.of(currency).0).saturating_sub(spent(ledger, transport, currency));
+    let left = u128::from(amounts.of(currency).0).saturating_sub(spent(
+        ledger, transport, currency,
+    ));
     Some(Deny::OverBudget {
         currency,
         left: Milli(left as u64),

@@ -101,9 +101,10 @@ module _ (h : Option (List ℕ)) (b : List ℕ) (known : h ≡ Some b) (p : Page
     (whole : length o ≡ 3 + size_in (drop gate b)) (opens : slice_index (drop gate b) 0 ≡ 1) where
   pub found : (r : Rec) → slice_index o 1 < 256 → slice_index o 2 < 256 → body r ≡ drop 3 o → (drop at b ≡ (1 ∷ framed r) ++ drop p.at b) × Shows b p
   found r fits_y fits_z same = (
-      ap (λ (n : ℕ). drop n b) (sym is) ∙ whole_of (drop gate b) o r (since_front h p gate o since b known) whole opens fits_y fits_z same
-      ∙ ap (λ (l : List ℕ). (1 ∷ framed r) ++ l) (drop-drop (length o) gate b ∙ ap (λ (n : ℕ). drop n b) (sym since.at_is)),
-      from_told h (λ c. Shows c p) (since_shows h p gate o since) b known)
+    ap (λ (n : ℕ). drop n b) (sym is) ∙ whole_of (drop gate b) o r (since_front h p gate o since b known) whole opens fits_y fits_z same
+        ∙ ap (λ (l : List ℕ). (1 ∷ framed r) ++ l) (drop-drop (length o) gate b ∙ ap (λ (n : ℕ). drop n b) (sym since.at_is)),
+    from_told h (λ c. Shows c p) (since_shows h p gate o since) b known,
+  )
 
   pub none_found : IsNoBody (drop 3 o) → IsBroken (drop at b)
   none_found none = subst (λ (n : ℕ). IsBroken (drop n b)) is (

@@ -28,7 +28,7 @@ no_image c at (inl (other, zero_is)) J image = other (begins c J image)
 no_image c at (inr (K, rest, all, is, broken, place)) J image =
     no_blocks K J image.gate image.rest rest all image.of_table image.closed broken
     (second_part magic (blocks K ++ rest) magic (blocks J ++ image.gate ∷ image.rest) refl
-     (sym (append_assoc magic (blocks K) rest) ∙ sym is ∙ image.bytes_are ∙ append_assoc magic (blocks J) (image.gate ∷ image.rest)))
+    (sym (append_assoc magic (blocks K) rest) ∙ sym is ∙ image.bytes_are ∙ append_assoc magic (blocks J) (image.gate ∷ image.rest)))
 
 pub no_list : (c : List ℕ) (at : ℕ) → CeasesAt c at → 9 < length c → (J : List Rec) → ¬ Stands c J
 no_list c at ceases long J (inl image) = no_image c at ceases J image

@@ -14,12 +14,13 @@ pub one_more : (h : Option (List ℕ)) (J K : List Rec) (r : Rec) (p q : PageVie
     → IsRecord r × (q.at ≡ p.at + length (1 ∷ framed r)) → IfTold h (λ all. (drop p.at all ≡ (1 ∷ framed r) ++ drop q.at all) × Shows all q) → K ≡ J ++ r ∷ []
     → (q.at ≡ length (front K)) × AllByRecursion IsRecord K × IfTold h (λ all. (all ≡ front K ++ drop q.at all) × Shows all q)
 one_more h J K r p q place all bytes found next is = (
-    omega (arith, place, found.1, ap length (ap front is ∙ front-push J r), length-append (front J) (1 ∷ framed r)),
-    subst_all (sym is) (all-push J r all found.0),
-    on_told h (λ b. (b ≡ front K ++ drop q.at b) × Shows b q) (λ b known.
-        let was = from_told h (λ b. (b ≡ front J ++ drop p.at b) × Shows b p) bytes b known in
-        let now = from_told h (λ b. (drop p.at b ≡ (1 ∷ framed r) ++ drop q.at b) × Shows b q) next b known in
-        (was.0 ∙ ap (λ (l : List ℕ). front J ++ l) now.0 ∙ sym (append_assoc (front J) (1 ∷ framed r) (drop q.at b)) ∙ ap (λ (l : List ℕ). l ++ drop q.at b) (sym (ap front is ∙ front-push J r)), now.1)))
+  omega (arith, place, found.1, ap length (ap front is ∙ front-push J r), length-append (front J) (1 ∷ framed r)),
+  subst_all (sym is) (all-push J r all found.0),
+  on_told h (λ b. (b ≡ front K ++ drop q.at b) × Shows b q) (λ b known.
+      let was = from_told h (λ b. (b ≡ front J ++ drop p.at b) × Shows b p) bytes b known in
+      let now = from_told h (λ b. (drop p.at b ≡ (1 ∷ framed r) ++ drop q.at b) × Shows b q) next b known in
+      (was.0 ∙ ap (λ (l : List ℕ). front J ++ l) now.0 ∙ sym (append_assoc (front J) (1 ∷ framed r) (drop q.at b)) ∙ ap (λ (l : List ℕ). l ++ drop q.at b) (sym (ap front is ∙ front-push J r)), now.1)),
+)
   where
     subst_all : {L M : List Rec} → L ≡ M → AllByRecursion IsRecord L → AllByRecursion IsRecord M
     subst_all same has = subst (λ (l : List Rec). AllByRecursion IsRecord l) same has

@@ -62,9 +62,11 @@ module _ (h : Option (List ℕ)) (p q r : PageView) (o o1 o2 : List ℕ) where
     count = omega (arith, first.count, then.count);
     bytes = on_told h (λ b. (o2 ≡ o ++ take (k + m) (drop p.at b)) × Shows b r) (λ b known.
         let f = from_told h (λ b. (o1 ≡ o ++ take k (drop p.at b)) × Shows b q) first.bytes b known in
-        let t = from_told h (λ b. (o2 ≡ o1 ++ take m (drop q.at b)) × Shows b r) then.bytes b known in
-        (t.0 ∙ ap₂ (λ (x y : List ℕ). x ++ y) f.0 (ap (λ (n : ℕ). take m (drop n b)) first.at_is ∙ ap (λ (l : List ℕ). take m l) (sym (drop-drop k p.at b)))
-         ∙ append_assoc o (take k (drop p.at b)) (take m (drop k (drop p.at b))) ∙ ap (λ (l : List ℕ). o ++ l) (sym (take-add k m (drop p.at b))), t.1));
+        let t = from_told h (λ b. (o2 ≡ o1 ++ take m (drop q.at b)) × Shows b r) then.bytes b known in (
+          t.0 ∙ ap₂ (λ (x y : List ℕ). x ++ y) f.0 (ap (λ (n : ℕ). take m (drop n b)) first.at_is ∙ ap (λ (l : List ℕ). take m l) (sym (drop-drop k p.at b)))
+              ∙ append_assoc o (take k (drop p.at b)) (take m (drop k (drop p.at b))) ∙ ap (λ (l : List ℕ). o ++ l) (sym (take-add k m (drop p.at b))),
+          t.1,
+        ));
   }
 
 pub took_none : (h : Option (List ℕ)) (p : PageView) (o : List ℕ) → IfTold h (λ b. Shows b p) → Took h p p o o 0
@@ -83,9 +85,11 @@ since_more h p q from o o1 k since took = record {
   at_is = omega (arith, since.at_is, took.at_is, took.count);
   bytes = on_told h (λ b. (o1 ≡ take (length o1) (drop from b)) × Shows b q) (λ b known.
       let s = from_told h (λ b. (o ≡ take (length o) (drop from b)) × Shows b p) since.bytes b known in
-      let t = from_told h (λ b. (o1 ≡ o ++ take k (drop p.at b)) × Shows b q) took.bytes b known in
-      (t.0 ∙ ap₂ (λ (x y : List ℕ). x ++ y) s.0 (ap (λ (n : ℕ). take k (drop n b)) since.at_is ∙ ap (λ (l : List ℕ). take k l) (sym (drop-drop (length o) from b)))
-       ∙ sym (take-add (length o) k (drop from b)) ∙ ap (λ (n : ℕ). take n (drop from b)) (sym took.count), t.1));
+      let t = from_told h (λ b. (o1 ≡ o ++ take k (drop p.at b)) × Shows b q) took.bytes b known in (
+        t.0 ∙ ap₂ (λ (x y : List ℕ). x ++ y) s.0 (ap (λ (n : ℕ). take k (drop n b)) since.at_is ∙ ap (λ (l : List ℕ). take k l) (sym (drop-drop (length o) from b)))
+            ∙ sym (take-add (length o) k (drop from b)) ∙ ap (λ (n : ℕ). take n (drop from b)) (sym took.count),
+        t.1,
+      ));
 }
 
 pub since_shows : (h : Option (List ℕ)) (p : PageView) (from : ℕ) (o : List ℕ) → Since h p from o → IfTold h (λ b. Shows b p)

@@ -19,7 +19,7 @@ skips bs k m is = drop-drop 4 k bs ∙ ap (λ (n : ℕ). drop n bs) is
 -- eight numbers, each at its place
 pub eight_numbers : (bs : List ℕ) (at : ℕ)
     → n4 (drop at bs) ∷ n4 (drop (at + 4) bs) ∷ n4 (drop (at + 8) bs) ∷ n4 (drop (at + 12) bs) ∷ n4 (drop (at + 16) bs) ∷ n4 (drop (at + 20) bs) ∷ n4 (drop (at + 24) bs) ∷ n4 (drop (at + 28) bs) ∷ []
-      ≡ numbers 8 (drop at bs)
+    ≡ numbers 8 (drop at bs)
 eight_numbers bs at =
     let one = skips bs at (at + 4) refl in
     let two = ap (λ (l : List ℕ). drop 4 l) one ∙ skips bs (at + 4) (at + 8) (omega arith) in

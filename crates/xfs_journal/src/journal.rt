@@ -78,7 +78,10 @@ impl<D: Disk> Journal<D> {
     {
         let mut disk = disk;
         let Ok(mut buffer) = Vec::with_capacity(alloc, MOST) else {
-            return Err(MountFail { why: MountFault::Memory, disk });
+            return Err(MountFail {
+                why: MountFault::Memory,
+                disk,
+            });
         };
         match load(alloc, &mut disk, &mut buffer) {
             Ok(Listed { records, end }) => Ok(Journal {

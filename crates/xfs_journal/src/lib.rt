@@ -1,8 +1,8 @@
 //! The journal of the dispenser: its records, and what is read of a list of them.
 #![tactic(auto)]
 
-mod body;
 mod block;
+mod body;
 mod faults;
 mod gate;
 mod journal;

@@ -188,11 +188,7 @@ fn has_unit(rec: &Rec) -> bool
 }
 
 // Reads a body with the help of a buffer.
-pub(crate) fn read_with(
-    alloc: Global,
-    bytes: &[u8],
-    buffer: &mut Vec<u8>,
-) -> Result<Rec, BodyFault>
+pub(crate) fn read_with(alloc: Global, bytes: &[u8], buffer: &mut Vec<u8>) -> Result<Rec, BodyFault>
     requires room { 1025 ≤ vec_capacity buffer.old }
     ensures ok { IfOk result (λ r. IsRecord r × (body r ≡ bytes.now)) }
     ensures form { IfErr result (λ f. f ≡ Form → (r : Rec) → IsRecord r → body r ≢ bytes.now) }

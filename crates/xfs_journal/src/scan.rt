@@ -16,11 +16,7 @@ use xfs_disk::Disk;
 pub(crate) const MAGIC: [u8; 8] = [0x58, 0x46, 0x53, 0x4A, 0x52, 0x4E, 0x4C, 0x31];
 
 // Reads what a journal begins with.
-fn read_magic<D: Disk>(
-    disk: &mut D,
-    page: &mut Page,
-    block: &mut Vec<u8>,
-) -> Result<(), MountFault>
+fn read_magic<D: Disk>(disk: &mut D, page: &mut Page, block: &mut Vec<u8>) -> Result<(), MountFault>
     requires room { 8 ≤ vec_capacity block.old }
     requires start { page.old.at ≡ 0 }
     requires shows { IfTold (D.held disk.old) (λ all. Shows all page.old) }

@@ -18,9 +18,9 @@ returns-in-Ok-clause-record g c =
     let fits_z : slice_index o 2 < 256 = search rules in
     let same : body c.in-Ok.rec ≡ drop 3 o = c.in-Ok.ensures.ok.1 ∙ take_rest c.deref.result.now 3 ∙ ap (λ (l : List ℕ). drop 3 l) c.deref.ensures.value in
     on_told _ _ (λ b known.
-        let mid = c.read_gate.ensures.quiet.same ∙ known in
-        found _ b mid c.read_rest.new.page gate c.args.page.now.at o c.in_ok-read_rest.ensures.since c.at-gate.ensures.value
-        (from_told _ _ c.in_ok-read_rest.ensures.whole b mid) (from_told _ _ opens b known) c.in-Ok.rec fits_y fits_z same)
+    let mid = c.read_gate.ensures.quiet.same ∙ known in
+    found _ b mid c.read_rest.new.page gate c.args.page.now.at o c.in_ok-read_rest.ensures.since c.at-gate.ensures.value
+    (from_told _ _ c.in_ok-read_rest.ensures.whole b mid) (from_told _ _ opens b known) c.in-Ok.rec fits_y fits_z same)
 
 pub returns-in-Err-Form-clause-broken : goal.returns-in-Err-Form-clause-broken
 returns-in-Err-Form-clause-broken g c =
@@ -29,7 +29,10 @@ returns-in-Err-Form-clause-broken g c =
     let opens : IfTold (g.D.Disk.held c.args.disk.now) (λ all. slice_index (drop gate all) 0 ≡ 1) = search rules in
     let form : c.in-Err-Form.field-0 ≡ Form = search rules in
     let none : IsNoBody (drop 3 o) = subst IsNoBody (take_rest c.deref.result.now 3 ∙ ap (λ (l : List ℕ). drop 3 l) c.deref.ensures.value) (c.in-Err-Form.ensures.form form) in
-    λ x e. (same_place gate x e ∙ c.at-gate.ensures.value, on_told _ _ (λ b known.
-        let mid = c.read_gate.ensures.quiet.same ∙ known in
-        none_found _ b mid c.read_rest.new.page gate c.args.page.now.at o c.in_ok-read_rest.ensures.since c.at-gate.ensures.value
-        (from_told _ _ c.in_ok-read_rest.ensures.whole b mid) (from_told _ _ opens b known) none))
+    λ x e. (
+      same_place gate x e ∙ c.at-gate.ensures.value,
+      on_told _ _ (λ b known.
+          let mid = c.read_gate.ensures.quiet.same ∙ known in
+          none_found _ b mid c.read_rest.new.page gate c.args.page.now.at o c.in_ok-read_rest.ensures.since c.at-gate.ensures.value
+          (from_told _ _ c.in_ok-read_rest.ensures.whole b mid) (from_told _ _ opens b known) none),
+    )
