@@ -76,8 +76,8 @@ fn other_words_are_told_the_usage(rt: HostRuntime) -> Result<(), Fail> {
 
 #[test]
 fn a_comment_of_70001_bytes_is_no_line(rt: HostRuntime) -> Result<(), Fail> {
-    let mut script = vec![in rt.alloc(); b'#'; 70_001]?;
-    script.push(b'\n')?;
+    let mut script = Vec::new(rt.alloc());
+    comment_of(&mut script, 70_001)?;
     let written = run_on(&rt, rt.alloc(), "guard", &script, &[], &[])?;
     assert_eq!(rt; written.status, 4);
     assert_eq!(rt;
@@ -89,12 +89,22 @@ fn a_comment_of_70001_bytes_is_no_line(rt: HostRuntime) -> Result<(), Fail> {
 
 #[test]
 fn an_input_of_67108864_bytes_is_too_long(rt: HostRuntime) -> Result<(), Fail> {
-    let mut script = vec![in rt.alloc(); b'#'; 67_108_864]?;
-    for line in 0..1024usize {
-        script[65_536 * line + 65_535] = b'\n';
+    let mut script = Vec::new(rt.alloc());
+    for _ in 0..1024 {
+        comment_of(&mut script, 65_535)?;
     }
+    assert_eq!(rt; script.len(), 67_108_864);
     let written = run_on(&rt, rt.alloc(), "guard", &script, &[], &[])?;
     assert_eq!(rt; written.status, 10);
     assert_eq!(rt; written.text.as_slice(), b"input: too long\n".as_slice());
+    Ok(())
+}
+
+// A comment line of so many bytes.
+fn comment_of(script: &mut Vec<u8>, count: usize) -> Result<(), Fail> {
+    for _ in 0..count {
+        script.push(b'#')?;
+    }
+    script.push(b'\n')?;
     Ok(())
 }
