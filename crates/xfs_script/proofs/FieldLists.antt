@@ -1,6 +1,6 @@
 -- The fields of a line, one behind the other.
-use Rattle.std.proofs.Common.{◌≡◌, ℕ, ◌+◌, ◌<◌, ◌≤◌, ◌==◌, Bool, true, false, List, [], ◌∷◌, length, get_or, None, Some, refl, ap, sym, subst, ◌∙◌, arith}
-use Rattle.std.specs.Prelude.{codes, is_some, MatchOption}
+use Rattle.std.proofs.Common.{◌≡◌, ℕ, ◌<◌, ◌==◌, true, List, [], ◌∷◌, length, get_or, None, Some, ap, sym, subst, ◌∙◌, arith}
+use Rattle.std.specs.Prelude.{is_some, MatchOption}
 use Rattle.std.specs.Borrow.{Bor}
 use Rattle.std.specs.declared.option.Option.{Option}
 use Rattle.std.proofs.lemmas.List.Splits.{length-slice_split}
@@ -8,6 +8,7 @@ use Rattle.xfs_base.specs.declared.counts.Counts.{Counts}
 use Rattle.xfs_script.specs.Fields.{fields}
 use Rattle.xfs_script.specs.Counts.{SpellsCounts}
 use Rattle.xfs_script.specs.Dispense.{HasFields}
+use Rattle.xfs_script.specs.TokenLines.{IsHex, IsMac}
 
 abbrev Parts : List ℕ → List ℕ → Option (Bor (List ℕ)) → Type 0
 Parts text first behind = MatchOption behind (fields text ≡ first ∷ []) (λ b. fields text ≡ first ∷ fields b.now)
@@ -27,3 +28,11 @@ no_spelled text verb token field is none other counts h =
     let P : List ℕ → Type 0 = λ f. SpellsCounts f counts in
     let same : h.field ≡ field = ap (λ l. get_or l 2 field) (sym h.line ∙ is) in
     none counts (subst P same h.spells)
+
+pub no_mac : (text verb first second : List ℕ) → fields text ≡ verb ∷ first ∷ second ∷ [] → ((a b : List ℕ) → IsHex first a → IsHex second b → ⊥) → (key message : List ℕ) → IsMac text key message → ⊥
+no_mac text verb first second is none key message m =
+    let P : List ℕ → Type 0 = λ f. IsHex f key in
+    let Q : List ℕ → Type 0 = λ f. IsHex f message in
+    let one : m.first ≡ first = ap (λ l. get_or l 1 first) (sym m.line ∙ is) in
+    let two : m.second ≡ second = ap (λ l. get_or l 2 second) (sym m.line ∙ is) in
+    none key message (subst P one m.key_is) (subst Q two m.message_is)

@@ -3,6 +3,7 @@ pub mod Blocks
 pub mod Cases
 pub mod Due
 pub mod Ends
+pub mod Faults
 pub mod FieldLists
 pub mod Numerals
 pub mod UnitParts

@@ -6,4 +6,5 @@ pub mod Found
 pub mod Guard
 pub mod Lines
 pub mod Reading
+pub mod TokenLines
 pub mod Words

@@ -12,9 +12,11 @@ mod line;
 mod lines;
 #[cfg(test)]
 mod tests;
+mod token_line;
 mod word;
 
 pub use counts::counts_text;
 pub use guard_line::{Given, GuardLine, ScriptFault, read_guard};
 pub use line::{Line, LineFault};
 pub use lines::Lines;
+pub use token_line::{TokenLine, read_token};

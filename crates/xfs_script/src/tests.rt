@@ -1,6 +1,9 @@
 ghost use Rattle.std.specs.Prelude.{None};
 
-use crate::{Given, GuardLine, Line, LineFault, Lines, ScriptFault, counts_text, read_guard};
+use crate::{
+    Given, GuardLine, Line, LineFault, Lines, ScriptFault, TokenLine, counts_text, read_guard,
+    read_token,
+};
 use std::alloc::Global;
 use std::test::Fail;
 use xfs_base::{Counts, Currency, Failed, MemSource, Milli, Source};
@@ -291,4 +294,72 @@ fn counts_in_answers(rt: HostRuntime) -> Result<(), Fail> {
         );
     }
     Ok(())
+}
+
+// The bytes that a line of `token` holds, each with a bar behind it, and how many amounts.
+fn held(alloc: Global, text: &[u8]) -> Result<(Vec<u8>, u8), Fail> {
+    let mut all = Vec::new(alloc);
+    let line = read_token(alloc, text)?;
+    let count = match &line {
+        TokenLine::Skip => 0,
+        TokenLine::Read(bytes) => push_held(&mut all, bytes.list())?,
+        TokenLine::Make { nonce, amounts } => {
+            push_held(&mut all, nonce.list())?;
+            amounts.len()
+        }
+        TokenLine::Mac { key, message } => {
+            push_held(&mut all, key.list())?;
+            push_held(&mut all, message.list())?
+        }
+    };
+    Ok((all, count))
+}
+
+fn push_held(all: &mut Vec<u8>, bytes: &[u8]) -> Result<u8, Fail> {
+    all.extend_from_slice(bytes)?;
+    all.push(b'|')?;
+    Ok(0)
+}
+
+#[test]
+fn lines_of_token(rt: HostRuntime) -> Result<(), Fail> {
+    let alloc = rt.alloc();
+    let table: [(&[u8], &[u8], u8); 8] = [
+        (b"#", b"", 0),
+        (b"read ", b"|", 0),
+        (b"read NONCE=A, b", b"NONCE=A, b|", 0),
+        (b"make 0AF 50.00EUR", b"0AF|", 1),
+        (b"make 1 1EUR,2USD", b"1|", 2),
+        (b"mac 4a656665 -", b"Jefe||", 0),
+        (b"mac - 4A4b", b"|JK|", 0),
+        (b"mac - -", b"||", 0),
+    ];
+    for (text, bytes, count) in table {
+        let (all, amounts) = held(alloc, text)?;
+        assert_eq!(rt; all.as_slice(), bytes);
+        assert_eq!(rt; amounts, count);
+    }
+    Ok(())
+}
+
+#[test]
+fn lines_of_token_that_are_none(rt: HostRuntime) {
+    let alloc = rt.alloc();
+    let table: [&[u8]; 12] = [
+        b"read",
+        b"Read x",
+        b"make",
+        b"make 0AF",
+        b"make 0af 1EUR",
+        b"make  1EUR",
+        b"make 0AF 1EUR 2USD",
+        b"mac 4a65",
+        b"mac 4a6 -",
+        b"mac 4g -",
+        b"mac  -",
+        b"mac - - -",
+    ];
+    for text in table {
+        assert!(rt; matches!(read_token(alloc, text), Err(ScriptFault::NotALine)));
+    }
 }

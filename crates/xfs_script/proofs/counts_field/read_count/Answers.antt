@@ -1,4 +1,4 @@
-use Rattle.std.proofs.Common.{◌≡◌, ℕ, ◌<◌, true, arith, sym, refl}
+use Rattle.std.proofs.Common.{ℕ, arith, sym, refl}
 use Rattle.xfs_script.specs.Counts.{IsCount}
 use Rattle.xfs_script.proofs.AmountParts.{IfNone_from}
 use Rattle.xfs_script.proofs.Numerals.{count_is, no_count_other, no_count_more}

@@ -1,6 +1,5 @@
-use Rattle.std.proofs.Common.{◌≡◌, ℕ, ◌+◌, ◌-◌, ◌<◌, ◌≤◌, List, ◌∷◌, replicate, set, length-set, arith, ap, sym, subst, ◌∙◌}
+use Rattle.std.proofs.Common.{◌≡◌, ℕ, ◌-◌, List, set, length-set, arith, ap, sym, subst, ◌∙◌}
 use Rattle.xfs_base.specs.declared.counts.Counts.{Counts}
-use Rattle.xfs_script.specs.Fields.{parts}
 use Rattle.xfs_script.specs.Counts.{SpellsCounts}
 use Rattle.xfs_script.proofs.AmountParts.{parts_left, cut_is, IfNone_from}
 use Rattle.xfs_script.proofs.UnitParts.{SpellsOn, on_here, on_there, on_none, no_unit, counts_spelled, no_counts}
