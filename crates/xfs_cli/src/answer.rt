@@ -46,16 +46,16 @@ impl<M: Mechanism> Session<M> {
         ensures cause { result ≡ Turn.Write → Rose (K.faults sink.old) (K.faults sink.new) }
     {
         match read_guard(self.alloc, line.text.list()) {
-            Ok(verb) => self.answer(verb, sink),
+            Ok(verb) => self.answer(&verb, sink),
             Err(ScriptFault::NotALine) => Turn::NotALine,
             Err(ScriptFault::Memory) => Turn::Memory,
         }
     }
 
-    fn answer<K: Sink>(&mut self, verb: GuardLine, sink: &mut K) -> Turn
+    fn answer<K: Sink>(&mut self, verb: &GuardLine, sink: &mut K) -> Turn
         requires { self.old.guard.open_order ≡ No }
-        ensures built { result ≢ Turn.NotALine → IsBuilt verb }
-        ensures not_built { result ≡ Turn.NotALine → ¬ (IsBuilt verb) }
+        ensures built { result ≢ Turn.NotALine → IsBuilt verb.now }
+        ensures not_built { result ≡ Turn.NotALine → ¬ (IsBuilt verb.now) }
         ensures continues { Continues self.old.guard self.new.guard }
         ensures none { self.new.guard.open_order ≡ No }
         ensures later { K.faults sink.old ≤ K.faults sink.new }
@@ -64,7 +64,7 @@ impl<M: Mechanism> Session<M> {
         match verb {
             GuardLine::Skip => Turn::More,
             GuardLine::Issue => self.issue(sink),
-            GuardLine::Mint(amounts) => self.mint(&amounts, sink),
+            GuardLine::Mint(amounts) => self.mint(amounts, sink),
             _ => Turn::NotALine,
         }
     }
