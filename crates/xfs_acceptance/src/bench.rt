@@ -1,12 +1,14 @@
 //! Main's bench over memory, and what a run on it wrote.
 
-ghost use Rattle.std.specs.Prelude.{◌≡◌};
+ghost use Rattle.std.specs.Prelude.{◌≡◌, IfOk};
+ghost use Rattle.xfs_guard.specs.declared.open.Open.TheVariants.{No};
 
 use std::alloc::Global;
 use std::process::Abort;
 use std::test::Fail;
 use xfs_base::{Counts, Currency, MemSink, MemSource, NoteKind, Places, UnitTable};
 use xfs_cli::{Bench, run};
+use xfs_guard::Guard;
 use xfs_mech::{SimMech, places_fit};
 
 // EUR 10, EUR 20, EUR 50 and USD 20.
@@ -27,6 +29,20 @@ fn places() -> Places {
         taken: none,
         retracted: none,
         rejected: none,
+    }
+}
+
+/// A guard over main's bench.
+pub fn guard_on(rt: &impl Abort, alloc: Global) -> Result<Guard<SimMech>, Fail>
+    ensures { IfOk result (λ g. g.open_order ≡ No) }
+{
+    let units = units(rt);
+    let places = places();
+    assert!(rt; places_fit(&units, &places));
+    let mech = SimMech::new(alloc, units.copied(), places, Vec::new(alloc));
+    match Guard::boot(alloc, mech, [0x0b; 32], [0; 32], units) {
+        Ok(guard) => Ok(guard),
+        Err(fail) => Err(fail.why.into()),
     }
 }
 

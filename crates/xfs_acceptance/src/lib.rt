@@ -4,4 +4,6 @@
 #[cfg(test)]
 mod bench;
 #[cfg(test)]
+mod guard_calls;
+#[cfg(test)]
 mod guard_rows;
