@@ -1,14 +1,9 @@
 -- The headline of a run, from what its guard kept and how it went on from its boot.
-use Rattle.std.proofs.Common.{◌≡◌, ℕ, List, [], ◌∷◌, ◌++◌, None, Some, refl, sym, ◌∙◌, ap}
+use Rattle.std.proofs.Common.{◌≡◌, List, [], ◌∷◌, None, Some}
 use Rattle.std.specs.declared.option.Option.{Option}
-use Rattle.xfs_base.specs.declared.money.NoteKind.{NoteKind}
-use Rattle.xfs_base.specs.declared.counts.Places.{Places}
 use Rattle.xfs_mech.specs.declared.motion.Motion.{Motion}
-use Rattle.xfs_journal.specs.declared.record.Rec.{Rec}
 use Rattle.xfs_journal.specs.declared.record.Rec.TheVariants.{Boot}
-use Rattle.xfs_guard.specs.declared.open.Open.TheVariants.{No}
 use Rattle.xfs_base.specs.Causes.{IfTold}
-use Rattle.xfs_guard.specs.Follows.{Follows}
 use Rattle.xfs_guard.specs.View.{View}
 use Rattle.xfs_guard.specs.Sound.{IsSound, Ties}
 use Rattle.xfs_guard.specs.Continues.{Continues, Leads, IsKnown}

@@ -1,9 +1,9 @@
 -- The lines of the command `guard`, as far as they are built, and how many of a text were read.
-use Rattle.std.specs.Prelude.{◌≡◌, ℕ, zero, suc, ◌<◌, ◌≤◌, List, length, ⊤}
+use Rattle.std.specs.Prelude.{ℕ, zero, suc, ◌<◌, ◌≤◌, List, length, ⊤}
 use Rattle.xfs_script.specs.Guard.{IsGuardLine}
 use Rattle.xfs_script.specs.Lines.{first_line, rest}
 use Rattle.xfs_script.specs.declared.guard_line.GuardLine.{GuardLine}
-use Rattle.xfs_script.specs.declared.guard_line.GuardLine.TheVariants.{Skip, Issue, Mint, Clear, Dispense, Present, Reject, Retract, Take, Restart, Show}
+use Rattle.xfs_script.specs.declared.guard_line.GuardLine.TheVariants.{Skip, Issue, Mint}
 
 -- the verbs that are built
 abbrev pub IsBuilt : GuardLine → Type 0

@@ -1,5 +1,5 @@
 -- The journal and the mechanism's list stay in step.
-use Rattle.std.proofs.Common.{◌≡◌, ◌⊎◌, inl, inr, ⊎_elim, ℕ, zero, suc, ◌+◌, ◌-◌, ◌<◌, ◌≤◌, List, [], ◌∷◌, ◌++◌, length, None, Some, refl, sym, ◌∙◌, ap, subst, arith, length-append, add-one}
+use Rattle.std.proofs.Common.{◌≡◌, ⊎_elim, ℕ, ◌+◌, ◌<◌, ◌≤◌, List, [], ◌∷◌, ◌++◌, length, None, Some, refl, sym, ◌∙◌, arith}
 use Rattle.std.specs.Prelude.{slice_get, fold}
 use Rattle.std.specs.declared.option.Option.{Option}
 use Rattle.std.specs.List.{Contains, AllByRecursion}
@@ -9,8 +9,8 @@ use Rattle.xfs_base.specs.declared.counts.Kind.{Kind}
 use Rattle.xfs_mech.specs.declared.motion.Motion.{Motion}
 use Rattle.xfs_mech.specs.declared.motion.Motion.TheVariants.{Moved, Taken, Loaded}
 use Rattle.xfs_journal.specs.declared.record.Rec.{Rec}
-use Rattle.xfs_journal.specs.declared.record.Rec.TheVariants.{Issue, Clear, Boot, Bind, Order, Done, Load}
-use Rattle.xfs_journal.specs.Journal.{record_at, Walk}
+use Rattle.xfs_journal.specs.declared.record.Rec.TheVariants.{Order, Done}
+use Rattle.xfs_journal.specs.Journal.{record_at}
 use Rattle.xfs_base.specs.Counts.{at}
 use Rattle.xfs_guard.specs.Agrees.{RisesFrom, IsAsked, MayFollow, keep_last, Agrees}
 use Rattle.xfs_mech.specs.Motions.{NumberIs}

@@ -1,5 +1,5 @@
 -- Counts that pass the amounts in no currency of the table pass them in none.
-use Rattle.std.proofs.Common.{◌≡◌, ℕ, ◌+◌, ◌*◌, ◌<◌, ◌≤◌, Bool, true, false, ◌||◌, List, [], ◌∷◌, None, Some, refl, sym, ◌∙◌, ap, arith, true≢false}
+use Rattle.std.proofs.Common.{◌≡◌, ℕ, ◌+◌, ◌*◌, ◌≤◌, Bool, true, false, ◌||◌, List, [], ◌∷◌, None, Some, refl, sym, ◌∙◌, ap, arith, true≢false}
 use Rattle.std.specs.Prelude.{fold, nat_lt, find, if◌then◌else◌}
 use Rattle.std.specs.declared.option.Option.{Option}
 use Rattle.std.specs.Option.{option_map, unwrap_or}
@@ -14,7 +14,6 @@ use Rattle.xfs_token.specs.Token.{Parts}
 use Rattle.xfs_token.specs.Amounts.{amount, amounts_of, amount_in, has_currency}
 use Rattle.xfs_journal.specs.declared.record.Rec.{Rec}
 use Rattle.xfs_journal.specs.declared.record.Rec.TheVariants.{Issue, Clear, Boot, Bind, Order, Done, Load}
-use Rattle.xfs_guard.specs.declared.deny.Deny.{Deny}
 use Rattle.xfs_guard.specs.Presented.{Paid, paid_after, worth_after, done_worth, presented_in}
 use Rattle.xfs_guard.specs.Passed.{spent, is_over, first_currency, earlier, passed_in}
 

@@ -1,25 +1,23 @@
 -- What happened from one state of a guard to a later one.
-use Rattle.std.proofs.Common.{◌≡◌, ◌⊎◌, inl, inr, ⊎_elim, ℕ, zero, suc, ◌+◌, ◌-◌, ◌<◌, ◌≤◌, Bool, List, [], ◌∷◌, ◌++◌, length, None, Some, refl, sym, ◌∙◌, ap, arith, length-append}
+use Rattle.std.proofs.Common.{◌≡◌, ⊎_elim, ℕ, ◌+◌, ◌<◌, ◌≤◌, Bool, List, [], ◌∷◌, ◌++◌, length, None, Some, refl, sym, ◌∙◌, arith}
 use Rattle.std.proofs.lemmas.List.{append-nil}
-use Rattle.std.specs.Prelude.{fold}
 use Rattle.std.specs.declared.option.Option.{Option}
-use Rattle.std.specs.List.{AllByRecursion}
 use Rattle.xfs_base.specs.declared.counts.Counts.{Counts}
 use Rattle.xfs_base.specs.declared.counts.Places.{Places}
 use Rattle.xfs_base.specs.declared.counts.Kind.{Kind}
 use Rattle.xfs_mech.specs.declared.motion.Motion.{Motion}
-use Rattle.xfs_mech.specs.declared.motion.Motion.TheVariants.{Moved, Taken, Loaded}
+use Rattle.xfs_mech.specs.declared.motion.Motion.TheVariants.{Moved}
 use Rattle.xfs_journal.specs.declared.record.Rec.{Rec}
-use Rattle.xfs_journal.specs.declared.record.Rec.TheVariants.{Issue, Clear, Boot, Bind, Order, Done, Load}
+use Rattle.xfs_journal.specs.declared.record.Rec.TheVariants.{Boot}
 use Rattle.xfs_guard.specs.declared.open.Open.{Open}
 use Rattle.xfs_journal.specs.Journal.{record_at}
-use Rattle.xfs_guard.specs.Follows.{BootFits, Follows}
+use Rattle.xfs_guard.specs.Follows.{BootFits}
 use Rattle.xfs_mech.specs.Motions.{NumberIs, PlacesOf}
 use Rattle.xfs_base.specs.Causes.{IfTold}
 use Rattle.xfs_mech.specs.Mechanism.{Grows}
 use Rattle.xfs_guard.specs.View.{View}
 use Rattle.xfs_guard.specs.Sound.{Ties, IsSound}
-use Rattle.xfs_guard.specs.Continues.{Led, Leads, Continues}
+use Rattle.xfs_guard.specs.Continues.{Leads, Continues}
 use Rattle.xfs_journal.proofs.JournalLaws.{record_at-cases, record_at-within}
 use Rattle.xfs_guard.proofs.AgreesLaws.{numbers_within}
 use Rattle.xfs_guard.proofs.FollowsLaws.{Follows-same, Follows-trans}

@@ -1,20 +1,17 @@
 -- Places and what follows from what, over several steps.
-use Rattle.std.proofs.Common.{◌≡◌, ◌⊎◌, inl, inr, ⊎_elim, ℕ, zero, suc, ◌+◌, ◌-◌, ◌<◌, ◌≤◌, List, [], ◌∷◌, ◌++◌, length, take, None, Some, refl, sym, ◌∙◌, ap, arith, length-append, append_assoc, add-one}
+use Rattle.std.proofs.Common.{◌≡◌, inl, inr, ℕ, zero, suc, ◌<◌, ◌≤◌, List, [], ◌∷◌, ◌++◌, length, Some, refl, sym, ◌∙◌, ap, arith, length-append, append_assoc}
 use Rattle.std.proofs.lemmas.List.{append-nil}
 use Rattle.std.proofs.lemmas.Bool.{cases_lt}
-use Rattle.std.specs.List.{sum_by, AllByRecursion}
-use Rattle.std.proofs.lemmas.List.Sums.{sum_by-append}
+use Rattle.std.specs.List.{AllByRecursion}
 use Rattle.xfs_base.specs.declared.counts.Places.{Places}
 use Rattle.xfs_mech.specs.declared.motion.Motion.{Motion}
-use Rattle.xfs_mech.specs.declared.motion.Motion.TheVariants.{Moved, Taken, Loaded}
 use Rattle.xfs_journal.specs.declared.record.Rec.{Rec}
-use Rattle.xfs_journal.specs.declared.record.Rec.TheVariants.{Issue, Clear, Boot, Bind, Order, Done, Load}
+use Rattle.xfs_journal.specs.declared.record.Rec.TheVariants.{Boot}
 use Rattle.xfs_journal.specs.Journal.{record_at}
-use Rattle.xfs_base.specs.Counts.{at}
 use Rattle.xfs_guard.specs.Follows.{BootFits, Follows}
-use Rattle.xfs_mech.specs.Motions.{stacked, diverted_of, presented, rejected, retracted, taken, loaded, PlacesOf, NumberIs}
+use Rattle.xfs_mech.specs.Motions.{NumberIs}
 use Rattle.xfs_mech.proofs.MotionLaws.{all-append, all-numbers, all-right, PlacesOf-same, PlacesOf-append}
-use Rattle.xfs_journal.proofs.JournalLaws.{record_at-push, record_at-append, record_at-within}
+use Rattle.xfs_journal.proofs.JournalLaws.{record_at-append, record_at-within}
 
 -- nothing happened
 pub Follows-same : (J : List Rec) (L : List Motion) (P : Places) → Follows J L P J L P

@@ -5,8 +5,8 @@ use Rattle.std.specs.declared.option.Option.{Option}
 use Rattle.std.specs.Option.{option_map}
 use Rattle.xfs_base.specs.declared.money.NoteKind.{NoteKind}
 use Rattle.xfs_journal.specs.declared.record.Rec.{Rec}
-use Rattle.xfs_journal.specs.declared.record.Rec.TheVariants.{Issue, Clear, Boot, Bind, Order, Done, Load}
-use Rattle.xfs_journal.specs.Journal.{record_at, live_of, token_of, bind_of, last_mark, next_issue, nonce_text, next_number, live_after, mark_after, Finding, found_after, Binding, bound_after}
+use Rattle.xfs_journal.specs.declared.record.Rec.TheVariants.{Issue, Bind, Order, Done}
+use Rattle.xfs_journal.specs.Journal.{record_at, live_of, last_mark, next_issue, nonce_text, next_number, live_after, mark_after, Finding, found_after, Binding, bound_after}
 use Rattle.xfs_journal.proofs.JournalLaws.{live_of-push, token_of-push, bind_of-push, last_mark-push, next_issue-push, record_at-push, record_at-pushed, record_at-within, eqb-same}
 use Rattle.std.proofs.lemmas.Bool.{cases_lt}
 use Rattle.std.proofs.lemmas.Option.{slice_get_past}
@@ -22,8 +22,8 @@ use Rattle.xfs_guard.specs.declared.bound.Bound.{Bound}
 use Rattle.xfs_guard.specs.declared.nonce.Nonce.{Nonce}
 use Rattle.xfs_guard.specs.Nonce.{nonce_of, live_nonce}
 use Rattle.xfs_guard.specs.Refusals.{bound_token, bound_place}
-use Rattle.xfs_guard.specs.Ledger.{IsLive, IsBound, IsBind, IsRead, AreSums, amounts_kept}
-use Rattle.xfs_guard.specs.Pays.{Fits, Pays, Grows}
+use Rattle.xfs_guard.specs.Ledger.{IsLive, IsBound, IsRead, AreSums, amounts_kept}
+use Rattle.xfs_guard.specs.Pays.{Fits, Pays}
 
 abbrev pub nonce_kept : Option Live → Option Nonce
 nonce_kept l = option_map (λ (x : Live). x.nonce) l

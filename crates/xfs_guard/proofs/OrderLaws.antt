@@ -1,6 +1,6 @@
 -- An order that isn't refused may be written.
-use Rattle.std.proofs.Common.{◌≡◌, ◌≢◌, ◌⊎◌, inl, inr, ℕ, zero, suc, ◌+◌, ◌-◌, ◌<◌, ◌≤◌, ◌^◌, ◌==◌, Bool, true, false, List, [], ◌∷◌, ◌++◌, length, None, Some, refl, sym, ◌∙◌, ap, subst, arith, get_or, set, true≢false}
-use Rattle.std.specs.Prelude.{nat_lt, sum, unwrap_or, if◌then◌else◌}
+use Rattle.std.proofs.Common.{◌≡◌, ◌≢◌, inl, inr, ℕ, zero, suc, ◌+◌, ◌-◌, ◌<◌, ◌≤◌, ◌^◌, ◌==◌, Bool, true, false, List, [], ◌∷◌, length, None, Some, refl, sym, ◌∙◌, ap, arith, get_or, set}
+use Rattle.std.specs.Prelude.{unwrap_or, if◌then◌else◌}
 use Rattle.std.specs.declared.option.Option.{Option}
 use Rattle.std.specs.Option.{option_and_then, option_or}
 use Rattle.std.proofs.lemmas.Bool.{ltb-false, cases_lt, cases_eq}
@@ -12,12 +12,10 @@ use Rattle.xfs_base.specs.declared.counts.Counts.{Counts}
 use Rattle.xfs_base.specs.declared.counts.Kind.{Kind}
 use Rattle.xfs_base.specs.declared.counts.Kind.TheVariants.{Stack, Present, Reject, Retract}
 use Rattle.xfs_token.specs.Amounts.{amount, amount_in, has_currency}
-use Rattle.xfs_mech.specs.Mechanism.{source_of}
 use Rattle.xfs_journal.specs.declared.record.Rec.{Rec}
 use Rattle.xfs_journal.specs.declared.record.Rec.TheVariants.{Order}
 use Rattle.xfs_journal.specs.Journal.{record_at, live_of, token_of, last_mark}
 use Rattle.xfs_guard.specs.declared.open.Open.TheVariants.{No, Written, Acted}
-use Rattle.xfs_guard.specs.declared.deny.Deny.{Deny}
 use Rattle.xfs_guard.specs.declared.deny.Deny.TheVariants.{Short, WrongNonce}
 use Rattle.xfs_guard.specs.declared.nonce.Nonce.{Nonce}
 use Rattle.xfs_guard.specs.declared.ask.Ask.{Ask}
@@ -26,8 +24,8 @@ use Rattle.xfs_guard.specs.View.{View}
 use Rattle.xfs_guard.specs.Nonce.{nonce_of, live_nonce}
 use Rattle.xfs_guard.specs.Presented.{presented_in, pending}
 use Rattle.xfs_guard.specs.Budget.{IsFunded}
-use Rattle.xfs_guard.specs.Sound.{IsSound, Stands, IfPresent, IsReleased}
-use Rattle.xfs_guard.specs.Refusals.{notes_of, asked_kind, asked_counts, over_budget, order_refusal, order_refusal_at, stack_refusal, present_refusal, IsAsk}
+use Rattle.xfs_guard.specs.Sound.{IsSound, Stands}
+use Rattle.xfs_guard.specs.Refusals.{notes_of, asked_kind, asked_counts, over_budget, order_refusal, order_refusal_at, stack_refusal}
 use Rattle.xfs_token.proofs.AmountBounds.{amount-small}
 use Rattle.xfs_guard.proofs.BudgetLaws.{passed-none, amount-is, amount_in-none}
 use Rattle.xfs_guard.proofs.RecordLaws.{longer, IsSound-order, released-order}

@@ -1,13 +1,12 @@
 -- What a guard keeps when a record is appended.
-use Rattle.std.proofs.Common.{◌≡◌, ℕ, zero, suc, ◌+◌, ◌-◌, ◌<◌, ◌≤◌, Bool, true, false, List, [], ◌∷◌, ◌++◌, length, None, Some, refl, sym, ◌∙◌, ap, take, zero-add, add-zero, arith, length-append}
+use Rattle.std.proofs.Common.{◌≡◌, ℕ, suc, ◌+◌, ◌-◌, ◌<◌, ◌≤◌, Bool, false, List, [], ◌∷◌, ◌++◌, length, None, Some, refl, sym, ◌∙◌, ap, take, zero-add, add-zero, arith, length-append}
 use Rattle.std.proofs.lemmas.List.{length-take}
 use Rattle.std.specs.Prelude.{fold, ⊤}
 use Rattle.std.specs.declared.option.Option.{Option}
-use Rattle.std.specs.List.{sum_by, AllByRecursion, Contains}
+use Rattle.std.specs.List.{Contains}
 use Rattle.std.proofs.lemmas.List.Sums.{sum_by-cons}
 use Rattle.xfs_base.specs.declared.counts.Counts.{Counts}
 use Rattle.xfs_base.specs.declared.money.NoteKind.{NoteKind}
-use Rattle.xfs_base.specs.declared.counts.Places.{Places}
 use Rattle.xfs_base.specs.declared.counts.Kind.{Kind}
 use Rattle.xfs_base.specs.declared.counts.Kind.TheVariants.{Stack, Present, Reject, Retract}
 use Rattle.xfs_base.specs.Causes.{IfTold}
@@ -17,7 +16,6 @@ use Rattle.xfs_token.specs.Token.{Parts}
 use Rattle.xfs_token.specs.Amounts.{amount, amounts_of}
 use Rattle.xfs_mech.specs.declared.motion.Motion.{Motion}
 use Rattle.xfs_mech.specs.declared.motion.Motion.TheVariants.{Moved, Taken, Loaded}
-use Rattle.xfs_mech.specs.Motions.{NumberIs}
 use Rattle.xfs_mech.specs.Mechanism.{source_of}
 use Rattle.xfs_mech.proofs.MotionLaws.{all-numbers}
 use Rattle.xfs_journal.specs.declared.record.Rec.{Rec}
@@ -27,10 +25,10 @@ use Rattle.xfs_journal.proofs.JournalLaws.{live_of-push, live_at-pushed, token_o
 use Rattle.xfs_guard.specs.declared.open.Open.{Open}
 use Rattle.xfs_guard.specs.declared.open.Open.TheVariants.{No, Written, Acted}
 use Rattle.xfs_guard.specs.View.{View}
-use Rattle.xfs_guard.specs.Agrees.{MayFollow, keep_last, IsOrder, IsNoOrder}
+use Rattle.xfs_guard.specs.Agrees.{MayFollow, IsOrder, IsNoOrder}
 use Rattle.xfs_guard.specs.Within.{Carries, shown, shown_by}
-use Rattle.xfs_guard.specs.Presented.{done_worth, presented_in, pending, unsettled}
-use Rattle.xfs_guard.specs.Budget.{IsFunded, Budget}
+use Rattle.xfs_guard.specs.Presented.{done_worth, presented_in, unsettled}
+use Rattle.xfs_guard.specs.Budget.{IsFunded}
 use Rattle.xfs_guard.specs.Sound.{IsReleased, IfPresent, Stands, HasActed, Ties, IsSound}
 use Rattle.xfs_guard.proofs.AgreesLaws.{Agrees-record, numbers_within}
 use Rattle.xfs_guard.proofs.PresentedLaws.{presented_in-push}

@@ -1,35 +1,29 @@
 -- What each step of a guard keeps.
-use Rattle.std.proofs.Common.{◌≡◌, ◌≢◌, ◌⊎◌, inl, inr, ⊎_elim, ℕ, zero, suc, ◌+◌, ◌-◌, ◌<◌, ◌≤◌, Bool, true, false, List, [], ◌∷◌, ◌++◌, length, None, Some, refl, sym, ◌∙◌, ap, subst, arith, length-append, add-one}
+use Rattle.std.proofs.Common.{◌≡◌, ℕ, ◌+◌, ◌≤◌, Bool, List, [], ◌∷◌, ◌++◌, length, None, Some, refl, sym, ◌∙◌, arith}
 use Rattle.std.specs.declared.option.Option.{Option}
-use Rattle.std.specs.List.{sum_by, AllByRecursion, Contains}
 use Rattle.std.proofs.lemmas.List.Elements.{Contains-push}
 use Rattle.xfs_base.specs.declared.counts.Counts.{Counts}
 use Rattle.xfs_base.specs.declared.money.NoteKind.{NoteKind}
 use Rattle.xfs_base.specs.declared.counts.Places.{Places}
 use Rattle.xfs_base.specs.declared.counts.Kind.{Kind}
 use Rattle.xfs_base.specs.declared.counts.Kind.TheVariants.{Stack, Present, Reject, Retract}
-use Rattle.xfs_base.specs.Money.{value, value_from}
+use Rattle.xfs_base.specs.Money.{value}
 use Rattle.xfs_base.proofs.MoneyLaws.{value_from-plus, value_from-le}
-use Rattle.xfs_token.specs.Token.{Parts}
 use Rattle.xfs_token.specs.Amounts.{amount}
 use Rattle.xfs_mech.specs.declared.motion.Motion.{Motion}
-use Rattle.xfs_mech.specs.declared.motion.Motion.TheVariants.{Moved, Taken, Loaded}
-use Rattle.xfs_journal.specs.declared.record.Rec.{Rec}
-use Rattle.xfs_journal.specs.declared.record.Rec.TheVariants.{Issue, Clear, Boot, Bind, Order, Done, Load}
-use Rattle.xfs_guard.specs.declared.open.Open.{Open}
-use Rattle.xfs_guard.specs.declared.open.Open.TheVariants.{No, Written, Acted}
-use Rattle.xfs_journal.specs.Journal.{record_at, live_at, live_of, token_of}
-use Rattle.xfs_base.specs.Counts.{at}
-use Rattle.xfs_guard.specs.Agrees.{Agrees}
-use Rattle.xfs_mech.specs.Motions.{NumberIs, PlacesOf}
+use Rattle.xfs_mech.specs.declared.motion.Motion.TheVariants.{Moved}
+use Rattle.xfs_journal.specs.declared.record.Rec.TheVariants.{Order}
+use Rattle.xfs_guard.specs.declared.open.Open.TheVariants.{Written, Acted}
+use Rattle.xfs_journal.specs.Journal.{record_at, live_of}
+use Rattle.xfs_mech.specs.Motions.{PlacesOf}
 use Rattle.xfs_base.specs.Causes.{IfTold}
 use Rattle.xfs_base.specs.Counts.{LiesIn}
 use Rattle.xfs_mech.specs.Mechanism.{Grows, source_of, Carries as MayCarry}
-use Rattle.xfs_guard.specs.Within.{Within, Carries, shown, shown_by}
+use Rattle.xfs_guard.specs.Within.{Within, shown}
 use Rattle.xfs_guard.specs.View.{View}
 use Rattle.xfs_guard.specs.Presented.{presented_in, pending, unsettled}
-use Rattle.xfs_guard.specs.Budget.{IsFunded, Budget}
-use Rattle.xfs_guard.specs.Sound.{IsReleased, IfPresent, Stands, HasActed, Ties, IsSound}
+use Rattle.xfs_guard.specs.Budget.{Budget}
+use Rattle.xfs_guard.specs.Sound.{IsReleased, IfPresent, Ties, IsSound}
 use Rattle.xfs_guard.proofs.AgreesLaws.{Agrees-motion}
 use Rattle.xfs_guard.proofs.WithinLaws.{Within-present, Within-quiet, shown-motion, shown_by-own}
 

@@ -1,16 +1,14 @@
 -- The journal and the mechanism's list tell the same.
-use Rattle.std.specs.Prelude.{◌≡◌, ℕ, ◌+◌, ◌<◌, ◌≤◌, List, [], ◌∷◌, ◌++◌, length, Some, None, ⊤}
+use Rattle.std.specs.Prelude.{◌≡◌, ℕ, ◌+◌, ◌<◌, ◌≤◌, List, [], ◌∷◌, Some, None, ⊤}
 use Rattle.std.specs.List.{Contains, AllByRecursion}
 use Rattle.std.specs.declared.option.Option.{Option}
 use Rattle.xfs_base.specs.Counts.{at}
 use Rattle.xfs_base.specs.declared.counts.Counts.{Counts}
-use Rattle.xfs_base.specs.declared.counts.Places.{Places}
 use Rattle.xfs_base.specs.declared.counts.Kind.{Kind}
 use Rattle.xfs_mech.specs.declared.motion.Motion.{Motion}
-use Rattle.xfs_mech.specs.declared.motion.Motion.TheVariants.{Moved, Taken, Loaded}
-use Rattle.xfs_mech.specs.Motions.{PlacesOf, NumberIs}
+use Rattle.xfs_mech.specs.declared.motion.Motion.TheVariants.{Moved}
 use Rattle.xfs_journal.specs.declared.record.Rec.{Rec}
-use Rattle.xfs_journal.specs.declared.record.Rec.TheVariants.{Issue, Clear, Boot, Bind, Order, Done, Load}
+use Rattle.xfs_journal.specs.declared.record.Rec.TheVariants.{Boot, Order, Done}
 use Rattle.xfs_journal.specs.Journal.{record_at, Walk}
 
 -- the numbers of the moved entries rise, from more than this one

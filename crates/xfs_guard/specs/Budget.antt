@@ -1,8 +1,5 @@
 -- The budget: what was put out since the nonce was issued, what lies on the transport and what is ordered from a unit are together worth no more than the bound token.
 use Rattle.std.specs.Prelude.{◌≡◌, ℕ, ◌+◌, ◌≤◌, List, Some, None}
-use Rattle.std.specs.declared.option.Option.{Option}
-use Rattle.xfs_base.specs.declared.counts.Places.{Places}
-use Rattle.xfs_base.specs.declared.counts.Counts.{Counts}
 use Rattle.xfs_base.specs.Money.{value}
 use Rattle.xfs_token.specs.Token.{Parts}
 use Rattle.xfs_token.specs.Amounts.{amount, amounts_of}

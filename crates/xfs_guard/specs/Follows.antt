@@ -1,17 +1,12 @@
 -- What happened since an earlier state: both lists grew, and the places are those that the new motions lead to.
-use Rattle.std.specs.Prelude.{◌≡◌, ℕ, ◌+◌, ◌<◌, ◌≤◌, List, [], ◌∷◌, ◌++◌, length, Some, None, ⊤}
+use Rattle.std.specs.Prelude.{◌≡◌, ℕ, ◌<◌, ◌≤◌, List, ◌++◌, length, Some}
 use Rattle.std.specs.List.{AllByRecursion}
-use Rattle.std.specs.declared.option.Option.{Option}
-use Rattle.xfs_base.specs.Counts.{at}
-use Rattle.xfs_base.specs.declared.counts.Counts.{Counts}
 use Rattle.xfs_base.specs.declared.counts.Places.{Places}
-use Rattle.xfs_base.specs.declared.counts.Kind.{Kind}
 use Rattle.xfs_mech.specs.declared.motion.Motion.{Motion}
-use Rattle.xfs_mech.specs.declared.motion.Motion.TheVariants.{Moved, Taken, Loaded}
 use Rattle.xfs_mech.specs.Motions.{PlacesOf, NumberIs}
 use Rattle.xfs_journal.specs.declared.record.Rec.{Rec}
-use Rattle.xfs_journal.specs.declared.record.Rec.TheVariants.{Issue, Clear, Boot, Bind, Order, Done, Load}
-use Rattle.xfs_journal.specs.Journal.{record_at, Walk}
+use Rattle.xfs_journal.specs.declared.record.Rec.TheVariants.{Boot}
+use Rattle.xfs_journal.specs.Journal.{record_at}
 
 -- a boot record of this number has the places after some front of the motions: those of lower numbers, none of higher
 pub record BootFits (old : Places) (motions : List Motion) (n : ℕ) (places : Places) : Type 0 where

@@ -1,9 +1,9 @@
 -- The nonce of the live Issue.
-use Rattle.std.specs.Prelude.{ℕ, ◌+◌, ◌*◌, ◌^◌, List, Some, None}
+use Rattle.std.specs.Prelude.{List, Some, None}
 use Rattle.std.specs.Option.{option_and_then}
 use Rattle.std.specs.declared.option.Option.{Option}
 use Rattle.xfs_journal.specs.declared.record.Rec.{Rec}
-use Rattle.xfs_journal.specs.declared.record.Rec.TheVariants.{Issue, Clear, Boot, Bind, Order, Done, Load}
+use Rattle.xfs_journal.specs.declared.record.Rec.TheVariants.{Issue}
 use Rattle.xfs_journal.specs.Journal.{record_at, live_of, nonce_text}
 use Rattle.xfs_guard.specs.declared.nonce.Nonce.{Nonce}
 

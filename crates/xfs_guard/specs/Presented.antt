@@ -3,13 +3,12 @@ use Rattle.std.specs.Prelude.{ℕ, ◌+◌, List, fold, Some, None}
 use Rattle.std.specs.declared.option.Option.{Option}
 use Rattle.xfs_base.specs.declared.counts.Counts.{Counts}
 use Rattle.xfs_base.specs.declared.money.NoteKind.{NoteKind}
-use Rattle.xfs_base.specs.declared.counts.Places.{Places}
-use Rattle.xfs_base.specs.declared.counts.Kind.TheVariants.{Stack, Present, Reject, Retract}
+use Rattle.xfs_base.specs.declared.counts.Kind.TheVariants.{Stack, Present}
 use Rattle.xfs_base.specs.Money.{value}
 use Rattle.xfs_journal.specs.declared.record.Rec.{Rec}
-use Rattle.xfs_journal.specs.declared.record.Rec.TheVariants.{Issue, Clear, Boot, Bind, Order, Done, Load}
+use Rattle.xfs_journal.specs.declared.record.Rec.TheVariants.{Issue, Clear, Boot, Order, Done}
 use Rattle.xfs_guard.specs.declared.open.Open.{Open}
-use Rattle.xfs_guard.specs.declared.open.Open.TheVariants.{No, Written, Acted}
+use Rattle.xfs_guard.specs.declared.open.Open.TheVariants.{Written, Acted}
 
 -- the record before, and what was presented since the last mark
 pub record Paid : Type 0 where

@@ -1,17 +1,16 @@
 -- What was put out since a nonce was issued, against the token that was bound to it.
-use Rattle.std.specs.Prelude.{◌≡◌, ℕ, ◌+◌, ◌≤◌, ◌==◌, Bool, false, List, [], ◌∷◌, ◌++◌, length, Some, None, slice_index, if◌then◌else◌, ⊤}
-use Rattle.std.specs.List.{sum_by, Contains, AllByRecursion}
+use Rattle.std.specs.Prelude.{◌≡◌, ℕ, ◌≤◌, List, Some, if◌then◌else◌, ⊤}
+use Rattle.std.specs.List.{sum_by, AllByRecursion}
 use Rattle.std.specs.declared.option.Option.{Option}
 use Rattle.xfs_base.specs.declared.counts.Counts.{Counts}
-use Rattle.xfs_base.specs.declared.counts.Places.{Places}
 use Rattle.xfs_base.specs.declared.money.NoteKind.{NoteKind}
-use Rattle.xfs_base.specs.declared.counts.Kind.TheVariants.{Stack, Present, Reject, Retract}
+use Rattle.xfs_base.specs.declared.counts.Kind.TheVariants.{Present}
 use Rattle.xfs_base.specs.Money.{value_from}
 use Rattle.xfs_mech.specs.declared.motion.Motion.{Motion}
-use Rattle.xfs_mech.specs.declared.motion.Motion.TheVariants.{Moved, Taken, Loaded}
+use Rattle.xfs_mech.specs.declared.motion.Motion.TheVariants.{Moved}
 use Rattle.xfs_journal.specs.declared.record.Rec.{Rec}
-use Rattle.xfs_journal.specs.declared.record.Rec.TheVariants.{Issue, Clear, Boot, Bind, Order, Done, Load}
-use Rattle.xfs_journal.specs.Journal.{record_at, live_at, live_of, is_place, token_of, nonce_text}
+use Rattle.xfs_journal.specs.declared.record.Rec.TheVariants.{Issue, Order}
+use Rattle.xfs_journal.specs.Journal.{record_at, live_at, is_place, token_of, nonce_text}
 use Rattle.xfs_token.specs.Token.{Parts, Genuine}
 use Rattle.xfs_token.specs.Amounts.{amount}
 

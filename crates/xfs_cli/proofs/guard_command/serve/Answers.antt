@@ -1,8 +1,6 @@
-use Rattle.std.proofs.Common.{◌≡◌, ◌∙◌, arith, refl, sym, ap, Some, Ok, List, ℕ}
-use Rattle.std.specs.declared.option.Option.{Option}
+use Rattle.std.proofs.Common.{◌∙◌, arith, refl, sym}
 use Rattle.xfs_guard.proofs.ContinueLaws.{Continues-same, Continues-trans}
-use Rattle.xfs_script.specs.Reading.{Reading, nothing_read}
-use Rattle.xfs_cli.proofs.LineLaws.{HasRead, Gives-start, HasRead-start, Gives-trans, read-line, read-end, read-stop, read-fault, read-quota}
+use Rattle.xfs_cli.proofs.LineLaws.{Gives-start, HasRead-start, Gives-trans, read-line, read-end, read-stop, read-fault, read-quota}
 use Rattle.xfs_cli.proofs.guard_command.serve.Goals as goal
 
 pub loop-init : goal.loop-init

@@ -1,10 +1,7 @@
-use Rattle.std.proofs.Common.{◌≡◌, ◌≤◌, List, ℕ, Some}
-use Rattle.xfs_base.specs.Causes.{IfTold}
+use Rattle.std.proofs.Common.{◌≡◌, ◌≤◌}
 use Rattle.xfs_guard.specs.declared.open.Open.TheVariants.{No}
 use Rattle.xfs_guard.specs.Continues.{Continues}
 use Rattle.xfs_script.specs.Reading.{Gives, nothing_read}
-use Rattle.xfs_script.specs.Answer.{bytes_ahead}
-use Rattle.xfs_cli.specs.GuardLines.{behind, AreLines}
 use Rattle.xfs_cli.proofs.LineLaws.{HasRead}
 use Rattle.xfs_cli.proofs.guard_command.serve.Given as goal
 

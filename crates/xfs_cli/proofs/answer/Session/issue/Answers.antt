@@ -1,6 +1,3 @@
-use Rattle.std.proofs.Common.{◌≡◌, subst, sym}
-use Rattle.xfs_guard.specs.View.{View}
-use Rattle.xfs_guard.specs.Continues.{Continues}
 use Rattle.xfs_guard.proofs.ContinueLaws.{Continues-same}
 use Rattle.xfs_cli.proofs.answer.Session.issue.Goals as goal
 

@@ -1,5 +1,5 @@
-use Rattle.std.proofs.Common.{◌≡◌, ◌≢◌, ◌∙◌, ◌+◌, ap, refl, sym, arith, length, Some, None}
-use Rattle.xfs_guard.specs.declared.open.Open.TheVariants.{No, Written}
+use Rattle.std.proofs.Common.{◌≡◌, ◌∙◌, ap, sym}
+use Rattle.xfs_guard.specs.declared.open.Open.TheVariants.{No}
 use Rattle.xfs_guard.specs.View.{View}
 use Rattle.xfs_journal.specs.declared.record.Rec.TheVariants.{Clear}
 use Rattle.xfs_guard.proofs.ContinueLaws.{Continues-record, Continues-same}

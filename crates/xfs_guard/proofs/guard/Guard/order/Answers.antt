@@ -1,8 +1,7 @@
-use Rattle.std.proofs.Common.{◌≡◌, ◌≢◌, ◌∙◌, ◌+◌, ap, refl, sym, arith, length, Some, None}
+use Rattle.std.proofs.Common.{◌≡◌, ◌∙◌, ap, sym, arith}
 use Rattle.xfs_guard.specs.declared.open.Open.TheVariants.{No, Written}
 use Rattle.xfs_guard.specs.View.{View}
 use Rattle.xfs_journal.specs.declared.record.Rec.TheVariants.{Order}
-use Rattle.xfs_guard.specs.Refusals.{order_refusal, asked_kind, asked_counts}
 use Rattle.xfs_guard.proofs.ContinueLaws.{Continues-record}
 use Rattle.xfs_guard.proofs.OrderLaws.{IsSound-asked}
 use Rattle.xfs_guard.proofs.guard.Guard.order.Goals as goal

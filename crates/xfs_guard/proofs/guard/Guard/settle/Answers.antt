@@ -1,6 +1,5 @@
-use Rattle.std.proofs.Common.{◌≡◌, ◌∙◌, ◌+◌, ap, refl, sym, arith, length}
+use Rattle.std.proofs.Common.{◌∙◌, sym}
 use Rattle.xfs_guard.specs.declared.open.Open.TheVariants.{No}
-use Rattle.xfs_guard.specs.View.{View}
 use Rattle.xfs_journal.specs.declared.record.Rec.TheVariants.{Done}
 use Rattle.xfs_guard.proofs.ContinueLaws.{Continues-record}
 use Rattle.xfs_guard.proofs.RecordLaws.{IsSound-done}

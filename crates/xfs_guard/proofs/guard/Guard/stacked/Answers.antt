@@ -1,4 +1,4 @@
-use Rattle.std.proofs.Common.{◌≡◌, ◌∙◌, sym}
+use Rattle.std.proofs.Common.{sym}
 use Rattle.xfs_guard.proofs.OrderLaws.{live-place, told-live}
 use Rattle.xfs_guard.proofs.guard.Guard.stacked.Goals as goal
 

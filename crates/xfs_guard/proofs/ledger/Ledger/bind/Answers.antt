@@ -1,4 +1,4 @@
-use Rattle.std.proofs.Common.{◌≡◌, ◌∙◌, ◌+◌, length, arith, refl, sym, subst, List, ℕ, zero, suc, [], ◌∷◌, slice_index}
+use Rattle.std.proofs.Common.{◌≡◌, ◌+◌, length, arith, refl, sym, subst, List, ℕ, zero, suc, [], ◌∷◌, slice_index}
 use Rattle.xfs_guard.specs.LedgerView.{LedgerView}
 use Rattle.xfs_guard.specs.Presented.{presented_in}
 use Rattle.xfs_guard.proofs.LedgerLaws.{IsRead-bind}

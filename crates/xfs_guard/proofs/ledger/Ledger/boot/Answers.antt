@@ -1,4 +1,4 @@
-use Rattle.std.proofs.Common.{◌≡◌, ◌∙◌, ◌+◌, length, refl, arith}
+use Rattle.std.proofs.Common.{◌≡◌, ◌+◌, length, refl, arith}
 use Rattle.xfs_journal.specs.declared.record.Rec.TheVariants.{Boot}
 use Rattle.xfs_guard.proofs.LedgerLaws.{IsRead-end}
 use Rattle.xfs_guard.proofs.ledger.Ledger.boot.Goals as goal

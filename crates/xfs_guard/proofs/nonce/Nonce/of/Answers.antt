@@ -1,4 +1,4 @@
-use Rattle.std.proofs.Common.{◌≡◌, ◌∙◌, ap, refl, arith, length}
+use Rattle.std.proofs.Common.{◌∙◌, ap, refl, arith, length}
 use Rattle.hex.proofs.HexLemmas.{length-encode_with}
 use Rattle.hex.specs.Hex.{upper_digits, encode_upper}
 use Rattle.xfs_guard.proofs.nonce.Nonce.of.Goals as goal
