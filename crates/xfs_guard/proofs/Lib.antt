@@ -1,5 +1,6 @@
 pub mod AgreesLaws
 pub mod BudgetLaws
+pub mod ClaimLaws
 pub mod ContinueLaws
 pub mod FollowsLaws
 pub mod LedgerLaws

@@ -1,5 +1,5 @@
 -- What the guard refuses: the first refusal that applies, in the stated order.
-use Rattle.std.specs.Prelude.{◌≡◌, ℕ, ◌-◌, ◌==◌, ◌<◌, ◌≤◌, nat_lt, List, [], ◌∷◌, length, take, sum, slice_set, not, is_none, Some, None, Ok, Err, if◌then◌else◌, ⊤}
+use Rattle.std.specs.Prelude.{◌≡◌, ◌≢◌, ◌⊎◌, ◌++◌, ℕ, ◌-◌, ◌==◌, ◌<◌, ◌≤◌, nat_lt, List, [], ◌∷◌, length, take, sum, slice_set, not, is_none, Some, None, Ok, Err, if◌then◌else◌, ⊤}
 use Rattle.std.specs.declared.option.Option.{Option}
 use Rattle.std.specs.declared.result.Result.{Result}
 use Rattle.std.specs.Option.{option_and_then, option_or, unwrap_or}
@@ -12,12 +12,14 @@ use Rattle.xfs_hmac.specs.Hmac.{hmac}
 use Rattle.xfs_token.specs.Token.{Parts, Spells}
 use Rattle.xfs_token.specs.Amounts.{amounts_of}
 use Rattle.xfs_token.specs.Fault.{IsFault}
-use Rattle.xfs_token.specs.declared.faults.TokenFault.TheVariants as Fault
+use Rattle.xfs_token.specs.declared.faults.TokenFault.{TokenFault}
+use Rattle.xfs_journal.specs.declared.record.Rec.TheVariants.{Bind}
+use Rattle.xfs_guard.specs.TokenDeny.{deny_of}
 use Rattle.xfs_journal.specs.declared.record.Rec.{Rec}
 use Rattle.xfs_journal.specs.Journal.{live_of, token_of, bind_of, last_mark}
 use Rattle.xfs_guard.specs.declared.nonce.Nonce.{Nonce}
 use Rattle.xfs_guard.specs.declared.deny.Deny.{Deny}
-use Rattle.xfs_guard.specs.declared.deny.Deny.TheVariants.{TooLong, KeyNoValue, Format, NoNonce, WrongNonce, WrongMac, NoAmounts, OtherBound, NotEmpty, Unbound, Nothing, OutletFull, Short, Memory}
+use Rattle.xfs_guard.specs.declared.deny.Deny.TheVariants.{NoNonce, WrongNonce, WrongMac, NoAmounts, OtherBound, NotEmpty, Unbound, Nothing, OutletFull, Short, Memory}
 use Rattle.xfs_guard.specs.declared.ask.Ask.{Ask}
 use Rattle.xfs_guard.specs.declared.ask.Ask.TheVariants.{Stack as AskStack, Present as AskPresent, Reject as AskReject, Retract as AskRetract}
 use Rattle.xfs_guard.specs.View.{View}
@@ -66,13 +68,20 @@ pub record IsRefused (v : View) (bytes : List ℕ) (refusal : Deny) : Type 0 whe
   pub spelled : Spells token bytes
   pub first : claim_refusal v bytes token ≡ Some refusal
 
--- why a token is refused: its bytes spell none, or the first check that it doesn't pass; want of memory aside
+-- the bytes spell no token, for this fault; or memory ran out
+pub record IsMisspelled (bytes : List ℕ) (refusal : Deny) : Type 0 where
+  pub fault : TokenFault
+  pub is : IsFault bytes fault
+  pub denied : refusal ≡ deny_of fault
+
+-- why a token is refused: its bytes spell none, or the first check that it doesn't pass
 abbrev pub TokenRefused : View → List ℕ → Deny → Type 0
-TokenRefused v bytes TooLong = IsFault bytes Fault.TooLong
-TokenRefused v bytes (KeyNoValue at) = IsFault bytes (Fault.KeyNoValue at)
-TokenRefused v bytes (Format at) = IsFault bytes (Fault.Format at)
-TokenRefused v bytes Memory = ⊤
-TokenRefused v bytes refusal = IsRefused v bytes refusal
+TokenRefused v bytes refusal = IsMisspelled bytes refusal ⊎ IsRefused v bytes refusal
+
+-- the token is bound where none was yet, and nothing else changes
+pub record Binds (old new : View) (bytes : List ℕ) (amounts : List (List ℕ × ℕ)) : Type 0 where
+  pub first : bound_token old.records ≡ None → new ≡ record old { records = old.records ++ Bind bytes ∷ []; bound = Some amounts }
+  pub again : bound_token old.records ≢ None → new ≡ old
 
 -- so many notes of one unit, which counts from 1
 abbrev pub notes_of : ℕ → ℕ → Counts

@@ -25,10 +25,10 @@ use xfs_mech::{Mechanism, Order as MechOrder, Outcome};
 /// at most one call of the mechanism that adds an entry, never both.
 #[derive(Drop)]
 pub struct Guard<M: Mechanism> {
-    alloc: Global,
-    mech: M,
-    ledger: Ledger,
-    key: [u8; 32],
+    pub(crate) alloc: Global,
+    pub(crate) mech: M,
+    pub(crate) ledger: Ledger,
+    pub(crate) key: [u8; 32],
     seed: [u8; 32],
     open_order: Open,
 }

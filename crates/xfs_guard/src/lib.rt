@@ -5,6 +5,7 @@
 mod ask;
 mod bound;
 mod budget;
+mod check;
 mod claim;
 mod deny;
 mod fail;

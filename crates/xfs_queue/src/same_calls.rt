@@ -41,95 +41,169 @@ struct Seen {
     is_due: bool,
 }
 
-// The calls are written once, for both queues.
-macro_rules! calls {
-    ($queue:ident) => {
-        impl $queue<u64> {
-            fn call_offer(&mut self, ticket: Ticket, line: Line, timeout: u32, now: u32) -> Answer {
-                let job = u64::from(now);
-                match self.offer(ticket.client, ticket.id, line, timeout, Moment(job), job) {
-                    Ok(()) => Answer::Nothing,
-                    Err((job, fault)) => Answer::Refused(job, fault),
-                }
-            }
+// The calls on the queue.
+impl Queue<u64> {
+    fn call_offer(&mut self, ticket: Ticket, line: Line, timeout: u32, now: u32) -> Answer {
+        let job = u64::from(now);
+        match self.offer(ticket.client, ticket.id, line, timeout, Moment(job), job) {
+            Ok(()) => Answer::Nothing,
+            Err((job, fault)) => Answer::Refused(job, fault),
+        }
+    }
 
-            fn call_start(&mut self, line: Line) -> Answer {
-                if self.running().is_some() {
-                    return Answer::Nothing;
-                }
-                match self.next(line) {
-                    Some(ticket) => {
-                        self.start(ticket);
-                        Answer::Named(ticket)
-                    }
-                    None => Answer::Nothing,
-                }
+    fn call_start(&mut self, line: Line) -> Answer {
+        if self.running().is_some() {
+            return Answer::Nothing;
+        }
+        match self.next(line) {
+            Some(ticket) => {
+                self.start(ticket);
+                Answer::Named(ticket)
             }
+            None => Answer::Nothing,
+        }
+    }
 
-            fn call_finish(&mut self, found: Option<Ticket>) -> Answer {
-                match found {
-                    Some(ticket) if self.holds(ticket.client, ticket.id) => {
-                        self.finish(ticket);
-                        Answer::Named(ticket)
-                    }
-                    _ => Answer::Nothing,
-                }
+    fn call_finish(&mut self, found: Option<Ticket>) -> Answer {
+        match found {
+            Some(ticket) if self.holds(ticket.client, ticket.id) => {
+                self.finish(ticket);
+                Answer::Named(ticket)
             }
+            _ => Answer::Nothing,
+        }
+    }
 
-            fn call_remove(&mut self) -> Answer {
-                match self.ready() {
-                    Some(ticket) => Answer::Removed(self.remove(ticket).job),
-                    None => Answer::Nothing,
-                }
+    fn call_remove(&mut self) -> Answer {
+        match self.ready() {
+            Some(ticket) => Answer::Removed(self.remove(ticket).job),
+            None => Answer::Nothing,
+        }
+    }
+
+    fn call_write(&mut self) -> Answer {
+        match self.running() {
+            Some(ticket) => {
+                *self.job(ticket) = 7;
+                Answer::Named(ticket)
             }
+            None => Answer::Nothing,
+        }
+    }
 
-            fn call_write(&mut self) -> Answer {
-                match self.running() {
-                    Some(ticket) => {
-                        *self.job(ticket) = 7;
-                        Answer::Named(ticket)
-                    }
-                    None => Answer::Nothing,
-                }
-            }
-
-            fn call(&mut self, call: Call, ticket: Ticket, ids: &Ids, now: u32) -> Answer {
-                match call {
-                    Call::Offer(line, timeout) => self.call_offer(ticket, line, timeout, now),
-                    Call::Start(line) => self.call_start(line),
-                    Call::Expire => self.call_finish(self.expire(Moment(u64::from(now)))),
-                    Call::Write => self.call_write(),
-                    Call::Finish => self.call_finish(self.running()),
-                    Call::Remove => self.call_remove(),
-                    Call::Cancel => Answer::Counted(self.cancel(ticket.client, ids)),
-                    Call::Leave => {
-                        self.drop_client(ticket.client);
-                        Answer::Nothing
-                    }
-                }
-            }
-
-            fn seen(&self, ticket: Ticket, now: u32) -> Seen {
-                let now = Moment(u64::from(now));
-                Seen {
-                    first: self.next(Line::Device),
-                    nonce: self.next(Line::Nonce),
-                    due: self.expire(now),
-                    ready: self.ready(),
-                    running: self.running(),
-                    stopped: self.stopped(),
-                    earliest: self.earliest(),
-                    marked: self.marked(ticket),
-                    is_due: self.due(ticket, now),
-                }
+    fn call(&mut self, call: Call, ticket: Ticket, ids: &Ids, now: u32) -> Answer {
+        match call {
+            Call::Offer(line, timeout) => self.call_offer(ticket, line, timeout, now),
+            Call::Start(line) => self.call_start(line),
+            Call::Expire => self.call_finish(self.expire(Moment(u64::from(now)))),
+            Call::Write => self.call_write(),
+            Call::Finish => self.call_finish(self.running()),
+            Call::Remove => self.call_remove(),
+            Call::Cancel => Answer::Counted(self.cancel(ticket.client, ids)),
+            Call::Leave => {
+                self.drop_client(ticket.client);
+                Answer::Nothing
             }
         }
-    };
+    }
+
+    fn seen(&self, ticket: Ticket, now: u32) -> Seen {
+        let now = Moment(u64::from(now));
+        Seen {
+            first: self.next(Line::Device),
+            nonce: self.next(Line::Nonce),
+            due: self.expire(now),
+            ready: self.ready(),
+            running: self.running(),
+            stopped: self.stopped(),
+            earliest: self.earliest(),
+            marked: self.marked(ticket),
+            is_due: self.due(ticket, now),
+        }
+    }
 }
 
-calls!(Queue);
+// The same on the plain queue.
+impl PlainQueue<u64> {
+    fn call_offer(&mut self, ticket: Ticket, line: Line, timeout: u32, now: u32) -> Answer {
+        let job = u64::from(now);
+        match self.offer(ticket.client, ticket.id, line, timeout, Moment(job), job) {
+            Ok(()) => Answer::Nothing,
+            Err((job, fault)) => Answer::Refused(job, fault),
+        }
+    }
 
-calls!(PlainQueue);
+    fn call_start(&mut self, line: Line) -> Answer {
+        if self.running().is_some() {
+            return Answer::Nothing;
+        }
+        match self.next(line) {
+            Some(ticket) => {
+                self.start(ticket);
+                Answer::Named(ticket)
+            }
+            None => Answer::Nothing,
+        }
+    }
+
+    fn call_finish(&mut self, found: Option<Ticket>) -> Answer {
+        match found {
+            Some(ticket) if self.holds(ticket.client, ticket.id) => {
+                self.finish(ticket);
+                Answer::Named(ticket)
+            }
+            _ => Answer::Nothing,
+        }
+    }
+
+    fn call_remove(&mut self) -> Answer {
+        match self.ready() {
+            Some(ticket) => Answer::Removed(self.remove(ticket).job),
+            None => Answer::Nothing,
+        }
+    }
+
+    fn call_write(&mut self) -> Answer {
+        match self.running() {
+            Some(ticket) => {
+                *self.job(ticket) = 7;
+                Answer::Named(ticket)
+            }
+            None => Answer::Nothing,
+        }
+    }
+
+    fn call(&mut self, call: Call, ticket: Ticket, ids: &Ids, now: u32) -> Answer {
+        match call {
+            Call::Offer(line, timeout) => self.call_offer(ticket, line, timeout, now),
+            Call::Start(line) => self.call_start(line),
+            Call::Expire => self.call_finish(self.expire(Moment(u64::from(now)))),
+            Call::Write => self.call_write(),
+            Call::Finish => self.call_finish(self.running()),
+            Call::Remove => self.call_remove(),
+            Call::Cancel => Answer::Counted(self.cancel(ticket.client, ids)),
+            Call::Leave => {
+                self.drop_client(ticket.client);
+                Answer::Nothing
+            }
+        }
+    }
+
+    fn seen(&self, ticket: Ticket, now: u32) -> Seen {
+        let now = Moment(u64::from(now));
+        Seen {
+            first: self.next(Line::Device),
+            nonce: self.next(Line::Nonce),
+            due: self.expire(now),
+            ready: self.ready(),
+            running: self.running(),
+            stopped: self.stopped(),
+            earliest: self.earliest(),
+            marked: self.marked(ticket),
+            is_due: self.due(ticket, now),
+        }
+    }
+}
 
 fn is_same(a: &Command<u64>, b: &Command<u64>) -> bool {
     a.ticket() == b.ticket()

@@ -1,0 +1,8 @@
+use Rattle.std.proofs.Common.{sym}
+use Rattle.xfs_guard.proofs.OrderLaws.{live-place, told-live}
+use Rattle.xfs_guard.proofs.guard.Guard.allow.Goals as goal
+
+pub passed-requires : goal.passed-requires
+passed-requires g c =
+    let live = live-place c.self.inside.ledger.records c.in-Some.nonce (sym c.in-Some.ensures) in
+    told-live _ live.0 c.self.invariant.sound live.1
