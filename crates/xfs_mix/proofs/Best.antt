@@ -1,13 +1,11 @@
 -- The best counts for an amount, when a few notes more of one unit are allowed.
-use Rattle.std.proofs.Common.{◌≡◌, ℕ, zero, suc, ◌+◌, ◌*◌, ◌-◌, ◌≤◌, ◌<◌, Bool, true, false, List, [], ◌∷◌, Option, None, Some, length, get_or, set, sum, slice_get, subst, leb, IfSome, ap, sym, refl, ◌∙◌, arith, rules, inl, inr, get_or-set_other, get_or-set_same}
-use Rattle.std.specs.Str.{bytes_eq}
+use Rattle.std.proofs.Common.{◌≡◌, ℕ, ◌+◌, ◌*◌, ◌-◌, ◌≤◌, ◌<◌, List, Option, None, Some, length, get_or, set, sum, leb, arith, inl, inr, get_or-set_other, get_or-set_same}
 use Rattle.std.proofs.lemmas.Bool.{cases_lt, cases_eq, cases_Bool, leb-true, leb-false}
 use Rattle.std.proofs.lemmas.List.{length-set}
 use Rattle.xfs_base.specs.declared.counts.Counts.{Counts}
 use Rattle.xfs_base.specs.declared.money.NoteKind.{NoteKind}
-use Rattle.xfs_base.specs.Counts.{at, LiesIn}
-use Rattle.xfs_base.specs.Money.{value, value_from}
-use Rattle.xfs_mix.specs.Mix.{IsMore, IsPassed, IsWithin, IsBest, IsTable, IsRaised, with_more, better_of}
+use Rattle.xfs_base.specs.Counts.{at}
+use Rattle.xfs_mix.specs.Mix.{IsMore, IsPassed, IsWithin, IsBest, IsTable, with_more, better_of}
 use Rattle.xfs_mix.proofs.Raised.{value_more, raised_set, raised_back, sum_set, in_list}
 
 -- counts within the old limits are within the new ones

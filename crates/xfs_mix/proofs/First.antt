@@ -1,15 +1,15 @@
 -- The table before any notes are allowed, and what it says once all are.
-use Rattle.std.proofs.Common.{◌≡◌, ℕ, zero, suc, ◌+◌, ◌*◌, ◌-◌, ◌≤◌, ◌<◌, Bool, true, false, cond, List, [], ◌∷◌, ◌++◌, Option, None, Some, length, get_or, slice_get, sum, replicate, subst, ap, sym, refl, ◌∙◌, arith, rules, inl, inr}
+use Rattle.std.proofs.Common.{◌≡◌, ℕ, zero, suc, ◌+◌, ◌*◌, ◌≤◌, ◌<◌, cond, List, [], ◌∷◌, ◌++◌, Option, None, Some, length, get_or, slice_get, replicate, sym, refl, arith, inl, inr}
 use Rattle.std.specs.Option.{option_map_or}
 use Rattle.std.specs.Str.{bytes_eq}
 use Rattle.std.proofs.Math.Nat.{mul-le-mul_left}
-use Rattle.std.proofs.lemmas.Bool.{cases_lt, cases_eq, cases_Bool}
+use Rattle.std.proofs.lemmas.Bool.{cases_lt, cases_Bool}
 use Rattle.std.proofs.lemmas.List.{length-append, get_or_append_left, get_or_push}
 use Rattle.xfs_base.specs.declared.counts.Counts.{Counts}
 use Rattle.xfs_base.specs.declared.money.NoteKind.{NoteKind}
-use Rattle.xfs_base.specs.Counts.{at, LiesIn}
-use Rattle.xfs_base.specs.Money.{value, value_at, value_from}
-use Rattle.xfs_mix.specs.Mix.{IsWithin, IsBest, IsTable, IsMix, IsLeast, IsBestMix, usable, none_yet}
+use Rattle.xfs_base.specs.Counts.{at}
+use Rattle.xfs_base.specs.Money.{value, value_from}
+use Rattle.xfs_mix.specs.Mix.{IsWithin, IsBest, IsTable, IsMix, IsBestMix, usable, none_yet}
 
 zeros : (n w : ℕ) → get_or {A = ℕ} (replicate n 0) w 0 ≡ 0
 zeros zero w = refl

@@ -1,7 +1,7 @@
 -- A few notes more of one unit: what the counts are worth, and how many they are.
-use Rattle.std.proofs.Common.{◌≡◌, ℕ, zero, suc, ◌+◌, ◌*◌, ◌-◌, ◌≤◌, ◌<◌, Bool, true, false, cond, List, [], ◌∷◌, Option, None, Some, length, get_or, set, sum, slice_get, subst, ap, sym, refl, ◌∙◌, arith, rules, inl, inr, get_or-set_other, get_or-set_same}
+use Rattle.std.proofs.Common.{◌≡◌, ℕ, zero, suc, ◌+◌, ◌*◌, ◌-◌, ◌≤◌, ◌<◌, true, List, [], ◌∷◌, Some, length, get_or, set, sum, slice_get, subst, sym, refl, arith, inl, inr, get_or-set_other, get_or-set_same}
 use Rattle.std.specs.Str.{bytes_eq}
-use Rattle.std.proofs.lemmas.Bool.{cases_Bool, cases_lt}
+use Rattle.std.proofs.lemmas.Bool.{cases_lt}
 use Rattle.std.proofs.lemmas.List.Sums.{sum_by-set}
 use Rattle.std.proofs.lemmas.List.{get_or_past}
 use Rattle.xfs_base.specs.declared.money.NoteKind.{NoteKind}

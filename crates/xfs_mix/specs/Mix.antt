@@ -1,5 +1,5 @@
 -- A mix for an amount is counts of notes that lie within what is there, are of one currency, and are worth exactly the amount; it is least where no other has fewer notes.
-use Rattle.std.specs.Prelude.{◌≡◌, ℕ, replicate, Bool, true, ◌+◌, ◌*◌, ◌≤◌, ◌<◌, List, length, sum, MatchOption, All, None, Some, slice_get, slice_index, slice_index_or, slice_set, nat_le, if◌then◌else◌}
+use Rattle.std.specs.Prelude.{◌≡◌, ℕ, replicate, true, ◌+◌, ◌*◌, ◌≤◌, ◌<◌, List, length, sum, MatchOption, None, Some, slice_get, slice_index, slice_index_or, slice_set, nat_le, if◌then◌else◌}
 use Rattle.std.specs.declared.option.Option.{Option}
 use Rattle.std.specs.Option.{option_map_or}
 use Rattle.std.specs.Str.{bytes_eq}

@@ -1,7 +1,7 @@
-use Rattle.std.proofs.Common.{refl, rules, arith, ap, length, get_or, set, None, subst, sym, ℕ, ◌≡◌, ◌<◌, ◌*◌, ◌+◌, ◌-◌}
+use Rattle.std.proofs.Common.{refl, arith, length, get_or, subst, ℕ, ◌≡◌, ◌<◌, ◌+◌, ◌-◌}
 use Rattle.std.proofs.lemmas.Option.{slice_get-get_or}
 use Rattle.std.proofs.lemmas.List.{length-set}
-use Rattle.xfs_mix.specs.Mix.{IsMore, IsPassed, with_more, better_of}
+use Rattle.xfs_mix.specs.Mix.{IsMore, IsPassed, with_more}
 use Rattle.xfs_mix.proofs.Raised.{raised_set}
 use Rattle.xfs_mix.proofs.Best.{passed_one, passed_all}
 use Rattle.xfs_mix.proofs.mix.add_notes.Goals as goal

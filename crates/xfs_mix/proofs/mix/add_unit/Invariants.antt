@@ -1,4 +1,4 @@
-use Rattle.std.proofs.Common.{◌≡◌, ℕ, ◌-◌, ◌≤◌, length, get_or}
+use Rattle.std.proofs.Common.{◌≡◌, ℕ, ◌-◌, ◌≤◌, length}
 use Rattle.xfs_base.specs.Counts.{at}
 use Rattle.xfs_mix.specs.Mix.{IsTable}
 use Rattle.xfs_mix.proofs.mix.add_unit.Given as goal

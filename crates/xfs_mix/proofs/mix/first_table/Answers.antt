@@ -1,4 +1,4 @@
-use Rattle.std.proofs.Common.{refl, arith, rules}
+use Rattle.std.proofs.Common.{refl, arith}
 use Rattle.xfs_mix.proofs.First.{table_one}
 use Rattle.xfs_mix.proofs.mix.first_table.Goals as goal
 

@@ -1,4 +1,4 @@
-use Rattle.std.proofs.Common.{◌≡◌, ◌+◌, ◌≤◌, length}
+use Rattle.std.proofs.Common.{◌≡◌, ◌≤◌, length}
 use Rattle.xfs_mix.specs.Mix.{IsTable, none_yet}
 use Rattle.xfs_mix.proofs.mix.first_table.Given as goal
 
