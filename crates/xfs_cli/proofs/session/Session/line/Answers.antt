@@ -1,5 +1,5 @@
 use Rattle.xfs_guard.proofs.ContinueLaws.{Continues-same}
-use Rattle.xfs_cli.proofs.answer.Session.line.Goals as goal
+use Rattle.xfs_cli.proofs.session.Session.line.Goals as goal
 
 pub returns-in-Err-NotALine-clause-continues : goal.returns-in-Err-NotALine-clause-continues
 returns-in-Err-NotALine-clause-continues g c = Continues-same _
