@@ -1,8 +1,7 @@
 -- What a guard keeps when the mechanism reports a taking or a loading.
-use Rattle.std.proofs.Common.{◌≡◌, ◌≢◌, ℕ, ◌≤◌, ◌<◌, Bool, true, false, List, [], ◌∷◌, ◌++◌, length, None, Some, refl, sym, ◌∙◌, arith}
+use Rattle.std.proofs.Common.{◌≡◌, ◌≢◌, ℕ, ◌≤◌, ◌<◌, Bool, true, false, List, [], ◌∷◌, ◌++◌, length, None, Some, refl, sym, arith}
 use Rattle.std.specs.Prelude.{⊤}
 use Rattle.std.specs.declared.option.Option.{Option}
-use Rattle.std.specs.List.{AllByRecursion}
 use Rattle.std.proofs.lemmas.List.{append-nil}
 use Rattle.std.proofs.lemmas.List.Elements.{Contains-append_left}
 use Rattle.xfs_base.specs.Causes.{IfTold}
@@ -31,7 +30,6 @@ use Rattle.xfs_guard.specs.Orders.{kind_unacted}
 use Rattle.xfs_guard.specs.Kept.{HasRoom}
 use Rattle.xfs_guard.specs.Sound.{Stands, HasActed, Ties, IsSound}
 use Rattle.xfs_guard.specs.Continues.{Leads, Continues}
-use Rattle.xfs_guard.proofs.AgreesLaws.{numbers_within}
 use Rattle.xfs_guard.proofs.FollowsLaws.{Follows-same}
 use Rattle.xfs_guard.proofs.WithinLaws.{Within-quiet, shown-motion}
 
