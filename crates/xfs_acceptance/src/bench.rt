@@ -13,8 +13,8 @@ use xfs_cli::{Bench, run};
 use xfs_guard::Guard;
 use xfs_mech::{Fault, Mechanism, SilentMech, SimMech, places_fit};
 
-// EUR 10, EUR 20, EUR 50 and USD 20.
-fn units(rt: &impl Abort) -> UnitTable {
+/// EUR 10, EUR 20, EUR 50 and USD 20.
+pub fn units(rt: &impl Abort) -> UnitTable {
     let eur = Currency::new(b"EUR").expect(rt, "EUR");
     let usd = Currency::new(b"USD").expect(rt, "USD");
     let kinds = [(eur, 10), (eur, 20), (eur, 50), (usd, 20)];
@@ -22,7 +22,8 @@ fn units(rt: &impl Abort) -> UnitTable {
     UnitTable::new(&kinds).expect(rt, "four units")
 }
 
-fn places() -> Places {
+/// 100 notes in each unit.
+pub fn places() -> Places {
     let none = Counts([0; 8]);
     Places {
         units: Counts([100, 100, 100, 100, 0, 0, 0, 0]),

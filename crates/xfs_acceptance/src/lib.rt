@@ -9,3 +9,5 @@ mod guard_calls;
 mod guard_rows;
 #[cfg(test)]
 mod guard_scripts;
+#[cfg(test)]
+mod teller;
