@@ -1,8 +1,9 @@
 use Rattle.std.proofs.Common.{◌≡◌, []}
 use Rattle.xfs_token.specs.Amounts.{IsAmounts}
 use Rattle.xfs_script.specs.Fields.{parts}
-use Rattle.xfs_script.proofs.AmountParts.{read_onto, parts_left, size_left}
-use Rattle.xfs_script.proofs.amount.read_amounts.Given as goal
+use Rattle.xfs_token.proofs.AmountsBehind.{read_onto}
+use Rattle.xfs_script.proofs.Parts.{parts_left, size_left}
+use Rattle.xfs_script.proofs.amounts.read_amounts.Given as goal
 
 abbrev pub invariant-loop-rest : goal.invariant-loop-rest
 invariant-loop-rest l = record {

@@ -1,8 +1,11 @@
 use Rattle.std.proofs.Common.{List, ℕ, ap, sym, subst, ◌∙◌}
 use Rattle.xfs_token.specs.Amounts.{IsAmounts}
 use Rattle.xfs_script.specs.Fields.{SpellsAmounts}
-use Rattle.xfs_script.proofs.AmountParts.{read_onto, parts_left, one_added, none_added, none_there, none_spelled, some_spelled, more_valid, IfNone_from}
-use Rattle.xfs_script.proofs.amount.read_amounts.Goals as goal
+use Rattle.xfs_token.proofs.AmountReading.{IfNone_from}
+use Rattle.xfs_token.proofs.AmountsBehind.{read_onto, more_valid}
+use Rattle.xfs_script.proofs.Parts.{parts_left}
+use Rattle.xfs_script.proofs.AmountParts.{one_added, none_added, none_there, none_spelled, some_spelled}
+use Rattle.xfs_script.proofs.amounts.read_amounts.Goals as goal
 
 pub returns-in_err-currency-2-clause-none : goal.returns-in_err-currency-2-clause-none
 returns-in_err-currency-2-clause-none c =
