@@ -3,7 +3,7 @@ ghost use Rattle.std.specs.Prelude.{MatchResult, ◌≡◌, ◌≢◌, ◌⊎◌
 ghost use Rattle.xfs_base.specs.Causes.{IfTold, Rose};
 ghost use Rattle.xfs_disk.specs.Disk.{LeavesOnly};
 ghost use Rattle.xfs_journal.specs.Image.{HasUnit, Stands, framed, front, size};
-ghost use Rattle.xfs_journal.specs.JournalView.{passes, refusal, IsPossible, StandsForEither};
+ghost use Rattle.xfs_journal.specs.JournalView.{passes, refusal, IsPossible, HasPossible, StandsForEither};
 ghost use Rattle.xfs_journal.specs.declared.faults.AppendFault.TheVariants.{Disk as DiskFault, Memory as NoMemory};
 ghost use Rattle.xfs_journal.specs.Paging.{CeasesAt, IsOldOrShort, IsQuiet};
 ghost use Rattle.xfs_journal.specs.declared.faults.MountFault.TheVariants.{NotJournal, Disk as MountDisk, Memory as MountMemory};
@@ -132,9 +132,11 @@ impl<D: Disk> Journal<D> {
         }
     }
 
-    /// The disk, as it is.
+    /// The disk, as it is. A crash of it leaves the list, or the list with the record in doubt.
     pub fn end(self) -> D
-        ensures { result ≡ self.disk }
+        ensures disk { result ≡ self.disk }
+        ensures settled { self.shut ≡ false → self.in_doubt ≡ None }
+        ensures possible { IfTold (D.held result) (λ _. (c : List ℕ) → D.images result c → HasPossible self.records self.in_doubt c) }
     {
         self.disk
     }
@@ -165,6 +167,7 @@ impl<D: Disk> Journal<D> {
 
         // A disk that tells has one of the two lists, so it isn't refused as no journal, nor written: a crash at any
         // moment of the call leaves what it might have left before, and after `Ok` the list.
+        ensures possible { IfTold (D.held self.old.disk) (λ _. (c : List ℕ) → D.images self.old.disk c → HasPossible self.old.records self.old.in_doubt c) }
         ensures stands { OnOk result (IfTold (D.held self.old.disk) (λ all. Stands all self.new.records)) }
         ensures not_journal { IfErr result (λ f. (at : ℕ) → f ≡ NotJournal at → D.held self.old.disk ≡ None) }
         ensures any_moment { IfTold (D.held self.old.disk) (λ _. IsQuiet D.held D.images D.moment D.images_since D.faults self.old.disk self.new.disk) }

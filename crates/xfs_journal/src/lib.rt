@@ -23,3 +23,6 @@ pub use read::read_body;
 pub use record::Rec;
 pub use text::Text;
 pub use xfs_base::Kind;
+
+#[cfg(test)]
+mod tests;
