@@ -7,7 +7,7 @@ use xfs_mech::Fault;
 
 // A script and its answers, a stroke between two lines. N stands for the answer to `issue`, T for
 // the answer to a `mint` that gave a token.
-const SCRIPTS: [(&str, &str); 24] = [
+const SCRIPTS: [(&str, &str); 26] = [
     (
         "issue/mint 50.00EUR/dispense @ unit3:1/present/dispense @ unit1:1/clear/dispense @ unit1:1",
         "N/T/moved unit3:1/moved unit3:1/refused invalidToken left 0/cleared/refused noCommandNonce record 8",
@@ -25,6 +25,16 @@ const SCRIPTS: [(&str, &str); 24] = [
     (
         "issue/mint 50.00EUR/dispense @ unit2:1/dispense @ unit1:1/dispense @ unit1:2/present/dispense @ unit1:1",
         "N/T/moved unit2:1/moved unit1:1/moved unit1:2/moved unit1:3,unit2:1/refused invalidToken left 0",
+    ),
+    // The same with the notes taken between them.
+    (
+        "issue/mint 50.00EUR/dispense @ unit2:1/present/take/dispense @ unit1:3/present/take/dispense @ unit1:1",
+        "N/T/moved unit2:1/moved unit2:1/taken unit2:1/moved unit1:3/moved unit1:3/taken unit1:3/refused invalidToken left 0",
+    ),
+    // Units are filled within their limits.
+    (
+        "take/fill unit1 9901/fill unit1 9900/fill unit1 1/fill unit5 1/fill unit4 10/show",
+        "taken none/refused storageFull/filled/refused storageFull/refused invalidUnit/filled/unit1 10000 0 0 0 0 0/unit2 100 0 0 0 0 0/unit3 100 0 0 0 0 0/unit4 110 0 0 0 0 0",
     ),
     // Exactly the amount, and one note over.
     (
@@ -106,7 +116,10 @@ const SCRIPTS: [(&str, &str); 24] = [
         "issue/mint 30EUR/dispense @ unit1:1,unit2:1/clear/present/reject/show",
         "N/T/moved unit1:1,unit2:1/cleared/refused noCommandNonce record 8/moved unit1:1,unit2:1/unit1 99 0 0 0 0 1/unit2 99 0 0 0 0 1/unit3 100 0 0 0 0 0/unit4 100 0 0 0 0 0",
     ),
-    ("show", "unit1 100 0 0 0 0 0/unit2 100 0 0 0 0 0/unit3 100 0 0 0 0 0/unit4 100 0 0 0 0 0"),
+    (
+        "show",
+        "unit1 100 0 0 0 0 0/unit2 100 0 0 0 0 0/unit3 100 0 0 0 0 0/unit4 100 0 0 0 0 0",
+    ),
     ("# nothing//issue", "N"),
 ];
 
@@ -127,7 +140,7 @@ fn scripts_are_answered_over_mechanisms_that_tell_and_that_do_not(
 }
 
 // Scripts over a mechanism that fails in the call named.
-const FAULTS: [(u64, u32, u32, &str, &str); 6] = [
+const FAULTS: [(u64, u32, u32, &str, &str); 8] = [
     (
         2,
         1,
@@ -171,6 +184,20 @@ const FAULTS: [(u64, u32, u32, &str, &str); 6] = [
         "issue/mint 50.00EUR/dispense @ unit3:1/present/retract/retract",
         "N/T/moved unit3:1/moved unit3:1/fault moved none/moved unit3:1",
     ),
+    (
+        3,
+        1,
+        0,
+        "issue/mint 50.00EUR/dispense @ unit3:1/present/take/take/take",
+        "N/T/moved unit3:1/moved unit3:1/fault taken none/taken unit3:1/taken none",
+    ),
+    (
+        1,
+        1,
+        1,
+        "fill unit2 5/fill unit2 5/show",
+        "fault/filled/unit1 100 0 0 0 0 0/unit2 105 0 0 0 0 0/unit3 100 0 0 0 0 0/unit4 100 0 0 0 0 0",
+    ),
 ];
 
 #[test]
@@ -193,8 +220,11 @@ fn a_mechanism_that_fails_moves_no_more_than_it_tells(rt: HostRuntime) -> Result
 
 // The token of 50.00EUR for the first nonce. Its HMAC is that of Python's hmac and hashlib under
 // the key of 32 bytes 0x0b, as is that of the token without amounts.
-const FIFTY: &str = "NONCE=E56A5D4028BD86530000000000000001,TOKENFORMAT=1,TOKENLENGTH=0164,DISPENSE1=50.00EUR,HMACSHA256=3D5C9E3C4712EA6A5C3803CA4CB0E54958CB4C8778ACBBB26FEA1F6935956AC2";
-const NO_AMOUNTS: &str = "NONCE=E56A5D4028BD86530000000000000001,TOKENFORMAT=1,TOKENLENGTH=0149,X=1,HMACSHA256=6279EAA1D0544585C78F72484EA02972119CE58DFF80843F08113755574D27D1";
+const FIFTY: &str =
+    "NONCE=E56A5D4028BD86530000000000000001,TOKENFORMAT=1,TOKENLENGTH=0164,DISPENSE1=50.00EUR,HMACSHA256=3D5C9E3C4712EA6A5C3803CA4CB0E54958CB4C8778ACBBB26FEA1F6935956AC2";
+
+const NO_AMOUNTS: &str =
+    "NONCE=E56A5D4028BD86530000000000000001,TOKENFORMAT=1,TOKENLENGTH=0149,X=1,HMACSHA256=6279EAA1D0544585C78F72484EA02972119CE58DFF80843F08113755574D27D1";
 
 #[test]
 fn tokens_may_stand_in_the_line(rt: HostRuntime) -> Result<(), Fail> {
@@ -205,7 +235,11 @@ fn tokens_may_stand_in_the_line(rt: HostRuntime) -> Result<(), Fail> {
     let rows: [(&str, &[u8], &str); 7] = [
         ("issue/", FIFTY.as_bytes(), "N/moved unit3:1"),
         ("issue/", &wrong, "N/refused invalidTokenHMAC"),
-        ("issue/", NO_AMOUNTS.as_bytes(), "N/refused invalidTokenFormat"),
+        (
+            "issue/",
+            NO_AMOUNTS.as_bytes(),
+            "N/refused invalidTokenFormat",
+        ),
         ("issue/", &long, "N/refused notEnoughSpace"),
         ("", FIFTY.as_bytes(), "refused noCommandNonce record 1"),
         (

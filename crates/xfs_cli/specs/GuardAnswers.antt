@@ -1,17 +1,18 @@
--- What the lines of `guard` are answered: the notes that were moved, and the six places of each unit.
+-- What the lines of `guard` are answered: the notes that were moved or taken, and the six places of each unit.
 use Rattle.std.specs.Prelude.{ℕ, zero, suc, ◌+◌, ◌==◌, if◌then◌else◌, Bool, true, false, List, [], ◌++◌, codes, decimal}
 use Rattle.xfs_base.specs.Counts.{at}
 use Rattle.xfs_base.specs.declared.counts.Places.{Places}
 use Rattle.xfs_mech.specs.declared.motion.Outcome.{Outcome}
 use Rattle.xfs_script.specs.Counts.{counts_text}
 
--- `moved` and the counts, behind `fault` where the mechanism failed
-abbrev pub moved_words : Bool → List ℕ
-moved_words true = codes "fault moved "
-moved_words false = codes "moved "
+-- `fault` where the mechanism failed
+abbrev pub fault_word : Bool → List ℕ
+fault_word true = codes "fault "
+fault_word false = []
 
-abbrev pub moved_text : Outcome → List ℕ
-moved_text outcome = moved_words outcome.failed ++ counts_text outcome.moved
+-- the verb, which is `moved` or `taken`, and the counts of the notes
+abbrev pub outcome_text : List ℕ → Outcome → List ℕ
+outcome_text verb outcome = fault_word outcome.failed ++ verb ++ codes " " ++ counts_text outcome.moved
 
 -- a count behind a space
 abbrev pub count_text : ℕ → List ℕ

@@ -3,11 +3,10 @@ use Rattle.std.specs.Prelude.{ℕ, zero, suc, ◌<◌, ◌≤◌, List, length, 
 use Rattle.xfs_script.specs.Guard.{IsGuardLine}
 use Rattle.xfs_script.specs.Lines.{first_line, rest}
 use Rattle.xfs_script.specs.declared.guard_line.GuardLine.{GuardLine}
-use Rattle.xfs_script.specs.declared.guard_line.GuardLine.TheVariants.{Take, Restart}
+use Rattle.xfs_script.specs.declared.guard_line.GuardLine.TheVariants.{Restart}
 
 -- the verbs that are built
 abbrev pub IsBuilt : GuardLine → Type 0
-IsBuilt Take = ⊥
 IsBuilt Restart = ⊥
 IsBuilt verb = ⊤
 

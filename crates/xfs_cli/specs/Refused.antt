@@ -8,7 +8,7 @@ use Rattle.xfs_guard.specs.declared.deny.Deny.{Deny}
 use Rattle.xfs_guard.specs.declared.deny.Deny.TheVariants.{TooLong, KeyNoValue, Format, NoNonce, WrongNonce, WrongMac, NoAmounts, OtherBound, NotEmpty, OverBudget, Unbound, Nothing, OutletFull, Short, Memory}
 use Rattle.xfs_mix.specs.declared.asked.CountFault.TheVariants.{Empty, TooMany, Short as ShortCount}
 use Rattle.xfs_cli.specs.declared.refused.Refusal.{Refusal}
-use Rattle.xfs_cli.specs.declared.refused.Refusal.TheVariants.{NoToken, Counts, Deny as Denied}
+use Rattle.xfs_cli.specs.declared.refused.Refusal.TheVariants.{NoToken, NoUnit, StorageFull, Counts, Deny as Denied}
 
 -- the code for a refusal of the guard; want of memory has none
 abbrev pub deny_code : Deny → Option (List ℕ)
@@ -28,9 +28,11 @@ deny_code (OutletFull notes) = Some (code_text Code.SequenceError)
 deny_code (Short unit) = Some (codes "notDispensable")
 deny_code Memory = None
 
--- the code for a refusal: no token, counts that can't be dispensed, or the guard's
+-- the code for a refusal: no token, a unit or a count that isn't, counts that can't be dispensed, or the guard's
 abbrev pub refusal_code : Refusal → Option (List ℕ)
 refusal_code NoToken = Some (code_text Code.AuthorisationRequired)
+refusal_code NoUnit = Some (codes "invalidUnit")
+refusal_code StorageFull = Some (codes "storageFull")
 refusal_code (Counts Empty) = Some (codes "invalidDenomination")
 refusal_code (Counts TooMany) = Some (codes "tooManyItems")
 refusal_code (Counts (ShortCount unit)) = Some (codes "notDispensable")

@@ -17,6 +17,10 @@ use xfs_mix::CountFault;
 pub enum Refusal {
     /// The line names the last token, and none was minted.
     NoToken,
+    /// No unit of the table has this number.
+    NoUnit,
+    /// A limit of the notes in a unit, or of those of a unit over all places, would be passed.
+    StorageFull,
     /// The counts can't be dispensed.
     Counts(CountFault),
     /// The guard refuses.
@@ -69,6 +73,8 @@ fn code_of(refusal: &Refusal) -> Option<&'static str>
 {
     Some(match refusal {
         Refusal::NoToken => Code::AuthorisationRequired.text(),
+        Refusal::NoUnit => "invalidUnit",
+        Refusal::StorageFull => "storageFull",
         Refusal::Counts(CountFault::Empty) => "invalidDenomination",
         Refusal::Counts(CountFault::TooMany) => "tooManyItems",
         Refusal::Counts(CountFault::Short { .. }) => "notDispensable",

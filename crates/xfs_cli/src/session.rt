@@ -3,11 +3,12 @@
 ghost use Rattle.std.specs.Prelude.{◌≡◌, ◌≢◌, Err, OnErr};
 ghost use Rattle.xfs_guard.specs.declared.open.Open.TheVariants.{No};
 ghost use Rattle.xfs_guard.specs.Continues.{Continues};
+ghost use Rattle.xfs_mech.specs.Mechanism.{CanLoad};
 ghost use Rattle.xfs_guard.specs.Refusals.{Answers, IsAsk, order_refusal};
 ghost use Rattle.xfs_cli.specs.GuardLines.{IsBuilt};
 
 use crate::refused::{Refusal, refusal_text};
-use crate::text::{joined, moved_text, show_text};
+use crate::text::{joined, outcome_text, show_text};
 use std::alloc::{AllocError, AllocFailed, Global};
 use xfs_base::{Bytes, Counts, Memory};
 use xfs_guard::{Ask, Deny, Guard, Permit};
@@ -51,6 +52,8 @@ impl<M: Mechanism> Session<M> {
             GuardLine::Present => answered(self.moved(Ask::Present)),
             GuardLine::Reject => answered(self.moved(Ask::Reject)),
             GuardLine::Retract => answered(self.moved(Ask::Retract)),
+            GuardLine::Take => answered(self.take()),
+            GuardLine::Fill { unit, count } => answered(self.fill(*unit, *count)),
             GuardLine::Show => answered(self.show()),
             _ => Err(AnswerFault::NotBuilt),
         }
@@ -96,6 +99,37 @@ impl<M: Mechanism> Session<M> {
         text
     }
 
+    // The customer takes what lies in the outlet.
+    fn take(&mut self) -> Result<Vec<u8>, Memory>
+        requires { self.old.guard.open_order ≡ No }
+        ensures continues { Continues self.old.guard self.new.guard }
+        ensures none { self.new.guard.open_order ≡ No }
+    {
+        match self.guard.taken() {
+            Ok(outcome) => outcome_text(self.alloc, b"taken", &outcome),
+            Err(_) => Err(Memory),
+        }
+    }
+
+    // The operator adds notes to a unit, and it is written down.
+    fn fill(&mut self, unit: u8, count: u32) -> Result<Vec<u8>, Memory>
+        requires { self.old.guard.open_order ≡ No }
+        ensures continues { Continues self.old.guard self.new.guard }
+        ensures none { self.new.guard.open_order ≡ No }
+    {
+        if unit == 0 || unit > self.guard.units().len() {
+            return refusal_text(self.alloc, &Refusal::NoUnit);
+        }
+        if !self.guard.room(unit, count) {
+            return refusal_text(self.alloc, &Refusal::StorageFull);
+        }
+        match loaded(&mut self.guard, unit, count) {
+            Ok(false) => joined(self.alloc, b"filled", b""),
+            Ok(true) => joined(self.alloc, b"fault", b""),
+            Err(deny) => refusal_text(self.alloc, &Refusal::Deny(deny)),
+        }
+    }
+
     fn show(&mut self) -> Result<Vec<u8>, Memory>
         ensures same { self.new.guard ≡ self.old.guard }
     {
@@ -110,7 +144,7 @@ impl<M: Mechanism> Session<M> {
         ensures none { self.new.guard.open_order ≡ No }
     {
         match carried(&mut self.guard, ask) {
-            Ok(outcome) => moved_text(self.alloc, &outcome),
+            Ok(outcome) => outcome_text(self.alloc, b"moved", &outcome),
             Err(deny) => refusal_text(self.alloc, &Refusal::Deny(deny)),
         }
     }
@@ -125,7 +159,7 @@ impl<M: Mechanism> Session<M> {
             Err(refusal) => return refusal_text(self.alloc, &refusal),
         };
         match stacked(&mut self.guard, permit.issue, counts) {
-            Ok(outcome) => moved_text(self.alloc, &outcome),
+            Ok(outcome) => outcome_text(self.alloc, b"moved", &outcome),
             Err(deny) => refusal_text(self.alloc, &Refusal::Deny(deny)),
         }
     }
@@ -179,6 +213,21 @@ fn carried<M: Mechanism>(guard: &mut Guard<M>, ask: Ask) -> Result<Outcome, Deny
     let outcome = guard.act();
     guard.settle();
     Ok(outcome)
+}
+
+// Loads notes and writes it down. Whether the mechanism failed; nothing is written then.
+fn loaded<M: Mechanism>(guard: &mut Guard<M>, unit: u8, count: u32) -> Result<bool, Deny>
+    requires none { guard.old.open_order ≡ No }
+    requires fits { CanLoad guard.old.units guard.old.places unit count }
+    ensures continues { Continues guard.old guard.new }
+    ensures none { guard.new.open_order ≡ No }
+{
+    let outcome = guard.load(unit, count)?;
+    if outcome.failed {
+        return Ok(true);
+    }
+    guard.note_load(unit, count)?;
+    Ok(false)
 }
 
 // Stacks the notes unit by unit. The first order that is refused or fails ends it.

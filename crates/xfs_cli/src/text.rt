@@ -1,7 +1,7 @@
 //! Texts of answers.
 
 ghost use Rattle.std.specs.Prelude.{◌≡◌, ◌<◌, ◌≤◌, ◌++◌, IfOk, OnOk};
-ghost use Rattle.xfs_cli.specs.GuardAnswers.{moved_text, show_text, unit_line, unit_counts, count_text, separator};
+ghost use Rattle.xfs_cli.specs.GuardAnswers.{outcome_text, show_text, unit_line, unit_counts, count_text, separator};
 
 use itoa::Buffer;
 use std::alloc::{AllocError, Global};
@@ -19,16 +19,19 @@ pub fn joined(alloc: Global, first: &[u8], second: &[u8]) -> Result<Vec<u8>, Mem
     Ok(text)
 }
 
-/// What an order moved, and whether it failed.
-pub fn moved_text(alloc: Global, outcome: &Outcome) -> Result<Vec<u8>, Memory>
-    ensures { IfOk result (λ text. text.items ≡ moved_text outcome.now) }
+/// What the mechanism did by this verb, and whether it failed.
+pub fn outcome_text(alloc: Global, verb: &[u8], outcome: &Outcome) -> Result<Vec<u8>, Memory>
+    ensures { IfOk result (λ text. text.items ≡ outcome_text verb.now outcome.now) }
 {
     let counts = counts_text(alloc, &outcome.moved)?;
+    let mut text = Vec::new(alloc);
     if outcome.failed {
-        joined(alloc, b"fault moved ", &counts)
-    } else {
-        joined(alloc, b"moved ", &counts)
+        text.extend_from_slice(b"fault ")?;
     }
+    text.extend_from_slice(verb)?;
+    text.push(b' ')?;
+    text.extend_from_slice(&counts)?;
+    Ok(text)
 }
 
 /// The six places of each unit, a line a unit.

@@ -24,5 +24,7 @@ returns-in_default-clause-not_built g c = λ is. not_built c.args.verb.now (reco
   present = c.in_default.not-Present;
   reject = c.in_default.not-Reject;
   retract = c.in_default.not-Retract;
+  take = c.in_default.not-Take;
+  fill = c.in_default.not-Fill;
   show = c.in_default.not-Show;
 })
