@@ -130,14 +130,14 @@ answer-none r left e = go (has_line_feed (bytes_within r left)) (nat_le 67108864
     go false false false has below some e = sym (all-within r left below) ∙ empty (bytes_within r left) some
 
 -- the bytes to come, where the source tells them
-ahead-some : (r : Reading) (now : Option (List ℕ)) (text : List ℕ) → bytes_ahead r now ≡ Some text → (left : List ℕ) × (now ≡ Some left) × (r.pending ++ left ≡ text)
+pub ahead-some : (r : Reading) (now : Option (List ℕ)) (text : List ℕ) → bytes_ahead r now ≡ Some text → (left : List ℕ) × (now ≡ Some left) × (r.pending ++ left ≡ text)
 ahead-some r None text e = cc
 ahead-some r (Some left) text e = (left, refl, some-same e)
   where
     some-same : Some (r.pending ++ left) ≡ Some text → r.pending ++ left ≡ text
     some-same e = cc
 
-told : (P : List ℕ → Type 0) (now : Option (List ℕ)) (left : List ℕ) → now ≡ Some left → IfTold now P → P left
+pub told : (P : List ℕ → Type 0) (now : Option (List ℕ)) (left : List ℕ) → now ≡ Some left → IfTold now P → P left
 told P now left is h = rw is at h
 
 -- one more line

@@ -1,2 +1,4 @@
+pub mod Answers
 pub mod GuardLines
 pub mod Run
+pub mod TokenAnswers

@@ -4,9 +4,14 @@
 mod answer;
 mod bench;
 mod guard_command;
+mod last_line;
 mod say;
+mod token_answer;
+mod token_command;
 mod top;
+mod words;
 
 pub use bench::{Bench, Ended};
 pub use guard_command::guard;
+pub use token_command::token;
 pub use top::run;
