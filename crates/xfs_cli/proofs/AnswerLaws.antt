@@ -13,8 +13,8 @@ use Rattle.xfs_script.specs.declared.line.LineFault.{LineFault}
 use Rattle.xfs_script.specs.declared.line.LineFault.TheVariants.{Read, Quota, TooLong, Memory}
 use Rattle.xfs_cli.specs.GuardLines.{behind}
 use Rattle.xfs_cli.specs.Run.{status_of}
-use Rattle.xfs_cli.specs.Answers.{lines_text, first_lines, AnswersThen, AnswersEach, AnswersFirst, WritesAll, WritesUntil, WritesFront, SaysAnswer, SaysFront, fault_line, last_line, no_line_text}
-use Rattle.xfs_cli.proofs.LineLaws.{ahead-some, told, answer-line, answer-long, answer-none}
+use Rattle.xfs_cli.specs.Answers.{lines_text, first_lines, AnswersThen, AnswersEach, AnswersFirst, WritesAll, WritesUntil, WritesFront, SaysAnswer, SaysFront, NoLineEnds, fault_line, last_line, no_line_text}
+use Rattle.xfs_cli.proofs.LineLaws.{ahead-some, told, answer-line, answer-long, answer-none, read-limit}
 
 -- how so many lines of a text were read, answered and written
 pub record HasAnswered {S : Type 0} (Answers : S → List ℕ → List (List ℕ) → S → Type 0) (start state : S) (r : Reading) (now old new : Option (List ℕ)) (text : List ℕ) : Type 0 where
@@ -116,14 +116,15 @@ answered-front A start state next r s (Some text) y z old new newer line h reads
     }
 
 -- the run ends between two lines, and the sink took a front of the last line
-until-status : {S : Type 0} (IsLine : List ℕ → Type 0) (A : S → List ℕ → List (List ℕ) → S → Type 0) (start state : S) (status : ℕ) (r : Reading) (y old new newer : Option (List ℕ)) (text : List ℕ)
-    → HasAnswered A start state r y old new text → (status ≡ 4 → ¬ (IsLine (first_line (behind r.handed text)))) → TookFront new newer (lines_text (last_line status r.handed))
-    → WritesUntil IsLine A start status old newer text
-until-status IsLine A start state status r y old new newer text h none front = record {
+until-status : {S : Type 0} (IsLine : List ℕ → Type 0) (A : S → List ℕ → List (List ℕ) → S → Type 0) (start state : S) (status : ℕ) (r : Reading) (y z old new newer : Option (List ℕ)) (text : List ℕ)
+    → HasAnswered A start state r y old new text → (status ≡ 4 → ¬ (IsLine (first_line (behind r.handed text)))) → (status ≡ 10 → IfTold z (NoLineEnds r.handed text)) → TookFront new newer (lines_text (last_line status r.handed))
+    → WritesUntil IsLine A start status z old newer text
+until-status IsLine A start state status r y z old new newer text h none limit front = record {
   many = r.handed;
   output = h.output;
   answers = record { last = state; each = h.each };
   none = none;
+  limit = limit;
   front = front.many;
   written = Appends-both old new newer (lines_text h.output) (take front.many (lines_text (last_line status r.handed))) h.written front.taken;
 }
@@ -131,36 +132,36 @@ until-status IsLine A start state status r y old new newer text h none front = r
 -- a line that is none
 pub answered-no_line : {S : Type 0} (IsLine : List ℕ → Type 0) (A : S → List ℕ → List (List ℕ) → S → Type 0) (start state : S) (status number : ℕ) (r s : Reading) (x y z old new newer : Option (List ℕ)) (line : Line)
     → IfTold x (HasAnswered A start state r y old new) → ReadsLine r s y z (Ok (Some line)) → ¬ (IsLine line.text) → status ≡ 4 → number ≡ line.number
-    → TookFront new newer (lines_text (no_line_text number ∷ [])) → IfTold x (WritesUntil IsLine A start status old newer)
+    → TookFront new newer (lines_text (no_line_text number ∷ [])) → IfTold x (WritesUntil IsLine A start status z old newer)
 answered-no_line IsLine A start state status number r s None y z old new newer line h reads is four same front = tt
 answered-no_line IsLine A start state status number r s (Some text) y z old new newer line h reads is four same front =
     let a = ahead-some r y (behind r.handed text) h.ahead in
     let first = answer-line r a.0 line (told _ y a.0 a.1 reads.answer) in
     let numbered : number ≡ r.handed + 1 = same ∙ reads.number.0 in
-    until-status IsLine A start state status r y old new newer text h (λ four. rw (← a.2, ← first) is) (rw (four, ← numbered) front)
+    until-status IsLine A start state status r y z old new newer text h (λ four. rw (← a.2, ← first) is) (λ ten. absurd (omega (arith, four, ten))) (rw (four, ← numbered) front)
 
 -- want of memory at a line
-pub answered-memory : {S : Type 0} (IsLine : List ℕ → Type 0) (A : S → List ℕ → List (List ℕ) → S → Type 0) (start state : S) (r : Reading) (x y old new newer : Option (List ℕ))
-    → IfTold x (HasAnswered A start state r y old new) → newer ≡ new → IfTold x (WritesUntil IsLine A start 8 old newer)
-answered-memory IsLine A start state r None y old new newer h same = tt
-answered-memory IsLine A start state r (Some text) y old new newer h same =
-    until-status IsLine A start state 8 r y old new newer text h (λ four. absurd (omega (arith, four))) (record { many = 0; taken = rw same (Appends-none new) })
+pub answered-memory : {S : Type 0} (IsLine : List ℕ → Type 0) (A : S → List ℕ → List (List ℕ) → S → Type 0) (start state : S) (r : Reading) (x y z old new newer : Option (List ℕ))
+    → IfTold x (HasAnswered A start state r y old new) → newer ≡ new → IfTold x (WritesUntil IsLine A start 8 z old newer)
+answered-memory IsLine A start state r None y z old new newer h same = tt
+answered-memory IsLine A start state r (Some text) y z old new newer h same =
+    until-status IsLine A start state 8 r y z old new newer text h (λ four. absurd (omega (arith, four))) (λ ten. absurd (omega (arith, ten))) (record { many = 0; taken = rw same (Appends-none new) })
 
 -- a fault of the input
 pub answered-fault : {S : Type 0} (IsLine : List ℕ → Type 0) (A : S → List ℕ → List (List ℕ) → S → Type 0) (start state : S) (status : ℕ) (r s : Reading) (x y z old new newer : Option (List ℕ)) (fault : LineFault)
     → ((l : List ℕ) → IsLine l → length l ≤ 70000)
     → IfTold x (HasAnswered A start state r y old new) → ReadsLine r s y z (Err fault) → status ≡ status_of fault
-    → TookFront new newer (lines_text (fault_line fault)) → IfTold x (WritesUntil IsLine A start status old newer)
+    → TookFront new newer (lines_text (fault_line fault)) → IfTold x (WritesUntil IsLine A start status z old newer)
 answered-fault IsLine A start state status r s None y z old new newer fault short h reads is front = tt
 answered-fault IsLine A start state status r s (Some text) y z old new newer Read short h reads is front =
-    rw is (until-status IsLine A start state 3 r y old new newer text h (λ four. absurd (omega (arith, four))) front)
+    rw is (until-status IsLine A start state 3 r y z old new newer text h (λ four. absurd (omega (arith, four))) (λ ten. absurd (omega (arith, ten))) front)
 answered-fault IsLine A start state status r s (Some text) y z old new newer Quota short h reads is front =
-    rw is (until-status IsLine A start state 10 r y old new newer text h (λ four. absurd (omega (arith, four))) front)
+    rw is (until-status IsLine A start state 10 r y z old new newer text h (λ four. absurd (omega (arith, four))) (λ ten. read-limit r s y z r.handed text h.ahead reads) front)
 answered-fault IsLine A start state status r s (Some text) y z old new newer Memory short h reads is front =
-    rw is (until-status IsLine A start state 8 r y old new newer text h (λ four. absurd (omega (arith, four))) front)
+    rw is (until-status IsLine A start state 8 r y z old new newer text h (λ four. absurd (omega (arith, four))) (λ ten. absurd (omega (arith, ten))) front)
 answered-fault IsLine A start state status r s (Some text) y z old new newer (TooLong n) short h reads is front =
     let a = ahead-some r y (behind r.handed text) h.ahead in
     let long = answer-long r a.0 n (told _ y a.0 a.1 reads.answer) in
     let number : n ≡ r.handed + 1 = reads.number in
     let none : ¬ (IsLine (first_line (behind r.handed text))) = λ line. (let l = rw a.2 at long in let e = short _ line in omega (arith, l, e)) in
-    rw is (until-status IsLine A start state 4 r y old new newer text h (λ four. none) (rw (← number) front))
+    rw is (until-status IsLine A start state 4 r y z old new newer text h (λ four. none) (λ ten. absurd (omega (arith, ten))) (rw (← number) front))

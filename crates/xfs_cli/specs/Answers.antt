@@ -1,9 +1,9 @@
 -- What a command writes: the answer to one line of its input after another, each line of the output ended by a line feed.
-use Rattle.std.specs.Prelude.{◌≡◌, ◌≢◌, ℕ, zero, suc, ◌+◌, ◌==◌, List, [], ◌∷◌, ◌++◌, take, codes, decimal, if◌then◌else◌, None, Some}
+use Rattle.std.specs.Prelude.{◌≡◌, ℕ, zero, suc, ◌+◌, ◌==◌, false, List, [], ◌∷◌, ◌++◌, take, codes, decimal, if◌then◌else◌, None, Some}
 use Rattle.std.specs.declared.option.Option.{Option}
 use Rattle.std.specs.Io.KnownBytes.{Appends}
-use Rattle.xfs_base.specs.Causes.{TookFront}
-use Rattle.xfs_script.specs.Lines.{first_line}
+use Rattle.xfs_base.specs.Causes.{IfTold, TookFront}
+use Rattle.xfs_script.specs.Lines.{has_line_feed, first_line}
 use Rattle.xfs_script.specs.declared.line.LineFault.{LineFault}
 use Rattle.xfs_script.specs.declared.line.LineFault.TheVariants.{Read, Quota, TooLong, Memory}
 use Rattle.xfs_cli.specs.GuardLines.{behind}
@@ -76,12 +76,19 @@ fault_line Quota = codes "input: too long" ∷ []
 fault_line (TooLong number) = no_line_text number ∷ []
 fault_line Memory = []
 
--- the sink took the answers to the lines before the end, and a front of the last line; status 4 is that of a line that is none
-pub record WritesUntil {S : Type 0} (IsLine : List ℕ → Type 0) (Answers : S → List ℕ → List (List ℕ) → S → Type 0) (start : S) (status : ℕ) (before after : Option (List ℕ)) (text : List ℕ) : Type 0 where
+-- between the first lines of a text and the bytes that are left no further line ends
+pub record NoLineEnds (many : ℕ) (text left : List ℕ) : Type 0 where
+  pub front : List ℕ
+  pub split : behind many text ≡ front ++ left
+  pub unended : has_line_feed front ≡ false
+
+-- the sink took the answers to the lines before the end, and a front of the last line; the end is at status 4 a line that is none, and at status 10 that no line ends before the bytes that are left
+pub record WritesUntil {S : Type 0} (IsLine : List ℕ → Type 0) (Answers : S → List ℕ → List (List ℕ) → S → Type 0) (start : S) (status : ℕ) (left before after : Option (List ℕ)) (text : List ℕ) : Type 0 where
   pub many : ℕ
   pub output : List (List ℕ)
   pub answers : AnswersFirst Answers start many text output
   pub none : status ≡ 4 → ¬ (IsLine (first_line (behind many text)))
+  pub limit : status ≡ 10 → IfTold left (NoLineEnds many text)
   pub front : ℕ
   pub written : Appends before after (lines_text output ++ take front (lines_text (last_line status many)))
 

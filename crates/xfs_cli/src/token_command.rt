@@ -39,7 +39,7 @@ pub fn token<S: Source, K: Sink, M: Mechanism>(
 
     ensures answers { result.status ≡ 0 → IfTold (S.left source.old) (WritesAll AnswersToken bench.key (K.held sink.old) (K.held sink.new)) }
     ensures front { result.status ≡ 5 → IfTold (S.left source.old) (WritesFront AnswersToken bench.key (K.held sink.old) (K.held sink.new)) }
-    ensures until { result.status ≢ 0 → result.status ≢ 2 → result.status ≢ 5 → IfTold (S.left source.old) (WritesUntil IsLineOfToken AnswersToken bench.key result.status (K.held sink.old) (K.held sink.new)) }
+    ensures until { result.status ≢ 0 → result.status ≢ 2 → result.status ≢ 5 → IfTold (S.left source.old) (WritesUntil IsLineOfToken AnswersToken bench.key result.status (S.left source.new) (K.held sink.old) (K.held sink.new)) }
 {
     let Bench {
         mech,
@@ -69,7 +69,7 @@ fn serve<S: Source, K: Sink>(alloc: Global, key: &[u8; 32], source: &mut S, sink
     ensures write { result ≡ 5 → Rose (K.faults sink.old) (K.faults sink.new) }
     ensures answers { result ≡ 0 → IfTold (S.left source.old) (WritesAll AnswersToken key.now (K.held sink.old) (K.held sink.new)) }
     ensures front { result ≡ 5 → IfTold (S.left source.old) (WritesFront AnswersToken key.now (K.held sink.old) (K.held sink.new)) }
-    ensures until { result ≢ 0 → result ≢ 5 → IfTold (S.left source.old) (WritesUntil IsLineOfToken AnswersToken key.now result (K.held sink.old) (K.held sink.new)) }
+    ensures until { result ≢ 0 → result ≢ 5 → IfTold (S.left source.old) (WritesUntil IsLineOfToken AnswersToken key.now result (S.left source.new) (K.held sink.old) (K.held sink.new)) }
 {
     let mut lines = Lines::new(alloc);
     for _ in 0..u64::MAX {

@@ -49,7 +49,7 @@ pub fn run<S: Source, K: Sink, M: Mechanism>(
     // The lines of `token`, and what is written: their answers, and at most one last line.
     ensures answers { IsToken words.now → result.status ≡ 0 → IfTold (S.left source.old) (WritesAll AnswersToken bench.key (K.held sink.old) (K.held sink.new)) }
     ensures front { IsToken words.now → result.status ≡ 5 → IfTold (S.left source.old) (WritesFront AnswersToken bench.key (K.held sink.old) (K.held sink.new)) }
-    ensures until { IsToken words.now → result.status ≢ 0 → result.status ≢ 5 → IfTold (S.left source.old) (WritesUntil IsLineOfToken AnswersToken bench.key result.status (K.held sink.old) (K.held sink.new)) }
+    ensures until { IsToken words.now → result.status ≢ 0 → result.status ≢ 5 → IfTold (S.left source.old) (WritesUntil IsLineOfToken AnswersToken bench.key result.status (S.left source.new) (K.held sink.old) (K.held sink.new)) }
     ensures same { IsToken words.now → result.mech ≡ bench.mech }
     ensures records { IsToken words.now → result.records.items ≡ [] }
 {

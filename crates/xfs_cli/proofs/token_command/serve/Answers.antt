@@ -1,7 +1,7 @@
-use Rattle.std.proofs.Common.{◌∙◌, arith, refl, sym}
+use Rattle.std.proofs.Common.{◌∙◌, ap, arith, refl, sym}
 use Rattle.xfs_cli.specs.TokenAnswers.{AnswersToken, IsLineOfToken}
 use Rattle.xfs_cli.proofs.LineLaws.{Gives-trans, read-quota}
-use Rattle.xfs_cli.proofs.AnswerLaws.{answered-line, answered-all, answered-front, answered-no_line, answered-fault}
+use Rattle.xfs_cli.proofs.AnswerLaws.{answered-line, answered-all, answered-front, answered-no_line, answered-memory, answered-fault}
 use Rattle.xfs_cli.proofs.token_command.serve.Goals as goal
 
 pub returns-in-Ok-None-clause-answers : goal.returns-in-Ok-None-clause-answers
@@ -15,6 +15,10 @@ returns-in-NotALine-clause-until g c = λ not_zero not_five.
 pub returns-in-Write-clause-front : goal.returns-in-Write-clause-front
 returns-in-Write-clause-front g c = λ five.
     answered-front AnswersToken _ _ _ _ _ _ _ _ _ _ _ c.in-Ok-Some.line c.loop.invariant.answered (rw c.in-Ok-Some.field-0-is at c.in-Ok-Some.ensures.reads) (c.in-Write.ensures.write refl)
+
+pub returns-in-Memory-clause-until : goal.returns-in-Memory-clause-until
+returns-in-Memory-clause-until g c = λ not_zero not_five.
+    answered-memory IsLineOfToken AnswersToken _ _ _ _ _ _ _ _ _ c.loop.invariant.answered (ap g.K.Sink.held (c.in-Memory.ensures.same_memory refl))
 
 pub returns-in-Err-clause-quota : goal.returns-in-Err-clause-quota
 returns-in-Err-clause-quota g c = λ ten. read-quota _ _ _ _ _ c.in-Err.fault c.loop.invariant.gives c.in-Err.ensures.reads (sym c.faulty.ensures.status ∙ ten)
