@@ -7,3 +7,5 @@ mod bench;
 mod guard_calls;
 #[cfg(test)]
 mod guard_rows;
+#[cfg(test)]
+mod token_rows;
