@@ -11,3 +11,5 @@ mod guard_rows;
 mod guard_scripts;
 #[cfg(test)]
 mod teller;
+#[cfg(test)]
+mod token_rows;

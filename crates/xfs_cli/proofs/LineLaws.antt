@@ -6,6 +6,8 @@ use Rattle.std.specs.declared.option.Option.{Option}
 use Rattle.std.specs.declared.result.Result.{Result}
 use Rattle.std.proofs.lemmas.Bool.{ltb-true, ltb-false, leb-false}
 use Rattle.std.proofs.lemmas.List.{take_all, take-append-le}
+use Rattle.std.proofs.Math.Seq.{take-append_seam}
+use Rattle.std.specs.Io.KnownBytes.{Consumes}
 use Rattle.xfs_script.specs.Lines.{has_line_feed, first_line, line_end, without_return, rest}
 use Rattle.xfs_script.specs.Reading.{Reading, Gives, nothing_read}
 use Rattle.xfs_base.specs.Causes.{IfTold}
@@ -15,6 +17,7 @@ use Rattle.xfs_script.specs.declared.line.LineFault.{LineFault}
 use Rattle.xfs_script.specs.declared.line.LineFault.TheVariants.{Read, Quota, TooLong, Memory}
 use Rattle.xfs_script.proofs.Blocks.{Consumes-append, Consumes-same}
 use Rattle.xfs_cli.specs.GuardLines.{IsLine, AreLines, behind}
+use Rattle.xfs_cli.specs.Answers.{NoLineEnds}
 use Rattle.xfs_cli.specs.Run.{AllLines, StopsAtLine, GaveAll, status_of}
 use Rattle.std.proofs.lemmas.Bool.{cases_lt}
 use Rattle.std.proofs.Common.{inl, inr, add-one}
@@ -105,6 +108,24 @@ answer-long r left n e = go (has_line_feed (bytes_within r left)) (nat_le 671088
     go false false true has below e = rw (← all-within r left below) (line_answer-long _ n _ e)
     go false false false has below e = cc
 
+-- where the limit is reached, no line ends within it
+pub answer-quota : (r : Reading) (left : List ℕ) → answer_of r left ≡ Err Quota → has_line_feed (bytes_within r left) ≡ false
+unfolding answer_of
+answer-quota r left e = go (has_line_feed (bytes_within r left)) refl e
+  where
+    no-quota : (n : ℕ) (l : List ℕ) → line_answer n l ≡ Err Quota → ⊥
+    no-quota n l e = short (nat_le (length l) 70000) e
+      where
+        short : (t : Bool) → long_or n l t ≡ Err Quota → ⊥
+        short true e = cc
+        short false e = cc
+
+    go : (a : Bool) → has_line_feed (bytes_within r left) ≡ a
+        → due_on r (bytes_within r left) a (nat_le 67108864 (r.given + length left)) (nat_lt 0 (length (bytes_within r left))) ≡ Err Quota
+        → has_line_feed (bytes_within r left) ≡ false
+    go true has e = absurd (no-quota _ _ e)
+    go false has e = has
+
 -- where there is no line, no bytes are to come
 pub answer-none : (r : Reading) (left : List ℕ) → answer_of r left ≡ Ok None → r.pending ++ left ≡ []
 unfolding answer_of
@@ -130,14 +151,14 @@ answer-none r left e = go (has_line_feed (bytes_within r left)) (nat_le 67108864
     go false false false has below some e = sym (all-within r left below) ∙ empty (bytes_within r left) some
 
 -- the bytes to come, where the source tells them
-ahead-some : (r : Reading) (now : Option (List ℕ)) (text : List ℕ) → bytes_ahead r now ≡ Some text → (left : List ℕ) × (now ≡ Some left) × (r.pending ++ left ≡ text)
+pub ahead-some : (r : Reading) (now : Option (List ℕ)) (text : List ℕ) → bytes_ahead r now ≡ Some text → (left : List ℕ) × (now ≡ Some left) × (r.pending ++ left ≡ text)
 ahead-some r None text e = cc
 ahead-some r (Some left) text e = (left, refl, some-same e)
   where
     some-same : Some (r.pending ++ left) ≡ Some text → r.pending ++ left ≡ text
     some-same e = cc
 
-told : (P : List ℕ → Type 0) (now : Option (List ℕ)) (left : List ℕ) → now ≡ Some left → IfTold now P → P left
+pub told : (P : List ℕ → Type 0) (now : Option (List ℕ)) (left : List ℕ) → now ≡ Some left → IfTold now P → P left
 told P now left is h = rw is at h
 
 -- one more line
@@ -197,3 +218,31 @@ Gives-start r x is = rw is (record { bytes = []; given = refl; taken = Consumes-
 pub HasRead-start : (r : Reading) (x : Option (List ℕ)) → r ≡ nothing_read → HasRead r x x
 HasRead-start r None is = tt
 HasRead-start r (Some text) is = rw is (refl, λ i lt. absurd (omega arith))
+
+-- where the limit is reached, no line ends before the bytes that are left
+pub read-limit : (r s : Reading) (y z : Option (List ℕ)) (many : ℕ) (text : List ℕ) → bytes_ahead r y ≡ Some (behind many text) → ReadsLine r s y z (Err Quota) → IfTold z (NoLineEnds many text)
+read-limit r s y z many text ahead reads = go z (told (λ left. Consumes (Some left) z reads.gives.bytes) y a.0 a.1 taken)
+  where
+    a : (left : List ℕ) × (y ≡ Some left) × (r.pending ++ left ≡ behind many text)
+    a = ahead-some r y (behind many text) ahead
+
+    taken : IfTold y (λ left. Consumes (Some left) z reads.gives.bytes)
+    taken = told_of y reads.gives.taken
+      where
+        told_of : (y : Option (List ℕ)) → Consumes y z reads.gives.bytes → IfTold y (λ left. Consumes (Some left) z reads.gives.bytes)
+        told_of None h = tt
+        told_of (Some left) h = h
+
+    within : (left : List ℕ) → a.0 ≡ reads.gives.bytes ++ left → bytes_within r a.0 ≡ r.pending ++ reads.gives.bytes
+    within left is =
+        let q = reads.quota refl in
+        let room : 67108864 - r.given ≡ length reads.gives.bytes = (let n = reads.gives.given in omega (arith, q, n)) in
+        rw (room, is) (ap (λ l. r.pending ++ l) (take-append_seam reads.gives.bytes left))
+
+    go : (z : Option (List ℕ)) → Consumes (Some a.0) z reads.gives.bytes → IfTold z (NoLineEnds many text)
+    go None h = tt
+    go (Some left) h = record {
+      front = r.pending ++ reads.gives.bytes;
+      split = sym a.2 ∙ (ap (λ l. r.pending ++ l) h ∙ sym (append_assoc r.pending reads.gives.bytes left));
+      unended = rw (← within left h) (answer-quota r a.0 (told _ y a.0 a.1 reads.answer));
+    }

@@ -1,5 +1,5 @@
 -- What a run of the program keeps, the words that it takes, and how it ends.
-use Rattle.std.specs.Prelude.{◌≡◌, ℕ, List, [], ◌∷◌, String, string_bytes, codes, length}
+use Rattle.std.specs.Prelude.{◌≡◌, ◌⊎◌, ℕ, List, [], ◌∷◌, String, string_bytes, codes, length}
 use Rattle.std.specs.declared.option.Option.{Option}
 use Rattle.std.specs.declared.alloc.Global.{Global}
 use Rattle.std.specs.Io.KnownBytes.{Consumes}
@@ -15,11 +15,21 @@ use Rattle.xfs_script.specs.declared.line.LineFault.{LineFault}
 use Rattle.xfs_script.specs.declared.line.LineFault.TheVariants.{Read, Quota, TooLong, Memory}
 use Rattle.xfs_cli.specs.GuardLines.{IsLine, behind, AreLines}
 
--- the words are the one word of a command that is built
+-- the words are this one word
+abbrev pub IsWord : List ℕ → List (String Global) → Type 0
+IsWord word [] = ⊥
+IsWord word (w ∷ []) = string_bytes w ≡ word
+IsWord word (w ∷ x ∷ ws) = ⊥
+
 abbrev pub IsGuard : List (String Global) → Type 0
-IsGuard [] = ⊥
-IsGuard (w ∷ []) = string_bytes w ≡ codes "guard"
-IsGuard (w ∷ x ∷ ws) = ⊥
+IsGuard words = IsWord (codes "guard") words
+
+abbrev pub IsToken : List (String Global) → Type 0
+IsToken words = IsWord (codes "token") words
+
+-- the words are of the table of commands
+abbrev pub IsCommand : List (String Global) → Type 0
+IsCommand words = IsGuard words ⊎ IsToken words
 
 -- the headline: what was put out is within the tokens, and follows the state at entry
 pub record Upholds (key : List ℕ) (units : List NoteKind) (places : Places) (records : List Rec) (motions : List Motion) (places' : Places) : Type 0 where

@@ -7,7 +7,7 @@ ghost use Rattle.xfs_guard.specs.Continues.{Continues};
 ghost use Rattle.xfs_cli.specs.GuardLines.{IsLine};
 ghost use Rattle.xfs_cli.specs.declared.answer.Turn.TheVariants.{More};
 
-use crate::say::{SayFault, say};
+use crate::say::{SayFault, say_line};
 use crate::session::{AnswerFault, Session};
 use xfs_base::Sink;
 use xfs_mech::Mechanism;
@@ -41,7 +41,7 @@ impl<M: Mechanism> Session<M> {
         };
         match self.answer(&verb) {
             Ok(None) => Turn::More,
-            Ok(Some(text)) => match say(self.alloc, sink, &text, b"") {
+            Ok(Some(text)) => match say_line(sink, text) {
                 Ok(()) => Turn::More,
                 Err(SayFault::Write) => Turn::Write,
                 Err(SayFault::Memory) => Turn::Memory,

@@ -7,18 +7,19 @@ ghost use Rattle.xfs_journal.specs.Journal.{Numbered};
 ghost use Rattle.xfs_guard.specs.declared.open.Open.TheVariants.{No};
 ghost use Rattle.xfs_guard.specs.Continues.{Continues};
 ghost use Rattle.xfs_guard.specs.Sound.{IsSound};
-ghost use Rattle.xfs_cli.specs.Run.{status_of, IsGuard, Upholds, AllLines, StopsAtLine, GaveAll};
+ghost use Rattle.xfs_cli.specs.Run.{IsGuard, Upholds, AllLines, StopsAtLine, GaveAll};
 
 use crate::answer::Turn;
 use crate::bench::{Bench, Ended};
-use crate::say::say;
+use crate::last_line::{faulty, not_a_line, usage};
 use crate::session::Session;
+use crate::words::is_word;
 use std::alloc::Global;
 use xfs_base::{Sink, Source};
 use xfs_guard::Guard;
 use xfs_journal::Rec;
 use xfs_mech::Mechanism;
-use xfs_script::{LineFault, Lines};
+use xfs_script::Lines;
 
 /// Reads guard lines and answers each of them, before the next line is read.
 pub fn guard<S: Source, K: Sink, M: Mechanism>(
@@ -48,8 +49,8 @@ pub fn guard<S: Source, K: Sink, M: Mechanism>(
         seed,
         units,
     } = bench;
-    if !is_guard(words) {
-        let _ = say(alloc, sink, b"usage: xfs guard", b"");
+    if !is_word(words, "guard") {
+        usage(alloc, sink);
         return Ended {
             status: 2,
             mech,
@@ -77,15 +78,6 @@ pub fn guard<S: Source, K: Sink, M: Mechanism>(
             mech: fail.mech,
             records: Vec::new(alloc),
         },
-    }
-}
-
-fn is_guard(words: &[String]) -> bool
-    ensures { IsTrue result ↔ IsGuard words.now }
-{
-    match words {
-        [word] => word.as_str() == "guard",
-        _ => false,
     }
 }
 
@@ -136,29 +128,4 @@ fn serve<S: Source, K: Sink, M: Mechanism>(
     }
     // No input has so many lines.
     8
-}
-
-// The status of a fault of the input, once its line was written.
-fn faulty<K: Sink>(alloc: Global, sink: &mut K, fault: LineFault) -> u8
-    ensures { result ≡ status_of fault }
-{
-    match fault {
-        LineFault::Read => 3,
-        LineFault::Quota => {
-            let _ = say(alloc, sink, b"input: too long", b"");
-            10
-        }
-        LineFault::TooLong { number } => not_a_line(alloc, sink, number),
-        LineFault::Memory => 8,
-    }
-}
-
-// A last line that can't be written leaves the status as it is.
-fn not_a_line<K: Sink>(alloc: Global, sink: &mut K, number: u64) -> u8
-    ensures { result ≡ 4 }
-{
-    if let Ok(text) = format!(in alloc; "line {number}: not a script line") {
-        let _ = say(alloc, sink, text.as_bytes(), b"");
-    }
-    4
 }

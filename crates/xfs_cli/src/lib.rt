@@ -4,12 +4,17 @@
 mod answer;
 mod bench;
 mod guard_command;
+mod last_line;
 mod refused;
 mod say;
 mod session;
 mod text;
+mod token_answer;
+mod token_command;
 mod top;
+mod words;
 
 pub use bench::{Bench, Ended};
 pub use guard_command::guard;
+pub use token_command::token;
 pub use top::run;

@@ -1,7 +1,9 @@
 //! Lines of the output.
 
-ghost use Rattle.std.specs.Prelude.{◌≡◌, ◌≤◌, Err};
-ghost use Rattle.xfs_base.specs.Causes.{Rose, HasCause};
+ghost use Rattle.std.specs.Prelude.{◌≡◌, ◌≤◌, ◌++◌, ◌∷◌, [], Err, OnOk};
+ghost use Rattle.std.specs.Io.KnownBytes.{Appends};
+ghost use Rattle.xfs_base.specs.Causes.{Rose, TookFront};
+ghost use Rattle.xfs_cli.specs.Answers.{lines_text};
 
 use std::alloc::{AllocError, AllocFailed, Global};
 use xfs_base::{Sink, write_all};
@@ -42,6 +44,9 @@ pub fn say<K: Sink>(
 ) -> Result<(), SayFault>
     ensures later { K.faults sink.old ≤ K.faults sink.new }
     ensures cause { result ≡ Err SayFault.Write → Rose (K.faults sink.old) (K.faults sink.new) }
+    ensures ok { OnOk result (Appends (K.held sink.old) (K.held sink.new) (lines_text ((first.now ++ second.now) ∷ []))) }
+    ensures front { TookFront (K.held sink.old) (K.held sink.new) (lines_text ((first.now ++ second.now) ∷ [])) }
+    ensures memory { result ≡ Err SayFault.Memory → sink.new ≡ sink.old }
 {
     let mut line = Vec::with_capacity(
         alloc,
@@ -49,6 +54,17 @@ pub fn say<K: Sink>(
     )?;
     line.extend_from_slice(first)?;
     line.extend_from_slice(second)?;
+    say_line(sink, line)
+}
+
+/// Writes a line and its line feed, in one piece.
+pub fn say_line<K: Sink>(sink: &mut K, mut line: Vec<u8>) -> Result<(), SayFault>
+    ensures later { K.faults sink.old ≤ K.faults sink.new }
+    ensures cause { result ≡ Err SayFault.Write → Rose (K.faults sink.old) (K.faults sink.new) }
+    ensures ok { OnOk result (Appends (K.held sink.old) (K.held sink.new) (lines_text (line.items ∷ []))) }
+    ensures front { TookFront (K.held sink.old) (K.held sink.new) (lines_text (line.items ∷ [])) }
+    ensures memory { result ≡ Err SayFault.Memory → sink.new ≡ sink.old }
+{
     line.push(b'\n')?;
     match write_all(sink, &line) {
         Ok(()) => Ok(()),

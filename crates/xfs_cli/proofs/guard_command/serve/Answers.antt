@@ -29,10 +29,10 @@ pub returns-in-Memory-clause-continues : goal.returns-in-Memory-clause-continues
 returns-in-Memory-clause-continues g c = Continues-trans _ _ _ c.loop.invariant.continues c.line.ensures.continues
 
 pub returns-in-Err-clause-not_a_line : goal.returns-in-Err-clause-not_a_line
-returns-in-Err-clause-not_a_line g c = λ four. read-fault _ _ _ _ _ c.in-Err.fault c.loop.invariant.read c.in-Err.ensures.reads (sym c.faulty.ensures ∙ four)
+returns-in-Err-clause-not_a_line g c = λ four. read-fault _ _ _ _ _ c.in-Err.fault c.loop.invariant.read c.in-Err.ensures.reads (sym c.faulty.ensures.status ∙ four)
 
 pub returns-in-Err-clause-quota : goal.returns-in-Err-clause-quota
-returns-in-Err-clause-quota g c = λ ten. read-quota _ _ _ _ _ c.in-Err.fault c.loop.invariant.gives c.in-Err.ensures.reads (sym c.faulty.ensures ∙ ten)
+returns-in-Err-clause-quota g c = λ ten. read-quota _ _ _ _ _ c.in-Err.fault c.loop.invariant.gives c.in-Err.ensures.reads (sym c.faulty.ensures.status ∙ ten)
 
 pub loop-preserved : goal.loop-preserved
 loop-preserved g c = record {

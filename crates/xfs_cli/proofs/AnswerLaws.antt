@@ -1,0 +1,167 @@
+-- One more line that is read, answered and written; and what was written where the lines end.
+use Rattle.std.proofs.Common.{◌≡◌, ℕ, suc, ◌+◌, ◌≤◌, ◌<◌, List, [], ◌∷◌, ◌++◌, length, take, None, Some, Ok, Err, refl, sym, subst, ◌∙◌, ap, arith, append_assoc, add-one}
+use Rattle.std.specs.declared.option.Option.{Option}
+use Rattle.std.specs.Io.KnownBytes.{Appends}
+use Rattle.std.proofs.lemmas.List.{append-nil}
+use Rattle.std.proofs.Math.Seq.{take-append-add}
+use Rattle.xfs_base.specs.Causes.{IfTold, TookFront}
+use Rattle.xfs_script.specs.Lines.{first_line}
+use Rattle.xfs_script.specs.Reading.{Reading, nothing_read}
+use Rattle.xfs_script.specs.Answer.{bytes_ahead, ReadsLine}
+use Rattle.xfs_script.specs.declared.line.Line.{Line}
+use Rattle.xfs_script.specs.declared.line.LineFault.{LineFault}
+use Rattle.xfs_script.specs.declared.line.LineFault.TheVariants.{Read, Quota, TooLong, Memory}
+use Rattle.xfs_cli.specs.GuardLines.{behind}
+use Rattle.xfs_cli.specs.Run.{status_of}
+use Rattle.xfs_cli.specs.Answers.{lines_text, first_lines, AnswersThen, AnswersEach, AnswersFirst, WritesAll, WritesUntil, WritesFront, SaysAnswer, SaysFront, NoLineEnds, fault_line, last_line, no_line_text}
+use Rattle.xfs_cli.proofs.LineLaws.{ahead-some, told, answer-line, answer-long, answer-none, read-limit}
+
+-- how so many lines of a text were read, answered and written
+pub record HasAnswered {S : Type 0} (Answers : S → List ℕ → List (List ℕ) → S → Type 0) (start state : S) (r : Reading) (now old new : Option (List ℕ)) (text : List ℕ) : Type 0 where
+  pub output : List (List ℕ)
+  pub each : AnswersEach Answers start (first_lines r.handed text) output state
+  pub ahead : bytes_ahead r now ≡ Some (behind r.handed text)
+  pub written : Appends old new (lines_text output)
+
+lines_text-append : (xs ys : List (List ℕ)) → lines_text (xs ++ ys) ≡ lines_text xs ++ lines_text ys
+lines_text-append [] ys = refl
+lines_text-append (x ∷ xs) ys = ap (λ t. x ++ 10 ∷ t) (lines_text-append xs ys) ∙ sym (append_assoc x (10 ∷ lines_text xs) (lines_text ys))
+
+-- one more line is answered behind the others
+AnswersEach-push : {S : Type 0} (A : S → List ℕ → List (List ℕ) → S → Type 0) (s t u : S) (lines output answer : List (List ℕ)) (line : List ℕ)
+    → AnswersEach A s lines output t → A t line answer u → AnswersEach A s (lines ++ line ∷ []) (output ++ answer) u
+AnswersEach-push A s t u [] output answer line e a = record {
+  answer = answer;
+  next = u;
+  later = [];
+  answered = subst (λ v. A v line answer u) e.1 a;
+  follows = (refl, refl);
+  joined = ap (λ o. o ++ answer) e.0 ∙ sym (append-nil answer);
+}
+AnswersEach-push A s t u (l ∷ lines) output answer line e a = record {
+  answer = e.answer;
+  next = e.next;
+  later = e.later ++ answer;
+  answered = e.answered;
+  follows = AnswersEach-push A e.next t u lines e.later answer line e.follows a;
+  joined = ap (λ o. o ++ answer) e.joined ∙ append_assoc e.answer e.later answer;
+}
+
+Appends-none : (x : Option (List ℕ)) → Appends x x []
+Appends-none None = tt
+Appends-none (Some a) = sym (append-nil a)
+
+Appends-both : (x y z : Option (List ℕ)) (a b : List ℕ) → Appends x y a → Appends y z b → Appends x z (a ++ b)
+Appends-both None y z a b p q = tt
+Appends-both (Some v) None z a b p q = absurd p
+Appends-both (Some v) (Some w) None a b p q = absurd q
+Appends-both (Some v) (Some w) (Some u) a b p q = q ∙ (ap (λ t. t ++ b) p ∙ append_assoc v a b)
+
+-- nothing is written at first
+pub answered-start : {S : Type 0} (A : S → List ℕ → List (List ℕ) → S → Type 0) (s : S) (r : Reading) (x w : Option (List ℕ)) → r ≡ nothing_read → IfTold x (HasAnswered A s s r x w w)
+answered-start A s r None w is = tt
+answered-start A s r (Some text) w is = rw is (record { output = []; each = (refl, refl); ahead = refl; written = Appends-none w })
+
+-- one more line
+pub answered-line : {S : Type 0} (A : S → List ℕ → List (List ℕ) → S → Type 0) (start state next : S) (r s : Reading) (x y z old new newer : Option (List ℕ)) (line : Line)
+    → IfTold x (HasAnswered A start state r y old new) → ReadsLine r s y z (Ok (Some line)) → SaysAnswer A state line.text next new newer
+    → IfTold x (HasAnswered A start next s z old newer)
+answered-line A start state next r s None y z old new newer line h reads says = tt
+answered-line A start state next r s (Some text) y z old new newer line h reads says =
+    let a = ahead-some r y (behind r.handed text) h.ahead in
+    let first = answer-line r a.0 line (told _ y a.0 a.1 reads.answer) in
+    let rest-is = told _ y a.0 a.1 reads.rest in
+    let here : A state (first_line (behind r.handed text)) says.output next = rw (← a.2, ← first) says.answered in
+    let pushed = AnswersEach-push A start state next (first_lines r.handed text) h.output says.output (first_line (behind r.handed text)) h.each here in
+    record {
+      output = h.output ++ says.output;
+      each = rw (reads.handed, add-one) pushed;
+      ahead = rw (reads.handed, add-one, ← a.2) rest-is;
+      written = rw (lines_text-append h.output says.output) (Appends-both old new newer (lines_text h.output) (lines_text says.output) h.written says.written);
+    }
+
+-- the lines are all answered
+pub answered-all : {S : Type 0} (A : S → List ℕ → List (List ℕ) → S → Type 0) (start state : S) (r s : Reading) (x y z old new : Option (List ℕ))
+    → IfTold x (HasAnswered A start state r y old new) → ReadsLine r s y z (Ok None) → IfTold x (WritesAll A start old new)
+answered-all A start state r s None y z old new h reads = tt
+answered-all A start state r s (Some text) y z old new h reads =
+    let a = ahead-some r y (behind r.handed text) h.ahead in
+    record {
+      many = r.handed;
+      output = h.output;
+      answers = record { last = state; each = h.each };
+      whole = sym a.2 ∙ answer-none r a.0 (told _ y a.0 a.1 reads.answer);
+      written = h.written;
+    }
+
+-- a line whose answer the sink took a front of
+pub answered-front : {S : Type 0} (A : S → List ℕ → List (List ℕ) → S → Type 0) (start state next : S) (r s : Reading) (x y z old new newer : Option (List ℕ)) (line : Line)
+    → IfTold x (HasAnswered A start state r y old new) → ReadsLine r s y z (Ok (Some line)) → SaysFront A state line.text next new newer
+    → IfTold x (WritesFront A start old newer)
+answered-front A start state next r s None y z old new newer line h reads says = tt
+answered-front A start state next r s (Some text) y z old new newer line h reads says =
+    let a = ahead-some r y (behind r.handed text) h.ahead in
+    let first = answer-line r a.0 line (told _ y a.0 a.1 reads.answer) in
+    let here : A state (first_line (behind r.handed text)) says.output next = rw (← a.2, ← first) says.answered in
+    let pushed = AnswersEach-push A start state next (first_lines r.handed text) h.output says.output (first_line (behind r.handed text)) h.each here in
+    record {
+      many = suc r.handed;
+      output = h.output ++ says.output;
+      answers = record { last = next; each = pushed };
+      written = record {
+        many = length (lines_text h.output) + says.written.many;
+        taken = rw (lines_text-append h.output says.output, take-append-add (lines_text h.output) (lines_text says.output) says.written.many)
+            (Appends-both old new newer (lines_text h.output) (take says.written.many (lines_text says.output)) h.written says.written.taken);
+      };
+    }
+
+-- the run ends between two lines, and the sink took a front of the last line
+until-status : {S : Type 0} (IsLine : List ℕ → Type 0) (A : S → List ℕ → List (List ℕ) → S → Type 0) (start state : S) (status : ℕ) (r : Reading) (y z old new newer : Option (List ℕ)) (text : List ℕ)
+    → HasAnswered A start state r y old new text → (status ≡ 4 → ¬ (IsLine (first_line (behind r.handed text)))) → (status ≡ 10 → IfTold z (NoLineEnds r.handed text)) → TookFront new newer (lines_text (last_line status r.handed))
+    → WritesUntil IsLine A start status z old newer text
+until-status IsLine A start state status r y z old new newer text h none limit front = record {
+  many = r.handed;
+  output = h.output;
+  answers = record { last = state; each = h.each };
+  none = none;
+  limit = limit;
+  front = front.many;
+  written = Appends-both old new newer (lines_text h.output) (take front.many (lines_text (last_line status r.handed))) h.written front.taken;
+}
+
+-- a line that is none
+pub answered-no_line : {S : Type 0} (IsLine : List ℕ → Type 0) (A : S → List ℕ → List (List ℕ) → S → Type 0) (start state : S) (status number : ℕ) (r s : Reading) (x y z old new newer : Option (List ℕ)) (line : Line)
+    → IfTold x (HasAnswered A start state r y old new) → ReadsLine r s y z (Ok (Some line)) → ¬ (IsLine line.text) → status ≡ 4 → number ≡ line.number
+    → TookFront new newer (lines_text (no_line_text number ∷ [])) → IfTold x (WritesUntil IsLine A start status z old newer)
+answered-no_line IsLine A start state status number r s None y z old new newer line h reads is four same front = tt
+answered-no_line IsLine A start state status number r s (Some text) y z old new newer line h reads is four same front =
+    let a = ahead-some r y (behind r.handed text) h.ahead in
+    let first = answer-line r a.0 line (told _ y a.0 a.1 reads.answer) in
+    let numbered : number ≡ r.handed + 1 = same ∙ reads.number.0 in
+    until-status IsLine A start state status r y z old new newer text h (λ four. rw (← a.2, ← first) is) (λ ten. absurd (omega (arith, four, ten))) (rw (four, ← numbered) front)
+
+-- want of memory at a line
+pub answered-memory : {S : Type 0} (IsLine : List ℕ → Type 0) (A : S → List ℕ → List (List ℕ) → S → Type 0) (start state : S) (r : Reading) (x y z old new newer : Option (List ℕ))
+    → IfTold x (HasAnswered A start state r y old new) → newer ≡ new → IfTold x (WritesUntil IsLine A start 8 z old newer)
+answered-memory IsLine A start state r None y z old new newer h same = tt
+answered-memory IsLine A start state r (Some text) y z old new newer h same =
+    until-status IsLine A start state 8 r y z old new newer text h (λ four. absurd (omega (arith, four))) (λ ten. absurd (omega (arith, ten))) (record { many = 0; taken = rw same (Appends-none new) })
+
+-- a fault of the input
+pub answered-fault : {S : Type 0} (IsLine : List ℕ → Type 0) (A : S → List ℕ → List (List ℕ) → S → Type 0) (start state : S) (status : ℕ) (r s : Reading) (x y z old new newer : Option (List ℕ)) (fault : LineFault)
+    → ((l : List ℕ) → IsLine l → length l ≤ 70000)
+    → IfTold x (HasAnswered A start state r y old new) → ReadsLine r s y z (Err fault) → status ≡ status_of fault
+    → TookFront new newer (lines_text (fault_line fault)) → IfTold x (WritesUntil IsLine A start status z old newer)
+answered-fault IsLine A start state status r s None y z old new newer fault short h reads is front = tt
+answered-fault IsLine A start state status r s (Some text) y z old new newer Read short h reads is front =
+    rw is (until-status IsLine A start state 3 r y z old new newer text h (λ four. absurd (omega (arith, four))) (λ ten. absurd (omega (arith, ten))) front)
+answered-fault IsLine A start state status r s (Some text) y z old new newer Quota short h reads is front =
+    rw is (until-status IsLine A start state 10 r y z old new newer text h (λ four. absurd (omega (arith, four))) (λ ten. read-limit r s y z r.handed text h.ahead reads) front)
+answered-fault IsLine A start state status r s (Some text) y z old new newer Memory short h reads is front =
+    rw is (until-status IsLine A start state 8 r y z old new newer text h (λ four. absurd (omega (arith, four))) (λ ten. absurd (omega (arith, ten))) front)
+answered-fault IsLine A start state status r s (Some text) y z old new newer (TooLong n) short h reads is front =
+    let a = ahead-some r y (behind r.handed text) h.ahead in
+    let long = answer-long r a.0 n (told _ y a.0 a.1 reads.answer) in
+    let number : n ≡ r.handed + 1 = reads.number in
+    let none : ¬ (IsLine (first_line (behind r.handed text))) = λ line. (let l = rw a.2 at long in let e = short _ line in omega (arith, l, e)) in
+    rw is (until-status IsLine A start state 4 r y z old new newer text h (λ four. none) (λ ten. absurd (omega (arith, ten))) (rw (← number) front))

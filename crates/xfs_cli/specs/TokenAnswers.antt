@@ -1,0 +1,92 @@
+-- The answers of the command `token`, under the key that was handed in.
+use Rattle.std.specs.Prelude.{◌≡◌, ◌↔◌, ℕ, ◌≤◌, ◌⊎◌, Bool, true, false, IsTrue, List, [], ◌∷◌, ◌++◌, length, map, codes, decimal, None, Some}
+use Rattle.std.specs.declared.option.Option.{Option}
+use Rattle.std.specs.List.{join_with_byte}
+use Rattle.hex.specs.Hex.{encode_lower}
+use Rattle.xfs_hmac.specs.Hmac.{hmac}
+use Rattle.xfs_token.specs.Token.{Parts, Spells, Genuine}
+use Rattle.xfs_token.specs.Fault.{IsFault}
+use Rattle.xfs_token.specs.Amounts.{amounts_of, IsMade}
+use Rattle.xfs_token.specs.declared.faults.TokenFault.{TokenFault}
+use Rattle.xfs_token.specs.declared.faults.TokenFault.TheVariants.{TooLong, KeyNoValue, Format, Memory}
+use Rattle.xfs_script.specs.TokenLines.{IsTokenLine}
+use Rattle.xfs_script.specs.declared.token_line.TokenLine.{TokenLine}
+use Rattle.xfs_script.specs.declared.token_line.TokenLine.TheVariants.{Skip, Read, Make, Mac}
+
+-- a currency and its thousandths
+abbrev pub amount_text : List ℕ × ℕ → List ℕ
+amount_text a = a.0 ++ codes ":" ++ decimal a.1
+
+abbrev pub joined_amounts : List (List ℕ × ℕ) → List ℕ
+joined_amounts amounts = join_with_byte 44 (map amount_text amounts)
+
+-- the amounts of a token joined by commas, or that it has none
+abbrev pub amounts_text : Option (List (List ℕ × ℕ)) → List ℕ
+amounts_text None = codes "none"
+amounts_text (Some amounts) = joined_amounts amounts
+
+abbrev pub yes_or_no : Bool → List ℕ
+yes_or_no true = codes "yes"
+yes_or_no false = codes "no"
+
+-- the answer to a token: its nonce, its amounts, and whether it is genuine
+abbrev pub token_text : Parts → Bool → List ℕ
+token_text token genuine = codes "ok nonce=" ++ token.nonce ++ codes " amounts=" ++ amounts_text (amounts_of token) ++ codes " genuine=" ++ yes_or_no genuine
+
+-- the bytes spell a token, and the answer tells of it; whether it is genuine is asked under the key
+pub record TellsToken (key bytes answer : List ℕ) : Type 0 where
+  pub token : Parts
+  pub spelled : Spells token bytes
+  pub genuine : Bool
+  pub is_genuine : IsTrue genuine ↔ Genuine key token bytes
+  pub text : answer ≡ token_text token genuine
+
+-- the answer to a fault; want of memory has none
+abbrev pub IsFaultText : TokenFault → List ℕ → Type 0
+IsFaultText TooLong answer = answer ≡ codes "fault TooLong"
+IsFaultText (KeyNoValue at) answer = answer ≡ codes "fault KeyNoValue " ++ decimal at
+IsFaultText (Format at) answer = answer ≡ codes "fault Format " ++ decimal at
+IsFaultText Memory answer = ⊥
+
+-- the bytes spell no token, and the answer tells why
+pub record TellsFault (bytes answer : List ℕ) : Type 0 where
+  pub fault : TokenFault
+  pub is : IsFault bytes fault
+  pub text : IsFaultText fault answer
+
+-- the answer tells of the token that the bytes spell, or why they spell none
+abbrev pub TellsRead : List ℕ → List ℕ → List ℕ → Type 0
+TellsRead key bytes answer = TellsToken key bytes answer ⊎ TellsFault bytes answer
+
+-- the answer is a genuine token under the key
+pub record TellsMade (key nonce : List ℕ) (amounts : List (List ℕ × ℕ)) (answer : List ℕ) : Type 0 where
+  pub token : List ℕ
+  pub made : IsMade key nonce amounts token
+  pub text : answer ≡ codes "token " ++ token
+
+-- the answer to a verb
+abbrev pub IsAnswer : List ℕ → TokenLine → List ℕ → Type 0
+IsAnswer key Skip answer = ⊥
+IsAnswer key (Read bytes) answer = TellsRead key bytes answer
+IsAnswer key (Make nonce amounts) answer = TellsMade key nonce amounts answer
+IsAnswer key (Mac first second) answer = answer ≡ codes "mac " ++ encode_lower (hmac first second)
+
+-- the lines that answer a verb: one, and none for a skipped line
+abbrev pub AreAnswer : List ℕ → TokenLine → List (List ℕ) → Type 0
+AreAnswer key verb [] = verb ≡ Skip
+AreAnswer key verb (answer ∷ []) = IsAnswer key verb answer
+AreAnswer key verb (answer ∷ other ∷ more) = ⊥
+
+-- a line of at most 70,000 bytes that writes a verb of `token`
+pub record IsLineOfToken (text : List ℕ) : Type 0 where
+  pub verb : TokenLine
+  pub reads : IsTokenLine text verb
+  pub short : length text ≤ 70000
+
+-- a line of `token` and the lines that answer it; the key stays
+pub record AnswersToken (key text : List ℕ) (output : List (List ℕ)) (next : List ℕ) : Type 0 where
+  pub verb : TokenLine
+  pub reads : IsTokenLine text verb
+  pub short : length text ≤ 70000
+  pub answer : AreAnswer key verb output
+  pub same : next ≡ key

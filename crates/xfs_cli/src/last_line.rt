@@ -1,0 +1,53 @@
+//! The last line of the output, and the status that goes with it.
+
+ghost use Rattle.std.specs.Prelude.{◌≡◌, ◌∷◌, [], IfOk};
+ghost use Rattle.xfs_base.specs.Causes.{TookFront};
+ghost use Rattle.xfs_cli.specs.Run.{status_of};
+ghost use Rattle.xfs_cli.specs.Answers.{lines_text, no_line_text, fault_line, WritesUsage};
+
+use crate::say::{say, say_line};
+use std::alloc::{AllocError, Global};
+use xfs_base::Sink;
+use xfs_script::LineFault;
+
+/// The status of a fault of the input, once its line was written.
+pub fn faulty<K: Sink>(alloc: Global, sink: &mut K, fault: LineFault) -> u8
+    ensures status { result ≡ status_of fault }
+    ensures written { TookFront (K.held sink.old) (K.held sink.new) (lines_text (fault_line fault)) }
+{
+    match fault {
+        LineFault::Read => 3,
+        LineFault::Quota => {
+            let _ = say(alloc, sink, b"input: too long", b"");
+            10
+        }
+        LineFault::TooLong { number } => not_a_line(alloc, sink, number),
+        LineFault::Memory => 8,
+    }
+}
+
+/// The status of a line that is none, once that was written. A last line that can't be written
+/// leaves the status as it is.
+pub fn not_a_line<K: Sink>(alloc: Global, sink: &mut K, number: u64) -> u8
+    ensures status { result ≡ 4 }
+    ensures written { TookFront (K.held sink.old) (K.held sink.new) (lines_text (no_line_text number ∷ [])) }
+{
+    if let Ok(line) = no_line(alloc, number) {
+        let _ = say_line(sink, line);
+    }
+    4
+}
+
+fn no_line(alloc: Global, number: u64) -> Result<Vec<u8>, AllocError>
+    ensures { IfOk result (λ v. v.items ≡ no_line_text number) }
+{
+    let text = format!(in alloc; "line {number}: not a script line")?;
+    Ok(text.into_bytes())
+}
+
+/// Writes the commands that there are.
+pub fn usage<K: Sink>(alloc: Global, sink: &mut K)
+    ensures { WritesUsage (K.held sink.old) (K.held sink.new) }
+{
+    let _ = say(alloc, sink, b"usage: xfs guard | token", b"");
+}

@@ -1,0 +1,135 @@
+//! The answers of the command `token`.
+
+ghost use Rattle.std.specs.Prelude.{◌≡◌, ◌++◌, codes, decimal, IfOk, OnOk};
+ghost use Rattle.std.specs.Option.{option_map};
+ghost use Rattle.hex.specs.Hex.{encode_lower};
+ghost use Rattle.xfs_hmac.specs.Hmac.{hmac};
+ghost use Rattle.xfs_token.specs.Amounts.{amounts_of};
+ghost use Rattle.xfs_cli.specs.Answers.{lines_in};
+ghost use Rattle.xfs_cli.specs.TokenAnswers.{AreAnswer, IsFaultText, TellsMade, TellsRead, amount_text, amounts_text, joined_amounts, token_text};
+ghost use Rattle.xfs_cli.specs.TokenAnswers as answers;
+
+use crate::text::joined;
+use itoa::Buffer;
+use std::alloc::{AllocError, Global};
+use xfs_base::{Currency, Memory, Milli};
+use xfs_hmac::mac;
+use xfs_script::TokenLine;
+use xfs_token::{Amounts, Token, TokenFault, amounts, genuine, make, read};
+
+/// The answer to a verb; none for a line that is skipped.
+pub fn answer(alloc: Global, key: &[u8; 32], verb: &TokenLine) -> Result<Option<Vec<u8>>, Memory>
+    ensures { IfOk result (λ a. AreAnswer key.now verb.now (lines_in (option_map (λ v. v.items) a))) }
+{
+    match verb {
+        TokenLine::Skip => Ok(None),
+        TokenLine::Read(bytes) => Ok(Some(read_answer(alloc, key, bytes.list())?)),
+        TokenLine::Make { nonce, amounts } => {
+            Ok(Some(make_answer(alloc, key, nonce.list(), amounts)?))
+        }
+        TokenLine::Mac { key, message } => Ok(Some(mac_answer(alloc, key.list(), message.list())?)),
+    }
+}
+
+fn read_answer(alloc: Global, key: &[u8; 32], bytes: &[u8]) -> Result<Vec<u8>, Memory>
+    ensures { IfOk result (λ v. TellsRead key.now bytes.now v.items) }
+{
+    match read(alloc, bytes) {
+        Ok(token) => Ok(token_answer(alloc, &token, genuine(key, bytes, &token))?),
+        Err(fault) => fault_answer(alloc, fault),
+    }
+}
+
+// The nonce and the amounts of a token, and whether it is genuine.
+fn token_answer(alloc: Global, token: &Token, is_genuine: bool) -> Result<Vec<u8>, AllocError>
+    ensures { IfOk result (λ v. v.items ≡ token_text token.now is_genuine) }
+{
+    let mut text = Vec::new(alloc);
+    text.extend_from_slice(b"ok nonce=")?;
+    text.extend_from_slice(token.nonce())?;
+    text.extend_from_slice(b" amounts=")?;
+    push_amounts_of(&mut text, token)?;
+    text.extend_from_slice(b" genuine=")?;
+    text.extend_from_slice(yes_or_no(is_genuine))?;
+    Ok(text)
+}
+
+fn yes_or_no(is_so: bool) -> &'static [u8]
+    ensures { result.now ≡ answers.yes_or_no is_so }
+{
+    if is_so { b"yes" } else { b"no" }
+}
+
+// The amounts of a token, or that it has none.
+fn push_amounts_of(text: &mut Vec<u8>, token: &Token) -> Result<(), AllocError>
+    ensures { OnOk result (text.new.items ≡ text.old.items ++ amounts_text (amounts_of token.now)) }
+{
+    match amounts(token) {
+        Some(amounts) => push_amounts(text, &amounts),
+        None => text.extend_from_slice(b"none"),
+    }
+}
+
+fn push_amounts(text: &mut Vec<u8>, amounts: &Amounts) -> Result<(), AllocError>
+    ensures { OnOk result (text.new.items ≡ text.old.items ++ joined_amounts amounts.now) }
+{
+    let count = amounts.len();
+    let (currency, amount) = amounts.at(0);
+    push_amount(text, currency, amount)?;
+    'amounts: for i in 1..count {
+        let (currency, amount) = amounts.at(i);
+        text.extend_from_slice(b",")?;
+        push_amount(text, currency, amount)?;
+    }
+    Ok(())
+}
+
+fn push_amount(text: &mut Vec<u8>, currency: Currency, amount: Milli) -> Result<(), AllocError>
+    ensures { OnOk result (text.new.items ≡ text.old.items ++ amount_text (currency, amount.0)) }
+{
+    text.extend_from_slice(&currency.letters())?;
+    text.extend_from_slice(b":")?;
+    text.extend_from_slice(Buffer::new().format(amount.0).as_bytes())?;
+    Ok(())
+}
+
+fn fault_answer(alloc: Global, fault: TokenFault) -> Result<Vec<u8>, Memory>
+    ensures { IfOk result (λ v. IsFaultText fault v.items) }
+{
+    match fault {
+        TokenFault::TooLong => Ok(Vec::from_slice(alloc, b"fault TooLong")?),
+        TokenFault::KeyNoValue { at } => Ok(fault_at(alloc, b"fault KeyNoValue ", at)?),
+        TokenFault::Format { at } => Ok(fault_at(alloc, b"fault Format ", at)?),
+        TokenFault::Memory => Err(Memory),
+    }
+}
+
+fn fault_at(alloc: Global, words: &[u8], at: u32) -> Result<Vec<u8>, AllocError>
+    ensures { IfOk result (λ v. v.items ≡ words.now ++ decimal at) }
+{
+    let mut text = Vec::from_slice(alloc, words)?;
+    text.extend_from_slice(Buffer::new().format(at).as_bytes())?;
+    Ok(text)
+}
+
+fn make_answer(
+    alloc: Global,
+    key: &[u8; 32],
+    nonce: &[u8],
+    amounts: &Amounts,
+) -> Result<Vec<u8>, Memory>
+    ensures { IfOk result (λ v. TellsMade key.now nonce.now amounts.now v.items) }
+{
+    // A line's nonce is of the grammar, so what remains is want of memory.
+    let Ok(token) = make(alloc, key, nonce, amounts) else {
+        return Err(Memory);
+    };
+    joined(alloc, b"token ", &token)
+}
+
+fn mac_answer(alloc: Global, key: &[u8], message: &[u8]) -> Result<Vec<u8>, Memory>
+    ensures { IfOk result (λ v. v.items ≡ codes "mac " ++ encode_lower (hmac key.now message.now)) }
+{
+    let digits = hex::encode(alloc, mac(key, message))?;
+    joined(alloc, b"mac ", digits.as_bytes())
+}

@@ -1,0 +1,116 @@
+//! The command `token`.
+
+ghost use Rattle.std.specs.Prelude.{◌≡◌, ◌≢◌, ◌↔◌, ◌≤◌, [], length};
+ghost use Rattle.std.specs.Io.KnownBytes.{IsAtEnd, Appends};
+ghost use Rattle.xfs_base.specs.Causes.{Rose, IfTold, TookFront};
+ghost use Rattle.xfs_cli.specs.Run.{IsToken, GaveAll};
+ghost use Rattle.xfs_cli.specs.Answers.{WritesAll, WritesUntil, WritesFront, SaysAnswer, SaysFront, WritesUsage};
+ghost use Rattle.xfs_cli.specs.TokenAnswers.{AnswersToken, IsLineOfToken};
+
+use crate::answer::Turn;
+use crate::bench::{Bench, Ended};
+use crate::last_line::{faulty, not_a_line, usage};
+use crate::say::{SayFault, say_line};
+use crate::token_answer::answer;
+use crate::words::is_word;
+use std::alloc::Global;
+use xfs_base::{Sink, Source};
+use xfs_mech::Mechanism;
+use xfs_script::{Line, Lines, ScriptFault, read_token};
+
+/// Reads token lines and answers each of them under the bench's key, before the next line is read.
+/// The mechanism is not touched, and there are no records.
+pub fn token<S: Source, K: Sink, M: Mechanism>(
+    alloc: Global,
+    words: &[String],
+    source: &mut S,
+    sink: &mut K,
+    bench: Bench<M>,
+) -> Ended<M>
+    ensures same { result.mech ≡ bench.mech }
+    ensures records { result.records.items ≡ [] }
+
+    ensures usage { (result.status ≡ 2) ↔ ¬ (IsToken words.now) }
+    ensures usage_written { result.status ≡ 2 → WritesUsage (K.held sink.old) (K.held sink.new) }
+    ensures whole { result.status ≡ 0 → IsAtEnd (S.left source.new) }
+    ensures quota { result.status ≡ 10 → GaveAll (S.left source.old) (S.left source.new) }
+    ensures read { result.status ≡ 3 → Rose (S.faults source.old) (S.faults source.new) }
+    ensures write { result.status ≡ 5 → Rose (K.faults sink.old) (K.faults sink.new) }
+
+    ensures answers { result.status ≡ 0 → IfTold (S.left source.old) (WritesAll AnswersToken bench.key (K.held sink.old) (K.held sink.new)) }
+    ensures front { result.status ≡ 5 → IfTold (S.left source.old) (WritesFront AnswersToken bench.key (K.held sink.old) (K.held sink.new)) }
+    ensures until { result.status ≢ 0 → result.status ≢ 2 → result.status ≢ 5 → IfTold (S.left source.old) (WritesUntil IsLineOfToken AnswersToken bench.key result.status (S.left source.new) (K.held sink.old) (K.held sink.new)) }
+{
+    let Bench {
+        mech,
+        key,
+        seed: _,
+        units: _,
+    } = bench;
+    let status = if is_word(words, "token") {
+        serve(alloc, &key, source, sink)
+    } else {
+        usage(alloc, sink);
+        2
+    };
+    Ended {
+        status,
+        mech,
+        records: Vec::new(alloc),
+    }
+}
+
+// Answers one line after another, until the input ends or something fails.
+fn serve<S: Source, K: Sink>(alloc: Global, key: &[u8; 32], source: &mut S, sink: &mut K) -> u8
+    ensures usage { result ≢ 2 }
+    ensures whole { result ≡ 0 → IsAtEnd (S.left source.new) }
+    ensures quota { result ≡ 10 → GaveAll (S.left source.old) (S.left source.new) }
+    ensures read { result ≡ 3 → Rose (S.faults source.old) (S.faults source.new) }
+    ensures write { result ≡ 5 → Rose (K.faults sink.old) (K.faults sink.new) }
+    ensures answers { result ≡ 0 → IfTold (S.left source.old) (WritesAll AnswersToken key.now (K.held sink.old) (K.held sink.new)) }
+    ensures front { result ≡ 5 → IfTold (S.left source.old) (WritesFront AnswersToken key.now (K.held sink.old) (K.held sink.new)) }
+    ensures until { result ≢ 0 → result ≢ 5 → IfTold (S.left source.old) (WritesUntil IsLineOfToken AnswersToken key.now result (S.left source.new) (K.held sink.old) (K.held sink.new)) }
+{
+    let mut lines = Lines::new(alloc);
+    for _ in 0..u64::MAX {
+        match lines.next(source) {
+            Ok(None) => return 0,
+            Ok(Some(line)) => match answer_line(alloc, key, &line, sink) {
+                Turn::More => {}
+                Turn::NotALine => return not_a_line(alloc, sink, line.number),
+                Turn::Write => return 5,
+                Turn::Memory => return 8,
+            },
+            Err(fault) => return faulty(alloc, sink, fault),
+        }
+    }
+    // No input has so many lines.
+    8
+}
+
+// Reads a line, and answers it.
+fn answer_line<K: Sink>(alloc: Global, key: &[u8; 32], line: &Line, sink: &mut K) -> Turn
+    requires { length line.now.text ≤ 70000 }
+    ensures more { result ≡ Turn.More → SaysAnswer AnswersToken key.now line.now.text key.now (K.held sink.old) (K.held sink.new) }
+    ensures write { result ≡ Turn.Write → SaysFront AnswersToken key.now line.now.text key.now (K.held sink.old) (K.held sink.new) }
+    ensures no_line { result ≡ Turn.NotALine → ¬ (IsLineOfToken line.now.text) }
+    ensures same_no_line { result ≡ Turn.NotALine → sink.new ≡ sink.old }
+    ensures same_memory { result ≡ Turn.Memory → sink.new ≡ sink.old }
+    ensures later { K.faults sink.old ≤ K.faults sink.new }
+    ensures cause { result ≡ Turn.Write → Rose (K.faults sink.old) (K.faults sink.new) }
+{
+    let verb = match read_token(alloc, line.text.list()) {
+        Ok(verb) => verb,
+        Err(ScriptFault::NotALine) => return Turn::NotALine,
+        Err(ScriptFault::Memory) => return Turn::Memory,
+    };
+    match answer(alloc, key, &verb) {
+        Ok(Some(text)) => match say_line(sink, text) {
+            Ok(()) => Turn::More,
+            Err(SayFault::Write) => Turn::Write,
+            Err(SayFault::Memory) => Turn::Memory,
+        },
+        Ok(None) => Turn::More,
+        Err(_) => Turn::Memory,
+    }
+}
