@@ -7,3 +7,7 @@ mod bench;
 mod guard_calls;
 #[cfg(test)]
 mod guard_rows;
+#[cfg(test)]
+mod guard_scripts;
+#[cfg(test)]
+mod teller;

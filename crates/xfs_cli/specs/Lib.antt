@@ -1,2 +1,4 @@
+pub mod GuardAnswers
 pub mod GuardLines
+pub mod Refused
 pub mod Run

@@ -9,9 +9,10 @@ ghost use Rattle.xfs_guard.specs.Continues.{Continues};
 ghost use Rattle.xfs_guard.specs.Sound.{IsSound};
 ghost use Rattle.xfs_cli.specs.Run.{status_of, IsGuard, Upholds, AllLines, StopsAtLine, GaveAll};
 
-use crate::answer::{Session, Turn};
+use crate::answer::Turn;
 use crate::bench::{Bench, Ended};
 use crate::say::say;
+use crate::session::Session;
 use std::alloc::Global;
 use xfs_base::{Sink, Source};
 use xfs_guard::Guard;

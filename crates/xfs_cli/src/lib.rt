@@ -4,7 +4,10 @@
 mod answer;
 mod bench;
 mod guard_command;
+mod refused;
 mod say;
+mod session;
+mod text;
 mod top;
 
 pub use bench::{Bench, Ended};
