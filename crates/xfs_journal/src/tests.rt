@@ -388,3 +388,21 @@ fn a_file_with_another_list_is_refused_where_it_differs(rt: HostRuntime) -> Resu
     fs::remove_file(&rt, "xfs_journal.test")?;
     Ok(())
 }
+
+#[test]
+fn at_most_9_bytes_are_made_an_empty_journal_again(rt: HostRuntime) -> Result<(), Fail> {
+    let alloc = rt.alloc();
+    fs::write(&rt, "xfs_journal_short.test", b"")?;
+    let file = File::options()
+        .read(true)
+        .write(true)
+        .open(&rt, "xfs_journal_short.test")?;
+    let mut journal = mounted(alloc, FileDisk::new(file))?;
+    fs::write(&rt, "xfs_journal_short.test", b"short")?;
+    assert!(rt; journal.remount() == Ok(()));
+    assert!(rt; journal.append(boot()) == Ok(1));
+    let bytes = fs::read(&rt, "xfs_journal_short.test")?;
+    assert_eq!(rt; bytes.as_slice(), boot_file(alloc)?.as_slice());
+    fs::remove_file(&rt, "xfs_journal_short.test")?;
+    Ok(())
+}
