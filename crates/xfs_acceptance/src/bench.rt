@@ -1,6 +1,8 @@
 //! Main's bench over memory, and what a run on it wrote.
 
-ghost use Rattle.std.specs.Prelude.{◌≡◌, IfOk};
+ghost use Rattle.std.specs.Prelude.{◌≡◌, IfOk, []};
+ghost use Rattle.xfs_base.specs.Causes.{IfTold};
+ghost use Rattle.xfs_mech.specs.Sim.{units_of, motions_of};
 ghost use Rattle.xfs_guard.specs.declared.open.Open.TheVariants.{No};
 
 use std::alloc::Global;
@@ -9,10 +11,10 @@ use std::test::Fail;
 use xfs_base::{Counts, Currency, MemSink, MemSource, NoteKind, Places, UnitTable};
 use xfs_cli::{Bench, run};
 use xfs_guard::Guard;
-use xfs_mech::{SimMech, places_fit};
+use xfs_mech::{Fault, Mechanism, SilentMech, SimMech, places_fit};
 
-// EUR 10, EUR 20, EUR 50 and USD 20.
-fn units(rt: &impl Abort) -> UnitTable {
+/// EUR 10, EUR 20, EUR 50 and USD 20.
+pub fn units(rt: &impl Abort) -> UnitTable {
     let eur = Currency::new(b"EUR").expect(rt, "EUR");
     let usd = Currency::new(b"USD").expect(rt, "USD");
     let kinds = [(eur, 10), (eur, 20), (eur, 50), (usd, 20)];
@@ -20,7 +22,8 @@ fn units(rt: &impl Abort) -> UnitTable {
     UnitTable::new(&kinds).expect(rt, "four units")
 }
 
-fn places() -> Places {
+/// 100 notes in each unit.
+pub fn places() -> Places {
     let none = Counts([0; 8]);
     Places {
         units: Counts([100, 100, 100, 100, 0, 0, 0, 0]),
@@ -64,19 +67,64 @@ pub fn run_on(
     failing_writes: &[u64],
 ) -> Result<Written, Fail> {
     let units = units(rt);
+    let mech = sim_on(rt, alloc, &units, Vec::new(alloc));
+    let mut source = MemSource::new(listed(alloc, script)?, numbers(alloc, failing_reads)?);
+    let mut sink = MemSink::new(alloc, numbers(alloc, failing_writes)?);
+    run_over(alloc, word, &mut source, &mut sink, units, mech)
+}
+
+/// Runs `guard` on a script over main's bench, with these faults of the mechanism.
+pub fn guard_over(
+    rt: &impl Abort,
+    alloc: Global,
+    script: &[u8],
+    faults: &[Fault],
+    silent: bool,
+) -> Result<Written, Fail> {
+    let units = units(rt);
+    let mut planned = Vec::new(alloc);
+    planned.extend_from_slice(faults)?;
+    let mech = sim_on(rt, alloc, &units, planned);
+    let mut source = MemSource::new(listed(alloc, script)?, Vec::new(alloc));
+    let mut sink = MemSink::new(alloc, Vec::new(alloc));
+    if silent {
+        let mech = SilentMech::new(mech);
+        run_over(alloc, "guard", &mut source, &mut sink, units, mech)
+    } else {
+        run_over(alloc, "guard", &mut source, &mut sink, units, mech)
+    }
+}
+
+// Main's mechanism, with these faults.
+fn sim_on(rt: &impl Abort, alloc: Global, units: &UnitTable, faults: Vec<Fault>) -> SimMech
+    ensures units { units_of result ≡ units.now }
+    ensures fresh { motions_of result ≡ [] }
+{
     let places = places();
-    assert!(rt; places_fit(&units, &places));
+    assert!(rt; places_fit(units, &places));
+    SimMech::new(alloc, units.copied(), places, faults)
+}
+
+fn run_over<M: Mechanism>(
+    alloc: Global,
+    word: &str,
+    source: &mut MemSource,
+    sink: &mut MemSink,
+    units: UnitTable,
+    mech: M,
+) -> Result<Written, Fail>
+    requires fresh { IfTold (M.motions mech) (λ L. L ≡ []) }
+    requires units { M.units mech ≡ units }
+{
     let bench = Bench {
-        mech: SimMech::new(alloc, units.copied(), places, Vec::new(alloc)),
+        mech,
         key: [0x0b; 32],
         seed: [0; 32],
         units,
     };
     let mut words = Vec::new(alloc);
     words.push(String::from_str(alloc, word)?)?;
-    let mut source = MemSource::new(listed(alloc, script)?, numbers(alloc, failing_reads)?);
-    let mut sink = MemSink::new(alloc, numbers(alloc, failing_writes)?);
-    let ended = run(alloc, words.as_slice(), &mut source, &mut sink, bench);
+    let ended = run(alloc, words.as_slice(), source, sink, bench);
     Ok(Written {
         status: ended.status,
         text: listed(alloc, sink.bytes())?,

@@ -1,4 +1,4 @@
-//! The command `guard`, as far as it answers `issue` and `mint`.
+//! The command `guard`: its lines, words and statuses.
 
 use crate::bench::run_on;
 use std::test::Fail;
@@ -13,7 +13,7 @@ fn scripts_are_answered_line_by_line(rt: HostRuntime) -> Result<(), Fail> {
         ("issue", 0, NONCE),
         ("issue\r\n", 0, NONCE),
         ("mint 1EUR\n", 0, "token none\n"),
-        ("take\n", 4, "line 1: not a script line\n"),
+        ("restart\n", 4, "line 1: not a script line\n"),
         (
             "issue\nmint 1EUR,1EUR\n",
             4,

@@ -8,4 +8,8 @@ mod guard_calls;
 #[cfg(test)]
 mod guard_rows;
 #[cfg(test)]
+mod guard_scripts;
+#[cfg(test)]
+mod teller;
+#[cfg(test)]
 mod token_rows;

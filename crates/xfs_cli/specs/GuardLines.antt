@@ -3,14 +3,12 @@ use Rattle.std.specs.Prelude.{ℕ, zero, suc, ◌<◌, ◌≤◌, List, length, 
 use Rattle.xfs_script.specs.Guard.{IsGuardLine}
 use Rattle.xfs_script.specs.Lines.{first_line, rest}
 use Rattle.xfs_script.specs.declared.guard_line.GuardLine.{GuardLine}
-use Rattle.xfs_script.specs.declared.guard_line.GuardLine.TheVariants.{Skip, Issue, Mint}
+use Rattle.xfs_script.specs.declared.guard_line.GuardLine.TheVariants.{Restart}
 
 -- the verbs that are built
 abbrev pub IsBuilt : GuardLine → Type 0
-IsBuilt Skip = ⊤
-IsBuilt Issue = ⊤
-IsBuilt (Mint amounts) = ⊤
-IsBuilt verb = ⊥
+IsBuilt Restart = ⊥
+IsBuilt verb = ⊤
 
 -- a line of at most 70,000 bytes that writes such a verb
 pub record IsLine (text : List ℕ) : Type 0 where

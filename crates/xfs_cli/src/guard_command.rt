@@ -9,9 +9,10 @@ ghost use Rattle.xfs_guard.specs.Continues.{Continues};
 ghost use Rattle.xfs_guard.specs.Sound.{IsSound};
 ghost use Rattle.xfs_cli.specs.Run.{IsGuard, Upholds, AllLines, StopsAtLine, GaveAll};
 
-use crate::answer::{Session, Turn};
+use crate::answer::Turn;
 use crate::bench::{Bench, Ended};
 use crate::last_line::{faulty, not_a_line, usage};
+use crate::session::Session;
 use crate::words::is_word;
 use std::alloc::Global;
 use xfs_base::{Sink, Source};

@@ -9,6 +9,7 @@ ghost use Rattle.xfs_cli.specs.Answers.{lines_in};
 ghost use Rattle.xfs_cli.specs.TokenAnswers.{AreAnswer, IsFaultText, TellsMade, TellsRead, amount_text, amounts_text, joined_amounts, token_text};
 ghost use Rattle.xfs_cli.specs.TokenAnswers as answers;
 
+use crate::text::joined;
 use itoa::Buffer;
 use std::alloc::{AllocError, Global};
 use xfs_base::{Currency, Memory, Milli};
@@ -123,20 +124,12 @@ fn make_answer(
     let Ok(token) = make(alloc, key, nonce, amounts) else {
         return Err(Memory);
     };
-    Ok(labelled(alloc, b"token ", &token)?)
+    joined(alloc, b"token ", &token)
 }
 
 fn mac_answer(alloc: Global, key: &[u8], message: &[u8]) -> Result<Vec<u8>, Memory>
     ensures { IfOk result (λ v. v.items ≡ codes "mac " ++ encode_lower (hmac key.now message.now)) }
 {
     let digits = hex::encode(alloc, mac(key, message))?;
-    Ok(labelled(alloc, b"mac ", digits.as_bytes())?)
-}
-
-fn labelled(alloc: Global, label: &[u8], text: &[u8]) -> Result<Vec<u8>, AllocError>
-    ensures { IfOk result (λ v. v.items ≡ label.now ++ text.now) }
-{
-    let mut line = Vec::from_slice(alloc, label)?;
-    line.extend_from_slice(text)?;
-    Ok(line)
+    joined(alloc, b"mac ", digits.as_bytes())
 }

@@ -5,7 +5,7 @@ use Rattle.std.specs.declared.option.Option.{Option}
 use Rattle.std.specs.Option.{option_map}
 use Rattle.xfs_base.specs.declared.money.NoteKind.{NoteKind}
 use Rattle.xfs_journal.specs.declared.record.Rec.{Rec}
-use Rattle.xfs_journal.specs.declared.record.Rec.TheVariants.{Issue, Bind, Order, Done}
+use Rattle.xfs_journal.specs.declared.record.Rec.TheVariants.{Issue, Bind, Order, Done, Load}
 use Rattle.xfs_journal.specs.Journal.{record_at, live_of, last_mark, next_issue, nonce_text, next_number, live_after, mark_after, Finding, found_after, Binding, bound_after}
 use Rattle.xfs_journal.proofs.JournalLaws.{live_of-push, token_of-push, bind_of-push, last_mark-push, next_issue-push, record_at-push, record_at-pushed, record_at-within, eqb-same}
 use Rattle.std.proofs.lemmas.Bool.{cases_lt}
@@ -130,19 +130,30 @@ same-bind : (b : Option Bound) → SameBind b b
 same-bind None = tt
 same-bind (Some b) = refl
 
--- an order is written
-pub IsRead-order : (J : List Rec) (u : List NoteKind) (i m : ℕ) (l : Option Live) (b : Option Bound) (k : Kind) (c : Counts) → IsRead J u i m l b → IsRead (J ++ Order k c ∷ []) u i m l b
-IsRead-order J u i m l b k c h = record {
-  issued = rw (next_issue-push J (Order k c)) h.issued;
-  few = let e = length-append J (Order k c ∷ []) in let f = h.few in omega (arith, e, f);
-  marked = h.marked ∙ sym (last_mark-push J (Order k c));
-  lives = lives-plain J (Order k c) l h.lives (λ n x. refl);
-  binds = binds-plain u J (Order k c) l b b h.lives h.binds (same-bind b) (λ p f. refl) (λ p f. refl) (more b (sums-of u J l b h.binds));
+-- a record is written that no reading of the journal looks at
+IsRead-plain : (J : List Rec) (u : List NoteKind) (i m : ℕ) (l : Option Live) (b : Option Bound) (r : Rec) → IsRead J u i m l b
+    → ((k : ℕ) → next_number k r ≡ k) → ((k : ℕ) (x : Option ℕ) → live_after k x r ≡ x) → ((k x : ℕ) → mark_after k x r ≡ x)
+    → ((p : ℕ) (f : Finding) → found_after p f r ≡ f.token) → ((p : ℕ) (f : Binding) → bound_after p f r ≡ f.place)
+    → ((c : List ℕ) → presented_in u (J ++ r ∷ []) c ≡ presented_in u J c) → IsRead (J ++ r ∷ []) u i m l b
+IsRead-plain J u i m l b r h numbers lives marks token place worth = record {
+  issued = rw (next_issue-push J r, numbers (next_issue J)) h.issued;
+  few = let e = length-append J (r ∷ []) in let f = h.few in omega (arith, e, f);
+  marked = h.marked ∙ sym (last_mark-push J r ∙ marks (length J) (last_mark J));
+  lives = lives-plain J r l h.lives lives;
+  binds = binds-plain u J r l b b h.lives h.binds (same-bind b) token place (more b (sums-of u J l b h.binds));
 }
   where
-    more : (b : Option Bound) → SumsOf u J b → SumsOf u (J ++ Order k c ∷ []) b
+    more : (b : Option Bound) → SumsOf u J b → SumsOf u (J ++ r ∷ []) b
     more None s = tt
-    more (Some b) s = λ j a e. s j a e ∙ sym (presented_in-push u J (Order k c) a.0)
+    more (Some b) s = λ j a e. s j a e ∙ sym (worth a.0)
+
+-- an order is written
+pub IsRead-order : (J : List Rec) (u : List NoteKind) (i m : ℕ) (l : Option Live) (b : Option Bound) (k : Kind) (c : Counts) → IsRead J u i m l b → IsRead (J ++ Order k c ∷ []) u i m l b
+IsRead-order J u i m l b k c h = IsRead-plain J u i m l b (Order k c) h (λ n. refl) (λ n x. refl) (λ n x. refl) (λ p f. refl) (λ p f. refl) (λ cur. presented_in-push u J (Order k c) cur)
+
+-- a loading is written
+pub IsRead-load : (J : List Rec) (u : List NoteKind) (i m : ℕ) (l : Option Live) (b : Option Bound) (unit count : ℕ) → IsRead J u i m l b → IsRead (J ++ Load unit count ∷ []) u i m l b
+IsRead-load J u i m l b unit count h = IsRead-plain J u i m l b (Load unit count) h (λ n. refl) (λ n x. refl) (λ n x. refl) (λ p f. refl) (λ p f. refl) (λ cur. presented_in-push u J (Load unit count) cur)
 
 -- what an order did is written
 pub IsRead-done : (J : List Rec) (u : List NoteKind) (i m : ℕ) (l : Option Live) (b c : Option Bound) (n d : Counts) → IsRead J u i m l b → SameBind b c → SumsOf u (J ++ Done n d ∷ []) c

@@ -7,5 +7,6 @@ pub mod LedgerLaws
 pub mod OrderLaws
 pub mod PresentedLaws
 pub mod RecordLaws
+pub mod ReportLaws
 pub mod SoundLaws
 pub mod WithinLaws

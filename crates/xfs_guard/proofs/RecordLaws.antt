@@ -315,6 +315,41 @@ IsSound-bind v p b t amounts s none lives unbound carries are enough = record {
         (λ q cur l. let was = rw none at (u.counted q cur (live q l)) in let w = presented_in-push v.units v.records (Bind b) cur in omega (arith, was, w))
         tt
 
+-- a loading is written
+pub IsSound-load : (v : View) (unit count : ℕ) → IsSound v → v.open_order ≡ No → IsSound (longer v (Load unit count) v.bound No)
+IsSound-load v unit count s none = record {
+  numbered = Walk-push next_number CarriesNumber 1 v.records (Load unit count) s.numbered tt;
+  stands = rw last-pushed tt;
+  budget = record {
+    funded = λ p b lives bound.
+        let f = s.budget.funded p b (live p lives) (sym (token_of-push v.records (Load unit count) p) ∙ bound) in record {
+          token = f.token;
+          carries = carries-record v.key v.records (Load unit count) p b f.token f.carries;
+          amounts = f.amounts;
+          amounts_are = f.amounts_are;
+          kept = f.kept;
+          enough = λ cur. let e = presented_in-push v.units v.records (Load unit count) cur in let w = rw none at (f.enough cur) in omega (arith, e, w);
+        };
+    unbound = λ p lives free.
+        let old = s.budget.unbound p (live p lives) (sym (token_of-push v.records (Load unit count) p) ∙ free) in
+        (old.0, λ cur. presented_in-push v.units v.records (Load unit count) cur ∙ old.1 cur);
+    dead = λ dead. s.budget.dead (sym (live_of-push v.records (Load unit count)) ∙ dead);
+  };
+  told = ties v.motions s.told;
+}
+  where
+    live : (p : ℕ) → live_of (v.records ++ Load unit count ∷ []) ≡ Some p → live_of v.records ≡ Some p
+    live p lives = sym (live_of-push v.records (Load unit count)) ∙ lives
+
+    before : IsNoOrder (record_at v.records (length v.records))
+    before = rw none at s.stands
+
+    ties : (told : Option (List Motion)) → IfTold told (Ties v) → IfTold told (Ties (longer v (Load unit count) v.bound No))
+    ties None t = tt
+    ties (Some L) t = Ties-record v (Load unit count) v.bound No L t before (λ k' c' m' d' o e. cc)
+        (λ p cur lives. let was = rw none at (t.counted p cur (live p lives)) in let e = presented_in-push v.units v.records (Load unit count) cur in omega (arith, was, e))
+        tt
+
 -- what an order to present wants of the journal before it
 pub released-order : (J : List Rec) (c : Counts) (p : ℕ) (b : List ℕ) → live_of J ≡ Some p → token_of J p ≡ Some b → IsReleased (J ++ Order Present c ∷ [])
 released-order J c p b lives bound = record {

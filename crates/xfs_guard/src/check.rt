@@ -96,6 +96,7 @@ impl<M: Mechanism> Guard<M> {
         ensures refused { Answers result (over_budget self.old claim.amounts counts.now) }
         ensures issue { IfOk result (λ p. option_map (λ n. n.number) (live_nonce self.old.records) ≡ Some p.issue) }
         ensures ok { OnOk result (Binds self.old self.new claim.token claim.amounts) }
+        ensures none { self.new.open_order ≡ No }
         ensures err { OnErr result (self.new ≡ self.old) }
         ensures continues { OnOk result (Continues self.old self.new) }
     {

@@ -1,5 +1,5 @@
 ghost use Rattle.std.specs.Prelude.{◌≡◌, ◌≢◌, ◌↔◌, ℕ, true, List, ◌+◌, ◌<◌, ◌≤◌, [], ◌∷◌, ◌++◌, length, OnOk, OnErr, IfOk, IfErr, IsTrue, Some, None, unwrap_or};
-ghost use Rattle.xfs_base.specs.Causes.{IfTold};
+ghost use Rattle.xfs_base.specs.Causes.{IfTold, Rose};
 ghost use Rattle.xfs_journal.specs.declared.record.Rec.TheVariants.{Issue, Clear, Boot, Bind, Order, Done};
 ghost use Rattle.xfs_journal.specs.Journal.{next_issue};
 ghost use Rattle.xfs_guard.specs.declared.open.Open.TheVariants.{No, Written};
@@ -290,6 +290,8 @@ impl<M: Mechanism> Guard<M> {
     pub fn act(&mut self) -> Outcome
         requires { IsWritten self.old.open_order }
         ensures acted { Acts self.old self.new result.moved result.diverted result.failed }
+        ensures later { self.old.faults ≤ self.new.faults }
+        ensures cause { result.failed ≡ true → Rose self.old.faults self.new.faults }
         ensures continues { Continues self.old self.new }
     {
         let Open::Written { kind, counts } = self.open_order else {

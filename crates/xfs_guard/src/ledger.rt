@@ -5,7 +5,7 @@ ghost use Rattle.std.specs.Option.{option_copied, option_map};
 ghost use Rattle.xfs_base.specs.Money.{value};
 ghost use Rattle.xfs_base.specs.declared.counts.Counts.{Counts};
 ghost use Rattle.xfs_base.specs.declared.counts.Kind.TheVariants.{Present};
-ghost use Rattle.xfs_journal.specs.declared.record.Rec.TheVariants.{Issue, Clear, Boot, Bind, Order, Done};
+ghost use Rattle.xfs_journal.specs.declared.record.Rec.TheVariants.{Issue, Clear, Boot, Bind, Order, Done, Load};
 ghost use Rattle.xfs_journal.specs.Journal.{record_at, live_of, token_of, last_mark, next_issue, nonce_text};
 ghost use Rattle.xfs_guard.specs.Nonce.{live_nonce};
 ghost use Rattle.xfs_guard.specs.Refusals.{bound_token, bound_place};
@@ -219,6 +219,15 @@ impl Ledger {
             amounts,
             presented: [0; 9],
         });
+        Ok(())
+    }
+
+    /// The operator added notes to a unit.
+    pub fn load(&mut self, unit: u8, count: u32) -> Result<(), AllocError>
+        ensures ok { OnOk result (Writes self.old self.new (Load unit count) self.old.bound) }
+        ensures err { OnErr result (IsSame self.old self.new) }
+    {
+        self.records.push(Rec::Load { unit, count })?;
         Ok(())
     }
 

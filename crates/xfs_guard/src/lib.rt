@@ -13,6 +13,7 @@ mod guard;
 mod ledger;
 mod nonce;
 mod open;
+mod reports;
 
 pub use ask::Ask;
 pub use claim::{Claim, Permit};

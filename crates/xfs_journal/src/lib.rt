@@ -3,6 +3,7 @@
 
 mod block;
 mod body;
+mod differ;
 mod faults;
 mod gate;
 mod journal;
@@ -11,6 +12,7 @@ mod mount;
 mod page;
 mod read;
 mod record;
+mod remount;
 mod scan;
 mod text;
 
@@ -21,3 +23,6 @@ pub use read::read_body;
 pub use record::Rec;
 pub use text::Text;
 pub use xfs_base::Kind;
+
+#[cfg(test)]
+mod tests;

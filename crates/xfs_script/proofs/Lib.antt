@@ -5,7 +5,9 @@ pub mod Due
 pub mod Ends
 pub mod Faults
 pub mod FieldLists
+pub mod Fills
 pub mod Numerals
+pub mod Parts
 pub mod UnitParts
 pub mod UnitTexts
 pub mod WordLines

@@ -3,9 +3,9 @@ use Rattle.std.proofs.Common.{◌≡◌, ℕ, ◌<◌, List, ◌++◌, length, t
 use Rattle.std.proofs.lemmas.List.{take-append-drop, take_at}
 use Rattle.xfs_base.specs.declared.counts.Counts.{Counts}
 use Rattle.xfs_script.specs.Dispense.{HasFields}
-use Rattle.xfs_script.specs.Guard.{IsGuardLine, IsWordLine, IsMint}
+use Rattle.xfs_script.specs.Guard.{IsGuardLine, IsWordLine, IsMint, IsFill}
 use Rattle.xfs_script.specs.declared.guard_line.GuardLine.{GuardLine}
-use Rattle.xfs_script.specs.declared.guard_line.GuardLine.TheVariants.{Skip, Issue, Clear, Mint, Dispense, Present, Reject, Retract, Take, Restart, Show}
+use Rattle.xfs_script.specs.declared.guard_line.GuardLine.TheVariants.{Skip, Issue, Clear, Mint, Dispense, Fill, Present, Reject, Retract, Take, Restart, Show}
 
 pub field_is : (text front begin field : List ℕ) → begin ≡ take (length front) text → field ≡ drop (length front) text → begin ≡ front → text ≡ front ++ field
 field_is text front begin field begins behind same =
@@ -18,15 +18,16 @@ no_field text front begin begins other field is =
 pub short_field : (text front : List ℕ) → length text < length front → (field : List ℕ) → text ≡ front ++ field → ⊥
 short_field text front short field is = absurd (let bad : ⊥ = omega (arith, ap length is, length-append front field) in bad)
 
-pub no_line : (text : List ℕ) → ((line : GuardLine) → IsWordLine text line → ⊥) → ((amounts : List (List ℕ × ℕ)) → IsMint text amounts → ⊥) → ((field : List ℕ) (counts : Counts) → HasFields text field counts → ⊥) → (line : GuardLine) → IsGuardLine text line → ⊥
-no_line text word mint dispense Skip is = word Skip is
-no_line text word mint dispense Issue is = word Issue is
-no_line text word mint dispense Clear is = word Clear is
-no_line text word mint dispense (Mint amounts) is = mint amounts is
-no_line text word mint dispense (Dispense token counts) is = dispense is.field counts is.has
-no_line text word mint dispense Present is = word Present is
-no_line text word mint dispense Reject is = word Reject is
-no_line text word mint dispense Retract is = word Retract is
-no_line text word mint dispense Take is = word Take is
-no_line text word mint dispense Restart is = word Restart is
-no_line text word mint dispense Show is = word Show is
+pub no_line : (text : List ℕ) → ((line : GuardLine) → IsWordLine text line → ⊥) → ((amounts : List (List ℕ × ℕ)) → IsMint text amounts → ⊥) → ((unit count : ℕ) → IsFill text unit count → ⊥) → ((field : List ℕ) (counts : Counts) → HasFields text field counts → ⊥) → (line : GuardLine) → IsGuardLine text line → ⊥
+no_line text word mint fill dispense Skip is = word Skip is
+no_line text word mint fill dispense Issue is = word Issue is
+no_line text word mint fill dispense Clear is = word Clear is
+no_line text word mint fill dispense (Mint amounts) is = mint amounts is
+no_line text word mint fill dispense (Dispense token counts) is = dispense is.field counts is.has
+no_line text word mint fill dispense (Fill unit count) is = fill unit count is
+no_line text word mint fill dispense Present is = word Present is
+no_line text word mint fill dispense Reject is = word Reject is
+no_line text word mint fill dispense Retract is = word Retract is
+no_line text word mint fill dispense Take is = word Take is
+no_line text word mint fill dispense Restart is = word Restart is
+no_line text word mint fill dispense Show is = word Show is

@@ -2,9 +2,9 @@ ghost use Rattle.std.specs.Prelude.{◌≡◌, ◌+◌, ◌≤◌, ◌∷◌, Li
 ghost use Rattle.xfs_base.specs.declared.counts.Counts as logic;
 ghost use Rattle.xfs_script.specs.Counts.{IsCount, IsUnit, SpellsCounts};
 
-use crate::digits::read_digits;
 use crate::word::{cut, field_of};
 use xfs_base::Counts;
+use xfs_token::read_digits;
 
 /// The most notes that a line asks of one unit.
 const MOST_NOTES: u64 = 1_000_000;
@@ -36,26 +36,26 @@ fn read_unit(part: &[u8]) -> Option<(u8, u32)>
     ensures found { IfSome result (λ u. IsUnit part.now u.0 u.1) }
     ensures none { IfNone result ((unit count : ℕ) → ¬ IsUnit part.now unit count) }
 {
-    let (unit, digits) = number_of_unit(field_of(part, b"unit")?)?;
+    let (unit, digits) = number_of_unit(field_of(part, b"unit")?, b':')?;
     let count = read_count(digits)?;
     Some((unit, count))
 }
 
-// The number of a unit, and what stands behind its colon.
-fn number_of_unit(field: &[u8]) -> Option<(u8, &[u8])>
-    ensures found { IfSome result (λ u. field.now ≡ (48 + u.0) ∷ 58 ∷ u.1.now) }
+// The number of a unit, and what stands behind the byte that follows it.
+pub(crate) fn number_of_unit(field: &[u8], mark: u8) -> Option<(u8, &[u8])>
+    ensures found { IfSome result (λ u. field.now ≡ (48 + u.0) ∷ mark ∷ u.1.now) }
     ensures within { IfSome result (λ u. (1 ≤ u.0) × (u.0 ≤ 8)) }
-    ensures none { IfNone result ((unit : ℕ) (digits : List ℕ) → 1 ≤ unit → unit ≤ 8 → ¬ (field.now ≡ (48 + unit) ∷ 58 ∷ digits)) }
+    ensures none { IfNone result ((unit : ℕ) (digits : List ℕ) → 1 ≤ unit → unit ≤ 8 → ¬ (field.now ≡ (48 + unit) ∷ mark ∷ digits)) }
 {
     match field {
-        [digit, b':', digits @ ..] if *digit >= b'1' && *digit <= b'8' => {
+        [digit, byte, digits @ ..] if *byte == mark && *digit >= b'1' && *digit <= b'8' => {
             Some((*digit - b'0', digits))
         }
         _ => None,
     }
 }
 
-fn read_count(digits: &[u8]) -> Option<u32>
+pub(crate) fn read_count(digits: &[u8]) -> Option<u32>
     ensures found { IfSome result (IsCount digits.now) }
     ensures none { IfNone result ((count : ℕ) → ¬ IsCount digits.now count) }
 {

@@ -3,8 +3,9 @@ ghost use Rattle.xfs_script.specs.Guard.{IsGuardLine, IsWordLine, IsMint};
 ghost use Rattle.xfs_script.specs.declared.guard_line.GuardLine.{GuardLine};
 ghost use Rattle.xfs_script.specs.declared.guard_line.ScriptFault.TheVariants as ScriptFault;
 
-use crate::amount::read_amounts;
+use crate::amounts::read_amounts;
 use crate::dispense::{read_dispense, read_given};
+use crate::fill::read_fill;
 use crate::word::{field_of, is_skipped, is_word};
 use std::alloc::Global;
 use xfs_base::{Bytes, Counts};
@@ -19,6 +20,8 @@ pub enum GuardLine {
     Clear,
     Mint(Amounts),
     Dispense { token: Given, counts: Counts },
+    /// So many notes, from 1 to 10,000, are put into a unit from 1 to 8.
+    Fill { unit: u8, count: u32 },
     Present,
     Reject,
     Retract,
@@ -53,6 +56,9 @@ pub fn read_guard(alloc: Global, text: &[u8]) -> Result<GuardLine, ScriptFault>
     }
     if let Some(amounts) = read_mint(text) {
         return Ok(GuardLine::Mint(amounts));
+    }
+    if let Some((unit, count)) = read_fill(text) {
+        return Ok(GuardLine::Fill { unit, count });
     }
     let Some((field, counts)) = read_dispense(text) else {
         return Err(ScriptFault::NotALine);

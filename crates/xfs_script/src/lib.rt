@@ -1,12 +1,12 @@
 //! The lines of a script: how the input is cut into them, and how each command reads one.
 #![tactic(auto)]
 
-mod amount;
+mod amounts;
 mod counts;
 mod counts_field;
-mod digits;
 mod dispense;
 mod feed;
+mod fill;
 mod guard_line;
 mod line;
 mod lines;

@@ -277,6 +277,50 @@ fn lines_that_dispense_nothing(rt: HostRuntime) {
     }
 }
 
+// The unit and the count of a `fill` line.
+fn filled(alloc: Global, text: &[u8]) -> Result<(u8, u32), Fail> {
+    let line = read_guard(alloc, text)?;
+    match &line {
+        GuardLine::Fill { unit, count } => Ok((*unit, *count)),
+        _ => Ok((0, 0)),
+    }
+}
+
+#[test]
+fn units_and_counts_of_fill(rt: HostRuntime) -> Result<(), Fail> {
+    let table: [(&[u8], u8, u32); 4] = [
+        (b"fill unit1 1", 1, 1),
+        (b"fill unit1 9901", 1, 9_901),
+        (b"fill unit5 10", 5, 10),
+        (b"fill unit8 10000", 8, 10_000),
+    ];
+    for (text, unit, count) in table {
+        assert_eq!(rt; filled(rt.alloc(), text)?, (unit, count));
+    }
+    Ok(())
+}
+
+#[test]
+fn lines_that_fill_nothing(rt: HostRuntime) {
+    let table: [&[u8]; 12] = [
+        b"fill",
+        b"fill unit1",
+        b"fill unit1 ",
+        b"fill unit1 0",
+        b"fill unit1 01",
+        b"fill unit1 10001",
+        b"fill unit1 1000000",
+        b"fill unit0 1",
+        b"fill unit9 1",
+        b"fill unit10 1",
+        b"fill unit1:1",
+        b"fill  unit1 1",
+    ];
+    for text in table {
+        assert!(rt; matches!(read_guard(rt.alloc(), text), Err(ScriptFault::NotALine)));
+    }
+}
+
 #[test]
 fn counts_in_answers(rt: HostRuntime) -> Result<(), Fail> {
     let table: [([u32; 8], &[u8]); 3] = [

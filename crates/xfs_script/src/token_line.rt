@@ -6,7 +6,7 @@ ghost use Rattle.xfs_script.specs.TokenLines.{IsTokenLine, IsMake, IsMac, IsHex}
 ghost use Rattle.xfs_script.specs.declared.token_line.TokenLine.{TokenLine};
 ghost use Rattle.xfs_script.specs.declared.guard_line.ScriptFault.TheVariants as ScriptFault;
 
-use crate::amount::read_amounts;
+use crate::amounts::read_amounts;
 use crate::guard_line::ScriptFault;
 use crate::word::{field_of, is_skipped, is_word, three_fields};
 use hex::FromHexError;

@@ -1,14 +1,14 @@
 -- The text of an amount reads back as the amount.
-use Rattle.std.proofs.Common.{◌≡◌, ℕ, zero, suc, ◌+◌, ◌-◌, ◌*◌, ◌/◌, ◌%◌, ◌^◌, ◌<◌, ◌≤◌, ◌==◌, Bool, true, false, not, ◌&&◌, cond, List, [], ◌∷◌, ◌++◌, length, take, drop, refl, sym, ◌∙◌, ap, subst, arith, length-append, append_assoc, inl, inr}
-use Rattle.std.specs.Prelude.{decimal, codes, Some, None, fold, nat_le, if◌then◌else◌}
-use Rattle.std.specs.List.{list_all, before_first, position_or_len, prefix_len}
+use Rattle.std.proofs.Common.{◌≡◌, ℕ, ◌+◌, ◌-◌, ◌*◌, ◌/◌, ◌%◌, ◌^◌, ◌<◌, ◌≤◌, ◌==◌, Bool, true, false, ◌&&◌, List, [], ◌∷◌, ◌++◌, length, drop, refl, ◌∙◌, ap, arith, length-append, inl, inr}
+use Rattle.std.specs.Prelude.{decimal, Some, None, nat_le, if◌then◌else◌}
+use Rattle.std.specs.List.{list_all, before_first, position_or_len}
 use Rattle.std.proofs.Math.Seq.{take-append_seam, drop-append_seam}
 use Rattle.std.proofs.lemmas.Bool.{and_parts, and_from, le-leb, leb-true, eqb-true, ne_eqb, cases_Bool}
 use Rattle.std.proofs.lemmas.List.Folds.{list_all-append}
 use Rattle.std.proofs.lemmas.Fmt.{decimal_by_steps, length-decimal-le}
 use Rattle.std.proofs.lemmas.Grind.{fold-append}
 use Rattle.xfs_token.specs.Token.{is_digit, is_letter}
-use Rattle.xfs_token.specs.Amounts.{number_of, is_whole, is_part, is_currency, thousandths, filled, read_amount, decimals, amount_text, amount_from, amount_before}
+use Rattle.xfs_token.specs.Amounts.{number_of, is_whole, is_part, is_currency, thousandths, read_amount, decimals, amount_text, amount_from, amount_before}
 
 -- the digits that a number is written with
 record IsWritten (n : ℕ) (ds : List ℕ) : Type 0 where

@@ -1,9 +1,9 @@
 -- Where a nonce, a key, a value and an HMAC end in a text, or are stuck.
-use Rattle.std.proofs.Common.{◌≡◌, ℕ, zero, suc, ◌+◌, ◌-◌, ◌<◌, ◌≤◌, ◌==◌, Bool, true, false, not, ◌&&◌, ◌||◌, cond, List, [], ◌∷◌, ◌++◌, length, take, drop, refl, sym, ◌∙◌, ap, subst, arith, inl, inr, length-append, append_assoc, get_or}
-use Rattle.std.specs.Prelude.{◌⊎◌, codes, slice_index, nat_le, Ok}
-use Rattle.std.specs.List.{list_all, prefix_len}
+use Rattle.std.proofs.Common.{◌≡◌, ℕ, zero, suc, ◌+◌, ◌<◌, ◌≤◌, ◌==◌, Bool, true, false, not, ◌&&◌, ◌||◌, List, [], ◌∷◌, ◌++◌, length, take, drop, refl, sym, ◌∙◌, ap, subst, arith, inl, inr, length-append, append_assoc, get_or}
+use Rattle.std.specs.Prelude.{◌⊎◌, codes, slice_index, Ok}
+use Rattle.std.specs.List.{list_all}
 use Rattle.std.specs.Str.{bytes_eq}
-use Rattle.std.proofs.lemmas.Bool.{and_parts, and_from, cases_Bool, cases_lt, eqb-true, eq-eqb, le-leb}
+use Rattle.std.proofs.lemmas.Bool.{and_parts, and_from, cases_lt, eqb-true, eq-eqb, le-leb}
 use Rattle.std.proofs.lemmas.List.Folds.{list_all-append}
 use Rattle.std.proofs.lemmas.List.{take-append-drop, length-take-le, length-drop, take_more, append-nil}
 use Rattle.hex.specs.Hex.{decode_sized, decode_pairs, upper_digits}
@@ -16,7 +16,7 @@ use Rattle.xfs_token.proofs.Front.{stuck_no_nonce, stuck_nonce}
 use Rattle.xfs_token.proofs.HexText.{mac_of as digits_mac, stuck_mac_short, stuck_mac_long}
 use Rattle.xfs_token.proofs.Keys.{Frees, stuck_no_key, stuck_key, stuck_taken, stuck_last}
 use Rattle.xfs_token.proofs.Fresh.{frees_short, frees_free, longer_no_reserved}
-use Rattle.xfs_token.proofs.Runs.{Run, run_of, byte_behind, other_first}
+use Rattle.xfs_token.proofs.Runs.{Run, byte_behind, other_first}
 
 -- what is stuck behind the first n bytes
 back_to : (L : List ℕ → Type 0) (text rest : List ℕ) (n : ℕ) → rest ≡ drop n text → IsStuck L (take n text ++ drop n text) (length (drop n text)) → IsStuck L text (length rest)

@@ -1,14 +1,13 @@
 -- A key of fewer than 32 bytes can be made longer to one that is free, since a token of 1,024 bytes has no room for 36 keys of 32 bytes.
-use Rattle.std.proofs.Common.{◌≡◌, ℕ, zero, suc, ◌+◌, ◌-◌, ◌*◌, ◌<◌, ◌≤◌, ◌==◌, Bool, true, false, not, ◌&&◌, ◌||◌, cond, List, [], ◌∷◌, ◌++◌, length, take, drop, replicate, refl, sym, ◌∙◌, ap, subst, arith, length-append, append_assoc, inl, inr}
-use Rattle.std.specs.Prelude.{codes, nat_le, ◌⊎◌, slice_index, if◌then◌else◌}
+use Rattle.std.proofs.Common.{◌≡◌, ℕ, zero, suc, ◌+◌, ◌-◌, ◌*◌, ◌<◌, ◌≤◌, ◌==◌, Bool, true, false, not, ◌||◌, List, [], ◌∷◌, ◌++◌, length, replicate, refl, sym, ◌∙◌, ap, subst, arith, length-append, append_assoc, inl, inr}
+use Rattle.std.specs.Prelude.{codes, nat_le, slice_index, if◌then◌else◌}
 use Rattle.std.specs.List.{list_all}
 use Rattle.std.specs.Str.{bytes_eq}
-use Rattle.std.proofs.lemmas.Bool.{and_parts, and_from, cases_Bool, cases_lt, leb-true, le-leb, lt-leb, eqb-true, eqb-false}
+use Rattle.std.proofs.lemmas.Bool.{and_from, cases_Bool, cases_lt, le-leb, lt-leb, eqb-true, eqb-false}
 use Rattle.std.proofs.lemmas.List.{append-nil}
 use Rattle.std.proofs.lemmas.List.Folds.{list_all-append}
 use Rattle.std.proofs.lemmas.Slice.Eq.{bytes_eq-Decides}
-use Rattle.xfs_token.specs.Token.{is_key, is_key_byte, is_letter, is_digit, is_free_key, is_reserved, has_key, pairs_text}
-use Rattle.xfs_token.proofs.Stuck.{both_ways}
+use Rattle.xfs_token.specs.Token.{is_key, is_key_byte, is_letter, is_free_key, is_reserved, has_key, pairs_text}
 use Rattle.xfs_token.proofs.HexText.{below-at}
 use Rattle.xfs_token.proofs.Keys.{Frees}
 

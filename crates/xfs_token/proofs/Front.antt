@@ -1,11 +1,10 @@
 -- Where the front of a token is stuck: its nonce and its length field.
-use Rattle.std.proofs.Common.{◌≡◌, ℕ, zero, suc, ◌+◌, ◌-◌, ◌*◌, ◌/◌, ◌%◌, ◌<◌, ◌≤◌, ◌==◌, Bool, true, false, not, ◌&&◌, ◌||◌, cond, List, [], ◌∷◌, ◌++◌, length, take, drop, replicate, refl, sym, ◌∙◌, ap, subst, arith, length-append, append_assoc, inl, inr}
-use Rattle.std.specs.Prelude.{codes, IsTrue, nat_eq, nat_le, ◌⊎◌, slice_index}
+use Rattle.std.proofs.Common.{◌≡◌, ℕ, ◌+◌, ◌-◌, ◌*◌, ◌≤◌, ◌==◌, true, false, ◌&&◌, List, [], ◌∷◌, ◌++◌, length, refl, sym, ◌∙◌, ap, subst, arith, inl, inr}
+use Rattle.std.specs.Prelude.{codes, nat_le, ◌⊎◌}
 use Rattle.std.specs.List.{list_all}
-use Rattle.std.proofs.lemmas.Bool.{and_parts, and_from, cases_Bool, eqb-true, eqb-false, leb-true, le-leb}
-use Rattle.std.proofs.lemmas.List.Folds.{list_all-append}
+use Rattle.std.proofs.lemmas.Bool.{and_parts, cases_Bool, eqb-false, leb-true}
 use Rattle.xfs_token.specs.Token.{is_digit, is_nonce, is_upper_hex, four_digits}
-use Rattle.xfs_token.specs.Reading.{Stops, IsStuck, WordThen, Tail, NonceThen, LengthThen}
+use Rattle.xfs_token.specs.Reading.{Stops, IsStuck, WordThen, NonceThen, LengthThen}
 use Rattle.xfs_token.proofs.Stuck.{both_ways, stuck_now, same_run, no_longer, no_stop}
 use Rattle.xfs_token.proofs.Tails.{FirstFails, some_tail, ending}
 

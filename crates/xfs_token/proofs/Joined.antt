@@ -1,21 +1,20 @@
 -- A text's parts joined: where one part is stuck, the whole is; and the whole is the token's form.
-use Rattle.std.proofs.Common.{◌≡◌, ℕ, zero, suc, ◌+◌, ◌-◌, ◌<◌, ◌≤◌, Bool, true, false, not, ◌&&◌, ◌||◌, List, [], ◌∷◌, ◌++◌, length, take, drop, refl, sym, ◌∙◌, ap, subst, arith, inl, inr, length-append, append_assoc, nat_eq}
-use Rattle.std.specs.Prelude.{◌⊎◌, codes, IsTrue}
+use Rattle.std.proofs.Common.{◌≡◌, ℕ, ◌-◌, ◌<◌, ◌≤◌, true, false, not, ◌&&◌, List, [], ◌∷◌, ◌++◌, length, drop, refl, sym, ◌∙◌, ap, subst, arith, inl, inr, length-append, append_assoc, nat_eq}
+use Rattle.std.specs.Prelude.{◌⊎◌, codes}
 use Rattle.std.specs.List.{common_prefix_len}
 use Rattle.std.specs.Str.{bytes_eq}
 use Rattle.std.proofs.lemmas.Bool.{and_parts, or_cases}
-use Rattle.std.proofs.lemmas.List.{append-nil}
 use Rattle.std.proofs.lemmas.List.Sums.{common_prefix_len-le}
 use Rattle.std.proofs.lemmas.Slice.Eq.{bytes_eq-Decides}
 use Rattle.hex.specs.Hex.{encode_upper}
-use Rattle.xfs_token.specs.Token.{Parts, IsMac, IsWellFormed, covered, form, four_digits, is_nonce, is_key, is_free_key, is_reserved, has_key, is_value, may_follow, pairs_text}
+use Rattle.xfs_token.specs.Token.{Parts, IsMac, IsWellFormed, covered, form, four_digits, is_nonce, is_key, is_free_key, is_reserved, has_key, may_follow, pairs_text}
 use Rattle.xfs_token.specs.declared.faults.Stop.{Stop}
 use Rattle.xfs_token.specs.declared.faults.Stop.TheVariants.{Left, Memory}
-use Rattle.xfs_token.specs.Reading.{IsStopped, IsStuck, WordThen, Tail, LengthThen, NonceThen, MacEnd, ValueThen, Loose, IsFront, IsFormatAt, IsNonceThen, IsKeyThen, IsValueThen, IsTailOf, IsLooseAs, tail_text}
+use Rattle.xfs_token.specs.Reading.{IsStopped, IsStuck, WordThen, Tail, LengthThen, NonceThen, MacEnd, ValueThen, Loose, IsFront, IsFormatAt, IsNonceThen, IsKeyThen, IsTailOf, IsLooseAs, tail_text}
 use Rattle.xfs_token.proofs.Stuck.{both_ways, stuck_behind, stuck_word}
 use Rattle.xfs_token.proofs.Words.{stuck_behind_word, word_in_front}
 use Rattle.xfs_token.proofs.Front.{nonce_into, nonce_back, some_nonce}
-use Rattle.xfs_token.proofs.Tails.{value_into, value_back, mac_into, mac_back, comma_into, comma_back, tail_into, tail_back, front_text, front_text-push, tail_text-front}
+use Rattle.xfs_token.proofs.Tails.{value_into, value_back, mac_into, mac_back, tail_into, tail_back, front_text, front_text-push, tail_text-front}
 
 pub nonce_behind : (nonce rest : List ℕ) (left : ℕ) → is_nonce nonce ≡ true → IsStuck (WordThen (codes "TOKENFORMAT=1,TOKENLENGTH=") LengthThen) rest left → IsStuck NonceThen (nonce ++ 44 ∷ rest) left
 nonce_behind nonce rest left good s =

@@ -1,14 +1,13 @@
 -- Where a key is stuck: a key that may not stand there can mostly be made longer to one that may.
-use Rattle.std.proofs.Common.{◌≡◌, ℕ, zero, suc, ◌+◌, ◌-◌, ◌*◌, ◌/◌, ◌%◌, ◌<◌, ◌≤◌, ◌==◌, Bool, true, false, not, ◌&&◌, ◌||◌, cond, List, [], ◌∷◌, ◌++◌, length, take, drop, replicate, refl, sym, ◌∙◌, ap, subst, arith, length-append, append_assoc, inl, inr}
-use Rattle.std.specs.Prelude.{codes, IsTrue, nat_eq, nat_le, ◌⊎◌, slice_index}
-use Rattle.std.specs.List.{list_all, list_any}
+use Rattle.std.proofs.Common.{◌≡◌, ℕ, ◌≤◌, ◌==◌, true, false, not, ◌&&◌, List, [], ◌∷◌, ◌++◌, length, refl, sym, ◌∙◌, ap, subst, arith, length-append, append_assoc, inl, inr}
+use Rattle.std.specs.Prelude.{codes, nat_le, ◌⊎◌, slice_index}
+use Rattle.std.specs.List.{list_all}
 use Rattle.std.specs.Str.{bytes_eq}
-use Rattle.std.proofs.lemmas.Bool.{and_parts, and_from, cases_Bool, eqb-true, eqb-false, leb-true, le-leb, or_cases, or_parts, not-true, not-false}
+use Rattle.std.proofs.lemmas.Bool.{and_parts, cases_Bool, eqb-false, leb-true, not-true}
 use Rattle.std.proofs.lemmas.List.{append-nil}
-use Rattle.std.proofs.lemmas.List.Folds.{list_all-append}
 use Rattle.std.proofs.lemmas.Slice.Eq.{bytes_eq-Decides}
-use Rattle.xfs_token.specs.Token.{is_key, is_key_byte, is_letter, is_digit, is_free_key, is_reserved, has_key, is_value, pairs_text}
-use Rattle.xfs_token.specs.Reading.{Stops, IsStuck, Tail, MacEnd, ValueThen}
+use Rattle.xfs_token.specs.Token.{is_key, is_key_byte, is_letter, is_free_key, is_reserved, has_key}
+use Rattle.xfs_token.specs.Reading.{Stops, IsStuck, Tail}
 use Rattle.xfs_token.proofs.Stuck.{both_ways, stuck_now, same_run, no_longer, no_stop}
 use Rattle.xfs_token.proofs.Tails.{FirstFails, KeyFront, key_front, key_is_free, value_into, comma_into, some_tail, ending}
 

@@ -1,15 +1,15 @@
 -- Where the length field ends in a text, or is stuck.
-use Rattle.std.proofs.Common.{◌≡◌, ℕ, zero, suc, ◌+◌, ◌-◌, ◌*◌, ◌/◌, ◌%◌, ◌<◌, ◌≤◌, ◌==◌, Bool, true, false, not, ◌&&◌, cond, List, [], ◌∷◌, ◌++◌, length, take, drop, replicate, refl, sym, ◌∙◌, ap, subst, arith, inl, inr, length-append, append_assoc}
+use Rattle.std.proofs.Common.{◌≡◌, ℕ, zero, suc, ◌+◌, ◌-◌, ◌/◌, ◌%◌, ◌<◌, ◌≤◌, ◌==◌, true, false, List, [], ◌∷◌, ◌++◌, length, take, drop, replicate, refl, sym, ◌∙◌, ap, subst, arith, inl, inr, length-append, append_assoc}
 use Rattle.std.specs.Prelude.{◌⊎◌, codes, slice_index, nat_eq}
 use Rattle.std.specs.List.{list_all, common_prefix_len}
-use Rattle.std.proofs.lemmas.Bool.{and_parts, and_from, cases_Bool, eqb-true, eqb-false}
+use Rattle.std.proofs.lemmas.Bool.{and_parts, and_from, cases_Bool, eqb-false}
 use Rattle.std.proofs.lemmas.List.Folds.{list_all-append}
 use Rattle.std.proofs.lemmas.List.{take-append-drop, length-take-le, drop-drop}
 use Rattle.std.proofs.lemmas.List.Sums.{common_prefix_len-le}
 use Rattle.xfs_token.proofs.Words.{stuck_behind_word, word_in_front}
 use Rattle.xfs_token.specs.Token.{is_digit, four_digits}
 use Rattle.xfs_token.specs.Reading.{Stops, IsStuck, WordThen, LengthThen, IsFormatAt, IsLengthAt, first_is}
-use Rattle.xfs_token.proofs.Stuck.{stuck_word, both_ways, same_run, no_longer, no_stop}
+use Rattle.xfs_token.proofs.Stuck.{stuck_word, same_run, no_longer}
 use Rattle.xfs_token.proofs.Tails.{FirstFails, some_tail, ending}
 use Rattle.xfs_token.proofs.Front.{some_length, number_from, number_of_digits}
 use Rattle.xfs_token.proofs.AmountText.{digit_is}

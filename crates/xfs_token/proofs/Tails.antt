@@ -1,15 +1,15 @@
 -- What may stand behind a comma of a token: a pair and a tail again, or the HMAC.
-use Rattle.std.proofs.Common.{◌≡◌, ℕ, zero, suc, ◌+◌, ◌-◌, ◌*◌, ◌/◌, ◌%◌, ◌<◌, ◌≤◌, ◌==◌, Bool, true, false, not, ◌&&◌, ◌||◌, cond, List, [], ◌∷◌, ◌++◌, length, take, drop, replicate, refl, sym, ◌∙◌, ap, subst, arith, length-append, append_assoc, inl, inr}
-use Rattle.std.specs.Prelude.{codes, IsTrue, nat_eq, nat_le, ◌⊎◌, slice_index}
-use Rattle.std.specs.List.{list_all, prefix_len}
+use Rattle.std.proofs.Common.{◌≡◌, ℕ, zero, suc, ◌<◌, ◌==◌, Bool, true, false, not, ◌&&◌, ◌||◌, List, [], ◌∷◌, ◌++◌, length, replicate, refl, sym, ◌∙◌, ap, subst, arith, append_assoc, inl, inr}
+use Rattle.std.specs.Prelude.{codes, nat_le, ◌⊎◌, slice_index}
+use Rattle.std.specs.List.{list_all}
 use Rattle.std.specs.Str.{bytes_eq}
-use Rattle.std.proofs.lemmas.Bool.{and_parts, and_from, cases_Bool, eqb-true, eqb-false, or_parts, not-true}
+use Rattle.std.proofs.lemmas.Bool.{and_parts, and_from, eqb-false, or_parts, not-true}
 use Rattle.std.proofs.lemmas.List.{append-nil}
 use Rattle.std.proofs.lemmas.Slice.Eq.{bytes_eq-Decides}
 use Rattle.hex.specs.Hex.{encode_upper}
-use Rattle.xfs_token.specs.Token.{IsMac, is_key, is_key_byte, is_letter, is_digit, is_free_key, is_reserved, has_key, is_value, is_value_byte, may_follow}
-use Rattle.xfs_token.specs.Reading.{Stops, IsStuck, WordThen, Tail, MacEnd, ValueThen, tail_text}
-use Rattle.xfs_token.proofs.Stuck.{both_ways, stuck_behind, stuck_now, same_run, no_longer, no_stop}
+use Rattle.xfs_token.specs.Token.{IsMac, is_key, is_key_byte, is_letter, is_free_key, is_reserved, has_key, is_value, is_value_byte, may_follow}
+use Rattle.xfs_token.specs.Reading.{Stops, IsStuck, Tail, MacEnd, ValueThen, tail_text}
+use Rattle.xfs_token.proofs.Stuck.{both_ways, stuck_now, same_run, no_stop}
 
 pub key_bytes : (key : List ℕ) → is_key key ≡ true → list_all is_key_byte key ≡ true
 key_bytes key h = (and_parts (nat_le 1 (length key) && nat_le (length key) 32 && is_letter (slice_index key 0)) (list_all is_key_byte key) h).1

@@ -1,17 +1,17 @@
 -- From where a text is stuck to its fault; a text spells at most one token, and has at most one fault.
-use Rattle.std.proofs.Common.{◌≡◌, ℕ, zero, suc, ◌+◌, ◌-◌, ◌*◌, ◌/◌, ◌%◌, ◌<◌, ◌≤◌, ◌==◌, Bool, true, false, not, ◌&&◌, List, [], ◌∷◌, ◌++◌, length, take, drop, refl, sym, ◌∙◌, ap, subst, arith, inl, inr, length-append, append_assoc}
+use Rattle.std.proofs.Common.{◌≡◌, ℕ, suc, ◌+◌, ◌-◌, ◌/◌, ◌%◌, ◌<◌, ◌≤◌, true, not, ◌&&◌, List, [], ◌∷◌, ◌++◌, length, take, refl, sym, ◌∙◌, ap, subst, arith, inl, inr, length-append, append_assoc}
 use Rattle.std.specs.Prelude.{◌⊎◌, codes, Ok}
 use Rattle.std.specs.declared.result.Result.{Result}
 use Rattle.std.specs.List.{list_all}
 use Rattle.std.proofs.Math.Seq.{take-append_seam, take-append-add}
 use Rattle.std.proofs.lemmas.Bool.{and_parts, cases_lt}
-use Rattle.std.proofs.lemmas.List.{append-nil, take-append-le, length-take-le}
-use Rattle.hex.specs.Hex.{encode_upper, decode_sized}
-use Rattle.xfs_token.specs.Token.{Parts, IsMac, IsWellFormed, Spells, form, four_digits, is_nonce, is_upper_hex, is_key, is_key_byte, is_free_key, is_reserved, has_key, is_value, is_value_byte, may_follow}
-use Rattle.xfs_token.specs.Fault.{IsLoose, BeginsLoose, IsStuckAt, HasWrongLength, LacksValue, IsFault}
+use Rattle.std.proofs.lemmas.List.{append-nil}
+use Rattle.hex.specs.Hex.{encode_upper}
+use Rattle.xfs_token.specs.Token.{Parts, IsMac, IsWellFormed, Spells, form, four_digits, is_upper_hex, is_key, is_key_byte, is_free_key, is_reserved, has_key, is_value, is_value_byte, may_follow}
+use Rattle.xfs_token.specs.Fault.{IsLoose, IsStuckAt, HasWrongLength, LacksValue, IsFault}
 use Rattle.xfs_token.specs.declared.faults.TokenFault.{TokenFault}
 use Rattle.xfs_token.specs.declared.faults.TokenFault.TheVariants.{TooLong, KeyNoValue, Format, Memory}
-use Rattle.xfs_token.specs.Reading.{Stops, IsStuck, WordThen, Tail, LengthThen, NonceThen, MacEnd, Loose, IsLooseAs, tail_text}
+use Rattle.xfs_token.specs.Reading.{Stops, IsStuck, WordThen, Tail, LengthThen, NonceThen, Loose, IsLooseAs, tail_text}
 use Rattle.xfs_token.proofs.Stuck.{both_ways, same_run}
 use Rattle.xfs_token.proofs.Words.{cancel}
 use Rattle.xfs_token.proofs.Front.{nonce_digits}

@@ -1,5 +1,5 @@
 -- A text that has a word in front, and one that parts from it.
-use Rattle.std.proofs.Common.{◌≡◌, ℕ, zero, suc, ◌+◌, ◌-◌, ◌<◌, ◌≤◌, Bool, true, false, cond, List, [], ◌∷◌, ◌++◌, length, drop, refl, sym, ◌∙◌, ap, subst, arith, inl, inr, nat_eq}
+use Rattle.std.proofs.Common.{◌≡◌, ℕ, suc, ◌+◌, ◌≤◌, true, false, cond, List, [], ◌∷◌, ◌++◌, length, drop, refl, sym, ◌∙◌, ap, subst, arith, inl, inr, nat_eq}
 use Rattle.std.specs.Prelude.{◌⊎◌}
 use Rattle.std.specs.List.{common_prefix_len}
 use Rattle.std.proofs.lemmas.Bool.{cases_Bool, eqb-true}

@@ -1,6 +1,6 @@
 -- Texts that are written piece by piece.
-use Rattle.std.proofs.Common.{◌≡◌, ℕ, zero, suc, ◌+◌, ◌*◌, ◌≤◌, ◌<◌, ◌-◌, Bool, true, ◌&&◌, List, [], ◌∷◌, ◌++◌, length, take, drop, arith, length-append, refl, sym, ◌∙◌, ap, append_assoc}
-use Rattle.std.specs.Prelude.{codes, slice_get, slice_index, Some, nat_le}
+use Rattle.std.proofs.Common.{◌≡◌, ℕ, zero, suc, ◌+◌, ◌≤◌, ◌-◌, true, ◌&&◌, List, [], ◌∷◌, ◌++◌, length, take, drop, arith, length-append, refl, sym, ◌∙◌, ap, append_assoc}
+use Rattle.std.specs.Prelude.{codes, slice_get, Some, nat_le}
 use Rattle.std.specs.List.{list_all}
 use Rattle.std.proofs.Math.Seq.{take-append_seam}
 use Rattle.std.proofs.lemmas.Bool.{and_parts, leb-true}
@@ -8,8 +8,8 @@ use Rattle.hex.specs.Hex.{encode_upper, upper_digits}
 use Rattle.hex.proofs.HexLemmas.{length-encode_with}
 use Rattle.xfs_hmac.specs.Hmac.{hmac}
 use Rattle.xfs_token.proofs.Minted.{may_follow-dispense_pairs, amounts_of-dispense_pairs, length-dispense_pairs}
-use Rattle.xfs_token.specs.Token.{Parts, IsMac, IsWellFormed, Spells, Genuine, covered, form, four_digits, pairs_text, is_nonce, is_upper_hex}
-use Rattle.xfs_token.specs.Amounts.{dispense_key, dispense_pairs, amount_text, amounts_of, IsAmounts, IsMade}
+use Rattle.xfs_token.specs.Token.{Parts, IsMac, IsWellFormed, Spells, covered, form, four_digits, pairs_text, is_nonce, is_upper_hex}
+use Rattle.xfs_token.specs.Amounts.{dispense_key, dispense_pairs, amount_text, IsAmounts, IsMade}
 
 -- what the HMAC covers, one piece behind the other
 pub covered-chain : (v0 v1 v2 v3 v4 v5 nonce digits text : List ℕ) (pairs : List (List ℕ × List ℕ)) (n : ℕ) → v0 ≡ [] → v1 ≡ v0 ++ codes "NONCE=" → v2 ≡ v1 ++ nonce → v3 ≡ v2 ++ codes ",TOKENFORMAT=1,TOKENLENGTH="

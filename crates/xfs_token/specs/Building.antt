@@ -1,5 +1,5 @@
 -- Why a pair is not added: the key is looked at before the value.
-use Rattle.std.specs.Prelude.{◌≡◌, ℕ, List, ◌&&◌, not, if◌then◌else◌, None, Some, Ok, Err, MatchResult, ⊤}
+use Rattle.std.specs.Prelude.{◌≡◌, ℕ, List, not, if◌then◌else◌, None, Some, Err, MatchResult, ⊤}
 use Rattle.std.specs.declared.option.Option.{Option}
 use Rattle.std.specs.declared.result.Result.{Result}
 use Rattle.xfs_token.specs.Token.{is_free_key, is_value}

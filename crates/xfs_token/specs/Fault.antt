@@ -1,5 +1,5 @@
 -- Why a text is no token: it is too long, it has the form of a token with another length in its field, or no token's text goes on from its longest good front.
-use Rattle.std.specs.Prelude.{◌≡◌, ℕ, ◌+◌, ◌<◌, ◌≤◌, ◌⊎◌, List, [], ◌∷◌, ◌++◌, length, take, drop, codes}
+use Rattle.std.specs.Prelude.{◌≡◌, ℕ, ◌<◌, ◌≤◌, ◌⊎◌, List, [], ◌∷◌, ◌++◌, length, take, drop, codes}
 use Rattle.xfs_token.specs.Token.{Parts, IsWellFormed, Spells, form}
 use Rattle.xfs_token.specs.declared.faults.TokenFault.{TokenFault}
 use Rattle.xfs_token.specs.declared.faults.TokenFault.TheVariants.{TooLong, KeyNoValue, Format, Memory}

@@ -1,5 +1,5 @@
 -- What may stand at a place of a token's text, and that a text goes on from there no further.
-use Rattle.std.specs.Prelude.{◌≡◌, ℕ, ◌≤◌, ◌==◌, Bool, true, List, [], ◌∷◌, ◌++◌, length, take, drop, codes, IsTrue, false, ◌+◌, ◌-◌, ◌*◌, ◌||◌, slice_index}
+use Rattle.std.specs.Prelude.{◌≡◌, ℕ, ◌≤◌, ◌==◌, Bool, List, [], ◌∷◌, ◌++◌, length, take, drop, codes, IsTrue, false, ◌+◌, ◌-◌, ◌*◌, ◌||◌, slice_index}
 use Rattle.std.specs.Str.{bytes_eq}
 use Rattle.hex.specs.Hex.{encode_upper}
 use Rattle.xfs_token.specs.Token.{Parts, IsMac, IsWellFormed, form, is_nonce, is_value, is_free_key, may_follow, four_digits}

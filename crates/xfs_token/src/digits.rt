@@ -3,8 +3,9 @@ ghost use Rattle.std.specs.List.{list_all};
 ghost use Rattle.xfs_token.specs.Token.{is_digit};
 ghost use Rattle.xfs_token.specs.Amounts.{number_of};
 
-// The number that these digits write. None where another byte is among them.
-pub(crate) fn read_digits(digits: &[u8]) -> Option<u64>
+/// The number that at most nine decimal digits write: 0 where there are none. None where another
+/// byte is among them.
+pub fn read_digits(digits: &[u8]) -> Option<u64>
     requires { length digits.now ≤ 9 }
     ensures value { IfSome result (λ n. n ≡ number_of digits.now) }
     ensures bound { IfSome result (λ n. n < 10 ^ length digits.now) }

@@ -20,6 +20,7 @@ mod text;
 mod token;
 
 pub use amount::read_amount;
+pub use digits::read_digits;
 pub use dispense::amounts;
 pub use faults::TokenFault;
 pub use minting::{MakeFault, make};

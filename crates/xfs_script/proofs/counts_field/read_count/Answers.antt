@@ -1,6 +1,6 @@
 use Rattle.std.proofs.Common.{ℕ, arith, sym, refl}
 use Rattle.xfs_script.specs.Counts.{IsCount}
-use Rattle.xfs_script.proofs.AmountParts.{IfNone_from}
+use Rattle.xfs_token.proofs.AmountReading.{IfNone_from}
 use Rattle.xfs_script.proofs.Numerals.{count_is, no_count_other, no_count_more}
 use Rattle.xfs_script.proofs.counts_field.read_count.Goals as goal
 

@@ -1,7 +1,8 @@
 use Rattle.std.proofs.Common.{◌≡◌, ℕ, ◌-◌, List, set, length-set, arith, ap, sym, subst, ◌∙◌}
 use Rattle.xfs_base.specs.declared.counts.Counts.{Counts}
 use Rattle.xfs_script.specs.Counts.{SpellsCounts}
-use Rattle.xfs_script.proofs.AmountParts.{parts_left, cut_is, IfNone_from}
+use Rattle.xfs_token.proofs.AmountReading.{IfNone_from}
+use Rattle.xfs_script.proofs.Parts.{parts_left, cut_is}
 use Rattle.xfs_script.proofs.UnitParts.{SpellsOn, on_here, on_there, on_none, no_unit, counts_spelled, no_counts}
 use Rattle.xfs_script.proofs.counts_field.read_counts.Goals as goal
 

@@ -1,6 +1,6 @@
 use Rattle.std.proofs.Common.{◌≡◌, ℕ, ◌≤◌, List, length, replicate}
 use Rattle.xfs_script.specs.Fields.{parts}
-use Rattle.xfs_script.proofs.AmountParts.{parts_left, size_left}
+use Rattle.xfs_script.proofs.Parts.{parts_left, size_left}
 use Rattle.xfs_script.proofs.UnitParts.{SpellsOn}
 use Rattle.xfs_script.proofs.counts_field.read_counts.Given as goal
 

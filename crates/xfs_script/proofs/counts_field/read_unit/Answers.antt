@@ -1,6 +1,6 @@
 use Rattle.std.proofs.Common.{ℕ}
 use Rattle.xfs_script.specs.Counts.{IsUnit}
-use Rattle.xfs_script.proofs.AmountParts.{IfNone_from}
+use Rattle.xfs_token.proofs.AmountReading.{IfNone_from}
 use Rattle.xfs_script.proofs.UnitParts.{unit_is, no_front, no_head, no_digits}
 use Rattle.xfs_script.proofs.counts_field.read_unit.Goals as goal
 

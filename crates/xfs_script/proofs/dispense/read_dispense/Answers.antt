@@ -1,7 +1,7 @@
 use Rattle.std.proofs.Common.{ℕ, List}
 use Rattle.xfs_base.specs.declared.counts.Counts.{Counts}
 use Rattle.xfs_script.specs.Dispense.{HasFields}
-use Rattle.xfs_script.proofs.AmountParts.{IfNone_from}
+use Rattle.xfs_token.proofs.AmountReading.{IfNone_from}
 use Rattle.xfs_script.proofs.FieldLists.{no_spelled}
 use Rattle.xfs_script.proofs.dispense.read_dispense.Goals as goal
 

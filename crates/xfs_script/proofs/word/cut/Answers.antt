@@ -1,5 +1,5 @@
 use Rattle.std.proofs.lemmas.List.{take_rest}
-use Rattle.xfs_script.proofs.AmountParts.{split_at, split_none}
+use Rattle.xfs_script.proofs.Parts.{split_at, split_none}
 use Rattle.xfs_script.proofs.word.cut.Goals as goal
 
 pub returns-in-Some-clause-parts : goal.returns-in-Some-clause-parts

@@ -1,4 +1,4 @@
-use Rattle.std.proofs.Common.{◌≡◌, ◌≤◌, ◌+◌, ◌++◌, length, drop}
+use Rattle.std.proofs.Common.{◌≡◌, ◌+◌, ◌++◌, drop}
 use Rattle.xfs_token.specs.Token.{pairs_text}
 use Rattle.xfs_token.specs.Amounts.{dispense_pairs}
 use Rattle.xfs_token.proofs.minting.dispense_text.Given as goal

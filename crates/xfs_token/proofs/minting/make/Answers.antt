@@ -1,8 +1,8 @@
-use Rattle.std.proofs.Common.{◌≡◌, ◌++◌, ◌+◌, ◌*◌, ◌<◌, ◌≤◌, arith, List, ℕ, Bool, true, length, ap, ◌∙◌}
+use Rattle.std.proofs.Common.{◌≡◌, ◌++◌, arith, List, ℕ, true, length, ap, ◌∙◌}
 use Rattle.std.specs.Prelude.{codes}
 use Rattle.hex.specs.Hex.{encode_upper}
 use Rattle.xfs_hmac.specs.Hmac.{hmac}
-use Rattle.xfs_token.specs.Token.{pairs_text, is_nonce}
+use Rattle.xfs_token.specs.Token.{is_nonce}
 use Rattle.xfs_token.specs.Amounts.{IsAmounts, dispense_pairs}
 use Rattle.xfs_token.proofs.Written.{made, nonce_within}
 use Rattle.xfs_token.proofs.Minted.{length-dispense_pairs}

@@ -1,4 +1,4 @@
-use Rattle.std.proofs.Common.{◌≡◌, List, ℕ, ◌++◌, ◌/◌, ◌∙◌, take}
+use Rattle.std.proofs.Common.{◌/◌, ◌∙◌}
 use Rattle.std.specs.Prelude.{decimal}
 use Rattle.xfs_token.specs.Amounts.{decimals}
 use Rattle.xfs_token.proofs.Written.{pair-chain}

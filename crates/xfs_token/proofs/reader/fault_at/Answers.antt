@@ -1,4 +1,4 @@
-use Rattle.std.proofs.Common.{◌≡◌, ◌≤◌, ◌-◌, ◌∙◌, sym, length, arith, inr}
+use Rattle.std.proofs.Common.{inr}
 use Rattle.xfs_token.specs.Reading.{Loose}
 use Rattle.xfs_token.proofs.Stuck.{both_ways}
 use Rattle.xfs_token.proofs.Whole.{left_within, stuck_at}

@@ -1,6 +1,6 @@
-use Rattle.std.proofs.Common.{rules, ◌≡◌, ◌≤◌, ◌<◌, ◌∙◌, ℕ, List, sym, ap, subst, drop, length, arith}
+use Rattle.std.proofs.Common.{rules, arith}
 use Rattle.xfs_token.specs.Reading.{IsStuck, Loose}
-use Rattle.xfs_token.proofs.Joined.{first_within, first_short, first_stuck, format_stuck_whole, front_from, format_room}
+use Rattle.xfs_token.proofs.Joined.{first_within, first_short, first_stuck, format_stuck_whole}
 use Rattle.xfs_token.proofs.reader.front.Goals as goal
 
 pub overflow_sub-result : goal.overflow_sub-result

@@ -1,4 +1,4 @@
-use Rattle.std.proofs.Common.{rules, ◌≡◌, ◌≤◌, ◌-◌, ◌∙◌, List, ℕ, [], sym, ap, subst, length, arith}
+use Rattle.std.proofs.Common.{rules, List, ℕ, [], ap, subst}
 use Rattle.xfs_token.specs.Token.{Parts}
 use Rattle.xfs_token.specs.Reading.{IsFront, IsStopped, IsTailOf, Loose, Tail}
 use Rattle.xfs_token.proofs.Joined.{stopped, front_stuck, loose_as}

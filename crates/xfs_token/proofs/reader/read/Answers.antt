@@ -1,5 +1,4 @@
-use Rattle.std.proofs.Common.{rules, ◌≡◌, ◌≤◌, ◌-◌, ◌∙◌, List, ℕ, [], sym, ap, subst, length, arith, inl}
-use Rattle.std.specs.Prelude.{◌⊎◌}
+use Rattle.std.proofs.Common.{◌≤◌, sym, subst, length, arith, inl}
 use Rattle.xfs_token.specs.Fault.{IsFault}
 use Rattle.xfs_token.proofs.Front.{nonce_most}
 use Rattle.xfs_token.proofs.Whole.{wrong_length, spells_from}

@@ -1,8 +1,6 @@
-use Rattle.std.proofs.Common.{rules, ◌≡◌, ◌≤◌, ◌∙◌, ℕ, List, [], ◌∷◌, ◌++◌, sym, ap, subst, length, map, codes, arith, true, false}
-use Rattle.std.specs.Str.{bytes_eq}
+use Rattle.std.proofs.Common.{rules, ◌≤◌, ◌∙◌, ℕ, List, [], ◌++◌, sym, ap, subst, length}
 use Rattle.xfs_token.specs.Token.{Parts, pairs_text}
-use Rattle.xfs_token.specs.Pairs.{pair_of}
-use Rattle.xfs_token.specs.Reading.{IsStopped, IsStuck, IsKeyThen, IsTailOf, MacEnd, Tail, ValueThen}
+use Rattle.xfs_token.specs.Reading.{IsStopped, IsKeyThen, IsTailOf, MacEnd, Tail, ValueThen}
 use Rattle.xfs_token.proofs.Tails.{front_text}
 use Rattle.xfs_token.proofs.Joined.{stopped, pairs_within, pairs_stuck, mac_stuck, value_stuck_whole, pair_read, tail_of}
 use Rattle.xfs_token.proofs.reader.tail.Goals as goal

@@ -1,4 +1,4 @@
-use Rattle.std.proofs.Common.{◌≡◌, ◌≤◌, ◌<◌, ◌∙◌, ℕ, List, sym, ap, subst, drop, length, arith}
+use Rattle.std.proofs.Common.{arith}
 use Rattle.xfs_token.proofs.Length.{format_within, format_short, format_stuck, format_ends}
 use Rattle.xfs_token.proofs.reading.format_field.Goals as goal
 

@@ -1,11 +1,10 @@
-use Rattle.std.proofs.Common.{refl, ◌≡◌, ◌≤◌, ◌∙◌, ◌==◌, ◌&&◌, ◌||◌, Bool, ℕ, List, sym, ap, subst, take, drop, length, map, true, false}
+use Rattle.std.proofs.Common.{refl, ◌≡◌, ◌∙◌, ◌==◌, ◌&&◌, ◌||◌, Bool, ℕ, List, sym, ap, subst, take, map, true, false}
 use Rattle.std.specs.Prelude.{codes}
 use Rattle.std.specs.List.{prefix_len}
 use Rattle.std.specs.Str.{bytes_eq}
 use Rattle.xfs_token.specs.Token.{is_key_byte, is_reserved, has_key, is_free_key}
 use Rattle.xfs_token.specs.Pairs.{pair_of}
-use Rattle.xfs_token.specs.declared.pair.Pair.{Pair}
-use Rattle.xfs_token.specs.Reading.{first_in, first_is}
+use Rattle.xfs_token.specs.Reading.{first_in}
 use Rattle.xfs_token.specs.Token.{is_letter}
 use Rattle.xfs_token.proofs.Runs.{Run, run_of}
 use Rattle.xfs_token.proofs.Ends.{KeyRun, key_none, key_full, key_no_equals, key_not_free, key_ends, free_from, not_free_reserved, not_free_taken}

@@ -1,4 +1,4 @@
-use Rattle.std.proofs.Common.{◌≡◌, ◌≤◌, ◌<◌, ◌∙◌, ℕ, List, sym, ap, subst, take, drop, length, true, false, arith}
+use Rattle.std.proofs.Common.{◌≡◌, ◌∙◌, ℕ, List, sym, ap, subst, take}
 use Rattle.std.specs.List.{prefix_len}
 use Rattle.xfs_token.specs.Token.{is_digit}
 use Rattle.xfs_token.specs.Reading.{IsLengthAt}

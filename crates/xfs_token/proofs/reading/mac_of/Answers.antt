@@ -1,9 +1,8 @@
-use Rattle.std.proofs.Common.{◌≡◌, ◌≤◌, ◌∙◌, ℕ, List, sym, ap, subst, take, drop, length, true, false, Ok, Err}
+use Rattle.std.proofs.Common.{◌≡◌, ◌∙◌, sym, ap, subst, length}
 use Rattle.std.specs.List.{prefix_len}
 use Rattle.std.proofs.lemmas.Bool.{eqb-true, eqb-false}
 use Rattle.hex.specs.Hex.{encode_upper}
 use Rattle.xfs_token.specs.Token.{IsMac, is_upper_hex}
-use Rattle.xfs_token.specs.Reading.{MacEnd}
 use Rattle.xfs_token.proofs.Runs.{Run, run_of}
 use Rattle.xfs_token.proofs.Ends.{mac_short, mac_long, mac_whole, decoded}
 use Rattle.xfs_token.proofs.reading.mac_of.Goals as goal

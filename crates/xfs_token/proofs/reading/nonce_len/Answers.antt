@@ -1,4 +1,4 @@
-use Rattle.std.proofs.Common.{◌≡◌, ◌∙◌, sym, ap, subst, take, true, false}
+use Rattle.std.proofs.Common.{◌∙◌, sym, ap, subst}
 use Rattle.std.specs.List.{prefix_len}
 use Rattle.xfs_token.specs.Token.{is_upper_hex}
 use Rattle.xfs_token.proofs.Runs.{Run, run_of}

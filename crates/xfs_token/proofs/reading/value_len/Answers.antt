@@ -1,5 +1,5 @@
-use Rattle.std.proofs.Common.{◌≡◌, ◌≤◌, ◌∙◌, ℕ, sym, ap, subst, take, drop, length, true, false}
-use Rattle.std.specs.List.{prefix_len, list_all}
+use Rattle.std.proofs.Common.{◌≡◌, ◌≤◌, ◌∙◌, ℕ, sym, subst, take, drop, length, true}
+use Rattle.std.specs.List.{list_all}
 use Rattle.xfs_token.specs.Token.{is_value_byte}
 use Rattle.xfs_token.proofs.Tails.{FirstFails}
 use Rattle.xfs_token.proofs.Runs.{run_of_all}

@@ -1,4 +1,4 @@
-use Rattle.std.proofs.Common.{◌≡◌, ◌+◌, ◌≤◌, length, ap, arith}
+use Rattle.std.proofs.Common.{length, ap, arith}
 use Rattle.xfs_token.proofs.Written.{length-form}
 use Rattle.xfs_token.proofs.signing.genuine.Goals as goal
 

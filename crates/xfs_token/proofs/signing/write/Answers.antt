@@ -1,7 +1,7 @@
-use Rattle.std.proofs.Common.{◌≡◌, ◌+◌, ◌<◌, ◌≤◌, ◌++◌, ℕ, List, length, ap, arith, ◌∙◌, sym}
+use Rattle.std.proofs.Common.{◌+◌, ◌++◌, ℕ, List, length, ap, arith, ◌∙◌}
 use Rattle.std.specs.Prelude.{codes}
 use Rattle.hex.specs.Hex.{encode_upper}
-use Rattle.xfs_token.specs.Token.{Spells, covered, form, pairs_text}
+use Rattle.xfs_token.specs.Token.{covered, pairs_text}
 use Rattle.xfs_token.proofs.Written.{length-form, spelled, one_text}
 use Rattle.xfs_token.proofs.signing.write.Goals as goal
 

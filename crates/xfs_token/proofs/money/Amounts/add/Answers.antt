@@ -1,7 +1,7 @@
-use Rattle.std.proofs.Common.{◌≡◌, ◌+◌, ◌<◌, ◌≤◌, Bool, true, false, ◌∷◌, [], ◌++◌, ℕ, List, length, take, arith, sym, ◌∙◌, ap, subst}
+use Rattle.std.proofs.Common.{◌≡◌, ◌+◌, ◌<◌, true, false, ◌∷◌, [], ◌++◌, length, take, arith, ◌∙◌}
 use Rattle.std.specs.Prelude.{slice_set}
 use Rattle.std.proofs.lemmas.List.{take_more_set, length-take-le, length-set}
-use Rattle.xfs_token.specs.Amounts.{IsAmounts, is_currency, has_currency}
+use Rattle.xfs_token.specs.Amounts.{is_currency, has_currency}
 use Rattle.xfs_token.proofs.AmountsLemmas.{IsAmounts-push}
 use Rattle.xfs_token.proofs.money.Amounts.add.Goals as goal
 

@@ -1,4 +1,4 @@
-use Rattle.std.proofs.Common.{◌≡◌, List, ℕ, [], sym, ap, subst, refl, true, map, ◌∙◌}
+use Rattle.std.proofs.Common.{[], ap, map, ◌∙◌}
 use Rattle.xfs_token.specs.Token.{is_nonce, may_follow}
 use Rattle.xfs_token.specs.Pairs.{pair_of}
 use Rattle.xfs_token.proofs.Tails.{zeros_mac}

@@ -1,0 +1,14 @@
+use Rattle.xfs_guard.proofs.ContinueLaws.{Continues-same}
+use Rattle.xfs_cli.proofs.session.Session.permitted.Goals as goal
+
+pub returns-in_default-clause-continues : goal.returns-in_default-clause-continues
+returns-in_default-clause-continues g c = Continues-same _
+
+pub returns-in_err-claim-clause-continues : goal.returns-in_err-claim-clause-continues
+returns-in_err-claim-clause-continues g c = Continues-same _
+
+pub returns-in_err-check-clause-continues : goal.returns-in_err-check-clause-continues
+returns-in_err-check-clause-continues g c = Continues-same _
+
+pub returns-in_err-allow-clause-continues : goal.returns-in_err-allow-clause-continues
+returns-in_err-allow-clause-continues g c = rw c.in_err-allow.ensures.err (Continues-same _)

@@ -1,0 +1,217 @@
+-- What a guard keeps when the mechanism reports a taking or a loading.
+use Rattle.std.proofs.Common.{◌≡◌, ◌≢◌, ℕ, ◌≤◌, ◌<◌, Bool, true, false, List, [], ◌∷◌, ◌++◌, length, None, Some, refl, sym, arith}
+use Rattle.std.specs.Prelude.{⊤}
+use Rattle.std.specs.declared.option.Option.{Option}
+use Rattle.std.proofs.lemmas.List.{append-nil}
+use Rattle.std.proofs.lemmas.List.Elements.{Contains-append_left}
+use Rattle.xfs_base.specs.Causes.{IfTold}
+use Rattle.xfs_base.specs.Counts.{at, LiesIn}
+use Rattle.xfs_base.specs.declared.counts.Counts.{Counts}
+use Rattle.xfs_base.specs.declared.counts.Places.{Places}
+use Rattle.xfs_base.specs.declared.counts.Kind.{Kind}
+use Rattle.xfs_base.specs.declared.counts.Kind.TheVariants.{Stack, Present, Reject, Retract}
+use Rattle.xfs_base.specs.declared.money.NoteKind.{NoteKind}
+use Rattle.xfs_base.proofs.MoneyLaws.{value_from-le}
+use Rattle.xfs_mech.specs.declared.motion.Motion.{Motion}
+use Rattle.xfs_mech.specs.declared.motion.Motion.TheVariants.{Moved, Taken, Loaded}
+use Rattle.xfs_mech.specs.Motions.{NumberIs, PlacesOf}
+use Rattle.xfs_mech.specs.Mechanism.{Grows, Reports, source_of}
+use Rattle.xfs_mech.proofs.MotionLaws.{all-append}
+use Rattle.xfs_journal.specs.declared.record.Rec.{Rec}
+use Rattle.xfs_journal.specs.declared.record.Rec.TheVariants.{Boot}
+use Rattle.xfs_journal.proofs.JournalLaws.{record_at-within}
+use Rattle.xfs_guard.specs.declared.open.Open.{Open}
+use Rattle.xfs_guard.specs.declared.open.Open.TheVariants.{No, Written, Acted}
+use Rattle.xfs_guard.specs.View.{View}
+use Rattle.xfs_guard.specs.Agrees.{RisesFrom, IsAsked, Agrees}
+use Rattle.xfs_guard.specs.Within.{shown_by, IsWithin}
+use Rattle.xfs_guard.specs.Budget.{Budget}
+use Rattle.xfs_guard.specs.Orders.{kind_unacted}
+use Rattle.xfs_guard.specs.Kept.{HasRoom}
+use Rattle.xfs_guard.specs.Sound.{Stands, HasActed, Ties, IsSound}
+use Rattle.xfs_guard.specs.Continues.{Leads, Continues}
+use Rattle.xfs_guard.proofs.FollowsLaws.{Follows-same}
+use Rattle.xfs_guard.proofs.WithinLaws.{Within-quiet, shown-motion}
+
+-- the guard after a report
+abbrev pub reported_view : View → Option (List Motion) → Places → ℕ → View
+reported_view v motions places faults = record v { motions = motions; places = places; faults = faults }
+
+-- an entry that no order asked for
+abbrev pub IsReport : Motion → Type 0
+IsReport (Moved n k m d) = ⊥
+IsReport (Taken c) = ⊤
+IsReport (Loaded u n) = ⊤
+
+-- where an order that is written takes its notes, there are no fewer
+abbrev pub LeavesSource : Open → Places → Places → Type 0
+LeavesSource o P Q = (k : Kind) → kind_unacted o ≡ Some k → LiesIn (source_of k P) (source_of k Q)
+
+stands-report : (o : Open) (J : List Rec) (P Q : Places) → LeavesSource o P Q → Stands o J P → Stands o J Q
+stands-report No J P Q leaves s = s
+stands-report (Written k c) J P Q leaves s = (s.0, λ u. omega (arith, s.1 u, leaves k refl u), s.2)
+stands-report (Acted k m d failed) J P Q leaves s = s
+
+rises-report : (low : ℕ) (L : List Motion) (e : Motion) → IsReport e → RisesFrom low L → RisesFrom low (L ++ e ∷ [])
+rises-report low [] (Moved n k m d) is r = absurd is
+rises-report low [] (Taken c) is r = tt
+rises-report low [] (Loaded u n) is r = tt
+rises-report low (Moved i k m d ∷ ms) e is r = (r.0, rises-report i ms e is r.1)
+rises-report low (Taken c ∷ ms) e is r = rises-report low ms e is r
+rises-report low (Loaded u n ∷ ms) e is r = rises-report low ms e is r
+
+asked-report : (J : List Rec) (e : Motion) → IsReport e → IsAsked J e
+asked-report J (Moved n k m d) is = absurd is
+asked-report J (Taken c) is = tt
+asked-report J (Loaded u n) is = tt
+
+pub Agrees-report : (J : List Rec) (L : List Motion) (e : Motion) → IsReport e → Agrees J L → Agrees J (L ++ e ∷ [])
+Agrees-report J L e is a = record {
+  rising = rises-report 0 L e is a.rising;
+  asked = all-append (IsAsked J) L (e ∷ []) a.asked (asked-report J e is, tt);
+  shape = a.shape;
+  done = λ n k c m d o done. Contains-append_left L (e ∷ []) (Moved n k m d) (a.done n k c m d o done);
+}
+
+-- a report puts nothing out
+shown_by-report : (u : List NoteKind) (J : List Rec) (p : ℕ) (c : List ℕ) (e : Motion) → IsReport e → shown_by u J p c e ≡ 0
+shown_by-report u J p c (Moved n k m d) is = absurd is
+shown_by-report u J p c (Taken x) is = refl
+shown_by-report u J p c (Loaded i n) is = refl
+
+within-report : (key : List ℕ) (u : List NoteKind) (J : List Rec) (L : List Motion) (e : Motion) → IsReport e → IsWithin key u J L e
+within-report key u J L (Moved n k m d) is = absurd is
+within-report key u J L (Taken x) is = tt
+within-report key u J L (Loaded i n) is = tt
+
+number-report : (P : ℕ → Type 0) (e : Motion) → IsReport e → NumberIs P e
+number-report P (Moved n k m d) is = absurd is
+number-report P (Taken x) is = tt
+number-report P (Loaded i n) is = tt
+
+acted-report : (o : Open) (J : List Rec) (L : List Motion) (e : Motion) → IsReport e → HasActed o J L → HasActed o J (L ++ e ∷ [])
+acted-report No J L e is h = tt
+acted-report (Written k c) J L e is h = all-append (NumberIs (λ n. n < length J)) L (e ∷ []) h (number-report (λ n. n < length J) e is, tt)
+acted-report (Acted k m d failed) J L e is h = Contains-append_left L (e ∷ []) (Moved (length J) k m d) h
+
+-- a report leaves the transport
+transport-report : (P Q : Places) (e : Motion) → IsReport e → PlacesOf P (e ∷ []) Q → (u : ℕ) → at Q.transport u ≡ at P.transport u
+transport-report P Q (Moved n k m d) is places u = absurd is
+transport-report P Q (Taken c) is places u = omega (arith, places.transport u)
+transport-report P Q (Loaded i n) is places u = omega (arith, places.transport u)
+
+budget-report : (v : View) (now : Option (List Motion)) (Q : Places) (f : ℕ) → ((u : ℕ) → at Q.transport u ≡ at v.places.transport u) → Budget v → Budget (reported_view v now Q f)
+budget-report v now Q f same budget = record {
+  funded = λ p b lives bound.
+      let old = budget.funded p b lives bound in record {
+        token = old.token;
+        carries = old.carries;
+        amounts = old.amounts;
+        amounts_are = old.amounts_are;
+        kept = old.kept;
+        enough = λ cur.
+            let fewer = value_from-le v.units 0 Q.transport.0 v.places.transport.0 cur (λ i. omega (arith, same i)) in
+            omega (arith, fewer, old.enough cur);
+      };
+  unbound = budget.unbound;
+  dead = budget.dead;
+}
+
+-- what the mechanism tells, once its list is this one
+ties-same : (v : View) (now : Option (List Motion)) (Q : Places) (f : ℕ) (L : List Motion) → Ties v L → Ties (reported_view v now Q f) L
+ties-same v now Q f L t = record { agrees = t.agrees; within = t.within; counted = t.counted; acted = t.acted }
+
+ties-report : (v : View) (now : Option (List Motion)) (Q : Places) (f : ℕ) (L : List Motion) (e : Motion) → IsReport e → Ties v L → Ties (reported_view v now Q f) (L ++ e ∷ [])
+ties-report v now Q f L e is t = record {
+  agrees = Agrees-report v.records L e is t.agrees;
+  within = Within-quiet v.key v.units v.records L e (λ p cur. shown_by-report v.units v.records p cur e is) (within-report v.key v.units v.records (L ++ e ∷ []) e is) t.within;
+  counted = λ p cur lives.
+      let more = shown-motion v.units v.records p cur L e in
+      let none = shown_by-report v.units v.records p cur e is in
+      omega (arith, more, none, t.counted p cur lives);
+  acted = acted-report v.open_order v.records L e is t.acted;
+}
+
+told-same : (v : View) (now : Option (List Motion)) (Q : Places) (f : ℕ) (told : Option (List Motion)) → IfTold told (Ties v) → IfTold told (Ties (reported_view v now Q f))
+told-same v now Q f None t = tt
+told-same v now Q f (Some L) t = ties-same v now Q f L t
+
+told-report : (v : View) (now was is : Option (List Motion)) (Q : Places) (f : ℕ) (e : Motion) → IsReport e → IfTold was (Ties v) → Grows was e is → IfTold is (Ties (reported_view v now Q f))
+told-report v now None is Q f e of t grows = rw grows tt
+told-report v now (Some L) is Q f e of t grows = rw grows (ties-report v now Q f L e of t)
+
+sound-entry : (v : View) (e : Motion) (now : Option (List Motion)) (Q : Places) (f : ℕ) → IsSound v → IsReport e → Grows v.motions e now → PlacesOf v.places (e ∷ []) Q → LeavesSource v.open_order v.places Q
+    → IsSound (reported_view v now Q f)
+sound-entry v e now Q f s is grows places leaves = record {
+  numbered = s.numbered;
+  stands = stands-report v.open_order v.records v.places Q leaves s.stands;
+  budget = budget-report v now Q f (transport-report v.places Q e is places) s.budget;
+  told = told-report v now v.motions now Q f e is s.told grows;
+}
+
+sound-failed : (v : View) (f : ℕ) → IsSound v → IsSound (reported_view v v.motions v.places f)
+sound-failed v f s = record {
+  numbered = s.numbered;
+  stands = s.stands;
+  budget = budget-report v v.motions v.places f (λ u. refl) s.budget;
+  told = told-same v v.motions v.places f v.motions s.told;
+}
+
+-- a report keeps what the guard keeps
+pub IsSound-report : (v : View) (e : Motion) (m d : Counts) (failed : Bool) (now : Option (List Motion)) (Q : Places) (f spare left : ℕ) → IsSound v → IsReport e
+    → Reports e m d failed v.motions now v.places Q spare left → (PlacesOf v.places (e ∷ []) Q → LeavesSource v.open_order v.places Q) → IsSound (reported_view v now Q f)
+IsSound-report v e m d false now Q f spare left s is r leaves = sound-entry v e now Q f s is (r.grown refl) (r.places refl) (leaves (r.places refl))
+IsSound-report v e m d true now Q f spare left s is r leaves = let none = r.nothing refl in rw (none.0, none.1) (sound-failed v f s)
+
+-- room is left for what an open order still adds
+pub HasRoom-report : (o : Open) (e : Motion) (m d : Counts) (failed : Bool) (was now : Option (List Motion)) (P Q : Places) (before spare left room : ℕ) → HasRoom o before room → before < spare
+    → Reports e m d failed was now P Q spare left → HasRoom o left room
+HasRoom-report o e m d failed was now P Q before spare left room h more r = go o (enough failed r) h
+  where
+    enough : (failed : Bool) → Reports e m d failed was now P Q spare left → before ≤ left
+    enough false r = let one = r.room refl in omega (arith, one, more)
+    enough true r = let same = (r.nothing refl).2 in omega (arith, same, more)
+
+    go : (o : Open) → before ≤ left → HasRoom o before room → HasRoom o left room
+    go No le h = tt
+    go (Written k c) le h = (omega (arith, h.0), h.1)
+    go (Acted k m d failed) le h = h
+
+-- what follows after a report
+pub Continues-report : (v : View) (e : Motion) (m d : Counts) (failed : Bool) (now : Option (List Motion)) (Q : Places) (f spare left : ℕ) → IsSound v → IsReport e
+    → Reports e m d failed v.motions now v.places Q spare left → Continues v (reported_view v now Q f)
+Continues-report v e m d true now Q f spare left s is r = let none = r.nothing refl in rw (none.0, none.1) (record { leads = same v.motions; key = refl; seed = refl; units = refl })
+  where
+    same : (told : Option (List Motion)) → Leads v (reported_view v v.motions v.places f) told told
+    same None = tt
+    same (Some L) = λ known. record { follows = Follows-same v.records L v.places; known = known }
+Continues-report v e m d false now Q f spare left s is r = record { leads = told v.motions (r.grown refl); key = refl; seed = refl; units = refl }
+  where
+    told : (was : Option (List Motion)) → Grows was e now → Leads v (reported_view v now Q f) was now
+    told None g = rw g tt
+    told (Some L) g = rw g (λ known. record {
+      follows = record {
+        recs = [];
+        moves = e ∷ [];
+        grew = sym (append-nil v.records);
+        moved = refl;
+        reached = r.places refl;
+        later = (number-report (λ n. length v.records ≤ n) e is, tt);
+        boots = λ n p lt b. let w = record_at-within v.records n (Boot p) b in absurd (omega arith);
+      };
+      known = all-append (NumberIs (λ n. n ≤ length v.records)) L (e ∷ []) known (number-report (λ n. n ≤ length v.records) e is, tt);
+    })
+
+-- a taking leaves what an order takes, where that is no retract
+pub taken-leaves : (o : Open) (c : Counts) (P Q : Places) → kind_unacted o ≢ Some Retract → PlacesOf P (Taken c ∷ []) Q → LeavesSource o P Q
+taken-leaves o c P Q other places Stack is u = omega (arith, places.units u)
+taken-leaves o c P Q other places Present is u = omega (arith, places.transport u)
+taken-leaves o c P Q other places Reject is u = omega (arith, places.transport u)
+taken-leaves o c P Q other places Retract is u = absurd (other is)
+
+-- a loading leaves what any order takes
+pub loaded-leaves : (o : Open) (unit count : ℕ) (P Q : Places) → PlacesOf P (Loaded unit count ∷ []) Q → LeavesSource o P Q
+loaded-leaves o unit count P Q places Stack is u = omega (arith, places.units u)
+loaded-leaves o unit count P Q places Present is u = omega (arith, places.transport u)
+loaded-leaves o unit count P Q places Reject is u = omega (arith, places.transport u)
+loaded-leaves o unit count P Q places Retract is u = omega (arith, places.outlet u)
