@@ -12,9 +12,9 @@ use Rattle.xfs_disk.specs.Disk.{Only, LeavesOnly}
 use Rattle.xfs_journal.proofs.Moments.{started}
 use Rattle.xfs_journal.specs.Gate.{IsClosed, IsOpened, IsEither}
 use Rattle.xfs_journal.specs.Image.{IsImage, IsRecord, Stands, front, blocks, framed, magic}
-use Rattle.xfs_journal.specs.JournalView.{IsAtRest, IsKept, StandsForEither, passes}
+use Rattle.xfs_journal.specs.JournalView.{IsAtRest, IsKept, IsInDoubt, HasPossible, StandsForEither, passes}
 use Rattle.xfs_journal.specs.declared.record.Rec.{Rec}
-use Rattle.xfs_journal.proofs.Told.{on_told, from_told}
+use Rattle.xfs_journal.proofs.Told.{on_told, from_told, both_told}
 
 pub blocks-push : (J : List Rec) (r : Rec) → blocks (J ++ r ∷ []) ≡ blocks J ++ 1 ∷ framed r
 blocks-push [] r = append-nil (1 ∷ framed r)
@@ -51,6 +51,10 @@ module _ (J : List Rec) (all : AllByRecursion IsRecord J) where
   either_stands r is c (inl closed) = inl (inl (closed_image c closed))
   either_stands r is c (inr opened) = inr (inl (opened_image r is c opened))
 
+  pub either_possible : (r : Rec) → IsRecord r → (c : List ℕ) → IsEither (front J) (framed r ++ 0 ∷ []) c → HasPossible J (Some r) c
+  either_possible r is c (inl closed) = (J, inl refl, closed_image c closed)
+  either_possible r is c (inr opened) = (J ++ r ∷ [], inr (r, refl, refl), opened_image r is c opened)
+
 -- what the journal keeps is what is asked of its disk before a write
 module _ (images : List ℕ → Type 0) (J : List Rec) (end : ℕ) (place : end ≡ length (front J)) (b : List ℕ) (rest : IsAtRest images J b) where
   pub front_is : take end b ≡ front J
@@ -77,6 +81,20 @@ module _ (h h2 : Option (List ℕ)) (images images2 : List ℕ → Type 0) (J : 
   stands_after b known c either =
       let f = front_is images J end kept.place b (from_told h (IsAtRest images J) (kept.at_rest refl) b known) in
       either_stands J kept.of_table r is c (subst (λ (l : List ℕ). IsEither (front J) l c) are (subst (λ (l : List ℕ). IsEither l bytes c) f either))
+
+  possible_after : (b : List ℕ) → h ≡ Some b → (c : List ℕ) → IsEither (take end b) bytes c → HasPossible J (Some r) c
+  possible_after b known c either =
+      let f = front_is images J end kept.place b (from_told h (IsAtRest images J) (kept.at_rest refl) b known) in
+      either_possible J kept.of_table r is c (subst (λ (l : List ℕ). IsEither (front J) l c) are (subst (λ (l : List ℕ). IsEither l bytes c) f either))
+
+  pub in_doubt_after : IfTold h (λ old. (c : List ℕ) → images2 c → IsEither (take end old) bytes c) → IsInDoubt h2 images2 J true (Some r)
+  in_doubt_after left = record {
+    none = λ e. absurd (true≢false e);
+    of_table = is;
+    possible = on_told h2 (λ _. (c : List ℕ) → images2 c → HasPossible J (Some r) c) (λ b now.
+        let was = both_told h h2 told b now in
+        (λ c l. possible_after was.0 was.1 c (from_told h (λ old. (f : List ℕ) → images2 f → IsEither (take end old) bytes f) left was.0 was.1 c l)));
+  }
 
   pub kept_after : IfTold h (λ old. IfTold h2 (λ all. IsOpened (take end old) bytes all × Only all images2)) → IsKept h2 images2 (J ++ r ∷ []) false (end + length bytes)
   kept_after opened = record {

@@ -1,8 +1,8 @@
 -- What stands at a gate byte: a block of the format, or none.
-use Rattle.std.proofs.Common.{◌≡◌, ◌≢◌, inl, inr, ℕ, suc, ◌+◌, ◌-◌, ◌*◌, ◌<◌, ◌≤◌, ◌^◌, List, [], ◌∷◌, ◌++◌, length, get_or, take, drop, refl, sym, ◌∙◌, ap, ap₂, subst, arith, append_assoc, length-append, length-take, length-drop, take-append-drop, take_at}
+use Rattle.std.proofs.Common.{◌≡◌, ◌≢◌, inr, ℕ, ◌+◌, ◌<◌, ◌≤◌, List, [], ◌∷◌, ◌++◌, length, take, drop, refl, sym, ◌∙◌, ap, ap₂, subst, arith, length-append, length-take, length-drop, take-append-drop, take_at}
 use Rattle.std.specs.Int.{to_be_bytes, from_be_bytes, w16}
 use Rattle.std.specs.Prelude.{slice_index}
-use Rattle.std.proofs.lemmas.List.{get_or-take, drop-take, nil_from_length}
+use Rattle.std.proofs.lemmas.List.{get_or-take, drop-take}
 use Rattle.std.proofs.lemmas.Nat.{from_be_bytes-to_be_bytes_2}
 use Rattle.xfs_journal.specs.Image.{IsRecord, body, framed}
 use Rattle.xfs_journal.specs.Paging.{PageView, Shows, Since, size_in, IsNoBody, IsShut, IsBroken}
@@ -11,7 +11,6 @@ use Rattle.xfs_journal.specs.declared.faults.MountFault.TheVariants.{NotJournal,
 use Rattle.xfs_journal.specs.declared.record.Rec.{Rec}
 use Rattle.std.proofs.Common.{Some, drop-drop}
 use Rattle.std.specs.declared.option.Option.{Option}
-use Rattle.xfs_base.specs.Causes.{IfTold}
 use Rattle.xfs_journal.proofs.Decoding.{body-short}
 use Rattle.xfs_journal.proofs.Paged.{since_front, since_shows}
 use Rattle.xfs_journal.proofs.Told.{from_told}

@@ -1,8 +1,7 @@
 -- Bytes that cease to be a journal are the image of no list.
-use Rattle.std.proofs.Common.{◌≡◌, ◌≢◌, inl, inr, ℕ, ◌+◌, ◌<◌, ◌≤◌, List, [], ◌∷◌, ◌++◌, length, take, drop, refl, sym, ◌∙◌, ap, ap₂, subst, arith, append_assoc, append-nil, length-append, take_at, take-append-drop}
+use Rattle.std.proofs.Common.{◌≡◌, ◌≢◌, inl, inr, ℕ, ◌+◌, ◌<◌, ◌≤◌, List, [], ◌∷◌, ◌++◌, length, take, refl, sym, ◌∙◌, ap, arith, append_assoc, length-append, take_at}
 use Rattle.std.specs.List.{AllByRecursion}
-use Rattle.std.specs.Int.{to_be_bytes, w16}
-use Rattle.xfs_journal.specs.Image.{IsImage, IsRecord, Stands, blocks, body, framed, front, magic}
+use Rattle.xfs_journal.specs.Image.{IsImage, IsRecord, Stands, blocks, framed, front, magic}
 use Rattle.xfs_journal.specs.Paging.{IsBroken, CeasesAt}
 use Rattle.xfs_journal.specs.declared.record.Rec.{Rec}
 use Rattle.xfs_journal.proofs.Unique.{one_block, second_part, head_of, tail_of}

@@ -1,7 +1,7 @@
 -- A record is found again in its body, so no two records have one body.
-use Rattle.std.proofs.Common.{◌≡◌, ℕ, zero, suc, ◌*◌, ◌<◌, ◌≤◌, ◌^◌, List, [], ◌∷◌, ◌++◌, length, take, drop, refl, sym, ◌∙◌, ap, ap₂, arith, append_assoc, append-nil, length-append, drop_at}
-use Rattle.std.specs.Prelude.{All, ◌==◌, if◌then◌else◌}
-use Rattle.std.specs.Int.{to_be_bytes, from_be_bytes, w32, w64}
+use Rattle.std.proofs.Common.{◌≡◌, ℕ, ◌*◌, ◌<◌, ◌≤◌, ◌^◌, List, [], ◌∷◌, ◌++◌, length, drop, refl, sym, ◌∙◌, ap, ap₂, arith, append_assoc, append-nil, length-append, drop_at}
+use Rattle.std.specs.Prelude.{All}
+use Rattle.std.specs.Int.{to_be_bytes, w32}
 use Rattle.std.specs.List.{flat_map}
 use Rattle.std.proofs.lemmas.List.Elements.{All-head, All-tail}
 use Rattle.std.proofs.lemmas.Nat.{from_be_bytes-to_be_bytes_4, from_be_bytes-to_be_bytes_8}
@@ -9,7 +9,7 @@ use Rattle.xfs_base.specs.declared.counts.Counts.{Counts}
 use Rattle.xfs_base.specs.declared.counts.Kind.{Kind}
 use Rattle.xfs_base.specs.declared.counts.Kind.TheVariants.{Stack, Present, Reject, Retract}
 use Rattle.xfs_base.specs.declared.counts.Places.{Places}
-use Rattle.xfs_journal.specs.Decode.{numbers, counts_in, kind_in, places_in, first_byte, record_in, record_of}
+use Rattle.xfs_journal.specs.Decode.{numbers, counts_in, kind_in, places_in, record_of}
 use Rattle.xfs_journal.specs.Image.{body, counts_bytes, places_bytes, kind_byte, AreCounts, IsRecord}
 use Rattle.xfs_journal.specs.declared.record.Rec.{Rec}
 use Rattle.xfs_journal.specs.declared.record.Rec.TheVariants.{Issue, Clear, Boot, Bind, Order, Done, Load}

@@ -1,19 +1,18 @@
 -- At most 9 bytes stand for the empty list, whatever they are.
-use Rattle.std.proofs.Common.{◌≡◌, ◌≢◌, inl, inr, ⊎_elim, ℕ, ◌+◌, ◌≤◌, List, [], ◌∷◌, ◌++◌, length, take, drop, refl, sym, ◌∙◌, ap, subst, arith, append-nil, length-append, length-take, length-drop, take-append-drop, Some, None}
+use Rattle.std.proofs.Common.{◌≡◌, ◌≢◌, inl, inr, ℕ, ◌≤◌, List, [], ◌∷◌, ◌++◌, length, take, drop, refl, sym, ◌∙◌, ap, subst, arith, length-drop, take-append-drop, Some, None}
 use Rattle.std.specs.Prelude.{Bool, true, false, nat_eq, option_map}
 use Rattle.std.specs.declared.option.Option.{Option}
 use Rattle.std.specs.Cmp.Lexicographic.{pointwise, same_text, other_text}
 use Rattle.std.proofs.lemmas.Bool.{cases_eq}
 use Rattle.std.proofs.lemmas.Option.{none-some, same_Some}
 use Rattle.xfs_base.specs.Causes.{IfTold}
-use Rattle.xfs_disk.specs.Disk.{overlaid, Torn, Only, LeavesOnly}
+use Rattle.xfs_disk.specs.Disk.{overlaid, Only}
 use Rattle.xfs_journal.specs.Gate.{MayBecome}
-use Rattle.xfs_journal.specs.Image.{IsImage, Stands, blocks, front, framed, body, magic}
+use Rattle.xfs_journal.specs.Image.{IsImage, Stands, framed, magic}
 use Rattle.xfs_journal.specs.JournalView.{IsAtRest, IsKept}
-use Rattle.xfs_journal.specs.Paging.{IsBroken, IsOldOrShort, CeasesAt}
+use Rattle.xfs_journal.specs.Paging.{IsOldOrShort}
 use Rattle.xfs_journal.specs.declared.record.Rec.{Rec}
 use Rattle.xfs_journal.proofs.Ceasing.{no_image, short_empty}
-use Rattle.xfs_journal.proofs.Moments.{weaken}
 use Rattle.xfs_journal.proofs.Told.{on_told, from_told}
 
 no_record : (rest : List ℕ) → rest ≡ [] → (r : Rec) → (more : List ℕ) → rest ≢ framed r ++ more

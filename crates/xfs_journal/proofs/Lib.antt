@@ -1,5 +1,7 @@
 mod Appended
 mod Blocks
+mod Differing
+mod Doubt
 pub mod Ceasing
 pub mod Decoding
 pub mod JournalLaws

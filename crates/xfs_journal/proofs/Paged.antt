@@ -1,5 +1,5 @@
 -- What a page shows after it was filled, and after some of it was handed over.
-use Rattle.std.proofs.Common.{◌≡◌, ℕ, ◌+◌, ◌-◌, ◌<◌, ◌≤◌, min, List, [], ◌∷◌, ◌++◌, length, take, drop, Some, refl, sym, ◌∙◌, ap, ap₂, subst, arith, drop-drop, length-take, length-drop, take-append-drop, length-append, append_assoc, append-nil}
+use Rattle.std.proofs.Common.{◌≡◌, ℕ, ◌+◌, ◌-◌, ◌<◌, ◌≤◌, min, List, [], ◌++◌, length, take, drop, Some, refl, sym, ◌∙◌, ap, ap₂, arith, drop-drop, length-take, length-drop, take-append-drop, length-append, append_assoc, append-nil}
 use Rattle.std.proofs.lemmas.List.{drop-take}
 use Rattle.xfs_disk.specs.Disk.{Gives}
 use Rattle.std.proofs.lemmas.List.{take-append-le, drop-append-le}
@@ -7,7 +7,7 @@ use Rattle.std.proofs.Math.Seq.{take-add}
 use Rattle.std.specs.declared.option.Option.{Option}
 use Rattle.xfs_base.specs.Causes.{IfTold}
 use Rattle.xfs_journal.proofs.Told.{on_told, from_told}
-use Rattle.xfs_journal.specs.Paging.{PageView, Shows, Since, Took, IsQuiet}
+use Rattle.xfs_journal.specs.Paging.{PageView, Shows, Since, Took}
 
 pub windowed : (bytes : List ℕ) (from to n : ℕ) (w : List ℕ) → n ≤ to - from → w ≡ take (to - from) (drop from bytes) → take (to - (from + n)) (drop (from + n) bytes) ≡ drop n w
 windowed bytes from to n w le is =

@@ -2,11 +2,11 @@
 use Rattle.std.proofs.Common.{◌≡◌, ◌≢◌, ◌≤◌, ℕ, suc, ◌+◌, List, [], ◌∷◌, drop, refl, sym, ◌∙◌, ap, drop-drop, arith, length, length-append, ◌++◌, ap₂, subst}
 use Rattle.std.proofs.lemmas.Bool.{false≢true, eq-eqb, le-leb}
 use Rattle.std.specs.Int.{from_be_bytes, w32}
-use Rattle.std.specs.Prelude.{◌==◌, nat_le, ◌&&◌, true, false}
-use Rattle.xfs_journal.proofs.Decoding.{body-short, counts-size, places-size, record-back}
+use Rattle.std.specs.Prelude.{◌&&◌, true, false}
+use Rattle.xfs_journal.proofs.Decoding.{counts-size, places-size, record-back}
 use Rattle.xfs_journal.specs.Decode.{numbers, has_size, record_in, record_of, first_byte}
 use Rattle.xfs_journal.specs.Paging.{IsNoBody}
-use Rattle.xfs_journal.specs.Image.{IsRecord, HasUnit, body, counts_bytes, places_bytes}
+use Rattle.xfs_journal.specs.Image.{IsRecord, body, counts_bytes, places_bytes}
 use Rattle.xfs_journal.specs.declared.record.Rec.{Rec}
 use Rattle.xfs_journal.specs.declared.record.Rec.TheVariants.{Issue, Clear, Boot, Bind, Order, Done, Load}
 

@@ -1,5 +1,5 @@
 -- Facts of what an object holds, where it tells it.
-use Rattle.std.proofs.Common.{◌≡◌, None, Some, refl, subst}
+use Rattle.std.proofs.Common.{◌≡◌, ◌∙◌, None, Some, is_some, true≢false, refl, sym, ap, subst}
 use Rattle.std.specs.Prelude.{IfSome, IfOk, Ok, Err}
 use Rattle.std.specs.declared.result.Result.{Result}
 use Rattle.std.specs.declared.option.Option.{Option}
@@ -21,3 +21,10 @@ if_ok (Err e) P Q f p = p
 
 pub goes : {X : Type 0} (A B C : X → Type 0) → ((x : X) → A x → B x) → ((x : X) → B x → C x) → (x : X) → A x → C x
 goes A B C f g x a = g x (f x a)
+
+pub both_told : {T : Type 0} (o p : Option T) → is_some p ≡ is_some o → (x : T) → p ≡ Some x → (y : T) × (o ≡ Some y)
+both_told None p told x is = absurd (true≢false (sym (ap is_some is) ∙ told))
+both_told (Some y) p told x is = (y, refl)
+
+pub untold : {T : Type 0} (o : Option T) (P : T → Type 0) → o ≡ None → IfTold o P
+untold {T} o P none = subst (λ (q : Option T). IfTold q P) (sym none) tt

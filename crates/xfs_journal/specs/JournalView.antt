@@ -1,5 +1,5 @@
 -- What a journal is to its callers, and what every call keeps.
-use Rattle.std.specs.Prelude.{◌≡◌, ◌⊎◌, ℕ, nat_lt, Bool, false, ◌||◌, if◌then◌else◌, List, [], ◌∷◌, ◌++◌, length, Some, None}
+use Rattle.std.specs.Prelude.{◌≡◌, ◌≢◌, ◌⊎◌, ℕ, nat_lt, Bool, false, ◌||◌, if◌then◌else◌, List, [], ◌∷◌, ◌++◌, length, take, slice_get, Some, None, IfSome}
 use Rattle.std.specs.declared.option.Option.{Option}
 use Rattle.std.specs.List.{AllByRecursion}
 use Rattle.xfs_base.specs.Causes.{IfTold}
@@ -17,6 +17,8 @@ pub record JournalView (D : Type 0) : Type 0 where
   pub shut : Bool
   -- how many appends there is room for
   pub room : ℕ
+  -- the record whose append last answered that the disk failed, until the disk is read again
+  pub in_doubt : Option Rec
 
 -- the disk has nothing but an image of the list
 pub record IsAtRest (images : List ℕ → Type 0) (records : List Rec) (bytes : List ℕ) : Type 0 where
@@ -39,3 +41,28 @@ refusal j r = if j.shut then Some Shut else (if passes j.limits (j.records ++ r 
 -- the bytes stand for the list, or for the list with the record
 abbrev pub StandsForEither : List Rec → Rec → List ℕ → Type 0
 StandsForEither records r bytes = Stands bytes records ⊎ Stands bytes (records ++ r ∷ [])
+
+-- one of the lists that the disk may have: the kept one, or that one with the record in doubt
+abbrev pub IsPossible : List Rec → Option Rec → List Rec → Type 0
+IsPossible kept in_doubt records = (records ≡ kept) ⊎ ((r : Rec) × (in_doubt ≡ Some r) × (records ≡ kept ++ r ∷ []))
+
+-- the bytes are those of such a list
+abbrev pub HasPossible : List Rec → Option Rec → List ℕ → Type 0
+HasPossible kept in_doubt bytes = (records : List Rec) × IsPossible kept in_doubt records × IsImage bytes records
+
+-- A crash leaves one of the possible lists. While the journal isn't shut, no record is in doubt.
+pub record IsInDoubt (held : Option (List ℕ)) (images : List ℕ → Type 0) (records : List Rec) (shut : Bool) (in_doubt : Option Rec) : Type 0 where
+  pub none : shut ≡ false → in_doubt ≡ None
+  pub of_table : IfSome in_doubt IsRecord
+  pub possible : IfTold held (λ _. (c : List ℕ) → images c → HasPossible records in_doubt c)
+
+-- the longest of the possible lists
+abbrev pub longest : List Rec → Option Rec → List Rec
+longest kept None = kept
+longest kept (Some r) = kept ++ r ∷ []
+
+-- the place of the gate byte of the first record that differs from the longest possible list, is missing from it or is too many
+abbrev pub DiffersAt : List Rec → Option Rec → List Rec → ℕ → Type 0
+DiffersAt kept in_doubt records at = (n : ℕ)
+    × (take n records ≡ take n (longest kept in_doubt)) × (slice_get records n ≢ slice_get (longest kept in_doubt) n)
+    × (at ≡ length (front (take n records)))

@@ -1,9 +1,9 @@
 //! Writing behind a closed gate byte, and then opening it.
-ghost use Rattle.std.specs.Prelude.{◌≡◌, List, ℕ, ◌+◌, ◌<◌, ◌≤◌, ◌^◌, [], ◌∷◌, ◌++◌, false, is_some, option_map, length, take, OnOk, OnErr};
+ghost use Rattle.std.specs.Prelude.{◌≡◌, List, ℕ, ◌+◌, ◌<◌, ◌≤◌, ◌^◌, [], ◌∷◌, ◌++◌, true, false, Some, None, is_some, option_map, length, take, OnOk, OnErr};
 ghost use Rattle.xfs_base.specs.Causes.{HasCause, IfTold};
 ghost use Rattle.xfs_disk.specs.Disk.{overlaid, Torn, Follows, Only, LeavesOnly};
 ghost use Rattle.xfs_journal.specs.Image.{IsRecord, Stands, framed};
-ghost use Rattle.xfs_journal.specs.JournalView.{IsKept, StandsForEither, passes};
+ghost use Rattle.xfs_journal.specs.JournalView.{IsKept, IsInDoubt, StandsForEither};
 ghost use Rattle.xfs_journal.specs.Gate.{IsClosed, IsOpened, IsEither, MayBecome};
 
 use crate::{Limits, Rec};
@@ -54,6 +54,8 @@ pub(crate) fn write_record<D: Disk>(
     ensures told { is_some (D.held disk.new) ≡ is_some (D.held disk.old) }
     ensures any_moment { IfTold (D.held disk.old) (λ _. LeavesOnly D.moment D.images_since disk.old disk.new (StandsForEither records.now rec.now)) }
     ensures images { IfTold (D.held disk.old) (λ _. (c : List ℕ) → D.images disk.new c → StandsForEither records.now rec.now c) }
+    ensures in_doubt { IsInDoubt (D.held disk.new) (D.images disk.new) records.now true (Some rec.now) }
+    ensures none_in_doubt { OnOk result (IsInDoubt (D.held disk.new) (D.images disk.new) (records.now ++ rec.now ∷ []) false None) }
     ensures acknowledged { OnOk result (IfTold (D.held disk.new) (λ _. (c : List ℕ) → D.images disk.new c → Stands c (records.now ++ rec.now ∷ []))) }
     ensures cause { HasCause (D.faults disk.old) (D.faults disk.new) result }
 {

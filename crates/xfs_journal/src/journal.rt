@@ -1,17 +1,18 @@
 //! The journal on a disk: a list of records, each on the disk before it counts.
-ghost use Rattle.std.specs.Prelude.{MatchResult, ◌≡◌, ◌≢◌, ◌⊎◌, ℕ, List, ◌+◌, ◌-◌, ◌≤◌, ◌<◌, ◌||◌, nat_lt, [], ◌∷◌, ◌++◌, is_some, length, true, false, Some, Err, IfOk, IfErr, OnOk, OnErr, IfSome};
+ghost use Rattle.std.specs.Prelude.{MatchResult, ◌≡◌, ◌≢◌, ◌⊎◌, ℕ, List, ◌+◌, ◌-◌, ◌≤◌, ◌<◌, ◌||◌, nat_lt, [], ◌∷◌, ◌++◌, is_some, length, true, false, Some, None, Err, IfOk, IfErr, OnOk, OnErr, IfSome};
 ghost use Rattle.xfs_base.specs.Causes.{IfTold, Rose};
 ghost use Rattle.xfs_disk.specs.Disk.{LeavesOnly};
 ghost use Rattle.xfs_journal.specs.Image.{HasUnit, Stands, framed, front, size};
-ghost use Rattle.xfs_journal.specs.JournalView.{passes, refusal, StandsForEither};
+ghost use Rattle.xfs_journal.specs.JournalView.{passes, refusal, IsPossible, StandsForEither};
 ghost use Rattle.xfs_journal.specs.declared.faults.AppendFault.TheVariants.{Disk as DiskFault, Memory as NoMemory};
 ghost use Rattle.xfs_journal.specs.Paging.{CeasesAt, IsOldOrShort, IsQuiet};
-ghost use Rattle.xfs_journal.specs.declared.faults.MountFault.TheVariants.{NotJournal, Disk as MountDisk};
+ghost use Rattle.xfs_journal.specs.declared.faults.MountFault.TheVariants.{NotJournal, Disk as MountDisk, Memory as MountMemory};
 ghost use Rattle.xfs_journal.specs.declared.record.Rec.{Rec};
 
 use crate::body::{MOST, fill};
 use crate::gate::write_record;
 use crate::mount::{Listed, load};
+use crate::remount::reload;
 use crate::{AppendFault, Limits, MountFault, Rec};
 use std::alloc::Global;
 use std::marker::Model;
@@ -21,12 +22,14 @@ use xfs_disk::Disk;
 /// A journal on a disk. It keeps its list, and one buffer for the bytes of a record.
 #[derive(Drop)]
 pub struct Journal<D: Disk> {
+    alloc: Global,
     disk: D,
     records: Vec<Rec>,
     buffer: Vec<u8>,
     end: u64,
     limits: Limits,
     shut: bool,
+    in_doubt: Option<Rec>,
 }
 
 /// Why a disk isn't mounted, and the disk.
@@ -38,7 +41,7 @@ pub struct MountFail<D: Disk> {
 
 impl<D: Disk> Model for Journal<D> {
     ghost use Rattle.std.specs.Prelude.{◌-◌, ◌≤◌, vec_len, vec_capacity};
-    ghost use Rattle.xfs_journal.specs.JournalView.{JournalView, IsKept};
+    ghost use Rattle.xfs_journal.specs.JournalView.{JournalView, IsKept, IsInDoubt};
 
     ghost Value = { JournalView D };
 
@@ -48,9 +51,11 @@ impl<D: Disk> Model for Journal<D> {
       limits = j.limits;
       shut = j.shut;
       room = vec_capacity j.records - vec_len j.records;
+      in_doubt = j.in_doubt;
     } };
 
-    ghost invariant = { λ j. IsKept (D.held j.disk) (D.images j.disk) j.records.items j.shut j.end × (1028 ≤ vec_capacity j.buffer) };
+    ghost invariant = { λ j. IsKept (D.held j.disk) (D.images j.disk) j.records.items j.shut j.end
+        × IsInDoubt (D.held j.disk) (D.images j.disk) j.records.items j.shut j.in_doubt × (1028 ≤ vec_capacity j.buffer) };
 }
 
 impl<D: Disk> Journal<D> {
@@ -62,6 +67,7 @@ impl<D: Disk> Journal<D> {
         ensures disk { IfErr result (λ f. f.why ≡ MountDisk → Rose (D.faults disk) (D.faults f.disk)) }
         ensures shut { IfOk result (λ j. j.shut ≡ false) }
         ensures limits { IfOk result (λ j. j.limits ≡ limits) }
+        ensures in_doubt { IfOk result (λ j. j.in_doubt ≡ None) }
         ensures refused { IfErr result (λ f. (at : ℕ) → f.why ≡ NotJournal at → IsQuiet D.held D.images D.moment D.images_since D.faults disk f.disk) }
         ensures long { IfTold (D.held disk) (λ all. 9 < length all → MatchResult result
             (λ j. IsQuiet D.held D.images D.moment D.images_since D.faults disk j.disk)
@@ -85,12 +91,14 @@ impl<D: Disk> Journal<D> {
         };
         match load(alloc, &mut disk, &mut buffer) {
             Ok(Listed { records, end }) => Ok(Journal {
+                alloc,
                 disk,
                 records,
                 buffer,
                 end,
                 limits,
                 shut: false,
+                in_doubt: None,
             }),
             Err(why) => Err(MountFail { why, disk }),
         }
@@ -140,6 +148,50 @@ impl<D: Disk> Journal<D> {
         Ok(())
     }
 
+    /// Syncs the disk and reads its journal again. After `Ok` the list is the kept one, or that one with the record
+    /// whose append last answered `Disk`, and the next append doesn't want memory. After `Disk` and `NotJournal` the
+    /// journal is shut.
+    pub fn remount(&mut self) -> Result<(), MountFault>
+        ensures ok { OnOk result (IsPossible self.old.records self.old.in_doubt self.new.records) }
+        ensures opened { OnOk result ((self.new.shut ≡ false) × (self.new.in_doubt ≡ None)) }
+        ensures reserved { OnOk result (1 ≤ self.new.room) }
+        ensures err { OnErr result (self.new ≡ record self.old { disk = self.new.disk; shut = self.new.shut }) }
+        ensures memory { IfErr result (λ f. f ≡ MountMemory → self.new.shut ≡ self.old.shut) }
+        ensures shut { IfErr result (λ f. f ≢ MountMemory → self.new.shut ≡ true) }
+        ensures limits { self.new.limits ≡ self.old.limits }
+        ensures disk { IfErr result (λ f. f ≡ MountDisk → Rose (D.faults self.old.disk) (D.faults self.new.disk)) }
+        ensures faults { D.faults self.old.disk ≤ D.faults self.new.disk }
+        ensures told { is_some (D.held self.new.disk) ≡ is_some (D.held self.old.disk) }
+
+        // A disk that tells has one of the two lists, so it isn't refused as no journal, nor written: a crash at any
+        // moment of the call leaves what it might have left before, and after `Ok` the list.
+        ensures stands { OnOk result (IfTold (D.held self.old.disk) (λ all. Stands all self.new.records)) }
+        ensures not_journal { IfErr result (λ f. (at : ℕ) → f ≡ NotJournal at → D.held self.old.disk ≡ None) }
+        ensures any_moment { IfTold (D.held self.old.disk) (λ _. IsQuiet D.held D.images D.moment D.images_since D.faults self.old.disk self.new.disk) }
+        ensures acknowledged { OnOk result (IfTold (D.held self.new.disk) (λ _. (c : List ℕ) → D.images self.new.disk c → Stands c self.new.records)) }
+    {
+        match reload(
+            self.alloc,
+            &mut self.disk,
+            &mut self.buffer,
+            &self.records,
+            &self.in_doubt,
+        ) {
+            Ok(Listed { records, end }) => {
+                self.records = records;
+                self.end = end;
+                self.shut = false;
+                self.in_doubt = None;
+                Ok(())
+            }
+            Err(MountFault::Memory) => Err(MountFault::Memory),
+            Err(why) => {
+                self.shut = true;
+                Err(why)
+            }
+        }
+    }
+
     /// Appends a record and answers its number: from then on each crash leaves it. After `Disk` the journal is shut,
     /// and a crash leaves the list with the record or without it.
     pub fn append(&mut self, rec: Rec) -> Result<u64, AppendFault>
@@ -155,6 +207,9 @@ impl<D: Disk> Journal<D> {
         ensures ok { OnOk result ((self.new.records ≡ self.old.records ++ rec ∷ []) × (self.new.shut ≡ false)) }
         ensures err { OnErr result (self.new.records ≡ self.old.records) }
         ensures same { IfErr result (λ f. f ≢ DiskFault → (self.new.disk ≡ self.old.disk) × (self.new.shut ≡ self.old.shut)) }
+        ensures in_doubt { IfErr result (λ f. f ≡ DiskFault → self.new.in_doubt ≡ Some rec) }
+        ensures none_in_doubt { OnOk result (self.new.in_doubt ≡ None) }
+        ensures same_in_doubt { IfErr result (λ f. f ≢ DiskFault → self.new.in_doubt ≡ self.old.in_doubt) }
         ensures limits { self.new.limits ≡ self.old.limits }
         ensures room { self.old.room ≤ self.new.room + 1 }
         ensures faults { D.faults self.old.disk ≤ D.faults self.new.disk }
@@ -178,6 +233,7 @@ impl<D: Disk> Journal<D> {
         }
         if write_record(&mut self.disk, &self.records, &rec, self.end, &self.buffer).is_err() {
             self.shut = true;
+            self.in_doubt = Some(rec);
             return Err(AppendFault::Disk);
         }
         self.end += self.buffer.len() as u64;

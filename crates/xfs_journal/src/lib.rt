@@ -3,6 +3,7 @@
 
 mod block;
 mod body;
+mod differ;
 mod faults;
 mod gate;
 mod journal;
@@ -11,6 +12,7 @@ mod mount;
 mod page;
 mod read;
 mod record;
+mod remount;
 mod scan;
 mod text;
 

@@ -23,7 +23,7 @@ pub(crate) struct Listed {
 }
 
 // Reads the records of a disk of so many bytes.
-fn read_all<D: Disk>(
+pub(crate) fn read_all<D: Disk>(
     alloc: Global,
     disk: &mut D,
     len: u64,
@@ -48,7 +48,7 @@ fn read_all<D: Disk>(
 }
 
 // Syncs, and answers the number of bytes.
-fn sync_len<D: Disk>(disk: &mut D) -> Result<u64, MountFault>
+pub(crate) fn sync_len<D: Disk>(disk: &mut D) -> Result<u64, MountFault>
     ensures len { IfOk result (λ n. IfTold (D.held disk.old) (λ all. length all ≡ n)) }
     ensures durable { OnOk result (IfTold (D.held disk.new) (λ all. Only all (D.images disk.new))) }
     ensures err { IfErr result (λ f. (f ≡ DiskFault) × Rose (D.faults disk.old) (D.faults disk.new)) }
@@ -61,7 +61,7 @@ fn sync_len<D: Disk>(disk: &mut D) -> Result<u64, MountFault>
 }
 
 // Makes an empty journal of at most 9 bytes.
-fn make_empty<D: Disk>(alloc: Global, disk: &mut D) -> Result<Listed, MountFault>
+pub(crate) fn make_empty<D: Disk>(alloc: Global, disk: &mut D) -> Result<Listed, MountFault>
     requires short { IfTold (D.held disk.old) (λ all. (length all ≤ 9) × Only all (D.images disk.old)) }
     ensures ok { IfOk result (λ l. l.records.items ≡ []) }
     ensures kept { IfOk result (λ l. IsKept (D.held disk.new) (D.images disk.new) l.records.items false l.end) }

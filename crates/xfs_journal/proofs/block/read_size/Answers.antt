@@ -1,5 +1,5 @@
 use Rattle.std.proofs.Common.{◌≡◌, drop, arith, rules}
-use Rattle.xfs_journal.specs.Paging.{size_in, IsBroken}
+use Rattle.xfs_journal.specs.Paging.{size_in}
 use Rattle.xfs_journal.proofs.Blocks.{broken_long, some_of, front_size, same_place}
 use Rattle.xfs_journal.proofs.Paged.{since_front}
 use Rattle.xfs_journal.proofs.Told.{on_told, from_told}

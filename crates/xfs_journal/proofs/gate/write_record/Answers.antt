@@ -1,6 +1,7 @@
 use Rattle.std.proofs.Common.{refl}
 use Rattle.xfs_journal.specs.JournalView.{StandsForEither}
-use Rattle.xfs_journal.proofs.Appended.{asks, stands_after, kept_after, stands_at_rest, on_ok}
+use Rattle.xfs_journal.proofs.Appended.{asks, stands_after, in_doubt_after, kept_after, stands_at_rest, on_ok}
+use Rattle.xfs_journal.proofs.Doubt.{no_doubt}
 use Rattle.xfs_journal.proofs.Moments.{weaken}
 use Rattle.xfs_journal.proofs.Told.{on_told, from_told, goes}
 use Rattle.xfs_journal.proofs.gate.write_record.Goals as goal
@@ -27,3 +28,11 @@ returns-clause-images g c = on_told _ _ (λ b known.
 pub returns-clause-acknowledged : goal.returns-clause-acknowledged
 returns-clause-acknowledged g c =
     on_ok c.write_behind.result _ _ (λ o. stands_at_rest _ _ _ _ (kept_after _ _ _ _ c.args.records.now c.args.rec.now c.args.end c.args.bytes.now c.requires.kept c.requires.of_table c.requires.bytes c.write_behind.ensures.told o)) c.write_behind.ensures.ok
+
+pub returns-clause-in_doubt : goal.returns-clause-in_doubt
+returns-clause-in_doubt g c =
+    in_doubt_after _ _ _ _ c.args.records.now c.args.rec.now c.args.end c.args.bytes.now c.requires.kept c.requires.of_table c.requires.bytes c.write_behind.ensures.told c.write_behind.ensures.images
+
+pub returns-clause-none_in_doubt : goal.returns-clause-none_in_doubt
+returns-clause-none_in_doubt g c =
+    on_ok c.write_behind.result _ _ (λ o. no_doubt _ _ _ _ (kept_after _ _ _ _ c.args.records.now c.args.rec.now c.args.end c.args.bytes.now c.requires.kept c.requires.of_table c.requires.bytes c.write_behind.ensures.told o)) c.write_behind.ensures.ok

@@ -1,4 +1,4 @@
-use Rattle.std.proofs.Common.{List, ℕ, ◌-◌, subst, arith, rules}
+use Rattle.std.proofs.Common.{List, ℕ, ◌-◌, subst, arith}
 use Rattle.std.specs.declared.option.Option.{Option}
 use Rattle.xfs_journal.specs.Paging.{Took}
 use Rattle.xfs_journal.proofs.Moments.{quiet_then}

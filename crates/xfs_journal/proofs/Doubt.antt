@@ -1,0 +1,77 @@
+-- What a crash leaves while a record is in doubt, and what a list that was read again says of it.
+use Rattle.std.proofs.Common.{◌≡◌, ◌∙◌, inl, ℕ, List, true, false, true≢false, Some, None, is_some, refl, sym, subst}
+use Rattle.std.specs.Prelude.{Bool}
+use Rattle.std.specs.declared.option.Option.{Option}
+use Rattle.xfs_base.specs.Causes.{IfTold}
+use Rattle.xfs_journal.specs.Image.{IsImage}
+use Rattle.xfs_journal.specs.JournalView.{IsAtRest, IsKept, IsInDoubt, IsPossible, HasPossible}
+use Rattle.xfs_journal.specs.Paging.{IsQuiet, CeasesAt}
+use Rattle.xfs_journal.specs.declared.record.Rec.{Rec}
+use Rattle.xfs_journal.proofs.Ceasing.{no_image}
+use Rattle.xfs_journal.proofs.Told.{on_told, from_told, both_told}
+use Rattle.xfs_journal.proofs.Unique.{at_most_one}
+
+pub no_doubt : (h : Option (List ℕ)) (images : List ℕ → Type 0) (J : List Rec) (end : ℕ) → IsKept h images J false end → IsInDoubt h images J false None
+no_doubt h images J end kept = record {
+  none = λ _. refl;
+  of_table = tt;
+  possible = on_told h (λ _. (c : List ℕ) → images c → HasPossible J None c) (λ b known.
+      let rest = from_told h (IsAtRest images J) (kept.at_rest refl) b known in
+      (λ c left. (J, inl refl, subst (λ (l : List ℕ). IsImage l J) (sym (rest.durable c left)) rest.image)));
+}
+
+-- the journal isn't shut, so nothing is in doubt
+pub settled : (h h2 : Option (List ℕ)) (images images2 : List ℕ → Type 0) (J K : List Rec) (d : Option Rec) → IsInDoubt h images J false d → IsInDoubt h2 images2 K false None → IsInDoubt h2 images2 K false d
+settled h h2 images images2 J K d was now = subst (λ (o : Option Rec). IsInDoubt h2 images2 K false o) (sym (was.none refl)) now
+
+-- a disk that was not written
+module _ {D : Type 0} (held : D → Option (List ℕ)) (images : D → List ℕ → Type 0) (moment : D → ℕ) (since : D → ℕ → List ℕ → Type 0) (faults : D → ℕ) (a b : D)
+    (told : is_some (held b) ≡ is_some (held a)) (quiet : IfTold (held a) (λ _. IsQuiet held images moment since faults a b)) where
+  is_quiet : (x : List ℕ) → held b ≡ Some x → IsQuiet held images moment since faults a b
+  is_quiet x now =
+      let was = both_told (held a) (held b) told x now in
+      from_told (held a) (λ _. IsQuiet held images moment since faults a b) quiet was.0 was.1
+
+  pub kept_still : (J : List Rec) (shut : Bool) (end : ℕ) → IsKept (held a) (images a) J shut end → IsKept (held b) (images b) J shut end
+  kept_still J shut end kept = record {
+    place = kept.place;
+    of_table = kept.of_table;
+    at_rest = λ s. on_told (held b) (IsAtRest (images b) J) (λ x now.
+        let q = is_quiet x now in
+        let rest = from_told (held a) (IsAtRest (images a) J) (kept.at_rest s) x (sym q.same ∙ now) in
+        record { image = rest.image; durable = λ c left. rest.durable c (q.adds_none c left) });
+  }
+
+  possible_still : (J : List Rec) (d : Option Rec) → IfTold (held a) (λ _. (c : List ℕ) → images a c → HasPossible J d c) → IfTold (held b) (λ _. (c : List ℕ) → images b c → HasPossible J d c)
+  possible_still J d possible = on_told (held b) (λ _. (c : List ℕ) → images b c → HasPossible J d c) (λ x now.
+      let q = is_quiet x now in
+      (λ c left. from_told (held a) (λ _. (f : List ℕ) → images a f → HasPossible J d f) possible x (sym q.same ∙ now) c (q.adds_none c left)))
+
+  pub doubt_still : (J : List Rec) (shut : Bool) (d : Option Rec) → IsInDoubt (held a) (images a) J shut d → IsInDoubt (held b) (images b) J shut d
+  doubt_still J shut d doubt = record { none = doubt.none; of_table = doubt.of_table; possible = possible_still J d doubt.possible }
+
+  -- and whose journal is shut now
+  pub kept_shut : (J : List Rec) (shut : Bool) (end : ℕ) → IsKept (held a) (images a) J shut end → IsKept (held b) (images b) J true end
+  kept_shut J shut end kept = record { place = kept.place; of_table = kept.of_table; at_rest = λ s. absurd (true≢false s) }
+
+  pub doubt_shut : (J : List Rec) (shut : Bool) (d : Option Rec) → IsInDoubt (held a) (images a) J shut d → IsInDoubt (held b) (images b) J true d
+  doubt_shut J shut d doubt = record { none = λ s. absurd (true≢false s); of_table = doubt.of_table; possible = possible_still J d doubt.possible }
+
+-- what is read stands for one of the possible lists
+pub imaged : (h : Option (List ℕ)) (images : List ℕ → Type 0) (J : List Rec) (d : Option Rec) → ((all : List ℕ) → h ≡ Some all → images all)
+    → IfTold h (λ _. (c : List ℕ) → images c → HasPossible J d c) → IfTold h (λ all. HasPossible J d all)
+imaged h images J d as_read possible = on_told h (λ all. HasPossible J d all) (λ all known. from_told h (λ _. (c : List ℕ) → images c → HasPossible J d c) possible all known all (as_read all known))
+
+pub some_list : (h h2 : Option (List ℕ)) (J : List Rec) (d : Option Rec) → h2 ≡ h → IfTold h (λ all. HasPossible J d all) → IfTold h2 (λ all. (K : List Rec) × IsImage all K)
+some_list h h2 J d same possible = on_told h2 (λ all. (K : List Rec) × IsImage all K) (λ all known.
+    let has = from_told h (λ all. HasPossible J d all) possible all (sym same ∙ known) in (has.0, has.2))
+
+-- so bytes that are no journal are told by no disk
+pub ceases_silent : (h : Option (List ℕ)) (at : ℕ) → IfTold h (λ all. CeasesAt all at) → IfTold h (λ all. (J : List Rec) × IsImage all J) → h ≡ None
+ceases_silent None at ceases image = refl
+ceases_silent (Some all) at ceases image = absurd (no_image all at ceases image.0 image.1)
+
+-- nor is another list
+pub other_silent : (h : Option (List ℕ)) (J K : List Rec) (d : Option Rec) → IfTold h (λ all. HasPossible J d all) → IfTold h (λ all. IsImage all K) → ¬ IsPossible J d K → h ≡ None
+other_silent None J K d possible image other = refl
+other_silent (Some all) J K d possible image other = absurd (other (subst (λ (L : List Rec). IsPossible J d L) (at_most_one all possible.0 K possible.2 image) possible.1))

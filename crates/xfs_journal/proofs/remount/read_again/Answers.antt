@@ -1,0 +1,14 @@
+use Rattle.xfs_journal.proofs.Doubt.{ceases_silent}
+use Rattle.xfs_journal.proofs.Told.{untold}
+use Rattle.xfs_journal.proofs.remount.read_again.Goals as goal
+
+pub returns-in-Err-NotJournal-clause-quiet : goal.returns-in-Err-NotJournal-clause-quiet
+returns-in-Err-NotJournal-clause-quiet g c =
+    untold _ _ (ceases_silent _ c.in-Err-NotJournal.field-0-0 (c.in-Err-NotJournal.ensures.broken c.in-Err-NotJournal.field-0-0 c.in-Err-NotJournal.field-0-is) c.requires.image)
+
+pub returns-in-Err-NotJournal-2-clause-silent : goal.returns-in-Err-NotJournal-2-clause-silent
+returns-in-Err-NotJournal-2-clause-silent g c = λ at e.
+    ceases_silent _ c.in-Err-NotJournal-2.field-0-0 (c.in-Err-NotJournal.ensures.broken c.in-Err-NotJournal-2.field-0-0 c.in-Err-NotJournal-2.field-0-is) c.requires.image
+
+pub returns-in_default-clause-silent : goal.returns-in_default-clause-silent
+returns-in_default-clause-silent g c = λ at e. ceases_silent _ at (c.in-Err-NotJournal.ensures.broken at e) c.requires.image
