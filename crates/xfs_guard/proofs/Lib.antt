@@ -3,6 +3,7 @@ pub mod BudgetLaws
 pub mod ClaimLaws
 pub mod ContinueLaws
 pub mod FollowsLaws
+pub mod KeptLaws
 pub mod LedgerLaws
 pub mod OrderLaws
 pub mod PresentedLaws

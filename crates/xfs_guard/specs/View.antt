@@ -8,7 +8,7 @@ use Rattle.xfs_journal.specs.declared.record.Rec.{Rec}
 use Rattle.xfs_journal.specs.declared.limits.Limits.{Limits}
 use Rattle.xfs_guard.specs.declared.open.Open.{Open}
 
--- a guard: its key, seed and units, its journal, the amounts of the token that is bound to the live nonce, the open order, what its mechanism tells, the journal's limits, whether the journal is shut, and the record whose append last answered that the disk failed
+-- a guard: its key, seed and units, its journal, the amounts of the token that is bound to the live nonce, the open order, what its mechanism tells, the journal's limits, whether the journal is shut, the record whose append last answered that the disk failed, and whether the disk tells its bytes
 pub record View : Type 0 where
   pub key : List ℕ
   pub seed : List ℕ
@@ -22,6 +22,7 @@ pub record View : Type 0 where
   pub limits : Limits
   pub shut : Bool
   pub in_doubt : Option Rec
+  pub disk_told : Bool
 
 -- the same, and the disk of the journal
 pub record GuardView (D : Type 0) : Type 0 where

@@ -1,4 +1,4 @@
-ghost use Rattle.std.specs.Prelude.{◌≡◌, ◌≢◌, ◌↔◌, ℕ, true, List, ◌+◌, ◌<◌, ◌≤◌, [], ◌∷◌, ◌++◌, length, false, OnOk, OnErr, IfOk, IfErr, IsTrue, Some, None, unwrap_or};
+ghost use Rattle.std.specs.Prelude.{◌≡◌, ◌≢◌, ◌↔◌, ℕ, true, List, ◌+◌, ◌<◌, ◌≤◌, [], ◌∷◌, ◌++◌, length, false, true, is_some, OnOk, OnErr, IfOk, IfErr, IsTrue, Some, None, unwrap_or};
 ghost use Rattle.xfs_base.specs.Causes.{IfTold, Rose};
 ghost use Rattle.xfs_journal.specs.declared.record.Rec.TheVariants.{Issue, Clear, Boot, Bind, Order, Done};
 ghost use Rattle.xfs_journal.specs.Journal.{next_issue};
@@ -42,6 +42,7 @@ pub struct Guard<M: Mechanism, D: Disk> {
 }
 
 impl<M: Mechanism, D: Disk> Model for Guard<M, D> {
+    ghost use Rattle.std.specs.Prelude.{is_some};
     ghost use Rattle.xfs_guard.specs.View.{GuardView};
     ghost use Rattle.xfs_guard.specs.Kept.{IsKept};
 
@@ -61,6 +62,7 @@ impl<M: Mechanism, D: Disk> Model for Guard<M, D> {
         limits = g.ledger.limits;
         shut = g.ledger.shut;
         in_doubt = g.ledger.in_doubt;
+        disk_told = is_some (D.held g.ledger.disk);
       };
       disk = g.ledger.disk;
     } };
@@ -78,6 +80,7 @@ impl<M: Mechanism, D: Disk> Model for Guard<M, D> {
       limits = g.ledger.limits;
       shut = g.ledger.shut;
       in_doubt = g.ledger.in_doubt;
+      disk_told = is_some (D.held g.ledger.disk);
     }) (M.room g.mech) g.ledger.room (M.units g.mech) };
 }
 
@@ -108,6 +111,7 @@ impl<M: Mechanism, D: Disk> Guard<M, D> {
           limits = limits;
           shut = false;
           in_doubt = None;
+          disk_told = is_some (D.held disk);
         })) }
         ensures mech { IfErr result (λ f. f.mech ≡ mech) }
         ensures not_journal { IfErr result (λ f. (at : ℕ) → f.why ≡ NotJournal at → IfTold (D.held disk) (λ all. CeasesAt all at × ((J : List Rec) → ¬ Stands all J))) }
@@ -236,7 +240,7 @@ impl<M: Mechanism, D: Disk> Guard<M, D> {
             return Err(deny);
         }
         let word = word_of(self.seed, self.ledger.next_issue());
-        self.ledger.issue(word)
+        Ok(self.ledger.issue(word)?)
     }
 
     /// Clears the live nonce. False, and nothing is written, where none is live.
@@ -383,7 +387,8 @@ impl<M: Mechanism, D: Disk> Guard<M, D> {
             unreachable!()
         };
         self.open_order = Open::No;
-        self.ledger.done(kind, moved, diverted)
+        self.ledger.done(kind, moved, diverted)?;
+        Ok(())
     }
 }
 

@@ -69,6 +69,7 @@ impl<M: Mechanism, D: Disk> Guard<M, D> {
         if let Some(deny) = self.unfit() {
             return Err(deny);
         }
-        self.ledger.load(unit, count)
+        self.ledger.load(unit, count)?;
+        Ok(())
     }
 }
