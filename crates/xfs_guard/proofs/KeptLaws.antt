@@ -1,8 +1,9 @@
 -- What a guard is after a record was written, and after the disk failed.
-use Rattle.std.proofs.Common.{◌≡◌, ◌⊎◌, inl, inr, ⊎_elim, ℕ, Bool, true, false, List, [], ◌∷◌, ◌++◌, None, Some, refl, sym, true≢false}
+use Rattle.std.proofs.Common.{◌≡◌, ◌⊎◌, inl, inr, ⊎_elim, ℕ, Bool, true, false, List, [], ◌∷◌, ◌++◌, None, Some, Err, refl, sym, true≢false}
 use Rattle.std.specs.declared.option.Option.{Option}
 use Rattle.xfs_base.specs.Causes.{IfTold}
 use Rattle.xfs_base.specs.declared.money.NoteKind.{NoteKind}
+use Rattle.xfs_base.specs.declared.counts.Places.{Places}
 use Rattle.xfs_mech.specs.declared.motion.Motion.{Motion}
 use Rattle.xfs_journal.specs.JournalView.{IsPossible}
 use Rattle.xfs_journal.specs.declared.record.Rec.{Rec}
@@ -15,6 +16,11 @@ use Rattle.xfs_guard.specs.Recorded.{IsRecorded}
 use Rattle.xfs_guard.specs.Kept.{HasRoom, HasLimits, IsKept}
 use Rattle.xfs_guard.specs.Budget.{Budget}
 use Rattle.xfs_guard.specs.Sound.{Ties, where_told, IsSound}
+use Rattle.xfs_guard.specs.declared.deny.Deny.{Deny}
+use Rattle.xfs_guard.specs.declared.deny.Deny.TheVariants.{Disk, Memory}
+use Rattle.xfs_guard.specs.LedgerView.{LedgerView, Wrote, IsWriteFault}
+use Rattle.xfs_guard.specs.Continues.{Leads, Continues}
+use Rattle.xfs_guard.proofs.FollowsLaws.{Follows-same}
 use Rattle.xfs_guard.proofs.RecordLaws.{longer}
 
 told-at : (b : Bool) (v : View) (m : Option (List Motion)) → b ≡ true → IfTold (where_told b m) (Ties v) → IfTold m (Ties v)
@@ -87,3 +93,64 @@ IsKept-doubted v r w o spare left kinds s t units = record {
   where
     some : (x : Rec) → Some r ≡ Some x → r ≡ x
     some x e = cc
+
+-- a guard's view with what this ledger has
+abbrev pub over : {D : Type 0} → List ℕ → List ℕ → Open → Option (List Motion) → Places → ℕ → LedgerView D → Bool → View
+over key seed o motions places faults l told = record {
+  key = key;
+  seed = seed;
+  units = l.units;
+  records = l.records;
+  bound = l.bound;
+  open_order = o;
+  motions = motions;
+  places = places;
+  faults = faults;
+  limits = l.limits;
+  shut = l.shut;
+  in_doubt = l.in_doubt;
+  disk_told = told;
+}
+
+-- a call that writes and has no order open, where memory ran out or the disk failed
+pub IsKept-refused : (T : Type 0) {D : Type 0} (e : Deny) (key seed : List ℕ) (o : Open) (motions : Option (List Motion)) (places : Places) (faults : ℕ) (old new : LedgerView D) (r : Rec)
+    (w : Option (List (List ℕ × ℕ))) (was told : Bool) (spare room left : ℕ) (kinds : List NoteKind)
+    → Wrote {T = T} (Err e) old new r w → IsWriteFault e → told ≡ was → o ≡ No → IsKept (over key seed o motions places faults old was) spare room kinds → old.shut ≡ false
+    → IsSound (longer (over key seed o motions places faults old was) r w No) → IsKept (over key seed o motions places faults new told) spare left kinds
+IsKept-refused T e key seed o motions places faults old new r w was told spare room left kinds wrote why same none kept open_still sound = ⊎_elim memory disk why
+  where
+    memory : e ≡ Memory → IsKept (over key seed o motions places faults new told) spare left kinds
+    memory is = let s = rw is at wrote in
+        rw (s.records, s.units, s.bound, s.limits, s.shut, s.in_doubt, same) (record {
+          sound = kept.sound;
+          clean = kept.clean;
+          closed = kept.closed;
+          recorded = kept.recorded;
+          room = rw none tt;
+          limits = kept.limits;
+          units = kept.units;
+        })
+
+    disk : e ≡ Disk → IsKept (over key seed o motions places faults new told) spare left kinds
+    disk is = let s = rw is at wrote in
+        rw (s.records, s.units, s.bound, s.limits, s.shut, s.in_doubt, same, none)
+        (IsKept-doubted (over key seed o motions places faults old was) r w No spare left kinds (kept.sound open_still) sound kept.units)
+
+-- what follows then
+pub Continues-refused : (T : Type 0) {D : Type 0} (e : Deny) (key seed : List ℕ) (o : Open) (motions : Option (List Motion)) (places : Places) (faults : ℕ) (old new : LedgerView D) (r : Rec)
+    (w : Option (List (List ℕ × ℕ))) (was told : Bool)
+    → Wrote {T = T} (Err e) old new r w → IsWriteFault e → Continues (over key seed o motions places faults old was) (over key seed o motions places faults new told)
+Continues-refused T e key seed o motions places faults old new r w was told wrote why = ⊎_elim memory disk why
+  where
+    from : new.records ≡ old.records → new.units ≡ old.units → Continues (over key seed o motions places faults old was) (over key seed o motions places faults new told)
+    from J u = record { leads = go motions; key = refl; seed = refl; units = u }
+      where
+        go : (m : Option (List Motion)) → Leads (over key seed o motions places faults old was) (over key seed o motions places faults new told) m m
+        go None = tt
+        go (Some l) = λ known. record { follows = rw J (Follows-same old.records l places); known = rw J known }
+
+    memory : e ≡ Memory → Continues (over key seed o motions places faults old was) (over key seed o motions places faults new told)
+    memory is = let s = rw is at wrote in from s.records s.units
+
+    disk : e ≡ Disk → Continues (over key seed o motions places faults old was) (over key seed o motions places faults new told)
+    disk is = let s = rw is at wrote in from s.records s.units

@@ -9,5 +9,6 @@ pub mod OrderLaws
 pub mod PresentedLaws
 pub mod RecordLaws
 pub mod ReportLaws
+pub mod SizeLaws
 pub mod SoundLaws
 pub mod WithinLaws

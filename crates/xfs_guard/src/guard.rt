@@ -1,4 +1,4 @@
-ghost use Rattle.std.specs.Prelude.{◌≡◌, ◌≢◌, ◌↔◌, ℕ, true, List, ◌+◌, ◌<◌, ◌≤◌, [], ◌∷◌, ◌++◌, length, false, true, is_some, OnOk, OnErr, IfOk, IfErr, IsTrue, Some, None, unwrap_or};
+ghost use Rattle.std.specs.Prelude.{◌≡◌, ◌≢◌, ◌↔◌, ℕ, true, List, ◌+◌, ◌<◌, ◌≤◌, [], ◌∷◌, ◌++◌, length, false, true, is_some, OnOk, OnErr, IfOk, IfErr, IsTrue, Some, None, Err, unwrap_or};
 ghost use Rattle.xfs_base.specs.Causes.{IfTold, Rose};
 ghost use Rattle.xfs_journal.specs.declared.record.Rec.TheVariants.{Issue, Clear, Boot, Bind, Order, Done};
 ghost use Rattle.xfs_journal.specs.Journal.{next_issue};
@@ -223,18 +223,24 @@ impl<M: Mechanism, D: Disk> Guard<M, D> {
         self.ledger.records()
     }
 
-    /// Issues the next nonce; its word is the seed's. A nonce that was live is so no longer.
+    /// Issues the next nonce; its word is the seed's. A nonce that was live is so no longer. After `Disk`
+    /// the journal is shut.
     pub fn issue(&mut self) -> Result<Nonce, Deny>
         requires { self.old.state.open_order ≡ No }
+        ensures refused { Answers result (unfit self.old.state) }
         ensures number { IfOk result (λ n. n.number ≡ next_issue self.old.state.records) }
         ensures live { IfOk result (λ n. live_nonce self.new.state.records ≡ Some n) }
         ensures ok { IfOk result (λ n. self.new.state ≡ record self.old.state {
           records = self.old.state.records ++ Issue n.number (issue_word self.old.state.seed n.number) ∷ [];
           bound = None;
         }) }
-        ensures memory { IfErr result (λ e. e ≡ Deny.Memory) }
-        ensures err { OnErr result (self.new.state ≡ self.old.state) }
-        ensures continues { OnOk result (Continues self.old.state self.new.state) }
+        ensures disk { result ≡ Err Deny.Disk → self.new.state ≡ record self.old.state {
+          shut = true;
+          in_doubt = Some (Issue (next_issue self.old.state.records) (issue_word self.old.state.seed (next_issue self.old.state.records)));
+        } }
+        ensures cause { result ≡ Err Deny.Disk → Rose (D.faults self.old.disk) (D.faults self.new.disk) }
+        ensures same { IfErr result (λ e. e ≢ Deny.Disk → self.new ≡ self.old) }
+        ensures continues { Continues self.old.state self.new.state }
     {
         if let Some(deny) = self.unfit() {
             return Err(deny);

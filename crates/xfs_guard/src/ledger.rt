@@ -1,6 +1,6 @@
 //! The records of the journal, with what is read of them kept beside: no call but `boot` goes through them.
 
-ghost use Rattle.std.specs.Prelude.{◌≡◌, ◌≢◌, ◌↔◌, ℕ, List, ◌+◌, ◌-◌, ◌<◌, ◌≤◌, ◌^◌, [], ◌∷◌, ◌++◌, true, false, length, slice_get, slice_index, OnErr, IfErr, IfOk, OnOk, Some, None, Err};
+ghost use Rattle.std.specs.Prelude.{◌≡◌, ◌≢◌, ◌↔◌, ℕ, List, ◌+◌, ◌-◌, ◌<◌, ◌≤◌, ◌^◌, [], ◌∷◌, ◌++◌, true, false, is_some, length, slice_get, slice_index, OnErr, IfErr, IfOk, OnOk, Some, None, Err};
 ghost use Rattle.std.specs.Option.{option_copied, option_map};
 ghost use Rattle.xfs_base.specs.Causes.{IfTold, Rose};
 ghost use Rattle.xfs_base.specs.Money.{value};
@@ -229,6 +229,7 @@ impl<D: Disk> Ledger<D> {
         ensures err { IfErr result IsWriteFault }
         ensures cause { result ≡ Err Deny.Disk → Rose (D.faults self.old.disk) (D.faults self.new.disk) }
         ensures faults { D.faults self.old.disk ≤ D.faults self.new.disk }
+        ensures told { is_some (D.held self.new.disk) ≡ is_some (D.held self.old.disk) }
     {
         let number = self.next_issue();
         let nonce = Nonce::of(self.alloc, number, word)?;
@@ -247,6 +248,7 @@ impl<D: Disk> Ledger<D> {
         ensures err { IfErr result IsWriteFault }
         ensures cause { result ≡ Err Deny.Disk → Rose (D.faults self.old.disk) (D.faults self.new.disk) }
         ensures faults { D.faults self.old.disk ≤ D.faults self.new.disk }
+        ensures told { is_some (D.held self.new.disk) ≡ is_some (D.held self.old.disk) }
     {
         self.mark = append(&mut self.journal, Rec::Clear)?;
         self.live = None;
@@ -264,6 +266,7 @@ impl<D: Disk> Ledger<D> {
         ensures err { IfErr result IsWriteFault }
         ensures cause { result ≡ Err Deny.Disk → Rose (D.faults self.old.disk) (D.faults self.new.disk) }
         ensures faults { D.faults self.old.disk ≤ D.faults self.new.disk }
+        ensures told { is_some (D.held self.new.disk) ≡ is_some (D.held self.old.disk) }
     {
         let place = append(&mut self.journal, Rec::Bind { token })?;
         self.bound = Some(Bound {
@@ -282,6 +285,7 @@ impl<D: Disk> Ledger<D> {
         ensures err { IfErr result IsWriteFault }
         ensures cause { result ≡ Err Deny.Disk → Rose (D.faults self.old.disk) (D.faults self.new.disk) }
         ensures faults { D.faults self.old.disk ≤ D.faults self.new.disk }
+        ensures told { is_some (D.held self.new.disk) ≡ is_some (D.held self.old.disk) }
     {
         append(&mut self.journal, Rec::Load { unit, count })?;
         Ok(())
@@ -304,6 +308,7 @@ impl<D: Disk> Ledger<D> {
         ensures room { self.old.room ≤ self.new.room + 1 }
         ensures cause { result ≡ Err Deny.Disk → Rose (D.faults self.old.disk) (D.faults self.new.disk) }
         ensures faults { D.faults self.old.disk ≤ D.faults self.new.disk }
+        ensures told { is_some (D.held self.new.disk) ≡ is_some (D.held self.old.disk) }
     {
         append(&mut self.journal, Rec::Order { kind, counts })?;
         Ok(())
@@ -319,6 +324,7 @@ impl<D: Disk> Ledger<D> {
         ensures err { IfErr result (λ e. e ≡ Deny.Disk) }
         ensures cause { result ≡ Err Deny.Disk → Rose (D.faults self.old.disk) (D.faults self.new.disk) }
         ensures faults { D.faults self.old.disk ≤ D.faults self.new.disk }
+        ensures told { is_some (D.held self.new.disk) ≡ is_some (D.held self.old.disk) }
     {
         append(&mut self.journal, Rec::Done { moved, diverted })?;
         self.bound = paid(self.bound.take(), kind, &moved, &self.units);
@@ -374,6 +380,7 @@ fn append<D: Disk>(journal: &mut Journal<D>, rec: Rec) -> Result<u64, Deny>
     ensures limits { journal.new.limits ≡ journal.old.limits }
     ensures room { journal.old.room ≤ journal.new.room + 1 }
     ensures faults { D.faults journal.old.disk ≤ D.faults journal.new.disk }
+    ensures told { is_some (D.held journal.new.disk) ≡ is_some (D.held journal.old.disk) }
 {
     match journal.append(rec) {
         Ok(number) => Ok(number),
