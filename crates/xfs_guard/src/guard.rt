@@ -249,14 +249,17 @@ impl<M: Mechanism, D: Disk> Guard<M, D> {
         Ok(self.ledger.issue(word)?)
     }
 
-    /// Clears the live nonce. False, and nothing is written, where none is live.
+    /// Clears the live nonce. False, and nothing is written, where none is live. After `Disk` the
+    /// journal is shut.
     pub fn clear(&mut self) -> Result<bool, Deny>
         requires { self.old.state.open_order ≡ No }
+        ensures refused { Answers result (unfit self.old.state) }
         ensures dead { IfOk result (λ b. IsTrue b ↔ (live_nonce self.old.state.records ≢ None)) }
         ensures cleared { result ≡ Ok true → self.new.state ≡ record self.old.state { records = self.old.state.records ++ Clear ∷ []; bound = None } }
-        ensures same { result ≢ Ok true → self.new.state ≡ self.old.state }
-        ensures memory { IfErr result (λ e. e ≡ Deny.Memory) }
-        ensures continues { OnOk result (Continues self.old.state self.new.state) }
+        ensures disk { result ≡ Err Deny.Disk → self.new.state ≡ record self.old.state { shut = true; in_doubt = Some Clear } }
+        ensures cause { result ≡ Err Deny.Disk → Rose (D.faults self.old.disk) (D.faults self.new.disk) }
+        ensures same { result ≢ Ok true → result ≢ Err Deny.Disk → self.new ≡ self.old }
+        ensures continues { Continues self.old.state self.new.state }
     {
         if let Some(deny) = self.unfit() {
             return Err(deny);

@@ -1,6 +1,6 @@
 //! What customers and operators do with notes: the guard's reports of it, and the record of a loading.
 
-ghost use Rattle.std.specs.Prelude.{◌≡◌, ◌≢◌, ◌↔◌, ◌≤◌, true, [], ◌∷◌, ◌++◌, length, Some, OnOk, OnErr, IfOk, IfErr, IsTrue};
+ghost use Rattle.std.specs.Prelude.{◌≡◌, ◌≢◌, ◌↔◌, ◌≤◌, true, [], ◌∷◌, ◌++◌, length, Some, Err, OnOk, OnErr, IfOk, IfErr, IsTrue};
 ghost use Rattle.xfs_base.specs.Causes.{Rose};
 ghost use Rattle.xfs_base.specs.Counts.{LiesIn};
 ghost use Rattle.xfs_base.specs.declared.counts.Kind.TheVariants.{Retract};
@@ -9,6 +9,8 @@ ghost use Rattle.xfs_mech.specs.declared.motion.Motion.TheVariants.{Taken, Loade
 ghost use Rattle.xfs_journal.specs.declared.record.Rec.TheVariants.{Load};
 ghost use Rattle.xfs_guard.specs.declared.open.Open.TheVariants.{No};
 ghost use Rattle.xfs_guard.specs.Orders.{kind_unacted};
+ghost use Rattle.xfs_guard.specs.Fits.{unfit};
+ghost use Rattle.xfs_guard.specs.Refusals.{Answers};
 ghost use Rattle.xfs_guard.specs.Reports.{HasReported};
 ghost use Rattle.xfs_guard.specs.Continues.{Continues};
 
@@ -56,19 +58,23 @@ impl<M: Mechanism, D: Disk> Guard<M, D> {
         Ok(self.mech.load(unit, count))
     }
 
-    /// Writes down that the operator added so many notes to a unit, which counts from 1.
+    /// Writes down that the operator added so many notes to a unit, which counts from 1. After `Disk`
+    /// the journal is shut.
     pub fn note_load(&mut self, unit: u8, count: u32) -> Result<(), Deny>
         requires none { self.old.state.open_order ≡ No }
         requires low { 1 ≤ unit }
         requires high { unit ≤ length self.old.state.units }
+        ensures refused { Answers result (unfit self.old.state) }
         ensures ok { OnOk result (self.new.state ≡ record self.old.state { records = self.old.state.records ++ Load unit count ∷ [] }) }
-        ensures memory { IfErr result (λ e. e ≡ Deny.Memory) }
-        ensures err { OnErr result (self.new.state ≡ self.old.state) }
-        ensures continues { OnOk result (Continues self.old.state self.new.state) }
+        ensures disk { result ≡ Err Deny.Disk → self.new.state ≡ record self.old.state { shut = true; in_doubt = Some (Load unit count) } }
+        ensures cause { result ≡ Err Deny.Disk → Rose (D.faults self.old.disk) (D.faults self.new.disk) }
+        ensures same { IfErr result (λ e. e ≢ Deny.Disk → self.new ≡ self.old) }
+        ensures continues { Continues self.old.state self.new.state }
     {
         if let Some(deny) = self.unfit() {
             return Err(deny);
         }
+        let _few = self.ledger.units().len();
         self.ledger.load(unit, count)?;
         Ok(())
     }
