@@ -188,3 +188,8 @@ IsKept-acted v k c m d failed now Q f spare was left kinds before kept written m
 
     none : (r : Rec) → None ≡ Some r → ⊥
     none r e = cc
+
+-- an acted order is open only in a journal that is
+pub still-acted : (shut : Bool) (o : Open) (k : Kind) (m d : Counts) (failed : Bool) → (shut ≡ true → o ≡ No) → o ≡ Acted k m d failed → shut ≡ false
+still-acted false o k m d failed closed is = refl
+still-acted true o k m d failed closed is = let none : Acted k m d failed ≡ No = sym is ∙ closed refl in cc

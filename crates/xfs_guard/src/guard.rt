@@ -14,7 +14,7 @@ ghost use Rattle.xfs_journal.specs.JournalView.{IsPossible};
 ghost use Rattle.xfs_journal.specs.Paging.{CeasesAt};
 ghost use Rattle.xfs_journal.specs.declared.record.Rec.{Rec};
 ghost use Rattle.xfs_guard.specs.Continues.{Continues};
-ghost use Rattle.xfs_guard.specs.Orders.{IsWritten, IsActed, Acts, Settles, kind_unacted};
+ghost use Rattle.xfs_guard.specs.Orders.{IsWritten, IsActed, Acts, Settles, Unsettles, kind_unacted};
 ghost use Rattle.xfs_guard.specs.Refusals.{Answers, IsAsk, order_refusal, nothing_refusal, notes_of, asked_kind, asked_counts};
 ghost use Rattle.xfs_guard.specs.declared.ask.Ask.TheVariants.{Stack as AskStack, Present as AskPresent};
 
@@ -378,12 +378,14 @@ impl<M: Mechanism, D: Disk> Guard<M, D> {
         outcome
     }
 
-    /// Writes down what the order did. It takes no memory.
+    /// Writes down what the order did. It takes no memory. Its one refusal is `Disk`: then the journal
+    /// is shut, and no order is open.
     pub fn settle(&mut self) -> Result<(), Deny>
         requires { IsActed self.old.state.open_order }
         ensures settled { OnOk result (Settles self.old.state self.new.state) }
         ensures err { IfErr result (λ e. e ≡ Deny.Disk) }
-        ensures none { self.new.state.open_order ≡ No }
+        ensures disk { OnErr result (Unsettles self.old.state self.new.state) }
+        ensures cause { OnErr result (Rose (D.faults self.old.disk) (D.faults self.new.disk)) }
         ensures continues { Continues self.old.state self.new.state }
     {
         let Open::Acted {
@@ -395,10 +397,19 @@ impl<M: Mechanism, D: Disk> Guard<M, D> {
         else {
             unreachable!()
         };
+        eight(&moved);
+        eight(&diverted);
         self.open_order = Open::No;
         self.ledger.done(kind, moved, diverted)?;
         Ok(())
     }
+}
+
+// Counts are eight.
+fn eight(counts: &Counts)
+    ensures { length counts.now.0 ≡ 8 }
+{
+    let _eight = counts.0.as_slice().len();
 }
 
 // All the notes of a place, where there are some.
