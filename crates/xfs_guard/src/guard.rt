@@ -1,4 +1,4 @@
-ghost use Rattle.std.specs.Prelude.{◌≡◌, ◌≢◌, ◌↔◌, ℕ, true, List, ◌+◌, ◌<◌, ◌≤◌, [], ◌∷◌, ◌++◌, length, false, true, is_some, OnOk, OnErr, IfOk, IfErr, IsTrue, Some, None, Err, unwrap_or};
+ghost use Rattle.std.specs.Prelude.{MatchResult, ◌≡◌, ◌≢◌, ◌↔◌, ℕ, true, List, ◌+◌, ◌<◌, ◌≤◌, [], ◌∷◌, ◌++◌, length, false, true, is_some, OnOk, OnErr, IfOk, IfErr, IsTrue, Some, None, Err, unwrap_or};
 ghost use Rattle.std.specs.Option.{option_or};
 ghost use Rattle.xfs_base.specs.Causes.{IfTold, Rose};
 ghost use Rattle.xfs_journal.specs.declared.record.Rec.TheVariants.{Issue, Clear, Boot, Bind, Order, Done};
@@ -7,12 +7,12 @@ ghost use Rattle.xfs_guard.specs.declared.open.Open.TheVariants.{No, Written};
 ghost use Rattle.xfs_guard.specs.Nonce.{live_nonce};
 ghost use Rattle.xfs_guard.specs.Word.{issue_word};
 ghost use Rattle.xfs_guard.specs.Fits.{fit_of, unfit};
-ghost use Rattle.xfs_guard.specs.Stored.{IsStored};
+ghost use Rattle.xfs_guard.specs.Stored.{IsStored, MayLeave};
 ghost use Rattle.xfs_guard.specs.Recorded.{IsRecorded};
-ghost use Rattle.xfs_guard.specs.declared.fail.BootFault.TheVariants.{NotJournal, Disk as BootDisk};
+ghost use Rattle.xfs_guard.specs.declared.fail.BootFault.TheVariants.{NotJournal, Disk as BootDisk, Full as BootFull};
 ghost use Rattle.xfs_journal.specs.Image.{Stands};
-ghost use Rattle.xfs_journal.specs.JournalView.{IsPossible};
-ghost use Rattle.xfs_journal.specs.Paging.{CeasesAt};
+ghost use Rattle.xfs_journal.specs.JournalView.{IsPossible, passes};
+ghost use Rattle.xfs_journal.specs.Paging.{CeasesAt, IsQuiet};
 ghost use Rattle.xfs_journal.specs.declared.record.Rec.{Rec};
 ghost use Rattle.xfs_guard.specs.Continues.{Continues};
 ghost use Rattle.xfs_guard.specs.Orders.{IsWritten, IsActed, Acts, Settles, Unsettles, kind_unacted};
@@ -98,8 +98,8 @@ impl<M: Mechanism, D: Disk> Guard<M, D> {
         limits: Limits,
     ) -> Result<Guard<M, D>, BootFail<M, D>>
         requires units { M.units mech ≡ units }
-        requires starts { IfTold (D.held disk) (λ _. (c : List ℕ) → D.images disk c → (J : List Rec) × Stands c J × IsRecorded key units J (M.motions mech)) }
-        ensures ok { IfOk result (λ g. (J : List Rec) × (IfTold (D.held disk) (λ all. Stands all J)) × (g.state ≡ record {
+        requires recorded { (J : List Rec) → MayLeave (D.held disk) (D.images disk) J → IsRecorded key units J (M.motions mech) }
+        ensures ok { IfOk result (λ g. (J : List Rec) × IfTold (D.held disk) (λ all. Stands all J) × (g.state ≡ record {
           key = key;
           seed = seed;
           units = units;
@@ -114,9 +114,16 @@ impl<M: Mechanism, D: Disk> Guard<M, D> {
           in_doubt = None;
           disk_told = is_some (D.held disk);
         })) }
+        ensures fits { IfOk result (λ g. passes limits g.state.records ≡ false) }
+        ensures continues { IfOk result (λ g. (J : List Rec) → g.state.records ≡ J ++ Boot (M.places mech) ∷ [] → Continues (record g.state { records = J }) g.state) }
+
         ensures mech { IfErr result (λ f. f.mech ≡ mech) }
         ensures not_journal { IfErr result (λ f. (at : ℕ) → f.why ≡ NotJournal at → IfTold (D.held disk) (λ all. CeasesAt all at × ((J : List Rec) → ¬ Stands all J))) }
+        ensures refused { IfErr result (λ f. (at : ℕ) → f.why ≡ NotJournal at → IsQuiet D.held D.images D.moment D.images_since D.faults disk f.disk) }
+        ensures full { IfErr result (λ f. f.why ≡ BootFull → (J : List Rec) × IfTold (D.held disk) (λ all. Stands all J) × (passes limits (J ++ Boot (M.places mech) ∷ []) ≡ true)) }
         ensures disk { IfErr result (λ f. f.why ≡ BootDisk → Rose (D.faults disk) (D.faults f.disk)) }
+        ensures left { IfErr result (λ f. (J : List Rec) → MayLeave (D.held f.disk) (D.images f.disk) J → IsRecorded key units J (M.motions mech)) }
+        ensures faults { MatchResult result (λ g. D.faults disk ≤ D.faults g.disk) (λ f. D.faults disk ≤ D.faults f.disk) }
     {
         let places = mech.survey();
         match Ledger::boot(alloc, disk, limits, units, places) {
@@ -132,11 +139,14 @@ impl<M: Mechanism, D: Disk> Guard<M, D> {
         }
     }
 
-    /// The mechanism and the disk. Each image of the disk stands for a list of records that agrees with
-    /// what the mechanism did.
+    /// The mechanism and the disk. Each image of the disk is that of a list of records that agrees with
+    /// what the mechanism did: the kept one, or that one with the record in doubt.
     pub fn end(self) -> (M, D)
-        ensures recorded { (J : List Rec) → IsPossible self.state.records self.state.in_doubt J → IsRecorded self.state.key self.state.units J self.state.motions }
         ensures stored { IsStored (D.held result.1) (D.images result.1) self.state.records self.state.in_doubt }
+        ensures left { (J : List Rec) → MayLeave (D.held result.1) (D.images result.1) J → IsPossible self.state.records self.state.in_doubt J }
+        ensures recorded { (J : List Rec) → MayLeave (D.held result.1) (D.images result.1) J → IsRecorded self.state.key self.state.units J self.state.motions }
+        ensures clean { self.state.shut ≡ false → self.state.in_doubt ≡ None }
+        ensures told { is_some (D.held result.1) ≡ self.state.disk_told }
         ensures disk { result.1 ≡ self.disk }
         ensures motions { M.motions result.0 ≡ self.state.motions }
         ensures places { M.places result.0 ≡ self.state.places }

@@ -1,23 +1,23 @@
 //! The records of the journal, with what is read of them kept beside: no call but `boot` goes through them.
 
-ghost use Rattle.std.specs.Prelude.{◌≡◌, ◌≢◌, ◌↔◌, ℕ, List, ◌+◌, ◌-◌, ◌<◌, ◌≤◌, ◌^◌, [], ◌∷◌, ◌++◌, true, false, is_some, length, slice_get, slice_index, OnErr, IfErr, IfOk, OnOk, Some, None, Err};
+ghost use Rattle.std.specs.Prelude.{MatchResult, ◌≡◌, ◌≢◌, ℕ, List, ◌+◌, ◌-◌, ◌<◌, ◌≤◌, ◌^◌, [], ◌∷◌, ◌++◌, true, false, is_some, length, slice_get, slice_index, OnErr, IfErr, IfOk, OnOk, Some, None, Err};
 ghost use Rattle.std.specs.Option.{option_copied, option_map};
 ghost use Rattle.xfs_base.specs.Causes.{IfTold, Rose};
 ghost use Rattle.xfs_base.specs.Money.{value};
 ghost use Rattle.xfs_base.specs.declared.counts.Counts.{Counts};
 ghost use Rattle.xfs_base.specs.declared.counts.Kind.TheVariants.{Present};
 ghost use Rattle.xfs_journal.specs.Image.{HasUnit, Stands, size};
-ghost use Rattle.xfs_journal.specs.Paging.{CeasesAt};
-ghost use Rattle.xfs_journal.specs.declared.faults.AppendFault.TheVariants.{Full as AppendFull};
+ghost use Rattle.xfs_journal.specs.Paging.{CeasesAt, IsQuiet};
 ghost use Rattle.xfs_journal.specs.declared.record.Rec.{Rec};
 ghost use Rattle.xfs_guard.specs.declared.fail.BootFault.TheVariants.{NotJournal, Disk as BootDisk, Full as BootFull};
-ghost use Rattle.xfs_journal.specs.JournalView.{refusal};
+ghost use Rattle.xfs_journal.specs.JournalView.{passes, refusal, StandsForEither};
 ghost use Rattle.xfs_journal.specs.declared.record.Rec.TheVariants.{Issue, Clear, Boot, Bind, Order, Done, Load};
 ghost use Rattle.xfs_journal.specs.Journal.{record_at, live_of, token_of, last_mark, next_issue, nonce_text};
 ghost use Rattle.xfs_guard.specs.Nonce.{live_nonce};
 ghost use Rattle.xfs_guard.specs.Refusals.{bound_token, bound_place};
 ghost use Rattle.xfs_guard.specs.Presented.{presented_in};
 ghost use Rattle.xfs_guard.specs.LedgerView.{IsWriteFault, Wrote, IsSame, IsTold, write_refusal};
+ghost use Rattle.xfs_guard.specs.Stored.{IsStored, MayLeave, WasLeft};
 ghost use Rattle.xfs_guard.specs.Pays.{Fits, Pays, IsSumOf};
 
 use crate::bound::{Bound, Live};
@@ -77,10 +77,16 @@ impl<D: Disk> Ledger<D> {
         places: Places,
     ) -> Result<Ledger<D>, Unbooted<D>>
         ensures records { IfOk result (λ l. (J : List Rec) × IfTold (D.held disk) (λ all. Stands all J) × (l.records ≡ J ++ Boot places ∷ [])) }
+        ensures fits { IfOk result (λ l. passes limits l.records ≡ false) }
         ensures opened { IfOk result (λ l. (l.shut ≡ false) × (l.in_doubt ≡ None) × (l.bound ≡ None)) }
         ensures same { IfOk result (λ l. (l.limits ≡ limits) × (l.units ≡ units)) }
+        ensures told { IfOk result (λ l. is_some (D.held l.disk) ≡ is_some (D.held disk)) }
         ensures not_journal { IfErr result (λ f. (at : ℕ) → f.why ≡ NotJournal at → IfTold (D.held disk) (λ all. CeasesAt all at × ((J : List Rec) → ¬ Stands all J))) }
+        ensures refused { IfErr result (λ f. (at : ℕ) → f.why ≡ NotJournal at → IsQuiet D.held D.images D.moment D.images_since D.faults disk f.disk) }
+        ensures full { IfErr result (λ f. f.why ≡ BootFull → (J : List Rec) × IfTold (D.held disk) (λ all. Stands all J) × (passes limits (J ++ Boot places ∷ []) ≡ true)) }
         ensures disk { IfErr result (λ f. f.why ≡ BootDisk → Rose (D.faults disk) (D.faults f.disk)) }
+        ensures left { IfErr result (λ f. (J : List Rec) → MayLeave (D.held f.disk) (D.images f.disk) J → WasLeft (D.held disk) (D.images disk) places J) }
+        ensures faults { MatchResult result (λ l. D.faults disk ≤ D.faults l.disk) (λ f. D.faults disk ≤ D.faults f.disk) }
     {
         let mut journal = match Journal::mount(alloc, disk, limits) {
             Ok(journal) => journal,
@@ -117,7 +123,8 @@ impl<D: Disk> Ledger<D> {
 
     /// The journal's disk.
     pub fn end(self) -> D
-        ensures { result ≡ self.disk }
+        ensures disk { result ≡ self.disk }
+        ensures stored { IsStored (D.held result) (D.images result) self.records self.in_doubt }
     {
         let Ledger {
             alloc: _,
@@ -351,8 +358,11 @@ fn append_boot<D: Disk>(journal: &mut Journal<D>, places: Places) -> Result<u64,
     requires { journal.old.shut ≡ false }
     ensures number { IfOk result (λ n. n ≡ length journal.old.records + 1) }
     ensures ok { OnOk result ((journal.new.records ≡ journal.old.records ++ Boot places ∷ []) × (journal.new.shut ≡ false) × (journal.new.in_doubt ≡ None)) }
-    ensures full { result ≡ Err BootFull ↔ (refusal journal.old (Boot places) ≡ Some AppendFull) }
+    ensures fits { OnOk result (passes journal.old.limits journal.new.records ≡ false) }
+    ensures full { result ≡ Err BootFull → passes journal.old.limits (journal.old.records ++ Boot places ∷ []) ≡ true }
     ensures disk { result ≡ Err BootDisk → Rose (D.faults journal.old.disk) (D.faults journal.new.disk) }
+    ensures images { IfTold (D.held journal.old.disk) (λ _. (c : List ℕ) → D.images journal.new.disk c → StandsForEither journal.old.records (Boot places) c) }
+    ensures told { is_some (D.held journal.new.disk) ≡ is_some (D.held journal.old.disk) }
     ensures not_mounted { IfErr result (λ f. (at : ℕ) → f ≢ NotJournal at) }
     ensures limits { journal.new.limits ≡ journal.old.limits }
     ensures faults { D.faults journal.old.disk ≤ D.faults journal.new.disk }

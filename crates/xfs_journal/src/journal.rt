@@ -3,7 +3,7 @@ ghost use Rattle.std.specs.Prelude.{MatchResult, ◌≡◌, ◌≢◌, ◌⊎◌
 ghost use Rattle.xfs_base.specs.Causes.{IfTold, Rose};
 ghost use Rattle.xfs_disk.specs.Disk.{LeavesOnly};
 ghost use Rattle.xfs_journal.specs.Image.{HasUnit, Stands, framed, front, size};
-ghost use Rattle.xfs_journal.specs.JournalView.{passes, refusal, IsPossible, StandsForEither};
+ghost use Rattle.xfs_journal.specs.JournalView.{passes, refusal, IsPossible, HasPossible, StandsForEither};
 ghost use Rattle.xfs_journal.specs.declared.faults.AppendFault.TheVariants.{Disk as DiskFault, Memory as NoMemory};
 ghost use Rattle.xfs_journal.specs.Paging.{CeasesAt, IsOldOrShort, IsQuiet};
 ghost use Rattle.xfs_journal.specs.declared.faults.MountFault.TheVariants.{NotJournal, Disk as MountDisk, Memory as MountMemory};
@@ -132,9 +132,10 @@ impl<D: Disk> Journal<D> {
         }
     }
 
-    /// The disk, as it is.
+    /// The disk, as it is: a crash leaves one of the possible lists.
     pub fn end(self) -> D
-        ensures { result ≡ self.disk }
+        ensures disk { result ≡ self.disk }
+        ensures stored { IfTold (D.held result) (λ _. (c : List ℕ) → D.images result c → HasPossible self.records self.in_doubt c) }
     {
         self.disk
     }
