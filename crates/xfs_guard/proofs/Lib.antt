@@ -1,4 +1,5 @@
 pub mod AgreesLaws
+pub mod BootLaws
 pub mod BudgetLaws
 pub mod ClaimLaws
 pub mod ContinueLaws
@@ -11,4 +12,5 @@ pub mod RecordLaws
 pub mod ReportLaws
 pub mod SizeLaws
 pub mod SoundLaws
+pub mod StoredLaws
 pub mod WithinLaws
