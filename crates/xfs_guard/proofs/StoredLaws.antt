@@ -31,6 +31,13 @@ pub one_of_either : (kept : List Rec) (r : Rec) (c : List ℕ) (J : List Rec) �
 one_of_either kept r c J (inl before) stands = inl (stands_for_one c J kept stands before)
 one_of_either kept r c J (inr after) stands = inr (stands_for_one c J (kept ++ r ∷ []) stands after)
 
+-- what a disk that tells has now is a list that it may leave
+pub MayLeave-held : {D : Type 0} (held : D → Option (List ℕ)) (images : D → List ℕ → Type 0) (d : D) (J : List Rec) → ((d : D) (all : List ℕ) → held d ≡ Some all → images d all)
+    → is_some (held d) ≡ true → IfTold (held d) (λ all. Stands all J) → MayLeave (held d) (images d) J
+MayLeave-held held images d J as_read told stands =
+    let known = tells (held d) told in
+    record { told = told; bytes = known.0; left = as_read d known.0 known.1; stands = at_told (held d) (λ all. Stands all J) known.0 known.1 stands }
+
 -- the disk was not mounted: a crash leaves what it left before
 pub WasLeft-mount : {D : Type 0} (held : D → Option (List ℕ)) (images : D → List ℕ → Type 0) (moment : D → ℕ) (since : D → ℕ → List ℕ → Type 0) (old new : D) (places : Places)
     → ((d : D) (all : List ℕ) → held d ≡ Some all → images d all) → ((d : D) (t : ℕ) (c : List ℕ) → t ≤ moment d → images d c → since d t c)
@@ -56,11 +63,10 @@ WasLeft-append held images old mid new end places kept as_read mounted appended 
     let now : images new may.bytes = rw ended at may.left in
     let between : is_some (held mid) ≡ true = sym appended ∙ after in
     let told : is_some (held old) ≡ true = sym mounted ∙ between in
-    let known = tells (held old) told in
     let then = tells (held mid) between in
     let each = at_told (held mid) (λ _. (c : List ℕ) → images new c → StandsForEither kept (Boot places) c) then.0 then.1 either in record {
       list = kept;
-      before = record { told = told; bytes = known.0; left = as_read old known.0 known.1; stands = at_told (held old) (λ all. Stands all kept) known.0 known.1 stands };
+      before = MayLeave-held held images old kept as_read told stands;
       grown = one_of_either kept (Boot places) may.bytes J (each may.bytes now) may.stands;
     }
 
