@@ -108,6 +108,7 @@ impl<M: Mechanism, D: Disk> Guard<M, D> {
         ensures again { bound_token self.old.state.records ≢ None → self.new ≡ self.old }
         ensures unbound { IfErr result (λ e. IsWriteFault e → bound_token self.old.state.records ≡ None) }
         ensures disk { result ≡ Err Deny.Disk → self.new.state ≡ record self.old.state { shut = true; in_doubt = Some (Bind claim.token) } }
+        ensures later { D.faults self.old.disk ≤ D.faults self.new.disk }
         ensures cause { result ≡ Err Deny.Disk → Rose (D.faults self.old.disk) (D.faults self.new.disk) }
         ensures same { IfErr result (λ e. e ≢ Deny.Disk → self.new ≡ self.old) }
         ensures continues { Continues self.old.state self.new.state }
@@ -135,6 +136,7 @@ impl<M: Mechanism, D: Disk> Guard<M, D> {
         ensures again { bound_token self.old.state.records ≢ None → self.new ≡ self.old }
         ensures unbound { OnErr result (bound_token self.old.state.records ≡ None) }
         ensures disk { result ≡ Err Deny.Disk → self.new.state ≡ record self.old.state { shut = true; in_doubt = Some (Bind claim.token) } }
+        ensures later { D.faults self.old.disk ≤ D.faults self.new.disk }
         ensures cause { result ≡ Err Deny.Disk → Rose (D.faults self.old.disk) (D.faults self.new.disk) }
         ensures same { IfErr result (λ e. e ≢ Deny.Disk → self.new ≡ self.old) }
         ensures continues { Continues self.old.state self.new.state }
