@@ -293,6 +293,7 @@ impl<M: Mechanism, D: Disk> Guard<M, D> {
           open_order = Written (asked_kind ask) (asked_counts self.old.state ask);
         }) }
         ensures disk { result ≡ Err Deny.Disk → self.new.state ≡ record self.old.state { shut = true; in_doubt = Some (Order (asked_kind ask) (asked_counts self.old.state ask)) } }
+        ensures later { D.faults self.old.disk ≤ D.faults self.new.disk }
         ensures cause { result ≡ Err Deny.Disk → Rose (D.faults self.old.disk) (D.faults self.new.disk) }
         ensures same { IfErr result (λ e. e ≢ Deny.Disk → self.new ≡ self.old) }
         ensures continues { Continues self.old.state self.new.state }
