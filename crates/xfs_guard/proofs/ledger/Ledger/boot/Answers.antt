@@ -1,9 +1,18 @@
-use Rattle.std.proofs.Common.{◌≡◌, ◌+◌, length, refl, arith}
+use Rattle.std.proofs.Common.{refl}
 use Rattle.xfs_journal.specs.declared.record.Rec.TheVariants.{Boot}
-use Rattle.xfs_guard.proofs.LedgerLaws.{IsRead-end}
+use Rattle.xfs_guard.proofs.LedgerLaws.{IsRead-mark}
+use Rattle.xfs_guard.proofs.StoredLaws.{WasLeft-mount, WasLeft-append}
 use Rattle.xfs_guard.proofs.ledger.Ledger.boot.Goals as goal
 
-pub invariant_of-self-2 : goal.invariant_of-self-2
-invariant_of-self-2 c =
-    let place : c.len.result ≡ length c.self.inside.records.items + 1 = omega (arith, c.len.ensures, c.in_ok-push.ensures.len, c.self.inside.records.ok.0) in
-    rw (c.in_ok-push.ensures.items, place) (IsRead-end _ _ _ _ _ _ (Boot c.args.places) c.self.invariant (λ k. refl) (λ k x. refl) (λ k x. refl))
+pub invariant_of-result : goal.invariant_of-result
+invariant_of-result g c =
+    let w = c.in-Ok-append_boot.ensures in
+    rw (w.ok.0, w.number) (IsRead-mark _ _ _ (Boot c.args.places) (rw c.records.ensures at c.issues_of-issues.ensures.issues) (rw c.records.ensures at c.issues_of-issues.ensures.few) (λ k. refl) (λ k x. refl) (λ k x. refl))
+
+pub returns-in-Err-clause-left : goal.returns-in-Err-clause-left
+returns-in-Err-clause-left g c = WasLeft-mount g.D.Disk.held g.D.Disk.images g.D.Disk.moment g.D.Disk.images_since c.args.disk c.in-Err.field-0.disk c.args.places
+    g.met.D.Disk.as_read g.met.D.Disk.counts_now c.in-Err.ensures.told c.in-Err.ensures.any_moment
+
+pub returns-in-Err-append_boot-clause-left : goal.returns-in-Err-append_boot-clause-left
+returns-in-Err-append_boot-clause-left g c = WasLeft-append g.D.Disk.held g.D.Disk.images c.args.disk c.in-Ok.journal.disk c.append_boot.new.journal.disk c.end.result c.args.places c.in-Ok.journal.records
+    g.met.D.Disk.as_read c.in-Ok.ensures.told c.append_boot.ensures.told c.end.ensures.disk c.in-Ok.ensures.ok c.append_boot.ensures.images

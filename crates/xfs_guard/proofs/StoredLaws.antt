@@ -1,0 +1,79 @@
+-- Which lists a crash may leave after a refused boot.
+use Rattle.std.proofs.Common.{◌≡◌, ◌⊎◌, inl, inr, ⊎_elim, ℕ, Bool, true, false, List, [], ◌∷◌, ◌++◌, length, ◌≤◌, None, Some, refl, sym, ◌∙◌, subst, true≢false}
+use Rattle.std.specs.Prelude.{is_some}
+use Rattle.std.specs.declared.option.Option.{Option}
+use Rattle.xfs_base.specs.Causes.{IfTold}
+use Rattle.xfs_base.specs.declared.counts.Places.{Places}
+use Rattle.xfs_disk.specs.Disk.{LeavesOnly}
+use Rattle.xfs_journal.specs.Image.{Stands}
+use Rattle.xfs_journal.specs.JournalView.{IsPossible, HasPossible, StandsForEither}
+use Rattle.xfs_journal.specs.Paging.{IsOldOrShort}
+use Rattle.xfs_journal.specs.declared.record.Rec.{Rec}
+use Rattle.xfs_journal.specs.declared.record.Rec.TheVariants.{Boot}
+use Rattle.xfs_journal.proofs.Ceasing.{short_empty}
+use Rattle.xfs_journal.proofs.Emptying.{short_stands}
+use Rattle.xfs_journal.proofs.Unique.{stands_for_one}
+use Rattle.xfs_guard.specs.Stored.{IsStored, MayLeave, WasLeft}
+
+-- what a disk that tells has
+abbrev pub Tells : Option (List ℕ) → Type 0
+Tells held = (all : List ℕ) × (held ≡ Some all)
+
+pub tells : (held : Option (List ℕ)) → is_some held ≡ true → Tells held
+tells None told = absurd (true≢false (sym told))
+tells (Some all) told = (all, refl)
+
+pub at_told : {T : Type 0} (held : Option T) (P : T → Type 0) (all : T) → held ≡ Some all → IfTold held P → P all
+at_told held P all known fact = rw known at fact
+
+-- a list that an image stands for is one of those that the image was said to stand for
+pub one_of_either : (kept : List Rec) (r : Rec) (c : List ℕ) (J : List Rec) → StandsForEither kept r c → Stands c J → (J ≡ kept) ⊎ (J ≡ kept ++ r ∷ [])
+one_of_either kept r c J (inl before) stands = inl (stands_for_one c J kept stands before)
+one_of_either kept r c J (inr after) stands = inr (stands_for_one c J (kept ++ r ∷ []) stands after)
+
+-- what a disk that tells has now is a list that it may leave
+pub MayLeave-held : {D : Type 0} (held : D → Option (List ℕ)) (images : D → List ℕ → Type 0) (d : D) (J : List Rec) → ((d : D) (all : List ℕ) → held d ≡ Some all → images d all)
+    → is_some (held d) ≡ true → IfTold (held d) (λ all. Stands all J) → MayLeave (held d) (images d) J
+MayLeave-held held images d J as_read told stands =
+    let known = tells (held d) told in
+    record { told = told; bytes = known.0; left = as_read d known.0 known.1; stands = at_told (held d) (λ all. Stands all J) known.0 known.1 stands }
+
+-- the disk was not mounted: a crash leaves what it left before
+pub WasLeft-mount : {D : Type 0} (held : D → Option (List ℕ)) (images : D → List ℕ → Type 0) (moment : D → ℕ) (since : D → ℕ → List ℕ → Type 0) (old new : D) (places : Places)
+    → ((d : D) (all : List ℕ) → held d ≡ Some all → images d all) → ((d : D) (t : ℕ) (c : List ℕ) → t ≤ moment d → images d c → since d t c)
+    → is_some (held new) ≡ is_some (held old) → IfTold (held old) (λ all. LeavesOnly moment since old new (IsOldOrShort (images old) all))
+    → (J : List Rec) → MayLeave (held new) (images new) J → WasLeft (held old) (images old) places J
+WasLeft-mount held images moment since old new places as_read counts_now same moments J may =
+    let told : is_some (held old) ≡ true = sym same ∙ may.told in
+    let known = tells (held old) told in
+    let leaves = at_told (held old) (λ all. LeavesOnly moment since old new (IsOldOrShort (images old) all)) known.0 known.1 moments in
+    from told known.0 (as_read old known.0 known.1) (leaves.each may.bytes (counts_now new (moment old) may.bytes leaves.later may.left))
+  where
+    from : is_some (held old) ≡ true → (all : List ℕ) → images old all → IsOldOrShort (images old) all may.bytes → WasLeft (held old) (images old) places J
+    from told all here (inl was) = record { list = J; before = record { told = told; bytes = may.bytes; left = was; stands = may.stands }; grown = inl refl }
+    from told all here (inr (short, few)) = record { list = []; before = record { told = told; bytes = all; left = here; stands = short_stands all short }; grown = inl (short_empty may.bytes J few may.stands) }
+
+-- the Boot was not written, or it is not known whether it was
+pub WasLeft-append : {D : Type 0} (held : D → Option (List ℕ)) (images : D → List ℕ → Type 0) (old mid new end : D) (places : Places) (kept : List Rec)
+    → ((d : D) (all : List ℕ) → held d ≡ Some all → images d all) → is_some (held mid) ≡ is_some (held old) → is_some (held new) ≡ is_some (held mid) → end ≡ new
+    → IfTold (held old) (λ all. Stands all kept) → IfTold (held mid) (λ _. (c : List ℕ) → images new c → StandsForEither kept (Boot places) c)
+    → (J : List Rec) → MayLeave (held end) (images end) J → WasLeft (held old) (images old) places J
+WasLeft-append held images old mid new end places kept as_read mounted appended ended stands either J may =
+    let after : is_some (held new) ≡ true = rw ended at may.told in
+    let now : images new may.bytes = rw ended at may.left in
+    let between : is_some (held mid) ≡ true = sym appended ∙ after in
+    let told : is_some (held old) ≡ true = sym mounted ∙ between in
+    let then = tells (held mid) between in
+    let each = at_told (held mid) (λ _. (c : List ℕ) → images new c → StandsForEither kept (Boot places) c) then.0 then.1 either in record {
+      list = kept;
+      before = MayLeave-held held images old kept as_read told stands;
+      grown = one_of_either kept (Boot places) may.bytes J (each may.bytes now) may.stands;
+    }
+
+-- a list that a crash may leave is a possible one
+pub left-possible : (held : Option (List ℕ)) (images : List ℕ → Type 0) (kept : List Rec) (in_doubt : Option Rec) → IsStored held images kept in_doubt
+    → (J : List Rec) → MayLeave held images J → IsPossible kept in_doubt J
+left-possible held images kept in_doubt stored J may =
+    let known = tells held may.told in
+    let has = at_told held (λ _. (c : List ℕ) → images c → HasPossible kept in_doubt c) known.0 known.1 stored may.bytes may.left in
+    subst (λ (K : List Rec). IsPossible kept in_doubt K) (stands_for_one may.bytes has.0 J (inl has.2) may.stands) has.1
