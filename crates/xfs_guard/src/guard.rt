@@ -249,6 +249,7 @@ impl<M: Mechanism, D: Disk> Guard<M, D> {
           shut = true;
           in_doubt = Some (Issue (next_issue self.old.state.records) (issue_word self.old.state.seed (next_issue self.old.state.records)));
         } }
+        ensures later { D.faults self.old.disk ≤ D.faults self.new.disk }
         ensures cause { result ≡ Err Deny.Disk → Rose (D.faults self.old.disk) (D.faults self.new.disk) }
         ensures same { IfErr result (λ e. e ≢ Deny.Disk → self.new ≡ self.old) }
         ensures continues { Continues self.old.state self.new.state }
@@ -268,6 +269,7 @@ impl<M: Mechanism, D: Disk> Guard<M, D> {
         ensures dead { IfOk result (λ b. IsTrue b ↔ (live_nonce self.old.state.records ≢ None)) }
         ensures cleared { result ≡ Ok true → self.new.state ≡ record self.old.state { records = self.old.state.records ++ Clear ∷ []; bound = None } }
         ensures disk { result ≡ Err Deny.Disk → self.new.state ≡ record self.old.state { shut = true; in_doubt = Some Clear } }
+        ensures later { D.faults self.old.disk ≤ D.faults self.new.disk }
         ensures cause { result ≡ Err Deny.Disk → Rose (D.faults self.old.disk) (D.faults self.new.disk) }
         ensures same { result ≢ Ok true → result ≢ Err Deny.Disk → self.new ≡ self.old }
         ensures continues { Continues self.old.state self.new.state }
@@ -380,6 +382,7 @@ impl<M: Mechanism, D: Disk> Guard<M, D> {
         ensures acted { Acts self.old.state self.new.state result.moved result.diverted result.failed }
         ensures later { self.old.state.faults ≤ self.new.state.faults }
         ensures cause { result.failed ≡ true → Rose self.old.state.faults self.new.state.faults }
+        ensures same { self.new.disk ≡ self.old.disk }
         ensures continues { Continues self.old.state self.new.state }
     {
         let Open::Written { kind, counts } = self.open_order else {
@@ -403,6 +406,7 @@ impl<M: Mechanism, D: Disk> Guard<M, D> {
         ensures settled { OnOk result (Settles self.old.state self.new.state) }
         ensures err { IfErr result (λ e. e ≡ Deny.Disk) }
         ensures disk { OnErr result (Unsettles self.old.state self.new.state) }
+        ensures later { D.faults self.old.disk ≤ D.faults self.new.disk }
         ensures cause { OnErr result (Rose (D.faults self.old.disk) (D.faults self.new.disk)) }
         ensures continues { Continues self.old.state self.new.state }
     {

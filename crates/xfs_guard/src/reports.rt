@@ -37,6 +37,7 @@ impl<M: Mechanism, D: Disk> Guard<M, D> {
         ensures later { self.old.state.faults ≤ self.new.state.faults }
         ensures cause { IfOk result (λ o. o.failed ≡ true → Rose self.old.state.faults self.new.state.faults) }
         ensures err { OnErr result (self.new.state ≡ self.old.state) }
+        ensures same { self.new.disk ≡ self.old.disk }
         ensures continues { OnOk result (Continues self.old.state self.new.state) }
     {
         self.mech.ready()?;
@@ -52,6 +53,7 @@ impl<M: Mechanism, D: Disk> Guard<M, D> {
         ensures later { self.old.state.faults ≤ self.new.state.faults }
         ensures cause { IfOk result (λ o. o.failed ≡ true → Rose self.old.state.faults self.new.state.faults) }
         ensures err { OnErr result (self.new.state ≡ self.old.state) }
+        ensures same { self.new.disk ≡ self.old.disk }
         ensures continues { OnOk result (Continues self.old.state self.new.state) }
     {
         self.mech.ready()?;
@@ -67,6 +69,7 @@ impl<M: Mechanism, D: Disk> Guard<M, D> {
         ensures refused { Answers result (unfit self.old.state) }
         ensures ok { OnOk result (self.new.state ≡ record self.old.state { records = self.old.state.records ++ Load unit count ∷ [] }) }
         ensures disk { result ≡ Err Deny.Disk → self.new.state ≡ record self.old.state { shut = true; in_doubt = Some (Load unit count) } }
+        ensures later { D.faults self.old.disk ≤ D.faults self.new.disk }
         ensures cause { result ≡ Err Deny.Disk → Rose (D.faults self.old.disk) (D.faults self.new.disk) }
         ensures same { IfErr result (λ e. e ≢ Deny.Disk → self.new ≡ self.old) }
         ensures continues { Continues self.old.state self.new.state }
