@@ -7,6 +7,7 @@ pub mod LedgerLaws
 pub mod OrderLaws
 pub mod PresentedLaws
 pub mod RecordLaws
+pub mod ReplayLaws
 pub mod ReportLaws
 pub mod SoundLaws
 pub mod WithinLaws

@@ -12,6 +12,7 @@ pub mod Passed
 pub mod Pays
 pub mod Presented
 pub mod Refusals
+pub mod Replayed
 pub mod Reports
 pub mod Sound
 pub mod TokenDeny

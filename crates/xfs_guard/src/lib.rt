@@ -13,6 +13,7 @@ mod guard;
 mod ledger;
 mod nonce;
 mod open;
+mod replayed;
 mod reports;
 
 pub use ask::Ask;
@@ -22,4 +23,5 @@ pub use fail::{BootFail, BootFault};
 pub use guard::Guard;
 pub use nonce::Nonce;
 pub use open::Open;
+pub use replayed::motions_of;
 pub use xfs_base::Kind;
