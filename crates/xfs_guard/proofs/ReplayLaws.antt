@@ -3,7 +3,7 @@ use Rattle.std.proofs.Common.{◌≡◌, ℕ, ◌+◌, ◌<◌, ◌≤◌, Bool,
 use Rattle.std.specs.Prelude.{fold, map, slice_index, sum, ◌==◌, if◌then◌else◌, ⊤}
 use Rattle.std.specs.declared.option.Option.{Option}
 use Rattle.std.specs.List.{Contains, AllByRecursion}
-use Rattle.std.proofs.lemmas.List.Elements.{Contains-append_left, Contains-push}
+use Rattle.std.proofs.lemmas.List.Elements.{Contains-append_left, Contains-push, All-contains, All-from_recursion}
 use Rattle.xfs_base.specs.Counts.{at}
 use Rattle.xfs_base.specs.declared.counts.Counts.{Counts}
 use Rattle.xfs_base.specs.declared.counts.Kind.{Kind}
@@ -15,8 +15,8 @@ use Rattle.xfs_mech.proofs.MotionLaws.{all-append, all-numbers}
 use Rattle.xfs_journal.specs.declared.record.Rec.{Rec}
 use Rattle.xfs_journal.specs.declared.record.Rec.TheVariants.{Issue, Clear, Boot, Bind, Order, Done, Load}
 use Rattle.xfs_journal.specs.Journal.{record_at, Walk}
-use Rattle.xfs_journal.proofs.JournalLaws.{record_at-within}
-use Rattle.xfs_guard.specs.Agrees.{RisesFrom, IsAsked, IsOrder, MayFollow, keep_last, Agrees}
+use Rattle.xfs_journal.proofs.JournalLaws.{record_at-within, record_at-append, record_at-pushed}
+use Rattle.xfs_guard.specs.Agrees.{RisesFrom, IsOrdered, IsAsked, IsOrder, MayFollow, keep_last, Agrees}
 use Rattle.xfs_guard.specs.Replayed.{Replay, taken_of, taken_before, ordered_by, replay_after, nothing_replayed, replay, replayed, KeepsWithin, CanReplay}
 use Rattle.xfs_guard.proofs.AgreesLaws.{Agrees-record, Agrees-motion}
 use Rattle.xfs_guard.proofs.RecordLaws.{last-pushed, length-pushed}
@@ -180,3 +180,42 @@ none_read = record {
 -- the motions that are replayed agree with the records
 pub agrees-replayed : (J : List Rec) → CanReplay J → Agrees J (replayed J)
 agrees-replayed J can = (Replays-taken J (replay J).motions (replay J).outlet (walk J [] nothing_replayed none_read can.shape can.within).motions).agrees
+
+record_at-here : (P rs : List Rec) (r : Rec) → record_at (P ++ r ∷ rs) (length P + 1) ≡ Some r
+record_at-here P rs r =
+    ap (λ (l : List Rec). record_at l (length P + 1)) (sym (append_assoc P (r ∷ []) rs))
+    ∙ record_at-append (P ++ r ∷ []) rs (length P + 1) (let long = length-pushed P r in omega (arith, long))
+    ∙ record_at-pushed P r
+
+-- where a list agrees with the records, no done passes its order
+keeps-within : (J : List Rec) (L : List Motion) → Agrees J L → (P rs : List Rec) (r : Rec) → J ≡ P ++ r ∷ rs → (before : Option Rec) → record_at P (length P) ≡ before → KeepsWithin before r
+keeps-within J L a P rs (Done m d) e (Some (Order k c)) is =
+    let ordered : record_at J (length P) ≡ Some (Order k c) = ap (λ (l : List Rec). record_at l (length P)) e ∙ record_at-append P (Done m d ∷ rs) (length P) (omega arith) ∙ is in
+    let done : record_at J (length P + 1) ≡ Some (Done m d) = ap (λ (l : List Rec). record_at l (length P + 1)) e ∙ record_at-here P rs (Done m d) in
+    let asked : IsOrdered J (length P) k m d = All-contains (IsAsked J) L (Moved (length P) k m d) (All-from_recursion (IsAsked J) L a.asked) (a.done (length P) k c m d ordered done) in
+    let same : Some (Order k asked.counts) ≡ Some (Order k c) = sym asked.ordered ∙ ordered in
+    let counts : asked.counts ≡ c = cc in
+    rw (← counts) asked.within
+keeps-within J L a P rs (Issue n w) e (Some (Order k c)) is = tt
+keeps-within J L a P rs Clear e (Some (Order k c)) is = tt
+keeps-within J L a P rs (Boot p) e (Some (Order k c)) is = tt
+keeps-within J L a P rs (Bind t) e (Some (Order k c)) is = tt
+keeps-within J L a P rs (Order k' c') e (Some (Order k c)) is = tt
+keeps-within J L a P rs (Load u n) e (Some (Order k c)) is = tt
+keeps-within J L a P rs r e None is = tt
+keeps-within J L a P rs r e (Some (Issue n w)) is = tt
+keeps-within J L a P rs r e (Some Clear) is = tt
+keeps-within J L a P rs r e (Some (Boot p)) is = tt
+keeps-within J L a P rs r e (Some (Bind t)) is = tt
+keeps-within J L a P rs r e (Some (Done m d)) is = tt
+keeps-within J L a P rs r e (Some (Load u n)) is = tt
+
+all-within : (J : List Rec) (L : List Motion) → Agrees J L → (P rs : List Rec) → J ≡ P ++ rs → Walk keep_last KeepsWithin (record_at P (length P)) rs
+all-within J L a P [] e = tt
+all-within J L a P (r ∷ rs) e =
+    let rest = all-within J L a (P ++ r ∷ []) rs (e ∙ sym (append_assoc P (r ∷ []) rs)) in
+    (keeps-within J L a P rs r e (record_at P (length P)) refl, rw last-pushed at rest)
+
+-- records that some list agrees with can be replayed
+pub CanReplay-agreed : (J : List Rec) (L : List Motion) → Agrees J L → CanReplay J
+CanReplay-agreed J L a = record { shape = a.shape; within = all-within J L a [] J refl }

@@ -1,8 +1,7 @@
 //! The motions that a journal stands for.
 
-ghost use Rattle.std.specs.Prelude.{◌≡◌, ℕ, ◌-◌, ◌<◌, ◌^◌, ◌++◌, [], ◌∷◌, IfOk, OnOk};
-ghost use Rattle.xfs_base.specs.Counts.{at};
-ghost use Rattle.xfs_mech.specs.declared.motion.Motion.TheVariants.{Moved};
+ghost use Rattle.std.specs.Prelude.{◌≡◌, ◌-◌, ◌<◌, ◌^◌, List, ◌++◌, IfOk, OnOk};
+ghost use Rattle.xfs_mech.specs.declared.motion.Motion.{Motion};
 ghost use Rattle.xfs_guard.specs.Agrees.{Agrees};
 ghost use Rattle.xfs_guard.specs.Replayed.{CanReplay, left_of, outlet_done, done_motions, taken_of, nothing_replayed, replay_after, replayed};
 
@@ -12,14 +11,18 @@ use xfs_base::{Counts, Kind, Memory};
 use xfs_journal::Rec;
 use xfs_mech::Motion;
 
-/// A list of motions that agrees with the journal's records: a Moved for each order with a Done, with
-/// the order's number and kind and the Done's counts; a Loaded for each Load; and a Taken of what lies
-/// in the outlet, where it isn't empty, before each order to present and at the end. What lies there is
-/// what the last Boot told, and what the orders since then presented and retracted; a count that would
-/// fall below 0 stays there. An order that has no Done gives no entry.
+/// The motions that a journal's records stand for: a Moved for each order with a Done, with the order's
+/// number and kind and the Done's counts; a Loaded for each Load; and, before the Moved of each order
+/// to present and at the end, a Taken of what then lies in the outlet, where it isn't empty. What lies
+/// there is what the last Boot tells, and what the orders since then presented and retracted; a count
+/// that would fall below 0 stays there. An order without a Done gives no entry.
+///
+/// The list agrees with the records wherever some list does, as the mechanism's does with its guard's
+/// records. The call is refused only for want of memory.
 pub fn motions_of(alloc: Global, records: &[Rec]) -> Result<Vec<Motion>, Memory>
     ensures replayed { IfOk result (λ list. list.items ≡ replayed records.now) }
     ensures agrees { IfOk result (λ list. CanReplay records.now → Agrees records.now list.items) }
+    ensures possible { IfOk result (λ list. (motions : List Motion) → Agrees records.now motions → Agrees records.now list.items) }
 {
     let mut replay = Replay::new(alloc);
     for entry in records {
