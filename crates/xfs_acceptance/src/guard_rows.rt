@@ -68,7 +68,10 @@ fn other_words_are_told_the_usage(rt: HostRuntime) -> Result<(), Fail> {
     for word in ["x", "", "--help", "GUARD"] {
         let written = run_on(&rt, rt.alloc(), word, b"issue\n", &[], &[])?;
         assert_eq!(rt; written.status, 2, "word {word}");
-        assert_eq!(rt; written.text.as_slice(), b"usage: xfs guard\n".as_slice());
+        assert_eq!(rt;
+            written.text.as_slice(),
+            b"usage: xfs guard | token\n".as_slice()
+        );
         assert_eq!(rt; written.records, 0);
     }
     Ok(())

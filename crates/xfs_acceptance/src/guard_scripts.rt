@@ -159,8 +159,8 @@ const FAULTS: [(u64, u32, u32, &str, &str); 8] = [
         1,
         1,
         1,
-        "issue/mint 50.00EUR/dispense @ unit2:2/present/dispense @ unit2:1",
-        "N/T/fault moved unit2:1/moved unit2:1/moved unit2:1",
+        "issue/mint 50.00EUR/dispense @ unit1:3/show/dispense @ unit1:4/show",
+        "N/T/fault moved unit1:1/unit1 98 1 0 0 0 1/unit2 100 0 0 0 0 0/unit3 100 0 0 0 0 0/unit4 100 0 0 0 0 0/moved unit1:4/unit1 94 5 0 0 0 1/unit2 100 0 0 0 0 0/unit3 100 0 0 0 0 0/unit4 100 0 0 0 0 0",
     ),
     // The units behind the one that fails are not ordered.
     (

@@ -14,11 +14,11 @@ use Rattle.xfs_script.specs.declared.token_line.TokenLine.{TokenLine}
 use Rattle.xfs_script.specs.declared.token_line.TokenLine.TheVariants.{Skip, Read, Make, Mac}
 
 -- a currency and its thousandths
-abbrev pub amount_text : List ℕ × ℕ → List ℕ
-amount_text a = a.0 ++ codes ":" ++ decimal a.1
+abbrev pub thousandths_text : List ℕ × ℕ → List ℕ
+thousandths_text a = a.0 ++ codes ":" ++ decimal a.1
 
 abbrev pub joined_amounts : List (List ℕ × ℕ) → List ℕ
-joined_amounts amounts = join_with_byte 44 (map amount_text amounts)
+joined_amounts amounts = join_with_byte 44 (map thousandths_text amounts)
 
 -- the amounts of a token joined by commas, or that it has none
 abbrev pub amounts_text : Option (List (List ℕ × ℕ)) → List ℕ

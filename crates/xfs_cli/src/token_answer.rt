@@ -6,7 +6,7 @@ ghost use Rattle.hex.specs.Hex.{encode_lower};
 ghost use Rattle.xfs_hmac.specs.Hmac.{hmac};
 ghost use Rattle.xfs_token.specs.Amounts.{amounts_of};
 ghost use Rattle.xfs_cli.specs.Answers.{lines_in};
-ghost use Rattle.xfs_cli.specs.TokenAnswers.{AreAnswer, IsFaultText, TellsMade, TellsRead, amount_text, amounts_text, joined_amounts, token_text};
+ghost use Rattle.xfs_cli.specs.TokenAnswers.{AreAnswer, IsFaultText, TellsMade, TellsRead, thousandths_text, amounts_text, joined_amounts, token_text};
 ghost use Rattle.xfs_cli.specs.TokenAnswers as answers;
 
 use crate::text::joined;
@@ -85,7 +85,7 @@ fn push_amounts(text: &mut Vec<u8>, amounts: &Amounts) -> Result<(), AllocError>
 }
 
 fn push_amount(text: &mut Vec<u8>, currency: Currency, amount: Milli) -> Result<(), AllocError>
-    ensures { OnOk result (text.new.items ≡ text.old.items ++ amount_text (currency, amount.0)) }
+    ensures { OnOk result (text.new.items ≡ text.old.items ++ thousandths_text (currency, amount.0)) }
 {
     text.extend_from_slice(&currency.letters())?;
     text.extend_from_slice(b":")?;
