@@ -9,6 +9,7 @@ pub mod LedgerLaws
 pub mod OrderLaws
 pub mod PresentedLaws
 pub mod RecordLaws
+pub mod ReplayLaws
 pub mod ReportLaws
 pub mod SizeLaws
 pub mod SoundLaws

@@ -15,6 +15,7 @@ pub mod Pays
 pub mod Presented
 pub mod Recorded
 pub mod Refusals
+pub mod Replayed
 pub mod Reports
 pub mod Sound
 pub mod Stored

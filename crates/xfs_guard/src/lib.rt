@@ -14,6 +14,7 @@ mod guard;
 mod ledger;
 mod nonce;
 mod open;
+mod replayed;
 mod reports;
 
 pub use ask::Ask;
@@ -24,4 +25,5 @@ pub use fit::Fit;
 pub use guard::Guard;
 pub use nonce::Nonce;
 pub use open::Open;
+pub use replayed::motions_of;
 pub use xfs_base::Kind;
