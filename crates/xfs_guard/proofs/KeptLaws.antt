@@ -12,6 +12,7 @@ use Rattle.xfs_mech.specs.declared.motion.Motion.{Motion}
 use Rattle.xfs_mech.specs.declared.motion.Motion.TheVariants.{Moved}
 use Rattle.xfs_journal.specs.JournalView.{IsPossible}
 use Rattle.xfs_journal.specs.declared.record.Rec.{Rec}
+use Rattle.xfs_journal.specs.declared.record.Rec.TheVariants.{Boot}
 use Rattle.xfs_guard.specs.declared.open.Open.{Open}
 use Rattle.xfs_guard.specs.declared.open.Open.TheVariants.{No, Written, Acted}
 use Rattle.xfs_guard.specs.View.{View}
@@ -70,6 +71,7 @@ IsKept-open v spare left kinds s room limits units = record {
   sound = λ e. IsSound-stored v false None s;
   clean = λ e. refl;
   closed = λ e. absurd (true≢false (sym e));
+  booted = λ p e. cc;
   recorded = λ told J p. ⊎_elim (λ same. rw same (recorded-sound v s told)) (λ doubt. absurd (none doubt.0 doubt.1)) p;
   room = room;
   limits = has v.open_order limits;
@@ -86,11 +88,12 @@ IsKept-open v spare left kinds s room limits units = record {
 
 -- a guard whose disk failed at a record
 pub IsKept-doubted : (v : View) (r : Rec) (w : Option (List (List ℕ × ℕ))) (o : Open) (spare left : ℕ) (kinds : List NoteKind) → IsSound v → IsSound (longer v r w o) → kinds ≡ v.units
-    → IsKept (record v { shut = true; in_doubt = Some r; open_order = No }) spare left kinds
-IsKept-doubted v r w o spare left kinds s t units = record {
+    → ((p : Places) → r ≡ Boot p → ⊥) → IsKept (record v { shut = true; in_doubt = Some r; open_order = No }) spare left kinds
+IsKept-doubted v r w o spare left kinds s t units other = record {
   sound = λ e. absurd (true≢false e);
   clean = λ e. absurd (true≢false e);
   closed = λ e. refl;
+  booted = λ p e. other p (some (Boot p) e);
   recorded = λ told J p. ⊎_elim (λ same. rw same (recorded-sound v s told)) (λ doubt. rw (doubt.2, ← (some doubt.0 doubt.1)) (recorded-sound (longer v r w o) t told)) p;
   room = tt;
   limits = tt;
@@ -122,8 +125,8 @@ over key seed o motions places faults l told = record {
 pub IsKept-refused : (T : Type 0) {D : Type 0} (e : Deny) (key seed : List ℕ) (o : Open) (motions : Option (List Motion)) (places : Places) (faults : ℕ) (old new : LedgerView D) (r : Rec)
     (w : Option (List (List ℕ × ℕ))) (was told : Bool) (spare room left : ℕ) (kinds : List NoteKind)
     → Wrote {T = T} (Err e) old new r w → IsWriteFault e → told ≡ was → o ≡ No → IsKept (over key seed o motions places faults old was) spare room kinds → old.shut ≡ false
-    → IsSound (longer (over key seed o motions places faults old was) r w No) → IsKept (over key seed o motions places faults new told) spare left kinds
-IsKept-refused T e key seed o motions places faults old new r w was told spare room left kinds wrote why same none kept open_still sound = ⊎_elim memory disk why
+    → IsSound (longer (over key seed o motions places faults old was) r w No) → ((p : Places) → r ≡ Boot p → ⊥) → IsKept (over key seed o motions places faults new told) spare left kinds
+IsKept-refused T e key seed o motions places faults old new r w was told spare room left kinds wrote why same none kept open_still sound other = ⊎_elim memory disk why
   where
     memory : e ≡ Memory → IsKept (over key seed o motions places faults new told) spare left kinds
     memory is = let s = rw is at wrote in
@@ -131,6 +134,7 @@ IsKept-refused T e key seed o motions places faults old new r w was told spare r
           sound = kept.sound;
           clean = kept.clean;
           closed = kept.closed;
+          booted = kept.booted;
           recorded = kept.recorded;
           room = rw none tt;
           limits = kept.limits;
@@ -140,7 +144,7 @@ IsKept-refused T e key seed o motions places faults old new r w was told spare r
     disk : e ≡ Disk → IsKept (over key seed o motions places faults new told) spare left kinds
     disk is = let s = rw is at wrote in
         rw (s.records, s.units, s.bound, s.limits, s.shut, s.in_doubt, same, none)
-        (IsKept-doubted (over key seed o motions places faults old was) r w No spare left kinds (kept.sound open_still) sound kept.units)
+        (IsKept-doubted (over key seed o motions places faults old was) r w No spare left kinds (kept.sound open_still) sound kept.units other)
 
 -- what follows then
 pub Continues-refused : (T : Type 0) {D : Type 0} (e : Deny) (key seed : List ℕ) (o : Open) (motions : Option (List Motion)) (places : Places) (faults : ℕ) (old new : LedgerView D) (r : Rec)
@@ -174,6 +178,7 @@ IsKept-acted v k c m d failed now Q f spare was left kinds before kept written m
   sound = λ e. sound;
   clean = kept.clean;
   closed = λ e. absurd (true≢false (sym e ∙ still));
+  booted = kept.booted;
   recorded = λ told J p. ⊎_elim (λ same. rw same (recorded-sound (acted_view v k m d failed now Q f) sound told)) (λ doubt. absurd (none doubt.0 (sym (kept.clean still) ∙ doubt.1))) p;
   room = (rw written at kept.room).1;
   limits = rw written at kept.limits;

@@ -1,17 +1,18 @@
 -- Which lists a crash may leave after a refused boot.
-use Rattle.std.proofs.Common.{◌≡◌, ◌⊎◌, inl, inr, ⊎_elim, ℕ, Bool, true, false, List, [], ◌∷◌, ◌++◌, length, ◌≤◌, None, Some, refl, sym, ◌∙◌, subst, true≢false}
-use Rattle.std.specs.Prelude.{is_some}
+use Rattle.std.proofs.Common.{◌≡◌, ◌⊎◌, inl, inr, ⊎_elim, ℕ, Bool, true, false, List, [], ◌∷◌, ◌++◌, length, ◌≤◌, None, Some, refl, sym, ◌∙◌, ap, subst, true≢false}
+use Rattle.std.specs.Prelude.{is_some, nat_lt, ◌<◌}
+use Rattle.std.proofs.lemmas.Bool.{ltb-true, ltb-false}
 use Rattle.std.specs.declared.option.Option.{Option}
 use Rattle.xfs_base.specs.Causes.{IfTold}
 use Rattle.xfs_base.specs.declared.counts.Places.{Places}
-use Rattle.xfs_disk.specs.Disk.{LeavesOnly}
+use Rattle.xfs_disk.specs.Disk.{AddsNone, LeavesOnly}
 use Rattle.xfs_journal.specs.Image.{Stands}
 use Rattle.xfs_journal.specs.JournalView.{IsPossible, HasPossible, StandsForEither}
-use Rattle.xfs_journal.specs.Paging.{IsOldOrShort}
+use Rattle.xfs_journal.specs.Paging.{IsOldOrShort, IsQuiet}
 use Rattle.xfs_journal.specs.declared.record.Rec.{Rec}
 use Rattle.xfs_journal.specs.declared.record.Rec.TheVariants.{Boot}
 use Rattle.xfs_journal.proofs.Ceasing.{short_empty}
-use Rattle.xfs_journal.proofs.Emptying.{short_stands}
+use Rattle.xfs_journal.proofs.Emptying.{settles, short_stands}
 use Rattle.xfs_journal.proofs.Unique.{stands_for_one}
 use Rattle.xfs_guard.specs.Stored.{IsStored, MayLeave, WasLeft}
 
@@ -77,3 +78,52 @@ left-possible held images kept in_doubt stored J may =
     let known = tells held may.told in
     let has = at_told held (λ _. (c : List ℕ) → images c → HasPossible kept in_doubt c) known.0 known.1 stored may.bytes may.left in
     subst (λ (K : List Rec). IsPossible kept in_doubt K) (stands_for_one may.bytes has.0 J (inl has.2) may.stands) has.1
+
+-- a refused mount leaves the list that every image stood for
+pub stays-mount : {D : Type 0} (held : D → Option (List ℕ)) (images : D → List ℕ → Type 0) (moment : D → ℕ) (since : D → ℕ → List ℕ → Type 0) (old new : D) (places : Places)
+    → ((d : D) (all : List ℕ) → held d ≡ Some all → images d all) → ((d : D) (t : ℕ) (c : List ℕ) → t ≤ moment d → images d c → since d t c)
+    → IfTold (held old) (λ all. LeavesOnly moment since old new (IsOldOrShort (images old) all))
+    → IfTold (held old) (λ _. (J : List Rec) → ((c : List ℕ) → images old c → Stands c J) → (c : List ℕ) → images new c → StandsForEither J (Boot places) c)
+stays-mount held images moment since old new places as_read counts_now moments = go (held old) refl moments
+  where
+    go : (h : Option (List ℕ)) → held old ≡ h → IfTold h (λ all. LeavesOnly moment since old new (IsOldOrShort (images old) all))
+        → IfTold h (λ _. (J : List Rec) → ((c : List ℕ) → images old c → Stands c J) → (c : List ℕ) → images new c → StandsForEither J (Boot places) c)
+    go None is m = tt
+    go (Some all) is m = λ J each c now. inl (settles (images old) all J (as_read old all is) each c (m.each c (counts_now new (moment old) c m.later now)))
+
+-- a Boot that is refused leaves it with the Boot or without
+pub stays-append : {D : Type 0} (held : D → Option (List ℕ)) (images : D → List ℕ → Type 0) (old mid new end : D) (places : Places) (kept : List Rec)
+    → ((d : D) (all : List ℕ) → held d ≡ Some all → images d all) → is_some (held mid) ≡ is_some (held old) → end ≡ new
+    → IfTold (held old) (λ all. Stands all kept) → IfTold (held mid) (λ _. (c : List ℕ) → images new c → StandsForEither kept (Boot places) c)
+    → IfTold (held old) (λ _. (J : List Rec) → ((c : List ℕ) → images old c → Stands c J) → (c : List ℕ) → images end c → StandsForEither J (Boot places) c)
+stays-append held images old mid new end places kept as_read mounted ended stands either = go (held old) refl stands
+  where
+    go : (h : Option (List ℕ)) → held old ≡ h → IfTold h (λ all. Stands all kept)
+        → IfTold h (λ _. (J : List Rec) → ((c : List ℕ) → images old c → Stands c J) → (c : List ℕ) → images end c → StandsForEither J (Boot places) c)
+    go None is s = tt
+    go (Some all) is s = λ J each c now.
+        let same : kept ≡ J = stands_for_one all kept J s (each all (as_read old all is)) in
+        let told : is_some (held mid) ≡ true = mounted ∙ ap is_some is in
+        let then = tells (held mid) told in
+        subst (λ (K : List Rec). StandsForEither K (Boot places) c) same
+        (at_told (held mid) (λ _. (c : List ℕ) → images new c → StandsForEither kept (Boot places) c) then.0 then.1 either c (rw ended at now))
+
+-- a refused mount leaves a disk that stands for no list as it was
+pub unlisted-mount : {D : Type 0} (held : D → Option (List ℕ)) (images : D → List ℕ → Type 0) (moment : D → ℕ) (since : D → ℕ → List ℕ → Type 0) (faults : D → ℕ) (old new : D)
+    → IfTold (held old) (λ all. 9 < length all → IsQuiet held images moment since faults old new)
+    → IfTold (held old) (λ all. ((J : List Rec) → ¬ Stands all J) → (held new ≡ held old) × AddsNone (images old) (images new))
+unlisted-mount held images moment since faults old new long = go (held old) long
+  where
+    go : (h : Option (List ℕ)) → IfTold h (λ all. 9 < length all → IsQuiet held images moment since faults old new)
+        → IfTold h (λ all. ((J : List Rec) → ¬ Stands all J) → (held new ≡ held old) × AddsNone (images old) (images new))
+    go None l = tt
+    go (Some all) l = λ none. by_length none (nat_lt 9 (length all)) refl
+      where
+        by_length : ((J : List Rec) → ¬ Stands all J) → (b : Bool) → nat_lt 9 (length all) ≡ b → (held new ≡ held old) × AddsNone (images old) (images new)
+        by_length none true is = let q = l (ltb-true 9 (length all) is) in (q.same, q.adds_none)
+        by_length none false is = absurd (none [] (short_stands all (ltb-false 9 (length all) is)))
+
+-- a disk that was mounted stands for a list
+pub unlisted-booted : (held : Option (List ℕ)) (kept : List Rec) (P : Type 0) → IfTold held (λ all. Stands all kept) → IfTold held (λ all. ((J : List Rec) → ¬ Stands all J) → P)
+unlisted-booted None kept P stands = tt
+unlisted-booted (Some all) kept P stands = λ none. absurd (none kept stands)

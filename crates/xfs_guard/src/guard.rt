@@ -11,7 +11,9 @@ ghost use Rattle.xfs_guard.specs.Stored.{IsStored, MayLeave};
 ghost use Rattle.xfs_guard.specs.Recorded.{IsRecorded};
 ghost use Rattle.xfs_guard.specs.declared.fail.BootFault.TheVariants.{NotJournal, Disk as BootDisk, Full as BootFull};
 ghost use Rattle.xfs_journal.specs.Image.{Stands};
-ghost use Rattle.xfs_journal.specs.JournalView.{IsPossible, passes};
+ghost use Rattle.xfs_journal.specs.JournalView.{IsPossible, StandsForEither, passes};
+ghost use Rattle.xfs_disk.specs.Disk.{AddsNone};
+ghost use Rattle.xfs_base.specs.declared.counts.Places.{Places};
 ghost use Rattle.xfs_journal.specs.Paging.{CeasesAt, IsQuiet};
 ghost use Rattle.xfs_journal.specs.declared.record.Rec.{Rec};
 ghost use Rattle.xfs_guard.specs.Continues.{Continues};
@@ -123,6 +125,8 @@ impl<M: Mechanism, D: Disk> Guard<M, D> {
         ensures full { IfErr result (λ f. f.why ≡ BootFull → (J : List Rec) × IfTold (D.held disk) (λ all. Stands all J) × (passes limits (J ++ Boot (M.places mech) ∷ []) ≡ true)) }
         ensures disk { IfErr result (λ f. f.why ≡ BootDisk → Rose (D.faults disk) (D.faults f.disk)) }
         ensures left { IfErr result (λ f. (J : List Rec) → MayLeave (D.held f.disk) (D.images f.disk) J → IsRecorded key units J (M.motions mech)) }
+        ensures either { IfErr result (λ f. IfTold (D.held disk) (λ _. (J : List Rec) → ((c : List ℕ) → D.images disk c → Stands c J) → (c : List ℕ) → D.images f.disk c → StandsForEither J (Boot (M.places mech)) c)) }
+        ensures unlisted { IfErr result (λ f. IfTold (D.held disk) (λ all. ((J : List Rec) → ¬ Stands all J) → (D.held f.disk ≡ D.held disk) × AddsNone (D.images disk) (D.images f.disk))) }
         ensures faults { MatchResult result (λ g. D.faults disk ≤ D.faults g.disk) (λ f. D.faults disk ≤ D.faults f.disk) }
     {
         let places = mech.survey();
@@ -146,6 +150,7 @@ impl<M: Mechanism, D: Disk> Guard<M, D> {
         ensures left { (J : List Rec) → MayLeave (D.held result.1) (D.images result.1) J → IsPossible self.state.records self.state.in_doubt J }
         ensures recorded { (J : List Rec) → MayLeave (D.held result.1) (D.images result.1) J → IsRecorded self.state.key self.state.units J self.state.motions }
         ensures clean { self.state.shut ≡ false → self.state.in_doubt ≡ None }
+        ensures booted { (p : Places) → self.state.in_doubt ≢ Some (Boot p) }
         ensures told { is_some (D.held result.1) ≡ self.state.disk_told }
         ensures disk { result.1 ≡ self.disk }
         ensures motions { M.motions result.0 ≡ self.state.motions }

@@ -11,6 +11,7 @@ ghost use Rattle.xfs_journal.specs.Paging.{CeasesAt, IsQuiet};
 ghost use Rattle.xfs_journal.specs.declared.record.Rec.{Rec};
 ghost use Rattle.xfs_guard.specs.declared.fail.BootFault.TheVariants.{NotJournal, Disk as BootDisk, Full as BootFull};
 ghost use Rattle.xfs_journal.specs.JournalView.{passes, refusal, StandsForEither};
+ghost use Rattle.xfs_disk.specs.Disk.{AddsNone};
 ghost use Rattle.xfs_journal.specs.declared.record.Rec.TheVariants.{Issue, Clear, Boot, Bind, Order, Done, Load};
 ghost use Rattle.xfs_journal.specs.Journal.{record_at, live_of, token_of, last_mark, next_issue, nonce_text};
 ghost use Rattle.xfs_guard.specs.Nonce.{live_nonce};
@@ -86,6 +87,8 @@ impl<D: Disk> Ledger<D> {
         ensures full { IfErr result (λ f. f.why ≡ BootFull → (J : List Rec) × IfTold (D.held disk) (λ all. Stands all J) × (passes limits (J ++ Boot places ∷ []) ≡ true)) }
         ensures disk { IfErr result (λ f. f.why ≡ BootDisk → Rose (D.faults disk) (D.faults f.disk)) }
         ensures left { IfErr result (λ f. (J : List Rec) → MayLeave (D.held f.disk) (D.images f.disk) J → WasLeft (D.held disk) (D.images disk) places J) }
+        ensures either { IfErr result (λ f. IfTold (D.held disk) (λ _. (J : List Rec) → ((c : List ℕ) → D.images disk c → Stands c J) → (c : List ℕ) → D.images f.disk c → StandsForEither J (Boot places) c)) }
+        ensures unlisted { IfErr result (λ f. IfTold (D.held disk) (λ all. ((J : List Rec) → ¬ Stands all J) → (D.held f.disk ≡ D.held disk) × AddsNone (D.images disk) (D.images f.disk))) }
         ensures faults { MatchResult result (λ l. D.faults disk ≤ D.faults l.disk) (λ f. D.faults disk ≤ D.faults f.disk) }
     {
         let mut journal = match Journal::mount(alloc, disk, limits) {

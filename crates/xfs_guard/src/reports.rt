@@ -38,7 +38,7 @@ impl<M: Mechanism, D: Disk> Guard<M, D> {
         ensures cause { IfOk result (λ o. o.failed ≡ true → Rose self.old.state.faults self.new.state.faults) }
         ensures err { OnErr result (self.new.state ≡ self.old.state) }
         ensures same { self.new.disk ≡ self.old.disk }
-        ensures continues { OnOk result (Continues self.old.state self.new.state) }
+        ensures continues { Continues self.old.state self.new.state }
     {
         self.mech.ready()?;
         Ok(self.mech.taken())
@@ -54,7 +54,7 @@ impl<M: Mechanism, D: Disk> Guard<M, D> {
         ensures cause { IfOk result (λ o. o.failed ≡ true → Rose self.old.state.faults self.new.state.faults) }
         ensures err { OnErr result (self.new.state ≡ self.old.state) }
         ensures same { self.new.disk ≡ self.old.disk }
-        ensures continues { OnOk result (Continues self.old.state self.new.state) }
+        ensures continues { Continues self.old.state self.new.state }
     {
         self.mech.ready()?;
         Ok(self.mech.load(unit, count))

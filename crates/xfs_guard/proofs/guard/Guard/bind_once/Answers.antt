@@ -25,7 +25,7 @@ invariant_of-self g c =
     let fit = fit-at _ _ c.self.view_is c.requires.passes.fit in
     let free : bound_token c.self.inside.ledger.records ≡ None = copied-none c.token.result _ c.token.ensures (sym c.is_some.ensures ∙ c.if-is_some.false) in
     IsKept-refused Unit c.in_err-bind.field-0.0 _ _ _ _ _ _ c.self.inside.ledger c.bind.new.self _ (Some c.claim.inside.amounts) _ _ _ _ _ _ c.in_err-bind.ensures.wrote c.in_err-bind.ensures.err c.bind.ensures.told none c.self.invariant fit.0
-    (IsSound-claim _ c.claim.inside.token c.claim.inside.amounts (c.self.invariant.sound fit.0) none passes free)
+    (IsSound-claim _ c.claim.inside.token c.claim.inside.amounts (c.self.invariant.sound fit.0) none passes free) (λ p e. cc)
 
 pub returns-in_err-bind-clause-continues : goal.returns-in_err-bind-clause-continues
 returns-in_err-bind-clause-continues g c =

@@ -25,3 +25,6 @@ returns-in-Ok-clause-continues g c = λ J is.
 pub returns-in-Err-clause-left : goal.returns-in-Err-clause-left
 returns-in-Err-clause-left g c = λ J may.
     WasLeft-recorded c.args.key c.args.units (g.M.Mechanism.motions c.args.mech) (g.D.Disk.held c.args.disk) (g.D.Disk.images c.args.disk) c.survey-places.result c.requires.recorded J (c.in-Err.ensures.left J may)
+
+pub returns-in-Err-clause-either : goal.returns-in-Err-clause-either
+returns-in-Err-clause-either g c = rw c.survey-places.ensures at c.in-Err.ensures.either

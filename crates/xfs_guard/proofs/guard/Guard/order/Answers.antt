@@ -40,7 +40,7 @@ invariant_of-self-in_err-order g c =
     let s = rw c.in_err-order.ensures.err at c.in_err-order.ensures.wrote in
     let sound = c.self.invariant.sound fit.0 in
     rw (s.records, s.units, s.bound, s.limits, s.shut, s.in_doubt, c.order.ensures.told, same.records, same.units, same.bound, same.limits, same.disk, c.ready.ensures.motions, c.ready.ensures.places, c.ready.ensures.faults, none, fine.1, fine.2)
-    (IsKept-doubted _ _ _ _ _ _ _ sound (IsSound-asked _ c.args.ask sound none fine.0) (c.ready.ensures.units ∙ c.self.invariant.units))
+    (IsKept-doubted _ _ _ _ _ _ _ sound (IsSound-asked _ c.args.ask sound none fine.0) (c.ready.ensures.units ∙ c.self.invariant.units) (λ p e. cc))
 
 pub returns-in_err-order-clause-continues : goal.returns-in_err-order-clause-continues
 returns-in_err-order-clause-continues g c =

@@ -26,7 +26,7 @@ invariant_of-self g c =
     let s = rw c.in_err-done.ensures.err at c.in_err-done.ensures.wrote in
     rw (s.records, s.units, s.bound, s.limits, s.shut, s.in_doubt, c.done.ensures.told)
     (IsKept-doubted _ (Done c.in-Acted.moved c.in-Acted.diverted) c.self.inside.ledger.bound No _ _ _ (c.self.invariant.sound still)
-    (IsSound-done _ c.in-Acted.kind c.in-Acted.moved c.in-Acted.diverted c.in-Acted.failed (c.self.invariant.sound still) c.in-Acted.is) c.self.invariant.units)
+    (IsSound-done _ c.in-Acted.kind c.in-Acted.moved c.in-Acted.diverted c.in-Acted.failed (c.self.invariant.sound still) c.in-Acted.is) c.self.invariant.units (λ p e. cc))
 
 pub returns-in_err-done-clause-continues : goal.returns-in_err-done-clause-continues
 returns-in_err-done-clause-continues g c =

@@ -1,6 +1,7 @@
 use Rattle.std.proofs.Common.{◌∙◌, refl}
 use Rattle.xfs_mech.specs.declared.motion.Motion.TheVariants.{Taken}
 use Rattle.xfs_guard.proofs.ReportLaws.{IsSound-report, IsRecorded-report, HasRoom-report, HasLimits-report, Continues-report, taken-leaves}
+use Rattle.xfs_guard.proofs.ContinueLaws.{Continues-same}
 use Rattle.xfs_guard.proofs.guard.Guard.taken.Goals as goal
 
 pub invariant_of-self-2 : goal.invariant_of-self-2
@@ -13,6 +14,7 @@ invariant_of-self-2 g c =
           (g.M.Mechanism.room c.ready.new.self) (g.M.Mechanism.room c.taken.new.self) (c.self.invariant.sound still) tt reported (taken-leaves c.self.inside.open_order c.taken.result.moved _ _ other);
       clean = c.self.invariant.clean;
       closed = c.self.invariant.closed;
+      booted = c.self.invariant.booted;
       recorded = λ told J p. IsRecorded-report _ _ J (Taken c.taken.result.moved) c.taken.result.moved c.taken.result.diverted c.taken.result.failed _ _ _ _ _ _ tt reported (c.self.invariant.recorded told J p);
       limits = HasLimits-report c.self.inside.open_order _ _ _ _ c.self.invariant.limits;
       room = HasRoom-report c.self.inside.open_order (Taken c.taken.result.moved) c.taken.result.moved c.taken.result.diverted c.taken.result.failed
@@ -31,3 +33,6 @@ returns-clause-continues g c =
     rw (← c.self.view_is) (Continues-report _ (Taken c.taken.result.moved) c.taken.result.moved c.taken.result.diverted c.taken.result.failed
     (g.M.Mechanism.motions c.taken.new.self) (g.M.Mechanism.places c.taken.new.self) (g.M.Mechanism.faults c.taken.new.self)
     (g.M.Mechanism.room c.ready.new.self) (g.M.Mechanism.room c.taken.new.self) tt reported)
+
+pub returns-in_err-ready-clause-continues : goal.returns-in_err-ready-clause-continues
+returns-in_err-ready-clause-continues g c = rw (← c.self.view_is, c.ready.ensures.motions, c.ready.ensures.places, c.ready.ensures.faults) (Continues-same _)

@@ -1,7 +1,7 @@
 use Rattle.std.proofs.Common.{refl}
 use Rattle.xfs_journal.specs.declared.record.Rec.TheVariants.{Boot}
 use Rattle.xfs_guard.proofs.LedgerLaws.{IsRead-mark}
-use Rattle.xfs_guard.proofs.StoredLaws.{WasLeft-mount, WasLeft-append}
+use Rattle.xfs_guard.proofs.StoredLaws.{WasLeft-mount, WasLeft-append, stays-mount, stays-append, unlisted-mount, unlisted-booted}
 use Rattle.xfs_guard.proofs.ledger.Ledger.boot.Goals as goal
 
 pub invariant_of-result : goal.invariant_of-result
@@ -16,3 +16,17 @@ returns-in-Err-clause-left g c = WasLeft-mount g.D.Disk.held g.D.Disk.images g.D
 pub returns-in-Err-append_boot-clause-left : goal.returns-in-Err-append_boot-clause-left
 returns-in-Err-append_boot-clause-left g c = WasLeft-append g.D.Disk.held g.D.Disk.images c.args.disk c.in-Ok.journal.disk c.append_boot.new.journal.disk c.end.result c.args.places c.in-Ok.journal.records
     g.met.D.Disk.as_read c.in-Ok.ensures.told c.append_boot.ensures.told c.end.ensures.disk c.in-Ok.ensures.ok c.append_boot.ensures.images
+
+pub returns-in-Err-clause-either : goal.returns-in-Err-clause-either
+returns-in-Err-clause-either g c = stays-mount g.D.Disk.held g.D.Disk.images g.D.Disk.moment g.D.Disk.images_since c.args.disk c.in-Err.field-0.disk c.args.places
+    g.met.D.Disk.as_read g.met.D.Disk.counts_now c.in-Err.ensures.any_moment
+
+pub returns-in-Err-append_boot-clause-either : goal.returns-in-Err-append_boot-clause-either
+returns-in-Err-append_boot-clause-either g c = stays-append g.D.Disk.held g.D.Disk.images c.args.disk c.in-Ok.journal.disk c.append_boot.new.journal.disk c.end.result c.args.places c.in-Ok.journal.records
+    g.met.D.Disk.as_read c.in-Ok.ensures.told c.end.ensures.disk c.in-Ok.ensures.ok c.append_boot.ensures.images
+
+pub returns-in-Err-clause-unlisted : goal.returns-in-Err-clause-unlisted
+returns-in-Err-clause-unlisted g c = unlisted-mount g.D.Disk.held g.D.Disk.images g.D.Disk.moment g.D.Disk.images_since g.D.Disk.faults c.args.disk c.in-Err.field-0.disk c.in-Err.ensures.long
+
+pub returns-in-Err-append_boot-clause-unlisted : goal.returns-in-Err-append_boot-clause-unlisted
+returns-in-Err-append_boot-clause-unlisted g c = unlisted-booted (g.D.Disk.held c.args.disk) c.in-Ok.journal.records _ c.in-Ok.ensures.ok
