@@ -1,5 +1,5 @@
 -- What happened from one state of a guard to a later one.
-use Rattle.std.proofs.Common.{◌≡◌, ⊎_elim, ℕ, ◌+◌, ◌<◌, ◌≤◌, Bool, List, [], ◌∷◌, ◌++◌, length, None, Some, refl, sym, ◌∙◌, arith}
+use Rattle.std.proofs.Common.{◌≡◌, ⊎_elim, ℕ, ◌+◌, ◌<◌, ◌≤◌, Bool, false, List, [], ◌∷◌, ◌++◌, length, None, Some, refl, sym, ◌∙◌, arith}
 use Rattle.std.proofs.lemmas.List.{append-nil}
 use Rattle.std.specs.declared.option.Option.{Option}
 use Rattle.xfs_base.specs.declared.counts.Counts.{Counts}
@@ -47,15 +47,15 @@ Continues-trans a b c p q = record { leads = go a.motions b.motions c.motions p.
     }
 
 -- one more record; a boot has the places
-pub Continues-record : (v : View) (r : Rec) (w : Option (List (List ℕ × ℕ))) (o : Open) → IsSound v → ((p : Places) → r ≡ Boot p → v.places ≡ p) → Continues v (longer v r w o)
-Continues-record v r w o s boots = record { leads = told v.motions s.told; key = refl; seed = refl; units = refl }
+pub Continues-record : (v : View) (r : Rec) (w : Option (List (List ℕ × ℕ))) (o : Open) → ((p : Places) → r ≡ Boot p → v.places ≡ p) → Continues v (longer v r w o)
+Continues-record v r w o boots = record { leads = told v.motions; key = refl; seed = refl; units = refl }
   where
     fits : (n : ℕ) (p : Places) → length v.records < n → record_at (v.records ++ r ∷ []) n ≡ Some (Boot p) → BootFits v.places [] n p
     fits n p lt e = ⊎_elim (λ h. let le : n ≤ length v.records = h.0 in absurd (omega arith)) (λ h. record { front = []; back = []; split = refl; reached = rw (boots p h.1) (PlacesOf-same p); before = tt; after = tt }) (record_at-cases v.records r n (Boot p) e)
 
-    told : (m : Option (List Motion)) → IfTold m (Ties v) → Leads v (longer v r w o) m m
-    told None t = tt
-    told (Some L) t = λ _. record {
+    told : (m : Option (List Motion)) → Leads v (longer v r w o) m m
+    told None = tt
+    told (Some L) = λ known. record {
       follows = record {
         recs = r ∷ [];
         moves = [];
@@ -65,17 +65,17 @@ Continues-record v r w o s boots = record { leads = told v.motions s.told; key =
         later = tt;
         boots = fits;
       };
-      known = rw length-pushed (all-numbers (λ n. n ≤ length v.records) (λ n. n ≤ length v.records + 1) L (λ n le. omega arith) (numbers_within v.records L t.agrees));
+      known = rw length-pushed (all-numbers (λ n. n ≤ length v.records) (λ n. n ≤ length v.records + 1) L (λ n le. omega arith) known);
     }
 
-pub Continues-act : (v : View) (k : Kind) (m d : Counts) (failed : Bool) (now : Option (List Motion)) (Q : Places) (f : ℕ) → IsSound v
+pub Continues-act : (v : View) (k : Kind) (m d : Counts) (failed : Bool) (now : Option (List Motion)) (Q : Places) (f : ℕ)
     → Grows v.motions (Moved (length v.records) k m d) now → PlacesOf v.places (Moved (length v.records) k m d ∷ []) Q
     → Continues v (acted_view v k m d failed now Q f)
-Continues-act v k m d failed now Q f s grows places = record { leads = told v.motions s.told grows; key = refl; seed = refl; units = refl }
+Continues-act v k m d failed now Q f grows places = record { leads = told v.motions grows; key = refl; seed = refl; units = refl }
   where
-    told : (was : Option (List Motion)) → IfTold was (Ties v) → Grows was (Moved (length v.records) k m d) now → Leads v (acted_view v k m d failed now Q f) was now
-    told None t g = rw g tt
-    told (Some L) t g = rw g (λ _. record {
+    told : (was : Option (List Motion)) → Grows was (Moved (length v.records) k m d) now → Leads v (acted_view v k m d failed now Q f) was now
+    told None g = rw g tt
+    told (Some L) g = rw g (λ known. record {
       follows = record {
         recs = [];
         moves = Moved (length v.records) k m d ∷ [];
@@ -85,5 +85,17 @@ Continues-act v k m d failed now Q f s grows places = record { leads = told v.mo
         later = (omega arith, tt);
         boots = λ n p lt e. let w = record_at-within v.records n (Boot p) e in absurd (omega arith);
       };
-      known = all-append (NumberIs (λ n. n ≤ length v.records)) L (Moved (length v.records) k m d ∷ []) (numbers_within v.records L t.agrees) (omega arith, tt);
+      known = all-append (NumberIs (λ n. n ≤ length v.records)) L (Moved (length v.records) k m d ∷ []) known (omega arith, tt);
     })
+
+-- the journal is shut, or open again
+pub Continues-stored : (v : View) (s : Bool) (d : Option Rec) (o : Open) → Continues v (record v { shut = s; in_doubt = d; open_order = o })
+Continues-stored v s d o = record { leads = told v.motions; key = refl; seed = refl; units = refl }
+  where
+    told : (m : Option (List Motion)) → Leads v (record v { shut = s; in_doubt = d; open_order = o }) m m
+    told None = tt
+    told (Some L) = λ known. record { follows = Follows-same v.records L v.places; known = known }
+
+-- one more record, in a journal that stays open
+pub Continues-written : (v : View) (r : Rec) (w : Option (List (List ℕ × ℕ))) (o : Open) → ((p : Places) → r ≡ Boot p → v.places ≡ p) → Continues v (record (longer v r w o) { shut = false; in_doubt = None })
+Continues-written v r w o boots = Continues-trans v (longer v r w o) _ (Continues-record v r w o boots) (Continues-stored (longer v r w o) false None o)

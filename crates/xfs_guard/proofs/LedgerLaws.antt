@@ -24,6 +24,7 @@ use Rattle.xfs_guard.specs.Nonce.{nonce_of, live_nonce}
 use Rattle.xfs_guard.specs.Refusals.{bound_token, bound_place}
 use Rattle.xfs_guard.specs.Ledger.{IsLive, IsBound, IsRead, AreSums, amounts_kept}
 use Rattle.xfs_guard.specs.Pays.{Fits, Pays}
+use Rattle.xfs_guard.specs.LedgerView.{LedgerView}
 
 abbrev pub nonce_kept : Option Live → Option Nonce
 nonce_kept l = option_map (λ (x : Live). x.nonce) l
@@ -64,12 +65,12 @@ IsRead-issue J u i m l b n w nonce h is text number = record {
     same x t k = rw (← t, ← k) refl
 
 -- a mark is written after which no issue lives
-pub IsRead-end : (J : List Rec) (u : List NoteKind) (i m : ℕ) (l : Option Live) (b : Option Bound) (r : Rec)
-    → IsRead J u i m l b → ((k : ℕ) → next_number k r ≡ k) → ((k : ℕ) (x : Option ℕ) → live_after k x r ≡ None) → ((k x : ℕ) → mark_after k x r ≡ k + 1)
+pub IsRead-mark : (J : List Rec) (u : List NoteKind) (i : ℕ) (r : Rec) → i + 1 ≡ next_issue J → i ≤ length J
+    → ((k : ℕ) → next_number k r ≡ k) → ((k : ℕ) (x : Option ℕ) → live_after k x r ≡ None) → ((k x : ℕ) → mark_after k x r ≡ k + 1)
     → IsRead (J ++ r ∷ []) u i (length J + 1) None None
-IsRead-end J u i m l b r h same dies marks = record {
-  issued = rw (next_issue-push J r, same (next_issue J)) h.issued;
-  few = let e = length-append J (r ∷ []) in let f = h.few in omega (arith, e, f);
+IsRead-mark J u i r issued few same dies marks = record {
+  issued = rw (next_issue-push J r, same (next_issue J)) issued;
+  few = let e = length-append J (r ∷ []) in omega (arith, e, few);
   marked = sym (last_mark-push J r ∙ marks (length J) (last_mark J));
   lives = live_of-push J r ∙ dies (length J) (live_of J);
   binds = tt;
@@ -249,3 +250,11 @@ fits-sums u J (Some l) (Some b) k m h small = λ is i a e. let s = small is a.0 
 -- the nonce of an issue lives once it is written
 pub live-issued : (J : List Rec) (n w : ℕ) (x : Nonce) → x.text ≡ nonce_text n w → x.number ≡ n → live_nonce (J ++ Issue n w ∷ []) ≡ Some x
 live-issued J n w x text number = rw (live_of-push J (Issue n w), record_at-pushed J (Issue n w)) (ap Some (rw (← text, ← number) refl))
+
+-- what a call asks of a ledger holds of what stands for it
+pub fresh-at : {D : Type 0} (a b : LedgerView D) → a ≡ b → ((c : List ℕ) → presented_in b.units b.records c ≡ 0) → (c : List ℕ) → presented_in a.units a.records c ≡ 0
+fresh-at a b e h c = rw e (h c)
+
+pub small-at : {D : Type 0} (a b : LedgerView D) (k : Kind) (m : Counts) → a ≡ b → (k ≡ Present → (c : List ℕ) → presented_in b.units b.records c + value b.units m c < 2 ^ 64)
+    → k ≡ Present → (c : List ℕ) → presented_in a.units a.records c + value a.units m c < 2 ^ 64
+small-at a b k m e h is c = rw e (h is c)

@@ -3,10 +3,12 @@ pub mod BudgetLaws
 pub mod ClaimLaws
 pub mod ContinueLaws
 pub mod FollowsLaws
+pub mod KeptLaws
 pub mod LedgerLaws
 pub mod OrderLaws
 pub mod PresentedLaws
 pub mod RecordLaws
 pub mod ReportLaws
+pub mod SizeLaws
 pub mod SoundLaws
 pub mod WithinLaws

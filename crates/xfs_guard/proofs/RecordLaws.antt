@@ -29,7 +29,7 @@ use Rattle.xfs_guard.specs.Agrees.{MayFollow, IsOrder, IsNoOrder}
 use Rattle.xfs_guard.specs.Within.{Carries, shown, shown_by}
 use Rattle.xfs_guard.specs.Presented.{done_worth, presented_in, unsettled}
 use Rattle.xfs_guard.specs.Budget.{IsFunded}
-use Rattle.xfs_guard.specs.Sound.{IsReleased, IfPresent, Stands, HasActed, Ties, IsSound}
+use Rattle.xfs_guard.specs.Sound.{IsReleased, IfPresent, Stands, HasActed, Ties, where_told, IsSound}
 use Rattle.xfs_guard.proofs.AgreesLaws.{Agrees-record, numbers_within}
 use Rattle.xfs_guard.proofs.PresentedLaws.{presented_in-push}
 use Rattle.xfs_guard.proofs.WithinLaws.{Within-record, shown-record, carries-record}
@@ -62,7 +62,7 @@ pub IsSound-order : (v : View) (k : Kind) (c : Counts) → IsSound v → v.open_
     → ((p : ℕ) (b : List ℕ) → live_of v.records ≡ Some p → token_of v.records p ≡ Some b → IsFunded (record v { open_order = Written k c }) p b)
     → IsSound (longer v (Order k c) v.bound (Written k c))
 IsSound-order v k c s none lies released funded = record {
-  numbered = Walk-push next_number CarriesNumber 1 v.records (Order k c) s.numbered tt;
+  numbered = λ told. Walk-push next_number CarriesNumber 1 v.records (Order k c) (s.numbered told) tt;
   stands = (last-pushed v.records (Order k c), lies, released);
   budget = record {
     funded = λ p b lives bound.
@@ -79,7 +79,7 @@ IsSound-order v k c s none lies released funded = record {
         (old.0, λ cur. presented_in-push v.units v.records (Order k c) cur ∙ old.1 cur);
     dead = λ dead. s.budget.dead (sym (live_of-push v.records (Order k c)) ∙ dead);
   };
-  told = ties v.motions s.told;
+  told = ties (where_told v.disk_told v.motions) s.told;
 }
   where
     live : (p : ℕ) → live_of (v.records ++ Order k c ∷ []) ≡ Some p → live_of v.records ≡ Some p
@@ -116,7 +116,7 @@ unsettled-unbound v Retract m d failed p cur r lives free = refl
 -- the order is settled
 pub IsSound-done : (v : View) (k : Kind) (m d : Counts) (failed : Bool) → IsSound v → v.open_order ≡ Acted k m d failed → IsSound (longer v (Done m d) v.bound No)
 IsSound-done v k m d failed s acted = record {
-  numbered = Walk-push next_number CarriesNumber 1 v.records (Done m d) s.numbered tt;
+  numbered = λ told. Walk-push next_number CarriesNumber 1 v.records (Done m d) (s.numbered told) tt;
   stands = rw last-pushed tt;
   budget = record {
     funded = λ p b lives bound.
@@ -134,7 +134,7 @@ IsSound-done v k m d failed s acted = record {
         (old.0, λ cur. let e = worth cur in let z = old.1 cur in let u = unsettled-unbound v k m d failed p cur stands.2 (live p lives) free' in omega (arith, e, z, u));
     dead = λ dead. s.budget.dead (sym (live_of-push v.records (Done m d)) ∙ dead);
   };
-  told = ties v.motions s.told;
+  told = ties (where_told v.disk_told v.motions) s.told;
 }
   where
     live : (p : ℕ) → live_of (v.records ++ Done m d ∷ []) ≡ Some p → live_of v.records ≡ Some p
@@ -212,14 +212,14 @@ shown-before u J p cur (m ∷ ms) lt = rw (sum_by-cons, none m, shown-before u J
 -- a nonce is issued
 pub IsSound-issue : (v : View) (number word : ℕ) → IsSound v → v.open_order ≡ No → number ≡ next_issue v.records → IsSound (longer v (Issue number word) None No)
 IsSound-issue v number word s none is = record {
-  numbered = Walk-push next_number CarriesNumber 1 v.records (Issue number word) s.numbered is;
+  numbered = λ told. Walk-push next_number CarriesNumber 1 v.records (Issue number word) (s.numbered told) is;
   stands = rw last-pushed tt;
   budget = record {
     funded = λ p b lives bound. absurd (free p b (place p lives) bound);
     unbound = λ p lives free. (refl, λ cur. presented_in-push v.units v.records (Issue number word) cur);
     dead = λ dead. refl;
   };
-  told = ties v.motions s.told;
+  told = ties (where_told v.disk_told v.motions) s.told;
 }
   where
     place : (p : ℕ) → live_of (v.records ++ Issue number word ∷ []) ≡ Some p → length v.records + 1 ≡ p
@@ -245,14 +245,14 @@ IsSound-issue v number word s none is = record {
 -- the live nonce is cleared
 pub IsSound-clear : (v : View) → IsSound v → v.open_order ≡ No → IsSound (longer v Clear None No)
 IsSound-clear v s none = record {
-  numbered = Walk-push next_number CarriesNumber 1 v.records Clear s.numbered tt;
+  numbered = λ told. Walk-push next_number CarriesNumber 1 v.records Clear (s.numbered told) tt;
   stands = rw last-pushed tt;
   budget = record {
     funded = λ p b lives bound. absurd (gone p lives);
     unbound = λ p lives free. absurd (gone p lives);
     dead = λ dead. refl;
   };
-  told = ties v.motions s.told;
+  told = ties (where_told v.disk_told v.motions) s.told;
 }
   where
     gone : (p : ℕ) → live_of (v.records ++ Clear ∷ []) ≡ Some p → ⊥
@@ -270,14 +270,14 @@ pub IsSound-bind : (v : View) (p : ℕ) (b : List ℕ) (t : Parts) (amounts : Li
     → Carries v.key v.records p b t → amounts_of t ≡ Some amounts → ((c : List ℕ) → value v.units v.places.transport c ≤ amount t c)
     → IsSound (longer v (Bind b) (Some amounts) No)
 IsSound-bind v p b t amounts s none lives unbound carries are enough = record {
-  numbered = Walk-push next_number CarriesNumber 1 v.records (Bind b) s.numbered tt;
+  numbered = λ told. Walk-push next_number CarriesNumber 1 v.records (Bind b) (s.numbered told) tt;
   stands = rw last-pushed tt;
   budget = record {
     funded = λ q x l bound. funded q x (live q l) bound;
     unbound = λ q l free. absurd (taken q (live q l) free);
     dead = λ dead. (let e : Some p ≡ None = sym lives ∙ (sym (live_of-push v.records (Bind b)) ∙ dead) in cc);
   };
-  told = ties v.motions s.told;
+  told = ties (where_told v.disk_told v.motions) s.told;
 }
   where
     live : (q : ℕ) → live_of (v.records ++ Bind b ∷ []) ≡ Some q → live_of v.records ≡ Some q
@@ -318,7 +318,7 @@ IsSound-bind v p b t amounts s none lives unbound carries are enough = record {
 -- a loading is written
 pub IsSound-load : (v : View) (unit count : ℕ) → IsSound v → v.open_order ≡ No → IsSound (longer v (Load unit count) v.bound No)
 IsSound-load v unit count s none = record {
-  numbered = Walk-push next_number CarriesNumber 1 v.records (Load unit count) s.numbered tt;
+  numbered = λ told. Walk-push next_number CarriesNumber 1 v.records (Load unit count) (s.numbered told) tt;
   stands = rw last-pushed tt;
   budget = record {
     funded = λ p b lives bound.
@@ -335,7 +335,7 @@ IsSound-load v unit count s none = record {
         (old.0, λ cur. presented_in-push v.units v.records (Load unit count) cur ∙ old.1 cur);
     dead = λ dead. s.budget.dead (sym (live_of-push v.records (Load unit count)) ∙ dead);
   };
-  told = ties v.motions s.told;
+  told = ties (where_told v.disk_told v.motions) s.told;
 }
   where
     live : (p : ℕ) → live_of (v.records ++ Load unit count ∷ []) ≡ Some p → live_of v.records ≡ Some p

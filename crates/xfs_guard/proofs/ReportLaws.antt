@@ -24,13 +24,15 @@ use Rattle.xfs_guard.specs.declared.open.Open.{Open}
 use Rattle.xfs_guard.specs.declared.open.Open.TheVariants.{No, Written, Acted}
 use Rattle.xfs_guard.specs.View.{View}
 use Rattle.xfs_guard.specs.Agrees.{RisesFrom, IsAsked, Agrees}
-use Rattle.xfs_guard.specs.Within.{shown_by, IsWithin}
+use Rattle.xfs_guard.specs.Within.{shown_by, IsWithin, Within}
 use Rattle.xfs_guard.specs.Budget.{Budget}
+use Rattle.xfs_guard.specs.Recorded.{IsRecorded}
 use Rattle.xfs_guard.specs.Orders.{kind_unacted}
-use Rattle.xfs_guard.specs.Kept.{HasRoom}
-use Rattle.xfs_guard.specs.Sound.{Stands, HasActed, Ties, IsSound}
+use Rattle.xfs_guard.specs.Kept.{HasRoom, HasLimits}
+use Rattle.xfs_guard.specs.Sound.{Stands, HasActed, Ties, where_told, IsSound}
 use Rattle.xfs_guard.specs.Continues.{Leads, Continues}
 use Rattle.xfs_guard.proofs.FollowsLaws.{Follows-same}
+use Rattle.xfs_guard.proofs.SoundLaws.{grows-told}
 use Rattle.xfs_guard.proofs.WithinLaws.{Within-quiet, shown-motion}
 
 -- the guard after a report
@@ -146,7 +148,7 @@ sound-entry v e now Q f s is grows places leaves = record {
   numbered = s.numbered;
   stands = stands-report v.open_order v.records v.places Q leaves s.stands;
   budget = budget-report v now Q f (transport-report v.places Q e is places) s.budget;
-  told = told-report v now v.motions now Q f e is s.told grows;
+  told = told-report v now (where_told v.disk_told v.motions) (where_told v.disk_told now) Q f e is s.told (grows-told v.disk_told v.motions now e grows);
 }
 
 sound-failed : (v : View) (f : ℕ) → IsSound v → IsSound (reported_view v v.motions v.places f)
@@ -154,7 +156,7 @@ sound-failed v f s = record {
   numbered = s.numbered;
   stands = s.stands;
   budget = budget-report v v.motions v.places f (λ u. refl) s.budget;
-  told = told-same v v.motions v.places f v.motions s.told;
+  told = told-same v v.motions v.places f (where_told v.disk_told v.motions) s.told;
 }
 
 -- a report keeps what the guard keeps
@@ -178,14 +180,14 @@ HasRoom-report o e m d failed was now P Q before spare left room h more r = go o
     go (Acted k m d failed) le h = h
 
 -- what follows after a report
-pub Continues-report : (v : View) (e : Motion) (m d : Counts) (failed : Bool) (now : Option (List Motion)) (Q : Places) (f spare left : ℕ) → IsSound v → IsReport e
+pub Continues-report : (v : View) (e : Motion) (m d : Counts) (failed : Bool) (now : Option (List Motion)) (Q : Places) (f spare left : ℕ) → IsReport e
     → Reports e m d failed v.motions now v.places Q spare left → Continues v (reported_view v now Q f)
-Continues-report v e m d true now Q f spare left s is r = let none = r.nothing refl in rw (none.0, none.1) (record { leads = same v.motions; key = refl; seed = refl; units = refl })
+Continues-report v e m d true now Q f spare left is r = let none = r.nothing refl in rw (none.0, none.1) (record { leads = same v.motions; key = refl; seed = refl; units = refl })
   where
     same : (told : Option (List Motion)) → Leads v (reported_view v v.motions v.places f) told told
     same None = tt
     same (Some L) = λ known. record { follows = Follows-same v.records L v.places; known = known }
-Continues-report v e m d false now Q f spare left s is r = record { leads = told v.motions (r.grown refl); key = refl; seed = refl; units = refl }
+Continues-report v e m d false now Q f spare left is r = record { leads = told v.motions (r.grown refl); key = refl; seed = refl; units = refl }
   where
     told : (was : Option (List Motion)) → Grows was e now → Leads v (reported_view v now Q f) was now
     told None g = rw g tt
@@ -215,3 +217,23 @@ loaded-leaves o unit count P Q places Stack is u = omega (arith, places.units u)
 loaded-leaves o unit count P Q places Present is u = omega (arith, places.transport u)
 loaded-leaves o unit count P Q places Reject is u = omega (arith, places.transport u)
 loaded-leaves o unit count P Q places Retract is u = omega (arith, places.outlet u)
+
+-- a list of records agrees with what the mechanism did, also after a report
+pub IsRecorded-report : (key : List ℕ) (u : List NoteKind) (J : List Rec) (e : Motion) (m d : Counts) (failed : Bool) (was now : Option (List Motion)) (P Q : Places) (spare left : ℕ) → IsReport e
+    → Reports e m d failed was now P Q spare left → IsRecorded key u J was → IsRecorded key u J now
+IsRecorded-report key u J e m d true was now P Q spare left is r h = let none = r.nothing refl in rw none.0 h
+IsRecorded-report key u J e m d false was now P Q spare left is r h = record { numbered = h.numbered; agrees = agrees was h.agrees (r.grown refl); within = within was h.within (r.grown refl) }
+  where
+    agrees : (was : Option (List Motion)) → IfTold was (Agrees J) → Grows was e now → IfTold now (Agrees J)
+    agrees None a g = rw g tt
+    agrees (Some L) a g = rw g (Agrees-report J L e is a)
+
+    within : (was : Option (List Motion)) → IfTold was (Within key u J) → Grows was e now → IfTold now (Within key u J)
+    within None a g = rw g tt
+    within (Some L) a g = rw g (Within-quiet key u J L e (λ p cur. shown_by-report u J p cur e is) (within-report key u J (L ++ e ∷ []) e is) a)
+
+-- what the limits leave an open order stays
+pub HasLimits-report : (o : Open) (v : View) (now : Option (List Motion)) (Q : Places) (f : ℕ) → HasLimits o v → HasLimits o (reported_view v now Q f)
+HasLimits-report No v now Q f h = tt
+HasLimits-report (Written k c) v now Q f h = h
+HasLimits-report (Acted k m d failed) v now Q f h = h

@@ -1,5 +1,5 @@
 -- What each step of a guard keeps.
-use Rattle.std.proofs.Common.{◌≡◌, ℕ, ◌+◌, ◌≤◌, Bool, List, [], ◌∷◌, ◌++◌, length, None, Some, refl, sym, ◌∙◌, arith}
+use Rattle.std.proofs.Common.{◌≡◌, ℕ, ◌+◌, ◌≤◌, Bool, true, false, List, [], ◌∷◌, ◌++◌, length, None, Some, refl, sym, ◌∙◌, arith}
 use Rattle.std.specs.declared.option.Option.{Option}
 use Rattle.std.proofs.lemmas.List.Elements.{Contains-push}
 use Rattle.xfs_base.specs.declared.counts.Counts.{Counts}
@@ -23,7 +23,7 @@ use Rattle.xfs_guard.specs.Within.{Within, shown}
 use Rattle.xfs_guard.specs.View.{View}
 use Rattle.xfs_guard.specs.Presented.{presented_in, pending, unsettled}
 use Rattle.xfs_guard.specs.Budget.{Budget}
-use Rattle.xfs_guard.specs.Sound.{IsReleased, IfPresent, Ties, IsSound}
+use Rattle.xfs_guard.specs.Sound.{IsReleased, IfPresent, Ties, where_told, IsSound}
 use Rattle.xfs_guard.proofs.AgreesLaws.{Agrees-motion}
 use Rattle.xfs_guard.proofs.WithinLaws.{Within-present, Within-quiet, shown-motion, shown_by-own}
 
@@ -105,17 +105,22 @@ counted-act v Present c m d failed L written released t p cur lives =
     some_same : {a b : ℕ} → Some a ≡ Some b → a ≡ b
     some_same e = cc
 
-told-act : (v : View) (k : Kind) (c m d : Counts) (failed : Bool) (was now : Option (List Motion)) (Q : Places) (f : ℕ) → Budget v → v.open_order ≡ Written k c
+told-act : (v : View) (k : Kind) (c m d : Counts) (failed : Bool) (was now seen : Option (List Motion)) (Q : Places) (f : ℕ) → Budget v → v.open_order ≡ Written k c
     → record_at v.records (length v.records) ≡ Some (Order k c) → LiesIn c (source_of k v.places) → IfPresent k (IsReleased v.records)
     → MayCarry k c m d failed → IfTold was (Ties v) → Grows was (Moved (length v.records) k m d) now
-    → IfTold now (Ties (acted_view v k m d failed now Q f))
-told-act v k c m d failed None now Q f budget written last lies released may told grows = rw grows tt
-told-act v k c m d failed (Some L) now Q f budget written last lies released may t grows = rw grows (record {
+    → IfTold now (Ties (acted_view v k m d failed seen Q f))
+told-act v k c m d failed None now seen Q f budget written last lies released may told grows = rw grows tt
+told-act v k c m d failed (Some L) now seen Q f budget written last lies released may t grows = rw grows (record {
   agrees = Agrees-motion v.records L k c m d t.agrees last (rw written at t.acted) may.within;
   within = within-act v k c m d failed L budget written last lies released t may;
   counted = counted-act v k c m d failed L written released t;
   acted = Contains-push L (Moved (length v.records) k m d);
 })
+
+-- a list that stands beside a journal that isn't told is not told
+pub grows-told : (b : Bool) (was now : Option (List Motion)) (m : Motion) → Grows was m now → Grows (where_told b was) m (where_told b now)
+grows-told true was now m g = g
+grows-told false was now m g = refl
 
 -- carrying out the order
 pub IsSound-act : (v : View) (k : Kind) (c m d : Counts) (failed : Bool) (now : Option (List Motion)) (Q : Places) (f : ℕ) → IsSound v → v.open_order ≡ Written k c
@@ -126,5 +131,5 @@ IsSound-act v k c m d failed now Q f s written may grows places =
       numbered = s.numbered;
       stands = (c, stands.0, stands.2);
       budget = budget-act v k c m d failed now Q f s.budget written may places;
-      told = told-act v k c m d failed v.motions now Q f s.budget written stands.0 stands.1 stands.2 may s.told grows;
+      told = told-act v k c m d failed (where_told v.disk_told v.motions) (where_told v.disk_told now) now Q f s.budget written stands.0 stands.1 stands.2 may s.told (grows-told v.disk_told v.motions now _ grows);
     }

@@ -1,10 +1,14 @@
 -- What stands in a guard beside what is seen of it.
-use Rattle.std.specs.Prelude.{◌≡◌, ℕ, ◌<◌, List, ⊤}
+use Rattle.std.specs.Prelude.{◌≡◌, ℕ, ◌+◌, ◌<◌, ◌≤◌, true, false, List, None, length, ⊤}
 use Rattle.xfs_base.specs.declared.money.NoteKind.{NoteKind}
+use Rattle.xfs_journal.specs.Image.{size}
+use Rattle.xfs_journal.specs.JournalView.{IsPossible}
+use Rattle.xfs_journal.specs.declared.record.Rec.{Rec}
 use Rattle.xfs_guard.specs.declared.open.Open.{Open}
 use Rattle.xfs_guard.specs.declared.open.Open.TheVariants.{No, Written, Acted}
 use Rattle.xfs_guard.specs.View.{View}
 use Rattle.xfs_guard.specs.Sound.{IsSound}
+use Rattle.xfs_guard.specs.Recorded.{IsRecorded}
 
 -- room for the entry and the record that an open order still adds
 abbrev pub HasRoom : Open → ℕ → ℕ → Type 0
@@ -12,8 +16,18 @@ HasRoom No spare room = ⊤
 HasRoom (Written kind counts) spare room = (0 < spare) × (0 < room)
 HasRoom (Acted kind moved diverted failed) spare room = 0 < room
 
--- what a guard is: sound, with room to carry its order through, over a mechanism of its units
+-- the limits leave an open order its Done, which has 68 bytes with its gate
+abbrev pub HasLimits : Open → View → Type 0
+HasLimits No v = ⊤
+HasLimits (Written kind counts) v = (length v.records + 1 ≤ v.limits.records) × (size v.records + 68 ≤ v.limits.bytes)
+HasLimits (Acted kind moved diverted failed) v = (length v.records + 1 ≤ v.limits.records) × (size v.records + 68 ≤ v.limits.bytes)
+
+-- What a guard is: sound while its journal isn't shut, with room to carry its order through, over a mechanism of its units. Each list that the disk may have agrees with the mechanism's, where both are told.
 pub record IsKept (v : View) (spare left : ℕ) (kinds : List NoteKind) : Type 0 where
-  pub sound : IsSound v
+  pub sound : v.shut ≡ false → IsSound v
+  pub clean : v.shut ≡ false → v.in_doubt ≡ None
+  pub closed : v.shut ≡ true → v.open_order ≡ No
+  pub recorded : v.disk_told ≡ true → (J : List Rec) → IsPossible v.records v.in_doubt J → IsRecorded v.key v.units J v.motions
   pub room : HasRoom v.open_order spare left
+  pub limits : HasLimits v.open_order v
   pub units : kinds ≡ v.units

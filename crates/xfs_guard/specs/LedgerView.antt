@@ -1,30 +1,70 @@
 -- What is seen of a ledger.
-use Rattle.std.specs.Prelude.{◌≡◌, ℕ, false, List, [], ◌∷◌, ◌++◌, unwrap_or}
+use Rattle.std.specs.Prelude.{◌≡◌, ◌⊎◌, ℕ, Bool, true, false, List, [], ◌∷◌, ◌++◌, if◌then◌else◌, unwrap_or, Some, None, Ok, Err}
 use Rattle.std.specs.declared.option.Option.{Option}
+use Rattle.std.specs.declared.result.Result.{Result}
 use Rattle.xfs_base.specs.declared.money.NoteKind.{NoteKind}
 use Rattle.xfs_token.specs.Amounts.{has_currency}
+use Rattle.xfs_journal.specs.JournalView.{passes}
+use Rattle.xfs_journal.specs.declared.limits.Limits.{Limits}
 use Rattle.xfs_journal.specs.declared.record.Rec.{Rec}
+use Rattle.xfs_guard.specs.declared.deny.Deny.{Deny}
+use Rattle.xfs_guard.specs.declared.deny.Deny.TheVariants.{Shut, Full, Disk, Memory}
 use Rattle.xfs_guard.specs.Presented.{presented_in}
 
--- a ledger: its records, the table of its units, the amounts of the token that is bound to the live nonce, and the room for more records
-pub record LedgerView : Type 0 where
+-- a ledger: its journal with the disk, the table of its units, the amounts of the token that is bound to the live nonce, and the room for more records
+pub record LedgerView (D : Type 0) : Type 0 where
   pub records : List Rec
   pub units : List NoteKind
   pub bound : Option (List (List ℕ × ℕ))
   pub room : ℕ
+  pub limits : Limits
+  pub shut : Bool
+  -- the record whose append last answered that the disk failed
+  pub in_doubt : Option Rec
+  pub disk : D
 
 -- one record is written, and these amounts are bound then
-pub record Writes (old new : LedgerView) (r : Rec) (bound : Option (List (List ℕ × ℕ))) : Type 0 where
+pub record Writes {D : Type 0} (old new : LedgerView D) (r : Rec) (bound : Option (List (List ℕ × ℕ))) : Type 0 where
   pub records : new.records ≡ old.records ++ r ∷ []
   pub units : new.units ≡ old.units
   pub bound_is : new.bound ≡ bound
+  pub limits : new.limits ≡ old.limits
+  pub open_still : new.shut ≡ false
+  pub in_doubt : new.in_doubt ≡ None
 
 -- all is as before, the room aside
-pub record IsSame (old new : LedgerView) : Type 0 where
+pub record IsSame {D : Type 0} (old new : LedgerView D) : Type 0 where
   pub records : new.records ≡ old.records
   pub units : new.units ≡ old.units
   pub bound : new.bound ≡ old.bound
+  pub limits : new.limits ≡ old.limits
+  pub shut : new.shut ≡ old.shut
+  pub in_doubt : new.in_doubt ≡ old.in_doubt
+  pub disk : new.disk ≡ old.disk
+
+-- the disk failed: the journal is shut, the record is in doubt, and the list is the old one
+pub record Doubts {D : Type 0} (old new : LedgerView D) (r : Rec) : Type 0 where
+  pub records : new.records ≡ old.records
+  pub units : new.units ≡ old.units
+  pub bound : new.bound ≡ old.bound
+  pub limits : new.limits ≡ old.limits
+  pub shut : new.shut ≡ true
+  pub in_doubt : new.in_doubt ≡ Some r
+
+-- what a call that writes this record leaves
+abbrev pub Wrote : {T D : Type 0} → Result T Deny → LedgerView D → LedgerView D → Rec → Option (List (List ℕ × ℕ)) → Type 0
+Wrote (Ok x) old new r bound = Writes old new r bound
+Wrote (Err Disk) old new r bound = Doubts old new r
+Wrote (Err e) old new r bound = IsSame old new
+
+-- why the journal doesn't take a record: it is shut, or a limit would be passed
+abbrev pub write_refusal : {D : Type 0} → LedgerView D → Rec → Option Deny
+write_refusal l r = if l.shut then Some Shut else (if passes l.limits (l.records ++ r ∷ []) then Some Full else None)
+
+-- why a record that nothing refuses isn't written
+abbrev pub IsWriteFault : Deny → Type 0
+IsWriteFault e = (e ≡ Memory) ⊎ (e ≡ Disk)
 
 -- in a currency of which the bound amounts have nothing, nothing was presented
-abbrev pub IsTold : LedgerView → Type 0
+abbrev pub IsTold : {D : Type 0} → LedgerView D → Type 0
 IsTold l = (c : List ℕ) → has_currency c (unwrap_or l.bound []) ≡ false → presented_in l.units l.records c ≡ 0

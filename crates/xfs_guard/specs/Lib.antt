@@ -1,7 +1,9 @@
 pub mod Agrees
+pub mod BootFaults
 pub mod Budget
 pub mod Claims
 pub mod Continues
+pub mod Fits
 pub mod Follows
 pub mod Kept
 pub mod Ledger
@@ -11,9 +13,11 @@ pub mod Orders
 pub mod Passed
 pub mod Pays
 pub mod Presented
+pub mod Recorded
 pub mod Refusals
 pub mod Reports
 pub mod Sound
+pub mod Stored
 pub mod TokenDeny
 pub mod View
 pub mod Within

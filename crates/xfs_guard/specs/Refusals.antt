@@ -19,7 +19,7 @@ use Rattle.xfs_journal.specs.declared.record.Rec.{Rec}
 use Rattle.xfs_journal.specs.Journal.{live_of, token_of, bind_of, last_mark}
 use Rattle.xfs_guard.specs.declared.nonce.Nonce.{Nonce}
 use Rattle.xfs_guard.specs.declared.deny.Deny.{Deny}
-use Rattle.xfs_guard.specs.declared.deny.Deny.TheVariants.{NoNonce, WrongNonce, WrongMac, NoAmounts, OtherBound, NotEmpty, Unbound, Nothing, OutletFull, Short, Memory}
+use Rattle.xfs_guard.specs.declared.deny.Deny.TheVariants.{NoNonce, WrongNonce, WrongMac, NoAmounts, OtherBound, NotEmpty, Unbound, Nothing, OutletFull, Short, Disk, Memory}
 use Rattle.xfs_guard.specs.declared.ask.Ask.{Ask}
 use Rattle.xfs_guard.specs.declared.ask.Ask.TheVariants.{Stack as AskStack, Present as AskPresent, Reject as AskReject, Retract as AskRetract}
 use Rattle.xfs_guard.specs.View.{View}
@@ -128,10 +128,11 @@ order_refusal_at v AskRetract live = nothing_refusal v.places.outlet
 abbrev pub order_refusal : View → Ask → Option Deny
 order_refusal v ask = order_refusal_at v ask (live_nonce v.records)
 
--- a call answers the first refusal that applies; it is done, or wants memory, only where none does
+-- a call answers the first refusal that applies; it is done, or wants memory, or the disk fails, only where none does
 abbrev pub Answers : {T : Type 0} → Result T Deny → Option Deny → Type 0
 Answers (Ok x) refusal = refusal ≡ None
 Answers (Err Memory) refusal = refusal ≡ None
+Answers (Err Disk) refusal = refusal ≡ None
 Answers (Err e) refusal = refusal ≡ Some e
 
 -- what may be asked: of a unit of the table at least one note

@@ -1,5 +1,6 @@
 -- What a guard keeps from call to call.
-use Rattle.std.specs.Prelude.{◌≡◌, ℕ, ◌+◌, ◌<◌, List, length, Some, ⊤}
+use Rattle.std.specs.Prelude.{◌≡◌, ℕ, ◌+◌, ◌<◌, Bool, true, false, List, length, Some, None, ⊤}
+use Rattle.std.specs.declared.option.Option.{Option}
 use Rattle.std.specs.List.{AllByRecursion, Contains}
 use Rattle.xfs_base.specs.Causes.{IfTold}
 use Rattle.xfs_base.specs.Counts.{LiesIn}
@@ -53,9 +54,14 @@ pub record Ties (v : View) (motions : List Motion) : Type 0 where
   pub counted : (p : ℕ) (c : List ℕ) → live_of v.records ≡ Some p → shown v.units v.records motions p c ≡ presented_in v.units v.records c + unsettled v.units v.open_order c
   pub acted : HasActed v.open_order v.records motions
 
--- what a guard keeps
+-- a list that stands beside the journal's, where the disk tells the journal's
+abbrev pub where_told : Bool → Option (List Motion) → Option (List Motion)
+where_told true motions = motions
+where_told false motions = None
+
+-- what a guard keeps while its journal isn't shut
 pub record IsSound (v : View) : Type 0 where
-  pub numbered : Numbered v.records
+  pub numbered : v.disk_told ≡ true → Numbered v.records
   pub stands : Stands v.open_order v.records v.places
   pub budget : Budget v
-  pub told : IfTold v.motions (Ties v)
+  pub told : IfTold (where_told v.disk_told v.motions) (Ties v)

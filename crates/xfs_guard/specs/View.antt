@@ -1,13 +1,14 @@
 -- What is seen of a guard.
-use Rattle.std.specs.Prelude.{ℕ, List}
+use Rattle.std.specs.Prelude.{ℕ, Bool, List}
 use Rattle.std.specs.declared.option.Option.{Option}
 use Rattle.xfs_base.specs.declared.money.NoteKind.{NoteKind}
 use Rattle.xfs_base.specs.declared.counts.Places.{Places}
 use Rattle.xfs_mech.specs.declared.motion.Motion.{Motion}
 use Rattle.xfs_journal.specs.declared.record.Rec.{Rec}
+use Rattle.xfs_journal.specs.declared.limits.Limits.{Limits}
 use Rattle.xfs_guard.specs.declared.open.Open.{Open}
 
--- a guard: its key, seed and units, its journal, the amounts of the token that is bound to the live nonce, the open order, and what its mechanism tells
+-- a guard: its key, seed and units, its journal, the amounts of the token that is bound to the live nonce, the open order, what its mechanism tells, the journal's limits, whether the journal is shut, the record whose append last answered that the disk failed, and whether the disk tells its bytes
 pub record View : Type 0 where
   pub key : List ℕ
   pub seed : List ℕ
@@ -18,3 +19,12 @@ pub record View : Type 0 where
   pub motions : Option (List Motion)
   pub places : Places
   pub faults : ℕ
+  pub limits : Limits
+  pub shut : Bool
+  pub in_doubt : Option Rec
+  pub disk_told : Bool
+
+-- the same, and the disk of the journal
+pub record GuardView (D : Type 0) : Type 0 where
+  pub state : View
+  pub disk : D

@@ -7,11 +7,12 @@ ghost use Rattle.xfs_guard.specs.LedgerView.{IsTold};
 use crate::Deny;
 use crate::ledger::Ledger;
 use xfs_base::{Counts, Currency, Milli};
+use xfs_disk::Disk;
 use xfs_token::Amounts;
 
 // OverBudget, for the first currency of the table in which the counts pass the amounts.
-pub fn passed(
-    ledger: &Ledger,
+pub fn passed<D: Disk>(
+    ledger: &Ledger<D>,
     transport: &Counts,
     amounts: &Amounts,
     counts: &Counts,
@@ -30,8 +31,8 @@ pub fn passed(
 }
 
 // The first currency, in the order of letters, in which the counts pass the amounts.
-fn first_over(
-    ledger: &Ledger,
+fn first_over<D: Disk>(
+    ledger: &Ledger<D>,
     transport: &Counts,
     amounts: &Amounts,
     counts: &Counts,
@@ -52,7 +53,7 @@ fn first_over(
 }
 
 // What was presented since the live issue, and what lies on the transport.
-fn spent(ledger: &Ledger, transport: &Counts, currency: Currency) -> u128
+fn spent<D: Disk>(ledger: &Ledger<D>, transport: &Counts, currency: Currency) -> u128
     requires { IsTold ledger.now }
     ensures worth { result ≡ spent ledger.now.units ledger.now.records transport.now currency }
     ensures small { result < 2 ^ 66 }

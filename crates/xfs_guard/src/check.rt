@@ -15,19 +15,23 @@ use crate::budget::passed;
 use crate::{Claim, Deny, Guard, Permit};
 use std::alloc::{AllocError, Global};
 use xfs_base::Counts;
+use xfs_disk::Disk;
 use xfs_hmac::mac;
 use xfs_journal::Text;
 use xfs_mech::Mechanism;
 use xfs_token::{Amounts, Token, amounts, read};
 
-impl<M: Mechanism> Guard<M> {
+impl<M: Mechanism, D: Disk> Guard<M, D> {
     /// Looks at a token's bytes: whether they spell a token that carries the live nonce and the HMAC
     /// of its bytes under the key, that has amounts, and that is bound or may be. It changes nothing.
     pub fn check(&self, token: &[u8]) -> Result<Claim, Deny>
-        ensures ok { IfOk result (λ c. Passes self.now c.token c.amounts) }
+        ensures ok { IfOk result (λ c. Passes self.now.state c.token c.amounts) }
         ensures token { IfOk result (λ c. c.token ≡ token.now) }
-        ensures refused { IfErr result (TokenRefused self.now token.now) }
+        ensures refused { IfErr result (TokenRefused self.now.state token.now) }
     {
+        if let Some(deny) = self.unfit() {
+            return Err(deny);
+        }
         let parts = match read(self.alloc, token) {
             Ok(parts) => parts,
             Err(fault) => return Err(Deny::from(fault)),
@@ -45,8 +49,8 @@ impl<M: Mechanism> Guard<M> {
     // The amounts of a token that passes every check.
     fn admits(&self, bytes: &[u8], token: &Token) -> Result<Amounts, Deny>
         requires { Spells token.now bytes.now }
-        ensures ok { IfOk result (λ a. (claim_refusal self.now bytes.now token.now ≡ None) × (amounts_of token.now ≡ Some a)) }
-        ensures err { IfErr result (λ e. claim_refusal self.now bytes.now token.now ≡ Some e) }
+        ensures ok { IfOk result (λ a. (claim_refusal self.now.state bytes.now token.now ≡ None) × (amounts_of token.now ≡ Some a)) }
+        ensures err { IfErr result (λ e. claim_refusal self.now.state bytes.now token.now ≡ Some e) }
     {
         let since = self.ledger.mark();
         let Some(nonce) = self.ledger.live() else {
@@ -70,7 +74,7 @@ impl<M: Mechanism> Guard<M> {
 
     // Why these bytes are not bound and may not be.
     fn bindable(&self, bytes: &[u8]) -> Option<Deny>
-        ensures { result ≡ bind_refusal self.now bytes.now (bound_token self.now.records) }
+        ensures { result ≡ bind_refusal self.now.state bytes.now (bound_token self.now.state.records) }
     {
         match self.ledger.token() {
             Some(bound) if bound.bytes() == bytes => None,
@@ -91,14 +95,14 @@ impl<M: Mechanism> Guard<M> {
     /// Allows these notes on a claim, where its amounts cover them beside what was presented and
     /// what lies on the transport. The first time it binds the token to the live nonce.
     pub fn allow(&mut self, claim: Claim, counts: &Counts) -> Result<Permit, Deny>
-        requires none { self.old.open_order ≡ No }
-        requires passes { Passes self.old claim.token claim.amounts }
-        ensures refused { Answers result (over_budget self.old claim.amounts counts.now) }
-        ensures issue { IfOk result (λ p. option_map (λ n. n.number) (live_nonce self.old.records) ≡ Some p.issue) }
-        ensures ok { OnOk result (Binds self.old self.new claim.token claim.amounts) }
-        ensures none { self.new.open_order ≡ No }
-        ensures err { OnErr result (self.new ≡ self.old) }
-        ensures continues { OnOk result (Continues self.old self.new) }
+        requires none { self.old.state.open_order ≡ No }
+        requires passes { Passes self.old.state claim.token claim.amounts }
+        ensures refused { Answers result (over_budget self.old.state claim.amounts counts.now) }
+        ensures issue { IfOk result (λ p. option_map (λ n. n.number) (live_nonce self.old.state.records) ≡ Some p.issue) }
+        ensures ok { OnOk result (Binds self.old.state self.new.state claim.token claim.amounts) }
+        ensures none { self.new.state.open_order ≡ No }
+        ensures err { OnErr result (self.new.state ≡ self.old.state) }
+        ensures continues { OnOk result (Continues self.old.state self.new.state) }
     {
         let Some(nonce) = self.ledger.live() else {
             unreachable!()
@@ -115,12 +119,12 @@ impl<M: Mechanism> Guard<M> {
 
     // Binds the token of a claim, where none is bound.
     fn bind_once(&mut self, claim: Claim) -> Result<(), Deny>
-        requires none { self.old.open_order ≡ No }
-        requires passes { Passes self.old claim.token claim.amounts }
-        ensures ok { OnOk result (Binds self.old self.new claim.token claim.amounts) }
+        requires none { self.old.state.open_order ≡ No }
+        requires passes { Passes self.old.state claim.token claim.amounts }
+        ensures ok { OnOk result (Binds self.old.state self.new.state claim.token claim.amounts) }
         ensures memory { IfErr result (λ e. e ≡ Deny.Memory) }
-        ensures err { OnErr result (self.new ≡ self.old) }
-        ensures continues { OnOk result (Continues self.old self.new) }
+        ensures err { OnErr result (self.new.state ≡ self.old.state) }
+        ensures continues { OnOk result (Continues self.old.state self.new.state) }
     {
         if self.ledger.token().is_some() {
             return Ok(());

@@ -8,6 +8,10 @@ use xfs_token::TokenFault;
 /// last Issue, Clear or Boot; in `OtherBound` it is that of the Bind.
 #[derive(Clone, Copy, Debug, PartialEq, Eq)]
 pub enum Deny {
+    /// The disk failed in an earlier call, and the journal wasn't read again since.
+    Shut,
+    /// Fewer than 3 records or fewer than 2,048 bytes are left of the journal's limits.
+    Full,
     /// The token has more than 1,024 bytes.
     TooLong,
     /// A key of the token has no value; `at` counts bytes from 0.
@@ -36,6 +40,8 @@ pub enum Deny {
     OutletFull { notes: u64 },
     /// The unit, which counts from 1, holds fewer notes.
     Short { unit: u8 },
+    /// The disk failed in this call: its count of faults rose. The journal is shut.
+    Disk,
     Memory,
 }
 

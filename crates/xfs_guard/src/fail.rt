@@ -1,14 +1,39 @@
+ghost use Rattle.std.specs.Prelude.{◌≡◌};
+
+use xfs_disk::Disk;
+use xfs_journal::MountFault;
 use xfs_mech::Mechanism;
 
 /// Why a boot is refused.
 #[derive(Clone, Copy, Debug, PartialEq, Eq)]
 pub enum BootFault {
+    /// The disk's bytes are no journal; `at` is the place of the first fault.
+    NotJournal { at: u64 },
+    /// The disk failed in this call: its count of faults rose.
+    Disk,
+    /// The Boot record passes a limit of the journal.
+    Full,
     Memory,
 }
 
-/// A refused boot, with the mechanism as it was handed in.
+impl From<MountFault> for BootFault {
+    ghost use Rattle.xfs_guard.specs.BootFaults.{fault_of};
+
+    ghost from_gives = { λ fault e. e ≡ fault_of fault };
+
+    fn from(fault: MountFault) -> Self {
+        match fault {
+            MountFault::NotJournal { at } => BootFault::NotJournal { at },
+            MountFault::Disk => BootFault::Disk,
+            MountFault::Memory => BootFault::Memory,
+        }
+    }
+}
+
+/// A refused boot, with the mechanism as it was handed in, and the disk.
 #[derive(Drop)]
-pub struct BootFail<M: Mechanism> {
+pub struct BootFail<M: Mechanism, D: Disk> {
     pub why: BootFault,
     pub mech: M,
+    pub disk: D,
 }

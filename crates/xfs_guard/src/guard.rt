@@ -1,54 +1,70 @@
-ghost use Rattle.std.specs.Prelude.{◌≡◌, ◌≢◌, ◌↔◌, ℕ, true, List, ◌+◌, ◌<◌, ◌≤◌, [], ◌∷◌, ◌++◌, length, OnOk, OnErr, IfOk, IfErr, IsTrue, Some, None, unwrap_or};
+ghost use Rattle.std.specs.Prelude.{◌≡◌, ◌≢◌, ◌↔◌, ℕ, true, List, ◌+◌, ◌<◌, ◌≤◌, [], ◌∷◌, ◌++◌, length, false, true, is_some, OnOk, OnErr, IfOk, IfErr, IsTrue, Some, None, Err, unwrap_or};
 ghost use Rattle.xfs_base.specs.Causes.{IfTold, Rose};
 ghost use Rattle.xfs_journal.specs.declared.record.Rec.TheVariants.{Issue, Clear, Boot, Bind, Order, Done};
 ghost use Rattle.xfs_journal.specs.Journal.{next_issue};
 ghost use Rattle.xfs_guard.specs.declared.open.Open.TheVariants.{No, Written};
 ghost use Rattle.xfs_guard.specs.Nonce.{live_nonce};
 ghost use Rattle.xfs_guard.specs.Word.{issue_word};
-ghost use Rattle.xfs_guard.specs.Sound.{IsSound};
+ghost use Rattle.xfs_guard.specs.Fits.{fit_of, unfit};
+ghost use Rattle.xfs_guard.specs.Stored.{IsStored};
+ghost use Rattle.xfs_guard.specs.Recorded.{IsRecorded};
+ghost use Rattle.xfs_guard.specs.declared.fail.BootFault.TheVariants.{NotJournal, Disk as BootDisk};
+ghost use Rattle.xfs_journal.specs.Image.{Stands};
+ghost use Rattle.xfs_journal.specs.JournalView.{IsPossible};
+ghost use Rattle.xfs_journal.specs.Paging.{CeasesAt};
+ghost use Rattle.xfs_journal.specs.declared.record.Rec.{Rec};
 ghost use Rattle.xfs_guard.specs.Continues.{Continues};
 ghost use Rattle.xfs_guard.specs.Orders.{IsWritten, IsActed, Acts, Settles, kind_unacted};
 ghost use Rattle.xfs_guard.specs.Refusals.{Answers, IsAsk, order_refusal, nothing_refusal, notes_of, asked_kind, asked_counts};
 ghost use Rattle.xfs_guard.specs.declared.ask.Ask.TheVariants.{Stack as AskStack, Present as AskPresent};
 
 use crate::budget::passed;
-use crate::ledger::Ledger;
+use crate::ledger::{Ledger, Unbooted};
 use crate::nonce::word_of;
-use crate::{Ask, BootFail, BootFault, Deny, Nonce, Open};
+use crate::{Ask, BootFail, Deny, Fit, Nonce, Open};
 use std::alloc::Global;
 use std::marker::Model;
 use xfs_base::{Counts, Kind, Places, UnitTable};
-use xfs_journal::Rec;
+use xfs_disk::Disk;
+use xfs_journal::{Limits, Rec};
 use xfs_mech::{Mechanism, Order as MechOrder, Outcome};
 
 /// The guard: it alone hands orders to the mechanism. Each call appends at most one record or makes
 /// at most one call of the mechanism that adds an entry, never both.
 #[derive(Drop)]
-pub struct Guard<M: Mechanism> {
+pub struct Guard<M: Mechanism, D: Disk> {
     pub(crate) alloc: Global,
     pub(crate) mech: M,
-    pub(crate) ledger: Ledger,
+    pub(crate) ledger: Ledger<D>,
     pub(crate) key: [u8; 32],
     seed: [u8; 32],
     open_order: Open,
 }
 
-impl<M: Mechanism> Model for Guard<M> {
-    ghost use Rattle.xfs_guard.specs.View.{View};
+impl<M: Mechanism, D: Disk> Model for Guard<M, D> {
+    ghost use Rattle.std.specs.Prelude.{is_some};
+    ghost use Rattle.xfs_guard.specs.View.{GuardView};
     ghost use Rattle.xfs_guard.specs.Kept.{IsKept};
 
-    ghost Value = { View };
+    ghost Value = { GuardView D };
 
     ghost view = { λ g. record {
-      key = g.key;
-      seed = g.seed;
-      units = g.ledger.units;
-      records = g.ledger.records;
-      bound = g.ledger.bound;
-      open_order = g.open_order;
-      motions = M.motions g.mech;
-      places = M.places g.mech;
-      faults = M.faults g.mech;
+      state = record {
+        key = g.key;
+        seed = g.seed;
+        units = g.ledger.units;
+        records = g.ledger.records;
+        bound = g.ledger.bound;
+        open_order = g.open_order;
+        motions = M.motions g.mech;
+        places = M.places g.mech;
+        faults = M.faults g.mech;
+        limits = g.ledger.limits;
+        shut = g.ledger.shut;
+        in_doubt = g.ledger.in_doubt;
+        disk_told = is_some (D.held g.ledger.disk);
+      };
+      disk = g.ledger.disk;
     } };
 
     ghost invariant = { λ g. IsKept (record {
@@ -61,37 +77,49 @@ impl<M: Mechanism> Model for Guard<M> {
       motions = M.motions g.mech;
       places = M.places g.mech;
       faults = M.faults g.mech;
+      limits = g.ledger.limits;
+      shut = g.ledger.shut;
+      in_doubt = g.ledger.in_doubt;
+      disk_told = is_some (D.held g.ledger.disk);
     }) (M.room g.mech) g.ledger.room (M.units g.mech) };
 }
 
-impl<M: Mechanism> Guard<M> {
-    /// A guard over this mechanism, with an empty journal but for the Boot. The key is that of the
-    /// tokens' HMAC, the seed that of the nonces.
+impl<M: Mechanism, D: Disk> Guard<M, D> {
+    /// A guard over this mechanism and the journal of this disk, which gets a Boot. The key is that of
+    /// the tokens' HMAC, the seed that of the nonces. A refused boot hands both back.
     pub fn boot(
         alloc: Global,
         mech: M,
+        disk: D,
         key: [u8; 32],
         seed: [u8; 32],
         units: UnitTable,
-    ) -> Result<Guard<M>, BootFail<M>>
+        limits: Limits,
+    ) -> Result<Guard<M, D>, BootFail<M, D>>
         requires units { M.units mech ≡ units }
-        requires fresh { IfTold (M.motions mech) (λ L. L ≡ []) }
-        ensures ok { IfOk result (λ g. g ≡ record {
+        requires starts { IfTold (D.held disk) (λ _. (c : List ℕ) → D.images disk c → (J : List Rec) × Stands c J × IsRecorded key units J (M.motions mech)) }
+        ensures ok { IfOk result (λ g. (J : List Rec) × (IfTold (D.held disk) (λ all. Stands all J)) × (g.state ≡ record {
           key = key;
           seed = seed;
           units = units;
-          records = Boot (M.places mech) ∷ [];
+          records = J ++ Boot (M.places mech) ∷ [];
           bound = None;
           open_order = No;
           motions = M.motions mech;
           places = M.places mech;
           faults = M.faults mech;
-        }) }
-        ensures err { IfErr result (λ f. f.mech ≡ mech) }
+          limits = limits;
+          shut = false;
+          in_doubt = None;
+          disk_told = is_some (D.held disk);
+        })) }
+        ensures mech { IfErr result (λ f. f.mech ≡ mech) }
+        ensures not_journal { IfErr result (λ f. (at : ℕ) → f.why ≡ NotJournal at → IfTold (D.held disk) (λ all. CeasesAt all at × ((J : List Rec) → ¬ Stands all J))) }
+        ensures disk { IfErr result (λ f. f.why ≡ BootDisk → Rose (D.faults disk) (D.faults f.disk)) }
     {
-        let mut ledger = Ledger::new(alloc, units);
-        match ledger.boot(mech.survey()) {
-            Ok(()) => Ok(Guard {
+        let places = mech.survey();
+        match Ledger::boot(alloc, disk, limits, units, places) {
+            Ok(ledger) => Ok(Guard {
                 alloc,
                 mech,
                 ledger,
@@ -99,21 +127,20 @@ impl<M: Mechanism> Guard<M> {
                 seed,
                 open_order: Open::No,
             }),
-            Err(_) => Err(BootFail {
-                why: BootFault::Memory,
-                mech,
-            }),
+            Err(Unbooted { why, disk }) => Err(BootFail { why, mech, disk }),
         }
     }
 
-    /// The mechanism and the journal.
-    pub fn end(self) -> (M, Vec<Rec>)
-        ensures sound { IsSound self }
-        ensures records { result.1.items ≡ self.records }
-        ensures motions { M.motions result.0 ≡ self.motions }
-        ensures places { M.places result.0 ≡ self.places }
-        ensures units { M.units result.0 ≡ self.units }
-        ensures faults { M.faults result.0 ≡ self.faults }
+    /// The mechanism and the disk. Each image of the disk stands for a list of records that agrees with
+    /// what the mechanism did.
+    pub fn end(self) -> (M, D)
+        ensures recorded { (J : List Rec) → IsPossible self.state.records self.state.in_doubt J → IsRecorded self.state.key self.state.units J self.state.motions }
+        ensures stored { IsStored (D.held result.1) (D.images result.1) self.state.records self.state.in_doubt }
+        ensures disk { result.1 ≡ self.disk }
+        ensures motions { M.motions result.0 ≡ self.state.motions }
+        ensures places { M.places result.0 ≡ self.state.places }
+        ensures units { M.units result.0 ≡ self.state.units }
+        ensures faults { M.faults result.0 ≡ self.state.faults }
     {
         let Guard {
             alloc: _,
@@ -123,26 +150,51 @@ impl<M: Mechanism> Guard<M> {
             seed: _,
             open_order: _,
         } = self;
-        (mech, ledger.into_records())
+        (mech, ledger.end())
+    }
+
+    /// Whether the journal takes more records.
+    pub fn fit(&self) -> Fit
+        ensures { result ≡ fit_of self.now.state }
+    {
+        if self.ledger.shut() {
+            return Fit::Shut;
+        }
+        let left = self.ledger.left();
+        if left.records < 3 || left.bytes < 2_048 {
+            return Fit::Full;
+        }
+        Fit::Ready
+    }
+
+    // What each call that writes is refused for first.
+    pub(crate) fn unfit(&self) -> Option<Deny>
+        ensures { result ≡ unfit self.now.state }
+    {
+        match self.fit() {
+            Fit::Ready => None,
+            Fit::Shut => Some(Deny::Shut),
+            Fit::Full => Some(Deny::Full),
+        }
     }
 
     /// The live nonce. None where none was issued, or it was cleared.
     pub fn live(&self) -> Option<Nonce>
-        ensures { result ≡ live_nonce self.now.records }
+        ensures { result ≡ live_nonce self.now.state.records }
     {
         self.ledger.live()
     }
 
     /// Whether an order is open.
     pub fn ordering(&self) -> bool
-        ensures { IsTrue result ↔ (self.now.open_order ≢ No) }
+        ensures { IsTrue result ↔ (self.now.state.open_order ≢ No) }
     {
         !matches!(self.open_order, Open::No)
     }
 
     /// The kind of the order that is open and not yet acted.
     pub fn unacted(&self) -> Option<Kind>
-        ensures { result ≡ kind_unacted self.now.open_order }
+        ensures { result ≡ kind_unacted self.now.state.open_order }
     {
         match self.open_order {
             Open::Written { kind, .. } => Some(kind),
@@ -152,51 +204,66 @@ impl<M: Mechanism> Guard<M> {
 
     /// The kinds of notes of the units.
     pub fn units(&self) -> &UnitTable
-        ensures { result.now ≡ self.now.units }
+        ensures { result.now ≡ self.now.state.units }
     {
         self.ledger.units()
     }
 
     /// Where the notes lie, also while an order is open.
     pub fn places(&self) -> Places
-        ensures { result ≡ self.now.places }
+        ensures { result ≡ self.now.state.places }
     {
         self.mech.survey()
     }
 
     /// The journal. A record's number is its place, from 1.
     pub fn records(&self) -> &[Rec]
-        ensures { result.now ≡ self.now.records }
+        ensures { result.now ≡ self.now.state.records }
     {
         self.ledger.records()
     }
 
-    /// Issues the next nonce; its word is the seed's. A nonce that was live is so no longer.
+    /// Issues the next nonce; its word is the seed's. A nonce that was live is so no longer. After `Disk`
+    /// the journal is shut.
     pub fn issue(&mut self) -> Result<Nonce, Deny>
-        requires { self.old.open_order ≡ No }
-        ensures number { IfOk result (λ n. n.number ≡ next_issue self.old.records) }
-        ensures live { IfOk result (λ n. live_nonce self.new.records ≡ Some n) }
-        ensures ok { IfOk result (λ n. self.new ≡ record self.old {
-          records = self.old.records ++ Issue n.number (issue_word self.old.seed n.number) ∷ [];
+        requires { self.old.state.open_order ≡ No }
+        ensures refused { Answers result (unfit self.old.state) }
+        ensures number { IfOk result (λ n. n.number ≡ next_issue self.old.state.records) }
+        ensures live { IfOk result (λ n. live_nonce self.new.state.records ≡ Some n) }
+        ensures ok { IfOk result (λ n. self.new.state ≡ record self.old.state {
+          records = self.old.state.records ++ Issue n.number (issue_word self.old.state.seed n.number) ∷ [];
           bound = None;
         }) }
-        ensures memory { IfErr result (λ e. e ≡ Deny.Memory) }
-        ensures err { OnErr result (self.new ≡ self.old) }
-        ensures continues { OnOk result (Continues self.old self.new) }
+        ensures disk { result ≡ Err Deny.Disk → self.new.state ≡ record self.old.state {
+          shut = true;
+          in_doubt = Some (Issue (next_issue self.old.state.records) (issue_word self.old.state.seed (next_issue self.old.state.records)));
+        } }
+        ensures cause { result ≡ Err Deny.Disk → Rose (D.faults self.old.disk) (D.faults self.new.disk) }
+        ensures same { IfErr result (λ e. e ≢ Deny.Disk → self.new ≡ self.old) }
+        ensures continues { Continues self.old.state self.new.state }
     {
+        if let Some(deny) = self.unfit() {
+            return Err(deny);
+        }
         let word = word_of(self.seed, self.ledger.next_issue());
         Ok(self.ledger.issue(word)?)
     }
 
-    /// Clears the live nonce. False, and nothing is written, where none is live.
+    /// Clears the live nonce. False, and nothing is written, where none is live. After `Disk` the
+    /// journal is shut.
     pub fn clear(&mut self) -> Result<bool, Deny>
-        requires { self.old.open_order ≡ No }
-        ensures dead { IfOk result (λ b. IsTrue b ↔ (live_nonce self.old.records ≢ None)) }
-        ensures cleared { result ≡ Ok true → self.new ≡ record self.old { records = self.old.records ++ Clear ∷ []; bound = None } }
-        ensures same { result ≢ Ok true → self.new ≡ self.old }
-        ensures memory { IfErr result (λ e. e ≡ Deny.Memory) }
-        ensures continues { OnOk result (Continues self.old self.new) }
+        requires { self.old.state.open_order ≡ No }
+        ensures refused { Answers result (unfit self.old.state) }
+        ensures dead { IfOk result (λ b. IsTrue b ↔ (live_nonce self.old.state.records ≢ None)) }
+        ensures cleared { result ≡ Ok true → self.new.state ≡ record self.old.state { records = self.old.state.records ++ Clear ∷ []; bound = None } }
+        ensures disk { result ≡ Err Deny.Disk → self.new.state ≡ record self.old.state { shut = true; in_doubt = Some Clear } }
+        ensures cause { result ≡ Err Deny.Disk → Rose (D.faults self.old.disk) (D.faults self.new.disk) }
+        ensures same { result ≢ Ok true → result ≢ Err Deny.Disk → self.new ≡ self.old }
+        ensures continues { Continues self.old.state self.new.state }
     {
+        if let Some(deny) = self.unfit() {
+            return Err(deny);
+        }
         if self.ledger.live().is_none() {
             return Ok(false);
         }
@@ -206,29 +273,32 @@ impl<M: Mechanism> Guard<M> {
 
     /// Writes an order, with room for all that it still adds. It moves nothing.
     pub fn order(&mut self, ask: Ask) -> Result<(), Deny>
-        requires none { self.old.open_order ≡ No }
-        requires asked { IsAsk self.old ask }
-        ensures refused { Answers result (order_refusal self.old ask) }
-        ensures ok { OnOk result (self.new ≡ record self.old {
-          records = self.old.records ++ Order (asked_kind ask) (asked_counts self.old ask) ∷ [];
-          open_order = Written (asked_kind ask) (asked_counts self.old ask);
+        requires none { self.old.state.open_order ≡ No }
+        requires asked { IsAsk self.old.state ask }
+        ensures refused { Answers result (order_refusal self.old.state ask) }
+        ensures ok { OnOk result (self.new.state ≡ record self.old.state {
+          records = self.old.state.records ++ Order (asked_kind ask) (asked_counts self.old.state ask) ∷ [];
+          open_order = Written (asked_kind ask) (asked_counts self.old.state ask);
         }) }
-        ensures err { OnErr result (self.new ≡ self.old) }
-        ensures continues { OnOk result (Continues self.old self.new) }
+        ensures err { OnErr result (self.new.state ≡ self.old.state) }
+        ensures continues { OnOk result (Continues self.old.state self.new.state) }
     {
+        if let Some(deny) = self.unfit() {
+            return Err(deny);
+        }
         let (kind, counts) = self.admitted(ask)?;
         self.mech.ready()?;
         self.ledger.reserve_two()?;
-        self.ledger.order(kind, counts);
+        self.ledger.order(kind, counts)?;
         self.open_order = Open::Written { kind, counts };
         Ok(())
     }
 
     // The kind and the counts of an order, where nothing refuses it.
     fn admitted(&self, ask: Ask) -> Result<(Kind, Counts), Deny>
-        requires { IsAsk self.now ask }
-        ensures ok { IfOk result (λ r. (order_refusal self.now ask ≡ None) × (r.0 ≡ asked_kind ask) × (r.1 ≡ asked_counts self.now ask)) }
-        ensures err { IfErr result (λ e. (e ≢ Deny.Memory) × (order_refusal self.now ask ≡ Some e)) }
+        requires { IsAsk self.now.state ask }
+        ensures ok { IfOk result (λ r. (order_refusal self.now.state ask ≡ None) × (r.0 ≡ asked_kind ask) × (r.1 ≡ asked_counts self.now.state ask)) }
+        ensures err { IfErr result (λ e. (e ≢ Deny.Memory) × (order_refusal self.now.state ask ≡ Some e)) }
     {
         match ask {
             Ask::Stack { issue, unit, count } => self.stacked(issue, unit, count),
@@ -239,9 +309,9 @@ impl<M: Mechanism> Guard<M> {
     }
 
     fn stacked(&self, issue: u64, unit: u8, count: u32) -> Result<(Kind, Counts), Deny>
-        requires { IsAsk self.now (AskStack issue unit count) }
-        ensures ok { IfOk result (λ r. (order_refusal self.now (AskStack issue unit count) ≡ None) × (r.0 ≡ Kind.Stack) × (r.1 ≡ notes_of unit count)) }
-        ensures err { IfErr result (λ e. (e ≢ Deny.Memory) × (order_refusal self.now (AskStack issue unit count) ≡ Some e)) }
+        requires { IsAsk self.now.state (AskStack issue unit count) }
+        ensures ok { IfOk result (λ r. (order_refusal self.now.state (AskStack issue unit count) ≡ None) × (r.0 ≡ Kind.Stack) × (r.1 ≡ notes_of unit count)) }
+        ensures err { IfErr result (λ e. (e ≢ Deny.Memory) × (order_refusal self.now.state (AskStack issue unit count) ≡ Some e)) }
     {
         let since = self.ledger.mark();
         let Some(nonce) = self.ledger.live() else {
@@ -265,8 +335,8 @@ impl<M: Mechanism> Guard<M> {
     }
 
     fn presented(&self) -> Result<(Kind, Counts), Deny>
-        ensures ok { IfOk result (λ r. (order_refusal self.now AskPresent ≡ None) × (r.0 ≡ Kind.Present) × (r.1 ≡ self.now.places.transport)) }
-        ensures err { IfErr result (λ e. (e ≢ Deny.Memory) × (order_refusal self.now AskPresent ≡ Some e)) }
+        ensures ok { IfOk result (λ r. (order_refusal self.now.state AskPresent ≡ None) × (r.0 ≡ Kind.Present) × (r.1 ≡ self.now.state.places.transport)) }
+        ensures err { IfErr result (λ e. (e ≢ Deny.Memory) × (order_refusal self.now.state AskPresent ≡ Some e)) }
     {
         let since = self.ledger.mark();
         if self.ledger.live().is_none() {
@@ -288,11 +358,11 @@ impl<M: Mechanism> Guard<M> {
 
     /// Carries out the order that is written. It takes no memory.
     pub fn act(&mut self) -> Outcome
-        requires { IsWritten self.old.open_order }
-        ensures acted { Acts self.old self.new result.moved result.diverted result.failed }
-        ensures later { self.old.faults ≤ self.new.faults }
-        ensures cause { result.failed ≡ true → Rose self.old.faults self.new.faults }
-        ensures continues { Continues self.old self.new }
+        requires { IsWritten self.old.state.open_order }
+        ensures acted { Acts self.old.state self.new.state result.moved result.diverted result.failed }
+        ensures later { self.old.state.faults ≤ self.new.state.faults }
+        ensures cause { result.failed ≡ true → Rose self.old.state.faults self.new.state.faults }
+        ensures continues { Continues self.old.state self.new.state }
     {
         let Open::Written { kind, counts } = self.open_order else {
             unreachable!()
@@ -309,10 +379,12 @@ impl<M: Mechanism> Guard<M> {
     }
 
     /// Writes down what the order did. It takes no memory.
-    pub fn settle(&mut self)
-        requires { IsActed self.old.open_order }
-        ensures settled { Settles self.old self.new }
-        ensures continues { Continues self.old self.new }
+    pub fn settle(&mut self) -> Result<(), Deny>
+        requires { IsActed self.old.state.open_order }
+        ensures settled { OnOk result (Settles self.old.state self.new.state) }
+        ensures err { IfErr result (λ e. e ≡ Deny.Disk) }
+        ensures none { self.new.state.open_order ≡ No }
+        ensures continues { Continues self.old.state self.new.state }
     {
         let Open::Acted {
             kind,
@@ -323,8 +395,9 @@ impl<M: Mechanism> Guard<M> {
         else {
             unreachable!()
         };
-        self.ledger.done(kind, moved, diverted);
         self.open_order = Open::No;
+        self.ledger.done(kind, moved, diverted)?;
+        Ok(())
     }
 }
 

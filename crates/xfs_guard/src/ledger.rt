@@ -1,30 +1,38 @@
-//! The records of the journal, with what is read of them kept beside: no call goes through them.
+//! The records of the journal, with what is read of them kept beside: no call but `boot` goes through them.
 
-ghost use Rattle.std.specs.Prelude.{◌≡◌, ℕ, List, ◌+◌, ◌<◌, ◌≤◌, ◌^◌, [], ◌∷◌, ◌++◌, length, slice_get, slice_index, OnErr, IfOk, OnOk, Some, None};
+ghost use Rattle.std.specs.Prelude.{◌≡◌, ◌≢◌, ◌↔◌, ℕ, List, ◌+◌, ◌-◌, ◌<◌, ◌≤◌, ◌^◌, [], ◌∷◌, ◌++◌, true, false, is_some, length, slice_get, slice_index, OnErr, IfErr, IfOk, OnOk, Some, None, Err};
 ghost use Rattle.std.specs.Option.{option_copied, option_map};
+ghost use Rattle.xfs_base.specs.Causes.{IfTold, Rose};
 ghost use Rattle.xfs_base.specs.Money.{value};
 ghost use Rattle.xfs_base.specs.declared.counts.Counts.{Counts};
 ghost use Rattle.xfs_base.specs.declared.counts.Kind.TheVariants.{Present};
+ghost use Rattle.xfs_journal.specs.Image.{HasUnit, Stands, size};
+ghost use Rattle.xfs_journal.specs.Paging.{CeasesAt};
+ghost use Rattle.xfs_journal.specs.declared.faults.AppendFault.TheVariants.{Full as AppendFull};
+ghost use Rattle.xfs_journal.specs.declared.record.Rec.{Rec};
+ghost use Rattle.xfs_guard.specs.declared.fail.BootFault.TheVariants.{NotJournal, Disk as BootDisk, Full as BootFull};
+ghost use Rattle.xfs_journal.specs.JournalView.{refusal};
 ghost use Rattle.xfs_journal.specs.declared.record.Rec.TheVariants.{Issue, Clear, Boot, Bind, Order, Done, Load};
 ghost use Rattle.xfs_journal.specs.Journal.{record_at, live_of, token_of, last_mark, next_issue, nonce_text};
 ghost use Rattle.xfs_guard.specs.Nonce.{live_nonce};
 ghost use Rattle.xfs_guard.specs.Refusals.{bound_token, bound_place};
 ghost use Rattle.xfs_guard.specs.Presented.{presented_in};
-ghost use Rattle.xfs_guard.specs.LedgerView.{Writes, IsSame, IsTold};
+ghost use Rattle.xfs_guard.specs.LedgerView.{IsWriteFault, Wrote, IsSame, IsTold, write_refusal};
 ghost use Rattle.xfs_guard.specs.Pays.{Fits, Pays, IsSumOf};
 
-use crate::Nonce;
 use crate::bound::{Bound, Live};
-use std::alloc::{AllocError, Global};
+use crate::{BootFault, Deny, Nonce};
+use std::alloc::Global;
 use std::marker::Model;
-use xfs_base::{Counts, Currency, Kind, Places, UnitTable};
-use xfs_journal::{Rec, Text};
+use xfs_base::{Counts, Currency, Kind, Memory, Places, UnitTable};
+use xfs_disk::Disk;
+use xfs_journal::{AppendFault, Journal, Limits, MountFail, Rec, Text};
 use xfs_token::Amounts;
 
 #[derive(Drop)]
-pub struct Ledger {
+pub struct Ledger<D: Disk> {
     alloc: Global,
-    records: Vec<Rec>,
+    journal: Journal<D>,
     units: UnitTable,
     issues: u64,
     mark: u64,
@@ -32,59 +40,102 @@ pub struct Ledger {
     bound: Option<Bound>,
 }
 
-impl Model for Ledger {
-    ghost use Rattle.std.specs.Prelude.{◌-◌, vec_len, vec_capacity};
+impl<D: Disk> Model for Ledger<D> {
     ghost use Rattle.xfs_guard.specs.LedgerView.{LedgerView};
     ghost use Rattle.xfs_guard.specs.Ledger.{IsRead, amounts_kept};
 
-    ghost Value = { LedgerView };
+    ghost Value = { LedgerView D };
 
     ghost view = { λ l. record {
-      records = l.records.items;
+      records = l.journal.records;
       units = l.units;
       bound = amounts_kept l.bound;
-      room = vec_capacity l.records - vec_len l.records;
+      room = l.journal.room;
+      limits = l.journal.limits;
+      shut = l.journal.shut;
+      in_doubt = l.journal.in_doubt;
+      disk = l.journal.disk;
     } };
 
-    ghost invariant = { λ l. IsRead l.records.items l.units l.issues l.mark l.live l.bound };
+    ghost invariant = { λ l. IsRead l.journal.records l.units l.issues l.mark l.live l.bound };
 }
 
-impl Ledger {
-    pub fn new(alloc: Global, units: UnitTable) -> Ledger
-        ensures records { result.records ≡ [] }
-        ensures units { result.units ≡ units }
-        ensures bound { result.bound ≡ None }
+/// A refused boot, with the disk.
+#[derive(Drop)]
+pub struct Unbooted<D: Disk> {
+    pub why: BootFault,
+    pub disk: D,
+}
+
+impl<D: Disk> Ledger<D> {
+    /// The journal of a disk, which gets a Boot with these places.
+    pub fn boot(
+        alloc: Global,
+        disk: D,
+        limits: Limits,
+        units: UnitTable,
+        places: Places,
+    ) -> Result<Ledger<D>, Unbooted<D>>
+        ensures records { IfOk result (λ l. (J : List Rec) × IfTold (D.held disk) (λ all. Stands all J) × (l.records ≡ J ++ Boot places ∷ [])) }
+        ensures opened { IfOk result (λ l. (l.shut ≡ false) × (l.in_doubt ≡ None) × (l.bound ≡ None)) }
+        ensures same { IfOk result (λ l. (l.limits ≡ limits) × (l.units ≡ units)) }
+        ensures not_journal { IfErr result (λ f. (at : ℕ) → f.why ≡ NotJournal at → IfTold (D.held disk) (λ all. CeasesAt all at × ((J : List Rec) → ¬ Stands all J))) }
+        ensures disk { IfErr result (λ f. f.why ≡ BootDisk → Rose (D.faults disk) (D.faults f.disk)) }
     {
-        Ledger {
-            alloc,
-            records: Vec::new(alloc),
-            units,
-            issues: 0,
-            mark: 0,
-            live: None,
-            bound: None,
+        let mut journal = match Journal::mount(alloc, disk, limits) {
+            Ok(journal) => journal,
+            Err(MountFail { why, disk }) => {
+                return Err(Unbooted {
+                    why: BootFault::from(why),
+                    disk,
+                });
+            }
+        };
+        let issues = issues_of(journal.records());
+        match append_boot(&mut journal, places) {
+            Ok(mark) => Ok(Ledger {
+                alloc,
+                journal,
+                units,
+                issues,
+                mark,
+                live: None,
+                bound: None,
+            }),
+            Err(why) => Err(Unbooted {
+                why,
+                disk: journal.end(),
+            }),
         }
     }
 
     pub fn records(&self) -> &[Rec]
         ensures { result.now ≡ self.now.records }
     {
-        &self.records
+        self.journal.records()
     }
 
-    pub fn into_records(self) -> Vec<Rec>
-        ensures { result.items ≡ self.records }
+    /// The journal's disk.
+    pub fn end(self) -> D
+        ensures { result ≡ self.disk }
     {
         let Ledger {
             alloc: _,
-            records,
+            journal,
             units: _,
             issues: _,
             mark: _,
             live: _,
             bound: _,
         } = self;
-        records
+        journal.end()
+    }
+
+    /// Whether the disk failed and the journal wasn't read again since.
+    pub fn shut(&self) -> bool
+        ensures { result ≡ self.now.shut }
+    {
+        self.journal.shut()
     }
 
     pub fn units(&self) -> &UnitTable
@@ -104,7 +155,7 @@ impl Ledger {
     pub fn next_issue(&self) -> u64
         ensures { result ≡ next_issue self.now.records }
     {
-        let _count = self.records.len();
+        let _count = self.journal.records().len();
         self.issues + 1
     }
 
@@ -122,7 +173,7 @@ impl Ledger {
         ensures { option_copied result ≡ bound_token self.now.records }
     {
         match &self.bound {
-            Some(bound) => match &self.records[bound.place as usize - 1] {
+            Some(bound) => match &self.journal.records()[bound.place as usize - 1] {
                 Rec::Bind { token } => Some(token),
                 _ => unreachable!(),
             },
@@ -161,61 +212,65 @@ impl Ledger {
         }
     }
 
+    /// Each limit less what the journal has of it.
+    pub fn left(&self) -> Limits
+        ensures records { result.records ≡ self.now.limits.records - length self.now.records }
+        ensures bytes { result.bytes ≡ self.now.limits.bytes - size self.now.records }
+    {
+        self.journal.left()
+    }
+
     /// A nonce is issued.
-    pub fn issue(&mut self, word: u64) -> Result<Nonce, AllocError>
+    pub fn issue(&mut self, word: u64) -> Result<Nonce, Deny>
+        requires fits { write_refusal self.old (Issue (next_issue self.old.records) word) ≡ None }
         ensures number { IfOk result (λ n. n.number ≡ next_issue self.old.records) }
         ensures text { IfOk result (λ n. n.text ≡ nonce_text n.number word) }
-        ensures ok { IfOk result (λ n. Writes self.old self.new (Issue n.number word) None) }
-        ensures err { OnErr result (IsSame self.old self.new) }
+        ensures wrote { Wrote result self.old self.new (Issue (next_issue self.old.records) word) None }
+        ensures err { IfErr result IsWriteFault }
+        ensures cause { result ≡ Err Deny.Disk → Rose (D.faults self.old.disk) (D.faults self.new.disk) }
+        ensures faults { D.faults self.old.disk ≤ D.faults self.new.disk }
+        ensures told { is_some (D.held self.new.disk) ≡ is_some (D.held self.old.disk) }
     {
         let number = self.next_issue();
         let nonce = Nonce::of(self.alloc, number, word)?;
-        self.records.push(Rec::Issue { number, word })?;
+        let place = append(&mut self.journal, Rec::Issue { number, word })?;
         self.issues = number;
-        self.mark = self.records.len() as u64;
-        self.live = Some(Live {
-            place: self.mark,
-            nonce,
-        });
+        self.mark = place;
+        self.live = Some(Live { place, nonce });
         self.bound = None;
         Ok(nonce)
     }
 
     /// The live nonce is cleared.
-    pub fn clear(&mut self) -> Result<(), AllocError>
-        ensures ok { OnOk result (Writes self.old self.new Clear None) }
-        ensures err { OnErr result (IsSame self.old self.new) }
+    pub fn clear(&mut self) -> Result<(), Deny>
+        requires fits { write_refusal self.old Clear ≡ None }
+        ensures wrote { Wrote result self.old self.new Clear None }
+        ensures err { IfErr result IsWriteFault }
+        ensures cause { result ≡ Err Deny.Disk → Rose (D.faults self.old.disk) (D.faults self.new.disk) }
+        ensures faults { D.faults self.old.disk ≤ D.faults self.new.disk }
+        ensures told { is_some (D.held self.new.disk) ≡ is_some (D.held self.old.disk) }
     {
-        self.records.push(Rec::Clear)?;
-        self.mark = self.records.len() as u64;
-        self.live = None;
-        self.bound = None;
-        Ok(())
-    }
-
-    /// The machine starts.
-    pub fn boot(&mut self, places: Places) -> Result<(), AllocError>
-        ensures ok { OnOk result (Writes self.old self.new (Boot places) None) }
-        ensures err { OnErr result (IsSame self.old self.new) }
-    {
-        self.records.push(Rec::Boot { places })?;
-        self.mark = self.records.len() as u64;
+        self.mark = append(&mut self.journal, Rec::Clear)?;
         self.live = None;
         self.bound = None;
         Ok(())
     }
 
     /// A token is bound to the live nonce, which had none. Nothing was presented for it.
-    pub fn bind(&mut self, token: Text, amounts: Amounts) -> Result<(), AllocError>
+    pub fn bind(&mut self, token: Text, amounts: Amounts) -> Result<(), Deny>
+        requires fits { write_refusal self.old (Bind token) ≡ None }
         requires live { (p : ℕ) × (live_of self.old.records ≡ Some p) }
         requires free { bound_token self.old.records ≡ None }
         requires fresh { (c : List ℕ) → presented_in self.old.units self.old.records c ≡ 0 }
-        ensures ok { OnOk result (Writes self.old self.new (Bind token) (Some amounts)) }
-        ensures err { OnErr result (IsSame self.old self.new) }
+        ensures wrote { Wrote result self.old self.new (Bind token) (Some amounts) }
+        ensures err { IfErr result IsWriteFault }
+        ensures cause { result ≡ Err Deny.Disk → Rose (D.faults self.old.disk) (D.faults self.new.disk) }
+        ensures faults { D.faults self.old.disk ≤ D.faults self.new.disk }
+        ensures told { is_some (D.held self.new.disk) ≡ is_some (D.held self.old.disk) }
     {
-        self.records.push(Rec::Bind { token })?;
+        let place = append(&mut self.journal, Rec::Bind { token })?;
         self.bound = Some(Bound {
-            place: self.records.len() as u64,
+            place,
             amounts,
             presented: [0; 9],
         });
@@ -223,40 +278,115 @@ impl Ledger {
     }
 
     /// The operator added notes to a unit.
-    pub fn load(&mut self, unit: u8, count: u32) -> Result<(), AllocError>
-        ensures ok { OnOk result (Writes self.old self.new (Load unit count) self.old.bound) }
-        ensures err { OnErr result (IsSame self.old self.new) }
+    pub fn load(&mut self, unit: u8, count: u32) -> Result<(), Deny>
+        requires unit { HasUnit (Load unit count) }
+        requires fits { write_refusal self.old (Load unit count) ≡ None }
+        ensures wrote { Wrote result self.old self.new (Load unit count) self.old.bound }
+        ensures err { IfErr result IsWriteFault }
+        ensures cause { result ≡ Err Deny.Disk → Rose (D.faults self.old.disk) (D.faults self.new.disk) }
+        ensures faults { D.faults self.old.disk ≤ D.faults self.new.disk }
+        ensures told { is_some (D.held self.new.disk) ≡ is_some (D.held self.old.disk) }
     {
-        self.records.push(Rec::Load { unit, count })?;
+        append(&mut self.journal, Rec::Load { unit, count })?;
         Ok(())
     }
 
     /// Makes room for two more records.
-    pub fn reserve_two(&mut self) -> Result<(), AllocError>
+    pub fn reserve_two(&mut self) -> Result<(), Memory>
         ensures ok { OnOk result (2 ≤ self.new.room) }
         ensures same { IsSame self.old self.new }
     {
-        self.records.reserve(2)
+        self.journal.reserve(2)
     }
 
-    /// An order is written.
-    pub fn order(&mut self, kind: Kind, counts: Counts)
-        requires { 0 < self.old.room }
-        ensures written { Writes self.old self.new (Order kind counts) self.old.bound }
-        ensures room { self.new.room + 1 ≡ self.old.room }
+    /// An order is written. It takes no memory.
+    pub fn order(&mut self, kind: Kind, counts: Counts) -> Result<(), Deny>
+        requires fits { write_refusal self.old (Order kind counts) ≡ None }
+        requires room { 0 < self.old.room }
+        ensures wrote { Wrote result self.old self.new (Order kind counts) self.old.bound }
+        ensures err { IfErr result (λ e. e ≡ Deny.Disk) }
+        ensures room { self.old.room ≤ self.new.room + 1 }
+        ensures cause { result ≡ Err Deny.Disk → Rose (D.faults self.old.disk) (D.faults self.new.disk) }
+        ensures faults { D.faults self.old.disk ≤ D.faults self.new.disk }
+        ensures told { is_some (D.held self.new.disk) ≡ is_some (D.held self.old.disk) }
     {
-        self.records.push_reserved(Rec::Order { kind, counts });
+        append(&mut self.journal, Rec::Order { kind, counts })?;
+        Ok(())
     }
 
-    /// What the order that stands last did.
-    pub fn done(&mut self, kind: Kind, moved: Counts, diverted: Counts)
+    /// What the order that stands last did. It takes no memory.
+    pub fn done(&mut self, kind: Kind, moved: Counts, diverted: Counts) -> Result<(), Deny>
+        requires fits { write_refusal self.old (Done moved diverted) ≡ None }
         requires room { 0 < self.old.room }
         requires ordered { (counts : Counts) × (record_at self.old.records (length self.old.records) ≡ Some (Order kind counts)) }
         requires small { kind ≡ Kind.Present → (c : List ℕ) → presented_in self.old.units self.old.records c + value self.old.units moved c < 2 ^ 64 }
-        ensures written { Writes self.old self.new (Done moved diverted) self.old.bound }
+        ensures wrote { Wrote result self.old self.new (Done moved diverted) self.old.bound }
+        ensures err { IfErr result (λ e. e ≡ Deny.Disk) }
+        ensures cause { result ≡ Err Deny.Disk → Rose (D.faults self.old.disk) (D.faults self.new.disk) }
+        ensures faults { D.faults self.old.disk ≤ D.faults self.new.disk }
+        ensures told { is_some (D.held self.new.disk) ≡ is_some (D.held self.old.disk) }
     {
+        append(&mut self.journal, Rec::Done { moved, diverted })?;
         self.bound = paid(self.bound.take(), kind, &moved, &self.units);
-        self.records.push_reserved(Rec::Done { moved, diverted });
+        Ok(())
+    }
+}
+
+// How many issues there are.
+fn issues_of(records: &[Rec]) -> u64
+    ensures issues { result + 1 ≡ next_issue records.now }
+    ensures few { result ≤ length records.now }
+{
+    let mut issues = 0;
+    for i in 0..records.len() {
+        if matches!(records[i], Rec::Issue { .. }) {
+            issues += 1;
+        }
+    }
+    issues
+}
+
+// Appends the Boot of a journal that was just mounted.
+fn append_boot<D: Disk>(journal: &mut Journal<D>, places: Places) -> Result<u64, BootFault>
+    requires { journal.old.shut ≡ false }
+    ensures number { IfOk result (λ n. n ≡ length journal.old.records + 1) }
+    ensures ok { OnOk result ((journal.new.records ≡ journal.old.records ++ Boot places ∷ []) × (journal.new.shut ≡ false) × (journal.new.in_doubt ≡ None)) }
+    ensures full { result ≡ Err BootFull ↔ (refusal journal.old (Boot places) ≡ Some AppendFull) }
+    ensures disk { result ≡ Err BootDisk → Rose (D.faults journal.old.disk) (D.faults journal.new.disk) }
+    ensures not_mounted { IfErr result (λ f. (at : ℕ) → f ≢ NotJournal at) }
+    ensures limits { journal.new.limits ≡ journal.old.limits }
+    ensures faults { D.faults journal.old.disk ≤ D.faults journal.new.disk }
+{
+    match journal.append(Rec::Boot { places }) {
+        Ok(number) => Ok(number),
+        Err(AppendFault::Full) => Err(BootFault::Full),
+        Err(AppendFault::Memory) => Err(BootFault::Memory),
+        Err(AppendFault::Disk) => Err(BootFault::Disk),
+        Err(AppendFault::Shut) => unreachable!(),
+    }
+}
+
+// Appends a record that no limit refuses, and answers its number.
+fn append<D: Disk>(journal: &mut Journal<D>, rec: Rec) -> Result<u64, Deny>
+    requires unit { HasUnit rec }
+    requires fits { refusal journal.old rec ≡ None }
+    ensures number { IfOk result (λ n. n ≡ length journal.old.records + 1) }
+    ensures ok { OnOk result ((journal.new.records ≡ journal.old.records ++ rec ∷ []) × (journal.new.shut ≡ false) × (journal.new.in_doubt ≡ None)) }
+    ensures err { IfErr result IsWriteFault }
+    ensures same { OnErr result (journal.new.records ≡ journal.old.records) }
+    ensures memory { result ≡ Err Deny.Memory → (journal.new.disk ≡ journal.old.disk) × (journal.new.shut ≡ journal.old.shut) × (journal.new.in_doubt ≡ journal.old.in_doubt) }
+    ensures disk { result ≡ Err Deny.Disk → (journal.new.shut ≡ true) × (journal.new.in_doubt ≡ Some rec) × Rose (D.faults journal.old.disk) (D.faults journal.new.disk) }
+    ensures reserved { 1 ≤ journal.old.room → IfErr result (λ e. e ≡ Deny.Disk) }
+    ensures limits { journal.new.limits ≡ journal.old.limits }
+    ensures room { journal.old.room ≤ journal.new.room + 1 }
+    ensures faults { D.faults journal.old.disk ≤ D.faults journal.new.disk }
+    ensures told { is_some (D.held journal.new.disk) ≡ is_some (D.held journal.old.disk) }
+{
+    match journal.append(rec) {
+        Ok(number) => Ok(number),
+        Err(AppendFault::Memory) => Err(Deny::Memory),
+        Err(AppendFault::Disk) => Err(Deny::Disk),
+        Err(AppendFault::Shut | AppendFault::Full) => unreachable!(),
     }
 }
 

@@ -1,6 +1,6 @@
 //! What customers and operators do with notes: the guard's reports of it, and the record of a loading.
 
-ghost use Rattle.std.specs.Prelude.{◌≡◌, ◌≢◌, ◌↔◌, ◌≤◌, true, [], ◌∷◌, ◌++◌, length, Some, OnOk, OnErr, IfOk, IfErr, IsTrue};
+ghost use Rattle.std.specs.Prelude.{◌≡◌, ◌≢◌, ◌↔◌, ◌≤◌, true, [], ◌∷◌, ◌++◌, length, Some, Err, OnOk, OnErr, IfOk, IfErr, IsTrue};
 ghost use Rattle.xfs_base.specs.Causes.{Rose};
 ghost use Rattle.xfs_base.specs.Counts.{LiesIn};
 ghost use Rattle.xfs_base.specs.declared.counts.Kind.TheVariants.{Retract};
@@ -9,18 +9,21 @@ ghost use Rattle.xfs_mech.specs.declared.motion.Motion.TheVariants.{Taken, Loade
 ghost use Rattle.xfs_journal.specs.declared.record.Rec.TheVariants.{Load};
 ghost use Rattle.xfs_guard.specs.declared.open.Open.TheVariants.{No};
 ghost use Rattle.xfs_guard.specs.Orders.{kind_unacted};
+ghost use Rattle.xfs_guard.specs.Fits.{unfit};
+ghost use Rattle.xfs_guard.specs.Refusals.{Answers};
 ghost use Rattle.xfs_guard.specs.Reports.{HasReported};
 ghost use Rattle.xfs_guard.specs.Continues.{Continues};
 
 use crate::{Deny, Guard};
 use xfs_base::Memory;
+use xfs_disk::Disk;
 use xfs_mech::{Mechanism, Outcome, can_load};
 
-impl<M: Mechanism> Guard<M> {
+impl<M: Mechanism, D: Disk> Guard<M, D> {
     /// Whether the unit is in the table, which counts from 1, and the limits hold once so many notes
     /// were added to it: at most 10,000 notes in a unit, and 4,000,000,000 of it over the six places.
     pub fn room(&self, unit: u8, count: u32) -> bool
-        ensures { IsTrue result ↔ CanLoad self.now.units self.now.places unit count }
+        ensures { IsTrue result ↔ CanLoad self.now.state.units self.now.state.places unit count }
     {
         can_load(self.ledger.units(), &self.mech.survey(), unit, count)
     }
@@ -28,13 +31,13 @@ impl<M: Mechanism> Guard<M> {
     /// The customer took notes from the outlet, as many as the outcome says. The journal has nothing
     /// of it, and an order that is open stays so.
     pub fn taken(&mut self) -> Result<Outcome, Memory>
-        requires no_retract { kind_unacted self.old.open_order ≢ Some Retract }
-        ensures lie { IfOk result (λ o. LiesIn o.moved self.old.places.outlet) }
-        ensures ok { IfOk result (λ o. HasReported self.old self.new (Taken o.moved) o.moved o.diverted o.failed) }
-        ensures later { self.old.faults ≤ self.new.faults }
-        ensures cause { IfOk result (λ o. o.failed ≡ true → Rose self.old.faults self.new.faults) }
-        ensures err { OnErr result (self.new ≡ self.old) }
-        ensures continues { OnOk result (Continues self.old self.new) }
+        requires no_retract { kind_unacted self.old.state.open_order ≢ Some Retract }
+        ensures lie { IfOk result (λ o. LiesIn o.moved self.old.state.places.outlet) }
+        ensures ok { IfOk result (λ o. HasReported self.old.state self.new.state (Taken o.moved) o.moved o.diverted o.failed) }
+        ensures later { self.old.state.faults ≤ self.new.state.faults }
+        ensures cause { IfOk result (λ o. o.failed ≡ true → Rose self.old.state.faults self.new.state.faults) }
+        ensures err { OnErr result (self.new.state ≡ self.old.state) }
+        ensures continues { OnOk result (Continues self.old.state self.new.state) }
     {
         self.mech.ready()?;
         Ok(self.mech.taken())
@@ -43,28 +46,35 @@ impl<M: Mechanism> Guard<M> {
     /// The operator adds so many notes to a unit, which counts from 1. The journal has nothing of it
     /// until `note_load`, and an order that is open stays so.
     pub fn load(&mut self, unit: u8, count: u32) -> Result<Outcome, Memory>
-        requires fits { CanLoad self.old.units self.old.places unit count }
+        requires fits { CanLoad self.old.state.units self.old.state.places unit count }
         ensures loaded { IfOk result (λ o. Loads unit count o.moved o.failed) }
-        ensures ok { IfOk result (λ o. HasReported self.old self.new (Loaded unit count) o.moved o.diverted o.failed) }
-        ensures later { self.old.faults ≤ self.new.faults }
-        ensures cause { IfOk result (λ o. o.failed ≡ true → Rose self.old.faults self.new.faults) }
-        ensures err { OnErr result (self.new ≡ self.old) }
-        ensures continues { OnOk result (Continues self.old self.new) }
+        ensures ok { IfOk result (λ o. HasReported self.old.state self.new.state (Loaded unit count) o.moved o.diverted o.failed) }
+        ensures later { self.old.state.faults ≤ self.new.state.faults }
+        ensures cause { IfOk result (λ o. o.failed ≡ true → Rose self.old.state.faults self.new.state.faults) }
+        ensures err { OnErr result (self.new.state ≡ self.old.state) }
+        ensures continues { OnOk result (Continues self.old.state self.new.state) }
     {
         self.mech.ready()?;
         Ok(self.mech.load(unit, count))
     }
 
-    /// Writes down that the operator added so many notes to a unit, which counts from 1.
+    /// Writes down that the operator added so many notes to a unit, which counts from 1. After `Disk`
+    /// the journal is shut.
     pub fn note_load(&mut self, unit: u8, count: u32) -> Result<(), Deny>
-        requires none { self.old.open_order ≡ No }
+        requires none { self.old.state.open_order ≡ No }
         requires low { 1 ≤ unit }
-        requires high { unit ≤ length self.old.units }
-        ensures ok { OnOk result (self.new ≡ record self.old { records = self.old.records ++ Load unit count ∷ [] }) }
-        ensures memory { IfErr result (λ e. e ≡ Deny.Memory) }
-        ensures err { OnErr result (self.new ≡ self.old) }
-        ensures continues { OnOk result (Continues self.old self.new) }
+        requires high { unit ≤ length self.old.state.units }
+        ensures refused { Answers result (unfit self.old.state) }
+        ensures ok { OnOk result (self.new.state ≡ record self.old.state { records = self.old.state.records ++ Load unit count ∷ [] }) }
+        ensures disk { result ≡ Err Deny.Disk → self.new.state ≡ record self.old.state { shut = true; in_doubt = Some (Load unit count) } }
+        ensures cause { result ≡ Err Deny.Disk → Rose (D.faults self.old.disk) (D.faults self.new.disk) }
+        ensures same { IfErr result (λ e. e ≢ Deny.Disk → self.new ≡ self.old) }
+        ensures continues { Continues self.old.state self.new.state }
     {
+        if let Some(deny) = self.unfit() {
+            return Err(deny);
+        }
+        let _few = self.ledger.units().len();
         self.ledger.load(unit, count)?;
         Ok(())
     }

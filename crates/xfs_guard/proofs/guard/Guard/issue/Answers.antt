@@ -1,26 +1,51 @@
-use Rattle.std.proofs.Common.{◌≡◌, ◌∙◌, ap, refl, sym}
+use Rattle.std.proofs.Common.{◌≡◌, ◌≤◌, ◌∙◌, refl, sym, length, None, arith}
+use Rattle.xfs_journal.specs.Image.{body}
+use Rattle.xfs_journal.specs.Journal.{next_issue}
+use Rattle.xfs_guard.specs.declared.nonce.Nonce.{Nonce}
 use Rattle.xfs_guard.specs.declared.open.Open.TheVariants.{No}
-use Rattle.xfs_guard.specs.View.{View}
 use Rattle.xfs_journal.specs.declared.record.Rec.TheVariants.{Issue}
 use Rattle.xfs_guard.proofs.LedgerLaws.{live-issued}
-use Rattle.xfs_guard.proofs.ContinueLaws.{Continues-record}
+use Rattle.xfs_guard.proofs.ContinueLaws.{Continues-same, Continues-written}
+use Rattle.xfs_guard.proofs.KeptLaws.{IsKept-open, IsKept-refused, Continues-refused}
+use Rattle.xfs_guard.proofs.SizeLaws.{fit-at, takes-one, may-write}
 use Rattle.xfs_guard.proofs.RecordLaws.{IsSound-issue}
 use Rattle.xfs_guard.proofs.guard.Guard.issue.Goals as goal
 
+pub returns-in-Some-clause-continues : goal.returns-in-Some-clause-continues
+returns-in-Some-clause-continues g c = Continues-same _
+
+pub issue-requires : goal.issue-requires
+issue-requires g c =
+    let fit = fit-at _ _ c.self.view_is (sym c.unfit.ensures ∙ c.in_default.is) in
+    let short : length (body (Issue (next_issue c.self.inside.ledger.records) c.word_of-word.result)) ≤ 1025 = omega arith in record {
+      fits = may-write c.self.inside.ledger (Issue (next_issue c.self.inside.ledger.records) c.word_of-word.result) fit.0 (takes-one c.self.inside.ledger.limits c.self.inside.ledger.records (Issue (next_issue c.self.inside.ledger.records) c.word_of-word.result) fit.1 short);
+    }
+
+pub invariant_of-self : goal.invariant_of-self
+invariant_of-self g c =
+    let none : c.self.inside.open_order ≡ No = rw (← c.self.view_is) at c.requires in
+    let fit = fit-at _ _ c.self.view_is (sym c.unfit.ensures ∙ c.in_default.is) in
+    IsKept-refused Nonce c.in_err-issue.field-0.0 _ _ _ _ _ _ c.self.inside.ledger c.issue.new.self _ None _ _ _ _ _ _ c.in_err-issue.ensures.wrote c.in_err-issue.ensures.err c.issue.ensures.told none c.self.invariant fit.0
+    (IsSound-issue _ _ c.word_of-word.result (c.self.invariant.sound fit.0) none refl)
+
+pub returns-in_err-issue-clause-continues : goal.returns-in_err-issue-clause-continues
+returns-in_err-issue-clause-continues g c =
+    rw (← c.self.view_is) (Continues-refused Nonce c.in_err-issue.field-0.0 _ _ _ _ _ _ c.self.inside.ledger c.issue.new.self _ None _ _ c.in_err-issue.ensures.wrote c.in_err-issue.ensures.err)
+
 pub invariant_of-self-2 : goal.invariant_of-self-2
 invariant_of-self-2 g c =
-    let none : c.self.inside.open_order ≡ No = ap (λ (v : View). v.open_order) c.self.view_is ∙ c.requires in
-    let w = c.in_ok-issue.ensures.ok in record {
-      sound = rw (w.records, w.units, w.bound_is, none) (IsSound-issue _ c.in_ok-issue.field-0.number c.word_of-word.result c.self.invariant.sound none c.in_ok-issue.ensures.number);
-      room = rw none tt;
-      units = c.self.invariant.units ∙ sym w.units;
-    }
+    let none : c.self.inside.open_order ≡ No = rw (← c.self.view_is) at c.requires in
+    let fit = fit-at _ _ c.self.view_is (sym c.unfit.ensures ∙ c.in_default.is) in
+    let w = c.in_ok-issue.ensures.wrote in
+    rw (w.records, w.units, w.bound_is, w.limits, w.open_still, w.in_doubt, c.issue.ensures.told, none)
+    (IsKept-open _ _ _ _ (IsSound-issue _ _ c.word_of-word.result (c.self.invariant.sound fit.0) none refl) tt tt c.self.invariant.units)
 
 pub returns-clause-live : goal.returns-clause-live
 returns-clause-live g c =
-    rw c.in_ok-issue.ensures.ok.records (live-issued c.self.inside.ledger.records c.in_ok-issue.field-0.number c.word_of-word.result c.in_ok-issue.field-0 c.in_ok-issue.ensures.text refl)
+    rw c.in_ok-issue.ensures.wrote.records (live-issued c.self.inside.ledger.records _ c.word_of-word.result c.in_ok-issue.field-0 (rw c.in_ok-issue.ensures.number at c.in_ok-issue.ensures.text) c.in_ok-issue.ensures.number)
 
 pub returns-clause-continues : goal.returns-clause-continues
 returns-clause-continues g c =
-    let w = c.in_ok-issue.ensures.ok in
-    rw (← c.self.view_is, w.records, w.units, w.bound_is) (Continues-record _ (Issue c.in_ok-issue.field-0.number c.word_of-word.result) _ c.self.inside.open_order c.self.invariant.sound (λ p e. cc))
+    let w = c.in_ok-issue.ensures.wrote in
+    rw (← c.self.view_is, w.records, w.units, w.bound_is, w.limits, w.open_still, w.in_doubt, c.issue.ensures.told)
+    (Continues-written _ (Issue _ c.word_of-word.result) None c.self.inside.open_order (λ p e. cc))

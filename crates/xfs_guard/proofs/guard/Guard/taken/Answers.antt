@@ -1,6 +1,6 @@
 use Rattle.std.proofs.Common.{◌∙◌, refl}
 use Rattle.xfs_mech.specs.declared.motion.Motion.TheVariants.{Taken}
-use Rattle.xfs_guard.proofs.ReportLaws.{IsSound-report, HasRoom-report, Continues-report, taken-leaves}
+use Rattle.xfs_guard.proofs.ReportLaws.{IsSound-report, IsRecorded-report, HasRoom-report, HasLimits-report, Continues-report, taken-leaves}
 use Rattle.xfs_guard.proofs.guard.Guard.taken.Goals as goal
 
 pub invariant_of-self-2 : goal.invariant_of-self-2
@@ -8,9 +8,13 @@ invariant_of-self-2 g c =
     let reported = rw (c.ready.ensures.motions, c.ready.ensures.places) at c.taken.ensures.reported in
     let other = rw (← c.self.view_is) at c.requires.no_retract in
     record {
-      sound = IsSound-report _ (Taken c.taken.result.moved) c.taken.result.moved c.taken.result.diverted c.taken.result.failed
+      sound = λ still. IsSound-report _ (Taken c.taken.result.moved) c.taken.result.moved c.taken.result.diverted c.taken.result.failed
           (g.M.Mechanism.motions c.taken.new.self) (g.M.Mechanism.places c.taken.new.self) (g.M.Mechanism.faults c.taken.new.self)
-          (g.M.Mechanism.room c.ready.new.self) (g.M.Mechanism.room c.taken.new.self) c.self.invariant.sound tt reported (taken-leaves c.self.inside.open_order c.taken.result.moved _ _ other);
+          (g.M.Mechanism.room c.ready.new.self) (g.M.Mechanism.room c.taken.new.self) (c.self.invariant.sound still) tt reported (taken-leaves c.self.inside.open_order c.taken.result.moved _ _ other);
+      clean = c.self.invariant.clean;
+      closed = c.self.invariant.closed;
+      recorded = λ told J p. IsRecorded-report _ _ J (Taken c.taken.result.moved) c.taken.result.moved c.taken.result.diverted c.taken.result.failed _ _ _ _ _ _ tt reported (c.self.invariant.recorded told J p);
+      limits = HasLimits-report c.self.inside.open_order _ _ _ _ c.self.invariant.limits;
       room = HasRoom-report c.self.inside.open_order (Taken c.taken.result.moved) c.taken.result.moved c.taken.result.diverted c.taken.result.failed
           _ _ _ _ (g.M.Mechanism.room c.self.inside.mech) _ _ c.self.inside.ledger.room c.self.invariant.room c.in_ok-ready.ensures.room reported;
       units = c.taken.ensures.units ∙ (c.ready.ensures.units ∙ c.self.invariant.units);
@@ -26,4 +30,4 @@ returns-clause-continues g c =
     let reported = rw (c.ready.ensures.motions, c.ready.ensures.places) at c.taken.ensures.reported in
     rw (← c.self.view_is) (Continues-report _ (Taken c.taken.result.moved) c.taken.result.moved c.taken.result.diverted c.taken.result.failed
     (g.M.Mechanism.motions c.taken.new.self) (g.M.Mechanism.places c.taken.new.self) (g.M.Mechanism.faults c.taken.new.self)
-    (g.M.Mechanism.room c.ready.new.self) (g.M.Mechanism.room c.taken.new.self) c.self.invariant.sound tt reported)
+    (g.M.Mechanism.room c.ready.new.self) (g.M.Mechanism.room c.taken.new.self) tt reported)

@@ -1,9 +1,9 @@
-use Rattle.std.proofs.Common.{◌≡◌, ◌+◌, length, refl, arith}
+use Rattle.std.proofs.Common.{refl}
 use Rattle.xfs_journal.specs.declared.record.Rec.TheVariants.{Boot}
-use Rattle.xfs_guard.proofs.LedgerLaws.{IsRead-end}
+use Rattle.xfs_guard.proofs.LedgerLaws.{IsRead-mark}
 use Rattle.xfs_guard.proofs.ledger.Ledger.boot.Goals as goal
 
-pub invariant_of-self-2 : goal.invariant_of-self-2
-invariant_of-self-2 c =
-    let place : c.len.result ≡ length c.self.inside.records.items + 1 = omega (arith, c.len.ensures, c.in_ok-push.ensures.len, c.self.inside.records.ok.0) in
-    rw (c.in_ok-push.ensures.items, place) (IsRead-end _ _ _ _ _ _ (Boot c.args.places) c.self.invariant (λ k. refl) (λ k x. refl) (λ k x. refl))
+pub invariant_of-result : goal.invariant_of-result
+invariant_of-result g c =
+    let w = c.in-Ok-append_boot.ensures in
+    rw (w.ok.0, w.number) (IsRead-mark _ _ _ (Boot c.args.places) (rw c.records.ensures at c.issues_of-issues.ensures.issues) (rw c.records.ensures at c.issues_of-issues.ensures.few) (λ k. refl) (λ k x. refl) (λ k x. refl))

@@ -1,9 +1,9 @@
-use Rattle.std.proofs.Common.{◌≡◌, ◌+◌, length, refl, arith}
+use Rattle.std.proofs.Common.{refl}
 use Rattle.xfs_journal.specs.declared.record.Rec.TheVariants.{Clear}
-use Rattle.xfs_guard.proofs.LedgerLaws.{IsRead-end}
+use Rattle.xfs_guard.proofs.LedgerLaws.{IsRead-mark}
 use Rattle.xfs_guard.proofs.ledger.Ledger.clear.Goals as goal
 
 pub invariant_of-self-2 : goal.invariant_of-self-2
-invariant_of-self-2 c =
-    let place : c.len.result ≡ length c.self.inside.records.items + 1 = omega (arith, c.len.ensures, c.in_ok-push.ensures.len, c.self.inside.records.ok.0) in
-    rw (c.in_ok-push.ensures.items, place) (IsRead-end _ _ _ _ _ _ Clear c.self.invariant (λ k. refl) (λ k x. refl) (λ k x. refl))
+invariant_of-self-2 g c =
+    let w = c.in_ok-self-inside.ensures in
+    rw (w.ok.0, w.number) (IsRead-mark _ _ _ Clear c.self.invariant.issued c.self.invariant.few (λ k. refl) (λ k x. refl) (λ k x. refl))

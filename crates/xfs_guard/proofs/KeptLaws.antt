@@ -1,0 +1,156 @@
+-- What a guard is after a record was written, and after the disk failed.
+use Rattle.std.proofs.Common.{◌≡◌, ◌⊎◌, inl, inr, ⊎_elim, ℕ, Bool, true, false, List, [], ◌∷◌, ◌++◌, None, Some, Err, refl, sym, true≢false}
+use Rattle.std.specs.declared.option.Option.{Option}
+use Rattle.xfs_base.specs.Causes.{IfTold}
+use Rattle.xfs_base.specs.declared.money.NoteKind.{NoteKind}
+use Rattle.xfs_base.specs.declared.counts.Places.{Places}
+use Rattle.xfs_mech.specs.declared.motion.Motion.{Motion}
+use Rattle.xfs_journal.specs.JournalView.{IsPossible}
+use Rattle.xfs_journal.specs.declared.record.Rec.{Rec}
+use Rattle.xfs_guard.specs.declared.open.Open.{Open}
+use Rattle.xfs_guard.specs.declared.open.Open.TheVariants.{No, Written, Acted}
+use Rattle.xfs_guard.specs.View.{View}
+use Rattle.xfs_guard.specs.Agrees.{Agrees}
+use Rattle.xfs_guard.specs.Within.{Within}
+use Rattle.xfs_guard.specs.Recorded.{IsRecorded}
+use Rattle.xfs_guard.specs.Kept.{HasRoom, HasLimits, IsKept}
+use Rattle.xfs_guard.specs.Budget.{Budget}
+use Rattle.xfs_guard.specs.Sound.{Ties, where_told, IsSound}
+use Rattle.xfs_guard.specs.declared.deny.Deny.{Deny}
+use Rattle.xfs_guard.specs.declared.deny.Deny.TheVariants.{Disk, Memory}
+use Rattle.xfs_guard.specs.LedgerView.{LedgerView, Wrote, IsWriteFault}
+use Rattle.xfs_guard.specs.Continues.{Leads, Continues}
+use Rattle.xfs_guard.proofs.FollowsLaws.{Follows-same}
+use Rattle.xfs_guard.proofs.RecordLaws.{longer}
+
+told-at : (b : Bool) (v : View) (m : Option (List Motion)) → b ≡ true → IfTold (where_told b m) (Ties v) → IfTold m (Ties v)
+told-at true v m e t = t
+told-at false v m e t = absurd (true≢false (sym e))
+
+-- the journal's list agrees with the mechanism's
+pub recorded-sound : (v : View) → IsSound v → v.disk_told ≡ true → IsRecorded v.key v.units v.records v.motions
+recorded-sound v s is = let told = told-at v.disk_told v v.motions is s.told in record { numbered = s.numbered is; agrees = agrees v.motions told; within = within v.motions told }
+  where
+    agrees : (m : Option (List Motion)) → IfTold m (Ties v) → IfTold m (Agrees v.records)
+    agrees None t = tt
+    agrees (Some L) t = t.agrees
+
+    within : (m : Option (List Motion)) → IfTold m (Ties v) → IfTold m (Within v.key v.units v.records)
+    within None t = tt
+    within (Some L) t = t.within
+
+-- whether the journal is shut, and which record is in doubt, changes nothing of what is sound
+pub IsSound-stored : (v : View) (s : Bool) (d : Option Rec) → IsSound v → IsSound (record v { shut = s; in_doubt = d })
+IsSound-stored v s d h = record {
+  numbered = h.numbered;
+  stands = h.stands;
+  budget = record {
+    funded = λ p b lives bound.
+        let f = h.budget.funded p b lives bound in record { token = f.token; carries = f.carries; amounts = f.amounts; amounts_are = f.amounts_are; kept = f.kept; enough = f.enough };
+    unbound = h.budget.unbound;
+    dead = h.budget.dead;
+  };
+  told = go (where_told v.disk_told v.motions) h.told;
+}
+  where
+    go : (m : Option (List Motion)) → IfTold m (Ties v) → IfTold m (Ties (record v { shut = s; in_doubt = d }))
+    go None t = tt
+    go (Some L) t = record { agrees = t.agrees; within = t.within; counted = t.counted; acted = t.acted }
+
+-- a guard whose journal is open
+pub IsKept-open : (v : View) (spare left : ℕ) (kinds : List NoteKind) → IsSound v → HasRoom v.open_order spare left → HasLimits v.open_order v → kinds ≡ v.units
+    → IsKept (record v { shut = false; in_doubt = None }) spare left kinds
+IsKept-open v spare left kinds s room limits units = record {
+  sound = λ e. IsSound-stored v false None s;
+  clean = λ e. refl;
+  closed = λ e. absurd (true≢false (sym e));
+  recorded = λ told J p. ⊎_elim (λ same. rw same (recorded-sound v s told)) (λ doubt. absurd (none doubt.0 doubt.1)) p;
+  room = room;
+  limits = has v.open_order limits;
+  units = units;
+}
+  where
+    none : (r : Rec) → None ≡ Some r → ⊥
+    none r e = cc
+
+    has : (o : Open) → HasLimits o v → HasLimits o (record v { shut = false; in_doubt = None })
+    has No h = tt
+    has (Written k c) h = h
+    has (Acted k m d failed) h = h
+
+-- a guard whose disk failed at a record
+pub IsKept-doubted : (v : View) (r : Rec) (w : Option (List (List ℕ × ℕ))) (o : Open) (spare left : ℕ) (kinds : List NoteKind) → IsSound v → IsSound (longer v r w o) → kinds ≡ v.units
+    → IsKept (record v { shut = true; in_doubt = Some r; open_order = No }) spare left kinds
+IsKept-doubted v r w o spare left kinds s t units = record {
+  sound = λ e. absurd (true≢false e);
+  clean = λ e. absurd (true≢false e);
+  closed = λ e. refl;
+  recorded = λ told J p. ⊎_elim (λ same. rw same (recorded-sound v s told)) (λ doubt. rw (doubt.2, ← (some doubt.0 doubt.1)) (recorded-sound (longer v r w o) t told)) p;
+  room = tt;
+  limits = tt;
+  units = units;
+}
+  where
+    some : (x : Rec) → Some r ≡ Some x → r ≡ x
+    some x e = cc
+
+-- a guard's view with what this ledger has
+abbrev pub over : {D : Type 0} → List ℕ → List ℕ → Open → Option (List Motion) → Places → ℕ → LedgerView D → Bool → View
+over key seed o motions places faults l told = record {
+  key = key;
+  seed = seed;
+  units = l.units;
+  records = l.records;
+  bound = l.bound;
+  open_order = o;
+  motions = motions;
+  places = places;
+  faults = faults;
+  limits = l.limits;
+  shut = l.shut;
+  in_doubt = l.in_doubt;
+  disk_told = told;
+}
+
+-- a call that writes and has no order open, where memory ran out or the disk failed
+pub IsKept-refused : (T : Type 0) {D : Type 0} (e : Deny) (key seed : List ℕ) (o : Open) (motions : Option (List Motion)) (places : Places) (faults : ℕ) (old new : LedgerView D) (r : Rec)
+    (w : Option (List (List ℕ × ℕ))) (was told : Bool) (spare room left : ℕ) (kinds : List NoteKind)
+    → Wrote {T = T} (Err e) old new r w → IsWriteFault e → told ≡ was → o ≡ No → IsKept (over key seed o motions places faults old was) spare room kinds → old.shut ≡ false
+    → IsSound (longer (over key seed o motions places faults old was) r w No) → IsKept (over key seed o motions places faults new told) spare left kinds
+IsKept-refused T e key seed o motions places faults old new r w was told spare room left kinds wrote why same none kept open_still sound = ⊎_elim memory disk why
+  where
+    memory : e ≡ Memory → IsKept (over key seed o motions places faults new told) spare left kinds
+    memory is = let s = rw is at wrote in
+        rw (s.records, s.units, s.bound, s.limits, s.shut, s.in_doubt, same) (record {
+          sound = kept.sound;
+          clean = kept.clean;
+          closed = kept.closed;
+          recorded = kept.recorded;
+          room = rw none tt;
+          limits = kept.limits;
+          units = kept.units;
+        })
+
+    disk : e ≡ Disk → IsKept (over key seed o motions places faults new told) spare left kinds
+    disk is = let s = rw is at wrote in
+        rw (s.records, s.units, s.bound, s.limits, s.shut, s.in_doubt, same, none)
+        (IsKept-doubted (over key seed o motions places faults old was) r w No spare left kinds (kept.sound open_still) sound kept.units)
+
+-- what follows then
+pub Continues-refused : (T : Type 0) {D : Type 0} (e : Deny) (key seed : List ℕ) (o : Open) (motions : Option (List Motion)) (places : Places) (faults : ℕ) (old new : LedgerView D) (r : Rec)
+    (w : Option (List (List ℕ × ℕ))) (was told : Bool)
+    → Wrote {T = T} (Err e) old new r w → IsWriteFault e → Continues (over key seed o motions places faults old was) (over key seed o motions places faults new told)
+Continues-refused T e key seed o motions places faults old new r w was told wrote why = ⊎_elim memory disk why
+  where
+    from : new.records ≡ old.records → new.units ≡ old.units → Continues (over key seed o motions places faults old was) (over key seed o motions places faults new told)
+    from J u = record { leads = go motions; key = refl; seed = refl; units = u }
+      where
+        go : (m : Option (List Motion)) → Leads (over key seed o motions places faults old was) (over key seed o motions places faults new told) m m
+        go None = tt
+        go (Some l) = λ known. record { follows = rw J (Follows-same old.records l places); known = rw J known }
+
+    memory : e ≡ Memory → Continues (over key seed o motions places faults old was) (over key seed o motions places faults new told)
+    memory is = let s = rw is at wrote in from s.records s.units
+
+    disk : e ≡ Disk → Continues (over key seed o motions places faults old was) (over key seed o motions places faults new told)
+    disk is = let s = rw is at wrote in from s.records s.units

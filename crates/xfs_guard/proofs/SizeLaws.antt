@@ -1,0 +1,76 @@
+-- How long the journal grows by one record, and that it takes one more while it is fit.
+use Rattle.std.proofs.Common.{◌≡◌, ℕ, ◌+◌, ◌-◌, ◌<◌, ◌≤◌, Bool, true, false, List, [], ◌∷◌, ◌++◌, length, None, Some, refl, arith, length-append}
+use Rattle.std.specs.Prelude.{nat_lt, ◌||◌, if◌then◌else◌}
+use Rattle.std.specs.Int.{to_be_bytes, w16}
+use Rattle.std.specs.declared.option.Option.{Option}
+use Rattle.std.proofs.lemmas.Bool.{ltb-false, ltb-true}
+use Rattle.xfs_journal.specs.Image.{body, framed, blocks, front, magic, size}
+use Rattle.xfs_journal.specs.JournalView.{passes}
+use Rattle.xfs_journal.specs.declared.limits.Limits.{Limits}
+use Rattle.xfs_journal.specs.declared.record.Rec.{Rec}
+use Rattle.xfs_guard.specs.declared.deny.Deny.{Deny}
+use Rattle.xfs_guard.specs.declared.deny.Deny.TheVariants as Deny
+use Rattle.xfs_guard.specs.Fits.{is_full, unfit}
+use Rattle.xfs_guard.specs.LedgerView.{LedgerView, write_refusal}
+use Rattle.xfs_guard.specs.View.{View, GuardView}
+
+framed-length : (r : Rec) → length (framed r) ≡ 2 + length (body r)
+framed-length r = omega (arith, length-append (to_be_bytes w16 (length (body r))) (body r))
+
+blocks-longer : (J : List Rec) (r : Rec) → length (blocks (J ++ r ∷ [])) ≡ length (blocks J) + (3 + length (body r))
+blocks-longer [] r = omega (arith, length-append (framed r) [], framed-length r)
+blocks-longer (x ∷ xs) r = omega (arith, length-append (framed x) (blocks (xs ++ r ∷ [])), length-append (framed x) (blocks xs), blocks-longer xs r)
+
+-- a record takes three bytes and its body
+pub size-longer : (J : List Rec) (r : Rec) → size (J ++ r ∷ []) ≡ size J + (3 + length (body r))
+size-longer J r = omega (arith, length-append magic (blocks (J ++ r ∷ [])), length-append magic (blocks J), blocks-longer J r)
+
+neither : (a b : Bool) → (a || b) ≡ false → (a ≡ false) × (b ≡ false)
+neither false false e = (refl, refl)
+neither false true e = (refl, e)
+neither true b e = absurd (no e)
+  where
+    no : true ≡ false → ⊥
+    no e = cc
+
+both : (a b : Bool) → a ≡ false → b ≡ false → (a || b) ≡ false
+both a b e f = rw (e, f) refl
+
+not-under : (a b : ℕ) → b ≤ a → nat_lt a b ≡ false
+not-under a b le = go (nat_lt a b) refl
+  where
+    go : (t : Bool) → nat_lt a b ≡ t → nat_lt a b ≡ false
+    go false e = e
+    go true e = let lt = ltb-true a b e in absurd (omega arith)
+
+-- a journal that is open and has room: neither shut nor full
+pub fit-parts : (v : View) → unfit v ≡ None → (v.shut ≡ false) × (is_full v ≡ false)
+fit-parts v e = go v.shut (is_full v) e
+  where
+    go : (s f : Bool) → (if s then Some Deny.Shut else if f then Some Deny.Full else None) ≡ None → (s ≡ false) × (f ≡ false)
+    go true f e = cc
+    go false true e = cc
+    go false false e = (refl, refl)
+
+-- it takes one more record of up to 1,025 bytes
+pub takes-one : (limits : Limits) (J : List Rec) (r : Rec) → (nat_lt (limits.records - length J) 3 || nat_lt (limits.bytes - size J) 2048) ≡ false → length (body r) ≤ 1025 → passes limits (J ++ r ∷ []) ≡ false
+takes-one limits J r free short =
+    let parts = neither (nat_lt (limits.records - length J) 3) (nat_lt (limits.bytes - size J) 2048) free in
+    let many = ltb-false (limits.records - length J) 3 parts.0 in
+    let bytes = ltb-false (limits.bytes - size J) 2048 parts.1 in
+    both (nat_lt limits.records (length (J ++ r ∷ []))) (nat_lt limits.bytes (size (J ++ r ∷ [])))
+    (not-under limits.records (length (J ++ r ∷ [])) (omega (arith, many, length-append J (r ∷ []))))
+    (not-under limits.bytes (size (J ++ r ∷ [])) (omega (arith, bytes, size-longer J r, short)))
+
+-- the same of a guard's view that stands for another
+pub fit-at : {D : Type 0} (a b : GuardView D) → a ≡ b → unfit b.state ≡ None → (a.state.shut ≡ false) × (is_full a.state ≡ false)
+fit-at a b e fit = fit-parts a.state (rw e fit)
+
+-- a journal that is open and takes one more record refuses none
+pub may-write : {D : Type 0} (l : LedgerView D) (r : Rec) → l.shut ≡ false → passes l.limits (l.records ++ r ∷ []) ≡ false → write_refusal l r ≡ None
+may-write l r e f = go l.shut (passes l.limits (l.records ++ r ∷ [])) e f
+  where
+    go : (s p : Bool) → s ≡ false → p ≡ false → (if s then Some Deny.Shut else if p then Some Deny.Full else None) ≡ None
+    go true p e f = cc
+    go false true e f = cc
+    go false false e f = refl

@@ -1,0 +1,9 @@
+/// Whether the journal takes more records.
+#[derive(Clone, Copy, Debug, PartialEq, Eq)]
+pub enum Fit {
+    Ready,
+    /// The disk failed, and the journal wasn't read again since.
+    Shut,
+    /// Fewer than 3 records or fewer than 2,048 bytes are left of the journal's limits.
+    Full,
+}
