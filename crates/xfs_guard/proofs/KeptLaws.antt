@@ -1,10 +1,15 @@
 -- What a guard is after a record was written, and after the disk failed.
-use Rattle.std.proofs.Common.{◌≡◌, ◌⊎◌, inl, inr, ⊎_elim, ℕ, Bool, true, false, List, [], ◌∷◌, ◌++◌, None, Some, Err, refl, sym, true≢false}
+use Rattle.std.proofs.Common.{◌≡◌, ◌⊎◌, inl, inr, ⊎_elim, ℕ, Bool, true, false, List, [], ◌∷◌, ◌++◌, None, Some, Err, length, refl, sym, ◌∙◌, true≢false}
 use Rattle.std.specs.declared.option.Option.{Option}
 use Rattle.xfs_base.specs.Causes.{IfTold}
 use Rattle.xfs_base.specs.declared.money.NoteKind.{NoteKind}
 use Rattle.xfs_base.specs.declared.counts.Places.{Places}
+use Rattle.xfs_base.specs.declared.counts.Counts.{Counts}
+use Rattle.xfs_base.specs.declared.counts.Kind.{Kind}
+use Rattle.xfs_mech.specs.Mechanism.{Grows, Carries as MayCarry}
+use Rattle.xfs_mech.specs.Motions.{PlacesOf}
 use Rattle.xfs_mech.specs.declared.motion.Motion.{Motion}
+use Rattle.xfs_mech.specs.declared.motion.Motion.TheVariants.{Moved}
 use Rattle.xfs_journal.specs.JournalView.{IsPossible}
 use Rattle.xfs_journal.specs.declared.record.Rec.{Rec}
 use Rattle.xfs_guard.specs.declared.open.Open.{Open}
@@ -21,6 +26,7 @@ use Rattle.xfs_guard.specs.declared.deny.Deny.TheVariants.{Disk, Memory}
 use Rattle.xfs_guard.specs.LedgerView.{LedgerView, Wrote, IsWriteFault}
 use Rattle.xfs_guard.specs.Continues.{Leads, Continues}
 use Rattle.xfs_guard.proofs.FollowsLaws.{Follows-same}
+use Rattle.xfs_guard.proofs.SoundLaws.{acted_view, IsSound-act}
 use Rattle.xfs_guard.proofs.RecordLaws.{longer}
 
 told-at : (b : Bool) (v : View) (m : Option (List Motion)) → b ≡ true → IfTold (where_told b m) (Ties v) → IfTold m (Ties v)
@@ -154,3 +160,36 @@ Continues-refused T e key seed o motions places faults old new r w was told wrot
 
     disk : e ≡ Disk → Continues (over key seed o motions places faults old was) (over key seed o motions places faults new told)
     disk is = let s = rw is at wrote in from s.records s.units
+
+-- an order is open only in a journal that is
+pub still-open : (shut : Bool) (o : Open) (k : Kind) (c : Counts) → (shut ≡ true → o ≡ No) → o ≡ Written k c → shut ≡ false
+still-open false o k c closed is = refl
+still-open true o k c closed is = let none : Written k c ≡ No = sym is ∙ closed refl in cc
+
+-- the written order was carried out
+pub IsKept-acted : (v : View) (k : Kind) (c m d : Counts) (failed : Bool) (now : Option (List Motion)) (Q : Places) (f spare was left : ℕ) (kinds before : List NoteKind)
+    → IsKept v was left before → v.open_order ≡ Written k c → MayCarry k c m d failed → Grows v.motions (Moved (length v.records) k m d) now
+    → PlacesOf v.places (Moved (length v.records) k m d ∷ []) Q → kinds ≡ v.units → IsKept (acted_view v k m d failed now Q f) spare left kinds
+IsKept-acted v k c m d failed now Q f spare was left kinds before kept written may grows places units = record {
+  sound = λ e. sound;
+  clean = kept.clean;
+  closed = λ e. absurd (true≢false (sym e ∙ still));
+  recorded = λ told J p. ⊎_elim (λ same. rw same (recorded-sound (acted_view v k m d failed now Q f) sound told)) (λ doubt. absurd (none doubt.0 (sym (kept.clean still) ∙ doubt.1))) p;
+  room = (rw written at kept.room).1;
+  limits = rw written at kept.limits;
+  units = units;
+}
+  where
+    still : v.shut ≡ false
+    still = still-open v.shut v.open_order k c kept.closed written
+
+    sound : IsSound (acted_view v k m d failed now Q f)
+    sound = IsSound-act v k c m d failed now Q f (kept.sound still) written may grows places
+
+    none : (r : Rec) → None ≡ Some r → ⊥
+    none r e = cc
+
+-- an acted order is open only in a journal that is
+pub still-acted : (shut : Bool) (o : Open) (k : Kind) (m d : Counts) (failed : Bool) → (shut ≡ true → o ≡ No) → o ≡ Acted k m d failed → shut ≡ false
+still-acted false o k m d failed closed is = refl
+still-acted true o k m d failed closed is = let none : Acted k m d failed ≡ No = sym is ∙ closed refl in cc

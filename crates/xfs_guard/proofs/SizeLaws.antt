@@ -4,7 +4,11 @@ use Rattle.std.specs.Prelude.{nat_lt, ◌||◌, if◌then◌else◌}
 use Rattle.std.specs.Int.{to_be_bytes, w16}
 use Rattle.std.specs.declared.option.Option.{Option}
 use Rattle.std.proofs.lemmas.Bool.{ltb-false, ltb-true}
-use Rattle.xfs_journal.specs.Image.{body, framed, blocks, front, magic, size}
+use Rattle.xfs_base.specs.declared.counts.Counts.{Counts}
+use Rattle.xfs_base.specs.declared.counts.Kind.{Kind}
+use Rattle.xfs_journal.specs.Image.{counts_bytes, body, framed, blocks, front, magic, size}
+use Rattle.xfs_journal.proofs.Decoding.{length-numbers}
+use Rattle.xfs_journal.specs.declared.record.Rec.TheVariants.{Order, Done}
 use Rattle.xfs_journal.specs.JournalView.{passes}
 use Rattle.xfs_journal.specs.declared.limits.Limits.{Limits}
 use Rattle.xfs_journal.specs.declared.record.Rec.{Rec}
@@ -74,3 +78,25 @@ may-write l r e f = go l.shut (passes l.limits (l.records ++ r ∷ [])) e f
     go true p e f = cc
     go false true e f = cc
     go false false e f = refl
+
+pub order-short : (k : Kind) (c : Counts) → length c.0 ≡ 8 → length (body (Order k c)) ≡ 34
+order-short k c e = omega (arith, length-numbers c.0, e)
+
+done-short : (m d : Counts) → length m.0 ≡ 8 → length d.0 ≡ 8 → length (body (Done m d)) ≡ 65
+done-short m d e f = omega (arith, length-append (counts_bytes m) (counts_bytes d), length-numbers m.0, length-numbers d.0, e, f)
+
+-- the limits leave an open order its Done
+pub takes-done : (limits : Limits) (J : List Rec) (m d : Counts) → length m.0 ≡ 8 → length d.0 ≡ 8 → (length J + 1 ≤ limits.records) × (size J + 68 ≤ limits.bytes) → passes limits (J ++ Done m d ∷ []) ≡ false
+takes-done limits J m d e f room =
+    both (nat_lt limits.records (length (J ++ Done m d ∷ []))) (nat_lt limits.bytes (size (J ++ Done m d ∷ [])))
+    (not-under limits.records (length (J ++ Done m d ∷ [])) (omega (arith, room.0, length-append J (Done m d ∷ []))))
+    (not-under limits.bytes (size (J ++ Done m d ∷ [])) (omega (arith, room.1, size-longer J (Done m d), done-short m d e f)))
+
+-- a journal that is not full leaves an order room for its Done
+pub leaves-done : (limits : Limits) (J : List Rec) (k : Kind) (c : Counts) → (nat_lt (limits.records - length J) 3 || nat_lt (limits.bytes - size J) 2048) ≡ false → length c.0 ≡ 8
+    → (length (J ++ Order k c ∷ []) + 1 ≤ limits.records) × (size (J ++ Order k c ∷ []) + 68 ≤ limits.bytes)
+leaves-done limits J k c free e =
+    let parts = neither (nat_lt (limits.records - length J) 3) (nat_lt (limits.bytes - size J) 2048) free in
+    let many = ltb-false (limits.records - length J) 3 parts.0 in
+    let bytes = ltb-false (limits.bytes - size J) 2048 parts.1 in
+    (omega (arith, many, length-append J (Order k c ∷ [])), omega (arith, bytes, size-longer J (Order k c), order-short k c e))

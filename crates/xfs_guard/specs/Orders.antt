@@ -1,5 +1,5 @@
 -- What the calls on an open order do.
-use Rattle.std.specs.Prelude.{◌≡◌, Bool, [], ◌∷◌, ◌++◌, length, Some, None, ⊤}
+use Rattle.std.specs.Prelude.{◌≡◌, Bool, true, [], ◌∷◌, ◌++◌, length, Some, None, ⊤}
 use Rattle.std.specs.declared.option.Option.{Option}
 use Rattle.xfs_base.specs.declared.counts.Counts.{Counts}
 use Rattle.xfs_base.specs.declared.counts.Kind.{Kind}
@@ -44,3 +44,12 @@ pub record Settles (old new : View) : Type 0 where
   pub failed : Bool
   pub acted : old.open_order ≡ Acted kind moved diverted failed
   pub same : new ≡ record old { records = old.records ++ Done moved diverted ∷ []; open_order = No }
+
+-- the disk failed at the Done of the acted order
+pub record Unsettles (old new : View) : Type 0 where
+  pub kind : Kind
+  pub moved : Counts
+  pub diverted : Counts
+  pub failed : Bool
+  pub acted : old.open_order ≡ Acted kind moved diverted failed
+  pub same : new ≡ record old { shut = true; in_doubt = Some (Done moved diverted); open_order = No }

@@ -25,6 +25,7 @@ use Rattle.xfs_guard.specs.declared.ask.Ask.TheVariants.{Stack as AskStack, Pres
 use Rattle.xfs_guard.specs.View.{View}
 use Rattle.xfs_guard.specs.Nonce.{live_nonce}
 use Rattle.xfs_guard.specs.Passed.{passed_in}
+use Rattle.xfs_guard.specs.Fits.{unfit}
 
 -- OverBudget, for the first currency in which the counts pass the amounts, with what is left before them
 abbrev pub over_budget : View → List (List ℕ × ℕ) → Counts → Option Deny
@@ -55,8 +56,9 @@ claim_refusal_at v bytes t (Some nonce) =
 abbrev pub claim_refusal : View → List ℕ → Parts → Option Deny
 claim_refusal v bytes t = claim_refusal_at v bytes t (live_nonce v.records)
 
--- the token that these bytes spell passes every check, and has these amounts
+-- the journal takes more records, and the token that these bytes spell passes every check and has these amounts
 pub record Passes (v : View) (bytes : List ℕ) (amounts : List (List ℕ × ℕ)) : Type 0 where
+  pub fit : unfit v ≡ None
   pub token : Parts
   pub spelled : Spells token bytes
   pub passed : claim_refusal v bytes token ≡ None
@@ -74,9 +76,9 @@ pub record IsMisspelled (bytes : List ℕ) (refusal : Deny) : Type 0 where
   pub is : IsFault bytes fault
   pub denied : refusal ≡ deny_of fault
 
--- why a token is refused: its bytes spell none, or the first check that it doesn't pass
+-- why a token is refused: the journal takes no more records; else its bytes spell none, or the first check that it doesn't pass
 abbrev pub TokenRefused : View → List ℕ → Deny → Type 0
-TokenRefused v bytes refusal = IsMisspelled bytes refusal ⊎ IsRefused v bytes refusal
+TokenRefused v bytes refusal = (unfit v ≡ Some refusal) ⊎ ((unfit v ≡ None) × (IsMisspelled bytes refusal ⊎ IsRefused v bytes refusal))
 
 -- the token is bound where none was yet, and nothing else changes
 pub record Binds (old new : View) (bytes : List ℕ) (amounts : List (List ℕ × ℕ)) : Type 0 where

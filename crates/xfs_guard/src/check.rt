@@ -1,6 +1,6 @@
 //! Whether a token serves the live nonce, and whether it covers a dispense.
 
-ghost use Rattle.std.specs.Prelude.{◌≡◌, ◌-◌, length, take, sum, IfOk, IfErr, OnOk, OnErr, Some, None, [], ◌∷◌, ◌++◌};
+ghost use Rattle.std.specs.Prelude.{◌≡◌, ◌≢◌, ◌≤◌, ◌-◌, length, take, sum, true, IfOk, IfErr, OnOk, OnErr, Some, None, Err, [], ◌∷◌, ◌++◌};
 ghost use Rattle.std.specs.Option.{option_map};
 ghost use Rattle.xfs_hmac.specs.Hmac.{hmac};
 ghost use Rattle.xfs_token.specs.Token.{Spells};
@@ -9,6 +9,8 @@ ghost use Rattle.xfs_journal.specs.declared.record.Rec.TheVariants.{Bind};
 ghost use Rattle.xfs_guard.specs.declared.open.Open.TheVariants.{No};
 ghost use Rattle.xfs_guard.specs.Nonce.{live_nonce};
 ghost use Rattle.xfs_guard.specs.Continues.{Continues};
+ghost use Rattle.xfs_base.specs.Causes.{Rose};
+ghost use Rattle.xfs_guard.specs.LedgerView.{IsWriteFault};
 ghost use Rattle.xfs_guard.specs.Refusals.{Answers, Passes, TokenRefused, Binds, claim_refusal, bind_refusal, bound_token, over_budget};
 
 use crate::budget::passed;
@@ -22,8 +24,9 @@ use xfs_mech::Mechanism;
 use xfs_token::{Amounts, Token, amounts, read};
 
 impl<M: Mechanism, D: Disk> Guard<M, D> {
-    /// Looks at a token's bytes: whether they spell a token that carries the live nonce and the HMAC
-    /// of its bytes under the key, that has amounts, and that is bound or may be. It changes nothing.
+    /// Looks at a token's bytes: whether the journal takes more records, and whether they spell a token
+    /// that carries the live nonce and the HMAC of its bytes under the key, that has amounts, and that
+    /// is bound or may be. It changes nothing.
     pub fn check(&self, token: &[u8]) -> Result<Claim, Deny>
         ensures ok { IfOk result (λ c. Passes self.now.state c.token c.amounts) }
         ensures token { IfOk result (λ c. c.token ≡ token.now) }
@@ -93,7 +96,8 @@ impl<M: Mechanism, D: Disk> Guard<M, D> {
     }
 
     /// Allows these notes on a claim, where its amounts cover them beside what was presented and
-    /// what lies on the transport. The first time it binds the token to the live nonce.
+    /// what lies on the transport. The first time it binds the token to the live nonce. After `Disk`
+    /// the journal is shut.
     pub fn allow(&mut self, claim: Claim, counts: &Counts) -> Result<Permit, Deny>
         requires none { self.old.state.open_order ≡ No }
         requires passes { Passes self.old.state claim.token claim.amounts }
@@ -101,8 +105,13 @@ impl<M: Mechanism, D: Disk> Guard<M, D> {
         ensures issue { IfOk result (λ p. option_map (λ n. n.number) (live_nonce self.old.state.records) ≡ Some p.issue) }
         ensures ok { OnOk result (Binds self.old.state self.new.state claim.token claim.amounts) }
         ensures none { self.new.state.open_order ≡ No }
-        ensures err { OnErr result (self.new.state ≡ self.old.state) }
-        ensures continues { OnOk result (Continues self.old.state self.new.state) }
+        ensures again { bound_token self.old.state.records ≢ None → self.new ≡ self.old }
+        ensures unbound { IfErr result (λ e. IsWriteFault e → bound_token self.old.state.records ≡ None) }
+        ensures disk { result ≡ Err Deny.Disk → self.new.state ≡ record self.old.state { shut = true; in_doubt = Some (Bind claim.token) } }
+        ensures later { D.faults self.old.disk ≤ D.faults self.new.disk }
+        ensures cause { result ≡ Err Deny.Disk → Rose (D.faults self.old.disk) (D.faults self.new.disk) }
+        ensures same { IfErr result (λ e. e ≢ Deny.Disk → self.new ≡ self.old) }
+        ensures continues { Continues self.old.state self.new.state }
     {
         let Some(nonce) = self.ledger.live() else {
             unreachable!()
@@ -122,14 +131,21 @@ impl<M: Mechanism, D: Disk> Guard<M, D> {
         requires none { self.old.state.open_order ≡ No }
         requires passes { Passes self.old.state claim.token claim.amounts }
         ensures ok { OnOk result (Binds self.old.state self.new.state claim.token claim.amounts) }
-        ensures memory { IfErr result (λ e. e ≡ Deny.Memory) }
-        ensures err { OnErr result (self.new.state ≡ self.old.state) }
-        ensures continues { OnOk result (Continues self.old.state self.new.state) }
+        ensures none { self.new.state.open_order ≡ No }
+        ensures err { IfErr result IsWriteFault }
+        ensures again { bound_token self.old.state.records ≢ None → self.new ≡ self.old }
+        ensures unbound { OnErr result (bound_token self.old.state.records ≡ None) }
+        ensures disk { result ≡ Err Deny.Disk → self.new.state ≡ record self.old.state { shut = true; in_doubt = Some (Bind claim.token) } }
+        ensures later { D.faults self.old.disk ≤ D.faults self.new.disk }
+        ensures cause { result ≡ Err Deny.Disk → Rose (D.faults self.old.disk) (D.faults self.new.disk) }
+        ensures same { IfErr result (λ e. e ≢ Deny.Disk → self.new ≡ self.old) }
+        ensures continues { Continues self.old.state self.new.state }
     {
         if self.ledger.token().is_some() {
             return Ok(());
         }
         let Claim { token, amounts } = claim;
+        let _short = token.bytes().len();
         self.ledger.bind(token, amounts)?;
         Ok(())
     }

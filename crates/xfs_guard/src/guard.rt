@@ -1,4 +1,5 @@
 ghost use Rattle.std.specs.Prelude.{◌≡◌, ◌≢◌, ◌↔◌, ℕ, true, List, ◌+◌, ◌<◌, ◌≤◌, [], ◌∷◌, ◌++◌, length, false, true, is_some, OnOk, OnErr, IfOk, IfErr, IsTrue, Some, None, Err, unwrap_or};
+ghost use Rattle.std.specs.Option.{option_or};
 ghost use Rattle.xfs_base.specs.Causes.{IfTold, Rose};
 ghost use Rattle.xfs_journal.specs.declared.record.Rec.TheVariants.{Issue, Clear, Boot, Bind, Order, Done};
 ghost use Rattle.xfs_journal.specs.Journal.{next_issue};
@@ -14,7 +15,7 @@ ghost use Rattle.xfs_journal.specs.JournalView.{IsPossible};
 ghost use Rattle.xfs_journal.specs.Paging.{CeasesAt};
 ghost use Rattle.xfs_journal.specs.declared.record.Rec.{Rec};
 ghost use Rattle.xfs_guard.specs.Continues.{Continues};
-ghost use Rattle.xfs_guard.specs.Orders.{IsWritten, IsActed, Acts, Settles, kind_unacted};
+ghost use Rattle.xfs_guard.specs.Orders.{IsWritten, IsActed, Acts, Settles, Unsettles, kind_unacted};
 ghost use Rattle.xfs_guard.specs.Refusals.{Answers, IsAsk, order_refusal, nothing_refusal, notes_of, asked_kind, asked_counts};
 ghost use Rattle.xfs_guard.specs.declared.ask.Ask.TheVariants.{Stack as AskStack, Present as AskPresent};
 
@@ -271,22 +272,27 @@ impl<M: Mechanism, D: Disk> Guard<M, D> {
         Ok(true)
     }
 
-    /// Writes an order, with room for all that it still adds. It moves nothing.
+    /// Writes an order, with room for all that it still adds. It moves nothing. After `Disk` the journal
+    /// is shut.
     pub fn order(&mut self, ask: Ask) -> Result<(), Deny>
         requires none { self.old.state.open_order ≡ No }
         requires asked { IsAsk self.old.state ask }
-        ensures refused { Answers result (order_refusal self.old.state ask) }
+        ensures refused { Answers result (option_or (unfit self.old.state) (order_refusal self.old.state ask)) }
         ensures ok { OnOk result (self.new.state ≡ record self.old.state {
           records = self.old.state.records ++ Order (asked_kind ask) (asked_counts self.old.state ask) ∷ [];
           open_order = Written (asked_kind ask) (asked_counts self.old.state ask);
         }) }
-        ensures err { OnErr result (self.new.state ≡ self.old.state) }
-        ensures continues { OnOk result (Continues self.old.state self.new.state) }
+        ensures disk { result ≡ Err Deny.Disk → self.new.state ≡ record self.old.state { shut = true; in_doubt = Some (Order (asked_kind ask) (asked_counts self.old.state ask)) } }
+        ensures later { D.faults self.old.disk ≤ D.faults self.new.disk }
+        ensures cause { result ≡ Err Deny.Disk → Rose (D.faults self.old.disk) (D.faults self.new.disk) }
+        ensures same { IfErr result (λ e. e ≢ Deny.Disk → self.new ≡ self.old) }
+        ensures continues { Continues self.old.state self.new.state }
     {
         if let Some(deny) = self.unfit() {
             return Err(deny);
         }
         let (kind, counts) = self.admitted(ask)?;
+        eight(&counts);
         self.mech.ready()?;
         self.ledger.reserve_two()?;
         self.ledger.order(kind, counts)?;
@@ -296,9 +302,10 @@ impl<M: Mechanism, D: Disk> Guard<M, D> {
 
     // The kind and the counts of an order, where nothing refuses it.
     fn admitted(&self, ask: Ask) -> Result<(Kind, Counts), Deny>
-        requires { IsAsk self.now.state ask }
+        requires asked { IsAsk self.now.state ask }
+        requires fit { unfit self.now.state ≡ None }
         ensures ok { IfOk result (λ r. (order_refusal self.now.state ask ≡ None) × (r.0 ≡ asked_kind ask) × (r.1 ≡ asked_counts self.now.state ask)) }
-        ensures err { IfErr result (λ e. (e ≢ Deny.Memory) × (order_refusal self.now.state ask ≡ Some e)) }
+        ensures err { IfErr result (λ e. (e ≢ Deny.Memory) × (e ≢ Deny.Disk) × (order_refusal self.now.state ask ≡ Some e)) }
     {
         match ask {
             Ask::Stack { issue, unit, count } => self.stacked(issue, unit, count),
@@ -309,9 +316,10 @@ impl<M: Mechanism, D: Disk> Guard<M, D> {
     }
 
     fn stacked(&self, issue: u64, unit: u8, count: u32) -> Result<(Kind, Counts), Deny>
-        requires { IsAsk self.now.state (AskStack issue unit count) }
+        requires asked { IsAsk self.now.state (AskStack issue unit count) }
+        requires fit { unfit self.now.state ≡ None }
         ensures ok { IfOk result (λ r. (order_refusal self.now.state (AskStack issue unit count) ≡ None) × (r.0 ≡ Kind.Stack) × (r.1 ≡ notes_of unit count)) }
-        ensures err { IfErr result (λ e. (e ≢ Deny.Memory) × (order_refusal self.now.state (AskStack issue unit count) ≡ Some e)) }
+        ensures err { IfErr result (λ e. (e ≢ Deny.Memory) × (e ≢ Deny.Disk) × (order_refusal self.now.state (AskStack issue unit count) ≡ Some e)) }
     {
         let since = self.ledger.mark();
         let Some(nonce) = self.ledger.live() else {
@@ -336,7 +344,7 @@ impl<M: Mechanism, D: Disk> Guard<M, D> {
 
     fn presented(&self) -> Result<(Kind, Counts), Deny>
         ensures ok { IfOk result (λ r. (order_refusal self.now.state AskPresent ≡ None) × (r.0 ≡ Kind.Present) × (r.1 ≡ self.now.state.places.transport)) }
-        ensures err { IfErr result (λ e. (e ≢ Deny.Memory) × (order_refusal self.now.state AskPresent ≡ Some e)) }
+        ensures err { IfErr result (λ e. (e ≢ Deny.Memory) × (e ≢ Deny.Disk) × (order_refusal self.now.state AskPresent ≡ Some e)) }
     {
         let since = self.ledger.mark();
         if self.ledger.live().is_none() {
@@ -378,12 +386,14 @@ impl<M: Mechanism, D: Disk> Guard<M, D> {
         outcome
     }
 
-    /// Writes down what the order did. It takes no memory.
+    /// Writes down what the order did. It takes no memory. Its one refusal is `Disk`: then the journal
+    /// is shut, and no order is open.
     pub fn settle(&mut self) -> Result<(), Deny>
         requires { IsActed self.old.state.open_order }
         ensures settled { OnOk result (Settles self.old.state self.new.state) }
         ensures err { IfErr result (λ e. e ≡ Deny.Disk) }
-        ensures none { self.new.state.open_order ≡ No }
+        ensures disk { OnErr result (Unsettles self.old.state self.new.state) }
+        ensures cause { OnErr result (Rose (D.faults self.old.disk) (D.faults self.new.disk)) }
         ensures continues { Continues self.old.state self.new.state }
     {
         let Open::Acted {
@@ -395,16 +405,25 @@ impl<M: Mechanism, D: Disk> Guard<M, D> {
         else {
             unreachable!()
         };
+        eight(&moved);
+        eight(&diverted);
         self.open_order = Open::No;
         self.ledger.done(kind, moved, diverted)?;
         Ok(())
     }
 }
 
+// Counts are eight.
+fn eight(counts: &Counts)
+    ensures { length counts.now.0 ≡ 8 }
+{
+    let _eight = counts.0.as_slice().len();
+}
+
 // All the notes of a place, where there are some.
 fn moved_whole(kind: Kind, counts: Counts) -> Result<(Kind, Counts), Deny>
     ensures ok { IfOk result (λ r. (nothing_refusal counts ≡ None) × (r.0 ≡ kind) × (r.1 ≡ counts)) }
-    ensures err { IfErr result (λ e. (e ≢ Deny.Memory) × (nothing_refusal counts ≡ Some e)) }
+    ensures err { IfErr result (λ e. (e ≢ Deny.Memory) × (e ≢ Deny.Disk) × (nothing_refusal counts ≡ Some e)) }
 {
     if counts.notes() == 0 {
         return Err(Deny::Nothing);

@@ -1,22 +1,17 @@
 use Rattle.std.proofs.Common.{◌≡◌, ◌∙◌, length, ap}
 use Rattle.xfs_guard.proofs.ContinueLaws.{Continues-act}
-use Rattle.xfs_guard.proofs.SoundLaws.{IsSound-act}
+use Rattle.xfs_guard.proofs.KeptLaws.{IsKept-acted}
 use Rattle.xfs_guard.proofs.guard.Guard.act.Goals as goal
 
 pub invariant_of-self : goal.invariant_of-self
 invariant_of-self g c =
     let number : length c.records.result.now ≡ length c.self.inside.ledger.records = ap length c.records.ensures in
-    let room = rw c.in-Written.is at c.self.invariant.room in
     let e = rw (c.new.ensures.number, c.new.ensures.kind, c.new.ensures.counts) at c.execute-outcome.ensures in
     let motions = rw number at e.motions in
     let places = rw number at e.places in
-    record {
-      sound = IsSound-act _ c.in-Written.kind c.in-Written.counts c.execute-outcome.result.moved c.execute-outcome.result.diverted c.execute-outcome.result.failed
-          (g.M.Mechanism.motions c.execute-outcome.new.self) (g.M.Mechanism.places c.execute-outcome.new.self) (g.M.Mechanism.faults c.execute-outcome.new.self)
-          c.self.invariant.sound c.in-Written.is e.carried motions places;
-      room = room.1;
-      units = e.units ∙ c.self.invariant.units;
-    }
+    IsKept-acted _ c.in-Written.kind c.in-Written.counts c.execute-outcome.result.moved c.execute-outcome.result.diverted c.execute-outcome.result.failed
+    (g.M.Mechanism.motions c.execute-outcome.new.self) (g.M.Mechanism.places c.execute-outcome.new.self) (g.M.Mechanism.faults c.execute-outcome.new.self)
+    _ _ _ _ _ c.self.invariant c.in-Written.is e.carried motions places (e.units ∙ c.self.invariant.units)
 
 pub returns-clause-continues : goal.returns-clause-continues
 returns-clause-continues g c =
@@ -25,4 +20,4 @@ returns-clause-continues g c =
     let motions = rw number at e.motions in
     let places = rw number at e.places in
     rw (← c.self.view_is) (Continues-act _ c.in-Written.kind c.execute-outcome.result.moved c.execute-outcome.result.diverted c.execute-outcome.result.failed
-    (g.M.Mechanism.motions c.execute-outcome.new.self) (g.M.Mechanism.places c.execute-outcome.new.self) (g.M.Mechanism.faults c.execute-outcome.new.self) c.self.invariant.sound motions places)
+    (g.M.Mechanism.motions c.execute-outcome.new.self) (g.M.Mechanism.places c.execute-outcome.new.self) (g.M.Mechanism.faults c.execute-outcome.new.self) motions places)

@@ -1,31 +1,48 @@
-use Rattle.std.proofs.Common.{◌≡◌, ◌∙◌, ap, sym, subst, None}
+use Rattle.std.proofs.Common.{◌≡◌, ◌≤◌, ◌∙◌, length, sym, None, Some, arith}
+use Rattle.xfs_journal.specs.Image.{body}
 use Rattle.xfs_journal.specs.declared.record.Rec.TheVariants.{Bind}
 use Rattle.xfs_guard.specs.declared.open.Open.TheVariants.{No}
-use Rattle.xfs_guard.specs.View.{View}
-use Rattle.xfs_guard.specs.Claims.{ClaimView}
-use Rattle.xfs_guard.specs.Refusals.{Passes, bound_token}
+use Rattle.xfs_guard.specs.Refusals.{bound_token}
 use Rattle.xfs_guard.proofs.ClaimLaws.{IsSound-claim, copied-none}
-use Rattle.xfs_guard.proofs.ContinueLaws.{Continues-record, Continues-same}
+use Rattle.xfs_guard.proofs.ContinueLaws.{Continues-written, Continues-same}
+use Rattle.xfs_guard.proofs.KeptLaws.{IsKept-open, IsKept-refused, Continues-refused}
+use Rattle.xfs_guard.proofs.SizeLaws.{fit-at, takes-one, may-write}
 use Rattle.xfs_guard.proofs.guard.Guard.bind_once.Goals as goal
 
 pub returns-then-is_some-clause-continues : goal.returns-then-is_some-clause-continues
 returns-then-is_some-clause-continues g c = Continues-same _
 
+pub bind-requires-clause-fits : goal.bind-requires-clause-fits
+bind-requires-clause-fits g c =
+    let fit = fit-at _ _ c.self.view_is c.requires.passes.fit in
+    let short : length (body (Bind c.claim.inside.token)) ≤ 1025 = omega (arith, c.bytes-short.ensures.high) in
+    may-write c.self.inside.ledger (Bind c.claim.inside.token) fit.0 (takes-one c.self.inside.ledger.limits c.self.inside.ledger.records (Bind c.claim.inside.token) fit.1 short)
+
+pub invariant_of-self : goal.invariant_of-self
+invariant_of-self g c =
+    let none : c.self.inside.open_order ≡ No = rw (← c.self.view_is) at c.requires.none in
+    let passes = rw (← c.self.view_is, ← c.claim.view_is) at c.requires.passes in
+    let fit = fit-at _ _ c.self.view_is c.requires.passes.fit in
+    let free : bound_token c.self.inside.ledger.records ≡ None = copied-none c.token.result _ c.token.ensures (sym c.is_some.ensures ∙ c.if-is_some.false) in
+    IsKept-refused Unit c.in_err-bind.field-0.0 _ _ _ _ _ _ c.self.inside.ledger c.bind.new.self _ (Some c.claim.inside.amounts) _ _ _ _ _ _ c.in_err-bind.ensures.wrote c.in_err-bind.ensures.err c.bind.ensures.told none c.self.invariant fit.0
+    (IsSound-claim _ c.claim.inside.token c.claim.inside.amounts (c.self.invariant.sound fit.0) none passes free)
+
+pub returns-in_err-bind-clause-continues : goal.returns-in_err-bind-clause-continues
+returns-in_err-bind-clause-continues g c =
+    rw (← c.self.view_is) (Continues-refused Unit c.in_err-bind.field-0.0 _ _ _ _ _ _ c.self.inside.ledger c.bind.new.self _ (Some c.claim.inside.amounts) _ _ c.in_err-bind.ensures.wrote c.in_err-bind.ensures.err)
+
 pub invariant_of-self-2 : goal.invariant_of-self-2
 invariant_of-self-2 g c =
-    let none : c.self.inside.open_order ≡ No = ap (λ (v : View). v.open_order) c.self.view_is ∙ c.requires.none in
-    let OfClaim : ClaimView → Type 0 = λ k. Passes c.args.self.now k.token k.amounts in
-    let claimed = subst OfClaim (sym c.claim.view_is) c.requires.passes in
-    let OfView : View → Type 0 = λ v. Passes v c.claim.inside.token c.claim.inside.amounts in
-    let passes = subst OfView (sym c.self.view_is) claimed in
+    let none : c.self.inside.open_order ≡ No = rw (← c.self.view_is) at c.requires.none in
+    let passes = rw (← c.self.view_is, ← c.claim.view_is) at c.requires.passes in
+    let fit = fit-at _ _ c.self.view_is c.requires.passes.fit in
     let free : bound_token c.self.inside.ledger.records ≡ None = copied-none c.token.result _ c.token.ensures (sym c.is_some.ensures ∙ c.if-is_some.false) in
-    let w = c.in_ok-bind.ensures.ok in record {
-      sound = rw (w.records, w.units, w.bound_is, none) (IsSound-claim _ c.claim.inside.token c.claim.inside.amounts c.self.invariant.sound none passes free);
-      room = rw none tt;
-      units = c.self.invariant.units ∙ sym w.units;
-    }
+    let w = c.in_ok-bind.ensures.wrote in
+    rw (w.records, w.units, w.bound_is, w.limits, w.open_still, w.in_doubt, c.bind.ensures.told, none)
+    (IsKept-open _ _ _ _ (IsSound-claim _ c.claim.inside.token c.claim.inside.amounts (c.self.invariant.sound fit.0) none passes free) tt tt c.self.invariant.units)
 
 pub returns-clause-continues : goal.returns-clause-continues
 returns-clause-continues g c =
-    let w = c.in_ok-bind.ensures.ok in
-    rw (← c.self.view_is, w.records, w.units, w.bound_is) (Continues-record _ (Bind c.claim.inside.token) _ c.self.inside.open_order c.self.invariant.sound (λ p e. cc))
+    let w = c.in_ok-bind.ensures.wrote in
+    rw (← c.self.view_is, w.records, w.units, w.bound_is, w.limits, w.open_still, w.in_doubt, c.bind.ensures.told)
+    (Continues-written _ (Bind c.claim.inside.token) (Some c.claim.inside.amounts) c.self.inside.open_order (λ p e. cc))

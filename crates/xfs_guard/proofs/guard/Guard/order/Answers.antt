@@ -1,26 +1,71 @@
-use Rattle.std.proofs.Common.{◌≡◌, ◌∙◌, ap, sym, arith}
+use Rattle.std.proofs.Common.{◌≡◌, ◌≤◌, ◌∙◌, true, Some, refl, sym, length, arith}
 use Rattle.xfs_guard.specs.declared.open.Open.TheVariants.{No, Written}
-use Rattle.xfs_guard.specs.View.{View}
+use Rattle.xfs_journal.specs.Image.{body}
 use Rattle.xfs_journal.specs.declared.record.Rec.TheVariants.{Order}
-use Rattle.xfs_guard.proofs.ContinueLaws.{Continues-record}
+use Rattle.xfs_guard.proofs.ContinueLaws.{Continues-same, Continues-written, Continues-stored}
+use Rattle.xfs_guard.proofs.KeptLaws.{IsKept-open, IsKept-doubted}
+use Rattle.xfs_guard.proofs.SizeLaws.{fit-at, takes-one, may-write, order-short, leaves-done}
 use Rattle.xfs_guard.proofs.OrderLaws.{IsSound-asked}
 use Rattle.xfs_guard.proofs.guard.Guard.order.Goals as goal
 
+pub returns-in-Some-clause-continues : goal.returns-in-Some-clause-continues
+returns-in-Some-clause-continues g c = Continues-same _
+
+pub returns-in_err-kind-clause-continues : goal.returns-in_err-kind-clause-continues
+returns-in_err-kind-clause-continues g c = Continues-same _
+
+pub returns-in_err-ready-clause-continues : goal.returns-in_err-ready-clause-continues
+returns-in_err-ready-clause-continues g c = rw (← c.self.view_is, c.ready.ensures.motions, c.ready.ensures.places, c.ready.ensures.faults) (Continues-same _)
+
+pub order-requires-clause-fits : goal.order-requires-clause-fits
+order-requires-clause-fits g c =
+    let fit = fit-at _ _ c.self.view_is (sym c.unfit.ensures ∙ c.in_default.is) in
+    let same = c.in_ok-reserve_two.ensures.same in
+    let eight = order-short c.in_ok-kind.kind c.in_ok-kind.counts c.eight.ensures in
+    let short : length (body (Order c.in_ok-kind.kind c.in_ok-kind.counts)) ≤ 1025 = omega (arith, eight) in
+    may-write c.reserve_two.new.self (Order c.in_ok-kind.kind c.in_ok-kind.counts) (same.shut ∙ fit.0)
+    (rw (same.limits, same.records) (takes-one c.self.inside.ledger.limits c.self.inside.ledger.records (Order c.in_ok-kind.kind c.in_ok-kind.counts) fit.1 short))
+
+pub returns-in_err-reserve_two-clause-continues : goal.returns-in_err-reserve_two-clause-continues
+returns-in_err-reserve_two-clause-continues g c =
+    let same = c.in_err-reserve_two.ensures.same in
+    rw (← c.self.view_is, same.records, same.units, same.bound, same.limits, same.shut, same.in_doubt, same.disk, c.ready.ensures.motions, c.ready.ensures.places, c.ready.ensures.faults) (Continues-same _)
+
+pub invariant_of-self-in_err-order : goal.invariant_of-self-in_err-order
+invariant_of-self-in_err-order g c =
+    let none : c.self.inside.open_order ≡ No = rw (← c.self.view_is) at c.requires.none in
+    let fit = fit-at _ _ c.self.view_is (sym c.unfit.ensures ∙ c.in_default.is) in
+    let fine = rw (← c.self.view_is) at c.in_ok-kind.ensures.ok in
+    let same = c.in_ok-reserve_two.ensures.same in
+    let s = rw c.in_err-order.ensures.err at c.in_err-order.ensures.wrote in
+    let sound = c.self.invariant.sound fit.0 in
+    rw (s.records, s.units, s.bound, s.limits, s.shut, s.in_doubt, c.order.ensures.told, same.records, same.units, same.bound, same.limits, same.disk, c.ready.ensures.motions, c.ready.ensures.places, c.ready.ensures.faults, none, fine.1, fine.2)
+    (IsKept-doubted _ _ _ _ _ _ _ sound (IsSound-asked _ c.args.ask sound none fine.0) (c.ready.ensures.units ∙ c.self.invariant.units))
+
+pub returns-in_err-order-clause-continues : goal.returns-in_err-order-clause-continues
+returns-in_err-order-clause-continues g c =
+    let same = c.in_ok-reserve_two.ensures.same in
+    let s = rw c.in_err-order.ensures.err at c.in_err-order.ensures.wrote in
+    rw (← c.self.view_is, s.records, s.units, s.bound, s.limits, s.shut, s.in_doubt, c.order.ensures.told, same.records, same.units, same.bound, same.limits, same.disk, c.ready.ensures.motions, c.ready.ensures.places, c.ready.ensures.faults)
+    (Continues-stored _ true (Some (Order c.in_ok-kind.kind c.in_ok-kind.counts)) c.self.inside.open_order)
+
 pub invariant_of-self-2 : goal.invariant_of-self-2
 invariant_of-self-2 g c =
-    let none : c.self.inside.open_order ≡ No = ap (λ (v : View). v.open_order) c.self.view_is ∙ c.requires.none in
+    let none : c.self.inside.open_order ≡ No = rw (← c.self.view_is) at c.requires.none in
+    let fit = fit-at _ _ c.self.view_is (sym c.unfit.ensures ∙ c.in_default.is) in
     let fine = rw (← c.self.view_is) at c.in_ok-kind.ensures.ok in
-    let w = c.order.ensures.written in
-    let same = c.in_ok-reserve_two.ensures.same in record {
-      sound = rw (w.records, w.units, w.bound_is, same.records, same.units, same.bound, c.ready.ensures.motions, c.ready.ensures.places, c.ready.ensures.faults, fine.1, fine.2)
-          (IsSound-asked _ c.args.ask c.self.invariant.sound none fine.0);
-      room = (omega (arith, c.in_ok-ready.ensures.room), omega (arith, c.in_ok-reserve_two.ensures.ok, c.order.ensures.room));
-      units = c.ready.ensures.units ∙ (c.self.invariant.units ∙ (sym same.units ∙ sym w.units));
-    }
+    let eight = rw fine.2 at c.eight.ensures in
+    let same = c.in_ok-reserve_two.ensures.same in
+    let w = c.in_ok-order.ensures.wrote in
+    rw (w.records, w.units, w.bound_is, w.limits, w.open_still, w.in_doubt, c.order.ensures.told, same.records, same.units, same.bound, same.limits, same.disk, c.ready.ensures.motions, c.ready.ensures.places, c.ready.ensures.faults, fine.1, fine.2)
+    (IsKept-open _ _ _ _ (IsSound-asked _ c.args.ask (c.self.invariant.sound fit.0) none fine.0)
+    (omega (arith, c.in_ok-ready.ensures.room), omega (arith, c.in_ok-reserve_two.ensures.ok, c.order.ensures.room))
+    (leaves-done c.self.inside.ledger.limits c.self.inside.ledger.records _ _ fit.1 eight)
+    (c.ready.ensures.units ∙ c.self.invariant.units))
 
 pub returns-clause-continues : goal.returns-clause-continues
 returns-clause-continues g c =
-    let w = c.order.ensures.written in
     let same = c.in_ok-reserve_two.ensures.same in
-    rw (← c.self.view_is, w.records, w.units, w.bound_is, same.records, same.units, same.bound, c.ready.ensures.motions, c.ready.ensures.places, c.ready.ensures.faults)
-    (Continues-record _ (Order c.in_ok-kind.kind c.in_ok-kind.counts) _ (Written c.in_ok-kind.kind c.in_ok-kind.counts) c.self.invariant.sound (λ p e. cc))
+    let w = c.in_ok-order.ensures.wrote in
+    rw (← c.self.view_is, w.records, w.units, w.bound_is, w.limits, w.open_still, w.in_doubt, c.order.ensures.told, same.records, same.units, same.bound, same.limits, same.disk, c.ready.ensures.motions, c.ready.ensures.places, c.ready.ensures.faults)
+    (Continues-written _ (Order c.in_ok-kind.kind c.in_ok-kind.counts) c.self.inside.ledger.bound (Written c.in_ok-kind.kind c.in_ok-kind.counts) (λ p e. cc))
