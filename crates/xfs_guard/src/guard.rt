@@ -9,9 +9,11 @@ ghost use Rattle.xfs_guard.specs.Word.{issue_word};
 ghost use Rattle.xfs_guard.specs.Fits.{fit_of, unfit};
 ghost use Rattle.xfs_guard.specs.Stored.{IsStored};
 ghost use Rattle.xfs_guard.specs.Recorded.{IsRecorded};
-ghost use Rattle.xfs_guard.specs.declared.fail.BootFault.TheVariants.{NotJournal, Disk as BootDisk};
+ghost use Rattle.xfs_guard.specs.declared.fail.BootFault.TheVariants.{NotJournal, Disk as BootDisk, Full as BootFull};
+ghost use Rattle.xfs_disk.specs.Disk.{AddsNone};
+ghost use Rattle.xfs_base.specs.declared.counts.Places.{Places};
 ghost use Rattle.xfs_journal.specs.Image.{Stands};
-ghost use Rattle.xfs_journal.specs.JournalView.{IsPossible};
+ghost use Rattle.xfs_journal.specs.JournalView.{IsPossible, StandsForEither, passes};
 ghost use Rattle.xfs_journal.specs.Paging.{CeasesAt};
 ghost use Rattle.xfs_journal.specs.declared.record.Rec.{Rec};
 ghost use Rattle.xfs_guard.specs.Continues.{Continues};
@@ -98,7 +100,7 @@ impl<M: Mechanism, D: Disk> Guard<M, D> {
         limits: Limits,
     ) -> Result<Guard<M, D>, BootFail<M, D>>
         requires units { M.units mech ≡ units }
-        requires starts { IfTold (D.held disk) (λ _. (c : List ℕ) → D.images disk c → (J : List Rec) × Stands c J × IsRecorded key units J (M.motions mech)) }
+        requires starts { IfTold (D.held disk) (λ _. (c : List ℕ) → D.images disk c → (J : List Rec) → Stands c J → IsRecorded key units J (M.motions mech)) }
         ensures ok { IfOk result (λ g. (J : List Rec) × (IfTold (D.held disk) (λ all. Stands all J)) × (g.state ≡ record {
           key = key;
           seed = seed;
@@ -117,6 +119,10 @@ impl<M: Mechanism, D: Disk> Guard<M, D> {
         ensures mech { IfErr result (λ f. f.mech ≡ mech) }
         ensures not_journal { IfErr result (λ f. (at : ℕ) → f.why ≡ NotJournal at → IfTold (D.held disk) (λ all. CeasesAt all at × ((J : List Rec) → ¬ Stands all J))) }
         ensures disk { IfErr result (λ f. f.why ≡ BootDisk → Rose (D.faults disk) (D.faults f.disk)) }
+        ensures fits { IfOk result (λ g. passes limits g.state.records ≡ false) }
+        ensures full { IfErr result (λ f. f.why ≡ BootFull → (J : List Rec) × IfTold (D.held disk) (λ all. Stands all J) × (passes limits (J ++ Boot (M.places mech) ∷ []) ≡ true)) }
+        ensures left { IfErr result (λ f. IfTold (D.held disk) (λ _. (J : List Rec) → ((c : List ℕ) → D.images disk c → Stands c J) → (c : List ℕ) → D.images f.disk c → StandsForEither J (Boot (M.places mech)) c)) }
+        ensures unlisted { IfErr result (λ f. IfTold (D.held disk) (λ all. ((J : List Rec) → ¬ Stands all J) → (D.held f.disk ≡ D.held disk) × AddsNone (D.images disk) (D.images f.disk))) }
     {
         let places = mech.survey();
         match Ledger::boot(alloc, disk, limits, units, places) {
@@ -135,7 +141,8 @@ impl<M: Mechanism, D: Disk> Guard<M, D> {
     /// The mechanism and the disk. Each image of the disk stands for a list of records that agrees with
     /// what the mechanism did.
     pub fn end(self) -> (M, D)
-        ensures recorded { (J : List Rec) → IsPossible self.state.records self.state.in_doubt J → IsRecorded self.state.key self.state.units J self.state.motions }
+        ensures recorded { IfTold (D.held result.1) (λ _. (J : List Rec) → IsPossible self.state.records self.state.in_doubt J → IsRecorded self.state.key self.state.units J self.state.motions) }
+        ensures no_boot { (p : Places) → self.state.in_doubt ≢ Some (Boot p) }
         ensures stored { IsStored (D.held result.1) (D.images result.1) self.state.records self.state.in_doubt }
         ensures disk { result.1 ≡ self.disk }
         ensures motions { M.motions result.0 ≡ self.state.motions }

@@ -37,7 +37,7 @@ impl<M: Mechanism, D: Disk> Guard<M, D> {
         ensures later { self.old.state.faults ≤ self.new.state.faults }
         ensures cause { IfOk result (λ o. o.failed ≡ true → Rose self.old.state.faults self.new.state.faults) }
         ensures err { OnErr result (self.new.state ≡ self.old.state) }
-        ensures continues { OnOk result (Continues self.old.state self.new.state) }
+        ensures continues { Continues self.old.state self.new.state }
     {
         self.mech.ready()?;
         Ok(self.mech.taken())
@@ -52,7 +52,7 @@ impl<M: Mechanism, D: Disk> Guard<M, D> {
         ensures later { self.old.state.faults ≤ self.new.state.faults }
         ensures cause { IfOk result (λ o. o.failed ≡ true → Rose self.old.state.faults self.new.state.faults) }
         ensures err { OnErr result (self.new.state ≡ self.old.state) }
-        ensures continues { OnOk result (Continues self.old.state self.new.state) }
+        ensures continues { Continues self.old.state self.new.state }
     {
         self.mech.ready()?;
         Ok(self.mech.load(unit, count))
