@@ -1,5 +1,5 @@
 -- One more line that is read, answered and written; and what was written where the lines end.
-use Rattle.std.proofs.Common.{◌≡◌, ℕ, suc, ◌+◌, ◌≤◌, ◌<◌, List, [], ◌∷◌, ◌++◌, length, take, None, Some, Ok, Err, refl, sym, subst, ◌∙◌, ap, arith, append_assoc, add-one}
+use Rattle.std.proofs.Common.{◌≡◌, ℕ, suc, ◌+◌, ◌≤◌, List, [], ◌∷◌, ◌++◌, length, take, None, Some, Ok, Err, refl, sym, subst, ◌∙◌, ap, arith, append_assoc, add-one}
 use Rattle.std.specs.declared.option.Option.{Option}
 use Rattle.std.specs.Io.KnownBytes.{Appends}
 use Rattle.std.proofs.lemmas.List.{append-nil}
@@ -13,7 +13,7 @@ use Rattle.xfs_script.specs.declared.line.LineFault.{LineFault}
 use Rattle.xfs_script.specs.declared.line.LineFault.TheVariants.{Read, Quota, TooLong, Memory}
 use Rattle.xfs_cli.specs.GuardLines.{behind}
 use Rattle.xfs_cli.specs.Run.{status_of}
-use Rattle.xfs_cli.specs.Answers.{lines_text, first_lines, AnswersThen, AnswersEach, AnswersFirst, WritesAll, WritesUntil, WritesFront, SaysAnswer, SaysFront, NoLineEnds, fault_line, last_line, no_line_text}
+use Rattle.xfs_cli.specs.Answers.{lines_text, first_lines, AnswersEach, WritesAll, WritesUntil, WritesFront, SaysAnswer, SaysFront, NoLineEnds, fault_line, last_line, no_line_text}
 use Rattle.xfs_cli.proofs.LineLaws.{ahead-some, told, answer-line, answer-long, answer-none, read-limit}
 
 -- how so many lines of a text were read, answered and written

@@ -1,23 +1,20 @@
 -- The headline of a run: from what the disk's bytes stood for at entry, and from what its guard kept.
-use Rattle.std.proofs.Common.{◌≡◌, ◌≢◌, inl, inr, ℕ, ◌+◌, ◌<◌, ◌≤◌, Bool, true, false, List, [], ◌∷◌, ◌++◌, length, None, Some, refl, sym, ◌∙◌, ap, ⊎_elim, arith}
+use Rattle.std.proofs.Common.{◌≡◌, ◌≢◌, inl, inr, ℕ, ◌+◌, ◌<◌, ◌≤◌, true, false, List, [], ◌∷◌, ◌++◌, length, None, Some, refl, sym, ◌∙◌, ap, ⊎_elim, arith}
 use Rattle.std.proofs.lemmas.List.{append-nil}
 use Rattle.std.specs.declared.option.Option.{Option}
 use Rattle.xfs_base.specs.Causes.{IfTold}
-use Rattle.xfs_base.specs.declared.counts.Counts.{Counts}
-use Rattle.xfs_base.specs.declared.counts.Kind.{Kind}
 use Rattle.xfs_base.specs.declared.counts.Places.{Places}
 use Rattle.xfs_base.specs.declared.money.NoteKind.{NoteKind}
 use Rattle.xfs_disk.specs.Disk.{Only}
-use Rattle.xfs_mech.specs.Motions.{NumberIs}
 use Rattle.xfs_mech.specs.declared.motion.Motion.{Motion}
 use Rattle.xfs_mech.proofs.MotionLaws.{all-numbers, PlacesOf-same}
-use Rattle.xfs_journal.specs.Image.{IsImage, Stands}
+use Rattle.xfs_journal.specs.Image.{Stands}
 use Rattle.xfs_journal.specs.Journal.{record_at, next_number, CarriesNumber}
 use Rattle.xfs_journal.specs.JournalView.{IsPossible, StandsForEither, passes}
 use Rattle.xfs_journal.specs.Paging.{CeasesAt}
 use Rattle.xfs_journal.specs.declared.limits.Limits.{Limits}
 use Rattle.xfs_journal.specs.declared.record.Rec.{Rec}
-use Rattle.xfs_journal.specs.declared.record.Rec.TheVariants.{Boot, Order, Done}
+use Rattle.xfs_journal.specs.declared.record.Rec.TheVariants.{Boot}
 use Rattle.xfs_journal.proofs.JournalLaws.{record_at-cases, Walk-push}
 use Rattle.xfs_journal.proofs.Unique.{at_most_one}
 use Rattle.xfs_guard.specs.Agrees.{Agrees}
