@@ -1,14 +1,32 @@
-//! The program `xfs`: it makes main's bench, calls `run`, and ends with its status.
+//! The program `xfs`: it makes the mechanism, an empty disk and the rest of the core, calls `run`, and ends with its status.
 #![tactic(auto)]
 
+ghost use Rattle.std.specs.Prelude.{◌≡◌, ℕ, List, []};
+ghost use Rattle.xfs_base.specs.Causes.{IfTold};
+ghost use Rattle.xfs_disk.specs.Disk.{Only};
+ghost use Rattle.xfs_disk.specs.MemDisk.{IsImage, bytes_of};
+ghost use Rattle.xfs_journal.specs.Image.{Stands};
+ghost use Rattle.xfs_journal.specs.declared.record.Rec.{Rec};
+ghost use Rattle.xfs_guard.specs.Recorded.{IsRecorded};
+
+use std::alloc::Global;
 use std::io::ErrorKind;
 use std::process::ExitCode;
 use std::{env, io};
 use xfs_base::{Counts, Currency, NoteKind, Places, StdSink, StdSource, UnitTable};
-use xfs_cli::{Bench, run};
-use xfs_mech::{SimMech, places_fit};
+use xfs_cli::run;
+use xfs_disk::MemDisk;
+use xfs_guard::Core;
+use xfs_journal::Limits;
+use xfs_mech::{Mechanism, SimMech, places_fit};
 
 const MEMORY: u8 = 8;
+
+// The limits of a journal.
+const LIMITS: Limits = Limits {
+    records: 1_000_000,
+    bytes: 268_435_456,
+};
 
 fn kind(letters: &[u8], value: u32) -> Option<NoteKind> {
     let currency = Currency::new(letters)?;
@@ -38,6 +56,24 @@ fn places() -> Places {
     }
 }
 
+// A mechanism that did nothing yet, and an empty disk.
+fn core_on<M: Mechanism>(alloc: Global, mech: M, units: UnitTable) -> Core<M, MemDisk>
+    requires fresh { IfTold (M.motions mech) (λ L. L ≡ []) }
+    requires units { M.units mech ≡ units }
+    ensures units { M.units result.mech ≡ result.units }
+    ensures starts { (c : List ℕ) → IsImage result.disk c → (J : List Rec) → Stands c J → IsRecorded result.key result.units J (M.motions result.mech) }
+    ensures at_rest { Only (bytes_of result.disk) (IsImage result.disk) }
+{
+    Core {
+        mech,
+        disk: MemDisk::new(alloc, Vec::new(alloc)),
+        key: [0x0b; 32],
+        seed: [0; 32],
+        units,
+        limits: LIMITS,
+    }
+}
+
 fn words_of(rt: &HostRuntime) -> io::Result<Vec<String>> {
     let mut words = Vec::new(rt.alloc());
     for word in env::args(rt)?.skip(1) {
@@ -61,14 +97,10 @@ fn main(rt: HostRuntime) -> ExitCode {
     if !places_fit(&units, &places) {
         return ExitCode::from(MEMORY);
     }
-    let bench = Bench {
-        mech: SimMech::new(alloc, units.copied(), places, Vec::new(alloc)),
-        key: [0x0b; 32],
-        seed: [0; 32],
-        units,
-    };
+    let mech = SimMech::new(alloc, units.copied(), places, Vec::new(alloc));
+    let core = core_on(alloc, mech, units);
     let mut source = StdSource::new(rt.reader());
     let mut sink = StdSink::new(io::writer(&rt));
-    let ended = run(alloc, words.as_slice(), &mut source, &mut sink, bench);
+    let ended = run(alloc, words.as_slice(), &mut source, &mut sink, core);
     ExitCode::from(ended.status)
 }

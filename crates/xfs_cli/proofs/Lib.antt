@@ -1,5 +1,6 @@
 pub mod AnswerLaws
 pub mod LineLaws
 pub mod RunLaws
+pub mod StartLaws
 pub mod TokenTexts
 pub mod VerbLaws

@@ -1,30 +1,175 @@
--- The headline of a run, from what its guard kept and how it went on from its boot.
-use Rattle.std.proofs.Common.{◌≡◌, List, [], ◌∷◌, None, Some}
+-- The headline of a run: from what the disk's bytes stood for at entry, and from what its guard kept.
+use Rattle.std.proofs.Common.{◌≡◌, ◌≢◌, inl, inr, ℕ, ◌+◌, ◌<◌, ◌≤◌, true, false, List, [], ◌∷◌, ◌++◌, length, None, Some, refl, sym, ◌∙◌, ap, ⊎_elim, arith}
+use Rattle.std.proofs.lemmas.List.{append-nil}
 use Rattle.std.specs.declared.option.Option.{Option}
-use Rattle.xfs_mech.specs.declared.motion.Motion.{Motion}
-use Rattle.xfs_journal.specs.declared.record.Rec.TheVariants.{Boot}
 use Rattle.xfs_base.specs.Causes.{IfTold}
-use Rattle.xfs_guard.specs.View.{View}
-use Rattle.xfs_guard.specs.Sound.{IsSound, Ties}
+use Rattle.xfs_base.specs.declared.counts.Places.{Places}
+use Rattle.xfs_base.specs.declared.money.NoteKind.{NoteKind}
+use Rattle.xfs_disk.specs.Disk.{Only}
+use Rattle.xfs_mech.specs.declared.motion.Motion.{Motion}
+use Rattle.xfs_mech.proofs.MotionLaws.{all-numbers, PlacesOf-same}
+use Rattle.xfs_journal.specs.Image.{Stands}
+use Rattle.xfs_journal.specs.Journal.{record_at, next_number, CarriesNumber}
+use Rattle.xfs_journal.specs.JournalView.{IsPossible, StandsForEither, passes}
+use Rattle.xfs_journal.specs.Paging.{CeasesAt}
+use Rattle.xfs_journal.specs.declared.limits.Limits.{Limits}
+use Rattle.xfs_journal.specs.declared.record.Rec.{Rec}
+use Rattle.xfs_journal.specs.declared.record.Rec.TheVariants.{Boot}
+use Rattle.xfs_journal.proofs.JournalLaws.{record_at-cases, Walk-push}
+use Rattle.xfs_journal.proofs.Unique.{stands_for_one}
+use Rattle.xfs_guard.specs.Agrees.{Agrees}
 use Rattle.xfs_guard.specs.Continues.{Continues, Leads, IsKnown}
-use Rattle.xfs_guard.proofs.FollowsLaws.{Follows-boot, Follows-trans}
-use Rattle.xfs_cli.specs.Run.{Upholds}
+use Rattle.xfs_guard.specs.Follows.{BootFits, Follows}
+use Rattle.xfs_guard.specs.Recorded.{IsRecorded}
+use Rattle.xfs_guard.specs.Stored.{IsStored, MayLeave}
+use Rattle.xfs_guard.specs.View.{View}
+use Rattle.xfs_guard.specs.Within.{Within}
+use Rattle.xfs_guard.proofs.AgreesLaws.{numbers_within}
+use Rattle.xfs_guard.proofs.BootLaws.{IsRecorded-boot}
+use Rattle.xfs_guard.proofs.FollowsLaws.{Follows-same, Follows-trans}
+use Rattle.xfs_guard.proofs.RecordLaws.{length-pushed}
+use Rattle.xfs_guard.specs.declared.fail.BootFault.{BootFault}
+use Rattle.xfs_guard.specs.declared.fail.BootFault.TheVariants.{NotJournal, Disk, Full, Memory}
+use Rattle.xfs_cli.specs.Boots.{BootPasses, EndsUnread, IsDue, IsNoJournal, WritesBoot, boot_status}
+use Rattle.xfs_cli.specs.Upholds.{Upholds, FollowsWhereTold}
 
-pub Upholds-run : (first last : View) (told : Option (List Motion)) → first.records ≡ Boot first.places ∷ [] → IfTold first.motions (λ L. L ≡ []) → Continues first last → IsSound last → told ≡ last.motions
-    → IfTold told (λ L. Upholds first.key first.units first.places last.records L last.places)
-Upholds-run first last told boot fresh c s is = go first.motions last.motions told fresh c.leads s.told is
+-- one more record, which has the places where it is a Boot
+pub Follows-record : (J : List Rec) (r : Rec) (L : List Motion) (P : Places) → ((p : Places) → r ≡ Boot p → P ≡ p) → Follows J L P (J ++ r ∷ []) L P
+Follows-record J r L P boots = record {
+  recs = r ∷ [];
+  moves = [];
+  grew = refl;
+  moved = sym (append-nil L);
+  reached = PlacesOf-same P;
+  later = tt;
+  boots = fits;
+}
   where
-    go : (before now told : Option (List Motion)) → IfTold before (λ L. L ≡ []) → Leads first last before now → IfTold now (Ties last) → told ≡ now
-        → IfTold told (λ L. Upholds first.key first.units first.places last.records L last.places)
-    go None None told fresh leads ties is = rw is tt
-    go None (Some n) told fresh leads ties is = absurd leads
-    go (Some b) None told fresh leads ties is = absurd leads
-    go (Some b) (Some n) told fresh leads ties is =
-        let known : IsKnown first.records b = rw fresh tt in
-        let led = leads known in
-        let since = rw (boot, fresh) at led.follows in
-        rw is (record {
-          within = rw (← c.key, ← c.units) ties.within;
-          agrees = ties.agrees;
-          follows = Follows-trans [] (Boot first.places ∷ []) last.records [] [] n first.places first.places last.places tt (Follows-boot first.places) since;
-        })
+    fits : (n : ℕ) (p : Places) → length J < n → record_at (J ++ r ∷ []) n ≡ Some (Boot p) → BootFits P [] n p
+    fits n p lt e = ⊎_elim (λ h. let le : n ≤ length J = h.0 in absurd (omega arith)) (λ h. record { front = []; back = []; split = refl; reached = rw (boots p h.1) (PlacesOf-same p); before = tt; after = tt }) (record_at-cases J r n (Boot p) e)
+
+follows-same : (J : List Rec) (L : Option (List Motion)) (P : Places) → FollowsWhereTold J L P J L P
+follows-same J None P = tt
+follows-same J (Some l) P = Follows-same J l P
+
+follows-boot : (J : List Rec) (L : Option (List Motion)) (P : Places) → FollowsWhereTold J L P (J ++ Boot P ∷ []) L P
+follows-boot J None P = tt
+follows-boot J (Some l) P = Follows-record J (Boot P) l P (λ p e. cc)
+
+-- the condition at entry
+abbrev pub Starts : Option (List ℕ) → (List ℕ → Type 0) → List ℕ → List NoteKind → Option (List Motion) → Type 0
+Starts held images key units L = IfTold held (λ _. (c : List ℕ) → images c → (J : List Rec) → Stands c J → IsRecorded key units J L)
+
+abbrev pub AtRest : Option (List ℕ) → (List ℕ → Type 0) → Type 0
+AtRest held images = IfTold held (λ bytes. Only bytes images)
+
+-- each list that the disk may leave is recorded then
+pub recorded-start : (held : Option (List ℕ)) (images : List ℕ → Type 0) (key : List ℕ) (units : List NoteKind) (L : Option (List Motion)) → Starts held images key units L
+    → (J : List Rec) → MayLeave held images J → IsRecorded key units J L
+recorded-start None images key units L starts J may = let e = may.told in cc
+recorded-start (Some bytes) images key units L starts J may = starts may.bytes may.left J may.stands
+
+-- the headline, from the condition at entry to what is there at the end
+abbrev pub UpholdsAll : Option (List ℕ) → Option (List ℕ) → (List ℕ → Type 0) → List ℕ → List NoteKind → Option (List Motion) → Places → Option (List Motion) → Places → Type 0
+UpholdsAll held held' images' key units L P L' P' = IfTold held (λ bytes. (J : List Rec) → Stands bytes J → IfTold held' (λ _. (c : List ℕ) → images' c → Upholds key units J L P c L' P'))
+
+-- nothing was done
+pub upholds-same : (held : Option (List ℕ)) (images : List ℕ → Type 0) (key : List ℕ) (units : List NoteKind) (L : Option (List Motion)) (P : Places)
+    → Starts held images key units L → AtRest held images → UpholdsAll held held images key units L P L P
+upholds-same None images key units L P starts rest = tt
+upholds-same (Some bytes) images key units L P starts rest = λ J stands c image.
+    let here : Stands c J = rw (rest c image) stands in record {
+      records = J;
+      stands = here;
+      recorded = starts c image J here;
+      follows = follows-same J L P;
+    }
+
+-- what a refused boot left, over images that stand for the list or for that one with the Boot
+pub upholds-refused : (held held' : Option (List ℕ)) (images images' : List ℕ → Type 0) (key : List ℕ) (units : List NoteKind) (L : Option (List Motion)) (P : Places)
+    → Starts held images key units L → AtRest held images → ((bytes : List ℕ) → held ≡ Some bytes → images bytes)
+    → IfTold held (λ _. (J : List Rec) → ((c : List ℕ) → images c → Stands c J) → (c : List ℕ) → images' c → StandsForEither J (Boot P) c)
+    → UpholdsAll held held' images' key units L P L P
+upholds-refused None held' images images' key units L P starts rest read left = tt
+upholds-refused (Some bytes) None images images' key units L P starts rest read left = λ J stands. tt
+upholds-refused (Some bytes) (Some now) images images' key units L P starts rest read left = λ J stands c image.
+    let old : IsRecorded key units J L = starts bytes (read bytes refl) J stands in
+    elim (left J (λ d is. rw (rest d is) stands) c image) [
+      | inl same ↦ record { records = J; stands = same; recorded = old; follows = follows-same J L P }
+      | inr booted ↦ record { records = J ++ Boot P ∷ []; stands = booted; recorded = IsRecorded-boot key units J P L old; follows = follows-boot J L P }
+    ]
+
+-- a record that is no Boot may stand behind what followed
+follows-doubt : (v : View) (J0 J : List Rec) (b n : List Motion) (P : Places) → ((p : Places) → v.in_doubt ≢ Some (Boot p)) → IsKnown v.records n
+    → IsPossible v.records v.in_doubt J → Follows J0 b P v.records n v.places → Follows J0 b P J n v.places
+follows-doubt v J0 J b n P none known (inl is) follows = rw is follows
+follows-doubt v J0 J b n P none known (inr (r, doubt, is)) follows =
+    rw is (Follows-trans J0 v.records (v.records ++ r ∷ []) b n n P v.places v.places known follows
+    (Follows-record v.records r n v.places (λ p e. absurd (none p (doubt ∙ ap Some e)))))
+
+-- from the boot to the end
+follows-run : (first last : View) (J0 J : List Rec) (before now : Option (List Motion)) → first.records ≡ J0 ++ Boot first.places ∷ [] → IfTold before (Agrees J0)
+    → Leads first last before now → ((p : Places) → last.in_doubt ≢ Some (Boot p)) → IsPossible last.records last.in_doubt J
+    → FollowsWhereTold J0 before first.places J now last.places
+follows-run first last J0 J None now booted agrees leads none possible = tt
+follows-run first last J0 J (Some b) None booted agrees leads none possible = tt
+follows-run first last J0 J (Some b) (Some n) booted agrees leads none possible =
+    let few : IsKnown (J0 ++ Boot first.places ∷ []) b = rw length-pushed (all-numbers (λ k. k ≤ length J0) (λ k. k ≤ length J0 + 1) b (λ k le. omega arith) (numbers_within J0 b agrees)) in
+    let led = leads (rw booted few) in
+    let whole = Follows-trans J0 (J0 ++ Boot first.places ∷ []) last.records b b n first.places first.places last.places few
+    (Follows-record J0 (Boot first.places) b first.places (λ p e. cc)) (rw booted at led.follows) in
+    follows-doubt last J0 J b n first.places none led.known possible whole
+
+-- the headline of a run whose boot was not refused
+pub upholds-run : (first last : View) (J0 : List Rec) (held held' : Option (List ℕ)) (images images' : List ℕ → Type 0) (told : Option (List Motion)) (places : Places)
+    → first.records ≡ J0 ++ Boot first.places ∷ [] → IfTold held (λ bytes. Stands bytes J0)
+    → Starts held images first.key first.units first.motions → ((bytes : List ℕ) → held ≡ Some bytes → images bytes)
+    → Continues first last → ((p : Places) → last.in_doubt ≢ Some (Boot p)) → IsStored held' images' last.records last.in_doubt
+    → ((J : List Rec) → MayLeave held' images' J → IsRecorded last.key last.units J last.motions)
+    → told ≡ last.motions → places ≡ last.places
+    → UpholdsAll held held' images' first.key first.units first.motions first.places told places
+upholds-run first last J0 None held' images images' told places booted stood starts read c none stored recorded told_is places_is = tt
+upholds-run first last J0 (Some bytes) None images images' told places booted stood starts read c none stored recorded told_is places_is = λ J stands. tt
+upholds-run first last J0 (Some bytes) (Some now) images images' told places booted stood starts read c none stored recorded told_is places_is = λ J stands d image.
+    let same : J ≡ J0 = stands_for_one bytes J J0 stands stood in
+    let kept = stored d image in
+    let old : IsRecorded first.key first.units J0 first.motions = starts bytes (read bytes refl) J0 stood in
+    rw (same, told_is, places_is) (record {
+      records = kept.0;
+      stands = inl kept.2;
+      recorded = rw (c.key, c.units) at (recorded kept.0 (record { told = refl; bytes = d; left = image; stands = inl kept.2 }));
+      follows = follows-run first last J0 kept.0 first.motions last.motions booted old.agrees c.leads none kept.1;
+    })
+
+-- a Boot that was written passed no limit
+pub fits-run : (limits : Limits) (P : Places) (first : View) (J0 : List Rec) (held : Option (List ℕ)) (X : Type 0) → first.records ≡ J0 ++ Boot P ∷ [] → IfTold held (λ bytes. Stands bytes J0)
+    → passes limits first.records ≡ false → IfTold held (λ bytes. (J : List Rec) → Stands bytes J → BootPasses limits P J → X)
+fits-run limits P first J0 None X booted stood fits = tt
+fits-run limits P first J0 (Some bytes) X booted stood fits = λ J stands over.
+    let same : J ≡ J0 = stands_for_one bytes J J0 stands stood in
+    let is : passes limits (J0 ++ Boot P ∷ []) ≡ true = rw same at over in
+    let no : passes limits (J0 ++ Boot P ∷ []) ≡ false = rw booted at fits in
+    absurd (let e : true ≡ false = sym is ∙ no in cc)
+
+-- where a list stands for the bytes, they are a journal
+pub journal-run : (J0 : List Rec) (held : Option (List ℕ)) (X : Type 0) → IfTold held (λ bytes. Stands bytes J0) → IfTold held (λ bytes. IsNoJournal bytes → X)
+journal-run J0 None X stood = tt
+journal-run J0 (Some bytes) X stood = λ none. absurd (none J0 stood)
+
+-- the status of a file that is no journal
+pub ends-unread : (why : BootFault) (held before after : Option (List ℕ)) (status : ℕ) → status ≡ boot_status why → WritesBoot why before after
+    → ((at : ℕ) → why ≡ NotJournal at → IfTold held (λ bytes. CeasesAt bytes at × IsNoJournal bytes)) → status ≡ 7 → EndsUnread held before after
+ends-unread (NotJournal at) held before after status is written ceases seven = record { at = at; ceases = ceases at refl; written = written }
+ends-unread Disk held before after status is written ceases seven = absurd (omega (arith, is, seven))
+ends-unread Full held before after status is written ceases seven = absurd (omega (arith, is, seven))
+ends-unread Memory held before after status is written ceases seven = absurd (omega (arith, is, seven))
+
+-- the status of a refused boot whose record passes a limit
+pub due-full : (why : BootFault) (held : Option (List ℕ)) (limits : Limits) (P : Places) (status : ℕ) → status ≡ boot_status why
+    → ((at : ℕ) → why ≡ NotJournal at → IfTold held (λ bytes. CeasesAt bytes at × IsNoJournal bytes))
+    → IfTold held (λ bytes. (J : List Rec) → Stands bytes J → BootPasses limits P J → IsDue 12 status)
+due-full why None limits P status is ceases = tt
+due-full (NotJournal at) (Some bytes) limits P status is ceases = λ J stands over. absurd ((ceases at refl).1 J stands)
+due-full Disk (Some bytes) limits P status is ceases = λ J stands over. inr (inl is)
+due-full Full (Some bytes) limits P status is ceases = λ J stands over. inl is
+due-full Memory (Some bytes) limits P status is ceases = λ J stands over. inr (inr is)

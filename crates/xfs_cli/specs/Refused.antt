@@ -5,13 +5,15 @@ use Rattle.std.specs.Option.{option_map}
 use Rattle.xfs_envelope.specs.Codes.{code_text}
 use Rattle.xfs_envelope.specs.declared.code.Code.TheVariants as Code
 use Rattle.xfs_guard.specs.declared.deny.Deny.{Deny}
-use Rattle.xfs_guard.specs.declared.deny.Deny.TheVariants.{TooLong, KeyNoValue, Format, NoNonce, WrongNonce, WrongMac, NoAmounts, OtherBound, NotEmpty, OverBudget, Unbound, Nothing, OutletFull, Short, Memory}
+use Rattle.xfs_guard.specs.declared.deny.Deny.TheVariants.{Shut, Full, TooLong, KeyNoValue, Format, NoNonce, WrongNonce, WrongMac, NoAmounts, OtherBound, NotEmpty, OverBudget, Unbound, Nothing, OutletFull, Short, Disk, Memory}
 use Rattle.xfs_mix.specs.declared.asked.CountFault.TheVariants.{Empty, TooMany, Short as ShortCount}
 use Rattle.xfs_cli.specs.declared.refused.Refusal.{Refusal}
 use Rattle.xfs_cli.specs.declared.refused.Refusal.TheVariants.{NoToken, NoUnit, StorageFull, Counts, Deny as Denied}
 
 -- the code for a refusal of the guard; want of memory has none
 abbrev pub deny_code : Deny → Option (List ℕ)
+deny_code Shut = Some (code_text Code.DeviceNotReady)
+deny_code Full = Some (code_text Code.DeviceNotReady)
 deny_code TooLong = Some (code_text Code.NotEnoughSpace)
 deny_code (KeyNoValue at) = Some (code_text Code.InvalidTokenKeyNoValue)
 deny_code (Format at) = Some (code_text Code.InvalidTokenFormat)
@@ -26,6 +28,7 @@ deny_code (Unbound since) = Some (code_text Code.AuthorisationRequired)
 deny_code Nothing = Some (codes "noItems")
 deny_code (OutletFull notes) = Some (code_text Code.SequenceError)
 deny_code (Short unit) = Some (codes "notDispensable")
+deny_code Disk = Some (code_text Code.DeviceNotReady)
 deny_code Memory = None
 
 -- the code for a refusal: no token, a unit or a count that isn't, counts that can't be dispensed, or the guard's

@@ -1,15 +1,8 @@
--- What a run of the program keeps, the words that it takes, and how it ends.
+-- The words that a run of the program takes, and how it ends.
 use Rattle.std.specs.Prelude.{◌≡◌, ◌⊎◌, ℕ, List, [], ◌∷◌, String, string_bytes, codes, length}
 use Rattle.std.specs.declared.option.Option.{Option}
 use Rattle.std.specs.declared.alloc.Global.{Global}
 use Rattle.std.specs.Io.KnownBytes.{Consumes}
-use Rattle.xfs_base.specs.declared.money.NoteKind.{NoteKind}
-use Rattle.xfs_base.specs.declared.counts.Places.{Places}
-use Rattle.xfs_mech.specs.declared.motion.Motion.{Motion}
-use Rattle.xfs_journal.specs.declared.record.Rec.{Rec}
-use Rattle.xfs_guard.specs.Agrees.{Agrees}
-use Rattle.xfs_guard.specs.Follows.{Follows}
-use Rattle.xfs_guard.specs.Within.{Within}
 use Rattle.xfs_script.specs.Lines.{first_line}
 use Rattle.xfs_script.specs.declared.line.LineFault.{LineFault}
 use Rattle.xfs_script.specs.declared.line.LineFault.TheVariants.{Read, Quota, TooLong, Memory}
@@ -30,12 +23,6 @@ IsToken words = IsWord (codes "token") words
 -- the words are of the table of commands
 abbrev pub IsCommand : List (String Global) → Type 0
 IsCommand words = IsGuard words ⊎ IsToken words
-
--- the headline: what was put out is within the tokens, and follows the state at entry
-pub record Upholds (key : List ℕ) (units : List NoteKind) (places : Places) (records : List Rec) (motions : List Motion) (places' : Places) : Type 0 where
-  pub within : Within key units records motions
-  pub agrees : Agrees records motions
-  pub follows : Follows [] [] places records motions places'
 
 -- every line of the text is a line
 pub record AllLines (text : List ℕ) : Type 0 where

@@ -10,6 +10,7 @@ ghost use Rattle.xfs_cli.specs.declared.answer.Turn.TheVariants.{More};
 use crate::say::{SayFault, say_line};
 use crate::session::{AnswerFault, Session};
 use xfs_base::Sink;
+use xfs_disk::Disk;
 use xfs_mech::Mechanism;
 use xfs_script::{Line, ScriptFault, read_guard};
 
@@ -22,15 +23,15 @@ pub enum Turn {
     Memory,
 }
 
-impl<M: Mechanism> Session<M> {
+impl<M: Mechanism, D: Disk> Session<M, D> {
     /// Reads a line, and writes its answer.
     pub fn line<K: Sink>(&mut self, line: &Line, sink: &mut K) -> Turn
-        requires none { self.old.guard.open_order ≡ No }
+        requires none { self.old.guard.state.open_order ≡ No }
         requires short { length line.now.text ≤ 70000 }
         ensures line { result ≢ Turn.NotALine → result ≢ Turn.Memory → IsLine line.now.text }
         ensures no_line { result ≡ Turn.NotALine → ¬ (IsLine line.now.text) }
-        ensures continues { Continues self.old.guard self.new.guard }
-        ensures none { self.new.guard.open_order ≡ No }
+        ensures continues { Continues self.old.guard.state self.new.guard.state }
+        ensures none { self.new.guard.state.open_order ≡ No }
         ensures later { K.faults sink.old ≤ K.faults sink.new }
         ensures cause { result ≡ Turn.Write → Rose (K.faults sink.old) (K.faults sink.new) }
     {

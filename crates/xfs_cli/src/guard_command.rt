@@ -1,63 +1,83 @@
 //! The command `guard`.
 
-ghost use Rattle.std.specs.Prelude.{◌≡◌, ◌≢◌, ◌↔◌, ◌≤◌, [], IsTrue};
+ghost use Rattle.std.specs.Prelude.{◌≡◌, ◌≢◌, ◌↔◌, ◌≤◌, ℕ, List, Some, IsTrue};
 ghost use Rattle.std.specs.Io.KnownBytes.{IsAtEnd};
 ghost use Rattle.xfs_base.specs.Causes.{Rose, IfTold};
-ghost use Rattle.xfs_journal.specs.Journal.{Numbered};
+ghost use Rattle.xfs_disk.specs.Disk.{Only};
+ghost use Rattle.xfs_journal.specs.Image.{Stands};
+ghost use Rattle.xfs_journal.specs.declared.record.Rec.{Rec};
+ghost use Rattle.xfs_journal.specs.declared.record.Rec.TheVariants.{Boot};
+ghost use Rattle.xfs_base.specs.declared.counts.Places.{Places};
 ghost use Rattle.xfs_guard.specs.declared.open.Open.TheVariants.{No};
 ghost use Rattle.xfs_guard.specs.Continues.{Continues};
-ghost use Rattle.xfs_guard.specs.Sound.{IsSound};
-ghost use Rattle.xfs_cli.specs.Run.{IsGuard, Upholds, AllLines, StopsAtLine, GaveAll};
+ghost use Rattle.xfs_guard.specs.Recorded.{IsRecorded};
+ghost use Rattle.xfs_guard.specs.Stored.{IsStored, MayLeave};
+ghost use Rattle.xfs_cli.specs.Run.{IsGuard, AllLines, StopsAtLine, GaveAll};
+ghost use Rattle.xfs_cli.specs.Answers.{WritesUsage};
+ghost use Rattle.xfs_cli.specs.Boots.{EndsUnread, EndsFailed, EndsFull, BootPasses, IsDue, IsNoJournal, IsUnwritten};
+ghost use Rattle.xfs_cli.specs.Upholds.{Upholds};
 
 use crate::answer::Turn;
-use crate::bench::{Bench, Ended};
-use crate::last_line::{faulty, not_a_line, usage};
+use crate::ended::Ended;
+use crate::last_line::{faulty, not_a_line, unbooted, usage};
 use crate::session::Session;
 use crate::words::is_word;
 use std::alloc::Global;
 use xfs_base::{Sink, Source};
-use xfs_guard::Guard;
-use xfs_journal::Rec;
+use xfs_disk::Disk;
+use xfs_guard::{BootFail, Core, Guard};
 use xfs_mech::Mechanism;
 use xfs_script::Lines;
 
 /// Reads guard lines and answers each of them, before the next line is read.
-pub fn guard<S: Source, K: Sink, M: Mechanism>(
+pub fn guard<S: Source, K: Sink, M: Mechanism, D: Disk>(
     alloc: Global,
     words: &[String],
     source: &mut S,
     sink: &mut K,
-    bench: Bench<M>,
-) -> Ended<M>
-    requires fresh { IfTold (M.motions bench.mech) (λ L. L ≡ []) }
-    requires units { M.units bench.mech ≡ bench.units }
+    core: Core<M, D>,
+) -> Ended<M, D>
+    requires units { M.units core.mech ≡ core.units }
+    requires starts { IfTold (D.held core.disk) (λ _. (c : List ℕ) → D.images core.disk c → (J : List Rec) → Stands c J → IsRecorded core.key core.units J (M.motions core.mech)) }
+    requires at_rest { IfTold (D.held core.disk) (λ bytes. Only bytes (D.images core.disk)) }
 
-    ensures numbered { Numbered result.records.items }
-    ensures upholds { IfTold (M.motions result.mech) (λ L. Upholds bench.key bench.units (M.places bench.mech) result.records.items L (M.places result.mech)) }
+    ensures upholds { IfTold (D.held core.disk) (λ bytes. (J : List Rec) → Stands bytes J → IfTold (D.held result.disk) (λ _. (c : List ℕ) → D.images result.disk c
+        → Upholds core.key core.units J (M.motions core.mech) (M.places core.mech) c (M.motions result.mech) (M.places result.mech))) }
 
     ensures usage { (result.status ≡ 2) ↔ ¬ (IsGuard words.now) }
+    ensures usage_written { result.status ≡ 2 → WritesUsage (K.held sink.old) (K.held sink.new) }
     ensures whole { result.status ≡ 0 → IsAtEnd (S.left source.new) }
     ensures lines { result.status ≡ 0 → IfTold (S.left source.old) AllLines }
     ensures not_a_line { result.status ≡ 4 → IfTold (S.left source.old) StopsAtLine }
     ensures quota { result.status ≡ 10 → GaveAll (S.left source.old) (S.left source.new) }
     ensures read { result.status ≡ 3 → Rose (S.faults source.old) (S.faults source.new) }
     ensures write { result.status ≡ 5 → Rose (K.faults sink.old) (K.faults sink.new) }
+
+    ensures boot_disk { result.status ≡ 6 → EndsFailed (D.faults core.disk) (D.faults result.disk) (K.held sink.old) (K.held sink.new) }
+    ensures not_journal { result.status ≡ 7 → EndsUnread (D.held core.disk) (K.held sink.old) (K.held sink.new) }
+    ensures full { result.status ≡ 12 → EndsFull core.limits (M.places core.mech) (D.held core.disk) (K.held sink.old) (K.held sink.new) }
+    ensures unread { IsGuard words.now → IfTold (D.held core.disk) (λ bytes. IsNoJournal bytes → IsDue 7 result.status) }
+    ensures overfull { IsGuard words.now → IfTold (D.held core.disk) (λ bytes. (J : List Rec) → Stands bytes J → BootPasses core.limits (M.places core.mech) J → IsDue 12 result.status) }
+    ensures unwritten { IfTold (D.held core.disk) (λ bytes. IsNoJournal bytes → IsUnwritten (D.held core.disk) (D.held result.disk) (D.images core.disk) (D.images result.disk)) }
+    ensures unmoved { IfTold (D.held core.disk) (λ bytes. IsNoJournal bytes → result.mech ≡ core.mech) }
 {
-    let Bench {
+    let Core {
         mech,
+        disk,
         key,
         seed,
         units,
-    } = bench;
+        limits,
+    } = core;
     if !is_word(words, "guard") {
         usage(alloc, sink);
         return Ended {
             status: 2,
             mech,
-            records: Vec::new(alloc),
+            disk,
         };
     }
-    match Guard::boot(alloc, mech, key, seed, units) {
+    match Guard::boot(alloc, mech, disk, key, seed, units, limits) {
         Ok(guard) => {
             let mut session = Session {
                 alloc,
@@ -66,27 +86,24 @@ pub fn guard<S: Source, K: Sink, M: Mechanism>(
                 last: None,
             };
             let status = serve(&mut session, source, sink);
-            let (mech, records) = ended(session);
-            Ended {
-                status,
-                mech,
-                records,
-            }
+            let (mech, disk) = ended(session);
+            Ended { status, mech, disk }
         }
-        Err(fail) => Ended {
-            status: 8,
-            mech: fail.mech,
-            records: Vec::new(alloc),
+        Err(BootFail { why, mech, disk }) => Ended {
+            status: unbooted(alloc, sink, why),
+            mech,
+            disk,
         },
     }
 }
 
-// The mechanism and the journal of a session that is over.
-fn ended<M: Mechanism>(session: Session<M>) -> (M, Vec<Rec>)
-    ensures sound { IsSound session.guard }
-    ensures records { result.1.items ≡ session.guard.records }
-    ensures motions { M.motions result.0 ≡ session.guard.motions }
-    ensures places { M.places result.0 ≡ session.guard.places }
+// The mechanism and the disk of a session that is over.
+fn ended<M: Mechanism, D: Disk>(session: Session<M, D>) -> (M, D)
+    ensures recorded { (J : List Rec) → MayLeave (D.held result.1) (D.images result.1) J → IsRecorded session.guard.state.key session.guard.state.units J session.guard.state.motions }
+    ensures booted { (p : Places) → session.guard.state.in_doubt ≢ Some (Boot p) }
+    ensures stored { IsStored (D.held result.1) (D.images result.1) session.guard.state.records session.guard.state.in_doubt }
+    ensures motions { M.motions result.0 ≡ session.guard.state.motions }
+    ensures places { M.places result.0 ≡ session.guard.state.places }
 {
     let Session {
         alloc: _,
@@ -98,14 +115,15 @@ fn ended<M: Mechanism>(session: Session<M>) -> (M, Vec<Rec>)
 }
 
 // Answers one line after another, until the input ends or something fails.
-fn serve<S: Source, K: Sink, M: Mechanism>(
-    session: &mut Session<M>,
+fn serve<S: Source, K: Sink, M: Mechanism, D: Disk>(
+    session: &mut Session<M, D>,
     source: &mut S,
     sink: &mut K,
 ) -> u8
-    requires { session.old.guard.open_order ≡ No }
-    ensures continues { Continues session.old.guard session.new.guard }
+    requires { session.old.guard.state.open_order ≡ No }
+    ensures continues { Continues session.old.guard.state session.new.guard.state }
     ensures usage { result ≢ 2 }
+    ensures booted { (result ≢ 6) × (result ≢ 7) × (result ≢ 12) }
     ensures whole { result ≡ 0 → IsAtEnd (S.left source.new) }
     ensures lines { result ≡ 0 → IfTold (S.left source.old) AllLines }
     ensures not_a_line { result ≡ 4 → IfTold (S.left source.old) StopsAtLine }

@@ -3,11 +3,14 @@
 ghost use Rattle.std.specs.Prelude.{◌≡◌, ◌∷◌, [], IfOk};
 ghost use Rattle.xfs_base.specs.Causes.{TookFront};
 ghost use Rattle.xfs_cli.specs.Run.{status_of};
+ghost use Rattle.xfs_guard.specs.declared.fail.BootFault.TheVariants.{NotJournal};
+ghost use Rattle.xfs_cli.specs.Boots.{boot_status, boot_line, WritesBoot};
 ghost use Rattle.xfs_cli.specs.Answers.{lines_text, no_line_text, fault_line, WritesUsage};
 
 use crate::say::{say, say_line};
 use std::alloc::{AllocError, Global};
 use xfs_base::Sink;
+use xfs_guard::BootFault;
 use xfs_script::LineFault;
 
 /// The status of a fault of the input, once its line was written.
@@ -42,6 +45,37 @@ fn no_line(alloc: Global, number: u64) -> Result<Vec<u8>, AllocError>
     ensures { IfOk result (λ v. v.items ≡ no_line_text number) }
 {
     let text = format!(in alloc; "line {number}: not a script line")?;
+    Ok(text.into_bytes())
+}
+
+/// The status of a refused boot, once its line was written.
+pub fn unbooted<K: Sink>(alloc: Global, sink: &mut K, fault: BootFault) -> u8
+    ensures status { result ≡ boot_status fault }
+    ensures written { WritesBoot fault (K.held sink.old) (K.held sink.new) }
+{
+    match fault {
+        BootFault::NotJournal { at } => {
+            if let Ok(line) = no_journal(alloc, at) {
+                let _ = say_line(sink, line);
+            }
+            7
+        }
+        BootFault::Disk => {
+            let _ = say(alloc, sink, b"boot: disk", b"");
+            6
+        }
+        BootFault::Full => {
+            let _ = say(alloc, sink, b"boot: journal full", b"");
+            12
+        }
+        BootFault::Memory => 8,
+    }
+}
+
+fn no_journal(alloc: Global, at: u64) -> Result<Vec<u8>, AllocError>
+    ensures { IfOk result (λ v. v.items ∷ [] ≡ boot_line (NotJournal at)) }
+{
+    let text = format!(in alloc; "boot: not a journal at {at}")?;
     Ok(text.into_bytes())
 }
 

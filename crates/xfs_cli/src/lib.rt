@@ -2,7 +2,7 @@
 #![tactic(auto)]
 
 mod answer;
-mod bench;
+mod ended;
 mod guard_command;
 mod last_line;
 mod refused;
@@ -14,7 +14,7 @@ mod token_command;
 mod top;
 mod words;
 
-pub use bench::{Bench, Ended};
+pub use ended::Ended;
 pub use guard_command::guard;
 pub use token_command::token;
 pub use top::run;

@@ -86,6 +86,7 @@ fn deny_code(deny: Deny) -> Option<&'static str>
     ensures { option_map (λ code. code.now) result ≡ deny_code deny }
 {
     Some(match deny {
+        Deny::Shut | Deny::Full | Deny::Disk => Code::DeviceNotReady.text(),
         Deny::TooLong => Code::NotEnoughSpace.text(),
         Deny::KeyNoValue { .. } => Code::InvalidTokenKeyNoValue.text(),
         Deny::Format { .. } | Deny::NoAmounts => Code::InvalidTokenFormat.text(),

@@ -1,17 +1,21 @@
 //! What the guard answers to a verb.
 
-ghost use Rattle.std.specs.Prelude.{◌≡◌, ◌≢◌, Err, OnErr};
+ghost use Rattle.std.specs.Prelude.{◌≡◌, ◌≢◌, Err, IfErr, Some, None};
 ghost use Rattle.xfs_guard.specs.declared.open.Open.TheVariants.{No};
 ghost use Rattle.xfs_guard.specs.Continues.{Continues};
 ghost use Rattle.xfs_mech.specs.Mechanism.{CanLoad};
+ghost use Rattle.std.specs.Option.{option_or};
+ghost use Rattle.xfs_guard.specs.Fits.{unfit};
 ghost use Rattle.xfs_guard.specs.Refusals.{Answers, IsAsk, order_refusal};
 ghost use Rattle.xfs_cli.specs.GuardLines.{IsBuilt};
+ghost use Rattle.xfs_cli.specs.declared.refused.Refusal.TheVariants.{Deny as Denied};
 
 use crate::refused::{Refusal, refusal_text};
 use crate::text::{joined, outcome_text, show_text};
 use std::alloc::{AllocError, AllocFailed, Global};
 use xfs_base::{Bytes, Counts, Memory};
-use xfs_guard::{Ask, Deny, Guard, Permit};
+use xfs_disk::Disk;
+use xfs_guard::{Ask, Deny, Fit, Guard, Permit};
 use xfs_mech::{Mechanism, Outcome};
 use xfs_mix::check;
 use xfs_script::{Given, GuardLine};
@@ -27,21 +31,21 @@ pub enum AnswerFault {
 
 /// The guard that answers, the key of its tokens, and the token that was minted last.
 #[derive(Drop)]
-pub struct Session<M: Mechanism> {
+pub struct Session<M: Mechanism, D: Disk> {
     pub alloc: Global,
-    pub guard: Guard<M>,
+    pub guard: Guard<M, D>,
     pub key: [u8; 32],
     pub last: Option<Bytes>,
 }
 
-impl<M: Mechanism> Session<M> {
+impl<M: Mechanism, D: Disk> Session<M, D> {
     /// What a verb is answered, without the line feed. None where it has no answer.
     pub fn answer(&mut self, verb: &GuardLine) -> Result<Option<Vec<u8>>, AnswerFault>
-        requires { self.old.guard.open_order ≡ No }
+        requires { self.old.guard.state.open_order ≡ No }
         ensures built { result ≢ Err AnswerFault.NotBuilt → IsBuilt verb.now }
         ensures not_built { result ≡ Err AnswerFault.NotBuilt → ¬ (IsBuilt verb.now) }
-        ensures continues { Continues self.old.guard self.new.guard }
-        ensures none { self.new.guard.open_order ≡ No }
+        ensures continues { Continues self.old.guard.state self.new.guard.state }
+        ensures none { self.new.guard.state.open_order ≡ No }
     {
         match verb {
             GuardLine::Skip => Ok(None),
@@ -60,31 +64,31 @@ impl<M: Mechanism> Session<M> {
     }
 
     fn issue(&mut self) -> Result<Vec<u8>, Memory>
-        requires { self.old.guard.open_order ≡ No }
-        ensures continues { Continues self.old.guard self.new.guard }
-        ensures none { self.new.guard.open_order ≡ No }
+        requires { self.old.guard.state.open_order ≡ No }
+        ensures continues { Continues self.old.guard.state self.new.guard.state }
+        ensures none { self.new.guard.state.open_order ≡ No }
     {
         match self.guard.issue() {
             Ok(nonce) => joined(self.alloc, b"nonce ", &nonce.text),
-            Err(_) => Err(Memory),
+            Err(deny) => refusal_text(self.alloc, &Refusal::Deny(deny)),
         }
     }
 
     fn clear(&mut self) -> Result<Vec<u8>, Memory>
-        requires { self.old.guard.open_order ≡ No }
-        ensures continues { Continues self.old.guard self.new.guard }
-        ensures none { self.new.guard.open_order ≡ No }
+        requires { self.old.guard.state.open_order ≡ No }
+        ensures continues { Continues self.old.guard.state self.new.guard.state }
+        ensures none { self.new.guard.state.open_order ≡ No }
     {
         match self.guard.clear() {
             Ok(true) => joined(self.alloc, b"cleared", b""),
             Ok(false) => joined(self.alloc, b"nothing to clear", b""),
-            Err(_) => Err(Memory),
+            Err(deny) => refusal_text(self.alloc, &Refusal::Deny(deny)),
         }
     }
 
     // A genuine token for the live nonce, which is then the last one.
     fn mint(&mut self, amounts: &Amounts) -> Result<Vec<u8>, Memory>
-        ensures same { self.new.guard ≡ self.old.guard }
+        ensures same { self.new.guard.state ≡ self.old.guard.state }
     {
         let Some(nonce) = self.guard.live() else {
             self.last = None;
@@ -101,9 +105,9 @@ impl<M: Mechanism> Session<M> {
 
     // The customer takes what lies in the outlet.
     fn take(&mut self) -> Result<Vec<u8>, Memory>
-        requires { self.old.guard.open_order ≡ No }
-        ensures continues { Continues self.old.guard self.new.guard }
-        ensures none { self.new.guard.open_order ≡ No }
+        requires { self.old.guard.state.open_order ≡ No }
+        ensures continues { Continues self.old.guard.state self.new.guard.state }
+        ensures none { self.new.guard.state.open_order ≡ No }
     {
         match self.guard.taken() {
             Ok(outcome) => outcome_text(self.alloc, b"taken", &outcome),
@@ -113,15 +117,18 @@ impl<M: Mechanism> Session<M> {
 
     // The operator adds notes to a unit, and it is written down.
     fn fill(&mut self, unit: u8, count: u32) -> Result<Vec<u8>, Memory>
-        requires { self.old.guard.open_order ≡ No }
-        ensures continues { Continues self.old.guard self.new.guard }
-        ensures none { self.new.guard.open_order ≡ No }
+        requires { self.old.guard.state.open_order ≡ No }
+        ensures continues { Continues self.old.guard.state self.new.guard.state }
+        ensures none { self.new.guard.state.open_order ≡ No }
     {
         if unit == 0 || unit > self.guard.units().len() {
             return refusal_text(self.alloc, &Refusal::NoUnit);
         }
         if !self.guard.room(unit, count) {
             return refusal_text(self.alloc, &Refusal::StorageFull);
+        }
+        if let Some(deny) = unfit(&self.guard) {
+            return refusal_text(self.alloc, &Refusal::Deny(deny));
         }
         match loaded(&mut self.guard, unit, count) {
             Ok(false) => joined(self.alloc, b"filled", b""),
@@ -131,17 +138,17 @@ impl<M: Mechanism> Session<M> {
     }
 
     fn show(&mut self) -> Result<Vec<u8>, Memory>
-        ensures same { self.new.guard ≡ self.old.guard }
+        ensures same { self.new.guard.state ≡ self.old.guard.state }
     {
         show_text(self.alloc, self.guard.units().len(), &self.guard.places())
     }
 
     // An order of all the notes of a place.
     fn moved(&mut self, ask: Ask) -> Result<Vec<u8>, Memory>
-        requires none { self.old.guard.open_order ≡ No }
-        requires asked { IsAsk self.old.guard ask }
-        ensures continues { Continues self.old.guard self.new.guard }
-        ensures none { self.new.guard.open_order ≡ No }
+        requires none { self.old.guard.state.open_order ≡ No }
+        requires asked { IsAsk self.old.guard.state ask }
+        ensures continues { Continues self.old.guard.state self.new.guard.state }
+        ensures none { self.new.guard.state.open_order ≡ No }
     {
         match carried(&mut self.guard, ask) {
             Ok(outcome) => outcome_text(self.alloc, b"moved", &outcome),
@@ -150,9 +157,9 @@ impl<M: Mechanism> Session<M> {
     }
 
     fn dispense(&mut self, token: &Given, counts: &Counts) -> Result<Vec<u8>, Memory>
-        requires { self.old.guard.open_order ≡ No }
-        ensures continues { Continues self.old.guard self.new.guard }
-        ensures none { self.new.guard.open_order ≡ No }
+        requires { self.old.guard.state.open_order ≡ No }
+        ensures continues { Continues self.old.guard.state self.new.guard.state }
+        ensures none { self.new.guard.state.open_order ≡ No }
     {
         let permit = match self.permitted(token, counts) {
             Ok(permit) => permit,
@@ -166,10 +173,10 @@ impl<M: Mechanism> Session<M> {
 
     // The leave to stack these notes: the checks of a dispense, in their order.
     fn permitted(&mut self, token: &Given, counts: &Counts) -> Result<Permit, Refusal>
-        requires { self.old.guard.open_order ≡ No }
-        ensures continues { Continues self.old.guard self.new.guard }
-        ensures none { self.new.guard.open_order ≡ No }
-        ensures err { OnErr result (self.new.guard ≡ self.old.guard) }
+        requires { self.old.guard.state.open_order ≡ No }
+        ensures continues { Continues self.old.guard.state self.new.guard.state }
+        ensures none { self.new.guard.state.open_order ≡ No }
+        ensures same { IfErr result (λ r. r ≢ Denied Deny.Disk → self.new.guard.state ≡ self.old.guard.state) }
     {
         let Some(text) = given(&self.last, token) else {
             return Err(Refusal::NoToken);
@@ -201,26 +208,41 @@ fn given<'a>(last: &'a Option<Bytes>, token: &'a Given) -> Option<&'a [u8]> {
 }
 
 // Writes an order, carries it out, and writes down what it did.
-fn carried<M: Mechanism>(guard: &mut Guard<M>, ask: Ask) -> Result<Outcome, Deny>
-    requires none { guard.old.open_order ≡ No }
-    requires asked { IsAsk guard.old ask }
-    ensures refused { Answers result (order_refusal guard.old ask) }
-    ensures err { OnErr result (guard.new ≡ guard.old) }
-    ensures continues { Continues guard.old guard.new }
-    ensures none { guard.new.open_order ≡ No }
+fn carried<M: Mechanism, D: Disk>(guard: &mut Guard<M, D>, ask: Ask) -> Result<Outcome, Deny>
+    requires none { guard.old.state.open_order ≡ No }
+    requires asked { IsAsk guard.old.state ask }
+    ensures refused { Answers result (option_or (unfit guard.old.state) (order_refusal guard.old.state ask)) }
+    ensures same { IfErr result (λ e. e ≢ Deny.Disk → guard.new.state ≡ guard.old.state) }
+    ensures continues { Continues guard.old.state guard.new.state }
+    ensures none { guard.new.state.open_order ≡ No }
 {
     guard.order(ask)?;
     let outcome = guard.act();
-    guard.settle();
+    guard.settle()?;
     Ok(outcome)
 }
 
+// What a line that writes is refused for first.
+fn unfit<M: Mechanism, D: Disk>(guard: &Guard<M, D>) -> Option<Deny>
+    ensures { result ≡ unfit guard.now.state }
+{
+    match guard.fit() {
+        Fit::Ready => None,
+        Fit::Shut => Some(Deny::Shut),
+        Fit::Full => Some(Deny::Full),
+    }
+}
+
 // Loads notes and writes it down. Whether the mechanism failed; nothing is written then.
-fn loaded<M: Mechanism>(guard: &mut Guard<M>, unit: u8, count: u32) -> Result<bool, Deny>
-    requires none { guard.old.open_order ≡ No }
-    requires fits { CanLoad guard.old.units guard.old.places unit count }
-    ensures continues { Continues guard.old guard.new }
-    ensures none { guard.new.open_order ≡ No }
+fn loaded<M: Mechanism, D: Disk>(
+    guard: &mut Guard<M, D>,
+    unit: u8,
+    count: u32,
+) -> Result<bool, Deny>
+    requires none { guard.old.state.open_order ≡ No }
+    requires fits { CanLoad guard.old.state.units guard.old.state.places unit count }
+    ensures continues { Continues guard.old.state guard.new.state }
+    ensures none { guard.new.state.open_order ≡ No }
 {
     let outcome = guard.load(unit, count)?;
     if outcome.failed {
@@ -231,10 +253,14 @@ fn loaded<M: Mechanism>(guard: &mut Guard<M>, unit: u8, count: u32) -> Result<bo
 }
 
 // Stacks the notes unit by unit. The first order that is refused or fails ends it.
-fn stacked<M: Mechanism>(guard: &mut Guard<M>, issue: u64, counts: &Counts) -> Result<Outcome, Deny>
-    requires none { guard.old.open_order ≡ No }
-    ensures continues { Continues guard.old guard.new }
-    ensures none { guard.new.open_order ≡ No }
+fn stacked<M: Mechanism, D: Disk>(
+    guard: &mut Guard<M, D>,
+    issue: u64,
+    counts: &Counts,
+) -> Result<Outcome, Deny>
+    requires none { guard.old.state.open_order ≡ No }
+    ensures continues { Continues guard.old.state guard.new.state }
+    ensures none { guard.new.state.open_order ≡ No }
 {
     let mut all = Outcome {
         moved: Counts([0; 8]),

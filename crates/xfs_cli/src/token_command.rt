@@ -8,61 +8,63 @@ ghost use Rattle.xfs_cli.specs.Answers.{WritesAll, WritesUntil, WritesFront, Say
 ghost use Rattle.xfs_cli.specs.TokenAnswers.{AnswersToken, IsLineOfToken};
 
 use crate::answer::Turn;
-use crate::bench::{Bench, Ended};
+use crate::ended::Ended;
 use crate::last_line::{faulty, not_a_line, usage};
 use crate::say::{SayFault, say_line};
 use crate::token_answer::answer;
 use crate::words::is_word;
 use std::alloc::Global;
 use xfs_base::{Sink, Source};
+use xfs_disk::Disk;
+use xfs_guard::Core;
 use xfs_mech::Mechanism;
 use xfs_script::{Line, Lines, ScriptFault, read_token};
 
-/// Reads token lines and answers each of them under the bench's key, before the next line is read.
-/// The mechanism is not touched, and there are no records.
-pub fn token<S: Source, K: Sink, M: Mechanism>(
+/// Reads token lines and answers each of them under the core's key, before the next line is read.
+/// Mechanism and disk come back as they were.
+pub fn token<S: Source, K: Sink, M: Mechanism, D: Disk>(
     alloc: Global,
     words: &[String],
     source: &mut S,
     sink: &mut K,
-    bench: Bench<M>,
-) -> Ended<M>
-    ensures same { result.mech ≡ bench.mech }
-    ensures records { result.records.items ≡ [] }
+    core: Core<M, D>,
+) -> Ended<M, D>
+    ensures same { result.mech ≡ core.mech }
+    ensures same_disk { result.disk ≡ core.disk }
 
     ensures usage { (result.status ≡ 2) ↔ ¬ (IsToken words.now) }
     ensures usage_written { result.status ≡ 2 → WritesUsage (K.held sink.old) (K.held sink.new) }
+    ensures unbooted { (result.status ≢ 6) × (result.status ≢ 7) × (result.status ≢ 12) }
     ensures whole { result.status ≡ 0 → IsAtEnd (S.left source.new) }
     ensures quota { result.status ≡ 10 → GaveAll (S.left source.old) (S.left source.new) }
     ensures read { result.status ≡ 3 → Rose (S.faults source.old) (S.faults source.new) }
     ensures write { result.status ≡ 5 → Rose (K.faults sink.old) (K.faults sink.new) }
 
-    ensures answers { result.status ≡ 0 → IfTold (S.left source.old) (WritesAll AnswersToken bench.key (K.held sink.old) (K.held sink.new)) }
-    ensures front { result.status ≡ 5 → IfTold (S.left source.old) (WritesFront AnswersToken bench.key (K.held sink.old) (K.held sink.new)) }
-    ensures until { result.status ≢ 0 → result.status ≢ 2 → result.status ≢ 5 → IfTold (S.left source.old) (WritesUntil IsLineOfToken AnswersToken bench.key result.status (S.left source.new) (K.held sink.old) (K.held sink.new)) }
+    ensures answers { result.status ≡ 0 → IfTold (S.left source.old) (WritesAll AnswersToken core.key (K.held sink.old) (K.held sink.new)) }
+    ensures front { result.status ≡ 5 → IfTold (S.left source.old) (WritesFront AnswersToken core.key (K.held sink.old) (K.held sink.new)) }
+    ensures until { result.status ≢ 0 → result.status ≢ 2 → result.status ≢ 5 → IfTold (S.left source.old) (WritesUntil IsLineOfToken AnswersToken core.key result.status (S.left source.new) (K.held sink.old) (K.held sink.new)) }
 {
-    let Bench {
+    let Core {
         mech,
+        disk,
         key,
         seed: _,
         units: _,
-    } = bench;
+        limits: _,
+    } = core;
     let status = if is_word(words, "token") {
         serve(alloc, &key, source, sink)
     } else {
         usage(alloc, sink);
         2
     };
-    Ended {
-        status,
-        mech,
-        records: Vec::new(alloc),
-    }
+    Ended { status, mech, disk }
 }
 
 // Answers one line after another, until the input ends or something fails.
 fn serve<S: Source, K: Sink>(alloc: Global, key: &[u8; 32], source: &mut S, sink: &mut K) -> u8
     ensures usage { result ≢ 2 }
+    ensures unbooted { (result ≢ 6) × (result ≢ 7) × (result ≢ 12) }
     ensures whole { result ≡ 0 → IsAtEnd (S.left source.new) }
     ensures quota { result ≡ 10 → GaveAll (S.left source.old) (S.left source.new) }
     ensures read { result ≡ 3 → Rose (S.faults source.old) (S.faults source.new) }

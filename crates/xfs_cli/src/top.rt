@@ -1,38 +1,46 @@
 //! The top call.
 
-ghost use Rattle.std.specs.Prelude.{◌≡◌, ◌≢◌, ◌↔◌, []};
+ghost use Rattle.std.specs.Prelude.{◌≡◌, ◌≢◌, ◌↔◌, ℕ, List};
 ghost use Rattle.std.specs.Io.KnownBytes.{IsAtEnd};
 ghost use Rattle.xfs_base.specs.Causes.{Rose, IfTold};
-ghost use Rattle.xfs_journal.specs.Journal.{Numbered};
-ghost use Rattle.xfs_cli.specs.Run.{IsGuard, IsToken, IsCommand, Upholds, AllLines, StopsAtLine, GaveAll};
+ghost use Rattle.xfs_disk.specs.Disk.{Only};
+ghost use Rattle.xfs_journal.specs.Image.{Stands};
+ghost use Rattle.xfs_journal.specs.declared.record.Rec.{Rec};
+ghost use Rattle.xfs_guard.specs.Recorded.{IsRecorded};
+ghost use Rattle.xfs_cli.specs.Run.{IsGuard, IsToken, IsCommand, AllLines, StopsAtLine, GaveAll};
+ghost use Rattle.xfs_cli.specs.Upholds.{Upholds};
+ghost use Rattle.xfs_cli.specs.Boots.{EndsUnread, EndsFailed, EndsFull, BootPasses, IsDue, IsNoJournal, IsUnwritten};
 ghost use Rattle.xfs_cli.specs.Answers.{WritesAll, WritesUntil, WritesFront, WritesUsage};
 ghost use Rattle.xfs_cli.specs.TokenAnswers.{AnswersToken, IsLineOfToken};
 
-use crate::bench::{Bench, Ended};
+use crate::ended::Ended;
 use crate::guard_command::guard;
 use crate::last_line::usage;
 use crate::token_command::token;
 use crate::words::is_word;
 use std::alloc::Global;
 use xfs_base::{Sink, Source};
+use xfs_disk::Disk;
+use xfs_guard::Core;
 use xfs_mech::Mechanism;
 
 /// The program: the words of the command line, its input and output, and what it works on.
 ///
 /// The commands that are built are `guard` and `token`.
-pub fn run<S: Source, K: Sink, M: Mechanism>(
+pub fn run<S: Source, K: Sink, M: Mechanism, D: Disk>(
     alloc: Global,
     words: &[String],
     source: &mut S,
     sink: &mut K,
-    bench: Bench<M>,
-) -> Ended<M>
-    requires fresh { IfTold (M.motions bench.mech) (λ L. L ≡ []) }
-    requires units { M.units bench.mech ≡ bench.units }
+    core: Core<M, D>,
+) -> Ended<M, D>
+    requires units { M.units core.mech ≡ core.units }
+    requires starts { IfTold (D.held core.disk) (λ _. (c : List ℕ) → D.images core.disk c → (J : List Rec) → Stands c J → IsRecorded core.key core.units J (M.motions core.mech)) }
+    requires at_rest { IfTold (D.held core.disk) (λ bytes. Only bytes (D.images core.disk)) }
 
-    // The headline: what was put out is within the tokens.
-    ensures numbered { Numbered result.records.items }
-    ensures upholds { IfTold (M.motions result.mech) (λ L. Upholds bench.key bench.units (M.places bench.mech) result.records.items L (M.places result.mech)) }
+    // The headline: what was put out is within the tokens, whatever a crash leaves of the disk.
+    ensures upholds { IfTold (D.held core.disk) (λ bytes. (J : List Rec) → Stands bytes J → IfTold (D.held result.disk) (λ _. (c : List ℕ) → D.images result.disk c
+        → Upholds core.key core.units J (M.motions core.mech) (M.places core.mech) c (M.motions result.mech) (M.places result.mech))) }
 
     // Each status has its cause.
     ensures usage { (result.status ≡ 2) ↔ ¬ (IsCommand words.now) }
@@ -42,27 +50,37 @@ pub fn run<S: Source, K: Sink, M: Mechanism>(
     ensures read { result.status ≡ 3 → Rose (S.faults source.old) (S.faults source.new) }
     ensures write { result.status ≡ 5 → Rose (K.faults sink.old) (K.faults sink.new) }
 
+    ensures boot_disk { result.status ≡ 6 → EndsFailed (D.faults core.disk) (D.faults result.disk) (K.held sink.old) (K.held sink.new) }
+    ensures not_journal { result.status ≡ 7 → EndsUnread (D.held core.disk) (K.held sink.old) (K.held sink.new) }
+    ensures full { result.status ≡ 12 → EndsFull core.limits (M.places core.mech) (D.held core.disk) (K.held sink.old) (K.held sink.new) }
+    ensures unread { IsGuard words.now → IfTold (D.held core.disk) (λ bytes. IsNoJournal bytes → IsDue 7 result.status) }
+    ensures overfull { IsGuard words.now → IfTold (D.held core.disk) (λ bytes. (J : List Rec) → Stands bytes J → BootPasses core.limits (M.places core.mech) J → IsDue 12 result.status) }
+
+    // A disk that is no journal stays as it was, and so does the mechanism.
+    ensures unwritten { IfTold (D.held core.disk) (λ bytes. IsNoJournal bytes → IsUnwritten (D.held core.disk) (D.held result.disk) (D.images core.disk) (D.images result.disk)) }
+    ensures unmoved { IfTold (D.held core.disk) (λ bytes. IsNoJournal bytes → result.mech ≡ core.mech) }
+
     // The lines of `guard`.
     ensures lines { IsGuard words.now → result.status ≡ 0 → IfTold (S.left source.old) AllLines }
     ensures not_a_line { IsGuard words.now → result.status ≡ 4 → IfTold (S.left source.old) StopsAtLine }
 
     // The lines of `token`, and what is written: their answers, and at most one last line.
-    ensures answers { IsToken words.now → result.status ≡ 0 → IfTold (S.left source.old) (WritesAll AnswersToken bench.key (K.held sink.old) (K.held sink.new)) }
-    ensures front { IsToken words.now → result.status ≡ 5 → IfTold (S.left source.old) (WritesFront AnswersToken bench.key (K.held sink.old) (K.held sink.new)) }
-    ensures until { IsToken words.now → result.status ≢ 0 → result.status ≢ 5 → IfTold (S.left source.old) (WritesUntil IsLineOfToken AnswersToken bench.key result.status (S.left source.new) (K.held sink.old) (K.held sink.new)) }
-    ensures same { IsToken words.now → result.mech ≡ bench.mech }
-    ensures records { IsToken words.now → result.records.items ≡ [] }
+    ensures answers { IsToken words.now → result.status ≡ 0 → IfTold (S.left source.old) (WritesAll AnswersToken core.key (K.held sink.old) (K.held sink.new)) }
+    ensures front { IsToken words.now → result.status ≡ 5 → IfTold (S.left source.old) (WritesFront AnswersToken core.key (K.held sink.old) (K.held sink.new)) }
+    ensures until { IsToken words.now → result.status ≢ 0 → result.status ≢ 5 → IfTold (S.left source.old) (WritesUntil IsLineOfToken AnswersToken core.key result.status (S.left source.new) (K.held sink.old) (K.held sink.new)) }
+    ensures same { IsToken words.now → result.mech ≡ core.mech }
+    ensures same_disk { IsToken words.now → result.disk ≡ core.disk }
 {
     if is_word(words, "guard") {
-        return guard(alloc, words, source, sink, bench);
+        return guard(alloc, words, source, sink, core);
     }
     if is_word(words, "token") {
-        return token(alloc, words, source, sink, bench);
+        return token(alloc, words, source, sink, core);
     }
     usage(alloc, sink);
     Ended {
         status: 2,
-        mech: bench.mech,
-        records: Vec::new(alloc),
+        mech: core.mech,
+        disk: core.disk,
     }
 }

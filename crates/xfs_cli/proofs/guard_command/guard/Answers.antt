@@ -1,9 +1,40 @@
-use Rattle.std.proofs.Common.{refl}
-use Rattle.xfs_cli.proofs.RunLaws.{Upholds-run}
+use Rattle.std.proofs.Common.{refl, ap}
+use Rattle.xfs_guard.specs.View.{View}
+use Rattle.xfs_cli.proofs.RunLaws.{recorded-start, upholds-same, upholds-refused, upholds-run, ends-unread, due-full, journal-run, fits-run}
 use Rattle.xfs_cli.proofs.guard_command.guard.Goals as goal
+
+pub returns-then-not-is_word-clause-upholds : goal.returns-then-not-is_word-clause-upholds
+returns-then-not-is_word-clause-upholds g c = upholds-same _ _ _ _ _ _ c.requires.starts c.requires.at_rest
 
 pub returns-in-Ok-clause-upholds : goal.returns-in-Ok-clause-upholds
 returns-in-Ok-clause-upholds g c =
-    let continues = rw c.in-Ok.ensures.ok at c.serve-status.ensures.continues in
-    rw (c.ended-mech.ensures.records, c.ended-mech.ensures.places)
-    (Upholds-run _ _ (g.M.Mechanism.motions c.ended-mech.result.0) refl c.requires.fresh continues c.ended-mech.ensures.sound c.ended-mech.ensures.motions)
+    let ok = c.in-Ok.ensures.ok in
+    let continues = rw ok.2 at c.serve-status.ensures.continues in
+    upholds-run _ _ ok.0 _ _ _ _ _ _ refl ok.1 c.requires.starts (g.met.D.Disk.as_read c.args.core.disk) continues c.ended-mech.ensures.booted c.ended-mech.ensures.stored
+    c.ended-mech.ensures.recorded c.ended-mech.ensures.motions c.ended-mech.ensures.places
+
+pub returns-in-Err-clause-upholds : goal.returns-in-Err-clause-upholds
+returns-in-Err-clause-upholds g c =
+    rw c.in-Err.ensures.mech (upholds-refused _ _ _ _ _ _ _ _ c.requires.starts c.requires.at_rest (g.met.D.Disk.as_read c.args.core.disk) c.in-Err.ensures.either)
+
+pub returns-in-Err-clause-not_journal : goal.returns-in-Err-clause-not_journal
+returns-in-Err-clause-not_journal g c = ends-unread _ _ _ _ _ c.unbooted.ensures.status c.unbooted.ensures.written c.in-Err.ensures.not_journal
+
+pub returns-in-Err-clause-overfull : goal.returns-in-Err-clause-overfull
+returns-in-Err-clause-overfull g c = λ guard. due-full _ _ _ _ _ c.unbooted.ensures.status c.in-Err.ensures.not_journal
+
+pub boot-requires-clause-recorded : goal.boot-requires-clause-recorded
+boot-requires-clause-recorded g c = recorded-start _ _ _ _ _ c.requires.starts
+
+pub returns-in-Ok-clause-unread : goal.returns-in-Ok-clause-unread
+returns-in-Ok-clause-unread g c = λ guard. journal-run c.in-Ok.ensures.ok.0 _ _ c.in-Ok.ensures.ok.1
+
+pub returns-in-Ok-clause-overfull : goal.returns-in-Ok-clause-overfull
+returns-in-Ok-clause-overfull g c = λ guard.
+    let ok = c.in-Ok.ensures.ok in fits-run _ _ c.in-Ok.guard.state ok.0 _ _ (ap (λ (v : View). v.records) ok.2) ok.1 c.in-Ok.ensures.fits
+
+pub returns-in-Ok-clause-unwritten : goal.returns-in-Ok-clause-unwritten
+returns-in-Ok-clause-unwritten g c = journal-run c.in-Ok.ensures.ok.0 _ _ c.in-Ok.ensures.ok.1
+
+pub returns-in-Ok-clause-unmoved : goal.returns-in-Ok-clause-unmoved
+returns-in-Ok-clause-unmoved g c = journal-run c.in-Ok.ensures.ok.0 _ _ c.in-Ok.ensures.ok.1

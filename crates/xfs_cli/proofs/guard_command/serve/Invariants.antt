@@ -7,8 +7,8 @@ use Rattle.xfs_cli.proofs.guard_command.serve.Given as goal
 
 abbrev pub invariant-loop : goal.invariant-loop
 invariant-loop g l = record {
-  continues : Continues l.fn.session.guard l.session.guard;
-  none : l.session.guard.open_order ≡ No;
+  continues : Continues l.fn.session.guard.state l.session.guard.state;
+  none : l.session.guard.state.open_order ≡ No;
   source_later : g.S.Source.faults l.fn.source ≤ g.S.Source.faults l.source;
   sink_later : g.K.Sink.faults l.fn.sink ≤ g.K.Sink.faults l.sink;
   gives : Gives nothing_read l.lines (g.S.Source.left l.fn.source) (g.S.Source.left l.source);

@@ -12,3 +12,6 @@ loop-place-preserved g c = record {
 
 pub returns-then-all-clause-continues : goal.returns-then-all-clause-continues
 returns-then-all-clause-continues g c = Continues-trans _ _ _ c.loop-place.invariant.continues c.carried.ensures.continues
+
+pub returns-in_err-outcome-clause-continues : goal.returns-in_err-outcome-clause-continues
+returns-in_err-outcome-clause-continues g c = Continues-trans _ _ _ c.loop-place.invariant.continues c.in_err-outcome.ensures.continues

@@ -5,6 +5,6 @@ use Rattle.xfs_cli.proofs.session.stacked.Given as goal
 
 abbrev pub invariant-loop-place : goal.invariant-loop-place
 invariant-loop-place g l = record {
-  continues : Continues l.fn.guard l.guard;
-  none : l.guard.open_order ≡ No;
+  continues : Continues l.fn.guard.state l.guard.state;
+  none : l.guard.state.open_order ≡ No;
 }

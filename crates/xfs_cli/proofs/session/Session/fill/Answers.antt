@@ -6,3 +6,6 @@ returns-then-unit-eq0-clause-continues g c = Continues-same _
 
 pub returns-then-not-room-clause-continues : goal.returns-then-not-room-clause-continues
 returns-then-not-room-clause-continues g c = Continues-same _
+
+pub returns-in-Some-clause-continues : goal.returns-in-Some-clause-continues
+returns-in-Some-clause-continues g c = Continues-same _

@@ -9,6 +9,3 @@ returns-in_err-claim-clause-continues g c = Continues-same _
 
 pub returns-in_err-check-clause-continues : goal.returns-in_err-check-clause-continues
 returns-in_err-check-clause-continues g c = Continues-same _
-
-pub returns-in_err-allow-clause-continues : goal.returns-in_err-allow-clause-continues
-returns-in_err-allow-clause-continues g c = rw c.in_err-allow.ensures.err (Continues-same _)

@@ -1,0 +1,68 @@
+-- How a command ends whose boot is refused: status 6, 7, 8 or 12, and its last line.
+use Rattle.std.specs.Prelude.{◌≡◌, ◌⊎◌, ℕ, true, List, [], ◌∷◌, ◌++◌, codes, decimal}
+use Rattle.std.specs.declared.option.Option.{Option}
+use Rattle.xfs_base.specs.Causes.{IfTold, Rose, TookFront}
+use Rattle.xfs_base.specs.declared.counts.Places.{Places}
+use Rattle.xfs_disk.specs.Disk.{AddsNone}
+use Rattle.xfs_journal.specs.Image.{Stands}
+use Rattle.xfs_journal.specs.JournalView.{passes}
+use Rattle.xfs_journal.specs.Paging.{CeasesAt}
+use Rattle.xfs_journal.specs.declared.limits.Limits.{Limits}
+use Rattle.xfs_journal.specs.declared.record.Rec.{Rec}
+use Rattle.xfs_journal.specs.declared.record.Rec.TheVariants.{Boot}
+use Rattle.xfs_guard.specs.declared.fail.BootFault.{BootFault}
+use Rattle.xfs_guard.specs.declared.fail.BootFault.TheVariants.{NotJournal, Disk, Full, Memory}
+use Rattle.xfs_cli.specs.Answers.{lines_text}
+
+-- the status of a refused boot
+abbrev pub boot_status : BootFault → ℕ
+boot_status (NotJournal at) = 7
+boot_status Disk = 6
+boot_status Full = 12
+boot_status Memory = 8
+
+-- its last line; want of memory has none
+abbrev pub boot_line : BootFault → List (List ℕ)
+boot_line (NotJournal at) = (codes "boot: not a journal at " ++ decimal at) ∷ []
+boot_line Disk = codes "boot: disk" ∷ []
+boot_line Full = codes "boot: journal full" ∷ []
+boot_line Memory = []
+
+-- the sink took a front of that line
+abbrev pub WritesBoot : BootFault → Option (List ℕ) → Option (List ℕ) → Type 0
+WritesBoot fault before after = TookFront before after (lines_text (boot_line fault))
+
+-- no list of records stands for the bytes
+abbrev pub IsNoJournal : List ℕ → Type 0
+IsNoJournal bytes = (J : List Rec) → ¬ Stands bytes J
+
+-- the disk's bytes are no journal from a place on, which the last line tells
+pub record EndsUnread (held before after : Option (List ℕ)) : Type 0 where
+  pub at : ℕ
+  pub ceases : IfTold held (λ bytes. CeasesAt bytes at × IsNoJournal bytes)
+  pub written : WritesBoot (NotJournal at) before after
+
+-- the disk failed in the boot, and the last line says so
+pub record EndsFailed (faults now : ℕ) (before after : Option (List ℕ)) : Type 0 where
+  pub cause : Rose faults now
+  pub written : WritesBoot Disk before after
+
+-- the Boot of these places passes a limit behind these records
+abbrev pub BootPasses : Limits → Places → List Rec → Type 0
+BootPasses limits places records = passes limits (records ++ Boot places ∷ []) ≡ true
+
+-- the Boot passes a limit behind the records that the disk has, and the last line says so
+pub record EndsFull (limits : Limits) (places : Places) (held before after : Option (List ℕ)) : Type 0 where
+  pub records : List Rec
+  pub stands : IfTold held (λ bytes. Stands bytes records)
+  pub passes_limit : BootPasses limits places records
+  pub written : WritesBoot Full before after
+
+-- the status is the one that is due, unless the disk failed or memory ran out before it was found
+abbrev pub IsDue : ℕ → ℕ → Type 0
+IsDue due status = (status ≡ due) ⊎ ((status ≡ 6) ⊎ (status ≡ 8))
+
+-- the disk reads as it did, and a crash leaves nothing new
+pub record IsUnwritten (held held' : Option (List ℕ)) (images images' : List ℕ → Type 0) : Type 0 where
+  pub same : held' ≡ held
+  pub adds_none : AddsNone images images'
