@@ -10,6 +10,8 @@ mod guard_rows;
 #[cfg(test)]
 mod guard_scripts;
 #[cfg(test)]
+mod journal_rows;
+#[cfg(test)]
 mod teller;
 #[cfg(test)]
 mod token_rows;
