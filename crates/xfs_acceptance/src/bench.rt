@@ -1,16 +1,24 @@
 //! Main's bench over memory, and what a run on it wrote.
 
-ghost use Rattle.std.specs.Prelude.{◌≡◌, IfOk, []};
+ghost use Rattle.std.specs.Prelude.{◌≡◌, ℕ, List, IfOk, []};
 ghost use Rattle.xfs_base.specs.Causes.{IfTold};
 ghost use Rattle.xfs_mech.specs.Sim.{units_of, motions_of};
+ghost use Rattle.xfs_disk.specs.Disk.{Only};
+ghost use Rattle.xfs_disk.specs.MemDisk.{IsImage as MayBe, bytes_of, steps_of};
+ghost use Rattle.xfs_disk.specs.Wrapped.{failing_inner};
+ghost use Rattle.xfs_journal.specs.Image.{IsImage, Stands};
+ghost use Rattle.xfs_journal.specs.declared.record.Rec.{Rec};
+ghost use Rattle.xfs_guard.specs.Recorded.{IsRecorded};
 ghost use Rattle.xfs_guard.specs.declared.open.Open.TheVariants.{No};
 
 use std::alloc::Global;
 use std::process::Abort;
 use std::test::Fail;
 use xfs_base::{Counts, Currency, MemSink, MemSource, NoteKind, Places, UnitTable};
-use xfs_cli::{Bench, run};
-use xfs_guard::Guard;
+use xfs_cli::run;
+use xfs_disk::{FailDisk, MemDisk};
+use xfs_guard::{Core, Guard};
+use xfs_journal::Limits;
 use xfs_mech::{Fault, Mechanism, SilentMech, SimMech, places_fit};
 
 /// EUR 10, EUR 20, EUR 50 and USD 20.
@@ -35,26 +43,117 @@ pub fn places() -> Places {
     }
 }
 
-/// A guard over main's bench.
-pub fn guard_on(rt: &impl Abort, alloc: Global) -> Result<Guard<SimMech>, Fail>
-    ensures { IfOk result (λ g. g.open_order ≡ No) }
+/// The full limits of a journal.
+pub const LIMITS: Limits = Limits {
+    records: 1_000_000,
+    bytes: 268_435_456,
+};
+
+/// An empty disk.
+pub fn empty(alloc: Global) -> MemDisk
+    ensures settled { steps_of result ≡ [] }
+    ensures none { (J : List Rec) → ¬ IsImage (bytes_of result) J }
 {
-    let units = units(rt);
-    let places = places();
-    assert!(rt; places_fit(&units, &places));
-    let mech = SimMech::new(alloc, units.copied(), places, Vec::new(alloc));
-    match Guard::boot(alloc, mech, [0x0b; 32], [0; 32], units) {
+    MemDisk::new(alloc, Vec::new(alloc))
+}
+
+// A disk of ten bytes that are no journal.
+fn no_journal(alloc: Global) -> Result<MemDisk, Fail>
+    ensures settled { IfOk result (λ m. steps_of m ≡ []) }
+    ensures none { IfOk result (λ m. (J : List Rec) → ¬ IsImage (bytes_of m) J) }
+{
+    let bytes = Vec::from_slice(alloc, &[0xff; 10])?;
+    Ok(MemDisk::new(alloc, bytes))
+}
+
+/// What main hands in, over another mechanism, disk or limits.
+pub fn core_on<M: Mechanism>(
+    mech: M,
+    units: UnitTable,
+    disk: MemDisk,
+    limits: Limits,
+) -> Core<M, MemDisk>
+    requires fresh { IfTold (M.motions mech) (λ L. L ≡ []) }
+    requires units { M.units mech ≡ units }
+    requires settled { steps_of disk ≡ [] }
+    requires none { (J : List Rec) → ¬ IsImage (bytes_of disk) J }
+    ensures units { M.units result.mech ≡ result.units }
+    ensures starts { (c : List ℕ) → MayBe result.disk c → (J : List Rec) → Stands c J → IsRecorded result.key result.units J (M.motions result.mech) }
+    ensures at_rest { Only (bytes_of result.disk) (MayBe result.disk) }
+{
+    Core {
+        mech,
+        disk,
+        key: [0x0b; 32],
+        seed: [0; 32],
+        units,
+        limits,
+    }
+}
+
+// The same, over a disk whose calls at these places fail.
+fn failing_core<M: Mechanism>(
+    mech: M,
+    units: UnitTable,
+    disk: MemDisk,
+    failing: Vec<u64>,
+) -> Core<M, FailDisk>
+    requires fresh { IfTold (M.motions mech) (λ L. L ≡ []) }
+    requires units { M.units mech ≡ units }
+    requires settled { steps_of disk ≡ [] }
+    requires none { (J : List Rec) → ¬ IsImage (bytes_of disk) J }
+    ensures units { M.units result.mech ≡ result.units }
+    ensures starts { (c : List ℕ) → MayBe (failing_inner result.disk) c → (J : List Rec) → Stands c J → IsRecorded result.key result.units J (M.motions result.mech) }
+    ensures at_rest { Only (bytes_of (failing_inner result.disk)) (MayBe (failing_inner result.disk)) }
+{
+    Core {
+        mech,
+        disk: FailDisk::new(disk, failing),
+        key: [0x0b; 32],
+        seed: [0; 32],
+        units,
+        limits: LIMITS,
+    }
+}
+
+/// A guard over a core whose disk was written by nobody.
+pub fn booted<M: Mechanism>(
+    alloc: Global,
+    core: Core<M, MemDisk>,
+) -> Result<Guard<M, MemDisk>, Fail>
+    requires units { M.units core.mech ≡ core.units }
+    requires starts { (c : List ℕ) → MayBe core.disk c → (J : List Rec) → Stands c J → IsRecorded core.key core.units J (M.motions core.mech) }
+    ensures { IfOk result (λ g. g.state.open_order ≡ No) }
+{
+    let Core {
+        mech,
+        disk,
+        key,
+        seed,
+        units,
+        limits,
+    } = core;
+    match Guard::boot(alloc, mech, disk, key, seed, units, limits) {
         Ok(guard) => Ok(guard),
         Err(fail) => Err(fail.why.into()),
     }
 }
 
-/// What a run wrote, and its status.
+/// A guard over main's bench.
+pub fn guard_on(rt: &impl Abort, alloc: Global) -> Result<Guard<SimMech, MemDisk>, Fail>
+    ensures { IfOk result (λ g. g.state.open_order ≡ No) }
+{
+    let units = units(rt);
+    let mech = sim_on(rt, alloc, &units, Vec::new(alloc));
+    booted(alloc, core_on(mech, units, empty(alloc), LIMITS))
+}
+
+/// What a run wrote, its status, and the bytes of its disk.
 #[derive(Drop)]
 pub struct Written {
     pub status: u8,
     pub text: Vec<u8>,
-    pub records: usize,
+    pub bytes: Vec<u8>,
 }
 
 /// Runs the command `word` on a script; the calls of source and sink at these places fail.
@@ -70,7 +169,15 @@ pub fn run_on(
     let mech = sim_on(rt, alloc, &units, Vec::new(alloc));
     let mut source = MemSource::new(listed(alloc, script)?, numbers(alloc, failing_reads)?);
     let mut sink = MemSink::new(alloc, numbers(alloc, failing_writes)?);
-    run_over(alloc, word, &mut source, &mut sink, units, mech)
+    let core = core_on(mech, units, empty(alloc), LIMITS);
+    let ended = run(
+        alloc,
+        words_of(alloc, word)?.as_slice(),
+        &mut source,
+        &mut sink,
+        core,
+    );
+    told(alloc, ended.status, &sink, &ended.disk)
 }
 
 /// Runs `guard` on a script over main's bench, with these faults of the mechanism.
@@ -85,14 +192,86 @@ pub fn guard_over(
     let mut planned = Vec::new(alloc);
     planned.extend_from_slice(faults)?;
     let mech = sim_on(rt, alloc, &units, planned);
-    let mut source = MemSource::new(listed(alloc, script)?, Vec::new(alloc));
-    let mut sink = MemSink::new(alloc, Vec::new(alloc));
     if silent {
         let mech = SilentMech::new(mech);
-        run_over(alloc, "guard", &mut source, &mut sink, units, mech)
+        guard_with(alloc, script, mech, units, LIMITS)
     } else {
-        run_over(alloc, "guard", &mut source, &mut sink, units, mech)
+        guard_with(alloc, script, mech, units, LIMITS)
     }
+}
+
+/// Runs `guard` on a script over main's mechanism and an empty disk, within these limits.
+pub fn guard_within(
+    rt: &impl Abort,
+    alloc: Global,
+    script: &[u8],
+    limits: Limits,
+) -> Result<Written, Fail> {
+    let units = units(rt);
+    let mech = sim_on(rt, alloc, &units, Vec::new(alloc));
+    guard_with(alloc, script, mech, units, limits)
+}
+
+fn guard_with<M: Mechanism>(
+    alloc: Global,
+    script: &[u8],
+    mech: M,
+    units: UnitTable,
+    limits: Limits,
+) -> Result<Written, Fail>
+    requires fresh { IfTold (M.motions mech) (λ L. L ≡ []) }
+    requires units { M.units mech ≡ units }
+{
+    let mut source = MemSource::new(listed(alloc, script)?, Vec::new(alloc));
+    let mut sink = MemSink::new(alloc, Vec::new(alloc));
+    let core = core_on(mech, units, empty(alloc), limits);
+    let ended = run(
+        alloc,
+        words_of(alloc, "guard")?.as_slice(),
+        &mut source,
+        &mut sink,
+        core,
+    );
+    told(alloc, ended.status, &sink, &ended.disk)
+}
+
+/// Runs `guard` on a script over main's mechanism and a disk whose calls at these places fail.
+pub fn guard_failing(
+    rt: &impl Abort,
+    alloc: Global,
+    script: &[u8],
+    failing: &[u64],
+) -> Result<Written, Fail> {
+    let units = units(rt);
+    let mech = sim_on(rt, alloc, &units, Vec::new(alloc));
+    let mut source = MemSource::new(listed(alloc, script)?, Vec::new(alloc));
+    let mut sink = MemSink::new(alloc, Vec::new(alloc));
+    let core = failing_core(mech, units, empty(alloc), numbers(alloc, failing)?);
+    let ended = run(
+        alloc,
+        words_of(alloc, "guard")?.as_slice(),
+        &mut source,
+        &mut sink,
+        core,
+    );
+    told(alloc, ended.status, &sink, &ended.disk.inner())
+}
+
+/// Runs `guard` on a script over main's mechanism and a disk of ten bytes 0xFF.
+pub fn guard_on_no_journal(rt: &impl Abort, alloc: Global, script: &[u8]) -> Result<Written, Fail> {
+    let units = units(rt);
+    let mech = sim_on(rt, alloc, &units, Vec::new(alloc));
+    let mut source = MemSource::new(listed(alloc, script)?, Vec::new(alloc));
+    let mut sink = MemSink::new(alloc, Vec::new(alloc));
+    let core = core_on(mech, units, no_journal(alloc)?, LIMITS);
+    let ended = run(
+        alloc,
+        words_of(alloc, "guard")?.as_slice(),
+        &mut source,
+        &mut sink,
+        core,
+    );
+    told(alloc, ended.status, &sink, &ended.disk)
 }
 
 // Main's mechanism, with these faults.
@@ -105,30 +284,17 @@ fn sim_on(rt: &impl Abort, alloc: Global, units: &UnitTable, faults: Vec<Fault>)
     SimMech::new(alloc, units.copied(), places, faults)
 }
 
-fn run_over<M: Mechanism>(
-    alloc: Global,
-    word: &str,
-    source: &mut MemSource,
-    sink: &mut MemSink,
-    units: UnitTable,
-    mech: M,
-) -> Result<Written, Fail>
-    requires fresh { IfTold (M.motions mech) (λ L. L ≡ []) }
-    requires units { M.units mech ≡ units }
-{
-    let bench = Bench {
-        mech,
-        key: [0x0b; 32],
-        seed: [0; 32],
-        units,
-    };
+fn words_of(alloc: Global, word: &str) -> Result<Vec<String>, Fail> {
     let mut words = Vec::new(alloc);
     words.push(String::from_str(alloc, word)?)?;
-    let ended = run(alloc, words.as_slice(), source, sink, bench);
+    Ok(words)
+}
+
+fn told(alloc: Global, status: u8, sink: &MemSink, disk: &MemDisk) -> Result<Written, Fail> {
     Ok(Written {
-        status: ended.status,
+        status,
         text: listed(alloc, sink.bytes())?,
-        records: ended.records.len(),
+        bytes: listed(alloc, disk.bytes())?,
     })
 }
 

@@ -4,7 +4,7 @@ ghost use Rattle.std.specs.Prelude.{◌≡◌, [], IfOk};
 ghost use Rattle.xfs_base.specs.Causes.{IfTold};
 ghost use Rattle.xfs_mech.specs.Sim.{units_of, motions_of};
 
-use crate::bench::{guard_on, places, units};
+use crate::bench::{LIMITS, booted, core_on, empty, guard_on, places, units};
 use crate::teller::Answer::{Done, Failed, Moved, Refused};
 use crate::teller::Call::{Clear, Dispense, Issue, Load, Mint, NoteLoad, Order, Taken, Token};
 use crate::teller::{Answer, Call, Teller};
@@ -13,7 +13,7 @@ use std::process::Abort;
 use std::test::Fail;
 use xfs_base::{Counts, Currency, Milli, UnitTable};
 use xfs_guard::Ask::{Present, Reject, Retract, Stack};
-use xfs_guard::{Deny, Guard};
+use xfs_guard::Deny;
 use xfs_mech::{Fault, Mechanism, SilentMech, SimMech, places_fit};
 
 const NONE: Counts = Counts([0; 8]);
@@ -83,10 +83,7 @@ fn answer<M: Mechanism>(
     requires units { M.units mech ≡ units }
     requires fresh { IfTold (M.motions mech) (λ L. L ≡ []) }
 {
-    let guard = match Guard::boot(alloc, mech, [0x0b; 32], [0; 32], units) {
-        Ok(guard) => guard,
-        Err(fail) => return Err(fail.why.into()),
-    };
+    let guard = booted(alloc, core_on(mech, units, empty(alloc), LIMITS))?;
     let mut teller = Teller::new(alloc, guard);
     for (call, answer) in rows {
         let told = teller.call(rt, *call)?;
@@ -121,8 +118,9 @@ fn a_nonce_is_issued_and_cleared(rt: HostRuntime) -> Result<(), Fail> {
     assert_eq!(rt; guard.records().len(), 3);
     assert_eq!(rt; guard.units().len(), 4);
     assert_eq!(rt; guard.places().units.notes(), 400);
-    let (_mech, records) = guard.end();
-    assert_eq!(rt; records.len(), 3);
+    let (_mech, disk) = guard.end();
+    // Beside the Boot of 193 bytes and the Issue of 17, the Clear has 1; each has 3 bytes before it.
+    assert_eq!(rt; disk.bytes().len(), 229);
     Ok(())
 }
 

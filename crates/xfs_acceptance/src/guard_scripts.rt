@@ -279,8 +279,8 @@ fn repeated(alloc: Global, byte: u8, count: usize) -> Result<Vec<u8>, Fail> {
     Ok(list)
 }
 
-// The lines of a script between its strokes.
-fn lines_of(alloc: Global, script: &[u8]) -> Result<Vec<u8>, Fail> {
+/// The lines of a script between its strokes.
+pub fn lines_of(alloc: Global, script: &[u8]) -> Result<Vec<u8>, Fail> {
     let mut lines = Vec::new(alloc);
     for byte in script {
         lines.push(if *byte == b'/' { b'\n' } else { *byte })?;
@@ -288,8 +288,8 @@ fn lines_of(alloc: Global, script: &[u8]) -> Result<Vec<u8>, Fail> {
     Ok(lines)
 }
 
-// The answers with strokes between them, N for a nonce and T for a token.
-fn shown(alloc: Global, text: &[u8]) -> Result<Vec<u8>, Fail> {
+/// The answers with strokes between them, N for a nonce and T for a token.
+pub fn shown(alloc: Global, text: &[u8]) -> Result<Vec<u8>, Fail> {
     let mut shown = Vec::new(alloc);
     let lines = match text.split_last() {
         Some((b'\n', lines)) => lines,

@@ -10,6 +10,8 @@ mod guard_rows;
 #[cfg(test)]
 mod guard_scripts;
 #[cfg(test)]
+mod journal_rows;
+#[cfg(test)]
 mod motions_rows;
 #[cfg(test)]
 mod teller;

@@ -7,6 +7,7 @@ use std::alloc::Global;
 use std::process::Abort;
 use std::test::Fail;
 use xfs_base::{Counts, Currency, Milli};
+use xfs_disk::Disk;
 use xfs_guard::{Ask, Deny, Guard};
 use xfs_mech::{Mechanism, Outcome};
 use xfs_token::{Amounts, make};
@@ -42,16 +43,16 @@ pub enum Answer {
 
 /// A guard, and the token of its customer.
 #[derive(Drop)]
-pub struct Teller<M: Mechanism> {
+pub struct Teller<M: Mechanism, D: Disk> {
     alloc: Global,
-    guard: Guard<M>,
+    guard: Guard<M, D>,
     token: Vec<u8>,
-    ghost none: { guard.open_order ≡ No },
+    ghost none: { guard.state.open_order ≡ No },
 }
 
-impl<M: Mechanism> Teller<M> {
-    pub fn new(alloc: Global, guard: Guard<M>) -> Teller<M>
-        requires { guard.open_order ≡ No }
+impl<M: Mechanism, D: Disk> Teller<M, D> {
+    pub fn new(alloc: Global, guard: Guard<M, D>) -> Teller<M, D>
+        requires { guard.state.open_order ≡ No }
     {
         Teller {
             alloc,
@@ -110,7 +111,7 @@ impl<M: Mechanism> Teller<M> {
         }
         self.guard.order(ask)?;
         let outcome = self.guard.act();
-        self.guard.settle();
+        self.guard.settle()?;
         Ok(outcome)
     }
 

@@ -95,7 +95,7 @@ fn lines_are_answered_in_order_up_to_the_end(rt: HostRuntime) -> Result<(), Fail
     for (script, status, text) in rows {
         let written = run_on(&rt, rt.alloc(), "token", script.as_bytes(), &[], &[])?;
         assert_eq!(rt; written.status, status, "status of {script}");
-        assert_eq!(rt; written.records, 0);
+        assert_eq!(rt; written.bytes.len(), 0);
         assert_eq!(rt;
             written.text.as_slice(),
             text.as_bytes(),

@@ -1,0 +1,116 @@
+//! The journal under the command `guard`: its limits, its bytes, and disks that fail.
+
+use crate::bench::{guard_failing, guard_on_no_journal, guard_over, guard_within};
+use crate::guard_scripts::{lines_of, shown};
+use std::test::Fail;
+use xfs_journal::Limits;
+
+const DISPENSE: &str = "issue/mint 50.00EUR/dispense @ unit3:1/fill unit1 1/present/clear";
+
+#[test]
+fn a_journal_takes_records_up_to_its_limits(rt: HostRuntime) -> Result<(), Fail> {
+    let rows: [(u64, u64, &str, u8, &str); 4] = [
+        (
+            4,
+            1_000_000,
+            "issue/issue/mint 50.00EUR/dispense @ unit2:1",
+            0,
+            "N/refused deviceNotReady/T/refused deviceNotReady",
+        ),
+        (
+            4,
+            1_000_000,
+            "issue/clear/present/fill unit1 1/fill unit5 1/fill unit1 9901/reject/take",
+            0,
+            "N/refused deviceNotReady/refused deviceNotReady/refused deviceNotReady/refused invalidUnit/refused storageFull/refused deviceNotReady/taken none",
+        ),
+        (0, 1_000_000, "issue", 12, "boot: journal full"),
+        (4, 204, "issue", 12, "boot: journal full"),
+    ];
+    for (records, bytes, script, status, answers) in rows {
+        let lines = lines_of(rt.alloc(), script.as_bytes())?;
+        let written = guard_within(&rt, rt.alloc(), &lines, Limits { records, bytes })?;
+        let shown = shown(rt.alloc(), &written.text)?;
+        assert_eq!(rt; shown.as_slice(), answers.as_bytes(), "answers to {script}");
+        assert_eq!(rt; written.status, status, "status of {script}");
+    }
+    Ok(())
+}
+
+#[test]
+fn a_boot_and_an_issue_have_225_bytes(rt: HostRuntime) -> Result<(), Fail> {
+    let written = guard_over(&rt, rt.alloc(), b"issue\n", &[], false)?;
+    assert_eq!(rt; written.bytes.len(), 225);
+    // Behind the magic and the Boot of 196 bytes stands the Issue: an open gate, the length 17, an I, the
+    // number 1, the word of the seed of zeros, and a closed gate.
+    let (_, issue) = written.bytes.split_at(204);
+    let expected = [
+        1, 0, 17, 0x49, 0, 0, 0, 0, 0, 0, 0, 1, 0xe5, 0x6a, 0x5d, 0x40, 0x28, 0xbd, 0x86, 0x53, 0,
+    ];
+    assert_eq!(rt; issue, expected.as_slice());
+    Ok(())
+}
+
+#[test]
+fn a_disk_that_fails_or_is_no_journal_ends_the_boot(rt: HostRuntime) -> Result<(), Fail> {
+    let written = guard_failing(&rt, rt.alloc(), b"issue\n", &[1])?;
+    assert_eq!(rt; written.status, 6);
+    assert_eq!(rt; written.text.as_slice(), b"boot: disk\n".as_slice());
+    let written = guard_on_no_journal(&rt, rt.alloc(), b"issue\n")?;
+    assert_eq!(rt; written.status, 7);
+    assert_eq!(rt;
+        written.text.as_slice(),
+        b"boot: not a journal at 0\n".as_slice()
+    );
+    assert_eq!(rt; written.bytes.as_slice(), [0xff; 10].as_slice());
+    Ok(())
+}
+
+#[test]
+fn a_disk_that_fails_in_a_dispense_is_not_ready_from_then_on(rt: HostRuntime) -> Result<(), Fail> {
+    // The boot makes 8 calls: 4 that read the journal and make it an empty one, and 4 for the Boot. Each
+    // further record makes 4. A dispense writes a Bind, an Order and a Done.
+    let rows: [(u64, u64, u8, &str); 6] = [
+        (1, 8, 6, "boot: disk"),
+        (
+            9,
+            12,
+            0,
+            "refused deviceNotReady/token none/refused authorisationRequired/refused deviceNotReady/refused deviceNotReady/refused deviceNotReady",
+        ),
+        (
+            13,
+            24,
+            0,
+            "N/T/refused deviceNotReady/refused deviceNotReady/refused deviceNotReady/refused deviceNotReady",
+        ),
+        (
+            25,
+            28,
+            0,
+            "N/T/moved unit3:1/refused deviceNotReady/refused deviceNotReady/refused deviceNotReady",
+        ),
+        (
+            29,
+            36,
+            0,
+            "N/T/moved unit3:1/filled/refused deviceNotReady/refused deviceNotReady",
+        ),
+        (
+            37,
+            40,
+            0,
+            "N/T/moved unit3:1/filled/moved unit3:1/refused deviceNotReady",
+        ),
+    ];
+    let lines = lines_of(rt.alloc(), DISPENSE.as_bytes())?;
+    for (first, last, status, answers) in rows {
+        for call in first..=last {
+            let written = guard_failing(&rt, rt.alloc(), &lines, &[call])?;
+            let shown = shown(rt.alloc(), &written.text)?;
+            assert_eq!(rt; shown.as_slice(), answers.as_bytes(), "call {call}");
+            assert_eq!(rt; written.status, status, "call {call}");
+        }
+    }
+    Ok(())
+}
