@@ -9,13 +9,13 @@ use Rattle.xfs_disk.specs.Disk.{Only}
 use Rattle.xfs_mech.specs.declared.motion.Motion.{Motion}
 use Rattle.xfs_mech.proofs.MotionLaws.{all-numbers, PlacesOf-same}
 use Rattle.xfs_journal.specs.Image.{Stands}
-use Rattle.xfs_journal.specs.Journal.{record_at, next_number, CarriesNumber}
+use Rattle.xfs_journal.specs.Journal.{record_at}
 use Rattle.xfs_journal.specs.JournalView.{IsPossible, StandsForEither, passes}
 use Rattle.xfs_journal.specs.Paging.{CeasesAt}
 use Rattle.xfs_journal.specs.declared.limits.Limits.{Limits}
 use Rattle.xfs_journal.specs.declared.record.Rec.{Rec}
 use Rattle.xfs_journal.specs.declared.record.Rec.TheVariants.{Boot}
-use Rattle.xfs_journal.proofs.JournalLaws.{record_at-cases, Walk-push}
+use Rattle.xfs_journal.proofs.JournalLaws.{record_at-cases}
 use Rattle.xfs_journal.proofs.Unique.{stands_for_one}
 use Rattle.xfs_guard.specs.Agrees.{Agrees}
 use Rattle.xfs_guard.specs.Continues.{Continues, Leads, IsKnown}
@@ -23,7 +23,6 @@ use Rattle.xfs_guard.specs.Follows.{BootFits, Follows}
 use Rattle.xfs_guard.specs.Recorded.{IsRecorded}
 use Rattle.xfs_guard.specs.Stored.{IsStored, MayLeave}
 use Rattle.xfs_guard.specs.View.{View}
-use Rattle.xfs_guard.specs.Within.{Within}
 use Rattle.xfs_guard.proofs.AgreesLaws.{numbers_within}
 use Rattle.xfs_guard.proofs.BootLaws.{IsRecorded-boot}
 use Rattle.xfs_guard.proofs.FollowsLaws.{Follows-same, Follows-trans}

@@ -1,5 +1,5 @@
 -- What a guard is once its Boot is written.
-use Rattle.std.proofs.Common.{◌≡◌, ⊎_elim, ℕ, true, false, List, [], ◌∷◌, ◌++◌, length, None, Some, refl, sym, ◌∙◌}
+use Rattle.std.proofs.Common.{◌≡◌, ⊎_elim, ℕ, true, false, List, [], ◌∷◌, ◌++◌, None, Some, refl, sym, ◌∙◌}
 use Rattle.std.specs.Prelude.{Bool}
 use Rattle.std.specs.declared.option.Option.{Option}
 use Rattle.xfs_base.specs.Causes.{IfTold}
@@ -18,12 +18,10 @@ use Rattle.xfs_guard.specs.Recorded.{IsRecorded}
 use Rattle.xfs_guard.specs.Sound.{Ties, where_told, IsSound}
 use Rattle.xfs_guard.specs.Kept.{IsKept}
 use Rattle.xfs_guard.specs.Stored.{MayLeave, WasLeft}
-use Rattle.xfs_guard.specs.Continues.{Continues}
 use Rattle.xfs_guard.proofs.AgreesLaws.{Agrees-record, numbers_within}
 use Rattle.xfs_guard.proofs.WithinLaws.{Within-record}
-use Rattle.xfs_guard.proofs.RecordLaws.{longer, last-pushed}
+use Rattle.xfs_guard.proofs.RecordLaws.{last-pushed}
 use Rattle.xfs_guard.proofs.KeptLaws.{IsKept-open}
-use Rattle.xfs_guard.proofs.ContinueLaws.{Continues-record}
 
 agrees-boot : (J : List Rec) (p : Places) (m : Option (List Motion)) → IfTold m (Agrees J) → IfTold m (Agrees (J ++ Boot p ∷ []))
 agrees-boot J p None a = tt

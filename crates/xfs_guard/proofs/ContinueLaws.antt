@@ -13,13 +13,10 @@ use Rattle.xfs_guard.specs.declared.open.Open.{Open}
 use Rattle.xfs_journal.specs.Journal.{record_at}
 use Rattle.xfs_guard.specs.Follows.{BootFits}
 use Rattle.xfs_mech.specs.Motions.{NumberIs, PlacesOf}
-use Rattle.xfs_base.specs.Causes.{IfTold}
 use Rattle.xfs_mech.specs.Mechanism.{Grows}
 use Rattle.xfs_guard.specs.View.{View}
-use Rattle.xfs_guard.specs.Sound.{Ties, IsSound}
 use Rattle.xfs_guard.specs.Continues.{Leads, Continues}
 use Rattle.xfs_journal.proofs.JournalLaws.{record_at-cases, record_at-within}
-use Rattle.xfs_guard.proofs.AgreesLaws.{numbers_within}
 use Rattle.xfs_guard.proofs.FollowsLaws.{Follows-same, Follows-trans}
 use Rattle.xfs_mech.proofs.MotionLaws.{all-append, all-numbers, PlacesOf-same}
 use Rattle.xfs_guard.proofs.RecordLaws.{longer, length-pushed}

@@ -1,5 +1,5 @@
 -- What a guard is after a record was written, and after the disk failed.
-use Rattle.std.proofs.Common.{◌≡◌, ◌⊎◌, inl, inr, ⊎_elim, ℕ, Bool, true, false, List, [], ◌∷◌, ◌++◌, None, Some, Err, length, refl, sym, ◌∙◌, true≢false}
+use Rattle.std.proofs.Common.{◌≡◌, ⊎_elim, ℕ, Bool, true, false, List, [], ◌∷◌, None, Some, Err, length, refl, sym, ◌∙◌, true≢false}
 use Rattle.std.specs.declared.option.Option.{Option}
 use Rattle.xfs_base.specs.Causes.{IfTold}
 use Rattle.xfs_base.specs.declared.money.NoteKind.{NoteKind}
@@ -10,7 +10,6 @@ use Rattle.xfs_mech.specs.Mechanism.{Grows, Carries as MayCarry}
 use Rattle.xfs_mech.specs.Motions.{PlacesOf}
 use Rattle.xfs_mech.specs.declared.motion.Motion.{Motion}
 use Rattle.xfs_mech.specs.declared.motion.Motion.TheVariants.{Moved}
-use Rattle.xfs_journal.specs.JournalView.{IsPossible}
 use Rattle.xfs_journal.specs.declared.record.Rec.{Rec}
 use Rattle.xfs_journal.specs.declared.record.Rec.TheVariants.{Boot}
 use Rattle.xfs_guard.specs.declared.open.Open.{Open}
@@ -20,7 +19,6 @@ use Rattle.xfs_guard.specs.Agrees.{Agrees}
 use Rattle.xfs_guard.specs.Within.{Within}
 use Rattle.xfs_guard.specs.Recorded.{IsRecorded}
 use Rattle.xfs_guard.specs.Kept.{HasRoom, HasLimits, IsKept}
-use Rattle.xfs_guard.specs.Budget.{Budget}
 use Rattle.xfs_guard.specs.Sound.{Ties, where_told, IsSound}
 use Rattle.xfs_guard.specs.declared.deny.Deny.{Deny}
 use Rattle.xfs_guard.specs.declared.deny.Deny.TheVariants.{Disk, Memory}

@@ -1,19 +1,17 @@
 -- How long the journal grows by one record, and that it takes one more while it is fit.
-use Rattle.std.proofs.Common.{◌≡◌, ℕ, ◌+◌, ◌-◌, ◌<◌, ◌≤◌, Bool, true, false, List, [], ◌∷◌, ◌++◌, length, None, Some, refl, arith, length-append}
+use Rattle.std.proofs.Common.{◌≡◌, ℕ, ◌+◌, ◌-◌, ◌≤◌, Bool, true, false, List, [], ◌∷◌, ◌++◌, length, None, Some, refl, arith, length-append}
 use Rattle.std.specs.Prelude.{nat_lt, ◌||◌, if◌then◌else◌}
 use Rattle.std.specs.Int.{to_be_bytes, w16}
-use Rattle.std.specs.declared.option.Option.{Option}
 use Rattle.std.proofs.lemmas.Bool.{ltb-false, ltb-true}
 use Rattle.xfs_base.specs.declared.counts.Counts.{Counts}
 use Rattle.xfs_base.specs.declared.counts.Kind.{Kind}
-use Rattle.xfs_journal.specs.Image.{counts_bytes, body, framed, blocks, front, magic, size}
+use Rattle.xfs_journal.specs.Image.{counts_bytes, body, framed, blocks, magic, size}
 use Rattle.xfs_journal.proofs.Decoding.{length-numbers}
 use Rattle.xfs_journal.specs.declared.record.Rec.TheVariants.{Order, Done}
 use Rattle.xfs_journal.specs.JournalView.{passes}
 use Rattle.xfs_journal.specs.declared.limits.Limits.{Limits}
 use Rattle.xfs_journal.specs.declared.record.Rec.{Rec}
 use Rattle.xfs_guard.specs.declared.deny.Deny.{Deny}
-use Rattle.xfs_guard.specs.declared.deny.Deny.TheVariants as Deny
 use Rattle.xfs_guard.specs.Fits.{is_full, unfit}
 use Rattle.xfs_guard.specs.LedgerView.{LedgerView, write_refusal}
 use Rattle.xfs_guard.specs.View.{View, GuardView}

@@ -3,9 +3,7 @@ use Rattle.std.specs.Prelude.{◌-◌, nat_lt, Bool, ◌||◌, length, Some, Non
 use Rattle.std.specs.declared.option.Option.{Option}
 use Rattle.xfs_journal.specs.Image.{size}
 use Rattle.xfs_guard.specs.declared.deny.Deny.{Deny}
-use Rattle.xfs_guard.specs.declared.deny.Deny.TheVariants as Deny
 use Rattle.xfs_guard.specs.declared.fit.Fit.{Fit}
-use Rattle.xfs_guard.specs.declared.fit.Fit.TheVariants as Fit
 use Rattle.xfs_guard.specs.View.{View}
 
 abbrev pub is_full : View → Bool

@@ -1,4 +1,3 @@
-use Rattle.std.proofs.Common.{◌≡◌, ◌∙◌, sym}
 use Rattle.xfs_guard.proofs.LedgerLaws.{IsRead-issue}
 use Rattle.xfs_guard.proofs.ledger.Ledger.issue.Goals as goal
 
