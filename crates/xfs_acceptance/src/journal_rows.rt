@@ -76,7 +76,7 @@ fn a_disk_that_fails_in_a_dispense_is_not_ready_from_then_on(rt: HostRuntime) ->
             9,
             12,
             0,
-            "refused deviceNotReady/token none/refused authorisationRequired/refused deviceNotReady/refused deviceNotReady/refused deviceNotReady",
+            "refused deviceNotReady/token none/refused deviceNotReady/refused deviceNotReady/refused deviceNotReady/refused deviceNotReady",
         ),
         (
             13,

@@ -178,6 +178,9 @@ impl<M: Mechanism, D: Disk> Session<M, D> {
         ensures none { self.new.guard.state.open_order ≡ No }
         ensures same { IfErr result (λ r. r ≢ Denied Deny.Disk → self.new.guard.state ≡ self.old.guard.state) }
     {
+        if let Some(deny) = unfit(&self.guard) {
+            return Err(Refusal::Deny(deny));
+        }
         let Some(text) = given(&self.last, token) else {
             return Err(Refusal::NoToken);
         };
