@@ -6,7 +6,7 @@ pub mod ContinueLaws
 pub mod FollowsLaws
 pub mod KeptLaws
 pub mod LedgerLaws
-pub mod LeftLaws
+pub mod CrashedLaws
 pub mod OrderLaws
 pub mod PresentedLaws
 pub mod RecordLaws

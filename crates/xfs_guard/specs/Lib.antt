@@ -8,7 +8,7 @@ pub mod Follows
 pub mod Kept
 pub mod Ledger
 pub mod LedgerView
-pub mod Left
+pub mod Crashed
 pub mod Nonce
 pub mod Orders
 pub mod Passed

@@ -17,7 +17,7 @@ use Rattle.xfs_journal.specs.declared.record.Rec.{Rec}
 use Rattle.xfs_journal.specs.declared.record.Rec.TheVariants.{Boot, Order}
 use Rattle.xfs_journal.proofs.JournalLaws.{record_at-push, record_at-append, record_at-within, record_at-cases, record_at-pushed}
 use Rattle.xfs_guard.specs.Agrees.{Agrees, IsAsked, IsNoOrder}
-use Rattle.xfs_guard.specs.Left.{Begins, LeftBefore, IsLost}
+use Rattle.xfs_guard.specs.Crashed.{Begins, LeftBefore, IsLost}
 use Rattle.xfs_guard.proofs.RecordLaws.{last-pushed}
 
 pub Begins-same : (J : List Rec) → Begins J J
