@@ -12,6 +12,7 @@ use Rattle.xfs_mech.specs.declared.motion.Motion.{Motion}
 use Rattle.xfs_mech.specs.declared.motion.Motion.TheVariants.{Moved}
 use Rattle.xfs_journal.specs.declared.record.Rec.{Rec}
 use Rattle.xfs_journal.specs.declared.record.Rec.TheVariants.{Boot}
+use Rattle.xfs_journal.specs.Journal.{Numbered}
 use Rattle.xfs_guard.specs.declared.open.Open.{Open}
 use Rattle.xfs_guard.specs.declared.open.Open.TheVariants.{No, Written, Acted}
 use Rattle.xfs_guard.specs.View.{View}
@@ -28,13 +29,13 @@ use Rattle.xfs_guard.proofs.FollowsLaws.{Follows-same}
 use Rattle.xfs_guard.proofs.SoundLaws.{acted_view, IsSound-act}
 use Rattle.xfs_guard.proofs.RecordLaws.{longer}
 
-told-at : (b : Bool) (v : View) (m : Option (List Motion)) → b ≡ true → IfTold (where_told b m) (Ties v) → IfTold m (Ties v)
+pub told-at : (b : Bool) (v : View) (m : Option (List Motion)) → b ≡ true → IfTold (where_told b m) (Ties v) → IfTold m (Ties v)
 told-at true v m e t = t
 told-at false v m e t = absurd (true≢false (sym e))
 
--- the journal's list agrees with the mechanism's
-pub recorded-sound : (v : View) → IsSound v → v.disk_told ≡ true → IsRecorded v.key v.units v.records v.motions
-recorded-sound v s is = let told = told-at v.disk_told v v.motions is s.told in record { numbered = s.numbered is; agrees = agrees v.motions told; within = within v.motions told }
+-- the journal's list agrees with one that is tied to it
+pub recorded-ties : (v : View) (m : Option (List Motion)) → Numbered v.records → IfTold m (Ties v) → IsRecorded v.key v.units v.records m
+recorded-ties v m numbered told = record { numbered = numbered; agrees = agrees m told; within = within m told }
   where
     agrees : (m : Option (List Motion)) → IfTold m (Ties v) → IfTold m (Agrees v.records)
     agrees None t = tt
@@ -43,6 +44,10 @@ recorded-sound v s is = let told = told-at v.disk_told v v.motions is s.told in 
     within : (m : Option (List Motion)) → IfTold m (Ties v) → IfTold m (Within v.key v.units v.records)
     within None t = tt
     within (Some L) t = t.within
+
+-- and so with the mechanism's
+pub recorded-sound : (v : View) → IsSound v → v.disk_told ≡ true → IsRecorded v.key v.units v.records v.motions
+recorded-sound v s is = recorded-ties v v.motions (s.numbered is) (told-at v.disk_told v v.motions is s.told)
 
 -- whether the journal is shut, and which record is in doubt, changes nothing of what is sound
 pub IsSound-stored : (v : View) (s : Bool) (d : Option Rec) → IsSound v → IsSound (record v { shut = s; in_doubt = d })

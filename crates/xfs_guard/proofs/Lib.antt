@@ -6,6 +6,8 @@ pub mod ContinueLaws
 pub mod FollowsLaws
 pub mod KeptLaws
 pub mod LedgerLaws
+pub mod LeftLaws
+pub mod LifeLaws
 pub mod OrderLaws
 pub mod PresentedLaws
 pub mod RecordLaws

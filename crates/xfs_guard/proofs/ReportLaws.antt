@@ -218,11 +218,9 @@ loaded-leaves o unit count P Q places Present is u = omega (arith, places.transp
 loaded-leaves o unit count P Q places Reject is u = omega (arith, places.transport u)
 loaded-leaves o unit count P Q places Retract is u = omega (arith, places.outlet u)
 
--- a list of records agrees with what the mechanism did, also after a report
-pub IsRecorded-report : (key : List ℕ) (u : List NoteKind) (J : List Rec) (e : Motion) (m d : Counts) (failed : Bool) (was now : Option (List Motion)) (P Q : Places) (spare left : ℕ) → IsReport e
-    → Reports e m d failed was now P Q spare left → IsRecorded key u J was → IsRecorded key u J now
-IsRecorded-report key u J e m d true was now P Q spare left is r h = let none = r.nothing refl in rw none.0 h
-IsRecorded-report key u J e m d false was now P Q spare left is r h = record { numbered = h.numbered; agrees = agrees was h.agrees (r.grown refl); within = within was h.within (r.grown refl) }
+-- a list of records agrees with what the mechanism did, also with an entry more that no order asked for
+pub IsRecorded-entry : (key : List ℕ) (u : List NoteKind) (J : List Rec) (e : Motion) (was now : Option (List Motion)) → IsReport e → Grows was e now → IsRecorded key u J was → IsRecorded key u J now
+IsRecorded-entry key u J e was now is g h = record { numbered = h.numbered; agrees = agrees was h.agrees g; within = within was h.within g }
   where
     agrees : (was : Option (List Motion)) → IfTold was (Agrees J) → Grows was e now → IfTold now (Agrees J)
     agrees None a g = rw g tt
@@ -231,6 +229,12 @@ IsRecorded-report key u J e m d false was now P Q spare left is r h = record { n
     within : (was : Option (List Motion)) → IfTold was (Within key u J) → Grows was e now → IfTold now (Within key u J)
     within None a g = rw g tt
     within (Some L) a g = rw g (Within-quiet key u J L e (λ p cur. shown_by-report u J p cur e is) (within-report key u J (L ++ e ∷ []) e is) a)
+
+-- so it does after a report
+pub IsRecorded-report : (key : List ℕ) (u : List NoteKind) (J : List Rec) (e : Motion) (m d : Counts) (failed : Bool) (was now : Option (List Motion)) (P Q : Places) (spare left : ℕ) → IsReport e
+    → Reports e m d failed was now P Q spare left → IsRecorded key u J was → IsRecorded key u J now
+IsRecorded-report key u J e m d true was now P Q spare left is r h = let none = r.nothing refl in rw none.0 h
+IsRecorded-report key u J e m d false was now P Q spare left is r h = IsRecorded-entry key u J e was now is (r.grown refl) h
 
 -- what the limits leave an open order stays
 pub HasLimits-report : (o : Open) (v : View) (now : Option (List Motion)) (Q : Places) (f : ℕ) → HasLimits o v → HasLimits o (reported_view v now Q f)

@@ -6,8 +6,10 @@ pub mod Continues
 pub mod Fits
 pub mod Follows
 pub mod Kept
+pub mod Left
 pub mod Ledger
 pub mod LedgerView
+pub mod Lives
 pub mod Nonce
 pub mod Orders
 pub mod Passed

@@ -19,7 +19,7 @@ returns-in_err-ready-clause-continues g c = rw (← c.self.view_is, c.ready.ensu
 
 pub order-requires-clause-fits : goal.order-requires-clause-fits
 order-requires-clause-fits g c =
-    let fit = fit-at _ _ c.self.view_is (sym c.unfit.ensures ∙ c.in_default.is) in
+    let fit = fit-at _ _ c.self.view_is (sym c.unfit.ensures.first ∙ c.in_default.is) in
     let same = c.in_ok-reserve_two.ensures.same in
     let eight = order-short c.in_ok-kind.kind c.in_ok-kind.counts c.eight.ensures in
     let short : length (body (Order c.in_ok-kind.kind c.in_ok-kind.counts)) ≤ 1025 = omega (arith, eight) in
@@ -34,7 +34,7 @@ returns-in_err-reserve_two-clause-continues g c =
 pub invariant_of-self-in_err-order : goal.invariant_of-self-in_err-order
 invariant_of-self-in_err-order g c =
     let none : c.self.inside.open_order ≡ No = rw (← c.self.view_is) at c.requires.none in
-    let fit = fit-at _ _ c.self.view_is (sym c.unfit.ensures ∙ c.in_default.is) in
+    let fit = fit-at _ _ c.self.view_is (sym c.unfit.ensures.first ∙ c.in_default.is) in
     let fine = rw (← c.self.view_is) at c.in_ok-kind.ensures.ok in
     let same = c.in_ok-reserve_two.ensures.same in
     let s = rw c.in_err-order.ensures.err at c.in_err-order.ensures.wrote in
@@ -52,7 +52,7 @@ returns-in_err-order-clause-continues g c =
 pub invariant_of-self-2 : goal.invariant_of-self-2
 invariant_of-self-2 g c =
     let none : c.self.inside.open_order ≡ No = rw (← c.self.view_is) at c.requires.none in
-    let fit = fit-at _ _ c.self.view_is (sym c.unfit.ensures ∙ c.in_default.is) in
+    let fit = fit-at _ _ c.self.view_is (sym c.unfit.ensures.first ∙ c.in_default.is) in
     let fine = rw (← c.self.view_is) at c.in_ok-kind.ensures.ok in
     let eight = rw fine.2 at c.eight.ensures in
     let same = c.in_ok-reserve_two.ensures.same in
