@@ -3,10 +3,12 @@ pub mod BootLaws
 pub mod BudgetLaws
 pub mod ClaimLaws
 pub mod ContinueLaws
+pub mod CrashedLaws
 pub mod FollowsLaws
 pub mod KeptLaws
 pub mod LedgerLaws
-pub mod CrashedLaws
+pub mod LeftLaws
+pub mod LifeLaws
 pub mod OrderLaws
 pub mod PresentedLaws
 pub mod RecordLaws

@@ -11,13 +11,14 @@ ghost use Rattle.xfs_journal.specs.Paging.{CeasesAt, IsQuiet};
 ghost use Rattle.xfs_journal.specs.declared.record.Rec.{Rec};
 ghost use Rattle.xfs_guard.specs.declared.fail.BootFault.TheVariants.{NotJournal, Disk as BootDisk, Full as BootFull};
 ghost use Rattle.xfs_journal.specs.JournalView.{passes, refusal, StandsForEither};
-ghost use Rattle.xfs_disk.specs.Disk.{AddsNone};
+ghost use Rattle.xfs_disk.specs.Disk.{LeavesOnly};
 ghost use Rattle.xfs_journal.specs.declared.record.Rec.TheVariants.{Issue, Clear, Boot, Bind, Order, Done, Load};
 ghost use Rattle.xfs_journal.specs.Journal.{record_at, live_of, token_of, last_mark, next_issue, nonce_text};
 ghost use Rattle.xfs_guard.specs.Nonce.{live_nonce};
 ghost use Rattle.xfs_guard.specs.Refusals.{bound_token, bound_place};
 ghost use Rattle.xfs_guard.specs.Presented.{presented_in};
 ghost use Rattle.xfs_guard.specs.LedgerView.{IsWriteFault, Wrote, IsSame, IsTold, write_refusal};
+ghost use Rattle.xfs_guard.specs.Left.{IsOldOrBooted, Leaves};
 ghost use Rattle.xfs_guard.specs.Stored.{IsStored, MayLeave, WasLeft};
 ghost use Rattle.xfs_guard.specs.Pays.{Fits, Pays, IsSumOf};
 
@@ -88,7 +89,10 @@ impl<D: Disk> Ledger<D> {
         ensures disk { IfErr result (λ f. f.why ≡ BootDisk → Rose (D.faults disk) (D.faults f.disk)) }
         ensures left { IfErr result (λ f. (J : List Rec) → MayLeave (D.held f.disk) (D.images f.disk) J → WasLeft (D.held disk) (D.images disk) places J) }
         ensures either { IfErr result (λ f. IfTold (D.held disk) (λ _. (J : List Rec) → ((c : List ℕ) → D.images disk c → Stands c J) → (c : List ℕ) → D.images f.disk c → StandsForEither J (Boot places) c)) }
-        ensures unlisted { IfErr result (λ f. IfTold (D.held disk) (λ all. ((J : List Rec) → ¬ Stands all J) → (D.held f.disk ≡ D.held disk) × AddsNone (D.images disk) (D.images f.disk))) }
+        ensures unlisted { IfErr result (λ f. IfTold (D.held disk) (λ all. ((J : List Rec) → ¬ Stands all J) → IsQuiet D.held D.images D.moment D.images_since D.faults disk f.disk)) }
+        ensures any_moment { IfTold (D.held disk) (λ all. MatchResult result
+            (λ l. LeavesOnly D.moment D.images_since disk l.disk (IsOldOrBooted (D.images disk) all places))
+            (λ f. LeavesOnly D.moment D.images_since disk f.disk (IsOldOrBooted (D.images disk) all places))) }
         ensures faults { MatchResult result (λ l. D.faults disk ≤ D.faults l.disk) (λ f. D.faults disk ≤ D.faults f.disk) }
     {
         let mut journal = match Journal::mount(alloc, disk, limits) {
@@ -143,7 +147,8 @@ impl<D: Disk> Ledger<D> {
 
     /// Whether the disk failed and the journal wasn't read again since.
     pub fn shut(&self) -> bool
-        ensures { result ≡ self.now.shut }
+        ensures shut { result ≡ self.now.shut }
+        ensures possible { IsStored (D.held self.now.disk) (D.images self.now.disk) self.now.records self.now.in_doubt }
     {
         self.journal.shut()
     }
@@ -240,8 +245,11 @@ impl<D: Disk> Ledger<D> {
         ensures cause { result ≡ Err Deny.Disk → Rose (D.faults self.old.disk) (D.faults self.new.disk) }
         ensures faults { D.faults self.old.disk ≤ D.faults self.new.disk }
         ensures told { is_some (D.held self.new.disk) ≡ is_some (D.held self.old.disk) }
+        ensures any_moment { IfTold (D.held self.old.disk) (λ _. LeavesOnly D.moment D.images_since self.old.disk self.new.disk (StandsForEither self.old.records (Issue (next_issue self.old.records) word))) }
+        ensures kept { OnOk result (Leaves (D.held self.new.disk) (D.images self.new.disk) self.new.records) }
     {
         let number = self.next_issue();
+        let _possible = self.journal.shut();
         let nonce = Nonce::of(self.alloc, number, word)?;
         let place = append(&mut self.journal, Rec::Issue { number, word })?;
         self.issues = number;
@@ -259,6 +267,8 @@ impl<D: Disk> Ledger<D> {
         ensures cause { result ≡ Err Deny.Disk → Rose (D.faults self.old.disk) (D.faults self.new.disk) }
         ensures faults { D.faults self.old.disk ≤ D.faults self.new.disk }
         ensures told { is_some (D.held self.new.disk) ≡ is_some (D.held self.old.disk) }
+        ensures any_moment { IfTold (D.held self.old.disk) (λ _. LeavesOnly D.moment D.images_since self.old.disk self.new.disk (StandsForEither self.old.records Clear)) }
+        ensures kept { OnOk result (Leaves (D.held self.new.disk) (D.images self.new.disk) self.new.records) }
     {
         self.mark = append(&mut self.journal, Rec::Clear)?;
         self.live = None;
@@ -277,6 +287,8 @@ impl<D: Disk> Ledger<D> {
         ensures cause { result ≡ Err Deny.Disk → Rose (D.faults self.old.disk) (D.faults self.new.disk) }
         ensures faults { D.faults self.old.disk ≤ D.faults self.new.disk }
         ensures told { is_some (D.held self.new.disk) ≡ is_some (D.held self.old.disk) }
+        ensures any_moment { IfTold (D.held self.old.disk) (λ _. LeavesOnly D.moment D.images_since self.old.disk self.new.disk (StandsForEither self.old.records (Bind token))) }
+        ensures kept { OnOk result (Leaves (D.held self.new.disk) (D.images self.new.disk) self.new.records) }
     {
         let place = append(&mut self.journal, Rec::Bind { token })?;
         self.bound = Some(Bound {
@@ -296,6 +308,8 @@ impl<D: Disk> Ledger<D> {
         ensures cause { result ≡ Err Deny.Disk → Rose (D.faults self.old.disk) (D.faults self.new.disk) }
         ensures faults { D.faults self.old.disk ≤ D.faults self.new.disk }
         ensures told { is_some (D.held self.new.disk) ≡ is_some (D.held self.old.disk) }
+        ensures any_moment { IfTold (D.held self.old.disk) (λ _. LeavesOnly D.moment D.images_since self.old.disk self.new.disk (StandsForEither self.old.records (Load unit count))) }
+        ensures kept { OnOk result (Leaves (D.held self.new.disk) (D.images self.new.disk) self.new.records) }
     {
         append(&mut self.journal, Rec::Load { unit, count })?;
         Ok(())
@@ -319,6 +333,8 @@ impl<D: Disk> Ledger<D> {
         ensures cause { result ≡ Err Deny.Disk → Rose (D.faults self.old.disk) (D.faults self.new.disk) }
         ensures faults { D.faults self.old.disk ≤ D.faults self.new.disk }
         ensures told { is_some (D.held self.new.disk) ≡ is_some (D.held self.old.disk) }
+        ensures any_moment { IfTold (D.held self.old.disk) (λ _. LeavesOnly D.moment D.images_since self.old.disk self.new.disk (StandsForEither self.old.records (Order kind counts))) }
+        ensures kept { OnOk result (Leaves (D.held self.new.disk) (D.images self.new.disk) self.new.records) }
     {
         append(&mut self.journal, Rec::Order { kind, counts })?;
         Ok(())
@@ -335,6 +351,8 @@ impl<D: Disk> Ledger<D> {
         ensures cause { result ≡ Err Deny.Disk → Rose (D.faults self.old.disk) (D.faults self.new.disk) }
         ensures faults { D.faults self.old.disk ≤ D.faults self.new.disk }
         ensures told { is_some (D.held self.new.disk) ≡ is_some (D.held self.old.disk) }
+        ensures any_moment { IfTold (D.held self.old.disk) (λ _. LeavesOnly D.moment D.images_since self.old.disk self.new.disk (StandsForEither self.old.records (Done moved diverted))) }
+        ensures kept { OnOk result (Leaves (D.held self.new.disk) (D.images self.new.disk) self.new.records) }
     {
         append(&mut self.journal, Rec::Done { moved, diverted })?;
         self.bound = paid(self.bound.take(), kind, &moved, &self.units);
@@ -365,6 +383,7 @@ fn append_boot<D: Disk>(journal: &mut Journal<D>, places: Places) -> Result<u64,
     ensures full { result ≡ Err BootFull → passes journal.old.limits (journal.old.records ++ Boot places ∷ []) ≡ true }
     ensures disk { result ≡ Err BootDisk → Rose (D.faults journal.old.disk) (D.faults journal.new.disk) }
     ensures images { IfTold (D.held journal.old.disk) (λ _. (c : List ℕ) → D.images journal.new.disk c → StandsForEither journal.old.records (Boot places) c) }
+    ensures any_moment { IfTold (D.held journal.old.disk) (λ _. LeavesOnly D.moment D.images_since journal.old.disk journal.new.disk (StandsForEither journal.old.records (Boot places))) }
     ensures told { is_some (D.held journal.new.disk) ≡ is_some (D.held journal.old.disk) }
     ensures not_mounted { IfErr result (λ f. (at : ℕ) → f ≢ NotJournal at) }
     ensures limits { journal.new.limits ≡ journal.old.limits }
@@ -394,6 +413,8 @@ fn append<D: Disk>(journal: &mut Journal<D>, rec: Rec) -> Result<u64, Deny>
     ensures room { journal.old.room ≤ journal.new.room + 1 }
     ensures faults { D.faults journal.old.disk ≤ D.faults journal.new.disk }
     ensures told { is_some (D.held journal.new.disk) ≡ is_some (D.held journal.old.disk) }
+    ensures any_moment { IfTold (D.held journal.old.disk) (λ _. LeavesOnly D.moment D.images_since journal.old.disk journal.new.disk (StandsForEither journal.old.records rec)) }
+    ensures kept { OnOk result (Leaves (D.held journal.new.disk) (D.images journal.new.disk) journal.new.records) }
 {
     match journal.append(rec) {
         Ok(number) => Ok(number),

@@ -16,7 +16,7 @@ returns-then-is_none-clause-continues g c = Continues-same _
 
 pub clear-requires : goal.clear-requires
 clear-requires g c =
-    let fit = fit-at _ _ c.self.view_is (sym c.unfit.ensures ∙ c.in_default.is) in
+    let fit = fit-at _ _ c.self.view_is (sym c.unfit.ensures.first ∙ c.in_default.is) in
     let short : length (body Clear) ≤ 1025 = omega arith in record {
       fits = may-write c.self.inside.ledger Clear fit.0 (takes-one c.self.inside.ledger.limits c.self.inside.ledger.records Clear fit.1 short);
     }
@@ -24,18 +24,18 @@ clear-requires g c =
 pub invariant_of-self : goal.invariant_of-self
 invariant_of-self g c =
     let none : c.self.inside.open_order ≡ No = rw (← c.self.view_is) at c.requires in
-    let fit = fit-at _ _ c.self.view_is (sym c.unfit.ensures ∙ c.in_default.is) in
+    let fit = fit-at _ _ c.self.view_is (sym c.unfit.ensures.first ∙ c.in_default.is) in
     IsKept-refused Unit c.in_err-clear.field-0.0 _ _ _ _ _ _ c.self.inside.ledger c.clear.new.self _ None _ _ _ _ _ _ c.in_err-clear.ensures.wrote c.in_err-clear.ensures.err c.clear.ensures.told none c.self.invariant fit.0
-    (IsSound-clear _ (c.self.invariant.sound fit.0) none) (λ p e. cc)
+    (IsSound-clear _ (c.self.invariant.sound fit.0) none)
 
 pub returns-in_err-clear-clause-continues : goal.returns-in_err-clear-clause-continues
 returns-in_err-clear-clause-continues g c =
-    rw (← c.self.view_is) (Continues-refused Unit c.in_err-clear.field-0.0 _ _ _ _ _ _ c.self.inside.ledger c.clear.new.self _ None _ _ c.in_err-clear.ensures.wrote c.in_err-clear.ensures.err)
+    rw (← c.self.view_is) (Continues-refused Unit c.in_err-clear.field-0.0 _ _ _ _ _ _ c.self.inside.ledger c.clear.new.self _ None _ _ c.in_err-clear.ensures.wrote c.in_err-clear.ensures.err (λ p e. cc))
 
 pub invariant_of-self-2 : goal.invariant_of-self-2
 invariant_of-self-2 g c =
     let none : c.self.inside.open_order ≡ No = rw (← c.self.view_is) at c.requires in
-    let fit = fit-at _ _ c.self.view_is (sym c.unfit.ensures ∙ c.in_default.is) in
+    let fit = fit-at _ _ c.self.view_is (sym c.unfit.ensures.first ∙ c.in_default.is) in
     let w = c.in_ok-clear.ensures.wrote in
     rw (w.records, w.units, w.bound_is, w.limits, w.open_still, w.in_doubt, c.clear.ensures.told, none)
     (IsKept-open _ _ _ _ (IsSound-clear _ (c.self.invariant.sound fit.0) none) tt tt c.self.invariant.units)
