@@ -17,48 +17,49 @@ use Rattle.xfs_journal.specs.declared.record.Rec.{Rec}
 use Rattle.xfs_journal.specs.declared.record.Rec.TheVariants.{Boot, Order}
 use Rattle.xfs_journal.proofs.JournalLaws.{record_at-push, record_at-append, record_at-within, record_at-cases, record_at-pushed}
 use Rattle.xfs_guard.specs.Agrees.{Agrees, IsAsked, IsNoOrder}
-use Rattle.xfs_guard.specs.Crashed.{Begins, LeftBefore, IsLost}
+use Rattle.xfs_guard.specs.Lives.{BeginsWith}
+use Rattle.xfs_guard.specs.Crashed.{IsLoose, IsLost}
 use Rattle.xfs_guard.proofs.RecordLaws.{last-pushed}
 
-pub Begins-same : (J : List Rec) → Begins J J
-Begins-same J = ([], sym (append-nil J))
+pub begins-same : (J : List Rec) → BeginsWith J J
+begins-same J = record { more = []; is = sym (append-nil J) }
 
-pub Begins-trans : (A B C : List Rec) → Begins A B → Begins B C → Begins A C
-Begins-trans A B C (m, is) (n, goes) = (m ++ n, rw (goes, is) (append_assoc A m n))
+pub begins-trans : (A B C : List Rec) → BeginsWith B A → BeginsWith C B → BeginsWith C A
+begins-trans A B C one two = record { more = one.more ++ two.more; is = rw (two.is, one.is) (append_assoc A one.more two.more) }
 
-pub Begins-push : (A B : List Rec) (r : Rec) → Begins A B → Begins A (B ++ r ∷ [])
-Begins-push A B r begins = Begins-trans A B (B ++ r ∷ []) begins (r ∷ [], refl)
+pub begins-push : (A B : List Rec) (r : Rec) → BeginsWith B A → BeginsWith (B ++ r ∷ []) A
+begins-push A B r begins = begins-trans A B (B ++ r ∷ []) begins (record { more = r ∷ []; is = refl })
 
 -- a possible list begins with the kept one
-pub Begins-possible : (J : List Rec) (d : Option Rec) (K : List Rec) → IsPossible J d K → Begins J K
-Begins-possible J d K (inl is) = rw is (Begins-same J)
-Begins-possible J d K (inr (r, doubt, is)) = rw is (r ∷ [], refl)
+pub begins-possible : (J : List Rec) (d : Option Rec) (K : List Rec) → IsPossible J d K → BeginsWith K J
+begins-possible J d K (inl is) = rw is (begins-same J)
+begins-possible J d K (inr (r, doubt, is)) = rw is (record { more = r ∷ []; is = refl })
 
-length-left : (J : List Rec) (d : Option Rec) (c : Bool) (X : List Rec) (l : LeftBefore J d c X) → length X ≡ length l.front + 1
+length-left : (J : List Rec) (d : Option Rec) (c : Bool) (X : List Rec) (l : IsLoose J d c X) → length X ≡ length l.front + 1
 length-left J d c X l = rw l.split (length-append l.front (l.last ∷ []))
 
-length-front : (J : List Rec) (d : Option Rec) (c : Bool) (X : List Rec) (l : LeftBefore J d c X) → length l.front ≤ length J
-length-front J d c X l = let size = ap length l.kept.1 ∙ length-append l.front l.kept.0 in omega (arith, size)
+length-front : (J : List Rec) (d : Option Rec) (c : Bool) (X : List Rec) (l : IsLoose J d c X) → length l.front ≤ length J
+length-front J d c X l = let size = ap length l.kept.is ∙ length-append l.front l.kept.more in omega (arith, size)
 
 -- an open journal has a record in the place of each last one
 reaches : (J : List Rec) (X : List Rec) → (length J < length X → false ≡ true) → length X ≤ length J
 reaches J X none = elim (cases_lt (length J) (length X)) [ inl above ↦ absurd (true≢false (sym (none above))) | inr below ↦ below ]
 
 -- one more record in an open journal
-pub LeftBefore-push : (J : List Rec) (r : Rec) (c : Bool) (X : List Rec) → LeftBefore J None false X → LeftBefore (J ++ r ∷ []) None c X
-LeftBefore-push J r c X l =
+pub IsLoose-push : (J : List Rec) (r : Rec) (c : Bool) (X : List Rec) → IsLoose J None false X → IsLoose (J ++ r ∷ []) None c X
+IsLoose-push J r c X l =
     let few = reaches J X l.closed_there in record {
       front = l.front;
       last = l.last;
       split = l.split;
-      kept = Begins-push l.front J r l.kept;
+      kept = begins-push l.front J r l.kept;
       replaced = λ q there. l.replaced q (sym (record_at-push J r (length X) few) ∙ there);
       closed_there = λ short. let size = length-append J (r ∷ []) in absurd (omega (arith, size, short, few));
     }
 
 -- a record is in doubt, and the journal shut
-pub LeftBefore-doubt : (J : List Rec) (r : Rec) (X : List Rec) → LeftBefore J None false X → LeftBefore J (Some r) true X
-LeftBefore-doubt J r X l =
+pub IsLoose-doubt : (J : List Rec) (r : Rec) (X : List Rec) → IsLoose J None false X → IsLoose J (Some r) true X
+IsLoose-doubt J r X l =
     let few = reaches J X l.closed_there in record {
       front = l.front;
       last = l.last;
@@ -69,8 +70,8 @@ LeftBefore-doubt J r X l =
     }
 
 -- the journal is closed
-pub LeftBefore-close : (J : List Rec) (d : Option Rec) (c : Bool) (X : List Rec) → LeftBefore J d c X → LeftBefore J d true X
-LeftBefore-close J d c X l = record { front = l.front; last = l.last; split = l.split; kept = l.kept; replaced = l.replaced; closed_there = λ short. refl }
+pub IsLoose-close : (J : List Rec) (d : Option Rec) (c : Bool) (X : List Rec) → IsLoose J d c X → IsLoose J d true X
+IsLoose-close J d c X l = record { front = l.front; last = l.last; split = l.split; kept = l.kept; replaced = l.replaced; closed_there = λ short. refl }
 
 -- a record of a possible list is one of the longest
 in_longest : (J : List Rec) (d : Option Rec) (K : List Rec) (n : ℕ) (q : Rec) → IsPossible J d K → record_at K n ≡ Some q → record_at (longest J d) n ≡ Some q
@@ -82,88 +83,62 @@ in_longest J d K n q (inl is) there = within d (rw is at there)
 in_longest J d K n q (inr (r, doubt, is)) there = rw doubt (rw is at there)
 
 -- a possible list is kept now, and the journal takes no record but a Boot
-pub LeftBefore-mount : (J : List Rec) (d : Option Rec) (c : Bool) (K X : List Rec) → IsPossible J d K → LeftBefore J d c X → LeftBefore K None true X
-LeftBefore-mount J d c K X possible l = record {
+pub IsLoose-mount : (J : List Rec) (d : Option Rec) (c : Bool) (K X : List Rec) → IsPossible J d K → IsLoose J d c X → IsLoose K None true X
+IsLoose-mount J d c K X possible l = record {
   front = l.front;
   last = l.last;
   split = l.split;
-  kept = Begins-trans l.front J K l.kept (Begins-possible J d K possible);
+  kept = begins-trans l.front J K l.kept (begins-possible J d K possible);
   replaced = λ q there. l.replaced q (in_longest J d K (length X) q possible there);
   closed_there = λ short. refl;
 }
 
 -- the Boot behind it is kept, or in doubt
-boots : (K : List Rec) (p : Places) (X : List Rec) (l : LeftBefore K None true X) (q : Rec) → record_at (K ++ Boot p ∷ []) (length X) ≡ Some q → (l.last ≡ q) ⊎ IsNoOrder (Some q)
+boots : (K : List Rec) (p : Places) (X : List Rec) (l : IsLoose K None true X) (q : Rec) → record_at (K ++ Boot p ∷ []) (length X) ≡ Some q → (l.last ≡ q) ⊎ IsNoOrder (Some q)
 boots K p X l q there = ⊎_elim (λ h. l.replaced q h.1) (λ h. inr (rw (sym h.1) tt)) (record_at-cases K (Boot p) (length X) q there)
 
-pub LeftBefore-boot : (K : List Rec) (p : Places) (c : Bool) (X : List Rec) → LeftBefore K None true X → LeftBefore (K ++ Boot p ∷ []) None c X
-LeftBefore-boot K p c X l = record {
+pub IsLoose-boot : (K : List Rec) (p : Places) (c : Bool) (X : List Rec) → IsLoose K None true X → IsLoose (K ++ Boot p ∷ []) None c X
+IsLoose-boot K p c X l = record {
   front = l.front;
   last = l.last;
   split = l.split;
-  kept = Begins-push l.front K (Boot p) l.kept;
+  kept = begins-push l.front K (Boot p) l.kept;
   replaced = boots K p X l;
   closed_there = λ short.
       let size = length-append K (Boot p ∷ []) in let many = length-left K None true X l in let few = length-front K None true X l in
       absurd (omega (arith, size, many, few, short));
 }
 
-pub LeftBefore-boot_doubt : (K : List Rec) (p : Places) (X : List Rec) → LeftBefore K None true X → LeftBefore K (Some (Boot p)) true X
-LeftBefore-boot_doubt K p X l = record { front = l.front; last = l.last; split = l.split; kept = l.kept; replaced = boots K p X l; closed_there = λ short. refl }
+pub IsLoose-boot_doubt : (K : List Rec) (p : Places) (X : List Rec) → IsLoose K None true X → IsLoose K (Some (Boot p)) true X
+IsLoose-boot_doubt K p X l = record { front = l.front; last = l.last; split = l.split; kept = l.kept; replaced = boots K p X l; closed_there = λ short. refl }
 
--- a list with a record has a last one
-pub record Ends (J : List Rec) : Type 0 where
-  pub front : List Rec
-  pub last : Rec
-  pub split : J ≡ front ++ last ∷ []
-
-ends : (J : List Rec) → 0 < length J → Ends J
-ends [] lt = absurd (omega arith)
-ends (r ∷ []) lt = record { front = []; last = r; split = refl }
-ends (r ∷ s ∷ J) lt = let e = ends (s ∷ J) (omega arith) in record { front = r ∷ e.front; last = e.last; split = ap (λ (l : List Rec). r ∷ l) e.split }
-
--- a list that a crash may leave now
-pub LeftBefore-possible : (J : List Rec) (d : Option Rec) (c : Bool) (K : List Rec) → 0 < length J → (d ≢ None → c ≡ true) → IsPossible J d K → LeftBefore J d c K
-LeftBefore-possible J d c K some closed (inl is) = rw is (record {
-  front = e.front;
-  last = e.last;
-  split = e.split;
-  kept = (e.last ∷ [], e.split);
-  replaced = λ r there. inl (is_last d r there);
-  closed_there = λ short. absurd (omega (arith, short));
-})
-  where
-    e : Ends J
-    e = ends J some
-
-    here : record_at J (length J) ≡ Some e.last
-    here = ap (λ (l : List Rec). record_at l (length l)) e.split ∙ last-pushed e.front e.last
-
-    is_last : (f : Option Rec) (r : Rec) → record_at (longest J f) (length J) ≡ Some r → e.last ≡ r
-    is_last None r there = let same : Some e.last ≡ Some r = sym here ∙ there in cc
-    is_last (Some q) r there = let same : Some e.last ≡ Some r = sym here ∙ sym (record_at-push J q (length J) (omega arith)) ∙ there in cc
-LeftBefore-possible J d c K some closed (inr (r, doubt, is)) = rw (is, doubt) (record {
+-- the record in doubt behind the records
+pub IsLoose-in_doubt : (J : List Rec) (r : Rec) → IsLoose J (Some r) true (J ++ r ∷ [])
+IsLoose-in_doubt J r = record {
   front = J;
   last = r;
   split = refl;
-  kept = Begins-same J;
-  replaced = λ q there. let same : Some r ≡ Some q = sym (record_at-pushed J r) ∙ sym (ap (record_at (J ++ r ∷ [])) (length-append J (r ∷ []))) ∙ there in inl cc;
-  closed_there = λ short. closed (λ none. let e : Some r ≡ None = sym doubt ∙ none in cc);
-})
+  kept = begins-same J;
+  replaced = λ q there. let same : Some r ≡ Some q = sym (last-pushed J r) ∙ there in inl cc;
+  closed_there = λ short. refl;
+}
 
 -- one more record of the list is its next
-Begins-next : (F R : List Rec) (l : Rec) → Begins F R → record_at R (length F + 1) ≡ Some l → Begins (F ++ l ∷ []) R
-Begins-next F R l ([], is) there = let w = record_at-within R (length F + 1) l there in let size = ap length is ∙ length-append F [] in absurd (omega (arith, size, w.1))
-Begins-next F R l (x ∷ xs, is) there = (xs, rw (← same) split)
+begins-next : (F R : List Rec) (l : Rec) → BeginsWith R F → record_at R (length F + 1) ≡ Some l → BeginsWith R (F ++ l ∷ [])
+begins-next F R l begins there = go begins.more begins.is
   where
-    split : R ≡ (F ++ x ∷ []) ++ xs
-    split = is ∙ sym (append_assoc F (x ∷ []) xs)
+    go : (more : List Rec) → R ≡ F ++ more → BeginsWith R (F ++ l ∷ [])
+    go [] is = let w = record_at-within R (length F + 1) l there in let size = ap length is ∙ length-append F [] in absurd (omega (arith, size, w.1))
+    go (x ∷ xs) is = record { more = xs; is = rw (← same) split }
+      where
+        split : R ≡ (F ++ x ∷ []) ++ xs
+        split = is ∙ sym (append_assoc F (x ∷ []) xs)
 
-    here : record_at R (length F + 1) ≡ Some x
-    here = ap (λ (l : List Rec). record_at l (length F + 1)) split ∙ record_at-append (F ++ x ∷ []) xs (length F + 1) (let size = length-append F (x ∷ []) in omega (arith, size)) ∙ record_at-pushed F x
+        here : record_at R (length F + 1) ≡ Some x
+        here = ap (λ (l : List Rec). record_at l (length F + 1)) split ∙ record_at-append (F ++ x ∷ []) xs (length F + 1) (let size = length-append F (x ∷ []) in omega (arith, size)) ∙ record_at-pushed F x
 
-    same : x ≡ l
-    same = let e : Some x ≡ Some l = sym here ∙ there in cc
+        same : x ≡ l
+        same = let e : Some x ≡ Some l = sym here ∙ there in cc
 
 -- a motion has the number of an order
 not_numbered : (R : List Rec) (n : ℕ) (L : List Motion) → ((k : Kind) (c : Counts) → record_at R n ≢ Some (Order k c)) → AllByRecursion (IsAsked R) L → AllByRecursion (NumberIs (λ m. m ≢ n)) L
@@ -173,13 +148,13 @@ not_numbered R n (Taken moved ∷ L) none (a, all) = (tt, not_numbered R n L non
 not_numbered R n (Loaded unit count ∷ L) none (a, all) = (tt, not_numbered R n L none all)
 
 -- a list that was left is a front of what the disk has, or no motion has its last record's number
-pub left-front : (J : List Rec) (d : Option Rec) (c : Bool) (X R : List Rec) (L : Option (List Motion)) → LeftBefore J d c X → IsPossible J d R → IfTold L (Agrees R) → Begins X R ⊎ IsLost R L X
+pub left-front : (J : List Rec) (d : Option Rec) (c : Bool) (X R : List Rec) (L : Option (List Motion)) → IsLoose J d c X → IsPossible J d R → IfTold L (Agrees R) → BeginsWith R X ⊎ IsLost R L X
 left-front J d c X R L l possible agrees = by_record (record_at R (length X)) refl
   where
-    front : Begins l.front R
-    front = Begins-trans l.front J R l.kept (Begins-possible J d R possible)
+    front : BeginsWith R l.front
+    front = begins-trans l.front J R l.kept (begins-possible J d R possible)
 
-    lost : ((k : Kind) (n : Counts) → record_at R (length X) ≢ Some (Order k n)) → Begins X R ⊎ IsLost R L X
+    lost : ((k : Kind) (n : Counts) → record_at R (length X) ≢ Some (Order k n)) → BeginsWith R X ⊎ IsLost R L X
     lost none = inr (record { front = l.front; last = l.last; split = l.split; kept = front; unmoved = unmoved L agrees })
       where
         unmoved : (m : Option (List Motion)) → IfTold m (Agrees R) → IfTold m (AllByRecursion (NumberIs (λ n. n ≢ length X)))
@@ -189,9 +164,9 @@ left-front J d c X R L l possible agrees = by_record (record_at R (length X)) re
     some_same : (a b : Rec) → Some a ≡ Some b → a ≡ b
     some_same a b e = cc
 
-    by_record : (r : Option Rec) → record_at R (length X) ≡ r → Begins X R ⊎ IsLost R L X
+    by_record : (r : Option Rec) → record_at R (length X) ≡ r → BeginsWith R X ⊎ IsLost R L X
     by_record None is = lost (λ k n there. let e : None ≡ Some (Order k n) = sym is ∙ there in cc)
     by_record (Some q) is = ⊎_elim
-        (λ same. inl (rw l.split (Begins-next l.front R l.last front (ap (record_at R) (sym (length-left J d c X l)) ∙ is ∙ ap Some (sym same)))))
+        (λ same. inl (rw l.split (begins-next l.front R l.last front (ap (record_at R) (sym (length-left J d c X l)) ∙ is ∙ ap Some (sym same)))))
         (λ none. lost (λ k n there. let e : q ≡ Order k n = some_same q (Order k n) (sym is ∙ there) in rw e at none))
         (l.replaced q (in_longest J d R (length X) q possible is))

@@ -1,32 +1,48 @@
--- Which lists a crash left on the way to a state of the journal.
-use Rattle.std.specs.Prelude.{◌≡◌, ◌≢◌, ◌⊎◌, ℕ, ◌<◌, Bool, true, List, [], ◌∷◌, ◌++◌, length, Some}
+-- Which lists a crash left on the way from one state of a guard to a later one.
+use Rattle.std.specs.Prelude.{◌≡◌, ◌≢◌, ◌⊎◌, ℕ, ◌<◌, ◌||◌, Bool, true, List, [], ◌∷◌, ◌++◌, length, Some}
 use Rattle.std.specs.declared.option.Option.{Option}
 use Rattle.std.specs.List.{AllByRecursion}
 use Rattle.xfs_base.specs.Causes.{IfTold}
+use Rattle.xfs_disk.specs.Disk.{LeavesOnly}
 use Rattle.xfs_mech.specs.declared.motion.Motion.{Motion}
 use Rattle.xfs_mech.specs.Motions.{NumberIs}
+use Rattle.xfs_journal.specs.Image.{Stands}
 use Rattle.xfs_journal.specs.Journal.{record_at}
 use Rattle.xfs_journal.specs.JournalView.{longest}
 use Rattle.xfs_journal.specs.declared.record.Rec.{Rec}
 use Rattle.xfs_guard.specs.Agrees.{IsNoOrder}
+use Rattle.xfs_guard.specs.Lives.{BeginsWith}
+use Rattle.xfs_guard.specs.View.{View, GuardView}
 
--- the records begin with these
-abbrev pub Begins : List Rec → List Rec → Type 0
-Begins front records = (more : List Rec) × (records ≡ front ++ more)
-
--- A list that a crash left before: without its last record it is a front of the records. What stands in the place of that record now, or is in doubt there, is the same record, or no order; where nothing stands there, the journal is closed.
-pub record LeftBefore (records : List Rec) (in_doubt : Option Rec) (closed : Bool) (list : List Rec) : Type 0 where
+-- A list that is a front of the records but for its last record. What stands in that one's place now, or is in doubt there, is the same record, or no order; where nothing stands there, the journal takes no record but a Boot.
+pub record IsLoose (records : List Rec) (in_doubt : Option Rec) (closed : Bool) (list : List Rec) : Type 0 where
   pub front : List Rec
   pub last : Rec
   pub split : list ≡ front ++ last ∷ []
-  pub kept : Begins front records
+  pub kept : BeginsWith records front
   pub replaced : (r : Rec) → record_at (longest records in_doubt) (length list) ≡ Some r → (last ≡ r) ⊎ IsNoOrder (Some r)
   pub closed_there : length records < length list → closed ≡ true
 
--- without its last record it is a front of the records, and no motion has that record's number
+-- a crash left this list on the way to a state: a front of its records, but perhaps for the last one
+abbrev pub IsLeft : View → List Rec → Type 0
+IsLeft v list = BeginsWith v.records list ⊎ IsLoose v.records v.in_doubt v.shut list
+
+-- the bytes stand for a list that begins with the earlier records, and was left on the way to the later state
+pub record StandsLeft (old new : View) (bytes : List ℕ) : Type 0 where
+  pub list : List Rec
+  pub stands : Stands bytes list
+  pub begins : BeginsWith list old.records
+  pub left : IsLeft new list
+
+-- where the disk tells, each image of each moment since the earlier state is one of those of then, or stands for a list that was left on the way
+abbrev pub LeavesBehind : {D : Type 0} → (D → Option (List ℕ)) → (D → List ℕ → Type 0) → (D → ℕ) → (D → ℕ → List ℕ → Type 0) → GuardView D → GuardView D → Type 0
+LeavesBehind held images moment since old new =
+    IfTold (held old.disk) (λ _. LeavesOnly moment since old.disk new.disk (λ bytes. images old.disk bytes ⊎ StandsLeft old.state new.state bytes))
+
+-- without its last record the list is a front of the records, and no motion has that record's number
 pub record IsLost (records : List Rec) (motions : Option (List Motion)) (list : List Rec) : Type 0 where
   pub front : List Rec
   pub last : Rec
   pub split : list ≡ front ++ last ∷ []
-  pub kept : Begins front records
+  pub kept : BeginsWith records front
   pub unmoved : IfTold motions (AllByRecursion (NumberIs (λ n. n ≢ length list)))
