@@ -38,12 +38,12 @@ returns-in_err-ready-clause-continues g c = rw (← c.self.view_is, c.ready.ensu
 
 pub returns-in_err-ready-clause-inside : goal.returns-in_err-ready-clause-inside
 returns-in_err-ready-clause-inside g c =
-    rw (← c.self.view_is) (left-through g.D.Disk.held g.D.Disk.images g.D.Disk.moment g.D.Disk.images_since c.self.inside.ledger.disk _ (λ entry. entry ≡ Loaded c.args.unit c.args.count) (g.met.D.Disk.only_now c.self.inside.ledger.disk) c.shut.ensures.possible
+    rw (← c.self.view_is) (left-through g.D.Disk.held g.D.Disk.images g.D.Disk.moment g.D.Disk.images_since c.self.inside.ledger.disk _ (λ entry. entry ≡ Loaded c.args.unit c.args.count) (g.met.D.Disk.only_now c.self.inside.ledger.disk) c.shut-possible.ensures.possible
     c.self.invariant.recorded
     (λ told J p entry now may grows. IsRecorded-entry _ _ J (Loaded c.args.unit c.args.count) _ now tt (rw may at grows) (c.self.invariant.recorded told J p)))
 
 pub returns-clause-inside : goal.returns-clause-inside
 returns-clause-inside g c =
-    rw (← c.self.view_is) (left-through g.D.Disk.held g.D.Disk.images g.D.Disk.moment g.D.Disk.images_since c.self.inside.ledger.disk _ (λ entry. entry ≡ Loaded c.args.unit c.args.count) (g.met.D.Disk.only_now c.self.inside.ledger.disk) c.shut.ensures.possible
+    rw (← c.self.view_is) (left-through g.D.Disk.held g.D.Disk.images g.D.Disk.moment g.D.Disk.images_since c.self.inside.ledger.disk _ (λ entry. entry ≡ Loaded c.args.unit c.args.count) (g.met.D.Disk.only_now c.self.inside.ledger.disk) c.shut-possible.ensures.possible
     c.self.invariant.recorded
     (λ told J p entry now may grows. IsRecorded-entry _ _ J (Loaded c.args.unit c.args.count) _ now tt (rw may at grows) (c.self.invariant.recorded told J p)))
