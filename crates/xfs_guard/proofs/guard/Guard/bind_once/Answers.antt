@@ -1,4 +1,4 @@
-use Rattle.std.proofs.Common.{◌≡◌, ◌≤◌, ◌∙◌, length, sym, None, Some, arith}
+use Rattle.std.proofs.Common.{◌≡◌, ◌≤◌, ◌∙◌, length, sym, None, Some, arith, refl}
 use Rattle.xfs_journal.specs.Image.{body}
 use Rattle.xfs_journal.specs.declared.record.Rec.TheVariants.{Bind}
 use Rattle.xfs_guard.specs.declared.open.Open.TheVariants.{No}
@@ -7,6 +7,7 @@ use Rattle.xfs_guard.proofs.ClaimLaws.{IsSound-claim, copied-none}
 use Rattle.xfs_guard.proofs.ContinueLaws.{Continues-written, Continues-same}
 use Rattle.xfs_guard.proofs.KeptLaws.{IsKept-open, IsKept-refused, Continues-refused}
 use Rattle.xfs_guard.proofs.SizeLaws.{fit-at, takes-one, may-write}
+use Rattle.xfs_guard.proofs.LeftLaws.{left-written}
 use Rattle.xfs_guard.proofs.guard.Guard.bind_once.Goals as goal
 
 pub returns-then-is_some-clause-continues : goal.returns-then-is_some-clause-continues
@@ -46,3 +47,21 @@ returns-clause-continues g c =
     let w = c.in_ok-bind.ensures.wrote in
     rw (← c.self.view_is, w.records, w.units, w.bound_is, w.limits, w.open_still, w.in_doubt, c.bind.ensures.told)
     (Continues-written _ (Bind c.claim.inside.token) (Some c.claim.inside.amounts) c.self.inside.open_order (λ p e. cc))
+
+pub returns-in_err-bind-clause-any_moment : goal.returns-in_err-bind-clause-any_moment
+returns-in_err-bind-clause-any_moment g c =
+    let none : c.self.inside.open_order ≡ No = rw (← c.self.view_is) at c.requires.none in
+    let passes = rw (← c.self.view_is, ← c.claim.view_is) at c.requires.passes in
+    let fit = fit-at _ _ c.self.view_is c.requires.passes.fit in
+    let free : bound_token c.self.inside.ledger.records ≡ None = copied-none c.token.result _ c.token.ensures (sym c.is_some.ensures ∙ c.if-is_some.false) in
+    let sound = c.self.invariant.sound fit.0 in
+    rw (← c.self.view_is) (left-written g.D.Disk.held g.D.Disk.images g.D.Disk.moment g.D.Disk.images_since c.self.inside.ledger.disk c.bind.new.self.disk _ (Bind c.claim.inside.token) (Some c.claim.inside.amounts) No refl sound (IsSound-claim _ c.claim.inside.token c.claim.inside.amounts sound none passes free) c.bind.ensures.any_moment)
+
+pub returns-clause-any_moment : goal.returns-clause-any_moment
+returns-clause-any_moment g c =
+    let none : c.self.inside.open_order ≡ No = rw (← c.self.view_is) at c.requires.none in
+    let passes = rw (← c.self.view_is, ← c.claim.view_is) at c.requires.passes in
+    let fit = fit-at _ _ c.self.view_is c.requires.passes.fit in
+    let free : bound_token c.self.inside.ledger.records ≡ None = copied-none c.token.result _ c.token.ensures (sym c.is_some.ensures ∙ c.if-is_some.false) in
+    let sound = c.self.invariant.sound fit.0 in
+    rw (← c.self.view_is) (left-written g.D.Disk.held g.D.Disk.images g.D.Disk.moment g.D.Disk.images_since c.self.inside.ledger.disk c.bind.new.self.disk _ (Bind c.claim.inside.token) (Some c.claim.inside.amounts) No refl sound (IsSound-claim _ c.claim.inside.token c.claim.inside.amounts sound none passes free) c.bind.ensures.any_moment)

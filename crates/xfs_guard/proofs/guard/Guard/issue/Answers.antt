@@ -9,6 +9,8 @@ use Rattle.xfs_guard.proofs.ContinueLaws.{Continues-same, Continues-written}
 use Rattle.xfs_guard.proofs.KeptLaws.{IsKept-open, IsKept-refused, Continues-refused}
 use Rattle.xfs_guard.proofs.SizeLaws.{fit-at, takes-one, may-write}
 use Rattle.xfs_guard.proofs.RecordLaws.{IsSound-issue}
+use Rattle.xfs_guard.proofs.LeftLaws.{left-written}
+use Rattle.xfs_guard.proofs.LifeLaws.{next-fresh}
 use Rattle.xfs_guard.proofs.guard.Guard.issue.Goals as goal
 
 pub returns-in-Some-clause-continues : goal.returns-in-Some-clause-continues
@@ -49,3 +51,23 @@ returns-clause-continues g c =
     let w = c.in_ok-issue.ensures.wrote in
     rw (← c.self.view_is, w.records, w.units, w.bound_is, w.limits, w.open_still, w.in_doubt, c.issue.ensures.told)
     (Continues-written _ (Issue _ c.word_of-word.result) None c.self.inside.open_order (λ p e. cc))
+
+pub returns-in_err-issue-clause-any_moment : goal.returns-in_err-issue-clause-any_moment
+returns-in_err-issue-clause-any_moment g c =
+    let none : c.self.inside.open_order ≡ No = rw (← c.self.view_is) at c.requires in
+    let fit = fit-at _ _ c.self.view_is (sym c.unfit.ensures.first ∙ c.in_default.is) in
+    let sound = c.self.invariant.sound fit.0 in
+    rw (← c.self.view_is) (left-written g.D.Disk.held g.D.Disk.images g.D.Disk.moment g.D.Disk.images_since c.self.inside.ledger.disk c.issue.new.self.disk _ (Issue (next_issue c.self.inside.ledger.records) c.word_of-word.result) None No refl sound (IsSound-issue _ _ c.word_of-word.result sound none refl) c.issue.ensures.any_moment)
+
+pub returns-clause-any_moment : goal.returns-clause-any_moment
+returns-clause-any_moment g c =
+    let none : c.self.inside.open_order ≡ No = rw (← c.self.view_is) at c.requires in
+    let fit = fit-at _ _ c.self.view_is (sym c.unfit.ensures.first ∙ c.in_default.is) in
+    let sound = c.self.invariant.sound fit.0 in
+    rw (← c.self.view_is) (left-written g.D.Disk.held g.D.Disk.images g.D.Disk.moment g.D.Disk.images_since c.self.inside.ledger.disk c.issue.new.self.disk _ (Issue (next_issue c.self.inside.ledger.records) c.word_of-word.result) None No refl sound (IsSound-issue _ _ c.word_of-word.result sound none refl) c.issue.ensures.any_moment)
+
+pub returns-clause-never_twice : goal.returns-clause-never_twice
+returns-clause-never_twice g c =
+    let fit = fit-at _ _ c.self.view_is (sym c.unfit.ensures.first ∙ c.in_default.is) in
+    rw (← c.self.view_is) (λ told first runs life.
+    rw c.in_ok-issue.ensures.number (next-fresh first runs c.self.inside.ledger.records life ((c.self.invariant.sound fit.0).numbered told)))

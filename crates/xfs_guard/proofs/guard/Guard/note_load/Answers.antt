@@ -1,4 +1,4 @@
-use Rattle.std.proofs.Common.{◌≡◌, ◌≤◌, ◌∙◌, sym, length, arith}
+use Rattle.std.proofs.Common.{◌≡◌, ◌≤◌, ◌∙◌, sym, length, arith, refl}
 use Rattle.xfs_guard.specs.declared.open.Open.TheVariants.{No}
 use Rattle.xfs_journal.specs.Image.{body}
 use Rattle.xfs_journal.specs.declared.record.Rec.TheVariants.{Load}
@@ -6,6 +6,7 @@ use Rattle.xfs_guard.proofs.ContinueLaws.{Continues-same, Continues-written}
 use Rattle.xfs_guard.proofs.KeptLaws.{IsKept-open, IsKept-refused, Continues-refused}
 use Rattle.xfs_guard.proofs.SizeLaws.{fit-at, takes-one, may-write}
 use Rattle.xfs_guard.proofs.RecordLaws.{IsSound-load}
+use Rattle.xfs_guard.proofs.LeftLaws.{left-written}
 use Rattle.xfs_guard.proofs.guard.Guard.note_load.Goals as goal
 
 pub returns-in-Some-clause-continues : goal.returns-in-Some-clause-continues
@@ -41,3 +42,17 @@ returns-clause-continues g c =
     let w = c.in_ok-load.ensures.wrote in
     rw (← c.self.view_is, w.records, w.units, w.bound_is, w.limits, w.open_still, w.in_doubt, c.load.ensures.told)
     (Continues-written _ (Load c.args.unit c.args.count) c.self.inside.ledger.bound c.self.inside.open_order (λ p e. cc))
+
+pub returns-in_err-load-clause-any_moment : goal.returns-in_err-load-clause-any_moment
+returns-in_err-load-clause-any_moment g c =
+    let none : c.self.inside.open_order ≡ No = rw (← c.self.view_is) at c.requires.none in
+    let fit = fit-at _ _ c.self.view_is (sym c.unfit.ensures.first ∙ c.in_default.is) in
+    let sound = c.self.invariant.sound fit.0 in
+    rw (← c.self.view_is) (left-written g.D.Disk.held g.D.Disk.images g.D.Disk.moment g.D.Disk.images_since c.self.inside.ledger.disk c.load.new.self.disk _ (Load c.args.unit c.args.count) c.self.inside.ledger.bound No refl sound (IsSound-load _ c.args.unit c.args.count sound none) c.load.ensures.any_moment)
+
+pub returns-clause-any_moment : goal.returns-clause-any_moment
+returns-clause-any_moment g c =
+    let none : c.self.inside.open_order ≡ No = rw (← c.self.view_is) at c.requires.none in
+    let fit = fit-at _ _ c.self.view_is (sym c.unfit.ensures.first ∙ c.in_default.is) in
+    let sound = c.self.invariant.sound fit.0 in
+    rw (← c.self.view_is) (left-written g.D.Disk.held g.D.Disk.images g.D.Disk.moment g.D.Disk.images_since c.self.inside.ledger.disk c.load.new.self.disk _ (Load c.args.unit c.args.count) c.self.inside.ledger.bound No refl sound (IsSound-load _ c.args.unit c.args.count sound none) c.load.ensures.any_moment)

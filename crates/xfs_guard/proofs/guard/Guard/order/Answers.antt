@@ -1,4 +1,4 @@
-use Rattle.std.proofs.Common.{◌≡◌, ◌≤◌, ◌∙◌, true, Some, sym, length, arith}
+use Rattle.std.proofs.Common.{◌≡◌, ◌≤◌, ◌∙◌, sym, length, arith, refl}
 use Rattle.xfs_guard.specs.declared.open.Open.TheVariants.{No, Written}
 use Rattle.xfs_journal.specs.Image.{body}
 use Rattle.xfs_journal.specs.declared.record.Rec.TheVariants.{Order}
@@ -6,6 +6,7 @@ use Rattle.xfs_guard.proofs.ContinueLaws.{Continues-same, Continues-written, Con
 use Rattle.xfs_guard.proofs.KeptLaws.{IsKept-open, IsKept-doubted}
 use Rattle.xfs_guard.proofs.SizeLaws.{fit-at, takes-one, may-write, order-short, leaves-done}
 use Rattle.xfs_guard.proofs.OrderLaws.{IsSound-asked}
+use Rattle.xfs_guard.proofs.LeftLaws.{left-written}
 use Rattle.xfs_guard.proofs.guard.Guard.order.Goals as goal
 
 pub returns-in-Some-clause-continues : goal.returns-in-Some-clause-continues
@@ -69,3 +70,23 @@ returns-clause-continues g c =
     let w = c.in_ok-order.ensures.wrote in
     rw (← c.self.view_is, w.records, w.units, w.bound_is, w.limits, w.open_still, w.in_doubt, c.order.ensures.told, same.records, same.units, same.bound, same.limits, same.disk, c.ready.ensures.motions, c.ready.ensures.places, c.ready.ensures.faults)
     (Continues-written _ (Order c.in_ok-kind.kind c.in_ok-kind.counts) c.self.inside.ledger.bound (Written c.in_ok-kind.kind c.in_ok-kind.counts) (λ p e. cc))
+
+pub returns-in_err-order-clause-any_moment : goal.returns-in_err-order-clause-any_moment
+returns-in_err-order-clause-any_moment g c =
+    let none : c.self.inside.open_order ≡ No = rw (← c.self.view_is) at c.requires.none in
+    let fit = fit-at _ _ c.self.view_is (sym c.unfit.ensures.first ∙ c.in_default.is) in
+    let fine = rw (← c.self.view_is) at c.in_ok-kind.ensures.ok in
+    let same = c.in_ok-reserve_two.ensures.same in
+    let sound = c.self.invariant.sound fit.0 in
+    let moments = rw (same.disk, same.records) at c.order.ensures.any_moment in
+    rw (← c.self.view_is) (left-written g.D.Disk.held g.D.Disk.images g.D.Disk.moment g.D.Disk.images_since c.self.inside.ledger.disk c.order.new.self.disk _ (Order c.in_ok-kind.kind c.in_ok-kind.counts) c.self.inside.ledger.bound (Written c.in_ok-kind.kind c.in_ok-kind.counts) refl sound (rw (fine.1, fine.2) (IsSound-asked _ c.args.ask sound none fine.0)) moments)
+
+pub returns-clause-any_moment : goal.returns-clause-any_moment
+returns-clause-any_moment g c =
+    let none : c.self.inside.open_order ≡ No = rw (← c.self.view_is) at c.requires.none in
+    let fit = fit-at _ _ c.self.view_is (sym c.unfit.ensures.first ∙ c.in_default.is) in
+    let fine = rw (← c.self.view_is) at c.in_ok-kind.ensures.ok in
+    let same = c.in_ok-reserve_two.ensures.same in
+    let sound = c.self.invariant.sound fit.0 in
+    let moments = rw (same.disk, same.records) at c.order.ensures.any_moment in
+    rw (← c.self.view_is) (left-written g.D.Disk.held g.D.Disk.images g.D.Disk.moment g.D.Disk.images_since c.self.inside.ledger.disk c.order.new.self.disk _ (Order c.in_ok-kind.kind c.in_ok-kind.counts) c.self.inside.ledger.bound (Written c.in_ok-kind.kind c.in_ok-kind.counts) refl sound (rw (fine.1, fine.2) (IsSound-asked _ c.args.ask sound none fine.0)) moments)

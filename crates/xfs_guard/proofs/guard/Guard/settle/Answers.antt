@@ -1,3 +1,4 @@
+use Rattle.std.proofs.Common.{refl}
 use Rattle.xfs_guard.specs.declared.open.Open.TheVariants.{No}
 use Rattle.xfs_journal.specs.declared.record.Rec.TheVariants.{Done}
 use Rattle.xfs_guard.proofs.ContinueLaws.{Continues-written, Continues-doubted}
@@ -5,6 +6,7 @@ use Rattle.xfs_guard.proofs.KeptLaws.{IsKept-open, IsKept-doubted, still-acted}
 use Rattle.xfs_guard.proofs.SizeLaws.{may-write, takes-done}
 use Rattle.xfs_guard.proofs.RecordLaws.{IsSound-done}
 use Rattle.xfs_guard.proofs.OrderLaws.{small-done}
+use Rattle.xfs_guard.proofs.LeftLaws.{left-written}
 use Rattle.xfs_guard.proofs.guard.Guard.settle.Goals as goal
 
 pub done-requires-clause-fits : goal.done-requires-clause-fits
@@ -45,3 +47,15 @@ returns-clause-continues g c =
     let w = c.in_ok-done.ensures.wrote in
     rw (← c.self.view_is, w.records, w.units, w.bound_is, w.limits, w.open_still, w.in_doubt, c.done.ensures.told)
     (Continues-written _ (Done c.in-Acted.moved c.in-Acted.diverted) c.self.inside.ledger.bound No (λ p e. cc))
+
+pub returns-in_err-done-clause-any_moment : goal.returns-in_err-done-clause-any_moment
+returns-in_err-done-clause-any_moment g c =
+    let still = still-acted _ _ _ _ _ _ c.self.invariant.closed c.in-Acted.is in
+    let sound = c.self.invariant.sound still in
+    rw (← c.self.view_is) (left-written g.D.Disk.held g.D.Disk.images g.D.Disk.moment g.D.Disk.images_since c.self.inside.ledger.disk c.done.new.self.disk _ (Done c.in-Acted.moved c.in-Acted.diverted) c.self.inside.ledger.bound No refl sound (IsSound-done _ c.in-Acted.kind c.in-Acted.moved c.in-Acted.diverted c.in-Acted.failed sound c.in-Acted.is) c.done.ensures.any_moment)
+
+pub returns-clause-any_moment : goal.returns-clause-any_moment
+returns-clause-any_moment g c =
+    let still = still-acted _ _ _ _ _ _ c.self.invariant.closed c.in-Acted.is in
+    let sound = c.self.invariant.sound still in
+    rw (← c.self.view_is) (left-written g.D.Disk.held g.D.Disk.images g.D.Disk.moment g.D.Disk.images_since c.self.inside.ledger.disk c.done.new.self.disk _ (Done c.in-Acted.moved c.in-Acted.diverted) c.self.inside.ledger.bound No refl sound (IsSound-done _ c.in-Acted.kind c.in-Acted.moved c.in-Acted.diverted c.in-Acted.failed sound c.in-Acted.is) c.done.ensures.any_moment)
