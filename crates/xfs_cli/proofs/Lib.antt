@@ -1,4 +1,5 @@
 pub mod AnswerLaws
+pub mod EndLaws
 pub mod LineLaws
 pub mod RunLaws
 pub mod StartLaws

@@ -128,6 +128,7 @@ impl<M: Mechanism, D: Disk> Guard<M, D> {
         ensures either { IfErr result (λ f. IfTold (D.held disk) (λ _. (J : List Rec) → ((c : List ℕ) → D.images disk c → Stands c J) → (c : List ℕ) → D.images f.disk c → StandsForEither J (Boot (M.places mech)) c)) }
         ensures unlisted { IfErr result (λ f. IfTold (D.held disk) (λ all. ((J : List Rec) → ¬ Stands all J) → (D.held f.disk ≡ D.held disk) × AddsNone (D.images disk) (D.images f.disk))) }
         ensures faults { MatchResult result (λ g. D.faults disk ≤ D.faults g.disk) (λ f. D.faults disk ≤ D.faults f.disk) }
+        ensures told { IfErr result (λ f. is_some (D.held f.disk) ≡ is_some (D.held disk)) }
     {
         let places = mech.survey();
         match Ledger::boot(alloc, disk, limits, units, places) {
@@ -183,8 +184,8 @@ impl<M: Mechanism, D: Disk> Guard<M, D> {
         Fit::Ready
     }
 
-    // What each call that writes is refused for first.
-    pub(crate) fn unfit(&self) -> Option<Deny>
+    /// What each call that writes is refused for first: `Shut` or `Full`, by the fit.
+    pub fn unfit(&self) -> Option<Deny>
         ensures { result ≡ unfit self.now.state }
     {
         match self.fit() {
