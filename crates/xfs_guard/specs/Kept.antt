@@ -1,11 +1,9 @@
 -- What stands in a guard beside what is seen of it.
-use Rattle.std.specs.Prelude.{◌≡◌, ◌≢◌, ℕ, ◌+◌, ◌<◌, ◌≤◌, true, false, List, Some, None, length, ⊤}
+use Rattle.std.specs.Prelude.{◌≡◌, ℕ, ◌+◌, ◌<◌, ◌≤◌, true, false, List, Some, None, length, ⊤}
 use Rattle.xfs_base.specs.declared.money.NoteKind.{NoteKind}
 use Rattle.xfs_journal.specs.Image.{size}
 use Rattle.xfs_journal.specs.JournalView.{IsPossible}
 use Rattle.xfs_journal.specs.declared.record.Rec.{Rec}
-use Rattle.xfs_journal.specs.declared.record.Rec.TheVariants.{Boot}
-use Rattle.xfs_base.specs.declared.counts.Places.{Places}
 use Rattle.xfs_guard.specs.declared.open.Open.{Open}
 use Rattle.xfs_guard.specs.declared.open.Open.TheVariants.{No, Written, Acted}
 use Rattle.xfs_guard.specs.View.{View}
@@ -29,7 +27,6 @@ pub record IsKept (v : View) (spare left : ℕ) (kinds : List NoteKind) : Type 0
   pub sound : v.shut ≡ false → IsSound v
   pub clean : v.shut ≡ false → v.in_doubt ≡ None
   pub closed : v.shut ≡ true → v.open_order ≡ No
-  pub booted : (p : Places) → v.in_doubt ≢ Some (Boot p)
   pub recorded : v.disk_told ≡ true → (J : List Rec) → IsPossible v.records v.in_doubt J → IsRecorded v.key v.units J v.motions
   pub room : HasRoom v.open_order spare left
   pub limits : HasLimits v.open_order v

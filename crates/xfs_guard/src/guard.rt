@@ -13,7 +13,6 @@ ghost use Rattle.xfs_guard.specs.declared.fail.BootFault.TheVariants.{NotJournal
 ghost use Rattle.xfs_journal.specs.Image.{Stands};
 ghost use Rattle.xfs_journal.specs.JournalView.{IsPossible, StandsForEither, passes};
 ghost use Rattle.xfs_disk.specs.Disk.{AddsNone};
-ghost use Rattle.xfs_base.specs.declared.counts.Places.{Places};
 ghost use Rattle.xfs_journal.specs.Paging.{CeasesAt, IsQuiet};
 ghost use Rattle.xfs_journal.specs.declared.record.Rec.{Rec};
 ghost use Rattle.xfs_guard.specs.Continues.{Continues};
@@ -151,7 +150,6 @@ impl<M: Mechanism, D: Disk> Guard<M, D> {
         ensures left { (J : List Rec) → MayLeave (D.held result.1) (D.images result.1) J → IsPossible self.state.records self.state.in_doubt J }
         ensures recorded { (J : List Rec) → MayLeave (D.held result.1) (D.images result.1) J → IsRecorded self.state.key self.state.units J self.state.motions }
         ensures clean { self.state.shut ≡ false → self.state.in_doubt ≡ None }
-        ensures booted { (p : Places) → self.state.in_doubt ≢ Some (Boot p) }
         ensures told { is_some (D.held result.1) ≡ self.state.disk_told }
         ensures disk { result.1 ≡ self.disk }
         ensures motions { M.motions result.0 ≡ self.state.motions }

@@ -25,11 +25,11 @@ invariant_of-self g c =
     let fit = fit-at _ _ c.self.view_is c.requires.passes.fit in
     let free : bound_token c.self.inside.ledger.records ≡ None = copied-none c.token.result _ c.token.ensures (sym c.is_some.ensures ∙ c.if-is_some.false) in
     IsKept-refused Unit c.in_err-bind.field-0.0 _ _ _ _ _ _ c.self.inside.ledger c.bind.new.self _ (Some c.claim.inside.amounts) _ _ _ _ _ _ c.in_err-bind.ensures.wrote c.in_err-bind.ensures.err c.bind.ensures.told none c.self.invariant fit.0
-    (IsSound-claim _ c.claim.inside.token c.claim.inside.amounts (c.self.invariant.sound fit.0) none passes free) (λ p e. cc)
+    (IsSound-claim _ c.claim.inside.token c.claim.inside.amounts (c.self.invariant.sound fit.0) none passes free)
 
 pub returns-in_err-bind-clause-continues : goal.returns-in_err-bind-clause-continues
 returns-in_err-bind-clause-continues g c =
-    rw (← c.self.view_is) (Continues-refused Unit c.in_err-bind.field-0.0 _ _ _ _ _ _ c.self.inside.ledger c.bind.new.self _ (Some c.claim.inside.amounts) _ _ c.in_err-bind.ensures.wrote c.in_err-bind.ensures.err)
+    rw (← c.self.view_is) (Continues-refused Unit c.in_err-bind.field-0.0 _ _ _ _ _ _ c.self.inside.ledger c.bind.new.self _ (Some c.claim.inside.amounts) _ _ c.in_err-bind.ensures.wrote c.in_err-bind.ensures.err (λ p e. cc))
 
 pub invariant_of-self-2 : goal.invariant_of-self-2
 invariant_of-self-2 g c =

@@ -26,11 +26,11 @@ invariant_of-self g c =
     let none : c.self.inside.open_order ≡ No = rw (← c.self.view_is) at c.requires in
     let fit = fit-at _ _ c.self.view_is (sym c.unfit.ensures ∙ c.in_default.is) in
     IsKept-refused Unit c.in_err-clear.field-0.0 _ _ _ _ _ _ c.self.inside.ledger c.clear.new.self _ None _ _ _ _ _ _ c.in_err-clear.ensures.wrote c.in_err-clear.ensures.err c.clear.ensures.told none c.self.invariant fit.0
-    (IsSound-clear _ (c.self.invariant.sound fit.0) none) (λ p e. cc)
+    (IsSound-clear _ (c.self.invariant.sound fit.0) none)
 
 pub returns-in_err-clear-clause-continues : goal.returns-in_err-clear-clause-continues
 returns-in_err-clear-clause-continues g c =
-    rw (← c.self.view_is) (Continues-refused Unit c.in_err-clear.field-0.0 _ _ _ _ _ _ c.self.inside.ledger c.clear.new.self _ None _ _ c.in_err-clear.ensures.wrote c.in_err-clear.ensures.err)
+    rw (← c.self.view_is) (Continues-refused Unit c.in_err-clear.field-0.0 _ _ _ _ _ _ c.self.inside.ledger c.clear.new.self _ None _ _ c.in_err-clear.ensures.wrote c.in_err-clear.ensures.err (λ p e. cc))
 
 pub invariant_of-self-2 : goal.invariant_of-self-2
 invariant_of-self-2 g c =

@@ -26,11 +26,11 @@ invariant_of-self g c =
     let none : c.self.inside.open_order ≡ No = rw (← c.self.view_is) at c.requires in
     let fit = fit-at _ _ c.self.view_is (sym c.unfit.ensures ∙ c.in_default.is) in
     IsKept-refused Nonce c.in_err-issue.field-0.0 _ _ _ _ _ _ c.self.inside.ledger c.issue.new.self _ None _ _ _ _ _ _ c.in_err-issue.ensures.wrote c.in_err-issue.ensures.err c.issue.ensures.told none c.self.invariant fit.0
-    (IsSound-issue _ _ c.word_of-word.result (c.self.invariant.sound fit.0) none refl) (λ p e. cc)
+    (IsSound-issue _ _ c.word_of-word.result (c.self.invariant.sound fit.0) none refl)
 
 pub returns-in_err-issue-clause-continues : goal.returns-in_err-issue-clause-continues
 returns-in_err-issue-clause-continues g c =
-    rw (← c.self.view_is) (Continues-refused Nonce c.in_err-issue.field-0.0 _ _ _ _ _ _ c.self.inside.ledger c.issue.new.self _ None _ _ c.in_err-issue.ensures.wrote c.in_err-issue.ensures.err)
+    rw (← c.self.view_is) (Continues-refused Nonce c.in_err-issue.field-0.0 _ _ _ _ _ _ c.self.inside.ledger c.issue.new.self _ None _ _ c.in_err-issue.ensures.wrote c.in_err-issue.ensures.err (λ p e. cc))
 
 pub invariant_of-self-2 : goal.invariant_of-self-2
 invariant_of-self-2 g c =

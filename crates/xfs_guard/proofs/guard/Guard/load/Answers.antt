@@ -13,7 +13,6 @@ invariant_of-self-2 g c =
           (g.M.Mechanism.room c.ready.new.self) (g.M.Mechanism.room c.load.new.self) (c.self.invariant.sound still) tt reported (loaded-leaves c.self.inside.open_order c.args.unit c.args.count _ _);
       clean = c.self.invariant.clean;
       closed = c.self.invariant.closed;
-      booted = c.self.invariant.booted;
       recorded = λ told J p. IsRecorded-report _ _ J (Loaded c.args.unit c.args.count) c.load.result.moved c.load.result.diverted c.load.result.failed _ _ _ _ _ _ tt reported (c.self.invariant.recorded told J p);
       limits = HasLimits-report c.self.inside.open_order _ _ _ _ c.self.invariant.limits;
       room = HasRoom-report c.self.inside.open_order (Loaded c.args.unit c.args.count) c.load.result.moved c.load.result.diverted c.load.result.failed

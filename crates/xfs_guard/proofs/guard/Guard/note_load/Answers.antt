@@ -22,11 +22,11 @@ invariant_of-self g c =
     let none : c.self.inside.open_order ≡ No = rw (← c.self.view_is) at c.requires.none in
     let fit = fit-at _ _ c.self.view_is (sym c.unfit.ensures ∙ c.in_default.is) in
     IsKept-refused Unit c.in_err-load.field-0.0 _ _ _ _ _ _ c.self.inside.ledger c.load.new.self _ c.self.inside.ledger.bound _ _ _ _ _ _ c.in_err-load.ensures.wrote c.in_err-load.ensures.err c.load.ensures.told none c.self.invariant fit.0
-    (IsSound-load _ c.args.unit c.args.count (c.self.invariant.sound fit.0) none) (λ p e. cc)
+    (IsSound-load _ c.args.unit c.args.count (c.self.invariant.sound fit.0) none)
 
 pub returns-in_err-load-clause-continues : goal.returns-in_err-load-clause-continues
 returns-in_err-load-clause-continues g c =
-    rw (← c.self.view_is) (Continues-refused Unit c.in_err-load.field-0.0 _ _ _ _ _ _ c.self.inside.ledger c.load.new.self _ c.self.inside.ledger.bound _ _ c.in_err-load.ensures.wrote c.in_err-load.ensures.err)
+    rw (← c.self.view_is) (Continues-refused Unit c.in_err-load.field-0.0 _ _ _ _ _ _ c.self.inside.ledger c.load.new.self _ c.self.inside.ledger.bound _ _ c.in_err-load.ensures.wrote c.in_err-load.ensures.err (λ p e. cc))
 
 pub invariant_of-self-2 : goal.invariant_of-self-2
 invariant_of-self-2 g c =

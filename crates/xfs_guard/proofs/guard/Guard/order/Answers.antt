@@ -2,7 +2,7 @@ use Rattle.std.proofs.Common.{◌≡◌, ◌≤◌, ◌∙◌, true, Some, sym, 
 use Rattle.xfs_guard.specs.declared.open.Open.TheVariants.{No, Written}
 use Rattle.xfs_journal.specs.Image.{body}
 use Rattle.xfs_journal.specs.declared.record.Rec.TheVariants.{Order}
-use Rattle.xfs_guard.proofs.ContinueLaws.{Continues-same, Continues-written, Continues-stored}
+use Rattle.xfs_guard.proofs.ContinueLaws.{Continues-same, Continues-written, Continues-doubted}
 use Rattle.xfs_guard.proofs.KeptLaws.{IsKept-open, IsKept-doubted}
 use Rattle.xfs_guard.proofs.SizeLaws.{fit-at, takes-one, may-write, order-short, leaves-done}
 use Rattle.xfs_guard.proofs.OrderLaws.{IsSound-asked}
@@ -40,14 +40,14 @@ invariant_of-self-in_err-order g c =
     let s = rw c.in_err-order.ensures.err at c.in_err-order.ensures.wrote in
     let sound = c.self.invariant.sound fit.0 in
     rw (s.records, s.units, s.bound, s.limits, s.shut, s.in_doubt, c.order.ensures.told, same.records, same.units, same.bound, same.limits, same.disk, c.ready.ensures.motions, c.ready.ensures.places, c.ready.ensures.faults, none, fine.1, fine.2)
-    (IsKept-doubted _ _ _ _ _ _ _ sound (IsSound-asked _ c.args.ask sound none fine.0) (c.ready.ensures.units ∙ c.self.invariant.units) (λ p e. cc))
+    (IsKept-doubted _ _ _ _ _ _ _ sound (IsSound-asked _ c.args.ask sound none fine.0) (c.ready.ensures.units ∙ c.self.invariant.units))
 
 pub returns-in_err-order-clause-continues : goal.returns-in_err-order-clause-continues
 returns-in_err-order-clause-continues g c =
     let same = c.in_ok-reserve_two.ensures.same in
     let s = rw c.in_err-order.ensures.err at c.in_err-order.ensures.wrote in
     rw (← c.self.view_is, s.records, s.units, s.bound, s.limits, s.shut, s.in_doubt, c.order.ensures.told, same.records, same.units, same.bound, same.limits, same.disk, c.ready.ensures.motions, c.ready.ensures.places, c.ready.ensures.faults)
-    (Continues-stored _ true (Some (Order c.in_ok-kind.kind c.in_ok-kind.counts)) c.self.inside.open_order)
+    (Continues-doubted _ (Order c.in_ok-kind.kind c.in_ok-kind.counts) c.self.inside.open_order (λ p e. cc))
 
 pub invariant_of-self-2 : goal.invariant_of-self-2
 invariant_of-self-2 g c =

@@ -1,7 +1,6 @@
-use Rattle.std.proofs.Common.{true, Some}
 use Rattle.xfs_guard.specs.declared.open.Open.TheVariants.{No}
 use Rattle.xfs_journal.specs.declared.record.Rec.TheVariants.{Done}
-use Rattle.xfs_guard.proofs.ContinueLaws.{Continues-written, Continues-stored}
+use Rattle.xfs_guard.proofs.ContinueLaws.{Continues-written, Continues-doubted}
 use Rattle.xfs_guard.proofs.KeptLaws.{IsKept-open, IsKept-doubted, still-acted}
 use Rattle.xfs_guard.proofs.SizeLaws.{may-write, takes-done}
 use Rattle.xfs_guard.proofs.RecordLaws.{IsSound-done}
@@ -26,13 +25,13 @@ invariant_of-self g c =
     let s = rw c.in_err-done.ensures.err at c.in_err-done.ensures.wrote in
     rw (s.records, s.units, s.bound, s.limits, s.shut, s.in_doubt, c.done.ensures.told)
     (IsKept-doubted _ (Done c.in-Acted.moved c.in-Acted.diverted) c.self.inside.ledger.bound No _ _ _ (c.self.invariant.sound still)
-    (IsSound-done _ c.in-Acted.kind c.in-Acted.moved c.in-Acted.diverted c.in-Acted.failed (c.self.invariant.sound still) c.in-Acted.is) c.self.invariant.units (λ p e. cc))
+    (IsSound-done _ c.in-Acted.kind c.in-Acted.moved c.in-Acted.diverted c.in-Acted.failed (c.self.invariant.sound still) c.in-Acted.is) c.self.invariant.units)
 
 pub returns-in_err-done-clause-continues : goal.returns-in_err-done-clause-continues
 returns-in_err-done-clause-continues g c =
     let s = rw c.in_err-done.ensures.err at c.in_err-done.ensures.wrote in
     rw (← c.self.view_is, s.records, s.units, s.bound, s.limits, s.shut, s.in_doubt, c.done.ensures.told)
-    (Continues-stored _ true (Some (Done c.in-Acted.moved c.in-Acted.diverted)) No)
+    (Continues-doubted _ (Done c.in-Acted.moved c.in-Acted.diverted) No (λ p e. cc))
 
 pub invariant_of-self-2 : goal.invariant_of-self-2
 invariant_of-self-2 g c =

@@ -14,7 +14,6 @@ invariant_of-self-2 g c =
           (g.M.Mechanism.room c.ready.new.self) (g.M.Mechanism.room c.taken.new.self) (c.self.invariant.sound still) tt reported (taken-leaves c.self.inside.open_order c.taken.result.moved _ _ other);
       clean = c.self.invariant.clean;
       closed = c.self.invariant.closed;
-      booted = c.self.invariant.booted;
       recorded = λ told J p. IsRecorded-report _ _ J (Taken c.taken.result.moved) c.taken.result.moved c.taken.result.diverted c.taken.result.failed _ _ _ _ _ _ tt reported (c.self.invariant.recorded told J p);
       limits = HasLimits-report c.self.inside.open_order _ _ _ _ c.self.invariant.limits;
       room = HasRoom-report c.self.inside.open_order (Taken c.taken.result.moved) c.taken.result.moved c.taken.result.diverted c.taken.result.failed
