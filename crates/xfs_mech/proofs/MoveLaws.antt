@@ -1,7 +1,8 @@
 -- What a mechanism did over several steps.
-use Rattle.std.proofs.Common.{◌≡◌, ◌<◌, ℕ, List, [], ◌∷◌, ◌++◌, None, Some, refl, sym, ap, append_assoc}
+use Rattle.std.proofs.Common.{◌≡◌, ℕ, List, [], ◌∷◌, ◌++◌, None, Some, refl, sym, ap, append_assoc}
 use Rattle.std.proofs.lemmas.List.{append-nil}
 use Rattle.std.specs.declared.option.Option.{Option}
+use Rattle.std.specs.Prelude.{is_some}
 use Rattle.xfs_base.specs.declared.counts.Places.{Places}
 use Rattle.xfs_mech.specs.declared.motion.Motion.{Motion}
 use Rattle.xfs_mech.specs.Mechanism.{Grows}
@@ -44,3 +45,8 @@ AddsUp-same list P = AddsUp-Moves list list P P (Moves-same list P)
 
 pub IsNewer-same : (low : ℕ) (list : Option (List Motion)) → IsNewer low list list
 IsNewer-same low list = record { entries = []; grown = GrowsBy-none list; newer = tt }
+
+-- a list that grew is told where it was told before
+pub told-GrowsBy : (entries : List Motion) (before now : Option (List Motion)) → GrowsBy entries before now → is_some now ≡ is_some before
+told-GrowsBy entries None now g = ap is_some g
+told-GrowsBy entries (Some list) now g = ap is_some g

@@ -1,4 +1,4 @@
-use Rattle.std.proofs.Common.{◌≡◌, ◌≤◌, ◌∙◌, true, Some, sym, length, arith}
+use Rattle.std.proofs.Common.{◌≡◌, ◌≤◌, ◌∙◌, sym, length, arith}
 use Rattle.xfs_guard.specs.declared.open.Open.TheVariants.{No, Written}
 use Rattle.xfs_journal.specs.Image.{body}
 use Rattle.xfs_journal.specs.declared.record.Rec.TheVariants.{Order}
