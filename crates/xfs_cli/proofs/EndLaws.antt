@@ -38,8 +38,8 @@ status-boot NoMemory = inr (inr (inr (inr (inr (inr (inr (inl refl)))))))
 
 -- behind the end of a text there is nothing
 behind-end : (many more : ℕ) (text : List ℕ) → behind many text ≡ [] → behind (many + more) text ≡ []
-behind-end many zero text is = is
-behind-end many (suc more) text is = ap rest (behind-end many more text is)
+behind-end many zero text is = let none : many + 0 ≡ many = omega arith in rw none is
+behind-end many (suc more) text is = let next : many + suc more ≡ suc (many + more) = omega arith in rw next (ap rest (behind-end many more text is))
 
 empty-line : IsLine []
 empty-line = record { verb = Skip; reads = tt; built = tt; short = omega arith }
@@ -154,17 +154,17 @@ pub finishes : (status : ℕ) (left left' held : Option (List ℕ)) (limits : Li
     → ¬ source → ¬ sink → ¬ disk → IfTold left (λ text. IfTold held (λ bytes. (J : List Rec) → Stands bytes J → IsUnhindered text limits places J → IsFinished status))
 finishes status None left' held limits places source sink disk causes no_source no_sink no_disk = tt
 finishes status (Some text) left' None limits places source sink disk causes no_source no_sink no_disk = tt
-finishes status (Some text) left' (Some bytes) limits places source sink disk causes no_source no_sink no_disk = λ J stands free. by_status free causes.one
+finishes status (Some text) left' (Some bytes) limits places source sink disk causes no_source no_sink no_disk = λ J stands free. by_status J stands free causes.one
   where
-    by_status : IsUnhindered text limits places J → IsStatus status → IsFinished status
-    by_status free (inl is) = inl is
-    by_status free (inr (inl is)) = absurd (causes.words is)
-    by_status free (inr (inr (inl is))) = absurd (no_source (causes.read is))
-    by_status free (inr (inr (inr (inl is)))) = absurd (lines-all text free.lines (causes.line is))
-    by_status free (inr (inr (inr (inr (inl is))))) = absurd (no_sink (causes.write is))
-    by_status free (inr (inr (inr (inr (inr (inl is)))))) = absurd (no_disk (causes.disk_fault is))
-    by_status free (inr (inr (inr (inr (inr (inr (inl is))))))) = absurd (causes.journal is J stands)
-    by_status free (inr (inr (inr (inr (inr (inr (inr (inl is)))))))) = inr is
-    by_status free (inr (inr (inr (inr (inr (inr (inr (inr (inl is))))))))) = absurd (short-all text left' free.short (causes.quota is))
-    by_status free (inr (inr (inr (inr (inr (inr (inr (inr (inr (inl is)))))))))) = absurd (free.boots (causes.full is J stands))
-    by_status free (inr (inr (inr (inr (inr (inr (inr (inr (inr (inr no)))))))))) = absurd no
+    by_status : (J : List Rec) → Stands bytes J → IsUnhindered text limits places J → IsStatus status → IsFinished status
+    by_status J stands free (inl is) = inl is
+    by_status J stands free (inr (inl is)) = absurd (causes.words is)
+    by_status J stands free (inr (inr (inl is))) = absurd (no_source (causes.read is))
+    by_status J stands free (inr (inr (inr (inl is)))) = absurd (lines-all text free.lines (causes.line is))
+    by_status J stands free (inr (inr (inr (inr (inl is))))) = absurd (no_sink (causes.write is))
+    by_status J stands free (inr (inr (inr (inr (inr (inl is)))))) = absurd (no_disk (causes.disk_fault is))
+    by_status J stands free (inr (inr (inr (inr (inr (inr (inl is))))))) = absurd (causes.journal is J stands)
+    by_status J stands free (inr (inr (inr (inr (inr (inr (inr (inl is)))))))) = inr is
+    by_status J stands free (inr (inr (inr (inr (inr (inr (inr (inr (inl is))))))))) = absurd (short-all text left' free.short (causes.quota is))
+    by_status J stands free (inr (inr (inr (inr (inr (inr (inr (inr (inr (inl is)))))))))) = absurd (free.boots (causes.full is J stands))
+    by_status J stands free (inr (inr (inr (inr (inr (inr (inr (inr (inr (inr none)))))))))) = absurd none
