@@ -1,4 +1,4 @@
-use Rattle.std.proofs.Common.{◌∙◌, false, sym, None}
+use Rattle.std.proofs.Common.{◌∙◌, false, None, sym}
 use Rattle.std.specs.Prelude.{is_some}
 use Rattle.xfs_journal.specs.declared.record.Rec.TheVariants.{Boot}
 use Rattle.xfs_guard.specs.declared.open.Open.TheVariants.{No}
