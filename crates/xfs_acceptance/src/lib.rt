@@ -6,6 +6,8 @@ mod bench;
 #[cfg(test)]
 mod guard_calls;
 #[cfg(test)]
+mod guard_disks;
+#[cfg(test)]
 mod guard_rows;
 #[cfg(test)]
 mod guard_scripts;

@@ -4,5 +4,6 @@ pub mod GuardAnswers
 pub mod GuardLines
 pub mod Refused
 pub mod Run
+pub mod Statuses
 pub mod TokenAnswers
 pub mod Upholds

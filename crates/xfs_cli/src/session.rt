@@ -15,7 +15,7 @@ use crate::text::{joined, outcome_text, show_text};
 use std::alloc::{AllocError, AllocFailed, Global};
 use xfs_base::{Bytes, Counts, Memory};
 use xfs_disk::Disk;
-use xfs_guard::{Ask, Deny, Fit, Guard, Permit};
+use xfs_guard::{Ask, Deny, Guard, Permit};
 use xfs_mech::{Mechanism, Outcome};
 use xfs_mix::check;
 use xfs_script::{Given, GuardLine};
@@ -127,7 +127,7 @@ impl<M: Mechanism, D: Disk> Session<M, D> {
         if !self.guard.room(unit, count) {
             return refusal_text(self.alloc, &Refusal::StorageFull);
         }
-        if let Some(deny) = unfit(&self.guard) {
+        if let Some(deny) = self.guard.unfit() {
             return refusal_text(self.alloc, &Refusal::Deny(deny));
         }
         match loaded(&mut self.guard, unit, count) {
@@ -178,7 +178,7 @@ impl<M: Mechanism, D: Disk> Session<M, D> {
         ensures none { self.new.guard.state.open_order ≡ No }
         ensures same { IfErr result (λ r. r ≢ Denied Deny.Disk → self.new.guard.state ≡ self.old.guard.state) }
     {
-        if let Some(deny) = unfit(&self.guard) {
+        if let Some(deny) = self.guard.unfit() {
             return Err(Refusal::Deny(deny));
         }
         let Some(text) = given(&self.last, token) else {
@@ -223,17 +223,6 @@ fn carried<M: Mechanism, D: Disk>(guard: &mut Guard<M, D>, ask: Ask) -> Result<O
     let outcome = guard.act();
     guard.settle()?;
     Ok(outcome)
-}
-
-// What a line that writes is refused for first.
-fn unfit<M: Mechanism, D: Disk>(guard: &Guard<M, D>) -> Option<Deny>
-    ensures { result ≡ unfit guard.now.state }
-{
-    match guard.fit() {
-        Fit::Ready => None,
-        Fit::Shut => Some(Deny::Shut),
-        Fit::Full => Some(Deny::Full),
-    }
 }
 
 // Loads notes and writes it down. Whether the mechanism failed; nothing is written then.

@@ -149,17 +149,17 @@ IsKept-refused T e key seed o motions places faults old new r w was told spare r
 -- what follows then
 pub Continues-refused : (T : Type 0) {D : Type 0} (e : Deny) (key seed : List ℕ) (o : Open) (motions : Option (List Motion)) (places : Places) (faults : ℕ) (old new : LedgerView D) (r : Rec)
     (w : Option (List (List ℕ × ℕ))) (was told : Bool)
-    → Wrote {T = T} (Err e) old new r w → IsWriteFault e → ((p : Places) → r ≡ Boot p → places ≡ p) → Continues (over key seed o motions places faults old was) (over key seed o motions places faults new told)
-Continues-refused T e key seed o motions places faults old new r w was told wrote why boots = ⊎_elim memory disk why
+    → Wrote {T = T} (Err e) old new r w → IsWriteFault e → told ≡ was → ((p : Places) → r ≡ Boot p → places ≡ p) → Continues (over key seed o motions places faults old was) (over key seed o motions places faults new told)
+Continues-refused T e key seed o motions places faults old new r w was told wrote why same boots = ⊎_elim memory disk why
   where
     memory : e ≡ Memory → Continues (over key seed o motions places faults old was) (over key seed o motions places faults new told)
-    memory is = let s = rw is at wrote in Continues-grown (over key seed o motions places faults old was) (over key seed o motions places faults new told) r boots refl refl refl refl s.units
+    memory is = let s = rw is at wrote in Continues-grown (over key seed o motions places faults old was) (over key seed o motions places faults new told) r boots refl refl refl refl s.units same
         (λ J possible. inl (rw (s.records, s.in_doubt) at possible))
 
     disk : e ≡ Disk → Continues (over key seed o motions places faults old was) (over key seed o motions places faults new told)
-    disk is = let s = rw is at wrote in Continues-grown (over key seed o motions places faults old was) (over key seed o motions places faults new told) r boots refl refl refl refl s.units
+    disk is = let s = rw is at wrote in Continues-grown (over key seed o motions places faults old was) (over key seed o motions places faults new told) r boots refl refl refl refl s.units same
         (λ J possible. elim (doubted-possible old.records J r (rw (s.records, s.in_doubt) at possible)) [
-          | inl same ↦ inl (inl same)
+          | inl kept ↦ inl (inl kept)
           | inr more ↦ inr (old.records, inl refl, more)
         ])
 

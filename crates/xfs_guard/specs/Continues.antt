@@ -7,6 +7,7 @@ use Rattle.xfs_mech.specs.declared.motion.Motion.{Motion}
 use Rattle.xfs_journal.specs.JournalView.{IsPossible}
 use Rattle.xfs_journal.specs.declared.record.Rec.{Rec}
 use Rattle.xfs_mech.specs.Motions.{NumberIs}
+use Rattle.xfs_mech.specs.Moves.{Moves}
 use Rattle.xfs_guard.specs.View.{View}
 use Rattle.xfs_guard.specs.Follows.{Follows}
 
@@ -37,3 +38,5 @@ pub record Continues (old new : View) : Type 0 where
   pub key : new.key ≡ old.key
   pub seed : new.seed ≡ old.seed
   pub units : new.units ≡ old.units
+  pub moves : Moves old.motions new.motions old.places new.places
+  pub disk_told : new.disk_told ≡ old.disk_told

@@ -130,6 +130,7 @@ impl<M: Mechanism, D: Disk> Guard<M, D> {
         ensures either { IfErr result (λ f. IfTold (D.held disk) (λ _. (J : List Rec) → ((c : List ℕ) → D.images disk c → Stands c J) → (c : List ℕ) → D.images f.disk c → StandsForEither J (Boot (M.places mech)) c)) }
         ensures unlisted { IfErr result (λ f. IfTold (D.held disk) (λ all. ((J : List Rec) → ¬ Stands all J) → IsQuiet D.held D.images D.moment D.images_since D.faults disk f.disk)) }
         ensures faults { MatchResult result (λ g. D.faults disk ≤ D.faults g.disk) (λ f. D.faults disk ≤ D.faults f.disk) }
+        ensures told { IfErr result (λ f. is_some (D.held f.disk) ≡ is_some (D.held disk)) }
 
         // Where the disk tells, and each image that it is handed in with stands for a list, so does each that a crash at
         // any moment of the call leaves, and the list is recorded.
@@ -191,8 +192,8 @@ impl<M: Mechanism, D: Disk> Guard<M, D> {
         Fit::Ready
     }
 
-    // What each call that writes is refused for first.
-    pub(crate) fn unfit(&self) -> Option<Deny>
+    /// What each call that writes is refused for first: `Shut` or `Full`, by the fit.
+    pub fn unfit(&self) -> Option<Deny>
         ensures first { result ≡ unfit self.now.state }
         ensures possible { IsStored (D.held self.now.disk) (D.images self.now.disk) self.now.state.records self.now.state.in_doubt }
     {

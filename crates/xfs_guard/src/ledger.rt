@@ -82,7 +82,7 @@ impl<D: Disk> Ledger<D> {
         ensures fits { IfOk result (λ l. passes limits l.records ≡ false) }
         ensures opened { IfOk result (λ l. (l.shut ≡ false) × (l.in_doubt ≡ None) × (l.bound ≡ None)) }
         ensures same { IfOk result (λ l. (l.limits ≡ limits) × (l.units ≡ units)) }
-        ensures told { IfOk result (λ l. is_some (D.held l.disk) ≡ is_some (D.held disk)) }
+        ensures told { MatchResult result (λ l. is_some (D.held l.disk) ≡ is_some (D.held disk)) (λ f. is_some (D.held f.disk) ≡ is_some (D.held disk)) }
         ensures not_journal { IfErr result (λ f. (at : ℕ) → f.why ≡ NotJournal at → IfTold (D.held disk) (λ all. CeasesAt all at × ((J : List Rec) → ¬ Stands all J))) }
         ensures refused { IfErr result (λ f. (at : ℕ) → f.why ≡ NotJournal at → IsQuiet D.held D.images D.moment D.images_since D.faults disk f.disk) }
         ensures full { IfErr result (λ f. f.why ≡ BootFull → (J : List Rec) × IfTold (D.held disk) (λ all. Stands all J) × (passes limits (J ++ Boot places ∷ []) ≡ true)) }

@@ -1,6 +1,8 @@
-use Rattle.std.proofs.Common.{refl, ap}
+use Rattle.std.proofs.Common.{refl, ap, None}
 use Rattle.xfs_guard.specs.View.{View}
 use Rattle.xfs_cli.proofs.RunLaws.{recorded-start, upholds-same, upholds-refused, upholds-run, ends-unread, due-full, journal-run, fits-run}
+use Rattle.xfs_cli.proofs.EndLaws.{finishes, causes-served, causes-refused}
+use Rattle.xfs_cli.proofs.NumberLaws.{newer-run}
 use Rattle.xfs_cli.proofs.guard_command.guard.Goals as goal
 
 pub returns-then-not-is_word-clause-upholds : goal.returns-then-not-is_word-clause-upholds
@@ -38,3 +40,19 @@ returns-in-Ok-clause-unwritten g c = journal-run c.in-Ok.ensures.ok.0 _ _ c.in-O
 
 pub returns-in-Ok-clause-unmoved : goal.returns-in-Ok-clause-unmoved
 returns-in-Ok-clause-unmoved g c = journal-run c.in-Ok.ensures.ok.0 _ _ c.in-Ok.ensures.ok.1
+
+pub returns-in-Ok-clause-newer : goal.returns-in-Ok-clause-newer
+returns-in-Ok-clause-newer g c =
+    let ok = c.in-Ok.ensures.ok in
+    let continues = rw ok.2 at c.serve-status.ensures.continues in
+    newer-run _ _ ok.0 _ _ _ refl refl ok.1 c.requires.starts (g.met.D.Disk.as_read c.args.core.disk) continues c.ended-mech.ensures.motions
+
+pub returns-in-Ok-clause-finishes : goal.returns-in-Ok-clause-finishes
+returns-in-Ok-clause-finishes g c =
+    let end = c.serve-status.ensures in
+    λ guard. finishes _ _ (g.S.Source.left c.serve-status.new.source) _ _ _ _ _ _ (causes-served _ _ _ _ _ _ _ _ _ end.statuses end.usage end.booted.0 end.booted.1 end.booted.2 end.read end.not_a_line end.write end.quota)
+
+pub returns-in-Err-clause-finishes : goal.returns-in-Err-clause-finishes
+returns-in-Err-clause-finishes g c =
+    let why = c.in-Err.ensures in
+    λ guard. finishes _ _ None _ _ _ _ _ _ (causes-refused _ _ _ _ _ _ _ _ _ _ c.unbooted.ensures.status why.not_journal why.disk why.full)

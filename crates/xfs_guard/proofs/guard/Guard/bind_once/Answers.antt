@@ -30,7 +30,7 @@ invariant_of-self g c =
 
 pub returns-in_err-bind-clause-continues : goal.returns-in_err-bind-clause-continues
 returns-in_err-bind-clause-continues g c =
-    rw (← c.self.view_is) (Continues-refused Unit c.in_err-bind.field-0.0 _ _ _ _ _ _ c.self.inside.ledger c.bind.new.self _ (Some c.claim.inside.amounts) _ _ c.in_err-bind.ensures.wrote c.in_err-bind.ensures.err (λ p e. cc))
+    rw (← c.self.view_is) (Continues-refused Unit c.in_err-bind.field-0.0 _ _ _ _ _ _ c.self.inside.ledger c.bind.new.self _ (Some c.claim.inside.amounts) _ _ c.in_err-bind.ensures.wrote c.in_err-bind.ensures.err c.bind.ensures.told (λ p e. cc))
 
 pub invariant_of-self-2 : goal.invariant_of-self-2
 invariant_of-self-2 g c =

@@ -31,7 +31,7 @@ invariant_of-self g c =
 
 pub returns-in_err-clear-clause-continues : goal.returns-in_err-clear-clause-continues
 returns-in_err-clear-clause-continues g c =
-    rw (← c.self.view_is) (Continues-refused Unit c.in_err-clear.field-0.0 _ _ _ _ _ _ c.self.inside.ledger c.clear.new.self _ None _ _ c.in_err-clear.ensures.wrote c.in_err-clear.ensures.err (λ p e. cc))
+    rw (← c.self.view_is) (Continues-refused Unit c.in_err-clear.field-0.0 _ _ _ _ _ _ c.self.inside.ledger c.clear.new.self _ None _ _ c.in_err-clear.ensures.wrote c.in_err-clear.ensures.err c.clear.ensures.told (λ p e. cc))
 
 pub invariant_of-self-2 : goal.invariant_of-self-2
 invariant_of-self-2 g c =

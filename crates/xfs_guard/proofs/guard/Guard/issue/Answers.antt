@@ -32,7 +32,7 @@ invariant_of-self g c =
 
 pub returns-in_err-issue-clause-continues : goal.returns-in_err-issue-clause-continues
 returns-in_err-issue-clause-continues g c =
-    rw (← c.self.view_is) (Continues-refused Nonce c.in_err-issue.field-0.0 _ _ _ _ _ _ c.self.inside.ledger c.issue.new.self _ None _ _ c.in_err-issue.ensures.wrote c.in_err-issue.ensures.err (λ p e. cc))
+    rw (← c.self.view_is) (Continues-refused Nonce c.in_err-issue.field-0.0 _ _ _ _ _ _ c.self.inside.ledger c.issue.new.self _ None _ _ c.in_err-issue.ensures.wrote c.in_err-issue.ensures.err c.issue.ensures.told (λ p e. cc))
 
 pub invariant_of-self-2 : goal.invariant_of-self-2
 invariant_of-self-2 g c =

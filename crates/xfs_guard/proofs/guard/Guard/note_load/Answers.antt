@@ -27,7 +27,7 @@ invariant_of-self g c =
 
 pub returns-in_err-load-clause-continues : goal.returns-in_err-load-clause-continues
 returns-in_err-load-clause-continues g c =
-    rw (← c.self.view_is) (Continues-refused Unit c.in_err-load.field-0.0 _ _ _ _ _ _ c.self.inside.ledger c.load.new.self _ c.self.inside.ledger.bound _ _ c.in_err-load.ensures.wrote c.in_err-load.ensures.err (λ p e. cc))
+    rw (← c.self.view_is) (Continues-refused Unit c.in_err-load.field-0.0 _ _ _ _ _ _ c.self.inside.ledger c.load.new.self _ c.self.inside.ledger.bound _ _ c.in_err-load.ensures.wrote c.in_err-load.ensures.err c.load.ensures.told (λ p e. cc))
 
 pub invariant_of-self-2 : goal.invariant_of-self-2
 invariant_of-self-2 g c =
