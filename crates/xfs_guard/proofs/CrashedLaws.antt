@@ -123,6 +123,18 @@ IsLoose-in_doubt J r = record {
   closed_there = λ short. refl;
 }
 
+-- lists that were left, behind one more record of an open journal
+pub left-push : (J : List Rec) (r : Rec) (d : Option Rec) (s c : Bool) (X : List Rec) → d ≡ None → s ≡ false
+    → BeginsWith J X ⊎ IsLoose J d s X → BeginsWith (J ++ r ∷ []) X ⊎ IsLoose (J ++ r ∷ []) None c X
+left-push J r d s c X none open_still (inl begins) = inl (begins-push X J r begins)
+left-push J r d s c X none open_still (inr loose) = inr (IsLoose-push J r c X (rw (none, open_still) at loose))
+
+-- lists that were left, while this record is in doubt
+pub left-doubt : (J : List Rec) (r : Rec) (d : Option Rec) (s : Bool) (X : List Rec) → d ≡ None → s ≡ false
+    → BeginsWith J X ⊎ IsLoose J d s X → BeginsWith J X ⊎ IsLoose J (Some r) true X
+left-doubt J r d s X none open_still (inl begins) = inl begins
+left-doubt J r d s X none open_still (inr loose) = inr (IsLoose-doubt J r X (rw (none, open_still) at loose))
+
 -- one more record of the list is its next
 begins-next : (F R : List Rec) (l : Rec) → BeginsWith R F → record_at R (length F + 1) ≡ Some l → BeginsWith R (F ++ l ∷ [])
 begins-next F R l begins there = go begins.more begins.is

@@ -25,6 +25,7 @@ use Rattle.xfs_guard.specs.declared.deny.Deny.{Deny}
 use Rattle.xfs_guard.specs.declared.deny.Deny.TheVariants.{Disk, Memory}
 use Rattle.xfs_guard.specs.LedgerView.{LedgerView, Wrote, IsWriteFault}
 use Rattle.xfs_guard.specs.Continues.{Continues}
+use Rattle.xfs_guard.proofs.CrashedLaws.{begins-same, left-doubt}
 use Rattle.xfs_guard.proofs.ContinueLaws.{Continues-grown, doubted-possible}
 use Rattle.xfs_guard.proofs.SoundLaws.{acted_view, IsSound-act}
 use Rattle.xfs_guard.proofs.RecordLaws.{longer}
@@ -149,19 +150,19 @@ IsKept-refused T e key seed o motions places faults old new r w was told spare r
 -- what follows then
 pub Continues-refused : (T : Type 0) {D : Type 0} (e : Deny) (key seed : List ℕ) (o : Open) (motions : Option (List Motion)) (places : Places) (faults : ℕ) (old new : LedgerView D) (r : Rec)
     (w : Option (List (List ℕ × ℕ))) (was told : Bool)
-    → Wrote {T = T} (Err e) old new r w → IsWriteFault e → told ≡ was → ((p : Places) → r ≡ Boot p → places ≡ p) → Continues (over key seed o motions places faults old was) (over key seed o motions places faults new told)
-Continues-refused T e key seed o motions places faults old new r w was told wrote why same boots = ⊎_elim memory disk why
+    → Wrote {T = T} (Err e) old new r w → IsWriteFault e → told ≡ was → old.in_doubt ≡ None → old.shut ≡ false → ((p : Places) → r ≡ Boot p → places ≡ p) → Continues (over key seed o motions places faults old was) (over key seed o motions places faults new told)
+Continues-refused T e key seed o motions places faults old new r w was told wrote why same none open_still boots = ⊎_elim memory disk why
   where
     memory : e ≡ Memory → Continues (over key seed o motions places faults old was) (over key seed o motions places faults new told)
     memory is = let s = rw is at wrote in Continues-grown (over key seed o motions places faults old was) (over key seed o motions places faults new told) r boots refl refl refl refl s.units same
-        (λ J possible. inl (rw (s.records, s.in_doubt) at possible))
+        (λ J possible. inl (rw (s.records, s.in_doubt) at possible)) (rw s.records (begins-same old.records)) (λ J was. rw (s.records, s.in_doubt, s.shut) was)
 
     disk : e ≡ Disk → Continues (over key seed o motions places faults old was) (over key seed o motions places faults new told)
     disk is = let s = rw is at wrote in Continues-grown (over key seed o motions places faults old was) (over key seed o motions places faults new told) r boots refl refl refl refl s.units same
         (λ J possible. elim (doubted-possible old.records J r (rw (s.records, s.in_doubt) at possible)) [
           | inl kept ↦ inl (inl kept)
           | inr more ↦ inr (old.records, inl refl, more)
-        ])
+        ]) (rw s.records (begins-same old.records)) (λ J was. rw (s.records, s.in_doubt, s.shut) (left-doubt old.records r old.in_doubt old.shut J none open_still was))
 
 -- an order is open only in a journal that is
 pub still-open : (shut : Bool) (o : Open) (k : Kind) (c : Counts) → (shut ≡ true → o ≡ No) → o ≡ Written k c → shut ≡ false

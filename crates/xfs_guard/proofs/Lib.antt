@@ -1,4 +1,5 @@
 pub mod AgreesLaws
+pub mod BehindLaws
 pub mod BootLaws
 pub mod BudgetLaws
 pub mod ClaimLaws

@@ -8,6 +8,8 @@ use Rattle.xfs_journal.specs.JournalView.{IsPossible}
 use Rattle.xfs_journal.specs.declared.record.Rec.{Rec}
 use Rattle.xfs_mech.specs.Motions.{NumberIs}
 use Rattle.xfs_mech.specs.Moves.{Moves}
+use Rattle.xfs_guard.specs.Crashed.{IsLeft}
+use Rattle.xfs_guard.specs.Lives.{BeginsWith}
 use Rattle.xfs_guard.specs.View.{View}
 use Rattle.xfs_guard.specs.Follows.{Follows}
 
@@ -40,3 +42,6 @@ pub record Continues (old new : View) : Type 0 where
   pub units : new.units ≡ old.units
   pub moves : Moves old.motions new.motions old.places new.places
   pub disk_told : new.disk_told ≡ old.disk_told
+  pub grew : BeginsWith new.records old.records
+  -- a list that a crash left on the way there was left on the way here
+  pub left : (J : List Rec) → IsLeft old J → IsLeft new J

@@ -1,5 +1,5 @@
 -- Which lists a crash left on the way from one state of a guard to a later one.
-use Rattle.std.specs.Prelude.{◌≡◌, ◌≢◌, ◌⊎◌, ℕ, ◌<◌, ◌||◌, Bool, true, List, [], ◌∷◌, ◌++◌, length, Some}
+use Rattle.std.specs.Prelude.{◌≡◌, ◌≢◌, ◌⊎◌, ℕ, ◌<◌, Bool, true, is_some, List, [], ◌∷◌, ◌++◌, length, Some}
 use Rattle.std.specs.declared.option.Option.{Option}
 use Rattle.std.specs.List.{AllByRecursion}
 use Rattle.xfs_base.specs.Causes.{IfTold}
@@ -34,10 +34,10 @@ pub record StandsLeft (old new : View) (bytes : List ℕ) : Type 0 where
   pub begins : BeginsWith list old.records
   pub left : IsLeft new list
 
--- where the disk tells, each image of each moment since the earlier state is one of those of then, or stands for a list that was left on the way
-abbrev pub LeavesBehind : {D : Type 0} → (D → Option (List ℕ)) → (D → List ℕ → Type 0) → (D → ℕ) → (D → ℕ → List ℕ → Type 0) → GuardView D → GuardView D → Type 0
-LeavesBehind held images moment since old new =
-    IfTold (held old.disk) (λ _. LeavesOnly moment since old.disk new.disk (λ bytes. images old.disk bytes ⊎ StandsLeft old.state new.state bytes))
+-- The disk goes on telling, and each image of each moment since the earlier state is one of those of then, or stands for a list that was left on the way to the later one.
+pub record LeavesBehind {D : Type 0} (held : D → Option (List ℕ)) (images : D → List ℕ → Type 0) (moment : D → ℕ) (since : D → ℕ → List ℕ → Type 0) (old new : GuardView D) : Type 0 where
+  pub told : is_some (held new.disk) ≡ is_some (held old.disk)
+  pub moments : IfTold (held old.disk) (λ _. LeavesOnly moment since old.disk new.disk (λ bytes. images old.disk bytes ⊎ StandsLeft old.state new.state bytes))
 
 -- without its last record the list is a front of the records, and no motion has that record's number
 pub record IsLost (records : List Rec) (motions : Option (List Motion)) (list : List Rec) : Type 0 where

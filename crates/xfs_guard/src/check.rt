@@ -9,6 +9,7 @@ ghost use Rattle.xfs_journal.specs.declared.record.Rec.TheVariants.{Bind};
 ghost use Rattle.xfs_guard.specs.declared.open.Open.TheVariants.{No};
 ghost use Rattle.xfs_guard.specs.Nonce.{live_nonce};
 ghost use Rattle.xfs_guard.specs.Continues.{Continues};
+ghost use Rattle.xfs_guard.specs.Crashed.{LeavesBehind};
 ghost use Rattle.xfs_base.specs.Causes.{IfTold, Rose};
 ghost use Rattle.xfs_disk.specs.Disk.{LeavesOnly};
 ghost use Rattle.xfs_guard.specs.Left.{Leaves, StandsRecorded};
@@ -114,6 +115,7 @@ impl<M: Mechanism, D: Disk> Guard<M, D> {
         ensures cause { result ≡ Err Deny.Disk → Rose (D.faults self.old.disk) (D.faults self.new.disk) }
         ensures same { IfErr result (λ e. e ≢ Deny.Disk → self.new ≡ self.old) }
         ensures continues { Continues self.old.state self.new.state }
+        ensures crashes { LeavesBehind D.held D.images D.moment D.images_since self.old self.new }
         ensures any_moment { IfTold (D.held self.old.disk) (λ _. LeavesOnly D.moment D.images_since self.old.disk self.new.disk (StandsRecorded self.old.state.key self.old.state.units self.old.state.motions)) }
         ensures kept { OnOk result (Leaves (D.held self.new.disk) (D.images self.new.disk) self.new.state.records) }
     {
@@ -145,6 +147,7 @@ impl<M: Mechanism, D: Disk> Guard<M, D> {
         ensures cause { result ≡ Err Deny.Disk → Rose (D.faults self.old.disk) (D.faults self.new.disk) }
         ensures same { IfErr result (λ e. e ≢ Deny.Disk → self.new ≡ self.old) }
         ensures continues { Continues self.old.state self.new.state }
+        ensures crashes { LeavesBehind D.held D.images D.moment D.images_since self.old self.new }
         ensures any_moment { IfTold (D.held self.old.disk) (λ _. LeavesOnly D.moment D.images_since self.old.disk self.new.disk (StandsRecorded self.old.state.key self.old.state.units self.old.state.motions)) }
         ensures kept { OnOk result (Leaves (D.held self.new.disk) (D.images self.new.disk) self.new.state.records) }
     {

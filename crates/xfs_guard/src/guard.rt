@@ -19,6 +19,7 @@ ghost use Rattle.xfs_disk.specs.Disk.{LeavesOnly};
 ghost use Rattle.xfs_journal.specs.Paging.{CeasesAt, IsQuiet};
 ghost use Rattle.xfs_journal.specs.declared.record.Rec.{Rec};
 ghost use Rattle.xfs_guard.specs.Continues.{Continues};
+ghost use Rattle.xfs_guard.specs.Crashed.{LeavesBehind};
 ghost use Rattle.xfs_guard.specs.Orders.{IsWritten, IsActed, Acts, Settles, Unsettles, kind_unacted};
 ghost use Rattle.xfs_guard.specs.Refusals.{Answers, IsAsk, order_refusal, nothing_refusal, notes_of, asked_kind, asked_counts};
 ghost use Rattle.xfs_guard.specs.declared.ask.Ask.TheVariants.{Stack as AskStack, Present as AskPresent};
@@ -268,6 +269,7 @@ impl<M: Mechanism, D: Disk> Guard<M, D> {
         ensures cause { result ≡ Err Deny.Disk → Rose (D.faults self.old.disk) (D.faults self.new.disk) }
         ensures same { IfErr result (λ e. e ≢ Deny.Disk → self.new ≡ self.old) }
         ensures continues { Continues self.old.state self.new.state }
+        ensures crashes { LeavesBehind D.held D.images D.moment D.images_since self.old self.new }
         ensures any_moment { IfTold (D.held self.old.disk) (λ _. LeavesOnly D.moment D.images_since self.old.disk self.new.disk (StandsRecorded self.old.state.key self.old.state.units self.old.state.motions)) }
         ensures kept { OnOk result (Leaves (D.held self.new.disk) (D.images self.new.disk) self.new.state.records) }
         ensures never_twice { IfOk result (λ n. self.old.state.disk_told ≡ true → (first : List Rec) (runs : List Run) → IsLife first runs self.old.state.records → ¬ Contains (answered_in runs) n.number) }
@@ -291,6 +293,7 @@ impl<M: Mechanism, D: Disk> Guard<M, D> {
         ensures cause { result ≡ Err Deny.Disk → Rose (D.faults self.old.disk) (D.faults self.new.disk) }
         ensures same { result ≢ Ok true → result ≢ Err Deny.Disk → self.new ≡ self.old }
         ensures continues { Continues self.old.state self.new.state }
+        ensures crashes { LeavesBehind D.held D.images D.moment D.images_since self.old self.new }
         ensures any_moment { IfTold (D.held self.old.disk) (λ _. LeavesOnly D.moment D.images_since self.old.disk self.new.disk (StandsRecorded self.old.state.key self.old.state.units self.old.state.motions)) }
         ensures kept { OnOk result (Leaves (D.held self.new.disk) (D.images self.new.disk) self.new.state.records) }
     {
@@ -319,6 +322,7 @@ impl<M: Mechanism, D: Disk> Guard<M, D> {
         ensures cause { result ≡ Err Deny.Disk → Rose (D.faults self.old.disk) (D.faults self.new.disk) }
         ensures same { IfErr result (λ e. e ≢ Deny.Disk → self.new ≡ self.old) }
         ensures continues { Continues self.old.state self.new.state }
+        ensures crashes { LeavesBehind D.held D.images D.moment D.images_since self.old self.new }
         ensures any_moment { IfTold (D.held self.old.disk) (λ _. LeavesOnly D.moment D.images_since self.old.disk self.new.disk (StandsRecorded self.old.state.key self.old.state.units self.old.state.motions)) }
         ensures kept { OnOk result (Leaves (D.held self.new.disk) (D.images self.new.disk) self.new.state.records) }
     {
@@ -406,6 +410,7 @@ impl<M: Mechanism, D: Disk> Guard<M, D> {
         ensures cause { result.failed ≡ true → Rose self.old.state.faults self.new.state.faults }
         ensures same { self.new.disk ≡ self.old.disk }
         ensures continues { Continues self.old.state self.new.state }
+        ensures crashes { LeavesBehind D.held D.images D.moment D.images_since self.old self.new }
         ensures inside { IfTold (D.held self.old.disk) (λ _. LeavesOnly D.moment D.images_since self.old.disk self.new.disk (StandsThrough self.old.state (MayMove self.old.state))) }
     {
         let Open::Written { kind, counts } = self.open_order else {
@@ -433,6 +438,7 @@ impl<M: Mechanism, D: Disk> Guard<M, D> {
         ensures later { D.faults self.old.disk ≤ D.faults self.new.disk }
         ensures cause { OnErr result (Rose (D.faults self.old.disk) (D.faults self.new.disk)) }
         ensures continues { Continues self.old.state self.new.state }
+        ensures crashes { LeavesBehind D.held D.images D.moment D.images_since self.old self.new }
         ensures any_moment { IfTold (D.held self.old.disk) (λ _. LeavesOnly D.moment D.images_since self.old.disk self.new.disk (StandsRecorded self.old.state.key self.old.state.units self.old.state.motions)) }
         ensures kept { OnOk result (Leaves (D.held self.new.disk) (D.images self.new.disk) self.new.state.records) }
     {

@@ -1,4 +1,4 @@
-use Rattle.std.proofs.Common.{◌∙◌, false, None, sym}
+use Rattle.std.proofs.Common.{refl, ◌∙◌, false, None, sym}
 use Rattle.std.specs.Prelude.{is_some}
 use Rattle.xfs_journal.specs.declared.record.Rec.TheVariants.{Boot}
 use Rattle.xfs_guard.specs.declared.open.Open.TheVariants.{No}
@@ -21,7 +21,7 @@ invariant_of-result g c =
 pub returns-in-Ok-clause-continues : goal.returns-in-Ok-clause-continues
 returns-in-Ok-clause-continues g c = λ J is.
     let v = over c.args.key c.args.seed No (g.M.Mechanism.motions c.args.mech) (g.M.Mechanism.places c.args.mech) (g.M.Mechanism.faults c.args.mech) c.in-Ok.ledger (is_some (g.D.Disk.held c.in-Ok.ledger.disk)) in
-    rw (is, c.in-Ok.ensures.opened.0, c.in-Ok.ensures.opened.1) (Continues-written (record v { records = J; shut = false; in_doubt = None }) (Boot (g.M.Mechanism.places c.args.mech)) c.in-Ok.ledger.bound No (λ p same. cc))
+    rw (is, c.in-Ok.ensures.opened.0, c.in-Ok.ensures.opened.1) (Continues-written (record v { records = J; shut = false; in_doubt = None }) (Boot (g.M.Mechanism.places c.args.mech)) c.in-Ok.ledger.bound No refl refl (λ p same. cc))
 
 pub returns-in-Err-clause-left : goal.returns-in-Err-clause-left
 returns-in-Err-clause-left g c = λ J may.

@@ -11,6 +11,7 @@ use Rattle.xfs_guard.proofs.SizeLaws.{fit-at, takes-one, may-write}
 use Rattle.xfs_guard.proofs.RecordLaws.{IsSound-issue}
 use Rattle.xfs_guard.proofs.LeftLaws.{left-written}
 use Rattle.xfs_guard.proofs.LifeLaws.{next-fresh}
+use Rattle.xfs_guard.proofs.BehindLaws.{behind-refused, behind-written}
 use Rattle.xfs_guard.proofs.guard.Guard.issue.Goals as goal
 
 pub returns-in-Some-clause-continues : goal.returns-in-Some-clause-continues
@@ -32,7 +33,8 @@ invariant_of-self g c =
 
 pub returns-in_err-issue-clause-continues : goal.returns-in_err-issue-clause-continues
 returns-in_err-issue-clause-continues g c =
-    rw (← c.self.view_is) (Continues-refused Nonce c.in_err-issue.field-0.0 _ _ _ _ _ _ c.self.inside.ledger c.issue.new.self _ None _ _ c.in_err-issue.ensures.wrote c.in_err-issue.ensures.err c.issue.ensures.told (λ p e. cc))
+    let fit = fit-at _ _ c.self.view_is (sym c.unfit.ensures.first ∙ c.in_default.is) in
+    rw (← c.self.view_is) (Continues-refused Nonce c.in_err-issue.field-0.0 _ _ _ _ _ _ c.self.inside.ledger c.issue.new.self _ None _ _ c.in_err-issue.ensures.wrote c.in_err-issue.ensures.err c.issue.ensures.told (c.self.invariant.clean fit.0) fit.0 (λ p e. cc))
 
 pub invariant_of-self-2 : goal.invariant_of-self-2
 invariant_of-self-2 g c =
@@ -48,9 +50,10 @@ returns-clause-live g c =
 
 pub returns-clause-continues : goal.returns-clause-continues
 returns-clause-continues g c =
+    let fit = fit-at _ _ c.self.view_is (sym c.unfit.ensures.first ∙ c.in_default.is) in
     let w = c.in_ok-issue.ensures.wrote in
     rw (← c.self.view_is, w.records, w.units, w.bound_is, w.limits, w.open_still, w.in_doubt, c.issue.ensures.told)
-    (Continues-written _ (Issue _ c.word_of-word.result) None c.self.inside.open_order (λ p e. cc))
+    (Continues-written _ (Issue _ c.word_of-word.result) None c.self.inside.open_order (c.self.invariant.clean fit.0) fit.0 (λ p e. cc))
 
 pub returns-in_err-issue-clause-any_moment : goal.returns-in_err-issue-clause-any_moment
 returns-in_err-issue-clause-any_moment g c =
@@ -71,3 +74,11 @@ returns-clause-never_twice g c =
     let fit = fit-at _ _ c.self.view_is (sym c.unfit.ensures.first ∙ c.in_default.is) in
     rw (← c.self.view_is) (λ told first runs life.
     rw c.in_ok-issue.ensures.number (next-fresh first runs c.self.inside.ledger.records life ((c.self.invariant.sound fit.0).numbered told)))
+
+pub returns-in_err-issue-clause-crashes : goal.returns-in_err-issue-clause-crashes
+returns-in_err-issue-clause-crashes g c =
+    rw (← c.self.view_is) (behind-refused Nonce g.D.Disk.held g.D.Disk.images g.D.Disk.moment g.D.Disk.images_since c.in_err-issue.field-0.0 _ _ _ _ _ _ c.self.inside.ledger c.issue.new.self _ None _ _ g.met.D.Disk.only_now c.in_err-issue.ensures.wrote c.in_err-issue.ensures.err c.issue.ensures.told c.issue.ensures.any_moment)
+
+pub returns-clause-crashes : goal.returns-clause-crashes
+returns-clause-crashes g c =
+    rw (← c.self.view_is) (behind-written g.D.Disk.held g.D.Disk.images g.D.Disk.moment g.D.Disk.images_since _ _ (Issue _ c.word_of-word.result) c.issue.ensures.told c.issue.ensures.any_moment c.in_ok-issue.ensures.wrote.records)
