@@ -12,7 +12,7 @@ pub invariant_of-result : goal.invariant_of-result
 invariant_of-result g c =
     let e = c.in-Ok.ensures in
     let v = over c.args.key c.args.seed No (g.M.Mechanism.motions c.args.mech) (g.M.Mechanism.places c.args.mech) (g.M.Mechanism.faults c.args.mech) c.in-Ok.ledger (is_some (g.D.Disk.held c.in-Ok.ledger.disk)) in
-    rw (e.records.2, e.opened.0, e.opened.1, e.opened.2)
+    rw (e.records.2, e.opened.0, e.opened.1, e.opened.2, e.opened.3)
     (IsKept-boot v e.records.0 c.survey-places.result _ _ _
     (λ told. rw e.same.1 (c.requires.recorded e.records.0 (MayLeave-held g.D.Disk.held g.D.Disk.images c.args.disk e.records.0 g.met.D.Disk.as_read (sym e.told ∙ told) e.records.1)))
     (c.requires.units ∙ sym e.same.1))
