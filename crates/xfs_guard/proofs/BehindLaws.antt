@@ -16,7 +16,7 @@ use Rattle.xfs_disk.specs.Disk.{LeavesOnly}
 use Rattle.xfs_journal.specs.JournalView.{StandsForEither}
 use Rattle.xfs_journal.specs.declared.record.Rec.{Rec}
 use Rattle.xfs_guard.specs.Continues.{Continues}
-use Rattle.xfs_guard.specs.Crashed.{IsLeft, StandsLeft, LeavesBehind}
+use Rattle.xfs_guard.specs.Crashed.{IsLeftAt, StandsLeft, LeavesBehind}
 use Rattle.xfs_guard.specs.Lives.{BeginsWith}
 use Rattle.xfs_guard.specs.View.{View, GuardView}
 use Rattle.xfs_guard.proofs.CrashedLaws.{begins-same, begins-trans, begins-push, IsLoose-in_doubt}
@@ -33,7 +33,7 @@ behind-still {D = D} held images moment since old new only_now same = record { t
 -- a record was appended, or may have been
 pub behind-record : {D : Type 0} (held : D → Option (List ℕ)) (images : D → List ℕ → Type 0) (moment : D → ℕ) (since : D → ℕ → List ℕ → Type 0) (old new : GuardView D) (r : Rec)
     → is_some (held new.disk) ≡ is_some (held old.disk) → IfTold (held old.disk) (λ _. LeavesOnly moment since old.disk new.disk (StandsForEither old.state.records r))
-    → BeginsWith new.state.records old.state.records → IsLeft new.state (old.state.records ++ r ∷ []) → LeavesBehind held images moment since old new
+    → BeginsWith new.state.records old.state.records → IsLeftAt new.state (old.state.records ++ r ∷ []) → LeavesBehind held images moment since old new
 behind-record held images moment since old new r told leaves grew longer = record { told = told; moments = go (held old.disk) leaves }
   where
     either : (c : List ℕ) → StandsForEither old.state.records r c → images old.disk c ⊎ StandsLeft old.state new.state c

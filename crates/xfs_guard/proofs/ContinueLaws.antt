@@ -13,7 +13,7 @@ use Rattle.xfs_journal.specs.JournalView.{IsPossible}
 use Rattle.xfs_guard.specs.declared.open.Open.{Open}
 use Rattle.xfs_mech.specs.Motions.{NumberIs, PlacesOf}
 use Rattle.xfs_mech.specs.Mechanism.{Grows}
-use Rattle.xfs_guard.specs.Crashed.{IsLeft}
+use Rattle.xfs_guard.specs.Crashed.{IsLeftAt, is_closed}
 use Rattle.xfs_guard.specs.Lives.{BeginsWith}
 use Rattle.xfs_guard.proofs.CrashedLaws.{begins-same, begins-trans, begins-push, left-push, left-doubt}
 use Rattle.xfs_guard.specs.View.{View}
@@ -99,7 +99,7 @@ MayGrow v r J = IsPossible v.records v.in_doubt J ⊎ ((K : List Rec) × IsPossi
 
 -- at most this record came behind the possible lists; a Boot has the places
 pub Continues-grown : (v w : View) (r : Rec) → ((p : Places) → r ≡ Boot p → v.places ≡ p) → w.motions ≡ v.motions → w.places ≡ v.places → w.key ≡ v.key → w.seed ≡ v.seed → w.units ≡ v.units → w.disk_told ≡ v.disk_told
-    → ((J : List Rec) → IsPossible w.records w.in_doubt J → MayGrow v r J) → BeginsWith w.records v.records → ((J : List Rec) → IsLeft v J → IsLeft w J) → Continues v w
+    → ((J : List Rec) → IsPossible w.records w.in_doubt J → MayGrow v r J) → BeginsWith w.records v.records → ((J : List Rec) → IsLeftAt v J → IsLeftAt w J) → Continues v w
 Continues-grown v w r boots motions places key seed units disk grown longer left = record { leads = told v.motions w.motions motions; key = key; seed = seed; units = units; moves = rw (motions, places) (Moves-same v.motions v.places); disk_told = disk; grew = longer; left = left }
   where
     comes : (L : List Motion) (J : List Rec) → MayGrow v r J → Comes v w L L J
@@ -118,18 +118,18 @@ Continues-same v = record { leads = told v.motions; key = refl; seed = refl; uni
     told (Some L) = λ J possible. record { from = J; possible = possible; led = Led-same J L v.places }
 
 -- one more record was written
-pub Continues-written : (v : View) (r : Rec) (w : Option (List (List ℕ × ℕ))) (o : Open) → v.in_doubt ≡ None → v.shut ≡ false → ((p : Places) → r ≡ Boot p → v.places ≡ p) → Continues v (record (longer v r w o) { shut = false; in_doubt = None })
-Continues-written v r w o none open_still boots =
+pub Continues-written : (v : View) (r : Rec) (w : Option (List (List ℕ × ℕ))) (o : Open) → v.in_doubt ≡ None → v.shut ≡ false → v.boot_missing ≡ false → ((p : Places) → r ≡ Boot p → v.places ≡ p) → Continues v (record (longer v r w o) { shut = false; in_doubt = None })
+Continues-written v r w o none open_still booted boots =
     Continues-grown v (record (longer v r w o) { shut = false; in_doubt = None }) r boots refl refl refl refl refl refl (λ J possible. inr (v.records, inl refl, only-possible (v.records ++ r ∷ []) J None refl possible))
-    (begins-push v.records v.records r (begins-same v.records)) (λ J was. left-push v.records r v.in_doubt v.shut false J none open_still was)
+    (begins-push v.records v.records r (begins-same v.records)) (λ J was. left-push v.records r v.in_doubt (is_closed v) (is_closed (record (longer v r w o) { shut = false; in_doubt = None })) J none (rw (open_still, booted) refl) was)
 
 -- it is not known whether the record was written
-pub Continues-doubted : (v : View) (r : Rec) (o : Open) → v.in_doubt ≡ None → v.shut ≡ false → ((p : Places) → r ≡ Boot p → v.places ≡ p) → Continues v (record v { shut = true; in_doubt = Some r; open_order = o })
-Continues-doubted v r o none open_still boots =
+pub Continues-doubted : (v : View) (r : Rec) (o : Open) → v.in_doubt ≡ None → v.shut ≡ false → v.boot_missing ≡ false → ((p : Places) → r ≡ Boot p → v.places ≡ p) → Continues v (record v { shut = true; in_doubt = Some r; open_order = o })
+Continues-doubted v r o none open_still booted boots =
     Continues-grown v (record v { shut = true; in_doubt = Some r; open_order = o }) r boots refl refl refl refl refl refl (λ J possible. elim (doubted-possible v.records J r possible) [
       | inl is ↦ inl (inl is)
       | inr is ↦ inr (v.records, inl refl, is)
-    ]) (begins-same v.records) (λ J was. left-doubt v.records r v.in_doubt v.shut J none open_still was)
+    ]) (begins-same v.records) (λ J was. left-doubt v.records r v.in_doubt (is_closed v) J none (rw (open_still, booted) refl) was)
 
 -- the order was carried out, while no record was in doubt
 pub Continues-act : (v : View) (k : Kind) (m d : Counts) (failed : Bool) (now : Option (List Motion)) (Q : Places) (f : ℕ) → v.in_doubt ≡ None

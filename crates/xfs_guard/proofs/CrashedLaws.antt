@@ -18,7 +18,7 @@ use Rattle.xfs_journal.specs.declared.record.Rec.TheVariants.{Boot, Order}
 use Rattle.xfs_journal.proofs.JournalLaws.{record_at-push, record_at-append, record_at-within, record_at-cases, record_at-pushed}
 use Rattle.xfs_guard.specs.Agrees.{Agrees, IsAsked, IsNoOrder}
 use Rattle.xfs_guard.specs.Lives.{BeginsWith}
-use Rattle.xfs_guard.specs.Crashed.{IsLoose, IsLost}
+use Rattle.xfs_guard.specs.Crashed.{IsLoose, IsLeft, IsLost}
 use Rattle.xfs_guard.proofs.RecordLaws.{last-pushed}
 
 pub begins-same : (J : List Rec) → BeginsWith J J
@@ -123,17 +123,46 @@ IsLoose-in_doubt J r = record {
   closed_there = λ short. refl;
 }
 
+-- a record that a journal without room never took
+pub IsLoose-missing : (J : List Rec) (r : Rec) → IsLoose J None true (J ++ r ∷ [])
+IsLoose-missing J r = record {
+  front = J;
+  last = r;
+  split = refl;
+  kept = begins-same J;
+  replaced = λ q there. let w = record_at-within J (length (J ++ r ∷ [])) q there in let size = length-append J (r ∷ []) in absurd (omega (arith, size, w.1));
+  closed_there = λ short. refl;
+}
+
 -- lists that were left, behind one more record of an open journal
-pub left-push : (J : List Rec) (r : Rec) (d : Option Rec) (s c : Bool) (X : List Rec) → d ≡ None → s ≡ false
-    → BeginsWith J X ⊎ IsLoose J d s X → BeginsWith (J ++ r ∷ []) X ⊎ IsLoose (J ++ r ∷ []) None c X
+pub left-push : (J : List Rec) (r : Rec) (d : Option Rec) (s c : Bool) (X : List Rec) → d ≡ None → s ≡ false → IsLeft J d s X → IsLeft (J ++ r ∷ []) None c X
 left-push J r d s c X none open_still (inl begins) = inl (begins-push X J r begins)
 left-push J r d s c X none open_still (inr loose) = inr (IsLoose-push J r c X (rw (none, open_still) at loose))
 
 -- lists that were left, while this record is in doubt
-pub left-doubt : (J : List Rec) (r : Rec) (d : Option Rec) (s : Bool) (X : List Rec) → d ≡ None → s ≡ false
-    → BeginsWith J X ⊎ IsLoose J d s X → BeginsWith J X ⊎ IsLoose J (Some r) true X
+pub left-doubt : (J : List Rec) (r : Rec) (d : Option Rec) (s : Bool) (X : List Rec) → d ≡ None → s ≡ false → IsLeft J d s X → IsLeft J (Some r) true X
 left-doubt J r d s X none open_still (inl begins) = inl begins
 left-doubt J r d s X none open_still (inr loose) = inr (IsLoose-doubt J r X (rw (none, open_still) at loose))
+
+-- lists that were left, once the journal is closed
+pub left-close : (J : List Rec) (d : Option Rec) (s : Bool) (X : List Rec) → IsLeft J d s X → IsLeft J d true X
+left-close J d s X (inl begins) = inl begins
+left-close J d s X (inr loose) = inr (IsLoose-close J d s X loose)
+
+-- lists that were left, once a possible list was read again
+pub left-mount : (J : List Rec) (d : Option Rec) (s : Bool) (K X : List Rec) → IsPossible J d K → IsLeft J d s X → IsLeft K None true X
+left-mount J d s K X possible (inl begins) = inl (begins-trans X J K begins (begins-possible J d K possible))
+left-mount J d s K X possible (inr loose) = inr (IsLoose-mount J d s K X possible loose)
+
+-- the Boot is kept behind it
+pub left-boot : (K : List Rec) (p : Places) (c : Bool) (X : List Rec) → IsLeft K None true X → IsLeft (K ++ Boot p ∷ []) None c X
+left-boot K p c X (inl begins) = inl (begins-push X K (Boot p) begins)
+left-boot K p c X (inr loose) = inr (IsLoose-boot K p c X loose)
+
+-- the Boot is in doubt behind it
+pub left-boot_doubt : (K : List Rec) (p : Places) (X : List Rec) → IsLeft K None true X → IsLeft K (Some (Boot p)) true X
+left-boot_doubt K p X (inl begins) = inl begins
+left-boot_doubt K p X (inr loose) = inr (IsLoose-boot_doubt K p X loose)
 
 -- one more record of the list is its next
 begins-next : (F R : List Rec) (l : Rec) → BeginsWith R F → record_at R (length F + 1) ≡ Some l → BeginsWith R (F ++ l ∷ [])
@@ -160,8 +189,8 @@ not_numbered R n (Taken moved ∷ L) none (a, all) = (tt, not_numbered R n L non
 not_numbered R n (Loaded unit count ∷ L) none (a, all) = (tt, not_numbered R n L none all)
 
 -- a list that was left is a front of what the disk has, or no motion has its last record's number
-pub left-front : (J : List Rec) (d : Option Rec) (c : Bool) (X R : List Rec) (L : Option (List Motion)) → IsLoose J d c X → IsPossible J d R → IfTold L (Agrees R) → BeginsWith R X ⊎ IsLost R L X
-left-front J d c X R L l possible agrees = by_record (record_at R (length X)) refl
+loose-front : (J : List Rec) (d : Option Rec) (c : Bool) (X R : List Rec) (L : Option (List Motion)) → IsLoose J d c X → IsPossible J d R → IfTold L (Agrees R) → BeginsWith R X ⊎ IsLost R L X
+loose-front J d c X R L l possible agrees = by_record (record_at R (length X)) refl
   where
     front : BeginsWith R l.front
     front = begins-trans l.front J R l.kept (begins-possible J d R possible)
@@ -182,3 +211,7 @@ left-front J d c X R L l possible agrees = by_record (record_at R (length X)) re
         (λ same. inl (rw l.split (begins-next l.front R l.last front (ap (record_at R) (sym (length-left J d c X l)) ∙ is ∙ ap Some (sym same)))))
         (λ none. lost (λ k n there. let e : q ≡ Order k n = some_same q (Order k n) (sym is ∙ there) in rw e at none))
         (l.replaced q (in_longest J d R (length X) q possible is))
+
+pub left-front : (J : List Rec) (d : Option Rec) (c : Bool) (X R : List Rec) (L : Option (List Motion)) → IsLeft J d c X → IsPossible J d R → IfTold L (Agrees R) → BeginsWith R X ⊎ IsLost R L X
+left-front J d c X R L (inl begins) possible agrees = inl (begins-trans X J R begins (begins-possible J d R possible))
+left-front J d c X R L (inr loose) possible agrees = loose-front J d c X R L loose possible agrees

@@ -28,12 +28,12 @@ use Rattle.xfs_guard.proofs.SoundLaws.{acted_view, told-act}
 use Rattle.xfs_guard.proofs.StoredLaws.{tells}
 
 -- bytes that have one of the possible lists, each of which is recorded
-recorded-possible : (key : List ℕ) (u : List NoteKind) (m : Option (List Motion)) (J : List Rec) (d : Option Rec) (c : List ℕ)
+pub recorded-possible : (key : List ℕ) (u : List NoteKind) (m : Option (List Motion)) (J : List Rec) (d : Option Rec) (c : List ℕ)
     → ((K : List Rec) → IsPossible J d K → IsRecorded key u K m) → HasPossible J d c → StandsRecorded key u m c
 recorded-possible key u m J d c recorded has = record { records = has.0; stands = inl has.2; recorded = recorded has.0 has.1 }
 
 -- bytes that stand for the list or for that with the record, both of which are recorded
-recorded-either : (key : List ℕ) (u : List NoteKind) (m : Option (List Motion)) (J : List Rec) (r : Rec) (c : List ℕ)
+pub recorded-either : (key : List ℕ) (u : List NoteKind) (m : Option (List Motion)) (J : List Rec) (r : Rec) (c : List ℕ)
     → IsRecorded key u J m → IsRecorded key u (J ++ r ∷ []) m → StandsForEither J r c → StandsRecorded key u m c
 recorded-either key u m J r c before after (inl was) = record { records = J; stands = was; recorded = before }
 recorded-either key u m J r c before after (inr is) = record { records = J ++ r ∷ []; stands = is; recorded = after }

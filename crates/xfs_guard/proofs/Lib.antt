@@ -15,6 +15,8 @@ pub mod PresentedLaws
 pub mod RecordLaws
 pub mod ReplayLaws
 pub mod ReportLaws
+pub mod RereadLaws
+pub mod RestoreLaws
 pub mod SizeLaws
 pub mod SoundLaws
 pub mod StoredLaws

@@ -8,7 +8,7 @@ use Rattle.xfs_journal.specs.JournalView.{IsPossible}
 use Rattle.xfs_journal.specs.declared.record.Rec.{Rec}
 use Rattle.xfs_mech.specs.Motions.{NumberIs}
 use Rattle.xfs_mech.specs.Moves.{Moves}
-use Rattle.xfs_guard.specs.Crashed.{IsLeft}
+use Rattle.xfs_guard.specs.Crashed.{IsLeftAt}
 use Rattle.xfs_guard.specs.Lives.{BeginsWith}
 use Rattle.xfs_guard.specs.View.{View}
 use Rattle.xfs_guard.specs.Follows.{Follows}
@@ -44,4 +44,4 @@ pub record Continues (old new : View) : Type 0 where
   pub disk_told : new.disk_told ≡ old.disk_told
   pub grew : BeginsWith new.records old.records
   -- a list that a crash left on the way there was left on the way here
-  pub left : (J : List Rec) → IsLeft old J → IsLeft new J
+  pub left : (J : List Rec) → IsLeftAt old J → IsLeftAt new J

@@ -5,7 +5,7 @@ ghost use Rattle.xfs_base.specs.Causes.{IfTold, Rose};
 ghost use Rattle.xfs_journal.specs.declared.record.Rec.TheVariants.{Issue, Clear, Boot, Bind, Order, Done};
 ghost use Rattle.xfs_journal.specs.Journal.{next_issue};
 ghost use Rattle.xfs_guard.specs.declared.open.Open.TheVariants.{No, Written};
-ghost use Rattle.xfs_guard.specs.Nonce.{live_nonce};
+ghost use Rattle.xfs_guard.specs.Nonce.{live_in, live_nonce};
 ghost use Rattle.xfs_guard.specs.Word.{issue_word};
 ghost use Rattle.xfs_guard.specs.Fits.{fit_of, unfit};
 ghost use Rattle.xfs_guard.specs.Left.{EachStands, Leaves, MayMove, StandsRecorded, StandsThrough};
@@ -67,6 +67,7 @@ impl<M: Mechanism, D: Disk> Model for Guard<M, D> {
         faults = M.faults g.mech;
         limits = g.ledger.limits;
         shut = g.ledger.shut;
+        boot_missing = g.ledger.boot_missing;
         in_doubt = g.ledger.in_doubt;
         disk_told = is_some (D.held g.ledger.disk);
       };
@@ -85,6 +86,7 @@ impl<M: Mechanism, D: Disk> Model for Guard<M, D> {
       faults = M.faults g.mech;
       limits = g.ledger.limits;
       shut = g.ledger.shut;
+      boot_missing = g.ledger.boot_missing;
       in_doubt = g.ledger.in_doubt;
       disk_told = is_some (D.held g.ledger.disk);
     }) (M.room g.mech) g.ledger.room (M.units g.mech) };
@@ -116,6 +118,7 @@ impl<M: Mechanism, D: Disk> Guard<M, D> {
           faults = M.faults mech;
           limits = limits;
           shut = false;
+          boot_missing = false;
           in_doubt = None;
           disk_told = is_some (D.held disk);
         })) }
@@ -187,7 +190,7 @@ impl<M: Mechanism, D: Disk> Guard<M, D> {
             return Fit::Shut;
         }
         let left = self.ledger.left();
-        if left.records < 3 || left.bytes < 2_048 {
+        if self.ledger.boot_missing() || left.records < 3 || left.bytes < 2_048 {
             return Fit::Full;
         }
         Fit::Ready
@@ -205,9 +208,9 @@ impl<M: Mechanism, D: Disk> Guard<M, D> {
         }
     }
 
-    /// The live nonce. None where none was issued, or it was cleared.
+    /// The live nonce. None where none was issued, or it was cleared, or a restore found no room for its Boot.
     pub fn live(&self) -> Option<Nonce>
-        ensures { result ≡ live_nonce self.now.state.records }
+        ensures { result ≡ live_in self.now.state.boot_missing self.now.state.records }
     {
         self.ledger.live()
     }
@@ -381,6 +384,7 @@ impl<M: Mechanism, D: Disk> Guard<M, D> {
     }
 
     fn presented(&self) -> Result<(Kind, Counts), Deny>
+        requires { unfit self.now.state ≡ None }
         ensures ok { IfOk result (λ r. (order_refusal self.now.state AskPresent ≡ None) × (r.0 ≡ Kind.Present) × (r.1 ≡ self.now.state.places.transport)) }
         ensures err { IfErr result (λ e. (e ≢ Deny.Memory) × (e ≢ Deny.Disk) × (order_refusal self.now.state AskPresent ≡ Some e)) }
     {

@@ -28,7 +28,8 @@ returns-clause-continues g c =
 pub returns-clause-inside : goal.returns-clause-inside
 returns-clause-inside g c =
     let still = still-open _ _ _ _ c.self.invariant.closed c.in-Written.is in
+    let booted = still-open _ _ _ _ c.self.invariant.missing c.in-Written.is in
     let none = c.self.invariant.clean still in
     rw (← c.self.view_is) (left-through g.D.Disk.held g.D.Disk.images g.D.Disk.moment g.D.Disk.images_since c.self.inside.ledger.disk _ (MayMove _) (g.met.D.Disk.only_now c.self.inside.ledger.disk) c.shut-possible.ensures.possible
     c.self.invariant.recorded
-    (λ told J p entry now may grows. rw (one-possible _ _ J none p) (recorded-moved _ entry now (c.self.invariant.sound still) told may grows)))
+    (λ told J p entry now may grows. rw (one-possible _ _ J none p) (recorded-moved _ entry now (c.self.invariant.sound still booted) told may grows)))
