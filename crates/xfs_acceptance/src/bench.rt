@@ -274,8 +274,8 @@ pub fn guard_on_no_journal(rt: &impl Abort, alloc: Global, script: &[u8]) -> Res
     told(alloc, ended.status, &sink, &ended.disk)
 }
 
-// Main's mechanism, with these faults.
-fn sim_on(rt: &impl Abort, alloc: Global, units: &UnitTable, faults: Vec<Fault>) -> SimMech
+/// Main's mechanism, with these faults.
+pub fn sim_on(rt: &impl Abort, alloc: Global, units: &UnitTable, faults: Vec<Fault>) -> SimMech
     ensures units { units_of result ≡ units.now }
     ensures fresh { motions_of result ≡ [] }
 {
