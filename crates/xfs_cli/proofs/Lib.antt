@@ -3,4 +3,5 @@ pub mod LineLaws
 pub mod RunLaws
 pub mod StartLaws
 pub mod TokenTexts
+pub mod UnreadLaws
 pub mod VerbLaws

@@ -1,6 +1,7 @@
 use Rattle.std.proofs.Common.{refl, ap}
 use Rattle.xfs_guard.specs.View.{View}
 use Rattle.xfs_cli.proofs.RunLaws.{recorded-start, upholds-same, upholds-refused, upholds-run, ends-unread, due-full, journal-run, fits-run}
+use Rattle.xfs_cli.proofs.UnreadLaws.{unwritten-quiet}
 use Rattle.xfs_cli.proofs.guard_command.guard.Goals as goal
 
 pub returns-then-not-is_word-clause-upholds : goal.returns-then-not-is_word-clause-upholds
@@ -38,3 +39,6 @@ returns-in-Ok-clause-unwritten g c = journal-run c.in-Ok.ensures.ok.0 _ _ c.in-O
 
 pub returns-in-Ok-clause-unmoved : goal.returns-in-Ok-clause-unmoved
 returns-in-Ok-clause-unmoved g c = journal-run c.in-Ok.ensures.ok.0 _ _ c.in-Ok.ensures.ok.1
+
+pub returns-in-Err-clause-unwritten : goal.returns-in-Err-clause-unwritten
+returns-in-Err-clause-unwritten g c = unwritten-quiet g.D.Disk.held g.D.Disk.images g.D.Disk.moment g.D.Disk.images_since g.D.Disk.faults c.args.core.disk c.in-Err.field-0.disk c.in-Err.ensures.unlisted
