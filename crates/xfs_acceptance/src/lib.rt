@@ -4,6 +4,8 @@
 #[cfg(test)]
 mod bench;
 #[cfg(test)]
+mod crash_rows;
+#[cfg(test)]
 mod guard_calls;
 #[cfg(test)]
 mod guard_disks;

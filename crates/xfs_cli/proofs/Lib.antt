@@ -5,4 +5,5 @@ pub mod NumberLaws
 pub mod RunLaws
 pub mod StartLaws
 pub mod TokenTexts
+pub mod UnreadLaws
 pub mod VerbLaws

@@ -37,6 +37,10 @@ use xfs_mech::{Mechanism, Order as MechOrder, Outcome};
 
 /// The guard: it alone hands orders to the mechanism. Each call appends at most one record or makes
 /// at most one call of the mechanism that adds an entry, never both.
+///
+/// Where the disk tells its bytes, a crash at any moment of a call leaves a list of records that agrees
+/// with what the mechanism did (`any_moment`; `inside` for a call of the mechanism), and once a call
+/// that writes answered `Ok` it leaves the list with the record (`kept`).
 #[derive(Drop)]
 pub struct Guard<M: Mechanism, D: Disk> {
     pub(crate) alloc: Global,
