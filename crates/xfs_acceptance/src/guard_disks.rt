@@ -30,10 +30,7 @@ enum Step {
 }
 
 // A guard over a core whose disk was written by nobody.
-fn booted(
-    alloc: Global,
-    core: Core<SimMech, FailDisk>,
-) -> Result<Guard<SimMech, FailDisk>, Fail>
+fn booted(alloc: Global, core: Core<SimMech, FailDisk>) -> Result<Guard<SimMech, FailDisk>, Fail>
     requires units { units_of core.mech ≡ core.units }
     requires starts { (c : List ℕ) → MayBe (failing_inner core.disk) c → (J : List Rec) → Stands c J → IsRecorded core.key core.units J (Some (motions_of core.mech)) }
     ensures { IfOk result (λ g. g.state.open_order ≡ No) }
@@ -53,11 +50,7 @@ fn booted(
 }
 
 // A guard with a nonce, over a disk whose call of this number fails, from 1.
-fn failing_at(
-    rt: &impl Abort,
-    alloc: Global,
-    call: u64,
-) -> Result<Guard<SimMech, FailDisk>, Fail>
+fn failing_at(rt: &impl Abort, alloc: Global, call: u64) -> Result<Guard<SimMech, FailDisk>, Fail>
     ensures { IfOk result (λ g. g.state.open_order ≡ No) }
 {
     let units = units(rt);

@@ -14,7 +14,7 @@ IsOneOf (x ∷ xs) n = (n ≡ x) ⊎ IsOneOf xs n
 abbrev pub IsStatus : ℕ → Type 0
 IsStatus status = IsOneOf (0 ∷ 2 ∷ 3 ∷ 4 ∷ 5 ∷ 6 ∷ 7 ∷ 8 ∷ 10 ∷ 12 ∷ []) status
 
--- every line of the input is a line, the input is short enough, and the Boot passes no limit behind the records of the disk
+-- every line of the input is a line, the input is short enough, and the Boot passes no limit behind the records of the disk (the Boots of later starts belong here too, once a line makes them)
 pub record IsUnhindered (text : List ℕ) (limits : Limits) (places : Places) (records : List Rec) : Type 0 where
   pub lines : AllLines text
   pub short : length text < 67108864
