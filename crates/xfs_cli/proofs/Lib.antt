@@ -1,6 +1,8 @@
 pub mod AnswerLaws
+pub mod DispenseLaws
 pub mod LineLaws
 pub mod RunLaws
+pub mod SeenLaws
 pub mod StartLaws
 pub mod TokenTexts
 pub mod VerbLaws

@@ -1,8 +1,14 @@
 pub mod Answers
 pub mod Boots
+pub mod DispenseAnswers
 pub mod GuardAnswers
 pub mod GuardLines
+pub mod GuardRuns
+pub mod LineAnswers
+pub mod OrderAnswers
 pub mod Refused
 pub mod Run
+pub mod Seen
 pub mod TokenAnswers
 pub mod Upholds
+pub mod VerbAnswers
