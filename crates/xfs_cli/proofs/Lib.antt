@@ -1,5 +1,6 @@
 pub mod AnswerLaws
 pub mod DispenseLaws
+pub mod GuardRunLaws
 pub mod LineLaws
 pub mod RunLaws
 pub mod SeenLaws
