@@ -1,4 +1,5 @@
 pub mod Answers
+pub mod BootLines
 pub mod Boots
 pub mod DispenseAnswers
 pub mod GuardAnswers

@@ -3,7 +3,7 @@ use Rattle.xfs_guard.specs.View.{View}
 use Rattle.xfs_cli.proofs.RunLaws.{recorded-start, upholds-same, upholds-refused, upholds-run, ends-unread, due-full, journal-run, fits-run}
 use Rattle.xfs_cli.specs.GuardLines.{IsLine}
 use Rattle.xfs_cli.specs.VerbAnswers.{AnswersGuard}
-use Rattle.xfs_cli.proofs.GuardRunLaws.{all-ends, front-ends, until-ends, ends-at, ends-within, told-more, told-any, from-boot, refused-boot}
+use Rattle.xfs_cli.proofs.GuardRunLaws.{all-ends, front-ends, until-stops, stops-at, ends-at, ends-within, told-more, told-any, from-boot, refused-boot}
 use Rattle.xfs_cli.proofs.guard_command.guard.Goals as goal
 
 pub returns-then-not-is_word-clause-upholds : goal.returns-then-not-is_word-clause-upholds
@@ -51,7 +51,7 @@ returns-in-Ok-clause-until g c = λ not_zero not_two not_five.
     let e = c.ended-mech.ensures in
     let faults = g.D.Disk.faults in
     told-more _ _ _ (λ text writes. inr (from-boot faults c.in-Ok.guard _ _ _ _ ok.0 _ ok.1 ok.2 c.in-Ok.ensures.faults
-    (until-ends IsLine AnswersGuard _ _ _ _ _ _ _ text (ends-within faults c.serve-status.new.session.guard c.serve-status.new.session.last _ _ e.faults e.disk) writes))) (c.serve-status.ensures.until not_zero not_five)
+    (until-stops IsLine AnswersGuard _ _ _ _ _ _ _ text (stops-at faults c.serve-status.new.session.guard _ _ e.faults e.disk) writes))) (c.serve-status.ensures.until not_zero not_five)
 
 pub returns-in-Err-clause-until : goal.returns-in-Err-clause-until
 returns-in-Err-clause-until g c = λ not_zero not_two not_five. told-any _ _ (λ text. inl (refused-boot _ _ _ _ c.unbooted.ensures.status c.unbooted.ensures.written))

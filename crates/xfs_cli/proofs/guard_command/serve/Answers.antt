@@ -4,6 +4,8 @@ use Rattle.xfs_cli.proofs.LineLaws.{Gives-start, HasRead-start, Gives-trans, rea
 use Rattle.xfs_cli.specs.GuardLines.{IsLine}
 use Rattle.xfs_cli.specs.VerbAnswers.{AnswersGuard}
 use Rattle.xfs_cli.proofs.AnswerLaws.{answered-start, answered-line, answered-all, answered-front, answered-no_line, answered-memory, answered-fault}
+use Rattle.xfs_cli.specs.Run.{status_of}
+use Rattle.xfs_cli.proofs.GuardRunLaws.{stops-plain, fault-plain}
 use Rattle.xfs_cli.proofs.SeenLaws.{later-same}
 use Rattle.xfs_cli.proofs.guard_command.serve.Goals as goal
 
@@ -24,7 +26,7 @@ returns-in-Ok-None-clause-answers g c = λ zero. answered-all AnswersGuard _ _ _
 
 pub returns-in-NotALine-clause-until : goal.returns-in-NotALine-clause-until
 returns-in-NotALine-clause-until g c = λ not_zero not_five.
-    answered-no_line IsLine AnswersGuard _ _ _ _ _ _ _ _ _ _ _ _ _ c.in-Ok-Some.line c.line.ensures.faults c.loop.invariant.answered (rw c.in-Ok-Some.field-0-is at c.in-Ok-Some.ensures.reads) (c.in-NotALine.ensures.no_line refl)
+    answered-no_line IsLine AnswersGuard _ _ _ _ _ _ _ _ _ _ _ _ _ c.in-Ok-Some.line (stops-plain g.D.Disk.faults c.line.new.self.guard c.line.new.self.last _ 4 _ c.not_a_line.ensures.status (λ e. omega (arith, e)) (λ e. omega (arith, e)) (λ e. omega (arith, e)) c.line.ensures.faults) c.loop.invariant.answered (rw c.in-Ok-Some.field-0-is at c.in-Ok-Some.ensures.reads) (c.in-NotALine.ensures.no_line refl)
     c.not_a_line.ensures.status refl (rw (c.in-NotALine.ensures.same_no_line refl) at c.not_a_line.ensures.written)
 
 pub returns-in-Write-clause-front : goal.returns-in-Write-clause-front
@@ -33,11 +35,13 @@ returns-in-Write-clause-front g c = λ five.
 
 pub returns-in-Memory-clause-until : goal.returns-in-Memory-clause-until
 returns-in-Memory-clause-until g c = λ not_zero not_five.
-    answered-memory IsLine AnswersGuard _ _ _ _ _ _ _ _ _ _ c.line.ensures.faults c.loop.invariant.answered (ap g.K.Sink.held (c.in-Memory.ensures.same_memory refl))
+    answered-memory IsLine AnswersGuard _ _ _ _ _ _ _ _ _ _ (stops-plain g.D.Disk.faults c.line.new.self.guard c.line.new.self.last 8 8 _ refl (λ e. omega (arith, e)) (λ e. omega (arith, e)) (λ e. omega (arith, e)) c.line.ensures.faults) c.loop.invariant.answered (ap g.K.Sink.held (c.in-Memory.ensures.same_memory refl))
 
 pub returns-in-Err-clause-until : goal.returns-in-Err-clause-until
 returns-in-Err-clause-until g c = λ not_zero not_five.
-    answered-fault IsLine AnswersGuard _ _ _ _ _ _ _ _ _ _ _ _ c.in-Err.fault (λ l is. is.short) (later-same _) c.loop.invariant.answered c.in-Err.ensures.reads c.faulty.ensures.status c.faulty.ensures.written
+    let plain = fault-plain c.in-Err.fault in
+    answered-fault IsLine AnswersGuard _ _ _ _ _ _ _ _ _ _ _ _ c.in-Err.fault (λ l is. is.short)
+    (stops-plain g.D.Disk.faults c.loop.session.guard c.loop.session.last _ (status_of c.in-Err.fault) _ c.faulty.ensures.status plain.0 plain.1 plain.2 (later-same _)) c.loop.invariant.answered c.in-Err.ensures.reads c.faulty.ensures.status c.faulty.ensures.written
 
 pub returns-in-Ok-None-clause-lines : goal.returns-in-Ok-None-clause-lines
 returns-in-Ok-None-clause-lines g c = λ zero. read-end _ _ _ _ _ c.loop.invariant.read (rw c.in-Ok-None.field-0-is at c.in-Ok-None.ensures.reads)
