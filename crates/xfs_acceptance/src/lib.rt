@@ -4,7 +4,11 @@
 #[cfg(test)]
 mod bench;
 #[cfg(test)]
+mod crash_rows;
+#[cfg(test)]
 mod guard_calls;
+#[cfg(test)]
+mod guard_disks;
 #[cfg(test)]
 mod guard_rows;
 #[cfg(test)]
@@ -13,6 +17,8 @@ mod guard_scripts;
 mod journal_rows;
 #[cfg(test)]
 mod motions_rows;
+#[cfg(test)]
+mod restore_rows;
 #[cfg(test)]
 mod teller;
 #[cfg(test)]

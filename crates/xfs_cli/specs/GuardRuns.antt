@@ -30,6 +30,7 @@ opened key seed units limits motions places faults told records = record {
   faults = faults;
   limits = limits;
   shut = false;
+  boot_missing = false;
   in_doubt = None;
   disk_told = told;
 }

@@ -10,6 +10,7 @@ pub mod OrderAnswers
 pub mod Refused
 pub mod Run
 pub mod Seen
+pub mod Statuses
 pub mod TokenAnswers
 pub mod Upholds
 pub mod VerbAnswers

@@ -1,13 +1,11 @@
 //! The command `guard`.
 
-ghost use Rattle.std.specs.Prelude.{◌≡◌, ◌≢◌, ◌↔◌, ◌≤◌, ◌⊎◌, ℕ, List, Some, IsTrue, is_some};
+ghost use Rattle.std.specs.Prelude.{◌≡◌, ◌≢◌, ◌↔◌, ◌≤◌, ◌⊎◌, ℕ, List, Some, IsTrue, is_some, length};
 ghost use Rattle.std.specs.Io.KnownBytes.{IsAtEnd};
 ghost use Rattle.xfs_base.specs.Causes.{Rose, IfTold};
 ghost use Rattle.xfs_disk.specs.Disk.{Only};
 ghost use Rattle.xfs_journal.specs.Image.{Stands};
 ghost use Rattle.xfs_journal.specs.declared.record.Rec.{Rec};
-ghost use Rattle.xfs_journal.specs.declared.record.Rec.TheVariants.{Boot};
-ghost use Rattle.xfs_base.specs.declared.counts.Places.{Places};
 ghost use Rattle.xfs_guard.specs.declared.open.Open.TheVariants.{No};
 ghost use Rattle.xfs_guard.specs.Continues.{Continues};
 ghost use Rattle.xfs_guard.specs.Recorded.{IsRecorded};
@@ -20,6 +18,8 @@ ghost use Rattle.xfs_cli.specs.Seen.{IsLater, seen};
 ghost use Rattle.xfs_cli.specs.VerbAnswers.{AnswersGuard};
 ghost use Rattle.xfs_cli.specs.Boots.{EndsUnread, EndsFailed, EndsFull, BootPasses, IsDue, IsNoJournal, IsUnwritten};
 ghost use Rattle.xfs_cli.specs.Upholds.{Upholds};
+ghost use Rattle.xfs_cli.specs.Statuses.{IsStatus, IsUnhindered, IsFinished};
+ghost use Rattle.xfs_mech.specs.Moves.{AddsUp, IsNewer};
 
 use crate::answer::Turn;
 use crate::ended::Ended;
@@ -72,6 +72,14 @@ pub fn guard<S: Source, K: Sink, M: Mechanism, D: Disk>(
     ensures overfull { IsGuard words.now → IfTold (D.held core.disk) (λ bytes. (J : List Rec) → Stands bytes J → BootPasses core.limits (M.places core.mech) J → IsDue 12 result.status) }
     ensures unwritten { IfTold (D.held core.disk) (λ bytes. IsNoJournal bytes → IsUnwritten (D.held core.disk) (D.held result.disk) (D.images core.disk) (D.images result.disk)) }
     ensures unmoved { IfTold (D.held core.disk) (λ bytes. IsNoJournal bytes → result.mech ≡ core.mech) }
+
+    ensures newer { IfTold (D.held core.disk) (λ bytes. (J : List Rec) → Stands bytes J → IsNewer (length J) (M.motions core.mech) (M.motions result.mech)) }
+    ensures adds { AddsUp (M.motions core.mech) (M.motions result.mech) (M.places core.mech) (M.places result.mech) }
+    ensures told { is_some (M.motions result.mech) ≡ is_some (M.motions core.mech) }
+    ensures told_disk { is_some (D.held result.disk) ≡ is_some (D.held core.disk) }
+    ensures statuses { IsStatus result.status }
+    ensures finishes { IsGuard words.now → ¬ (Rose (S.faults source.old) (S.faults source.new)) → ¬ (Rose (K.faults sink.old) (K.faults sink.new)) → ¬ (Rose (D.faults core.disk) (D.faults result.disk))
+        → IfTold (S.left source.old) (λ text. IfTold (D.held core.disk) (λ bytes. (J : List Rec) → Stands bytes J → IsUnhindered text core.limits (M.places core.mech) J → IsFinished result.status)) }
 {
     let Core {
         mech,
@@ -112,11 +120,11 @@ pub fn guard<S: Source, K: Sink, M: Mechanism, D: Disk>(
 // The mechanism and the disk of a session that is over.
 fn ended<M: Mechanism, D: Disk>(session: Session<M, D>) -> (M, D)
     ensures recorded { (J : List Rec) → MayLeave (D.held result.1) (D.images result.1) J → IsRecorded session.guard.state.key session.guard.state.units J session.guard.state.motions }
-    ensures booted { (p : Places) → session.guard.state.in_doubt ≢ Some (Boot p) }
     ensures stored { IsStored (D.held result.1) (D.images result.1) session.guard.state.records session.guard.state.in_doubt }
     ensures motions { M.motions result.0 ≡ session.guard.state.motions }
     ensures places { M.places result.0 ≡ session.guard.state.places }
     ensures faults { M.faults result.0 ≡ session.guard.state.faults }
+    ensures told { is_some (D.held result.1) ≡ session.guard.state.disk_told }
     ensures disk { result.1 ≡ session.guard.disk }
 {
     let Session {
@@ -148,6 +156,7 @@ fn serve<S: Source, K: Sink, M: Mechanism, D: Disk>(
     ensures quota { result ≡ 10 → GaveAll (S.left source.old) (S.left source.new) }
     ensures read { result ≡ 3 → Rose (S.faults source.old) (S.faults source.new) }
     ensures write { result ≡ 5 → Rose (K.faults sink.old) (K.faults sink.new) }
+    ensures statuses { IsStatus result }
 {
     let mut lines = Lines::new(session.alloc);
     for _ in 0..u64::MAX {

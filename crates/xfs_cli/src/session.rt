@@ -6,7 +6,7 @@ ghost use Rattle.xfs_guard.specs.declared.open.Open.TheVariants.{No};
 ghost use Rattle.xfs_guard.specs.Continues.{Continues};
 ghost use Rattle.xfs_mech.specs.Mechanism.{CanLoad};
 ghost use Rattle.xfs_guard.specs.Fits.{unfit};
-ghost use Rattle.xfs_guard.specs.Nonce.{live_nonce};
+ghost use Rattle.xfs_guard.specs.Nonce.{live_nonce, live_in};
 ghost use Rattle.xfs_guard.specs.Refusals.{Answers, IsAsk, order_refusal};
 ghost use Rattle.xfs_guard.specs.declared.deny.Deny.TheVariants.{Memory as NoMemory};
 ghost use Rattle.xfs_mix.specs.Asked.{is_none};
@@ -24,7 +24,7 @@ use crate::text::{joined, outcome_text, show_text};
 use std::alloc::{AllocError, AllocFailed, Global};
 use xfs_base::{Bytes, Counts, Memory};
 use xfs_disk::Disk;
-use xfs_guard::{Ask, Deny, Fit, Guard, Permit};
+use xfs_guard::{Ask, Deny, Guard, Permit};
 use xfs_mech::{Mechanism, Outcome};
 use xfs_mix::check;
 use xfs_script::{Given, GuardLine};
@@ -119,7 +119,7 @@ impl<M: Mechanism, D: Disk> Session<M, D> {
     // A genuine token for the live nonce, which is then the last one.
     fn mint(&mut self, amounts: &Amounts) -> Result<Vec<u8>, Memory>
         requires key { self.old.key ≡ self.old.guard.state.key }
-        ensures answer { IfOk result (λ text. Mints (live_nonce self.old.guard.state.records) (seen D.faults self.old.guard self.old.last) amounts.now text.items (seen D.faults self.new.guard self.new.last)) }
+        ensures answer { IfOk result (λ text. Mints (live_in self.old.guard.state.boot_missing self.old.guard.state.records) (seen D.faults self.old.guard self.old.last) amounts.now text.items (seen D.faults self.new.guard self.new.last)) }
         ensures same { self.new.guard ≡ self.old.guard }
         ensures key { self.new.key ≡ self.old.key }
     {
@@ -166,7 +166,7 @@ impl<M: Mechanism, D: Disk> Session<M, D> {
         if !self.guard.room(unit, count) {
             return refusal_text(self.alloc, &Refusal::StorageFull);
         }
-        if let Some(deny) = unfit(&self.guard) {
+        if let Some(deny) = self.guard.unfit() {
             return refusal_text(self.alloc, &Refusal::Deny(deny));
         }
         self.load(unit, count)
@@ -245,7 +245,7 @@ impl<M: Mechanism, D: Disk> Session<M, D> {
         ensures same { IfErr result (λ r. r ≢ Denied Deny.Disk → self.new.guard.state ≡ self.old.guard.state) }
         ensures key { self.new.key ≡ self.old.key }
     {
-        if let Some(deny) = unfit(&self.guard) {
+        if let Some(deny) = self.guard.unfit() {
             return Err(Refusal::Deny(deny));
         }
         let Some(text) = given(&self.last, token) else {
@@ -318,16 +318,5 @@ fn given<'a>(last: &'a Option<Bytes>, token: &'a Given) -> Option<&'a [u8]>
             Some(text) => Some(text.list()),
             None => None,
         },
-    }
-}
-
-// What a line that writes is refused for first.
-fn unfit<M: Mechanism, D: Disk>(guard: &Guard<M, D>) -> Option<Deny>
-    ensures { result ≡ unfit guard.now.state }
-{
-    match guard.fit() {
-        Fit::Ready => None,
-        Fit::Shut => Some(Deny::Shut),
-        Fit::Full => Some(Deny::Full),
     }
 }

@@ -1,8 +1,7 @@
 -- What a guard keeps when the mechanism reports a taking or a loading.
-use Rattle.std.proofs.Common.{◌≡◌, ◌≢◌, ℕ, ◌≤◌, ◌<◌, Bool, true, false, List, [], ◌∷◌, ◌++◌, length, None, Some, refl, sym, arith}
+use Rattle.std.proofs.Common.{◌≡◌, ◌≢◌, ℕ, ◌≤◌, ◌<◌, Bool, true, false, List, [], ◌∷◌, ◌++◌, length, None, Some, refl, arith}
 use Rattle.std.specs.Prelude.{⊤}
 use Rattle.std.specs.declared.option.Option.{Option}
-use Rattle.std.proofs.lemmas.List.{append-nil}
 use Rattle.std.proofs.lemmas.List.Elements.{Contains-append_left}
 use Rattle.xfs_base.specs.Causes.{IfTold}
 use Rattle.xfs_base.specs.Counts.{at, LiesIn}
@@ -18,8 +17,6 @@ use Rattle.xfs_mech.specs.Motions.{NumberIs, PlacesOf}
 use Rattle.xfs_mech.specs.Mechanism.{Grows, Reports, source_of}
 use Rattle.xfs_mech.proofs.MotionLaws.{all-append}
 use Rattle.xfs_journal.specs.declared.record.Rec.{Rec}
-use Rattle.xfs_journal.specs.declared.record.Rec.TheVariants.{Boot}
-use Rattle.xfs_journal.proofs.JournalLaws.{record_at-within}
 use Rattle.xfs_guard.specs.declared.open.Open.{Open}
 use Rattle.xfs_guard.specs.declared.open.Open.TheVariants.{No, Written, Acted}
 use Rattle.xfs_guard.specs.View.{View}
@@ -31,7 +28,9 @@ use Rattle.xfs_guard.specs.Orders.{kind_unacted}
 use Rattle.xfs_guard.specs.Kept.{HasRoom, HasLimits}
 use Rattle.xfs_guard.specs.Sound.{Stands, HasActed, Ties, where_told, IsSound}
 use Rattle.xfs_guard.specs.Continues.{Leads, Continues}
-use Rattle.xfs_guard.proofs.FollowsLaws.{Follows-same}
+use Rattle.xfs_guard.proofs.CrashedLaws.{begins-same}
+use Rattle.xfs_mech.proofs.MoveLaws.{Moves-same, Moves-entry}
+use Rattle.xfs_guard.proofs.ContinueLaws.{Led-same, Led-motion}
 use Rattle.xfs_guard.proofs.SoundLaws.{grows-told}
 use Rattle.xfs_guard.proofs.WithinLaws.{Within-quiet, shown-motion}
 
@@ -179,29 +178,22 @@ HasRoom-report o e m d failed was now P Q before spare left room h more r = go o
     go (Written k c) le h = (omega (arith, h.0), h.1)
     go (Acted k m d failed) le h = h
 
--- what follows after a report
+-- what follows after a report, also behind a record in doubt
 pub Continues-report : (v : View) (e : Motion) (m d : Counts) (failed : Bool) (now : Option (List Motion)) (Q : Places) (f spare left : ℕ) → IsReport e
     → Reports e m d failed v.motions now v.places Q spare left → Continues v (reported_view v now Q f)
-Continues-report v e m d true now Q f spare left is r = let none = r.nothing refl in rw (none.0, none.1) (record { leads = same v.motions; key = refl; seed = refl; units = refl })
+Continues-report v e m d true now Q f spare left is r = let none = r.nothing refl in rw (none.0, none.1) (record { leads = same v.motions; key = refl; seed = refl; units = refl; moves = Moves-same v.motions v.places; disk_told = refl; grew = begins-same v.records; left = λ J was. was })
   where
     same : (told : Option (List Motion)) → Leads v (reported_view v v.motions v.places f) told told
     same None = tt
-    same (Some L) = λ known. record { follows = Follows-same v.records L v.places; known = known }
-Continues-report v e m d false now Q f spare left is r = record { leads = told v.motions (r.grown refl); key = refl; seed = refl; units = refl }
+    same (Some L) = λ J possible. record { from = J; possible = possible; led = Led-same J L v.places }
+Continues-report v e m d false now Q f spare left is r = record { leads = told v.motions (r.grown refl); key = refl; seed = refl; units = refl; moves = Moves-entry e v.motions now v.places Q (r.grown refl) (r.places refl); disk_told = refl; grew = begins-same v.records; left = λ J was. was }
   where
     told : (was : Option (List Motion)) → Grows was e now → Leads v (reported_view v now Q f) was now
     told None g = rw g tt
-    told (Some L) g = rw g (λ known. record {
-      follows = record {
-        recs = [];
-        moves = e ∷ [];
-        grew = sym (append-nil v.records);
-        moved = refl;
-        reached = r.places refl;
-        later = (number-report (λ n. length v.records ≤ n) e is, tt);
-        boots = λ n p lt b. let w = record_at-within v.records n (Boot p) b in absurd (omega arith);
-      };
-      known = all-append (NumberIs (λ n. n ≤ length v.records)) L (e ∷ []) known (number-report (λ n. n ≤ length v.records) e is, tt);
+    told (Some L) g = rw g (λ J possible. record {
+      from = J;
+      possible = possible;
+      led = Led-motion J L e v.places Q (number-report (λ n. n ≤ length J) e is) (number-report (λ n. length J ≤ n) e is) (r.places refl);
     })
 
 -- a taking leaves what an order takes, where that is no retract
@@ -218,11 +210,9 @@ loaded-leaves o unit count P Q places Present is u = omega (arith, places.transp
 loaded-leaves o unit count P Q places Reject is u = omega (arith, places.transport u)
 loaded-leaves o unit count P Q places Retract is u = omega (arith, places.outlet u)
 
--- a list of records agrees with what the mechanism did, also after a report
-pub IsRecorded-report : (key : List ℕ) (u : List NoteKind) (J : List Rec) (e : Motion) (m d : Counts) (failed : Bool) (was now : Option (List Motion)) (P Q : Places) (spare left : ℕ) → IsReport e
-    → Reports e m d failed was now P Q spare left → IsRecorded key u J was → IsRecorded key u J now
-IsRecorded-report key u J e m d true was now P Q spare left is r h = let none = r.nothing refl in rw none.0 h
-IsRecorded-report key u J e m d false was now P Q spare left is r h = record { numbered = h.numbered; agrees = agrees was h.agrees (r.grown refl); within = within was h.within (r.grown refl) }
+-- a list of records agrees with what the mechanism did, also with an entry more that no order asked for
+pub IsRecorded-entry : (key : List ℕ) (u : List NoteKind) (J : List Rec) (e : Motion) (was now : Option (List Motion)) → IsReport e → Grows was e now → IsRecorded key u J was → IsRecorded key u J now
+IsRecorded-entry key u J e was now is g h = record { numbered = h.numbered; agrees = agrees was h.agrees g; within = within was h.within g }
   where
     agrees : (was : Option (List Motion)) → IfTold was (Agrees J) → Grows was e now → IfTold now (Agrees J)
     agrees None a g = rw g tt
@@ -231,6 +221,12 @@ IsRecorded-report key u J e m d false was now P Q spare left is r h = record { n
     within : (was : Option (List Motion)) → IfTold was (Within key u J) → Grows was e now → IfTold now (Within key u J)
     within None a g = rw g tt
     within (Some L) a g = rw g (Within-quiet key u J L e (λ p cur. shown_by-report u J p cur e is) (within-report key u J (L ++ e ∷ []) e is) a)
+
+-- so it does after a report
+pub IsRecorded-report : (key : List ℕ) (u : List NoteKind) (J : List Rec) (e : Motion) (m d : Counts) (failed : Bool) (was now : Option (List Motion)) (P Q : Places) (spare left : ℕ) → IsReport e
+    → Reports e m d failed was now P Q spare left → IsRecorded key u J was → IsRecorded key u J now
+IsRecorded-report key u J e m d true was now P Q spare left is r h = let none = r.nothing refl in rw none.0 h
+IsRecorded-report key u J e m d false was now P Q spare left is r h = IsRecorded-entry key u J e was now is (r.grown refl) h
 
 -- what the limits leave an open order stays
 pub HasLimits-report : (o : Open) (v : View) (now : Option (List Motion)) (Q : Places) (f : ℕ) → HasLimits o v → HasLimits o (reported_view v now Q f)

@@ -1,9 +1,12 @@
-use Rattle.std.proofs.Common.{inl, inr, refl, ap}
+use Rattle.std.proofs.Common.{None, inl, inr, refl, ap}
 use Rattle.xfs_guard.specs.View.{View}
 use Rattle.xfs_cli.proofs.RunLaws.{recorded-start, upholds-same, upholds-refused, upholds-run, ends-unread, due-full, journal-run, fits-run}
 use Rattle.xfs_cli.specs.GuardLines.{IsLine}
 use Rattle.xfs_cli.specs.VerbAnswers.{AnswersGuard}
 use Rattle.xfs_cli.proofs.GuardRunLaws.{all-ends, front-ends, until-stops, stops-at, ends-at, ends-within, told-more, told-any, from-boot, refused-boot}
+use Rattle.xfs_cli.proofs.EndLaws.{finishes, causes-served, causes-refused}
+use Rattle.xfs_cli.proofs.NumberLaws.{newer-run}
+use Rattle.xfs_cli.proofs.UnreadLaws.{unwritten-quiet}
 use Rattle.xfs_cli.proofs.guard_command.guard.Goals as goal
 
 pub returns-then-not-is_word-clause-upholds : goal.returns-then-not-is_word-clause-upholds
@@ -13,7 +16,7 @@ pub returns-in-Ok-clause-upholds : goal.returns-in-Ok-clause-upholds
 returns-in-Ok-clause-upholds g c =
     let ok = c.in-Ok.ensures.ok in
     let continues = rw ok.2 at c.serve-status.ensures.continues in
-    upholds-run _ _ ok.0 _ _ _ _ _ _ refl ok.1 c.requires.starts (g.met.D.Disk.as_read c.args.core.disk) continues c.ended-mech.ensures.booted c.ended-mech.ensures.stored
+    upholds-run _ _ ok.0 _ _ _ _ _ _ refl refl ok.1 c.requires.starts (g.met.D.Disk.as_read c.args.core.disk) continues c.ended-mech.ensures.stored
     c.ended-mech.ensures.recorded c.ended-mech.ensures.motions c.ended-mech.ensures.places
 
 pub returns-in-Err-clause-upholds : goal.returns-in-Err-clause-upholds
@@ -68,3 +71,22 @@ returns-in-Ok-clause-unwritten g c = journal-run c.in-Ok.ensures.ok.0 _ _ c.in-O
 
 pub returns-in-Ok-clause-unmoved : goal.returns-in-Ok-clause-unmoved
 returns-in-Ok-clause-unmoved g c = journal-run c.in-Ok.ensures.ok.0 _ _ c.in-Ok.ensures.ok.1
+
+pub returns-in-Ok-clause-newer : goal.returns-in-Ok-clause-newer
+returns-in-Ok-clause-newer g c =
+    let ok = c.in-Ok.ensures.ok in
+    let continues = rw ok.2 at c.serve-status.ensures.continues in
+    newer-run _ _ ok.0 _ _ _ refl refl ok.1 c.requires.starts (g.met.D.Disk.as_read c.args.core.disk) continues c.ended-mech.ensures.motions
+
+pub returns-in-Ok-clause-finishes : goal.returns-in-Ok-clause-finishes
+returns-in-Ok-clause-finishes g c =
+    let end = c.serve-status.ensures in
+    λ guard. finishes _ _ (g.S.Source.left c.serve-status.new.source) _ _ _ _ _ _ (causes-served _ _ _ _ _ _ _ _ _ end.statuses end.usage end.booted.0 end.booted.1 end.booted.2 end.read end.not_a_line end.write end.quota)
+
+pub returns-in-Err-clause-finishes : goal.returns-in-Err-clause-finishes
+returns-in-Err-clause-finishes g c =
+    let why = c.in-Err.ensures in
+    λ guard. finishes _ _ None _ _ _ _ _ _ (causes-refused _ _ _ _ _ _ _ _ _ _ c.unbooted.ensures.status why.not_journal why.disk why.full)
+
+pub returns-in-Err-clause-unwritten : goal.returns-in-Err-clause-unwritten
+returns-in-Err-clause-unwritten g c = unwritten-quiet g.D.Disk.held g.D.Disk.images g.D.Disk.moment g.D.Disk.images_since g.D.Disk.faults c.args.core.disk c.in-Err.field-0.disk c.in-Err.ensures.unlisted

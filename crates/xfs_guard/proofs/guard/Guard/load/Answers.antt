@@ -1,19 +1,20 @@
-use Rattle.std.proofs.Common.{◌∙◌, refl}
+use Rattle.std.proofs.Common.{◌≡◌, ◌∙◌, refl}
 use Rattle.xfs_mech.specs.declared.motion.Motion.TheVariants.{Loaded}
-use Rattle.xfs_guard.proofs.ReportLaws.{IsSound-report, IsRecorded-report, HasRoom-report, HasLimits-report, Continues-report, loaded-leaves}
+use Rattle.xfs_guard.proofs.ReportLaws.{IsSound-report, IsRecorded-entry, IsRecorded-report, HasRoom-report, HasLimits-report, Continues-report, loaded-leaves}
 use Rattle.xfs_guard.proofs.ContinueLaws.{Continues-same}
+use Rattle.xfs_guard.proofs.LeftLaws.{left-through}
 use Rattle.xfs_guard.proofs.guard.Guard.load.Goals as goal
 
 pub invariant_of-self-2 : goal.invariant_of-self-2
 invariant_of-self-2 g c =
     let reported = rw (c.ready.ensures.motions, c.ready.ensures.places) at c.load.ensures.reported in
     record {
-      sound = λ still. IsSound-report _ (Loaded c.args.unit c.args.count) c.load.result.moved c.load.result.diverted c.load.result.failed
+      sound = λ still booted. IsSound-report _ (Loaded c.args.unit c.args.count) c.load.result.moved c.load.result.diverted c.load.result.failed
           (g.M.Mechanism.motions c.load.new.self) (g.M.Mechanism.places c.load.new.self) (g.M.Mechanism.faults c.load.new.self)
-          (g.M.Mechanism.room c.ready.new.self) (g.M.Mechanism.room c.load.new.self) (c.self.invariant.sound still) tt reported (loaded-leaves c.self.inside.open_order c.args.unit c.args.count _ _);
+          (g.M.Mechanism.room c.ready.new.self) (g.M.Mechanism.room c.load.new.self) (c.self.invariant.sound still booted) tt reported (loaded-leaves c.self.inside.open_order c.args.unit c.args.count _ _);
       clean = c.self.invariant.clean;
       closed = c.self.invariant.closed;
-      booted = c.self.invariant.booted;
+      missing = c.self.invariant.missing;
       recorded = λ told J p. IsRecorded-report _ _ J (Loaded c.args.unit c.args.count) c.load.result.moved c.load.result.diverted c.load.result.failed _ _ _ _ _ _ tt reported (c.self.invariant.recorded told J p);
       limits = HasLimits-report c.self.inside.open_order _ _ _ _ c.self.invariant.limits;
       room = HasRoom-report c.self.inside.open_order (Loaded c.args.unit c.args.count) c.load.result.moved c.load.result.diverted c.load.result.failed
@@ -35,3 +36,15 @@ returns-clause-continues g c =
 
 pub returns-in_err-ready-clause-continues : goal.returns-in_err-ready-clause-continues
 returns-in_err-ready-clause-continues g c = rw (← c.self.view_is, c.ready.ensures.motions, c.ready.ensures.places, c.ready.ensures.faults) (Continues-same _)
+
+pub returns-in_err-ready-clause-inside : goal.returns-in_err-ready-clause-inside
+returns-in_err-ready-clause-inside g c =
+    rw (← c.self.view_is) (left-through g.D.Disk.held g.D.Disk.images g.D.Disk.moment g.D.Disk.images_since c.self.inside.ledger.disk _ (λ entry. entry ≡ Loaded c.args.unit c.args.count) (g.met.D.Disk.only_now c.self.inside.ledger.disk) c.shut-possible.ensures.possible
+    c.self.invariant.recorded
+    (λ told J p entry now may grows. IsRecorded-entry _ _ J (Loaded c.args.unit c.args.count) _ now tt (rw may at grows) (c.self.invariant.recorded told J p)))
+
+pub returns-clause-inside : goal.returns-clause-inside
+returns-clause-inside g c =
+    rw (← c.self.view_is) (left-through g.D.Disk.held g.D.Disk.images g.D.Disk.moment g.D.Disk.images_since c.self.inside.ledger.disk _ (λ entry. entry ≡ Loaded c.args.unit c.args.count) (g.met.D.Disk.only_now c.self.inside.ledger.disk) c.shut-possible.ensures.possible
+    c.self.invariant.recorded
+    (λ told J p entry now may grows. IsRecorded-entry _ _ J (Loaded c.args.unit c.args.count) _ now tt (rw may at grows) (c.self.invariant.recorded told J p)))
