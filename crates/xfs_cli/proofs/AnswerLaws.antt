@@ -81,25 +81,25 @@ answered-line A start state next r s (Some text) y z old new newer line h reads 
     }
 
 -- the lines are all answered
-pub answered-all : {S : Type 0} (A : S → List ℕ → List (List ℕ) → S → Type 0) (start state : S) (r s : Reading) (x y z old new : Option (List ℕ))
-    → IfTold x (HasAnswered A start state r y old new) → ReadsLine r s y z (Ok None) → IfTold x (WritesAll A start old new)
-answered-all A start state r s None y z old new h reads = tt
-answered-all A start state r s (Some text) y z old new h reads =
+pub answered-all : {S : Type 0} (A : S → List ℕ → List (List ℕ) → S → Type 0) (E : S → Type 0) (start state : S) (r s : Reading) (x y z old new : Option (List ℕ))
+    → E state → IfTold x (HasAnswered A start state r y old new) → ReadsLine r s y z (Ok None) → IfTold x (WritesAll A E start old new)
+answered-all A E start state r s None y z old new ends h reads = tt
+answered-all A E start state r s (Some text) y z old new ends h reads =
     let a = ahead-some r y (behind r.handed text) h.ahead in
     record {
       many = r.handed;
       output = h.output;
-      answers = record { last = state; each = h.each };
+      answers = record { last = state; each = h.each; ends = ends };
       whole = sym a.2 ∙ answer-none r a.0 (told _ y a.0 a.1 reads.answer);
       written = h.written;
     }
 
 -- a line whose answer the sink took a front of
-pub answered-front : {S : Type 0} (A : S → List ℕ → List (List ℕ) → S → Type 0) (start state next : S) (r s : Reading) (x y z old new newer : Option (List ℕ)) (line : Line)
-    → IfTold x (HasAnswered A start state r y old new) → ReadsLine r s y z (Ok (Some line)) → SaysFront A state line.text next new newer
-    → IfTold x (WritesFront A start old newer)
-answered-front A start state next r s None y z old new newer line h reads says = tt
-answered-front A start state next r s (Some text) y z old new newer line h reads says =
+pub answered-front : {S : Type 0} (A : S → List ℕ → List (List ℕ) → S → Type 0) (E : S → Type 0) (start state next : S) (r s : Reading) (x y z old new newer : Option (List ℕ)) (line : Line)
+    → E next → IfTold x (HasAnswered A start state r y old new) → ReadsLine r s y z (Ok (Some line)) → SaysFront A state line.text next new newer
+    → IfTold x (WritesFront A E start old newer)
+answered-front A E start state next r s None y z old new newer line ends h reads says = tt
+answered-front A E start state next r s (Some text) y z old new newer line ends h reads says =
     let a = ahead-some r y (behind r.handed text) h.ahead in
     let first = answer-line r a.0 line (told _ y a.0 a.1 reads.answer) in
     let here : A state (first_line (behind r.handed text)) says.output next = rw (← a.2, ← first) says.answered in
@@ -107,7 +107,7 @@ answered-front A start state next r s (Some text) y z old new newer line h reads
     record {
       many = suc r.handed;
       output = h.output ++ says.output;
-      answers = record { last = next; each = pushed };
+      answers = record { last = next; each = pushed; ends = ends };
       written = record {
         many = length (lines_text h.output) + says.written.many;
         taken = rw (lines_text-append h.output says.output, take-append-add (lines_text h.output) (lines_text says.output) says.written.many)
@@ -116,52 +116,53 @@ answered-front A start state next r s (Some text) y z old new newer line h reads
     }
 
 -- the run ends between two lines, and the sink took a front of the last line
-until-status : {S : Type 0} (IsLine : List ℕ → Type 0) (A : S → List ℕ → List (List ℕ) → S → Type 0) (start state : S) (status : ℕ) (r : Reading) (y z old new newer : Option (List ℕ)) (text : List ℕ)
-    → HasAnswered A start state r y old new text → (status ≡ 4 → ¬ (IsLine (first_line (behind r.handed text)))) → (status ≡ 10 → IfTold z (NoLineEnds r.handed text)) → TookFront new newer (lines_text (last_line status r.handed))
-    → WritesUntil IsLine A start status z old newer text
-until-status IsLine A start state status r y z old new newer text h none limit front = record {
+until-status : {S : Type 0} (IsLine : List ℕ → Type 0) (A : S → List ℕ → List (List ℕ) → S → Type 0) (E : ℕ → List ℕ → S → Type 0) (start state : S) (status at : ℕ) (r : Reading) (y z old new newer : Option (List ℕ)) (text : List ℕ)
+    → E status (first_line (behind r.handed text)) state → HasAnswered A start state r y old new text → (status ≡ 4 → ¬ (IsLine (first_line (behind r.handed text)))) → (status ≡ 10 → IfTold z (NoLineEnds r.handed text)) → TookFront new newer (lines_text (last_line status r.handed at))
+    → WritesUntil IsLine A E start status z old newer text
+until-status IsLine A E start state status at r y z old new newer text ends h none limit front = record {
   many = r.handed;
   output = h.output;
-  answers = record { last = state; each = h.each };
+  answers = record { last = state; each = h.each; ends = ends };
   none = none;
   limit = limit;
+  at = at;
   front = front.many;
-  written = Appends-both old new newer (lines_text h.output) (take front.many (lines_text (last_line status r.handed))) h.written front.taken;
+  written = Appends-both old new newer (lines_text h.output) (take front.many (lines_text (last_line status r.handed at))) h.written front.taken;
 }
 
 -- a line that is none
-pub answered-no_line : {S : Type 0} (IsLine : List ℕ → Type 0) (A : S → List ℕ → List (List ℕ) → S → Type 0) (start state : S) (status number : ℕ) (r s : Reading) (x y z old new newer : Option (List ℕ)) (line : Line)
-    → IfTold x (HasAnswered A start state r y old new) → ReadsLine r s y z (Ok (Some line)) → ¬ (IsLine line.text) → status ≡ 4 → number ≡ line.number
-    → TookFront new newer (lines_text (no_line_text number ∷ [])) → IfTold x (WritesUntil IsLine A start status z old newer)
-answered-no_line IsLine A start state status number r s None y z old new newer line h reads is four same front = tt
-answered-no_line IsLine A start state status number r s (Some text) y z old new newer line h reads is four same front =
+pub answered-no_line : {S : Type 0} (IsLine : List ℕ → Type 0) (A : S → List ℕ → List (List ℕ) → S → Type 0) (E : ℕ → List ℕ → S → Type 0) (start state : S) (status number : ℕ) (r s : Reading) (x y z old new newer : Option (List ℕ)) (line : Line)
+    → ((l : List ℕ) → E status l state) → IfTold x (HasAnswered A start state r y old new) → ReadsLine r s y z (Ok (Some line)) → ¬ (IsLine line.text) → status ≡ 4 → number ≡ line.number
+    → TookFront new newer (lines_text (no_line_text number ∷ [])) → IfTold x (WritesUntil IsLine A E start status z old newer)
+answered-no_line IsLine A E start state status number r s None y z old new newer line ends h reads is four same front = tt
+answered-no_line IsLine A E start state status number r s (Some text) y z old new newer line ends h reads is four same front =
     let a = ahead-some r y (behind r.handed text) h.ahead in
     let first = answer-line r a.0 line (told _ y a.0 a.1 reads.answer) in
     let numbered : number ≡ r.handed + 1 = same ∙ reads.number.0 in
-    until-status IsLine A start state status r y z old new newer text h (λ four. rw (← a.2, ← first) is) (λ ten. absurd (omega (arith, four, ten))) (rw (four, ← numbered) front)
+    until-status IsLine A E start state status 0 r y z old new newer text (ends (first_line (behind r.handed text))) h (λ four. rw (← a.2, ← first) is) (λ ten. absurd (omega (arith, four, ten))) (rw (four, ← numbered) front)
 
 -- want of memory at a line
-pub answered-memory : {S : Type 0} (IsLine : List ℕ → Type 0) (A : S → List ℕ → List (List ℕ) → S → Type 0) (start state : S) (r : Reading) (x y z old new newer : Option (List ℕ))
-    → IfTold x (HasAnswered A start state r y old new) → newer ≡ new → IfTold x (WritesUntil IsLine A start 8 z old newer)
-answered-memory IsLine A start state r None y z old new newer h same = tt
-answered-memory IsLine A start state r (Some text) y z old new newer h same =
-    until-status IsLine A start state 8 r y z old new newer text h (λ four. absurd (omega (arith, four))) (λ ten. absurd (omega (arith, ten))) (record { many = 0; taken = rw same (Appends-none new) })
+pub answered-memory : {S : Type 0} (IsLine : List ℕ → Type 0) (A : S → List ℕ → List (List ℕ) → S → Type 0) (E : ℕ → List ℕ → S → Type 0) (start state : S) (r : Reading) (x y z old new newer : Option (List ℕ))
+    → ((l : List ℕ) → E 8 l state) → IfTold x (HasAnswered A start state r y old new) → newer ≡ new → IfTold x (WritesUntil IsLine A E start 8 z old newer)
+answered-memory IsLine A E start state r None y z old new newer ends h same = tt
+answered-memory IsLine A E start state r (Some text) y z old new newer ends h same =
+    until-status IsLine A E start state 8 0 r y z old new newer text (ends (first_line (behind r.handed text))) h (λ four. absurd (omega (arith, four))) (λ ten. absurd (omega (arith, ten))) (record { many = 0; taken = rw same (Appends-none new) })
 
 -- a fault of the input
-pub answered-fault : {S : Type 0} (IsLine : List ℕ → Type 0) (A : S → List ℕ → List (List ℕ) → S → Type 0) (start state : S) (status : ℕ) (r s : Reading) (x y z old new newer : Option (List ℕ)) (fault : LineFault)
+pub answered-fault : {S : Type 0} (IsLine : List ℕ → Type 0) (A : S → List ℕ → List (List ℕ) → S → Type 0) (E : ℕ → List ℕ → S → Type 0) (start state : S) (status : ℕ) (r s : Reading) (x y z old new newer : Option (List ℕ)) (fault : LineFault)
     → ((l : List ℕ) → IsLine l → length l ≤ 70000)
-    → IfTold x (HasAnswered A start state r y old new) → ReadsLine r s y z (Err fault) → status ≡ status_of fault
-    → TookFront new newer (lines_text (fault_line fault)) → IfTold x (WritesUntil IsLine A start status z old newer)
-answered-fault IsLine A start state status r s None y z old new newer fault short h reads is front = tt
-answered-fault IsLine A start state status r s (Some text) y z old new newer Read short h reads is front =
-    rw is (until-status IsLine A start state 3 r y z old new newer text h (λ four. absurd (omega (arith, four))) (λ ten. absurd (omega (arith, ten))) front)
-answered-fault IsLine A start state status r s (Some text) y z old new newer Quota short h reads is front =
-    rw is (until-status IsLine A start state 10 r y z old new newer text h (λ four. absurd (omega (arith, four))) (λ ten. read-limit r s y z r.handed text h.ahead reads) front)
-answered-fault IsLine A start state status r s (Some text) y z old new newer Memory short h reads is front =
-    rw is (until-status IsLine A start state 8 r y z old new newer text h (λ four. absurd (omega (arith, four))) (λ ten. absurd (omega (arith, ten))) front)
-answered-fault IsLine A start state status r s (Some text) y z old new newer (TooLong n) short h reads is front =
+    → ((l : List ℕ) → E status l state) → IfTold x (HasAnswered A start state r y old new) → ReadsLine r s y z (Err fault) → status ≡ status_of fault
+    → TookFront new newer (lines_text (fault_line fault)) → IfTold x (WritesUntil IsLine A E start status z old newer)
+answered-fault IsLine A E start state status r s None y z old new newer fault short ends h reads is front = tt
+answered-fault IsLine A E start state status r s (Some text) y z old new newer Read short ends h reads is front =
+    rw is (until-status IsLine A E start state 3 0 r y z old new newer text (rw is at (ends (first_line (behind r.handed text)))) h (λ four. absurd (omega (arith, four))) (λ ten. absurd (omega (arith, ten))) front)
+answered-fault IsLine A E start state status r s (Some text) y z old new newer Quota short ends h reads is front =
+    rw is (until-status IsLine A E start state 10 0 r y z old new newer text (rw is at (ends (first_line (behind r.handed text)))) h (λ four. absurd (omega (arith, four))) (λ ten. read-limit r s y z r.handed text h.ahead reads) front)
+answered-fault IsLine A E start state status r s (Some text) y z old new newer Memory short ends h reads is front =
+    rw is (until-status IsLine A E start state 8 0 r y z old new newer text (rw is at (ends (first_line (behind r.handed text)))) h (λ four. absurd (omega (arith, four))) (λ ten. absurd (omega (arith, ten))) front)
+answered-fault IsLine A E start state status r s (Some text) y z old new newer (TooLong n) short ends h reads is front =
     let a = ahead-some r y (behind r.handed text) h.ahead in
     let long = answer-long r a.0 n (told _ y a.0 a.1 reads.answer) in
     let number : n ≡ r.handed + 1 = reads.number in
     let none : ¬ (IsLine (first_line (behind r.handed text))) = λ line. (let l = rw a.2 at long in let e = short _ line in omega (arith, l, e)) in
-    rw is (until-status IsLine A start state 4 r y z old new newer text h (λ four. none) (λ ten. absurd (omega (arith, ten))) (rw (← number) front))
+    rw is (until-status IsLine A E start state 4 0 r y z old new newer text (rw is at (ends (first_line (behind r.handed text)))) h (λ four. none) (λ ten. absurd (omega (arith, ten))) (rw (← number) front))

@@ -1,11 +1,13 @@
 -- What a command writes: the answer to one line of its input after another, each line of the output ended by a line feed.
-use Rattle.std.specs.Prelude.{◌≡◌, ℕ, zero, suc, ◌+◌, ◌==◌, false, List, [], ◌∷◌, ◌++◌, take, codes, decimal, if◌then◌else◌, None, Some}
+use Rattle.std.specs.Prelude.{◌≡◌, ℕ, zero, suc, ◌+◌, ◌==◌, false, List, [], ◌∷◌, ◌++◌, take, codes, decimal, if◌then◌else◌, None, Some, ⊤}
 use Rattle.std.specs.declared.option.Option.{Option}
 use Rattle.std.specs.Io.KnownBytes.{Appends}
 use Rattle.xfs_base.specs.Causes.{IfTold, TookFront}
 use Rattle.xfs_script.specs.Lines.{has_line_feed, first_line}
 use Rattle.xfs_script.specs.declared.line.LineFault.{LineFault}
 use Rattle.xfs_script.specs.declared.line.LineFault.TheVariants.{Read, Quota, TooLong, Memory}
+use Rattle.xfs_guard.specs.declared.fail.BootFault.TheVariants as Boot
+use Rattle.xfs_cli.specs.BootLines.{boot_line}
 use Rattle.xfs_cli.specs.GuardLines.{behind}
 
 -- the bytes of lines, a line feed behind each
@@ -37,16 +39,25 @@ abbrev pub AnswersEach : {S : Type 0} → (S → List ℕ → List (List ℕ) �
 AnswersEach Answers state [] output last = (output ≡ []) × (last ≡ state)
 AnswersEach Answers state (line ∷ lines) output last = AnswersThen Answers (λ next later. AnswersEach Answers next lines later last) state line output
 
--- the first lines of a text are answered by the lines of this output
-pub record AnswersFirst {S : Type 0} (Answers : S → List ℕ → List (List ℕ) → S → Type 0) (start : S) (many : ℕ) (text : List ℕ) (output : List (List ℕ)) : Type 0 where
+-- nothing is said of the last state
+abbrev pub Unsaid : {S : Type 0} → S → Type 0
+Unsaid last = ⊤
+
+-- nothing is said of a status, the line that it ends at and the last state
+abbrev pub AnyStop : {S : Type 0} → ℕ → List ℕ → S → Type 0
+AnyStop status line last = ⊤
+
+-- the first lines of a text are answered by the lines of this output, and this is so of the last state
+pub record AnswersFirst {S : Type 0} (Answers : S → List ℕ → List (List ℕ) → S → Type 0) (Ends : S → Type 0) (start : S) (many : ℕ) (text : List ℕ) (output : List (List ℕ)) : Type 0 where
   pub last : S
   pub each : AnswersEach Answers start (first_lines many text) output last
+  pub ends : Ends last
 
 -- the sink took the answers to all lines of the text
-pub record WritesAll {S : Type 0} (Answers : S → List ℕ → List (List ℕ) → S → Type 0) (start : S) (before after : Option (List ℕ)) (text : List ℕ) : Type 0 where
+pub record WritesAll {S : Type 0} (Answers : S → List ℕ → List (List ℕ) → S → Type 0) (Ends : S → Type 0) (start : S) (before after : Option (List ℕ)) (text : List ℕ) : Type 0 where
   pub many : ℕ
   pub output : List (List ℕ)
-  pub answers : AnswersFirst Answers start many text output
+  pub answers : AnswersFirst Answers Ends start many text output
   pub whole : behind many text ≡ []
   pub written : Appends before after (lines_text output)
 
@@ -62,11 +73,14 @@ WritesUsage before after = TookFront before after (lines_text (usage_line ∷ []
 abbrev pub no_line_text : ℕ → List ℕ
 no_line_text number = codes "line " ++ decimal number ++ codes ": not a script line"
 
--- the last line of the output under a status, behind so many lines of the input; most statuses have none
-abbrev pub last_line : ℕ → ℕ → List (List ℕ)
-last_line status many =
+-- the last line of the output under a status, behind so many lines of the input; most statuses have none, and under status 7 it tells a place of the disk's bytes
+abbrev pub last_line : ℕ → ℕ → ℕ → List (List ℕ)
+last_line status many at =
     if status == 4 then no_line_text (many + 1) ∷ []
     else if status == 10 then codes "input: too long" ∷ []
+    else if status == 6 then boot_line Boot.Disk
+    else if status == 7 then boot_line (Boot.NotJournal at)
+    else if status == 12 then boot_line Boot.Full
     else []
 
 -- the last line where the input has a fault
@@ -82,21 +96,22 @@ pub record NoLineEnds (many : ℕ) (text left : List ℕ) : Type 0 where
   pub split : behind many text ≡ front ++ left
   pub unended : has_line_feed front ≡ false
 
--- the sink took the answers to the lines before the end, and a front of the last line; the end is at status 4 a line that is none, and at status 10 that no line ends before the bytes that are left
-pub record WritesUntil {S : Type 0} (IsLine : List ℕ → Type 0) (Answers : S → List ℕ → List (List ℕ) → S → Type 0) (start : S) (status : ℕ) (left before after : Option (List ℕ)) (text : List ℕ) : Type 0 where
+-- the sink took the answers to the lines before the end, and a front of the last line; the end is at status 4 a line that is none, and at status 10 that no line ends before the bytes that are left; Stops tells of the status, the line that it ends at and the state before that
+pub record WritesUntil {S : Type 0} (IsLine : List ℕ → Type 0) (Answers : S → List ℕ → List (List ℕ) → S → Type 0) (Stops : ℕ → List ℕ → S → Type 0) (start : S) (status : ℕ) (left before after : Option (List ℕ)) (text : List ℕ) : Type 0 where
   pub many : ℕ
   pub output : List (List ℕ)
-  pub answers : AnswersFirst Answers start many text output
+  pub answers : AnswersFirst Answers (Stops status (first_line (behind many text))) start many text output
   pub none : status ≡ 4 → ¬ (IsLine (first_line (behind many text)))
   pub limit : status ≡ 10 → IfTold left (NoLineEnds many text)
+  pub at : ℕ
   pub front : ℕ
-  pub written : Appends before after (lines_text output ++ take front (lines_text (last_line status many)))
+  pub written : Appends before after (lines_text output ++ take front (lines_text (last_line status many at)))
 
 -- the sink took a front of the answers to the lines that were read
-pub record WritesFront {S : Type 0} (Answers : S → List ℕ → List (List ℕ) → S → Type 0) (start : S) (before after : Option (List ℕ)) (text : List ℕ) : Type 0 where
+pub record WritesFront {S : Type 0} (Answers : S → List ℕ → List (List ℕ) → S → Type 0) (Ends : S → Type 0) (start : S) (before after : Option (List ℕ)) (text : List ℕ) : Type 0 where
   pub many : ℕ
   pub output : List (List ℕ)
-  pub answers : AnswersFirst Answers start many text output
+  pub answers : AnswersFirst Answers Ends start many text output
   pub written : TookFront before after (lines_text output)
 
 -- one line is answered, and the sink took the answer

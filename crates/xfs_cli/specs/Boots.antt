@@ -1,5 +1,5 @@
 -- How a command ends whose boot is refused: status 6, 7, 8 or 12, and its last line.
-use Rattle.std.specs.Prelude.{◌≡◌, ◌⊎◌, ℕ, true, List, [], ◌∷◌, ◌++◌, codes, decimal}
+use Rattle.std.specs.Prelude.{◌≡◌, ◌⊎◌, ℕ, true, List, [], ◌∷◌, ◌++◌}
 use Rattle.std.specs.declared.option.Option.{Option}
 use Rattle.xfs_base.specs.Causes.{IfTold, Rose, TookFront}
 use Rattle.xfs_base.specs.declared.counts.Places.{Places}
@@ -11,24 +11,11 @@ use Rattle.xfs_journal.specs.declared.limits.Limits.{Limits}
 use Rattle.xfs_journal.specs.declared.record.Rec.{Rec}
 use Rattle.xfs_journal.specs.declared.record.Rec.TheVariants.{Boot}
 use Rattle.xfs_guard.specs.declared.fail.BootFault.{BootFault}
-use Rattle.xfs_guard.specs.declared.fail.BootFault.TheVariants.{NotJournal, Disk, Full, Memory}
+use Rattle.xfs_guard.specs.declared.fail.BootFault.TheVariants.{NotJournal, Disk, Full}
 use Rattle.xfs_cli.specs.Answers.{lines_text}
+pub use Rattle.xfs_cli.specs.BootLines.{boot_status, boot_line}
 
--- the status of a refused boot
-abbrev pub boot_status : BootFault → ℕ
-boot_status (NotJournal at) = 7
-boot_status Disk = 6
-boot_status Full = 12
-boot_status Memory = 8
-
--- its last line; want of memory has none
-abbrev pub boot_line : BootFault → List (List ℕ)
-boot_line (NotJournal at) = (codes "boot: not a journal at " ++ decimal at) ∷ []
-boot_line Disk = codes "boot: disk" ∷ []
-boot_line Full = codes "boot: journal full" ∷ []
-boot_line Memory = []
-
--- the sink took a front of that line
+-- the sink took a front of the last line
 abbrev pub WritesBoot : BootFault → Option (List ℕ) → Option (List ℕ) → Type 0
 WritesBoot fault before after = TookFront before after (lines_text (boot_line fault))
 

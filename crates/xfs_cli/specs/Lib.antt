@@ -1,9 +1,16 @@
 pub mod Answers
+pub mod BootLines
 pub mod Boots
+pub mod DispenseAnswers
 pub mod GuardAnswers
 pub mod GuardLines
+pub mod GuardRuns
+pub mod LineAnswers
+pub mod OrderAnswers
 pub mod Refused
 pub mod Run
+pub mod Seen
 pub mod Statuses
 pub mod TokenAnswers
 pub mod Upholds
+pub mod VerbAnswers

@@ -4,7 +4,10 @@ ghost use Rattle.std.specs.Prelude.{◌≡◌, ◌≢◌, ◌≤◌, length};
 ghost use Rattle.xfs_base.specs.Causes.{Rose};
 ghost use Rattle.xfs_guard.specs.declared.open.Open.TheVariants.{No};
 ghost use Rattle.xfs_guard.specs.Continues.{Continues};
+ghost use Rattle.xfs_cli.specs.Answers.{SaysAnswer, SaysFront};
 ghost use Rattle.xfs_cli.specs.GuardLines.{IsLine};
+ghost use Rattle.xfs_cli.specs.Seen.{IsLater, seen};
+ghost use Rattle.xfs_cli.specs.VerbAnswers.{AnswersGuard};
 ghost use Rattle.xfs_cli.specs.declared.answer.Turn.TheVariants.{More};
 
 use crate::say::{SayFault, say_line};
@@ -27,9 +30,16 @@ impl<M: Mechanism, D: Disk> Session<M, D> {
     /// Reads a line, and writes its answer.
     pub fn line<K: Sink>(&mut self, line: &Line, sink: &mut K) -> Turn
         requires none { self.old.guard.state.open_order ≡ No }
+        requires key { self.old.key ≡ self.old.guard.state.key }
         requires short { length line.now.text ≤ 70000 }
+        ensures more { result ≡ Turn.More → SaysAnswer AnswersGuard (seen D.faults self.old.guard self.old.last) line.now.text (seen D.faults self.new.guard self.new.last) (K.held sink.old) (K.held sink.new) }
+        ensures write { result ≡ Turn.Write → SaysFront AnswersGuard (seen D.faults self.old.guard self.old.last) line.now.text (seen D.faults self.new.guard self.new.last) (K.held sink.old) (K.held sink.new) }
         ensures line { result ≢ Turn.NotALine → result ≢ Turn.Memory → IsLine line.now.text }
         ensures no_line { result ≡ Turn.NotALine → ¬ (IsLine line.now.text) }
+        ensures same_no_line { result ≡ Turn.NotALine → sink.new ≡ sink.old }
+        ensures same_memory { result ≡ Turn.Memory → sink.new ≡ sink.old }
+        ensures faults { IsLater (seen D.faults self.old.guard self.old.last) (seen D.faults self.new.guard self.new.last) }
+        ensures key { self.new.key ≡ self.new.guard.state.key }
         ensures continues { Continues self.old.guard.state self.new.guard.state }
         ensures none { self.new.guard.state.open_order ≡ No }
         ensures later { K.faults sink.old ≤ K.faults sink.new }

@@ -1,6 +1,6 @@
 //! The command `guard`.
 
-ghost use Rattle.std.specs.Prelude.{◌≡◌, ◌≢◌, ◌↔◌, ◌≤◌, ℕ, List, Some, IsTrue, is_some, length};
+ghost use Rattle.std.specs.Prelude.{◌≡◌, ◌≢◌, ◌↔◌, ◌≤◌, ◌⊎◌, ℕ, List, Some, IsTrue, is_some, length};
 ghost use Rattle.std.specs.Io.KnownBytes.{IsAtEnd};
 ghost use Rattle.xfs_base.specs.Causes.{Rose, IfTold};
 ghost use Rattle.xfs_disk.specs.Disk.{Only};
@@ -11,7 +11,11 @@ ghost use Rattle.xfs_guard.specs.Continues.{Continues};
 ghost use Rattle.xfs_guard.specs.Recorded.{IsRecorded};
 ghost use Rattle.xfs_guard.specs.Stored.{IsStored, MayLeave};
 ghost use Rattle.xfs_cli.specs.Run.{IsGuard, AllLines, StopsAtLine, GaveAll};
-ghost use Rattle.xfs_cli.specs.Answers.{WritesUsage};
+ghost use Rattle.xfs_cli.specs.Answers.{WritesAll, WritesFront, WritesUntil, WritesUsage};
+ghost use Rattle.xfs_cli.specs.GuardLines.{IsLine};
+ghost use Rattle.xfs_cli.specs.GuardRuns.{FromBoot, IsEnd, IsStop, IsWithin, IsUnbooted, opened};
+ghost use Rattle.xfs_cli.specs.Seen.{IsLater, seen};
+ghost use Rattle.xfs_cli.specs.VerbAnswers.{AnswersGuard};
 ghost use Rattle.xfs_cli.specs.Boots.{EndsUnread, EndsFailed, EndsFull, BootPasses, IsDue, IsNoJournal, IsUnwritten};
 ghost use Rattle.xfs_cli.specs.Upholds.{Upholds};
 ghost use Rattle.xfs_cli.specs.Statuses.{IsStatus, IsUnhindered, IsFinished};
@@ -52,6 +56,14 @@ pub fn guard<S: Source, K: Sink, M: Mechanism, D: Disk>(
     ensures quota { result.status ≡ 10 → GaveAll (S.left source.old) (S.left source.new) }
     ensures read { result.status ≡ 3 → Rose (S.faults source.old) (S.faults source.new) }
     ensures write { result.status ≡ 5 → Rose (K.faults sink.old) (K.faults sink.new) }
+
+    // What is written: the answers of the lines, and at most one last line.
+    ensures answers { result.status ≡ 0 → IfTold (S.left source.old) (λ text. FromBoot (opened core.key core.seed core.units core.limits (M.motions core.mech) (M.places core.mech) (M.faults core.mech) (is_some (D.held core.disk))) (M.places core.mech) (D.held core.disk) (D.faults core.disk)
+        (λ start. WritesAll AnswersGuard (IsEnd (M.motions result.mech) (M.places result.mech) (M.faults result.mech) (D.faults result.disk)) start (K.held sink.old) (K.held sink.new) text)) }
+    ensures front { result.status ≡ 5 → IfTold (S.left source.old) (λ text. FromBoot (opened core.key core.seed core.units core.limits (M.motions core.mech) (M.places core.mech) (M.faults core.mech) (is_some (D.held core.disk))) (M.places core.mech) (D.held core.disk) (D.faults core.disk)
+        (λ start. WritesFront AnswersGuard (IsWithin (M.faults result.mech) (D.faults result.disk)) start (K.held sink.old) (K.held sink.new) text)) }
+    ensures until { result.status ≢ 0 → result.status ≢ 2 → result.status ≢ 5 → IfTold (S.left source.old) (λ text. IsUnbooted result.status (K.held sink.old) (K.held sink.new) ⊎ FromBoot (opened core.key core.seed core.units core.limits (M.motions core.mech) (M.places core.mech) (M.faults core.mech) (is_some (D.held core.disk))) (M.places core.mech) (D.held core.disk) (D.faults core.disk)
+        (λ start. WritesUntil IsLine AnswersGuard (IsStop (M.faults result.mech) (D.faults result.disk)) start result.status (S.left source.new) (K.held sink.old) (K.held sink.new) text)) }
 
     ensures boot_disk { result.status ≡ 6 → EndsFailed (D.faults core.disk) (D.faults result.disk) (K.held sink.old) (K.held sink.new) }
     ensures not_journal { result.status ≡ 7 → EndsUnread (D.held core.disk) (K.held sink.old) (K.held sink.new) }
@@ -111,6 +123,7 @@ fn ended<M: Mechanism, D: Disk>(session: Session<M, D>) -> (M, D)
     ensures stored { IsStored (D.held result.1) (D.images result.1) session.guard.state.records session.guard.state.in_doubt }
     ensures motions { M.motions result.0 ≡ session.guard.state.motions }
     ensures places { M.places result.0 ≡ session.guard.state.places }
+    ensures faults { M.faults result.0 ≡ session.guard.state.faults }
     ensures told { is_some (D.held result.1) ≡ session.guard.state.disk_told }
     ensures disk { result.1 ≡ session.guard.disk }
 {
@@ -129,7 +142,11 @@ fn serve<S: Source, K: Sink, M: Mechanism, D: Disk>(
     source: &mut S,
     sink: &mut K,
 ) -> u8
-    requires { session.old.guard.state.open_order ≡ No }
+    requires none { session.old.guard.state.open_order ≡ No }
+    requires key { session.old.key ≡ session.old.guard.state.key }
+    ensures answers { result ≡ 0 → IfTold (S.left source.old) (WritesAll AnswersGuard (λ last. last ≡ seen D.faults session.new.guard session.new.last) (seen D.faults session.old.guard session.old.last) (K.held sink.old) (K.held sink.new)) }
+    ensures front { result ≡ 5 → IfTold (S.left source.old) (WritesFront AnswersGuard (λ last. IsLater last (seen D.faults session.new.guard session.new.last)) (seen D.faults session.old.guard session.old.last) (K.held sink.old) (K.held sink.new)) }
+    ensures until { result ≢ 0 → result ≢ 5 → IfTold (S.left source.old) (WritesUntil IsLine AnswersGuard (IsStop session.new.guard.state.faults (D.faults session.new.guard.disk)) (seen D.faults session.old.guard session.old.last) result (S.left source.new) (K.held sink.old) (K.held sink.new)) }
     ensures continues { Continues session.old.guard.state session.new.guard.state }
     ensures usage { result ≢ 2 }
     ensures booted { (result ≢ 6) × (result ≢ 7) × (result ≢ 12) }

@@ -1,13 +1,22 @@
 //! What the guard answers to a verb.
 
-ghost use Rattle.std.specs.Prelude.{◌≡◌, ◌≢◌, Err, IfErr, Some, None};
+ghost use Rattle.std.specs.Prelude.{◌≡◌, ◌≢◌, ◌≤◌, Err, IfOk, IfErr, IsTrue, Some, None, drop, length};
+ghost use Rattle.std.specs.Option.{option_map, option_or};
 ghost use Rattle.xfs_guard.specs.declared.open.Open.TheVariants.{No};
 ghost use Rattle.xfs_guard.specs.Continues.{Continues};
 ghost use Rattle.xfs_mech.specs.Mechanism.{CanLoad};
-ghost use Rattle.std.specs.Option.{option_or};
 ghost use Rattle.xfs_guard.specs.Fits.{unfit};
+ghost use Rattle.xfs_guard.specs.Nonce.{live_nonce, live_in};
 ghost use Rattle.xfs_guard.specs.Refusals.{Answers, IsAsk, order_refusal};
+ghost use Rattle.xfs_guard.specs.declared.deny.Deny.TheVariants.{Memory as NoMemory};
+ghost use Rattle.xfs_mix.specs.Asked.{is_none};
+ghost use Rattle.xfs_cli.specs.Answers.{lines_in};
+ghost use Rattle.xfs_cli.specs.GuardAnswers.{show_text};
 ghost use Rattle.xfs_cli.specs.GuardLines.{IsBuilt};
+ghost use Rattle.xfs_cli.specs.Seen.{IsLater, seen};
+ghost use Rattle.xfs_cli.specs.OrderAnswers.{Carries, Moves, Stacks, nothing_stacked};
+ghost use Rattle.xfs_cli.specs.DispenseAnswers.{Dispenses, IsForbidden, IsPermitted, named};
+ghost use Rattle.xfs_cli.specs.VerbAnswers.{AreAnswer, Clears, Fills, IsLoaded, Issues, Mints, Takes};
 ghost use Rattle.xfs_cli.specs.declared.refused.Refusal.TheVariants.{Deny as Denied};
 
 use crate::refused::{Refusal, refusal_text};
@@ -29,6 +38,17 @@ pub enum AnswerFault {
     Memory,
 }
 
+impl From<Memory> for AnswerFault {
+    ghost use Rattle.std.specs.Prelude.{◌≡◌};
+    ghost use Rattle.xfs_cli.specs.declared.session.AnswerFault.TheVariants.{Memory as AnswerMemory};
+
+    ghost from_gives = { λ _ e. e ≡ AnswerMemory };
+
+    fn from(_: Memory) -> Self {
+        AnswerFault::Memory
+    }
+}
+
 /// The guard that answers, the key of its tokens, and the token that was minted last.
 #[derive(Drop)]
 pub struct Session<M: Mechanism, D: Disk> {
@@ -41,32 +61,39 @@ pub struct Session<M: Mechanism, D: Disk> {
 impl<M: Mechanism, D: Disk> Session<M, D> {
     /// What a verb is answered, without the line feed. None where it has no answer.
     pub fn answer(&mut self, verb: &GuardLine) -> Result<Option<Vec<u8>>, AnswerFault>
-        requires { self.old.guard.state.open_order ≡ No }
+        requires none { self.old.guard.state.open_order ≡ No }
+        requires key { self.old.key ≡ self.old.guard.state.key }
         ensures built { result ≢ Err AnswerFault.NotBuilt → IsBuilt verb.now }
         ensures not_built { result ≡ Err AnswerFault.NotBuilt → ¬ (IsBuilt verb.now) }
+        ensures answer { IfOk result (λ a. AreAnswer (seen D.faults self.old.guard self.old.last) verb.now (lines_in (option_map (λ v. v.items) a)) (seen D.faults self.new.guard self.new.last)) }
+        ensures later { IsLater (seen D.faults self.old.guard self.old.last) (seen D.faults self.new.guard self.new.last) }
         ensures continues { Continues self.old.guard.state self.new.guard.state }
         ensures none { self.new.guard.state.open_order ≡ No }
+        ensures key { self.new.key ≡ self.new.guard.state.key }
     {
         match verb {
             GuardLine::Skip => Ok(None),
-            GuardLine::Issue => answered(self.issue()),
-            GuardLine::Clear => answered(self.clear()),
-            GuardLine::Mint(amounts) => answered(self.mint(amounts)),
-            GuardLine::Dispense { token, counts } => answered(self.dispense(token, counts)),
-            GuardLine::Present => answered(self.moved(Ask::Present)),
-            GuardLine::Reject => answered(self.moved(Ask::Reject)),
-            GuardLine::Retract => answered(self.moved(Ask::Retract)),
-            GuardLine::Take => answered(self.take()),
-            GuardLine::Fill { unit, count } => answered(self.fill(*unit, *count)),
-            GuardLine::Show => answered(self.show()),
+            GuardLine::Issue => Ok(Some(self.issue()?)),
+            GuardLine::Clear => Ok(Some(self.clear()?)),
+            GuardLine::Mint(amounts) => Ok(Some(self.mint(amounts)?)),
+            GuardLine::Dispense { token, counts } => Ok(Some(self.dispense(token, counts)?)),
+            GuardLine::Present => Ok(Some(self.moved(Ask::Present)?)),
+            GuardLine::Reject => Ok(Some(self.moved(Ask::Reject)?)),
+            GuardLine::Retract => Ok(Some(self.moved(Ask::Retract)?)),
+            GuardLine::Take => Ok(Some(self.take()?)),
+            GuardLine::Fill { unit, count } => Ok(Some(self.fill(*unit, *count)?)),
+            GuardLine::Show => Ok(Some(self.show()?)),
             _ => Err(AnswerFault::NotBuilt),
         }
     }
 
     fn issue(&mut self) -> Result<Vec<u8>, Memory>
         requires { self.old.guard.state.open_order ≡ No }
+        ensures answer { IfOk result (λ text. Issues (seen D.faults self.old.guard self.old.last) text.items (seen D.faults self.new.guard self.new.last)) }
+        ensures later { IsLater (seen D.faults self.old.guard self.old.last) (seen D.faults self.new.guard self.new.last) }
         ensures continues { Continues self.old.guard.state self.new.guard.state }
         ensures none { self.new.guard.state.open_order ≡ No }
+        ensures key { self.new.key ≡ self.old.key }
     {
         match self.guard.issue() {
             Ok(nonce) => joined(self.alloc, b"nonce ", &nonce.text),
@@ -76,8 +103,11 @@ impl<M: Mechanism, D: Disk> Session<M, D> {
 
     fn clear(&mut self) -> Result<Vec<u8>, Memory>
         requires { self.old.guard.state.open_order ≡ No }
+        ensures answer { IfOk result (λ text. Clears (live_nonce self.old.guard.state.records) (seen D.faults self.old.guard self.old.last) text.items (seen D.faults self.new.guard self.new.last)) }
+        ensures later { IsLater (seen D.faults self.old.guard self.old.last) (seen D.faults self.new.guard self.new.last) }
         ensures continues { Continues self.old.guard.state self.new.guard.state }
         ensures none { self.new.guard.state.open_order ≡ No }
+        ensures key { self.new.key ≡ self.old.key }
     {
         match self.guard.clear() {
             Ok(true) => joined(self.alloc, b"cleared", b""),
@@ -88,7 +118,10 @@ impl<M: Mechanism, D: Disk> Session<M, D> {
 
     // A genuine token for the live nonce, which is then the last one.
     fn mint(&mut self, amounts: &Amounts) -> Result<Vec<u8>, Memory>
-        ensures same { self.new.guard.state ≡ self.old.guard.state }
+        requires key { self.old.key ≡ self.old.guard.state.key }
+        ensures answer { IfOk result (λ text. Mints (live_in self.old.guard.state.boot_missing self.old.guard.state.records) (seen D.faults self.old.guard self.old.last) amounts.now text.items (seen D.faults self.new.guard self.new.last)) }
+        ensures same { self.new.guard ≡ self.old.guard }
+        ensures key { self.new.key ≡ self.old.key }
     {
         let Some(nonce) = self.guard.live() else {
             self.last = None;
@@ -106,8 +139,11 @@ impl<M: Mechanism, D: Disk> Session<M, D> {
     // The customer takes what lies in the outlet.
     fn take(&mut self) -> Result<Vec<u8>, Memory>
         requires { self.old.guard.state.open_order ≡ No }
+        ensures answer { IfOk result (λ text. Takes (seen D.faults self.old.guard self.old.last) text.items (seen D.faults self.new.guard self.new.last)) }
+        ensures later { IsLater (seen D.faults self.old.guard self.old.last) (seen D.faults self.new.guard self.new.last) }
         ensures continues { Continues self.old.guard.state self.new.guard.state }
         ensures none { self.new.guard.state.open_order ≡ No }
+        ensures key { self.new.key ≡ self.old.key }
     {
         match self.guard.taken() {
             Ok(outcome) => outcome_text(self.alloc, b"taken", &outcome),
@@ -118,8 +154,11 @@ impl<M: Mechanism, D: Disk> Session<M, D> {
     // The operator adds notes to a unit, and it is written down.
     fn fill(&mut self, unit: u8, count: u32) -> Result<Vec<u8>, Memory>
         requires { self.old.guard.state.open_order ≡ No }
+        ensures answer { IfOk result (λ text. Fills (seen D.faults self.old.guard self.old.last) unit count text.items (seen D.faults self.new.guard self.new.last)) }
+        ensures later { IsLater (seen D.faults self.old.guard self.old.last) (seen D.faults self.new.guard self.new.last) }
         ensures continues { Continues self.old.guard.state self.new.guard.state }
         ensures none { self.new.guard.state.open_order ≡ No }
+        ensures key { self.new.key ≡ self.old.key }
     {
         if unit == 0 || unit > self.guard.units().len() {
             return refusal_text(self.alloc, &Refusal::NoUnit);
@@ -130,15 +169,33 @@ impl<M: Mechanism, D: Disk> Session<M, D> {
         if let Some(deny) = self.guard.unfit() {
             return refusal_text(self.alloc, &Refusal::Deny(deny));
         }
-        match loaded(&mut self.guard, unit, count) {
-            Ok(false) => joined(self.alloc, b"filled", b""),
-            Ok(true) => joined(self.alloc, b"fault", b""),
+        self.load(unit, count)
+    }
+
+    // Loads notes, and writes it down where the mechanism didn't fail.
+    fn load(&mut self, unit: u8, count: u32) -> Result<Vec<u8>, Memory>
+        requires none { self.old.guard.state.open_order ≡ No }
+        requires fits { CanLoad self.old.guard.state.units self.old.guard.state.places unit count }
+        requires fit { unfit self.old.guard.state ≡ None }
+        ensures answer { IfOk result (λ text. IsLoaded (seen D.faults self.old.guard self.old.last) unit count text.items (seen D.faults self.new.guard self.new.last)) }
+        ensures later { IsLater (seen D.faults self.old.guard self.old.last) (seen D.faults self.new.guard self.new.last) }
+        ensures continues { Continues self.old.guard.state self.new.guard.state }
+        ensures none { self.new.guard.state.open_order ≡ No }
+        ensures key { self.new.key ≡ self.old.key }
+    {
+        let outcome = self.guard.load(unit, count)?;
+        if outcome.failed {
+            return joined(self.alloc, b"fault", b"");
+        }
+        match self.guard.note_load(unit, count) {
+            Ok(()) => joined(self.alloc, b"filled", b""),
             Err(deny) => refusal_text(self.alloc, &Refusal::Deny(deny)),
         }
     }
 
     fn show(&mut self) -> Result<Vec<u8>, Memory>
-        ensures same { self.new.guard.state ≡ self.old.guard.state }
+        ensures answer { IfOk result (λ text. text.items ≡ show_text (length self.old.guard.state.units) self.old.guard.state.places) }
+        ensures same { self.new ≡ self.old }
     {
         show_text(self.alloc, self.guard.units().len(), &self.guard.places())
     }
@@ -147,10 +204,13 @@ impl<M: Mechanism, D: Disk> Session<M, D> {
     fn moved(&mut self, ask: Ask) -> Result<Vec<u8>, Memory>
         requires none { self.old.guard.state.open_order ≡ No }
         requires asked { IsAsk self.old.guard.state ask }
+        ensures answer { IfOk result (λ text. Moves (seen D.faults self.old.guard self.old.last) ask text.items (seen D.faults self.new.guard self.new.last)) }
+        ensures later { IsLater (seen D.faults self.old.guard self.old.last) (seen D.faults self.new.guard self.new.last) }
         ensures continues { Continues self.old.guard.state self.new.guard.state }
         ensures none { self.new.guard.state.open_order ≡ No }
+        ensures key { self.new.key ≡ self.old.key }
     {
-        match carried(&mut self.guard, ask) {
+        match self.carried(ask) {
             Ok(outcome) => outcome_text(self.alloc, b"moved", &outcome),
             Err(deny) => refusal_text(self.alloc, &Refusal::Deny(deny)),
         }
@@ -158,14 +218,17 @@ impl<M: Mechanism, D: Disk> Session<M, D> {
 
     fn dispense(&mut self, token: &Given, counts: &Counts) -> Result<Vec<u8>, Memory>
         requires { self.old.guard.state.open_order ≡ No }
+        ensures answer { IfOk result (λ text. Dispenses (seen D.faults self.old.guard self.old.last) (named self.old.last token.now) counts.now text.items (seen D.faults self.new.guard self.new.last)) }
+        ensures later { IsLater (seen D.faults self.old.guard self.old.last) (seen D.faults self.new.guard self.new.last) }
         ensures continues { Continues self.old.guard.state self.new.guard.state }
         ensures none { self.new.guard.state.open_order ≡ No }
+        ensures key { self.new.key ≡ self.old.key }
     {
         let permit = match self.permitted(token, counts) {
             Ok(permit) => permit,
             Err(refusal) => return refusal_text(self.alloc, &refusal),
         };
-        match stacked(&mut self.guard, permit.issue, counts) {
+        match self.stacked(permit.issue, counts) {
             Ok(outcome) => outcome_text(self.alloc, b"moved", &outcome),
             Err(deny) => refusal_text(self.alloc, &Refusal::Deny(deny)),
         }
@@ -174,9 +237,13 @@ impl<M: Mechanism, D: Disk> Session<M, D> {
     // The leave to stack these notes: the checks of a dispense, in their order.
     fn permitted(&mut self, token: &Given, counts: &Counts) -> Result<Permit, Refusal>
         requires { self.old.guard.state.open_order ≡ No }
+        ensures ok { IfOk result (λ p. IsPermitted (seen D.faults self.old.guard self.old.last) (named self.old.last token.now) counts.now p.issue (seen D.faults self.new.guard self.new.last)) }
+        ensures refused { IfErr result (λ r. r ≢ Denied NoMemory → IsForbidden (seen D.faults self.old.guard self.old.last) (named self.old.last token.now) counts.now r (seen D.faults self.new.guard self.new.last)) }
+        ensures later { IsLater (seen D.faults self.old.guard self.old.last) (seen D.faults self.new.guard self.new.last) }
         ensures continues { Continues self.old.guard.state self.new.guard.state }
         ensures none { self.new.guard.state.open_order ≡ No }
         ensures same { IfErr result (λ r. r ≢ Denied Deny.Disk → self.new.guard.state ≡ self.old.guard.state) }
+        ensures key { self.new.key ≡ self.old.key }
     {
         if let Some(deny) = self.guard.unfit() {
             return Err(Refusal::Deny(deny));
@@ -188,19 +255,63 @@ impl<M: Mechanism, D: Disk> Session<M, D> {
         check(self.guard.units(), &self.guard.places().units, counts)?;
         Ok(self.guard.allow(claim, counts)?)
     }
-}
 
-fn answered(text: Result<Vec<u8>, Memory>) -> Result<Option<Vec<u8>>, AnswerFault>
-    ensures { result ≢ Err AnswerFault.NotBuilt }
-{
-    match text {
-        Ok(text) => Ok(Some(text)),
-        Err(_) => Err(AnswerFault::Memory),
+    // Writes an order, carries it out, and writes down what it did.
+    fn carried(&mut self, ask: Ask) -> Result<Outcome, Deny>
+        requires none { self.old.guard.state.open_order ≡ No }
+        requires asked { IsAsk self.old.guard.state ask }
+        ensures carried { result ≢ Err NoMemory → Carries (seen D.faults self.old.guard self.old.last) ask result (seen D.faults self.new.guard self.new.last) }
+        ensures refused { Answers result (option_or (unfit self.old.guard.state) (order_refusal self.old.guard.state ask)) }
+        ensures same { IfErr result (λ e. e ≢ Deny.Disk → self.new.guard.state ≡ self.old.guard.state) }
+        ensures later { IsLater (seen D.faults self.old.guard self.old.last) (seen D.faults self.new.guard self.new.last) }
+        ensures continues { Continues self.old.guard.state self.new.guard.state }
+        ensures none { self.new.guard.state.open_order ≡ No }
+        ensures key { self.new.key ≡ self.old.key }
+    {
+        self.guard.order(ask)?;
+        let outcome = self.guard.act();
+        self.guard.settle()?;
+        Ok(outcome)
+    }
+
+    // Stacks the notes unit by unit. The first order that is refused or fails ends it.
+    fn stacked(&mut self, issue: u64, counts: &Counts) -> Result<Outcome, Deny>
+        requires none { self.old.guard.state.open_order ≡ No }
+        requires few { IsTrue (is_none (drop (length self.old.guard.state.units) counts.now.0)) }
+        ensures stacked { result ≢ Err NoMemory → Stacks issue counts.now.0 0 nothing_stacked (seen D.faults self.old.guard self.old.last) result (seen D.faults self.new.guard self.new.last) }
+        ensures later { IsLater (seen D.faults self.old.guard self.old.last) (seen D.faults self.new.guard self.new.last) }
+        ensures continues { Continues self.old.guard.state self.new.guard.state }
+        ensures none { self.new.guard.state.open_order ≡ No }
+        ensures key { self.new.key ≡ self.old.key }
+    {
+        let mut all = Outcome {
+            moved: Counts([0; 8]),
+            diverted: Counts([0; 8]),
+            failed: false,
+        };
+        for place in 0..self.guard.units().len() {
+            let at = usize::from(place);
+            let count = counts.0[at];
+            if count == 0 {
+                continue;
+            }
+            let unit = place + 1;
+            let outcome = self.carried(Ask::Stack { issue, unit, count })?;
+            all.moved.0[at] = outcome.moved.0[at];
+            all.diverted.0[at] = outcome.diverted.0[at];
+            all.failed = outcome.failed;
+            if all.failed {
+                return Ok(all);
+            }
+        }
+        Ok(all)
     }
 }
 
 // The text of the token that a line names, where there is one.
-fn given<'a>(last: &'a Option<Bytes>, token: &'a Given) -> Option<&'a [u8]> {
+fn given<'a>(last: &'a Option<Bytes>, token: &'a Given) -> Option<&'a [u8]>
+    ensures { option_map (λ t. t.now) result ≡ named last.now token.now }
+{
     match token {
         Given::Text(text) => Some(text.list()),
         Given::Last => match last {
@@ -208,71 +319,4 @@ fn given<'a>(last: &'a Option<Bytes>, token: &'a Given) -> Option<&'a [u8]> {
             None => None,
         },
     }
-}
-
-// Writes an order, carries it out, and writes down what it did.
-fn carried<M: Mechanism, D: Disk>(guard: &mut Guard<M, D>, ask: Ask) -> Result<Outcome, Deny>
-    requires none { guard.old.state.open_order ≡ No }
-    requires asked { IsAsk guard.old.state ask }
-    ensures refused { Answers result (option_or (unfit guard.old.state) (order_refusal guard.old.state ask)) }
-    ensures same { IfErr result (λ e. e ≢ Deny.Disk → guard.new.state ≡ guard.old.state) }
-    ensures continues { Continues guard.old.state guard.new.state }
-    ensures none { guard.new.state.open_order ≡ No }
-{
-    guard.order(ask)?;
-    let outcome = guard.act();
-    guard.settle()?;
-    Ok(outcome)
-}
-
-// Loads notes and writes it down. Whether the mechanism failed; nothing is written then.
-fn loaded<M: Mechanism, D: Disk>(
-    guard: &mut Guard<M, D>,
-    unit: u8,
-    count: u32,
-) -> Result<bool, Deny>
-    requires none { guard.old.state.open_order ≡ No }
-    requires fits { CanLoad guard.old.state.units guard.old.state.places unit count }
-    ensures continues { Continues guard.old.state guard.new.state }
-    ensures none { guard.new.state.open_order ≡ No }
-{
-    let outcome = guard.load(unit, count)?;
-    if outcome.failed {
-        return Ok(true);
-    }
-    guard.note_load(unit, count)?;
-    Ok(false)
-}
-
-// Stacks the notes unit by unit. The first order that is refused or fails ends it.
-fn stacked<M: Mechanism, D: Disk>(
-    guard: &mut Guard<M, D>,
-    issue: u64,
-    counts: &Counts,
-) -> Result<Outcome, Deny>
-    requires none { guard.old.state.open_order ≡ No }
-    ensures continues { Continues guard.old.state guard.new.state }
-    ensures none { guard.new.state.open_order ≡ No }
-{
-    let mut all = Outcome {
-        moved: Counts([0; 8]),
-        diverted: Counts([0; 8]),
-        failed: false,
-    };
-    for place in 0..guard.units().len() {
-        let at = usize::from(place);
-        let count = counts.0[at];
-        if count == 0 {
-            continue;
-        }
-        let unit = place + 1;
-        let outcome = carried(guard, Ask::Stack { issue, unit, count })?;
-        all.moved.0[at] = outcome.moved.0[at];
-        all.diverted.0[at] = outcome.diverted.0[at];
-        all.failed = outcome.failed;
-        if all.failed {
-            return Ok(all);
-        }
-    }
-    Ok(all)
 }

@@ -4,7 +4,7 @@ ghost use Rattle.std.specs.Prelude.{◌≡◌, ◌≢◌, ◌↔◌, ◌≤◌, 
 ghost use Rattle.std.specs.Io.KnownBytes.{IsAtEnd, Appends};
 ghost use Rattle.xfs_base.specs.Causes.{Rose, IfTold, TookFront};
 ghost use Rattle.xfs_cli.specs.Run.{IsToken, GaveAll};
-ghost use Rattle.xfs_cli.specs.Answers.{WritesAll, WritesUntil, WritesFront, SaysAnswer, SaysFront, WritesUsage};
+ghost use Rattle.xfs_cli.specs.Answers.{Unsaid, AnyStop, WritesAll, WritesUntil, WritesFront, SaysAnswer, SaysFront, WritesUsage};
 ghost use Rattle.xfs_cli.specs.TokenAnswers.{AnswersToken, IsLineOfToken};
 ghost use Rattle.xfs_cli.specs.Statuses.{IsStatus};
 
@@ -41,9 +41,9 @@ pub fn token<S: Source, K: Sink, M: Mechanism, D: Disk>(
     ensures read { result.status ≡ 3 → Rose (S.faults source.old) (S.faults source.new) }
     ensures write { result.status ≡ 5 → Rose (K.faults sink.old) (K.faults sink.new) }
 
-    ensures answers { result.status ≡ 0 → IfTold (S.left source.old) (WritesAll AnswersToken core.key (K.held sink.old) (K.held sink.new)) }
-    ensures front { result.status ≡ 5 → IfTold (S.left source.old) (WritesFront AnswersToken core.key (K.held sink.old) (K.held sink.new)) }
-    ensures until { result.status ≢ 0 → result.status ≢ 2 → result.status ≢ 5 → IfTold (S.left source.old) (WritesUntil IsLineOfToken AnswersToken core.key result.status (S.left source.new) (K.held sink.old) (K.held sink.new)) }
+    ensures answers { result.status ≡ 0 → IfTold (S.left source.old) (WritesAll AnswersToken Unsaid core.key (K.held sink.old) (K.held sink.new)) }
+    ensures front { result.status ≡ 5 → IfTold (S.left source.old) (WritesFront AnswersToken Unsaid core.key (K.held sink.old) (K.held sink.new)) }
+    ensures until { result.status ≢ 0 → result.status ≢ 2 → result.status ≢ 5 → IfTold (S.left source.old) (WritesUntil IsLineOfToken AnswersToken AnyStop core.key result.status (S.left source.new) (K.held sink.old) (K.held sink.new)) }
     ensures statuses { IsStatus result.status }
 {
     let Core {
@@ -71,9 +71,9 @@ fn serve<S: Source, K: Sink>(alloc: Global, key: &[u8; 32], source: &mut S, sink
     ensures quota { result ≡ 10 → GaveAll (S.left source.old) (S.left source.new) }
     ensures read { result ≡ 3 → Rose (S.faults source.old) (S.faults source.new) }
     ensures write { result ≡ 5 → Rose (K.faults sink.old) (K.faults sink.new) }
-    ensures answers { result ≡ 0 → IfTold (S.left source.old) (WritesAll AnswersToken key.now (K.held sink.old) (K.held sink.new)) }
-    ensures front { result ≡ 5 → IfTold (S.left source.old) (WritesFront AnswersToken key.now (K.held sink.old) (K.held sink.new)) }
-    ensures until { result ≢ 0 → result ≢ 5 → IfTold (S.left source.old) (WritesUntil IsLineOfToken AnswersToken key.now result (S.left source.new) (K.held sink.old) (K.held sink.new)) }
+    ensures answers { result ≡ 0 → IfTold (S.left source.old) (WritesAll AnswersToken Unsaid key.now (K.held sink.old) (K.held sink.new)) }
+    ensures front { result ≡ 5 → IfTold (S.left source.old) (WritesFront AnswersToken Unsaid key.now (K.held sink.old) (K.held sink.new)) }
+    ensures until { result ≢ 0 → result ≢ 5 → IfTold (S.left source.old) (WritesUntil IsLineOfToken AnswersToken AnyStop key.now result (S.left source.new) (K.held sink.old) (K.held sink.new)) }
     ensures statuses { IsStatus result }
 {
     let mut lines = Lines::new(alloc);

@@ -1,6 +1,6 @@
 //! The top call.
 
-ghost use Rattle.std.specs.Prelude.{◌≡◌, ◌≢◌, ◌↔◌, ℕ, List, is_some, length};
+ghost use Rattle.std.specs.Prelude.{◌≡◌, ◌≢◌, ◌↔◌, ◌⊎◌, ℕ, List, is_some, length};
 ghost use Rattle.std.specs.Io.KnownBytes.{IsAtEnd};
 ghost use Rattle.xfs_base.specs.Causes.{Rose, IfTold};
 ghost use Rattle.xfs_disk.specs.Disk.{Only};
@@ -12,7 +12,10 @@ ghost use Rattle.xfs_cli.specs.Upholds.{Upholds};
 ghost use Rattle.xfs_cli.specs.Statuses.{IsStatus, IsUnhindered, IsFinished};
 ghost use Rattle.xfs_mech.specs.Moves.{AddsUp, IsNewer};
 ghost use Rattle.xfs_cli.specs.Boots.{EndsUnread, EndsFailed, EndsFull, BootPasses, IsDue, IsNoJournal, IsUnwritten};
-ghost use Rattle.xfs_cli.specs.Answers.{WritesAll, WritesUntil, WritesFront, WritesUsage};
+ghost use Rattle.xfs_cli.specs.Answers.{Unsaid, AnyStop, WritesAll, WritesUntil, WritesFront, WritesUsage};
+ghost use Rattle.xfs_cli.specs.GuardLines.{IsLine};
+ghost use Rattle.xfs_cli.specs.GuardRuns.{FromBoot, IsEnd, IsStop, IsWithin, IsUnbooted, opened};
+ghost use Rattle.xfs_cli.specs.VerbAnswers.{AnswersGuard};
 ghost use Rattle.xfs_cli.specs.TokenAnswers.{AnswersToken, IsLineOfToken};
 
 use crate::ended::Ended;
@@ -62,14 +65,20 @@ pub fn run<S: Source, K: Sink, M: Mechanism, D: Disk>(
     ensures unwritten { IfTold (D.held core.disk) (λ bytes. IsNoJournal bytes → IsUnwritten (D.held core.disk) (D.held result.disk) (D.images core.disk) (D.images result.disk)) }
     ensures unmoved { IfTold (D.held core.disk) (λ bytes. IsNoJournal bytes → result.mech ≡ core.mech) }
 
-    // The lines of `guard`.
+    // The lines of `guard`, and what is written: their answers from the boot on, and at most one last line.
     ensures lines { IsGuard words.now → result.status ≡ 0 → IfTold (S.left source.old) AllLines }
     ensures not_a_line { IsGuard words.now → result.status ≡ 4 → IfTold (S.left source.old) StopsAtLine }
+    ensures guard_answers { IsGuard words.now → result.status ≡ 0 → IfTold (S.left source.old) (λ text. FromBoot (opened core.key core.seed core.units core.limits (M.motions core.mech) (M.places core.mech) (M.faults core.mech) (is_some (D.held core.disk))) (M.places core.mech) (D.held core.disk) (D.faults core.disk)
+        (λ start. WritesAll AnswersGuard (IsEnd (M.motions result.mech) (M.places result.mech) (M.faults result.mech) (D.faults result.disk)) start (K.held sink.old) (K.held sink.new) text)) }
+    ensures guard_front { IsGuard words.now → result.status ≡ 5 → IfTold (S.left source.old) (λ text. FromBoot (opened core.key core.seed core.units core.limits (M.motions core.mech) (M.places core.mech) (M.faults core.mech) (is_some (D.held core.disk))) (M.places core.mech) (D.held core.disk) (D.faults core.disk)
+        (λ start. WritesFront AnswersGuard (IsWithin (M.faults result.mech) (D.faults result.disk)) start (K.held sink.old) (K.held sink.new) text)) }
+    ensures guard_until { IsGuard words.now → result.status ≢ 0 → result.status ≢ 5 → IfTold (S.left source.old) (λ text. IsUnbooted result.status (K.held sink.old) (K.held sink.new) ⊎ FromBoot (opened core.key core.seed core.units core.limits (M.motions core.mech) (M.places core.mech) (M.faults core.mech) (is_some (D.held core.disk))) (M.places core.mech) (D.held core.disk) (D.faults core.disk)
+        (λ start. WritesUntil IsLine AnswersGuard (IsStop (M.faults result.mech) (D.faults result.disk)) start result.status (S.left source.new) (K.held sink.old) (K.held sink.new) text)) }
 
     // The lines of `token`, and what is written: their answers, and at most one last line.
-    ensures answers { IsToken words.now → result.status ≡ 0 → IfTold (S.left source.old) (WritesAll AnswersToken core.key (K.held sink.old) (K.held sink.new)) }
-    ensures front { IsToken words.now → result.status ≡ 5 → IfTold (S.left source.old) (WritesFront AnswersToken core.key (K.held sink.old) (K.held sink.new)) }
-    ensures until { IsToken words.now → result.status ≢ 0 → result.status ≢ 5 → IfTold (S.left source.old) (WritesUntil IsLineOfToken AnswersToken core.key result.status (S.left source.new) (K.held sink.old) (K.held sink.new)) }
+    ensures answers { IsToken words.now → result.status ≡ 0 → IfTold (S.left source.old) (WritesAll AnswersToken Unsaid core.key (K.held sink.old) (K.held sink.new)) }
+    ensures front { IsToken words.now → result.status ≡ 5 → IfTold (S.left source.old) (WritesFront AnswersToken Unsaid core.key (K.held sink.old) (K.held sink.new)) }
+    ensures until { IsToken words.now → result.status ≢ 0 → result.status ≢ 5 → IfTold (S.left source.old) (WritesUntil IsLineOfToken AnswersToken AnyStop core.key result.status (S.left source.new) (K.held sink.old) (K.held sink.new)) }
     ensures same { IsToken words.now → result.mech ≡ core.mech }
     ensures same_disk { IsToken words.now → result.disk ≡ core.disk }
 

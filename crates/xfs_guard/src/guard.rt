@@ -295,6 +295,7 @@ impl<M: Mechanism, D: Disk> Guard<M, D> {
         ensures refused { Answers result (unfit self.old.state) }
         ensures dead { IfOk result (λ b. IsTrue b ↔ (live_nonce self.old.state.records ≢ None)) }
         ensures cleared { result ≡ Ok true → self.new.state ≡ record self.old.state { records = self.old.state.records ++ Clear ∷ []; bound = None } }
+        ensures unwritten { result ≡ Err Deny.Disk → live_nonce self.old.state.records ≢ None }
         ensures disk { result ≡ Err Deny.Disk → self.new.state ≡ record self.old.state { shut = true; in_doubt = Some Clear } }
         ensures later { D.faults self.old.disk ≤ D.faults self.new.disk }
         ensures cause { result ≡ Err Deny.Disk → Rose (D.faults self.old.disk) (D.faults self.new.disk) }

@@ -1,6 +1,9 @@
-use Rattle.std.proofs.Common.{refl, ap, None}
+use Rattle.std.proofs.Common.{None, inl, inr, refl, ap}
 use Rattle.xfs_guard.specs.View.{View}
 use Rattle.xfs_cli.proofs.RunLaws.{recorded-start, upholds-same, upholds-refused, upholds-run, ends-unread, due-full, journal-run, fits-run}
+use Rattle.xfs_cli.specs.GuardLines.{IsLine}
+use Rattle.xfs_cli.specs.VerbAnswers.{AnswersGuard}
+use Rattle.xfs_cli.proofs.GuardRunLaws.{all-ends, front-ends, until-stops, stops-at, ends-at, ends-within, told-more, told-any, from-boot, refused-boot}
 use Rattle.xfs_cli.proofs.EndLaws.{finishes, causes-served, causes-refused}
 use Rattle.xfs_cli.proofs.NumberLaws.{newer-run}
 use Rattle.xfs_cli.proofs.UnreadLaws.{unwritten-quiet}
@@ -28,6 +31,33 @@ returns-in-Err-clause-overfull g c = λ guard. due-full _ _ _ _ _ c.unbooted.ens
 
 pub boot-requires-clause-recorded : goal.boot-requires-clause-recorded
 boot-requires-clause-recorded g c = recorded-start _ _ _ _ _ c.requires.starts
+
+pub returns-in-Ok-clause-answers : goal.returns-in-Ok-clause-answers
+returns-in-Ok-clause-answers g c = λ zero.
+    let ok = c.in-Ok.ensures.ok in
+    let e = c.ended-mech.ensures in
+    let faults = g.D.Disk.faults in
+    told-more _ _ _ (λ text writes. from-boot faults c.in-Ok.guard _ _ _ _ ok.0 _ ok.1 ok.2 c.in-Ok.ensures.faults
+    (all-ends AnswersGuard _ _ _ _ _ text (ends-at faults c.serve-status.new.session.guard c.serve-status.new.session.last _ _ _ _ e.motions e.places e.faults e.disk) writes)) (c.serve-status.ensures.answers zero)
+
+pub returns-in-Ok-clause-front : goal.returns-in-Ok-clause-front
+returns-in-Ok-clause-front g c = λ five.
+    let ok = c.in-Ok.ensures.ok in
+    let e = c.ended-mech.ensures in
+    let faults = g.D.Disk.faults in
+    told-more _ _ _ (λ text writes. from-boot faults c.in-Ok.guard _ _ _ _ ok.0 _ ok.1 ok.2 c.in-Ok.ensures.faults
+    (front-ends AnswersGuard _ _ _ _ _ text (ends-within faults c.serve-status.new.session.guard c.serve-status.new.session.last _ _ e.faults e.disk) writes)) (c.serve-status.ensures.front five)
+
+pub returns-in-Ok-clause-until : goal.returns-in-Ok-clause-until
+returns-in-Ok-clause-until g c = λ not_zero not_two not_five.
+    let ok = c.in-Ok.ensures.ok in
+    let e = c.ended-mech.ensures in
+    let faults = g.D.Disk.faults in
+    told-more _ _ _ (λ text writes. inr (from-boot faults c.in-Ok.guard _ _ _ _ ok.0 _ ok.1 ok.2 c.in-Ok.ensures.faults
+    (until-stops IsLine AnswersGuard _ _ _ _ _ _ _ text (stops-at faults c.serve-status.new.session.guard _ _ e.faults e.disk) writes))) (c.serve-status.ensures.until not_zero not_five)
+
+pub returns-in-Err-clause-until : goal.returns-in-Err-clause-until
+returns-in-Err-clause-until g c = λ not_zero not_two not_five. told-any _ _ (λ text. inl (refused-boot _ _ _ _ c.unbooted.ensures.status c.unbooted.ensures.written))
 
 pub returns-in-Ok-clause-unread : goal.returns-in-Ok-clause-unread
 returns-in-Ok-clause-unread g c = λ guard. journal-run c.in-Ok.ensures.ok.0 _ _ c.in-Ok.ensures.ok.1

@@ -1,17 +1,47 @@
-use Rattle.std.proofs.Common.{◌∙◌, arith, refl, sym}
+use Rattle.std.proofs.Common.{◌∙◌, ap, arith, refl, sym}
 use Rattle.xfs_guard.proofs.ContinueLaws.{Continues-same, Continues-trans}
 use Rattle.xfs_cli.proofs.LineLaws.{Gives-start, HasRead-start, Gives-trans, read-line, read-end, read-stop, read-fault, read-quota}
+use Rattle.xfs_cli.specs.GuardLines.{IsLine}
+use Rattle.xfs_cli.specs.VerbAnswers.{AnswersGuard}
+use Rattle.xfs_cli.proofs.AnswerLaws.{answered-start, answered-line, answered-all, answered-front, answered-no_line, answered-memory, answered-fault}
+use Rattle.xfs_cli.specs.Run.{status_of}
+use Rattle.xfs_cli.proofs.GuardRunLaws.{stops-plain, fault-plain}
+use Rattle.xfs_cli.proofs.SeenLaws.{later-same}
 use Rattle.xfs_cli.proofs.guard_command.serve.Goals as goal
 
 pub loop-init : goal.loop-init
 loop-init g c = record {
   continues = Continues-same _;
-  none = c.requires;
+  key = c.requires.key;
+  answered = answered-start AnswersGuard _ _ _ _ c.new-lines.ensures;
+  none = c.requires.none;
   source_later = omega arith;
   sink_later = omega arith;
   gives = Gives-start _ _ c.new-lines.ensures;
   read = HasRead-start _ _ c.new-lines.ensures;
 }
+
+pub returns-in-Ok-None-clause-answers : goal.returns-in-Ok-None-clause-answers
+returns-in-Ok-None-clause-answers g c = λ zero. answered-all AnswersGuard _ _ _ _ _ _ _ _ _ _ refl c.loop.invariant.answered (rw c.in-Ok-None.field-0-is at c.in-Ok-None.ensures.reads)
+
+pub returns-in-NotALine-clause-until : goal.returns-in-NotALine-clause-until
+returns-in-NotALine-clause-until g c = λ not_zero not_five.
+    answered-no_line IsLine AnswersGuard _ _ _ _ _ _ _ _ _ _ _ _ _ c.in-Ok-Some.line (stops-plain g.D.Disk.faults c.line.new.self.guard c.line.new.self.last _ 4 _ c.not_a_line.ensures.status (λ e. omega (arith, e)) (λ e. omega (arith, e)) (λ e. omega (arith, e)) c.line.ensures.faults) c.loop.invariant.answered (rw c.in-Ok-Some.field-0-is at c.in-Ok-Some.ensures.reads) (c.in-NotALine.ensures.no_line refl)
+    c.not_a_line.ensures.status refl (rw (c.in-NotALine.ensures.same_no_line refl) at c.not_a_line.ensures.written)
+
+pub returns-in-Write-clause-front : goal.returns-in-Write-clause-front
+returns-in-Write-clause-front g c = λ five.
+    answered-front AnswersGuard _ _ _ _ _ _ _ _ _ _ _ _ c.in-Ok-Some.line (later-same _) c.loop.invariant.answered (rw c.in-Ok-Some.field-0-is at c.in-Ok-Some.ensures.reads) (c.in-Write.ensures.write refl)
+
+pub returns-in-Memory-clause-until : goal.returns-in-Memory-clause-until
+returns-in-Memory-clause-until g c = λ not_zero not_five.
+    answered-memory IsLine AnswersGuard _ _ _ _ _ _ _ _ _ _ (stops-plain g.D.Disk.faults c.line.new.self.guard c.line.new.self.last 8 8 _ refl (λ e. omega (arith, e)) (λ e. omega (arith, e)) (λ e. omega (arith, e)) c.line.ensures.faults) c.loop.invariant.answered (ap g.K.Sink.held (c.in-Memory.ensures.same_memory refl))
+
+pub returns-in-Err-clause-until : goal.returns-in-Err-clause-until
+returns-in-Err-clause-until g c = λ not_zero not_five.
+    let plain = fault-plain c.in-Err.fault in
+    answered-fault IsLine AnswersGuard _ _ _ _ _ _ _ _ _ _ _ _ c.in-Err.fault (λ l is. is.short)
+    (stops-plain g.D.Disk.faults c.loop.session.guard c.loop.session.last _ (status_of c.in-Err.fault) _ c.faulty.ensures.status plain.0 plain.1 plain.2 (later-same _)) c.loop.invariant.answered c.in-Err.ensures.reads c.faulty.ensures.status c.faulty.ensures.written
 
 pub returns-in-Ok-None-clause-lines : goal.returns-in-Ok-None-clause-lines
 returns-in-Ok-None-clause-lines g c = λ zero. read-end _ _ _ _ _ c.loop.invariant.read (rw c.in-Ok-None.field-0-is at c.in-Ok-None.ensures.reads)
@@ -37,6 +67,8 @@ returns-in-Err-clause-quota g c = λ ten. read-quota _ _ _ _ _ c.in-Err.fault c.
 pub loop-preserved : goal.loop-preserved
 loop-preserved g c = record {
   continues = Continues-trans _ _ _ c.loop.invariant.continues c.line.ensures.continues;
+  key = c.line.ensures.key;
+  answered = answered-line AnswersGuard _ _ _ _ _ _ _ _ _ _ _ c.in-Ok-Some.line c.loop.invariant.answered (rw c.in-Ok-Some.field-0-is at c.in-Ok-Some.ensures.reads) (c.in-More.ensures.more refl);
   none = c.line.ensures.none;
   source_later = omega (arith, c.loop.invariant.source_later, c.next.ensures.later);
   sink_later = omega (arith, c.loop.invariant.sink_later, c.line.ensures.later);

@@ -5,12 +5,6 @@ use Rattle.xfs_cli.proofs.session.Session.answer.Goals as goal
 pub returns-in-Skip-clause-continues : goal.returns-in-Skip-clause-continues
 returns-in-Skip-clause-continues g c = Continues-same _
 
-pub returns-in-Mint-clause-continues : goal.returns-in-Mint-clause-continues
-returns-in-Mint-clause-continues g c = rw c.mint.ensures.same (Continues-same _)
-
-pub returns-in-Show-clause-continues : goal.returns-in-Show-clause-continues
-returns-in-Show-clause-continues g c = rw c.show.ensures.same (Continues-same _)
-
 pub returns-in_default-clause-continues : goal.returns-in_default-clause-continues
 returns-in_default-clause-continues g c = Continues-same _
 
@@ -28,3 +22,15 @@ returns-in_default-clause-not_built g c = λ is. not_built c.args.verb.now (reco
   fill = c.in_default.not-Fill;
   show = c.in_default.not-Show;
 })
+
+pub returns-in_err-mint-in-Mint-clause-continues : goal.returns-in_err-mint-in-Mint-clause-continues
+returns-in_err-mint-in-Mint-clause-continues g c = rw c.mint.ensures.same (Continues-same _)
+
+pub returns-in_ok-mint-in-Mint-clause-continues : goal.returns-in_ok-mint-in-Mint-clause-continues
+returns-in_ok-mint-in-Mint-clause-continues g c = rw c.mint.ensures.same (Continues-same _)
+
+pub returns-in_err-show-in-Show-clause-continues : goal.returns-in_err-show-in-Show-clause-continues
+returns-in_err-show-in-Show-clause-continues g c = rw c.show.ensures.same (Continues-same _)
+
+pub returns-in_ok-show-in-Show-clause-continues : goal.returns-in_ok-show-in-Show-clause-continues
+returns-in_ok-show-in-Show-clause-continues g c = rw c.show.ensures.same (Continues-same _)

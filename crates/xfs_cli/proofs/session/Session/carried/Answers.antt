@@ -1,0 +1,59 @@
+use Rattle.std.proofs.Common.{inr, refl, ap}
+use Rattle.xfs_guard.proofs.ContinueLaws.{Continues-trans}
+use Rattle.xfs_cli.specs.Seen.{seen}
+use Rattle.xfs_cli.proofs.SeenLaws.{carried-err, stopped-order}
+use Rattle.xfs_cli.proofs.session.Session.carried.Goals as goal
+
+pub returns-in_err-order-clause-carried : goal.returns-in_err-order-clause-carried
+returns-in_err-order-clause-carried g c = λ some.
+    let e = c.in_err-order.ensures in
+    carried-err _ _ c.from_residual.result c.in_err-order.field-0.0 _ c.from_residual.ensures.1 some
+    (stopped-order g.D.Disk.faults c.args.self.now.guard c.order.new.self c.args.self.now.last c.args.ask c.in_err-order.field-0.0 e.refused e.disk e.later e.cause e.same)
+
+pub returns-in_err-settle-clause-carried : goal.returns-in_err-settle-clause-carried
+returns-in_err-settle-clause-carried g c = λ some.
+    let e = c.in_ok-order.ensures in
+    let a = c.act-outcome.ensures in
+    let s = c.in_err-settle.ensures in
+    carried-err _ _ c.from_residual-in_err-settle.result c.in_err-settle.field-0.0 _ c.from_residual-in_err-settle.ensures.1 some (λ other. inr (e.refused, s.err, inr (record {
+      outcome = c.act-outcome.result;
+      acted = seen g.D.Disk.faults c.act-outcome.new.self c.args.self.now.last;
+      first = record {
+        written = seen g.D.Disk.faults c.order.new.self c.args.self.now.last;
+        order = record { guard_is = e.ok; later = e.later; last_is = refl };
+        acts = a.acted;
+        called = record { later = a.later; cause = a.cause; disk_same = ap g.D.Disk.faults a.same; last_is = refl };
+      };
+      unsettles = s.disk;
+      later = s.later;
+      cause = s.cause;
+      last_is = refl;
+    })))
+
+pub returns-in_err-settle-clause-continues : goal.returns-in_err-settle-clause-continues
+returns-in_err-settle-clause-continues g c =
+    Continues-trans _ _ _ c.in_ok-order.ensures.continues (Continues-trans _ _ _ c.act-outcome.ensures.continues c.in_err-settle.ensures.continues)
+
+pub returns-clause-carried : goal.returns-clause-carried
+returns-clause-carried g c = λ some.
+    let e = c.in_ok-order.ensures in
+    let a = c.act-outcome.ensures in
+    let s = c.in_ok-settle.ensures in (
+      e.refused,
+      record {
+        acted = seen g.D.Disk.faults c.act-outcome.new.self c.args.self.now.last;
+        first = record {
+          written = seen g.D.Disk.faults c.order.new.self c.args.self.now.last;
+          order = record { guard_is = e.ok; later = e.later; last_is = refl };
+          acts = a.acted;
+          called = record { later = a.later; cause = a.cause; disk_same = ap g.D.Disk.faults a.same; last_is = refl };
+        };
+        settles = s.settled;
+        later = s.later;
+        last_is = refl;
+      },
+    )
+
+pub returns-clause-continues : goal.returns-clause-continues
+returns-clause-continues g c =
+    Continues-trans _ _ _ c.in_ok-order.ensures.continues (Continues-trans _ _ _ c.act-outcome.ensures.continues c.in_ok-settle.ensures.continues)

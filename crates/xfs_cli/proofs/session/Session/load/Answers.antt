@@ -1,0 +1,55 @@
+use Rattle.std.proofs.Common.{inl, inr, refl, ap}
+use Rattle.std.proofs.lemmas.Result.{IfOk-weaker}
+use Rattle.xfs_guard.proofs.ContinueLaws.{Continues-trans}
+use Rattle.xfs_cli.specs.Seen.{seen}
+use Rattle.xfs_cli.proofs.SeenLaws.{wrote-kept, wrote-err}
+use Rattle.xfs_cli.proofs.session.Session.load.Goals as goal
+
+pub returns-then-outcome-clause-answer : goal.returns-then-outcome-clause-answer
+returns-then-outcome-clause-answer g c =
+    let e = c.in_ok-outcome.ensures in
+    IfOk-weaker c.joined.result _ _ (λ text told. record {
+      can = c.requires.fits;
+      fit = c.requires.fit;
+      outcome = c.in_ok-outcome.outcome;
+      loaded = seen g.D.Disk.faults c.load.new.self c.args.self.now.last;
+      reported = e.ok;
+      called = record { later = e.later; cause = e.cause; disk_same = ap g.D.Disk.faults e.same; last_is = refl };
+      noted = inl (c.if-outcome.true, told, refl);
+    }) c.joined.ensures
+
+pub returns-in-Ok-clause-answer : goal.returns-in-Ok-clause-answer
+returns-in-Ok-clause-answer g c =
+    let e = c.in_ok-outcome.ensures in
+    let w = c.in-Ok.ensures in
+    let loaded = seen g.D.Disk.faults c.load.new.self c.args.self.now.last in
+    let noted = seen g.D.Disk.faults c.note_load.new.self c.args.self.now.last in
+    IfOk-weaker c.joined-in-Ok.result _ _ (λ text told. record {
+      can = c.requires.fits;
+      fit = c.requires.fit;
+      outcome = c.in_ok-outcome.outcome;
+      loaded = loaded;
+      reported = e.ok;
+      called = record { later = e.later; cause = e.cause; disk_same = ap g.D.Disk.faults e.same; last_is = refl };
+      noted = inr (c.if-outcome.false, wrote-kept loaded noted _ _ _ _ text.items w.refused w.ok w.later refl told);
+    }) c.joined-in-Ok.ensures
+
+pub returns-in-Ok-clause-continues : goal.returns-in-Ok-clause-continues
+returns-in-Ok-clause-continues g c = Continues-trans _ _ _ c.in_ok-outcome.ensures.continues c.note_load.ensures.continues
+
+pub returns-in-Err-clause-answer : goal.returns-in-Err-clause-answer
+returns-in-Err-clause-answer g c =
+    let e = c.in_ok-outcome.ensures in
+    let w = c.in-Err.ensures in
+    IfOk-weaker c.refusal_text.result _ _ (λ text told. record {
+      can = c.requires.fits;
+      fit = c.requires.fit;
+      outcome = c.in_ok-outcome.outcome;
+      loaded = seen g.D.Disk.faults c.load.new.self c.args.self.now.last;
+      reported = e.ok;
+      called = record { later = e.later; cause = e.cause; disk_same = ap g.D.Disk.faults e.same; last_is = refl };
+      noted = inr (c.if-outcome.false, wrote-err (Unit {0}) g.D.Disk.faults c.load.new.self c.note_load.new.self c.args.self.now.last _ _ _ _ text.items c.in-Err.deny w.refused w.disk w.later w.cause w.same told);
+    }) c.refusal_text.ensures
+
+pub returns-in-Err-clause-continues : goal.returns-in-Err-clause-continues
+returns-in-Err-clause-continues g c = Continues-trans _ _ _ c.in_ok-outcome.ensures.continues c.note_load.ensures.continues

@@ -1,0 +1,46 @@
+use Rattle.std.proofs.Common.{◌≡◌, Ok, ap, arith, drop, length, refl, ◌∙◌}
+use Rattle.std.specs.Prelude.{IsTrue}
+use Rattle.xfs_mix.specs.Asked.{is_none}
+use Rattle.xfs_guard.proofs.ContinueLaws.{Continues-same, Continues-trans}
+use Rattle.xfs_cli.specs.Seen.{seen}
+use Rattle.xfs_cli.proofs.SeenLaws.{later-same, later-trans, stacks-next, stacks-stop, stacks-none}
+use Rattle.xfs_cli.proofs.session.Session.stacked.Goals as goal
+
+pub loop-place-init : goal.loop-place-init
+loop-place-init g c = record {
+  continues = Continues-same _;
+  none = c.requires.none;
+  later = later-same _;
+  key = refl;
+  fine = refl;
+  onward = λ result last h. h;
+}
+
+pub returns-in_err-outcome-clause-stacked : goal.returns-in_err-outcome-clause-stacked
+returns-in_err-outcome-clause-stacked g c = λ some.
+    c.loop-place.invariant.onward c.from_residual.result _
+    (stacks-stop _ _ _ _ _ _ _ c.carried.result c.from_residual.result c.in_err-outcome.field-0.0 c.from-at.ensures c.if-count-eq0.false c.in_err-outcome.was c.from_residual.ensures.1 some c.carried.ensures.carried)
+
+pub returns-in_err-outcome-clause-continues : goal.returns-in_err-outcome-clause-continues
+returns-in_err-outcome-clause-continues g c = Continues-trans _ _ _ c.loop-place.invariant.continues c.carried.ensures.continues
+
+pub returns-then-all-clause-continues : goal.returns-then-all-clause-continues
+returns-then-all-clause-continues g c = Continues-trans _ _ _ c.loop-place.invariant.continues c.carried.ensures.continues
+
+pub loop-place-preserved : goal.loop-place-preserved
+loop-place-preserved g c = record {
+  continues = Continues-trans _ _ _ c.loop-place.invariant.continues c.carried.ensures.continues;
+  none = c.carried.ensures.none;
+  later = later-trans _ _ _ c.loop-place.invariant.later c.carried.ensures.later;
+  key = c.carried.ensures.key ∙ c.loop-place.invariant.key;
+  fine = c.if-all.false;
+  onward = λ result last h. c.loop-place.invariant.onward result last
+      (stacks-next _ _ _ _ _ c.in_ok-outcome.outcome _ _ result last c.from-at.ensures c.if-count-eq0.false (c.in_ok-outcome.ensures.carried (λ e. cc)) c.if-all.false h);
+}
+
+pub returns-clause-stacked : goal.returns-clause-stacked
+returns-clause-stacked g c = λ some.
+    let end : c.loop-place.place ≡ length c.args.self.now.guard.state.units = (let u = ap length c.units.ensures in omega (arith, c.loop-place-test.false, c.loop-place.auto.place-end, c.len-place-end.ensures.len, u)) in
+    let none : IsTrue (is_none (drop c.loop-place.place c.args.counts.now.0)) = rw end c.requires.few in
+    c.loop-place.invariant.onward (Ok c.loop-place.all) _
+    (stacks-none c.args.issue (drop c.loop-place.place c.args.counts.now.0) c.loop-place.place c.loop-place.all (seen g.D.Disk.faults c.loop-place.self.guard c.loop-place.self.last) none)

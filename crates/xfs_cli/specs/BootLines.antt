@@ -1,0 +1,18 @@
+-- The status of a refused boot and its last line.
+use Rattle.std.specs.Prelude.{ℕ, List, [], ◌∷◌, ◌++◌, codes, decimal}
+use Rattle.xfs_guard.specs.declared.fail.BootFault.{BootFault}
+use Rattle.xfs_guard.specs.declared.fail.BootFault.TheVariants.{NotJournal, Disk, Full, Memory}
+
+-- the status of a refused boot
+abbrev pub boot_status : BootFault → ℕ
+boot_status (NotJournal at) = 7
+boot_status Disk = 6
+boot_status Full = 12
+boot_status Memory = 8
+
+-- its last line; want of memory has none
+abbrev pub boot_line : BootFault → List (List ℕ)
+boot_line (NotJournal at) = (codes "boot: not a journal at " ++ decimal at) ∷ []
+boot_line Disk = codes "boot: disk" ∷ []
+boot_line Full = codes "boot: journal full" ∷ []
+boot_line Memory = []

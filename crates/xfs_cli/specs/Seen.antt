@@ -1,0 +1,36 @@
+-- What is seen of a session of `guard`, and how a call of its guard may change it.
+use Rattle.std.specs.Prelude.{◌≡◌, ◌≤◌, ℕ, true, List, Some}
+use Rattle.std.specs.declared.option.Option.{Option}
+use Rattle.xfs_base.specs.Causes.{Rose}
+use Rattle.xfs_journal.specs.declared.record.Rec.{Rec}
+use Rattle.xfs_guard.specs.View.{View, GuardView}
+
+-- a session: its guard, how often its disk failed, and the token that was minted last
+pub record Seen : Type 0 where
+  pub guard : View
+  pub disk_faults : ℕ
+  pub last : Option (List ℕ)
+
+-- the same of a guard with its disk
+abbrev pub seen : {D : Type 0} → (D → ℕ) → GuardView D → Option (List ℕ) → Seen
+seen faults g last = record { guard = g.state; disk_faults = faults g.disk; last = last }
+
+-- no count of faults has fallen
+pub record IsLater (old new : Seen) : Type 0 where
+  pub mech : old.guard.faults ≤ new.guard.faults
+  pub disk : old.disk_faults ≤ new.disk_faults
+
+-- this is the guard then; the disk may have been called
+pub record Becomes (old : Seen) (now : View) (new : Seen) : Type 0 where
+  pub guard_is : new.guard ≡ now
+  pub later : old.disk_faults ≤ new.disk_faults
+  pub last_is : new.last ≡ old.last
+
+-- the disk failed, and this is the guard then
+pub record Fails (old : Seen) (now : View) (new : Seen) : Type 0 where
+  pub becomes : Becomes old now new
+  pub cause : Rose old.disk_faults new.disk_faults
+
+-- a guard whose journal is shut, with this record in doubt
+abbrev pub shut_at : Rec → View → View
+shut_at r v = record v { shut = true; in_doubt = Some r }
