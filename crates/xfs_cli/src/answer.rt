@@ -4,6 +4,7 @@ ghost use Rattle.std.specs.Prelude.{◌≡◌, ◌≢◌, ◌≤◌, length};
 ghost use Rattle.xfs_base.specs.Causes.{Rose};
 ghost use Rattle.xfs_guard.specs.declared.open.Open.TheVariants.{No};
 ghost use Rattle.xfs_guard.specs.Continues.{Continues};
+ghost use Rattle.xfs_guard.specs.Crashed.{LeavesBehind};
 ghost use Rattle.xfs_cli.specs.Answers.{SaysAnswer, SaysFront};
 ghost use Rattle.xfs_cli.specs.GuardLines.{IsLine};
 ghost use Rattle.xfs_cli.specs.Seen.{IsLater, seen};
@@ -41,6 +42,7 @@ impl<M: Mechanism, D: Disk> Session<M, D> {
         ensures faults { IsLater (seen D.faults self.old.guard self.old.last) (seen D.faults self.new.guard self.new.last) }
         ensures key { self.new.key ≡ self.new.guard.state.key }
         ensures continues { Continues self.old.guard.state self.new.guard.state }
+        ensures crashes { LeavesBehind D.held D.images D.moment D.images_since self.old.guard self.new.guard }
         ensures none { self.new.guard.state.open_order ≡ No }
         ensures later { K.faults sink.old ≤ K.faults sink.new }
         ensures cause { result ≡ Turn.Write → Rose (K.faults sink.old) (K.faults sink.new) }

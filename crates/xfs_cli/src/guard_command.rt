@@ -8,6 +8,7 @@ ghost use Rattle.xfs_journal.specs.Image.{Stands};
 ghost use Rattle.xfs_journal.specs.declared.record.Rec.{Rec};
 ghost use Rattle.xfs_guard.specs.declared.open.Open.TheVariants.{No};
 ghost use Rattle.xfs_guard.specs.Continues.{Continues};
+ghost use Rattle.xfs_guard.specs.Crashed.{LeavesBehind};
 ghost use Rattle.xfs_guard.specs.Recorded.{IsRecorded};
 ghost use Rattle.xfs_guard.specs.Stored.{IsStored, MayLeave};
 ghost use Rattle.xfs_cli.specs.Run.{IsGuard, AllLines, StopsAtLine, GaveAll};
@@ -148,6 +149,7 @@ fn serve<S: Source, K: Sink, M: Mechanism, D: Disk>(
     ensures front { result ≡ 5 → IfTold (S.left source.old) (WritesFront AnswersGuard (λ last. IsLater last (seen D.faults session.new.guard session.new.last)) (seen D.faults session.old.guard session.old.last) (K.held sink.old) (K.held sink.new)) }
     ensures until { result ≢ 0 → result ≢ 5 → IfTold (S.left source.old) (WritesUntil IsLine AnswersGuard (IsStop session.new.guard.state.faults (D.faults session.new.guard.disk)) (seen D.faults session.old.guard session.old.last) result (S.left source.new) (K.held sink.old) (K.held sink.new)) }
     ensures continues { Continues session.old.guard.state session.new.guard.state }
+    ensures crashes { LeavesBehind D.held D.images D.moment D.images_since session.old.guard session.new.guard }
     ensures usage { result ≢ 2 }
     ensures booted { (result ≢ 6) × (result ≢ 7) × (result ≢ 12) }
     ensures whole { result ≡ 0 → IsAtEnd (S.left source.new) }

@@ -4,6 +4,7 @@ ghost use Rattle.std.specs.Prelude.{◌≡◌, ◌≢◌, ◌≤◌, Err, IfOk, 
 ghost use Rattle.std.specs.Option.{option_map, option_or};
 ghost use Rattle.xfs_guard.specs.declared.open.Open.TheVariants.{No};
 ghost use Rattle.xfs_guard.specs.Continues.{Continues};
+ghost use Rattle.xfs_guard.specs.Crashed.{LeavesBehind};
 ghost use Rattle.xfs_mech.specs.Mechanism.{CanLoad};
 ghost use Rattle.xfs_guard.specs.Fits.{unfit};
 ghost use Rattle.xfs_guard.specs.Nonce.{live_nonce, live_in};
@@ -68,6 +69,7 @@ impl<M: Mechanism, D: Disk> Session<M, D> {
         ensures answer { IfOk result (λ a. AreAnswer (seen D.faults self.old.guard self.old.last) verb.now (lines_in (option_map (λ v. v.items) a)) (seen D.faults self.new.guard self.new.last)) }
         ensures later { IsLater (seen D.faults self.old.guard self.old.last) (seen D.faults self.new.guard self.new.last) }
         ensures continues { Continues self.old.guard.state self.new.guard.state }
+        ensures crashes { LeavesBehind D.held D.images D.moment D.images_since self.old.guard self.new.guard }
         ensures none { self.new.guard.state.open_order ≡ No }
         ensures key { self.new.key ≡ self.new.guard.state.key }
     {
@@ -92,6 +94,7 @@ impl<M: Mechanism, D: Disk> Session<M, D> {
         ensures answer { IfOk result (λ text. Issues (seen D.faults self.old.guard self.old.last) text.items (seen D.faults self.new.guard self.new.last)) }
         ensures later { IsLater (seen D.faults self.old.guard self.old.last) (seen D.faults self.new.guard self.new.last) }
         ensures continues { Continues self.old.guard.state self.new.guard.state }
+        ensures crashes { LeavesBehind D.held D.images D.moment D.images_since self.old.guard self.new.guard }
         ensures none { self.new.guard.state.open_order ≡ No }
         ensures key { self.new.key ≡ self.old.key }
     {
@@ -106,6 +109,7 @@ impl<M: Mechanism, D: Disk> Session<M, D> {
         ensures answer { IfOk result (λ text. Clears (live_nonce self.old.guard.state.records) (seen D.faults self.old.guard self.old.last) text.items (seen D.faults self.new.guard self.new.last)) }
         ensures later { IsLater (seen D.faults self.old.guard self.old.last) (seen D.faults self.new.guard self.new.last) }
         ensures continues { Continues self.old.guard.state self.new.guard.state }
+        ensures crashes { LeavesBehind D.held D.images D.moment D.images_since self.old.guard self.new.guard }
         ensures none { self.new.guard.state.open_order ≡ No }
         ensures key { self.new.key ≡ self.old.key }
     {
@@ -142,6 +146,7 @@ impl<M: Mechanism, D: Disk> Session<M, D> {
         ensures answer { IfOk result (λ text. Takes (seen D.faults self.old.guard self.old.last) text.items (seen D.faults self.new.guard self.new.last)) }
         ensures later { IsLater (seen D.faults self.old.guard self.old.last) (seen D.faults self.new.guard self.new.last) }
         ensures continues { Continues self.old.guard.state self.new.guard.state }
+        ensures crashes { LeavesBehind D.held D.images D.moment D.images_since self.old.guard self.new.guard }
         ensures none { self.new.guard.state.open_order ≡ No }
         ensures key { self.new.key ≡ self.old.key }
     {
@@ -157,6 +162,7 @@ impl<M: Mechanism, D: Disk> Session<M, D> {
         ensures answer { IfOk result (λ text. Fills (seen D.faults self.old.guard self.old.last) unit count text.items (seen D.faults self.new.guard self.new.last)) }
         ensures later { IsLater (seen D.faults self.old.guard self.old.last) (seen D.faults self.new.guard self.new.last) }
         ensures continues { Continues self.old.guard.state self.new.guard.state }
+        ensures crashes { LeavesBehind D.held D.images D.moment D.images_since self.old.guard self.new.guard }
         ensures none { self.new.guard.state.open_order ≡ No }
         ensures key { self.new.key ≡ self.old.key }
     {
@@ -180,6 +186,7 @@ impl<M: Mechanism, D: Disk> Session<M, D> {
         ensures answer { IfOk result (λ text. IsLoaded (seen D.faults self.old.guard self.old.last) unit count text.items (seen D.faults self.new.guard self.new.last)) }
         ensures later { IsLater (seen D.faults self.old.guard self.old.last) (seen D.faults self.new.guard self.new.last) }
         ensures continues { Continues self.old.guard.state self.new.guard.state }
+        ensures crashes { LeavesBehind D.held D.images D.moment D.images_since self.old.guard self.new.guard }
         ensures none { self.new.guard.state.open_order ≡ No }
         ensures key { self.new.key ≡ self.old.key }
     {
@@ -207,6 +214,7 @@ impl<M: Mechanism, D: Disk> Session<M, D> {
         ensures answer { IfOk result (λ text. Moves (seen D.faults self.old.guard self.old.last) ask text.items (seen D.faults self.new.guard self.new.last)) }
         ensures later { IsLater (seen D.faults self.old.guard self.old.last) (seen D.faults self.new.guard self.new.last) }
         ensures continues { Continues self.old.guard.state self.new.guard.state }
+        ensures crashes { LeavesBehind D.held D.images D.moment D.images_since self.old.guard self.new.guard }
         ensures none { self.new.guard.state.open_order ≡ No }
         ensures key { self.new.key ≡ self.old.key }
     {
@@ -221,6 +229,7 @@ impl<M: Mechanism, D: Disk> Session<M, D> {
         ensures answer { IfOk result (λ text. Dispenses (seen D.faults self.old.guard self.old.last) (named self.old.last token.now) counts.now text.items (seen D.faults self.new.guard self.new.last)) }
         ensures later { IsLater (seen D.faults self.old.guard self.old.last) (seen D.faults self.new.guard self.new.last) }
         ensures continues { Continues self.old.guard.state self.new.guard.state }
+        ensures crashes { LeavesBehind D.held D.images D.moment D.images_since self.old.guard self.new.guard }
         ensures none { self.new.guard.state.open_order ≡ No }
         ensures key { self.new.key ≡ self.old.key }
     {
@@ -241,6 +250,7 @@ impl<M: Mechanism, D: Disk> Session<M, D> {
         ensures refused { IfErr result (λ r. r ≢ Denied NoMemory → IsForbidden (seen D.faults self.old.guard self.old.last) (named self.old.last token.now) counts.now r (seen D.faults self.new.guard self.new.last)) }
         ensures later { IsLater (seen D.faults self.old.guard self.old.last) (seen D.faults self.new.guard self.new.last) }
         ensures continues { Continues self.old.guard.state self.new.guard.state }
+        ensures crashes { LeavesBehind D.held D.images D.moment D.images_since self.old.guard self.new.guard }
         ensures none { self.new.guard.state.open_order ≡ No }
         ensures same { IfErr result (λ r. r ≢ Denied Deny.Disk → self.new.guard.state ≡ self.old.guard.state) }
         ensures key { self.new.key ≡ self.old.key }
@@ -265,6 +275,7 @@ impl<M: Mechanism, D: Disk> Session<M, D> {
         ensures same { IfErr result (λ e. e ≢ Deny.Disk → self.new.guard.state ≡ self.old.guard.state) }
         ensures later { IsLater (seen D.faults self.old.guard self.old.last) (seen D.faults self.new.guard self.new.last) }
         ensures continues { Continues self.old.guard.state self.new.guard.state }
+        ensures crashes { LeavesBehind D.held D.images D.moment D.images_since self.old.guard self.new.guard }
         ensures none { self.new.guard.state.open_order ≡ No }
         ensures key { self.new.key ≡ self.old.key }
     {
@@ -281,6 +292,7 @@ impl<M: Mechanism, D: Disk> Session<M, D> {
         ensures stacked { result ≢ Err NoMemory → Stacks issue counts.now.0 0 nothing_stacked (seen D.faults self.old.guard self.old.last) result (seen D.faults self.new.guard self.new.last) }
         ensures later { IsLater (seen D.faults self.old.guard self.old.last) (seen D.faults self.new.guard self.new.last) }
         ensures continues { Continues self.old.guard.state self.new.guard.state }
+        ensures crashes { LeavesBehind D.held D.images D.moment D.images_since self.old.guard self.new.guard }
         ensures none { self.new.guard.state.open_order ≡ No }
         ensures key { self.new.key ≡ self.old.key }
     {

@@ -7,11 +7,13 @@ use Rattle.xfs_cli.proofs.AnswerLaws.{answered-start, answered-line, answered-al
 use Rattle.xfs_cli.specs.Run.{status_of}
 use Rattle.xfs_cli.proofs.GuardRunLaws.{stops-plain, fault-plain}
 use Rattle.xfs_cli.proofs.SeenLaws.{later-same}
+use Rattle.xfs_guard.proofs.BehindLaws.{behind-trans, behind-still}
 use Rattle.xfs_cli.proofs.guard_command.serve.Goals as goal
 
 pub loop-init : goal.loop-init
 loop-init g c = record {
   continues = Continues-same _;
+  crashes = behind-still g.D.Disk.held g.D.Disk.images g.D.Disk.moment g.D.Disk.images_since _ _ g.met.D.Disk.only_now refl;
   key = c.requires.key;
   answered = answered-start AnswersGuard _ _ _ _ c.new-lines.ensures;
   none = c.requires.none;
@@ -49,14 +51,26 @@ returns-in-Ok-None-clause-lines g c = λ zero. read-end _ _ _ _ _ c.loop.invaria
 pub returns-in-NotALine-clause-continues : goal.returns-in-NotALine-clause-continues
 returns-in-NotALine-clause-continues g c = Continues-trans _ _ _ c.loop.invariant.continues c.line.ensures.continues
 
+pub returns-in-NotALine-clause-crashes : goal.returns-in-NotALine-clause-crashes
+returns-in-NotALine-clause-crashes g c =
+    behind-trans g.D.Disk.held g.D.Disk.images g.D.Disk.moment g.D.Disk.images_since _ _ _ g.met.D.Disk.counts_now c.loop.invariant.continues c.line.ensures.continues c.loop.invariant.crashes c.line.ensures.crashes
+
 pub returns-in-NotALine-clause-not_a_line : goal.returns-in-NotALine-clause-not_a_line
 returns-in-NotALine-clause-not_a_line g c = λ four. read-stop _ _ _ _ _ c.in-Ok-Some.line c.loop.invariant.read (rw c.in-Ok-Some.field-0-is at c.in-Ok-Some.ensures.reads) (c.in-NotALine.ensures.no_line refl)
 
 pub returns-in-Write-clause-continues : goal.returns-in-Write-clause-continues
 returns-in-Write-clause-continues g c = Continues-trans _ _ _ c.loop.invariant.continues c.line.ensures.continues
 
+pub returns-in-Write-clause-crashes : goal.returns-in-Write-clause-crashes
+returns-in-Write-clause-crashes g c =
+    behind-trans g.D.Disk.held g.D.Disk.images g.D.Disk.moment g.D.Disk.images_since _ _ _ g.met.D.Disk.counts_now c.loop.invariant.continues c.line.ensures.continues c.loop.invariant.crashes c.line.ensures.crashes
+
 pub returns-in-Memory-clause-continues : goal.returns-in-Memory-clause-continues
 returns-in-Memory-clause-continues g c = Continues-trans _ _ _ c.loop.invariant.continues c.line.ensures.continues
+
+pub returns-in-Memory-clause-crashes : goal.returns-in-Memory-clause-crashes
+returns-in-Memory-clause-crashes g c =
+    behind-trans g.D.Disk.held g.D.Disk.images g.D.Disk.moment g.D.Disk.images_since _ _ _ g.met.D.Disk.counts_now c.loop.invariant.continues c.line.ensures.continues c.loop.invariant.crashes c.line.ensures.crashes
 
 pub returns-in-Err-clause-not_a_line : goal.returns-in-Err-clause-not_a_line
 returns-in-Err-clause-not_a_line g c = λ four. read-fault _ _ _ _ _ c.in-Err.fault c.loop.invariant.read c.in-Err.ensures.reads (sym c.faulty.ensures.status ∙ four)
@@ -67,6 +81,7 @@ returns-in-Err-clause-quota g c = λ ten. read-quota _ _ _ _ _ c.in-Err.fault c.
 pub loop-preserved : goal.loop-preserved
 loop-preserved g c = record {
   continues = Continues-trans _ _ _ c.loop.invariant.continues c.line.ensures.continues;
+  crashes = behind-trans g.D.Disk.held g.D.Disk.images g.D.Disk.moment g.D.Disk.images_since _ _ _ g.met.D.Disk.counts_now c.loop.invariant.continues c.line.ensures.continues c.loop.invariant.crashes c.line.ensures.crashes;
   key = c.line.ensures.key;
   answered = answered-line AnswersGuard _ _ _ _ _ _ _ _ _ _ _ c.in-Ok-Some.line c.loop.invariant.answered (rw c.in-Ok-Some.field-0-is at c.in-Ok-Some.ensures.reads) (c.in-More.ensures.more refl);
   none = c.line.ensures.none;

@@ -1,6 +1,7 @@
 use Rattle.std.proofs.Common.{◌≡◌, ◌≤◌}
 use Rattle.xfs_guard.specs.declared.open.Open.TheVariants.{No}
 use Rattle.xfs_guard.specs.Continues.{Continues}
+use Rattle.xfs_guard.specs.Crashed.{LeavesBehind}
 use Rattle.xfs_script.specs.Reading.{Gives, nothing_read}
 use Rattle.xfs_base.specs.Causes.{IfTold}
 use Rattle.xfs_cli.specs.Seen.{seen}
@@ -12,6 +13,7 @@ use Rattle.xfs_cli.proofs.guard_command.serve.Given as goal
 abbrev pub invariant-loop : goal.invariant-loop
 invariant-loop g l = record {
   continues : Continues l.fn.session.guard.state l.session.guard.state;
+  crashes : LeavesBehind g.D.Disk.held g.D.Disk.images g.D.Disk.moment g.D.Disk.images_since l.fn.session.guard l.session.guard;
   key : l.session.key ≡ l.session.guard.state.key;
   answered : IfTold (g.S.Source.left l.fn.source) (HasAnswered AnswersGuard (seen g.D.Disk.faults l.fn.session.guard l.fn.session.last) (seen g.D.Disk.faults l.session.guard l.session.last) l.lines (g.S.Source.left l.source) (g.K.Sink.held l.fn.sink) (g.K.Sink.held l.sink));
   none : l.session.guard.state.open_order ≡ No;

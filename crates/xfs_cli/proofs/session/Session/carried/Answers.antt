@@ -2,6 +2,7 @@ use Rattle.std.proofs.Common.{inr, refl, ap}
 use Rattle.xfs_guard.proofs.ContinueLaws.{Continues-trans}
 use Rattle.xfs_cli.specs.Seen.{seen}
 use Rattle.xfs_cli.proofs.SeenLaws.{carried-err, stopped-order}
+use Rattle.xfs_guard.proofs.BehindLaws.{behind-trans}
 use Rattle.xfs_cli.proofs.session.Session.carried.Goals as goal
 
 pub returns-in_err-order-clause-carried : goal.returns-in_err-order-clause-carried
@@ -34,6 +35,11 @@ pub returns-in_err-settle-clause-continues : goal.returns-in_err-settle-clause-c
 returns-in_err-settle-clause-continues g c =
     Continues-trans _ _ _ c.in_ok-order.ensures.continues (Continues-trans _ _ _ c.act-outcome.ensures.continues c.in_err-settle.ensures.continues)
 
+pub returns-in_err-settle-clause-crashes : goal.returns-in_err-settle-clause-crashes
+returns-in_err-settle-clause-crashes g c =
+    behind-trans g.D.Disk.held g.D.Disk.images g.D.Disk.moment g.D.Disk.images_since _ _ _ g.met.D.Disk.counts_now c.in_ok-order.ensures.continues (Continues-trans _ _ _ c.act-outcome.ensures.continues c.in_err-settle.ensures.continues) c.in_ok-order.ensures.crashes
+    (behind-trans g.D.Disk.held g.D.Disk.images g.D.Disk.moment g.D.Disk.images_since _ _ _ g.met.D.Disk.counts_now c.act-outcome.ensures.continues c.in_err-settle.ensures.continues c.act-outcome.ensures.crashes c.in_err-settle.ensures.crashes)
+
 pub returns-clause-carried : goal.returns-clause-carried
 returns-clause-carried g c = λ some.
     let e = c.in_ok-order.ensures in
@@ -57,3 +63,8 @@ returns-clause-carried g c = λ some.
 pub returns-clause-continues : goal.returns-clause-continues
 returns-clause-continues g c =
     Continues-trans _ _ _ c.in_ok-order.ensures.continues (Continues-trans _ _ _ c.act-outcome.ensures.continues c.in_ok-settle.ensures.continues)
+
+pub returns-clause-crashes : goal.returns-clause-crashes
+returns-clause-crashes g c =
+    behind-trans g.D.Disk.held g.D.Disk.images g.D.Disk.moment g.D.Disk.images_since _ _ _ g.met.D.Disk.counts_now c.in_ok-order.ensures.continues (Continues-trans _ _ _ c.act-outcome.ensures.continues c.in_ok-settle.ensures.continues) c.in_ok-order.ensures.crashes
+    (behind-trans g.D.Disk.held g.D.Disk.images g.D.Disk.moment g.D.Disk.images_since _ _ _ g.met.D.Disk.counts_now c.act-outcome.ensures.continues c.in_ok-settle.ensures.continues c.act-outcome.ensures.crashes c.in_ok-settle.ensures.crashes)

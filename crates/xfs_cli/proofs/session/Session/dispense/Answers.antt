@@ -4,6 +4,7 @@ use Rattle.xfs_guard.proofs.ContinueLaws.{Continues-trans}
 use Rattle.xfs_cli.specs.Seen.{seen}
 use Rattle.xfs_cli.proofs.DispenseLaws.{few-permitted}
 use Rattle.xfs_cli.proofs.SeenLaws.{told-some}
+use Rattle.xfs_guard.proofs.BehindLaws.{behind-trans}
 use Rattle.xfs_cli.proofs.session.Session.dispense.Goals as goal
 
 pub returns-in-Err-clause-answer : goal.returns-in-Err-clause-answer
@@ -16,5 +17,13 @@ stacked-requires-clause-few g c = rw c.permitted.ensures.continues.units (few-pe
 pub returns-in-Ok-stacked-clause-continues : goal.returns-in-Ok-stacked-clause-continues
 returns-in-Ok-stacked-clause-continues g c = Continues-trans _ _ _ c.permitted.ensures.continues c.stacked.ensures.continues
 
+pub returns-in-Ok-stacked-clause-crashes : goal.returns-in-Ok-stacked-clause-crashes
+returns-in-Ok-stacked-clause-crashes g c =
+    behind-trans g.D.Disk.held g.D.Disk.images g.D.Disk.moment g.D.Disk.images_since _ _ _ g.met.D.Disk.counts_now c.permitted.ensures.continues c.stacked.ensures.continues c.permitted.ensures.crashes c.stacked.ensures.crashes
+
 pub returns-in-Err-stacked-clause-continues : goal.returns-in-Err-stacked-clause-continues
 returns-in-Err-stacked-clause-continues g c = Continues-trans _ _ _ c.permitted.ensures.continues c.stacked.ensures.continues
+
+pub returns-in-Err-stacked-clause-crashes : goal.returns-in-Err-stacked-clause-crashes
+returns-in-Err-stacked-clause-crashes g c =
+    behind-trans g.D.Disk.held g.D.Disk.images g.D.Disk.moment g.D.Disk.images_since _ _ _ g.met.D.Disk.counts_now c.permitted.ensures.continues c.stacked.ensures.continues c.permitted.ensures.crashes c.stacked.ensures.crashes

@@ -3,6 +3,7 @@ use Rattle.std.proofs.lemmas.Result.{IfOk-weaker}
 use Rattle.xfs_guard.proofs.ContinueLaws.{Continues-trans}
 use Rattle.xfs_cli.specs.Seen.{seen}
 use Rattle.xfs_cli.proofs.SeenLaws.{wrote-kept, wrote-err}
+use Rattle.xfs_guard.proofs.BehindLaws.{behind-trans}
 use Rattle.xfs_cli.proofs.session.Session.load.Goals as goal
 
 pub returns-then-outcome-clause-answer : goal.returns-then-outcome-clause-answer
@@ -37,6 +38,10 @@ returns-in-Ok-clause-answer g c =
 pub returns-in-Ok-clause-continues : goal.returns-in-Ok-clause-continues
 returns-in-Ok-clause-continues g c = Continues-trans _ _ _ c.in_ok-outcome.ensures.continues c.note_load.ensures.continues
 
+pub returns-in-Ok-clause-crashes : goal.returns-in-Ok-clause-crashes
+returns-in-Ok-clause-crashes g c =
+    behind-trans g.D.Disk.held g.D.Disk.images g.D.Disk.moment g.D.Disk.images_since _ _ _ g.met.D.Disk.counts_now c.in_ok-outcome.ensures.continues c.note_load.ensures.continues c.in_ok-outcome.ensures.crashes c.note_load.ensures.crashes
+
 pub returns-in-Err-clause-answer : goal.returns-in-Err-clause-answer
 returns-in-Err-clause-answer g c =
     let e = c.in_ok-outcome.ensures in
@@ -53,3 +58,7 @@ returns-in-Err-clause-answer g c =
 
 pub returns-in-Err-clause-continues : goal.returns-in-Err-clause-continues
 returns-in-Err-clause-continues g c = Continues-trans _ _ _ c.in_ok-outcome.ensures.continues c.note_load.ensures.continues
+
+pub returns-in-Err-clause-crashes : goal.returns-in-Err-clause-crashes
+returns-in-Err-clause-crashes g c =
+    behind-trans g.D.Disk.held g.D.Disk.images g.D.Disk.moment g.D.Disk.images_since _ _ _ g.met.D.Disk.counts_now c.in_ok-outcome.ensures.continues c.note_load.ensures.continues c.in_ok-outcome.ensures.crashes c.note_load.ensures.crashes

@@ -4,11 +4,13 @@ use Rattle.xfs_mix.specs.Asked.{is_none}
 use Rattle.xfs_guard.proofs.ContinueLaws.{Continues-same, Continues-trans}
 use Rattle.xfs_cli.specs.Seen.{seen}
 use Rattle.xfs_cli.proofs.SeenLaws.{later-same, later-trans, stacks-next, stacks-stop, stacks-none}
+use Rattle.xfs_guard.proofs.BehindLaws.{behind-trans, behind-still}
 use Rattle.xfs_cli.proofs.session.Session.stacked.Goals as goal
 
 pub loop-place-init : goal.loop-place-init
 loop-place-init g c = record {
   continues = Continues-same _;
+  crashes = behind-still g.D.Disk.held g.D.Disk.images g.D.Disk.moment g.D.Disk.images_since _ _ g.met.D.Disk.only_now refl;
   none = c.requires.none;
   later = later-same _;
   key = refl;
@@ -24,12 +26,21 @@ returns-in_err-outcome-clause-stacked g c = λ some.
 pub returns-in_err-outcome-clause-continues : goal.returns-in_err-outcome-clause-continues
 returns-in_err-outcome-clause-continues g c = Continues-trans _ _ _ c.loop-place.invariant.continues c.carried.ensures.continues
 
+pub returns-in_err-outcome-clause-crashes : goal.returns-in_err-outcome-clause-crashes
+returns-in_err-outcome-clause-crashes g c =
+    behind-trans g.D.Disk.held g.D.Disk.images g.D.Disk.moment g.D.Disk.images_since _ _ _ g.met.D.Disk.counts_now c.loop-place.invariant.continues c.carried.ensures.continues c.loop-place.invariant.crashes c.carried.ensures.crashes
+
 pub returns-then-all-clause-continues : goal.returns-then-all-clause-continues
 returns-then-all-clause-continues g c = Continues-trans _ _ _ c.loop-place.invariant.continues c.carried.ensures.continues
+
+pub returns-then-all-clause-crashes : goal.returns-then-all-clause-crashes
+returns-then-all-clause-crashes g c =
+    behind-trans g.D.Disk.held g.D.Disk.images g.D.Disk.moment g.D.Disk.images_since _ _ _ g.met.D.Disk.counts_now c.loop-place.invariant.continues c.carried.ensures.continues c.loop-place.invariant.crashes c.carried.ensures.crashes
 
 pub loop-place-preserved : goal.loop-place-preserved
 loop-place-preserved g c = record {
   continues = Continues-trans _ _ _ c.loop-place.invariant.continues c.carried.ensures.continues;
+  crashes = behind-trans g.D.Disk.held g.D.Disk.images g.D.Disk.moment g.D.Disk.images_since _ _ _ g.met.D.Disk.counts_now c.loop-place.invariant.continues c.carried.ensures.continues c.loop-place.invariant.crashes c.carried.ensures.crashes;
   none = c.carried.ensures.none;
   later = later-trans _ _ _ c.loop-place.invariant.later c.carried.ensures.later;
   key = c.carried.ensures.key ∙ c.loop-place.invariant.key;
