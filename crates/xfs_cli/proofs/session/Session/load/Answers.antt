@@ -1,8 +1,9 @@
-use Rattle.std.proofs.Common.{inl, inr, refl, ap}
+use Rattle.std.proofs.Common.{inl, inr, refl, ap, ◌∙◌, arith}
+use Rattle.xfs_guard.specs.View.{View}
 use Rattle.std.proofs.lemmas.Result.{IfOk-weaker}
 use Rattle.xfs_guard.proofs.ContinueLaws.{Continues-trans}
 use Rattle.xfs_cli.specs.Seen.{seen}
-use Rattle.xfs_cli.proofs.SeenLaws.{wrote-kept, wrote-err}
+use Rattle.xfs_cli.proofs.SeenLaws.{wrote-kept, wrote-err, later-err, later-trans, none-err}
 use Rattle.xfs_guard.proofs.BehindLaws.{behind-trans}
 use Rattle.xfs_cli.proofs.session.Session.load.Goals as goal
 
@@ -62,3 +63,16 @@ returns-in-Err-clause-continues g c = Continues-trans _ _ _ c.in_ok-outcome.ensu
 pub returns-in-Err-clause-crashes : goal.returns-in-Err-clause-crashes
 returns-in-Err-clause-crashes g c =
     behind-trans g.D.Disk.held g.D.Disk.images g.D.Disk.moment g.D.Disk.images_since _ _ _ g.met.D.Disk.counts_now c.in_ok-outcome.ensures.continues c.note_load.ensures.continues c.in_ok-outcome.ensures.crashes c.note_load.ensures.crashes
+
+pub returns-in-Err-clause-later : goal.returns-in-Err-clause-later
+returns-in-Err-clause-later g c =
+    let e = c.in_ok-outcome.ensures in
+    let w = c.in-Err.ensures in
+    later-trans _ (seen g.D.Disk.faults c.load.new.self c.args.self.now.last) _ (record { mech = e.later; disk = rw e.same (omega arith) })
+    (later-err (Unit {0}) g.D.Disk.faults c.load.new.self c.note_load.new.self _ _ _ c.in-Err.deny w.disk w.later w.same)
+
+pub returns-in-Err-clause-none : goal.returns-in-Err-clause-none
+returns-in-Err-clause-none g c =
+    let e = c.in_ok-outcome.ensures in
+    let w = c.in-Err.ensures in
+    none-err (Unit {0}) c.load.new.self c.note_load.new.self _ c.in-Err.deny w.disk w.same (ap (λ (v : View). v.open_order) e.ok.same ∙ c.requires.none)
