@@ -3,6 +3,7 @@ pub mod DispenseLaws
 pub mod EndLaws
 pub mod GuardRunLaws
 pub mod LineLaws
+pub mod MomentLaws
 pub mod NumberLaws
 pub mod RunLaws
 pub mod SeenLaws

@@ -6,6 +6,7 @@ pub mod GuardAnswers
 pub mod GuardLines
 pub mod GuardRuns
 pub mod LineAnswers
+pub mod Moments
 pub mod OrderAnswers
 pub mod Refused
 pub mod Run

@@ -3,7 +3,8 @@
 ghost use Rattle.std.specs.Prelude.{◌≡◌, ◌≢◌, ◌↔◌, ◌⊎◌, ℕ, List, is_some, length};
 ghost use Rattle.std.specs.Io.KnownBytes.{IsAtEnd};
 ghost use Rattle.xfs_base.specs.Causes.{Rose, IfTold};
-ghost use Rattle.xfs_disk.specs.Disk.{Only};
+ghost use Rattle.xfs_disk.specs.Disk.{LeavesOnly, Only};
+ghost use Rattle.xfs_cli.specs.Moments.{WasOnTheWay};
 ghost use Rattle.xfs_journal.specs.Image.{Stands};
 ghost use Rattle.xfs_journal.specs.declared.record.Rec.{Rec};
 ghost use Rattle.xfs_guard.specs.Recorded.{IsRecorded};
@@ -46,6 +47,10 @@ pub fn run<S: Source, K: Sink, M: Mechanism, D: Disk>(
     // The headline: what was put out is within the tokens, whatever a crash leaves of the disk.
     ensures upholds { IfTold (D.held core.disk) (λ bytes. (J : List Rec) → Stands bytes J → IfTold (D.held result.disk) (λ _. (c : List ℕ) → D.images result.disk c
         → Upholds core.key core.units J (M.motions core.mech) (M.places core.mech) c (M.motions result.mech) (M.places result.mech))) }
+
+    // A crash at any moment of the run leaves a list that begins with the records at entry, and is a front of those at
+    // the end but for its last record, whose number then no motion has.
+    ensures any_moment { IfTold (D.held core.disk) (λ bytes. (J : List Rec) → Stands bytes J → LeavesOnly D.moment D.images_since core.disk result.disk (WasOnTheWay J (D.held result.disk) (M.motions result.mech))) }
 
     // Each status has its cause.
     ensures usage { (result.status ≡ 2) ↔ ¬ (IsCommand words.now) }

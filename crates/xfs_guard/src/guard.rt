@@ -8,7 +8,7 @@ ghost use Rattle.xfs_guard.specs.declared.open.Open.TheVariants.{No, Written};
 ghost use Rattle.xfs_guard.specs.Nonce.{live_in, live_nonce};
 ghost use Rattle.xfs_guard.specs.Word.{issue_word};
 ghost use Rattle.xfs_guard.specs.Fits.{fit_of, unfit};
-ghost use Rattle.xfs_guard.specs.Left.{EachStands, Leaves, MayMove, StandsRecorded, StandsThrough};
+ghost use Rattle.xfs_guard.specs.Left.{EachStands, IsOldOrBooted, Leaves, MayMove, StandsRecorded, StandsThrough};
 ghost use Rattle.xfs_guard.specs.Lives.{Run, IsLife, answered_in};
 ghost use Rattle.xfs_guard.specs.Stored.{IsStored, MayLeave};
 ghost use Rattle.xfs_guard.specs.Recorded.{IsRecorded};
@@ -145,6 +145,11 @@ impl<M: Mechanism, D: Disk> Guard<M, D> {
         ensures any_moment { IfTold (D.held disk) (λ _. EachStands (D.images disk) → MatchResult result
             (λ g. LeavesOnly D.moment D.images_since disk g.disk (StandsRecorded key units (M.motions mech)))
             (λ f. LeavesOnly D.moment D.images_since disk f.disk (StandsRecorded key units (M.motions mech)))) }
+
+        // Each of them is one of those before, or stands for the list that was found, with the Boot or without it.
+        ensures crashes { IfTold (D.held disk) (λ all. MatchResult result
+            (λ g. LeavesOnly D.moment D.images_since disk g.disk (IsOldOrBooted (D.images disk) all (M.places mech)))
+            (λ f. LeavesOnly D.moment D.images_since disk f.disk (IsOldOrBooted (D.images disk) all (M.places mech)))) }
     {
         let places = mech.survey();
         match Ledger::boot(alloc, disk, limits, units, places) {

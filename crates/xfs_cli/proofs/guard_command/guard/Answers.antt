@@ -1,4 +1,4 @@
-use Rattle.std.proofs.Common.{None, inl, inr, refl, ap}
+use Rattle.std.proofs.Common.{None, inl, inr, refl, ap, sym, ◌∙◌}
 use Rattle.xfs_guard.specs.View.{View}
 use Rattle.xfs_cli.proofs.RunLaws.{recorded-start, upholds-same, upholds-refused, upholds-run, ends-unread, due-full, journal-run, fits-run}
 use Rattle.xfs_cli.specs.GuardLines.{IsLine}
@@ -7,6 +7,7 @@ use Rattle.xfs_cli.proofs.GuardRunLaws.{all-ends, front-ends, until-stops, stops
 use Rattle.xfs_cli.proofs.EndLaws.{finishes, causes-served, causes-refused}
 use Rattle.xfs_cli.proofs.NumberLaws.{newer-run}
 use Rattle.xfs_cli.proofs.UnreadLaws.{unwritten-quiet}
+use Rattle.xfs_cli.proofs.MomentLaws.{moments-same, moments-refused, moments-run}
 use Rattle.xfs_cli.proofs.guard_command.guard.Goals as goal
 
 pub returns-then-not-is_word-clause-upholds : goal.returns-then-not-is_word-clause-upholds
@@ -90,3 +91,19 @@ returns-in-Err-clause-finishes g c =
 
 pub returns-in-Err-clause-unwritten : goal.returns-in-Err-clause-unwritten
 returns-in-Err-clause-unwritten g c = unwritten-quiet g.D.Disk.held g.D.Disk.images g.D.Disk.moment g.D.Disk.images_since g.D.Disk.faults c.args.core.disk c.in-Err.field-0.disk c.in-Err.ensures.unlisted
+
+pub returns-then-not-is_word-clause-any_moment : goal.returns-then-not-is_word-clause-any_moment
+returns-then-not-is_word-clause-any_moment g c = moments-same g.D.Disk.held g.D.Disk.images g.D.Disk.moment g.D.Disk.images_since g.met.D.Disk.as_read _ _ _ g.met.D.Disk.only_now c.requires.at_rest refl
+
+pub returns-in-Ok-clause-any_moment : goal.returns-in-Ok-clause-any_moment
+returns-in-Ok-clause-any_moment g c =
+    let ok = c.in-Ok.ensures.ok in
+    let e = c.ended-mech.ensures in
+    let s = c.serve-status.ensures in
+    let told = ap (λ (v : View). v.disk_told) ok.2 in
+    rw e.disk (moments-run g.D.Disk.held g.D.Disk.images g.D.Disk.moment g.D.Disk.images_since g.met.D.Disk.as_read _ c.in-Ok.guard c.serve-status.new.session.guard ok.0 _ _ g.met.D.Disk.counts_now c.requires.at_rest (ap (λ (v : View). v.records) ok.2) ok.1 (sym s.crashes.told ∙ (rw e.disk at e.told) ∙ s.continues.disk_told ∙ told)
+    c.in-Ok.ensures.crashes s.continues s.crashes (rw e.disk at e.stored) (rw e.disk at e.recorded) e.motions)
+
+pub returns-in-Err-clause-any_moment : goal.returns-in-Err-clause-any_moment
+returns-in-Err-clause-any_moment g c =
+    rw c.in-Err.ensures.mech (moments-refused g.D.Disk.held g.D.Disk.images g.D.Disk.moment g.D.Disk.images_since g.met.D.Disk.as_read _ _ _ _ _ _ c.requires.starts c.requires.at_rest c.in-Err.ensures.crashes c.in-Err.ensures.either)
