@@ -16,7 +16,7 @@ use std::process::Abort;
 use std::test::Fail;
 use xfs_base::{Counts, Currency, MemSink, MemSource, NoteKind, Places, UnitTable};
 use xfs_cli::run;
-use xfs_disk::{FailDisk, MemDisk};
+use xfs_disk::{Disk, FailDisk, MemDisk};
 use xfs_guard::{Core, Guard};
 use xfs_journal::Limits;
 use xfs_mech::{Fault, Mechanism, SilentMech, SimMech, places_fit};
@@ -96,6 +96,7 @@ fn failing_core<M: Mechanism>(
     mech: M,
     units: UnitTable,
     disk: MemDisk,
+    limits: Limits,
     failing: Vec<u64>,
 ) -> Core<M, FailDisk>
     requires fresh { IfTold (M.motions mech) (λ L. L ≡ []) }
@@ -112,17 +113,14 @@ fn failing_core<M: Mechanism>(
         key: [0x0b; 32],
         seed: [0; 32],
         units,
-        limits: LIMITS,
+        limits,
     }
 }
 
 /// A guard over a core whose disk was written by nobody.
-pub fn booted<M: Mechanism>(
-    alloc: Global,
-    core: Core<M, MemDisk>,
-) -> Result<Guard<M, MemDisk>, Fail>
+pub fn booted<M: Mechanism, D: Disk>(alloc: Global, core: Core<M, D>) -> Result<Guard<M, D>, Fail>
     requires units { M.units core.mech ≡ core.units }
-    requires starts { (c : List ℕ) → MayBe core.disk c → (J : List Rec) → Stands c J → IsRecorded core.key core.units J (M.motions core.mech) }
+    requires starts { (c : List ℕ) → D.images core.disk c → (J : List Rec) → Stands c J → IsRecorded core.key core.units J (M.motions core.mech) }
     ensures { IfOk result (λ g. g.state.open_order ≡ No) }
 {
     let Core {
@@ -146,6 +144,24 @@ pub fn guard_on(rt: &impl Abort, alloc: Global) -> Result<Guard<SimMech, MemDisk
     let units = units(rt);
     let mech = sim_on(rt, alloc, &units, Vec::new(alloc));
     booted(alloc, core_on(mech, units, empty(alloc), LIMITS))
+}
+
+/// A guard over main's mechanism and an empty disk, whose calls at these places fail, within these limits.
+pub fn guard_failing_within(
+    rt: &impl Abort,
+    alloc: Global,
+    limits: Limits,
+    failing: &[u64],
+) -> Result<Guard<SimMech, FailDisk>, Fail>
+    ensures { IfOk result (λ g. g.state.open_order ≡ No) }
+{
+    let units = units(rt);
+    let mech = sim_on(rt, alloc, &units, Vec::new(alloc));
+    let failing = numbers(alloc, failing)?;
+    booted(
+        alloc,
+        failing_core(mech, units, empty(alloc), limits, failing),
+    )
 }
 
 /// What a run wrote, its status, and the bytes of its disk.
@@ -246,7 +262,7 @@ pub fn guard_failing(
     let mech = sim_on(rt, alloc, &units, Vec::new(alloc));
     let mut source = MemSource::new(listed(alloc, script)?, Vec::new(alloc));
     let mut sink = MemSink::new(alloc, Vec::new(alloc));
-    let core = failing_core(mech, units, empty(alloc), numbers(alloc, failing)?);
+    let core = failing_core(mech, units, empty(alloc), LIMITS, numbers(alloc, failing)?);
     let ended = run(
         alloc,
         words_of(alloc, "guard")?.as_slice(),

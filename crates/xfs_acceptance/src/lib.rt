@@ -14,6 +14,8 @@ mod journal_rows;
 #[cfg(test)]
 mod motions_rows;
 #[cfg(test)]
+mod restore_rows;
+#[cfg(test)]
 mod teller;
 #[cfg(test)]
 mod token_rows;

@@ -8,7 +8,7 @@ use std::process::Abort;
 use std::test::Fail;
 use xfs_base::{Counts, Currency, Milli};
 use xfs_disk::Disk;
-use xfs_guard::{Ask, Deny, Guard};
+use xfs_guard::{Ask, BootFault, Deny, Fit, Guard};
 use xfs_mech::{Mechanism, Outcome};
 use xfs_token::{Amounts, make};
 
@@ -28,6 +28,13 @@ pub enum Call {
     Taken,
     Load(u8, u32),
     NoteLoad(u8, u32),
+    Restore,
+    /// Looks at whether the journal takes more records.
+    Fit,
+    /// Looks at the number of the nonce that lives.
+    Live,
+    /// Looks at how many records there are.
+    Records,
 }
 
 #[derive(Clone, Copy, Debug, PartialEq, Eq)]
@@ -37,6 +44,9 @@ pub enum Answer {
     /// The mechanism failed, and moved these notes before.
     Failed(Counts),
     Refused(Deny),
+    Unrestored(BootFault),
+    Fits(Fit),
+    Number(u64),
     /// No nonce lives, or the unit has no room.
     None,
 }
@@ -72,6 +82,16 @@ impl<M: Mechanism, D: Disk> Teller<M, D> {
             Call::Taken => moved(&self.guard.taken()?),
             Call::Load(unit, count) => self.load(unit, count)?,
             Call::NoteLoad(unit, count) => self.note_load(rt, unit, count),
+            Call::Restore => match self.guard.restore() {
+                Ok(()) => Answer::Done,
+                Err(fault) => Answer::Unrestored(fault),
+            },
+            Call::Fit => Answer::Fits(self.guard.fit()),
+            Call::Live => match self.guard.live() {
+                Some(nonce) => Answer::Number(nonce.number),
+                None => Answer::None,
+            },
+            Call::Records => Answer::Number(self.guard.records().len() as u64),
         })
     }
 

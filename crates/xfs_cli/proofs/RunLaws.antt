@@ -1,51 +1,31 @@
 -- The headline of a run: from what the disk's bytes stood for at entry, and from what its guard kept.
-use Rattle.std.proofs.Common.{◌≡◌, ◌≢◌, inl, inr, ℕ, ◌+◌, ◌<◌, ◌≤◌, true, false, List, [], ◌∷◌, ◌++◌, length, None, Some, refl, sym, ◌∙◌, ap, ⊎_elim, arith}
-use Rattle.std.proofs.lemmas.List.{append-nil}
+use Rattle.std.proofs.Common.{◌≡◌, inl, inr, ℕ, true, false, List, [], ◌∷◌, ◌++◌, None, Some, refl, sym, ◌∙◌, arith}
 use Rattle.std.specs.declared.option.Option.{Option}
 use Rattle.xfs_base.specs.Causes.{IfTold}
 use Rattle.xfs_base.specs.declared.counts.Places.{Places}
 use Rattle.xfs_base.specs.declared.money.NoteKind.{NoteKind}
 use Rattle.xfs_disk.specs.Disk.{Only}
 use Rattle.xfs_mech.specs.declared.motion.Motion.{Motion}
-use Rattle.xfs_mech.proofs.MotionLaws.{all-numbers, PlacesOf-same}
 use Rattle.xfs_journal.specs.Image.{Stands}
-use Rattle.xfs_journal.specs.Journal.{record_at}
 use Rattle.xfs_journal.specs.JournalView.{IsPossible, StandsForEither, passes}
 use Rattle.xfs_journal.specs.Paging.{CeasesAt}
 use Rattle.xfs_journal.specs.declared.limits.Limits.{Limits}
 use Rattle.xfs_journal.specs.declared.record.Rec.{Rec}
 use Rattle.xfs_journal.specs.declared.record.Rec.TheVariants.{Boot}
-use Rattle.xfs_journal.proofs.JournalLaws.{record_at-cases}
 use Rattle.xfs_journal.proofs.Unique.{stands_for_one}
 use Rattle.xfs_guard.specs.Agrees.{Agrees}
-use Rattle.xfs_guard.specs.Continues.{Continues, Leads, IsKnown}
-use Rattle.xfs_guard.specs.Follows.{BootFits, Follows}
+use Rattle.xfs_guard.specs.Continues.{Continues, Leads}
 use Rattle.xfs_guard.specs.Recorded.{IsRecorded}
 use Rattle.xfs_guard.specs.Stored.{IsStored, MayLeave}
 use Rattle.xfs_guard.specs.View.{View}
 use Rattle.xfs_guard.proofs.AgreesLaws.{numbers_within}
 use Rattle.xfs_guard.proofs.BootLaws.{IsRecorded-boot}
-use Rattle.xfs_guard.proofs.FollowsLaws.{Follows-same, Follows-trans}
-use Rattle.xfs_guard.proofs.RecordLaws.{length-pushed}
+use Rattle.xfs_guard.proofs.ContinueLaws.{Led-record, Leads-on, only-possible}
+use Rattle.xfs_guard.proofs.FollowsLaws.{Follows-same, Follows-record}
 use Rattle.xfs_guard.specs.declared.fail.BootFault.{BootFault}
 use Rattle.xfs_guard.specs.declared.fail.BootFault.TheVariants.{NotJournal, Disk, Full, Memory}
 use Rattle.xfs_cli.specs.Boots.{BootPasses, EndsUnread, IsDue, IsNoJournal, WritesBoot, boot_status}
 use Rattle.xfs_cli.specs.Upholds.{Upholds, FollowsWhereTold}
-
--- one more record, which has the places where it is a Boot
-pub Follows-record : (J : List Rec) (r : Rec) (L : List Motion) (P : Places) → ((p : Places) → r ≡ Boot p → P ≡ p) → Follows J L P (J ++ r ∷ []) L P
-Follows-record J r L P boots = record {
-  recs = r ∷ [];
-  moves = [];
-  grew = refl;
-  moved = sym (append-nil L);
-  reached = PlacesOf-same P;
-  later = tt;
-  boots = fits;
-}
-  where
-    fits : (n : ℕ) (p : Places) → length J < n → record_at (J ++ r ∷ []) n ≡ Some (Boot p) → BootFits P [] n p
-    fits n p lt e = ⊎_elim (λ h. let le : n ≤ length J = h.0 in absurd (omega arith)) (λ h. record { front = []; back = []; split = refl; reached = rw (boots p h.1) (PlacesOf-same p); before = tt; after = tt }) (record_at-cases J r n (Boot p) e)
 
 follows-same : (J : List Rec) (L : Option (List Motion)) (P : Places) → FollowsWhereTold J L P J L P
 follows-same J None P = tt
@@ -98,38 +78,26 @@ upholds-refused (Some bytes) (Some now) images images' key units L P starts rest
       | inr booted ↦ record { records = J ++ Boot P ∷ []; stands = booted; recorded = IsRecorded-boot key units J P L old; follows = follows-boot J L P }
     ]
 
--- a record that is no Boot may stand behind what followed
-follows-doubt : (v : View) (J0 J : List Rec) (b n : List Motion) (P : Places) → ((p : Places) → v.in_doubt ≢ Some (Boot p)) → IsKnown v.records n
-    → IsPossible v.records v.in_doubt J → Follows J0 b P v.records n v.places → Follows J0 b P J n v.places
-follows-doubt v J0 J b n P none known (inl is) follows = rw is follows
-follows-doubt v J0 J b n P none known (inr (r, doubt, is)) follows =
-    rw is (Follows-trans J0 v.records (v.records ++ r ∷ []) b n n P v.places v.places known follows
-    (Follows-record v.records r n v.places (λ p e. absurd (none p (doubt ∙ ap Some e)))))
-
 -- from the boot to the end
-follows-run : (first last : View) (J0 J : List Rec) (before now : Option (List Motion)) → first.records ≡ J0 ++ Boot first.places ∷ [] → IfTold before (Agrees J0)
-    → Leads first last before now → ((p : Places) → last.in_doubt ≢ Some (Boot p)) → IsPossible last.records last.in_doubt J
-    → FollowsWhereTold J0 before first.places J now last.places
-follows-run first last J0 J None now booted agrees leads none possible = tt
-follows-run first last J0 J (Some b) None booted agrees leads none possible = tt
-follows-run first last J0 J (Some b) (Some n) booted agrees leads none possible =
-    let few : IsKnown (J0 ++ Boot first.places ∷ []) b = rw length-pushed (all-numbers (λ k. k ≤ length J0) (λ k. k ≤ length J0 + 1) b (λ k le. omega arith) (numbers_within J0 b agrees)) in
-    let led = leads (rw booted few) in
-    let whole = Follows-trans J0 (J0 ++ Boot first.places ∷ []) last.records b b n first.places first.places last.places few
-    (Follows-record J0 (Boot first.places) b first.places (λ p e. cc)) (rw booted at led.follows) in
-    follows-doubt last J0 J b n first.places none led.known possible whole
+follows-run : (first last : View) (J0 J : List Rec) (before now : Option (List Motion)) → first.records ≡ J0 ++ Boot first.places ∷ [] → first.in_doubt ≡ None → IfTold before (Agrees J0)
+    → Leads first last before now → IsPossible last.records last.in_doubt J → FollowsWhereTold J0 before first.places J now last.places
+follows-run first last J0 J None now booted clean agrees leads possible = tt
+follows-run first last J0 J (Some b) None booted clean agrees leads possible = tt
+follows-run first last J0 J (Some b) (Some n) booted clean agrees leads possible =
+    (Leads-on first last J0 b b n first.places leads (λ K is. rw (only-possible first.records K first.in_doubt clean is, booted)
+    (Led-record J0 (Boot first.places) b first.places (λ p e. cc) (numbers_within J0 b agrees))) J possible).follows
 
 -- the headline of a run whose boot was not refused
 pub upholds-run : (first last : View) (J0 : List Rec) (held held' : Option (List ℕ)) (images images' : List ℕ → Type 0) (told : Option (List Motion)) (places : Places)
-    → first.records ≡ J0 ++ Boot first.places ∷ [] → IfTold held (λ bytes. Stands bytes J0)
+    → first.records ≡ J0 ++ Boot first.places ∷ [] → first.in_doubt ≡ None → IfTold held (λ bytes. Stands bytes J0)
     → Starts held images first.key first.units first.motions → ((bytes : List ℕ) → held ≡ Some bytes → images bytes)
-    → Continues first last → ((p : Places) → last.in_doubt ≢ Some (Boot p)) → IsStored held' images' last.records last.in_doubt
+    → Continues first last → IsStored held' images' last.records last.in_doubt
     → ((J : List Rec) → MayLeave held' images' J → IsRecorded last.key last.units J last.motions)
     → told ≡ last.motions → places ≡ last.places
     → UpholdsAll held held' images' first.key first.units first.motions first.places told places
-upholds-run first last J0 None held' images images' told places booted stood starts read c none stored recorded told_is places_is = tt
-upholds-run first last J0 (Some bytes) None images images' told places booted stood starts read c none stored recorded told_is places_is = λ J stands. tt
-upholds-run first last J0 (Some bytes) (Some now) images images' told places booted stood starts read c none stored recorded told_is places_is = λ J stands d image.
+upholds-run first last J0 None held' images images' told places booted clean stood starts read c stored recorded told_is places_is = tt
+upholds-run first last J0 (Some bytes) None images images' told places booted clean stood starts read c stored recorded told_is places_is = λ J stands. tt
+upholds-run first last J0 (Some bytes) (Some now) images images' told places booted clean stood starts read c stored recorded told_is places_is = λ J stands d image.
     let same : J ≡ J0 = stands_for_one bytes J J0 stands stood in
     let kept = stored d image in
     let old : IsRecorded first.key first.units J0 first.motions = starts bytes (read bytes refl) J0 stood in
@@ -137,7 +105,7 @@ upholds-run first last J0 (Some bytes) (Some now) images images' told places boo
       records = kept.0;
       stands = inl kept.2;
       recorded = rw (c.key, c.units) at (recorded kept.0 (record { told = refl; bytes = d; left = image; stands = inl kept.2 }));
-      follows = follows-run first last J0 kept.0 first.motions last.motions booted old.agrees c.leads none kept.1;
+      follows = follows-run first last J0 kept.0 first.motions last.motions booted clean old.agrees c.leads kept.1;
     })
 
 -- a Boot that was written passed no limit

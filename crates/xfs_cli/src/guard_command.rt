@@ -6,8 +6,6 @@ ghost use Rattle.xfs_base.specs.Causes.{Rose, IfTold};
 ghost use Rattle.xfs_disk.specs.Disk.{Only};
 ghost use Rattle.xfs_journal.specs.Image.{Stands};
 ghost use Rattle.xfs_journal.specs.declared.record.Rec.{Rec};
-ghost use Rattle.xfs_journal.specs.declared.record.Rec.TheVariants.{Boot};
-ghost use Rattle.xfs_base.specs.declared.counts.Places.{Places};
 ghost use Rattle.xfs_guard.specs.declared.open.Open.TheVariants.{No};
 ghost use Rattle.xfs_guard.specs.Continues.{Continues};
 ghost use Rattle.xfs_guard.specs.Recorded.{IsRecorded};
@@ -112,7 +110,6 @@ pub fn guard<S: Source, K: Sink, M: Mechanism, D: Disk>(
 // The mechanism and the disk of a session that is over.
 fn ended<M: Mechanism, D: Disk>(session: Session<M, D>) -> (M, D)
     ensures recorded { (J : List Rec) → MayLeave (D.held result.1) (D.images result.1) J → IsRecorded session.guard.state.key session.guard.state.units J session.guard.state.motions }
-    ensures booted { (p : Places) → session.guard.state.in_doubt ≢ Some (Boot p) }
     ensures stored { IsStored (D.held result.1) (D.images result.1) session.guard.state.records session.guard.state.in_doubt }
     ensures motions { M.motions result.0 ≡ session.guard.state.motions }
     ensures places { M.places result.0 ≡ session.guard.state.places }

@@ -69,9 +69,9 @@ IsSound-boot v J p recorded = record {
 
 -- what a guard is then
 pub IsKept-boot : (v : View) (J : List Rec) (p : Places) (spare left : ℕ) (kinds : List NoteKind) → (v.disk_told ≡ true → IsRecorded v.key v.units J v.motions) → kinds ≡ v.units
-    → IsKept (record v { records = J ++ Boot p ∷ []; bound = None; open_order = No; shut = false; in_doubt = None }) spare left kinds
+    → IsKept (record v { records = J ++ Boot p ∷ []; bound = None; open_order = No; shut = false; boot_missing = false; in_doubt = None }) spare left kinds
 IsKept-boot v J p spare left kinds recorded units =
-    IsKept-open (record v { records = J ++ Boot p ∷ []; bound = None; open_order = No }) spare left kinds (IsSound-boot v J p recorded) tt tt units
+    IsKept-open (record v { records = J ++ Boot p ∷ []; bound = None; open_order = No; boot_missing = false }) spare left kinds (IsSound-boot (record v { boot_missing = false }) J p recorded) refl tt tt units
 
 -- a list that was left is recorded, and stays so with the Boot
 pub WasLeft-recorded : (key : List ℕ) (u : List NoteKind) (m : Option (List Motion)) (held : Option (List ℕ)) (images : List ℕ → Type 0) (p : Places)

@@ -1,5 +1,5 @@
 -- What happened from one state of a guard to a later one.
-use Rattle.std.proofs.Common.{◌≡◌, ⊎_elim, ℕ, ◌+◌, ◌<◌, ◌≤◌, Bool, false, List, [], ◌∷◌, ◌++◌, length, None, Some, refl, sym, ◌∙◌, arith}
+use Rattle.std.proofs.Common.{◌≡◌, ◌⊎◌, inl, inr, ℕ, ◌+◌, ◌≤◌, Bool, true, false, List, [], ◌∷◌, ◌++◌, length, None, Some, refl, sym, ◌∙◌, arith}
 use Rattle.std.proofs.lemmas.List.{append-nil}
 use Rattle.std.specs.declared.option.Option.{Option}
 use Rattle.xfs_base.specs.declared.counts.Counts.{Counts}
@@ -9,25 +9,63 @@ use Rattle.xfs_mech.specs.declared.motion.Motion.{Motion}
 use Rattle.xfs_mech.specs.declared.motion.Motion.TheVariants.{Moved}
 use Rattle.xfs_journal.specs.declared.record.Rec.{Rec}
 use Rattle.xfs_journal.specs.declared.record.Rec.TheVariants.{Boot}
+use Rattle.xfs_journal.specs.JournalView.{IsPossible}
 use Rattle.xfs_guard.specs.declared.open.Open.{Open}
-use Rattle.xfs_journal.specs.Journal.{record_at}
-use Rattle.xfs_guard.specs.Follows.{BootFits}
 use Rattle.xfs_mech.specs.Motions.{NumberIs, PlacesOf}
 use Rattle.xfs_mech.specs.Mechanism.{Grows}
 use Rattle.xfs_guard.specs.View.{View}
-use Rattle.xfs_guard.specs.Continues.{Leads, Continues}
-use Rattle.xfs_journal.proofs.JournalLaws.{record_at-cases, record_at-within}
-use Rattle.xfs_guard.proofs.FollowsLaws.{Follows-same, Follows-trans}
-use Rattle.xfs_mech.proofs.MotionLaws.{all-append, all-numbers, PlacesOf-same}
+use Rattle.xfs_guard.specs.Continues.{IsKnown, Led, Comes, Leads, Continues}
+use Rattle.xfs_journal.proofs.JournalLaws.{record_at-within}
+use Rattle.xfs_guard.proofs.FollowsLaws.{Follows-same, Follows-record, Follows-trans}
+use Rattle.xfs_mech.proofs.MotionLaws.{all-append, all-numbers}
 use Rattle.xfs_guard.proofs.RecordLaws.{longer, length-pushed}
 use Rattle.xfs_guard.proofs.SoundLaws.{acted_view}
 
-pub Continues-same : (v : View) → Continues v v
-Continues-same v = record { leads = told v.motions; key = refl; seed = refl; units = refl }
+-- where no record is in doubt, the journal's list is the one possible list
+pub only-possible : (J K : List Rec) (d : Option Rec) → d ≡ None → IsPossible J d K → K ≡ J
+only-possible J K d none (inl is) = is
+only-possible J K d none (inr (r, doubt, is)) = absurd (never (sym none ∙ doubt))
   where
-    told : (m : Option (List Motion)) → Leads v v m m
-    told None = tt
-    told (Some L) = λ known. record { follows = Follows-same v.records L v.places; known = known }
+    never : None ≡ Some r → ⊥
+    never e = cc
+
+-- a record in doubt stands behind the journal's list
+pub doubted-possible : (J K : List Rec) (r : Rec) → IsPossible J (Some r) K → (K ≡ J) ⊎ (K ≡ J ++ r ∷ [])
+doubted-possible J K r (inl is) = inl is
+doubted-possible J K r (inr (x, doubt, is)) = inr (rw (same doubt) is)
+  where
+    same : Some r ≡ Some x → r ≡ x
+    same e = cc
+
+-- nothing happened
+pub Led-same : (J : List Rec) (L : List Motion) (P : Places) → IsKnown J L → Led J L P J L P
+Led-same J L P known = record { follows = Follows-same J L P; known = known }
+
+-- one more record, which has the places where it is a Boot
+pub Led-record : (J : List Rec) (r : Rec) (L : List Motion) (P : Places) → ((p : Places) → r ≡ Boot p → P ≡ p) → IsKnown J L → Led J L P (J ++ r ∷ []) L P
+Led-record J r L P boots known = record {
+  follows = Follows-record J r L P boots;
+  known = rw length-pushed (all-numbers (λ n. n ≤ length J) (λ n. n ≤ length J + 1) L (λ n le. omega arith) known);
+}
+
+-- one more motion, which has a number of the journal's or none
+pub Led-motion : (J : List Rec) (L : List Motion) (m : Motion) (P Q : Places) → NumberIs (λ n. n ≤ length J) m → NumberIs (λ n. length J ≤ n) m → PlacesOf P (m ∷ []) Q → IsKnown J L
+    → Led J L P J (L ++ m ∷ []) Q
+Led-motion J L m P Q small late places known = record {
+  follows = record {
+    recs = [];
+    moves = m ∷ [];
+    grew = sym (append-nil J);
+    moved = refl;
+    reached = places;
+    later = (late, tt);
+    boots = λ n p lt e. let w = record_at-within J n (Boot p) e in absurd (omega arith);
+  };
+  known = all-append (NumberIs (λ n. n ≤ length J)) L (m ∷ []) known (small, tt);
+}
+
+pub Led-trans : (J0 J1 J2 : List Rec) (L0 L1 L2 : List Motion) (P0 P1 P2 : Places) → Led J0 L0 P0 J1 L1 P1 → Led J1 L1 P1 J2 L2 P2 → Led J0 L0 P0 J2 L2 P2
+Led-trans J0 J1 J2 L0 L1 L2 P0 P1 P2 one two = record { follows = Follows-trans J0 J1 J2 L0 L1 L2 P0 P1 P2 one.known one.follows two.follows; known = two.known }
 
 pub Continues-trans : (a b c : View) → Continues a b → Continues b c → Continues a c
 Continues-trans a b c p q = record { leads = go a.motions b.motions c.motions p.leads q.leads; key = q.key ∙ p.key; seed = q.seed ∙ p.seed; units = q.units ∙ p.units }
@@ -38,61 +76,67 @@ Continues-trans a b c p q = record { leads = go a.motions b.motions c.motions p.
     go None (Some y) z p q = absurd p
     go (Some x) None z p q = absurd p
     go (Some x) (Some y) None p q = absurd q
-    go (Some x) (Some y) (Some z) p q = λ known. let one = p known in let two = q one.known in record {
-      follows = Follows-trans a.records b.records c.records x y z a.places b.places c.places one.known one.follows two.follows;
-      known = two.known;
+    go (Some x) (Some y) (Some z) p q = λ J possible. let late = q J possible in let early = p late.from late.possible in record {
+      from = early.from;
+      possible = early.possible;
+      led = λ known. let one = early.led known in Led-trans early.from late.from J x y z a.places b.places c.places one (late.led one.known);
     }
 
--- one more record; a boot has the places
-pub Continues-record : (v : View) (r : Rec) (w : Option (List (List ℕ × ℕ))) (o : Open) → ((p : Places) → r ≡ Boot p → v.places ≡ p) → Continues v (longer v r w o)
-Continues-record v r w o boots = record { leads = told v.motions; key = refl; seed = refl; units = refl }
+-- what led to each possible list of the earlier state leads to each of the later one
+pub Leads-on : (old new : View) (J : List Rec) (L before now : List Motion) (P : Places) → Leads old new (Some before) (Some now)
+    → ((K : List Rec) → IsPossible old.records old.in_doubt K → Led J L P K before old.places)
+    → (K : List Rec) → IsPossible new.records new.in_doubt K → Led J L P K now new.places
+Leads-on old new J L before now P leads each K possible =
+    let c = leads K possible in let one = each c.from c.possible in Led-trans J c.from K L before now P old.places new.places one (c.led one.known)
+
+-- a list is a possible one, or a possible one with this record behind it
+abbrev pub MayGrow : View → Rec → List Rec → Type 0
+MayGrow v r J = IsPossible v.records v.in_doubt J ⊎ ((K : List Rec) × IsPossible v.records v.in_doubt K × (J ≡ K ++ r ∷ []))
+
+-- at most this record came behind the possible lists; a Boot has the places
+pub Continues-grown : (v w : View) (r : Rec) → ((p : Places) → r ≡ Boot p → v.places ≡ p) → w.motions ≡ v.motions → w.places ≡ v.places → w.key ≡ v.key → w.seed ≡ v.seed → w.units ≡ v.units
+    → ((J : List Rec) → IsPossible w.records w.in_doubt J → MayGrow v r J) → Continues v w
+Continues-grown v w r boots motions places key seed units grown = record { leads = told v.motions w.motions motions; key = key; seed = seed; units = units }
   where
-    fits : (n : ℕ) (p : Places) → length v.records < n → record_at (v.records ++ r ∷ []) n ≡ Some (Boot p) → BootFits v.places [] n p
-    fits n p lt e = ⊎_elim (λ h. let le : n ≤ length v.records = h.0 in absurd (omega arith)) (λ h. record { front = []; back = []; split = refl; reached = rw (boots p h.1) (PlacesOf-same p); before = tt; after = tt }) (record_at-cases v.records r n (Boot p) e)
+    comes : (L : List Motion) (J : List Rec) → MayGrow v r J → Comes v w L L J
+    comes L J (inl old) = record { from = J; possible = old; led = λ known. rw places (Led-same J L v.places known) }
+    comes L J (inr (K, old, is)) = record { from = K; possible = old; led = λ known. rw (is, places) (Led-record K r L v.places boots known) }
 
-    told : (m : Option (List Motion)) → Leads v (longer v r w o) m m
+    told : (m n : Option (List Motion)) → n ≡ m → Leads v w m n
+    told None n e = rw e tt
+    told (Some L) n e = rw e (λ J possible. comes L J (grown J possible))
+
+pub Continues-same : (v : View) → Continues v v
+Continues-same v = record { leads = told v.motions; key = refl; seed = refl; units = refl }
+  where
+    told : (m : Option (List Motion)) → Leads v v m m
     told None = tt
-    told (Some L) = λ known. record {
-      follows = record {
-        recs = r ∷ [];
-        moves = [];
-        grew = refl;
-        moved = sym (append-nil L);
-        reached = PlacesOf-same v.places;
-        later = tt;
-        boots = fits;
-      };
-      known = rw length-pushed (all-numbers (λ n. n ≤ length v.records) (λ n. n ≤ length v.records + 1) L (λ n le. omega arith) known);
-    }
+    told (Some L) = λ J possible. record { from = J; possible = possible; led = Led-same J L v.places }
 
-pub Continues-act : (v : View) (k : Kind) (m d : Counts) (failed : Bool) (now : Option (List Motion)) (Q : Places) (f : ℕ)
+-- one more record was written
+pub Continues-written : (v : View) (r : Rec) (w : Option (List (List ℕ × ℕ))) (o : Open) → ((p : Places) → r ≡ Boot p → v.places ≡ p) → Continues v (record (longer v r w o) { shut = false; in_doubt = None })
+Continues-written v r w o boots =
+    Continues-grown v (record (longer v r w o) { shut = false; in_doubt = None }) r boots refl refl refl refl refl (λ J possible. inr (v.records, inl refl, only-possible (v.records ++ r ∷ []) J None refl possible))
+
+-- it is not known whether the record was written
+pub Continues-doubted : (v : View) (r : Rec) (o : Open) → ((p : Places) → r ≡ Boot p → v.places ≡ p) → Continues v (record v { shut = true; in_doubt = Some r; open_order = o })
+Continues-doubted v r o boots =
+    Continues-grown v (record v { shut = true; in_doubt = Some r; open_order = o }) r boots refl refl refl refl refl (λ J possible. elim (doubted-possible v.records J r possible) [
+      | inl is ↦ inl (inl is)
+      | inr is ↦ inr (v.records, inl refl, is)
+    ])
+
+-- the order was carried out, while no record was in doubt
+pub Continues-act : (v : View) (k : Kind) (m d : Counts) (failed : Bool) (now : Option (List Motion)) (Q : Places) (f : ℕ) → v.in_doubt ≡ None
     → Grows v.motions (Moved (length v.records) k m d) now → PlacesOf v.places (Moved (length v.records) k m d ∷ []) Q
     → Continues v (acted_view v k m d failed now Q f)
-Continues-act v k m d failed now Q f grows places = record { leads = told v.motions grows; key = refl; seed = refl; units = refl }
+Continues-act v k m d failed now Q f none grows places = record { leads = told v.motions grows; key = refl; seed = refl; units = refl }
   where
     told : (was : Option (List Motion)) → Grows was (Moved (length v.records) k m d) now → Leads v (acted_view v k m d failed now Q f) was now
     told None g = rw g tt
-    told (Some L) g = rw g (λ known. record {
-      follows = record {
-        recs = [];
-        moves = Moved (length v.records) k m d ∷ [];
-        grew = sym (append-nil v.records);
-        moved = refl;
-        reached = places;
-        later = (omega arith, tt);
-        boots = λ n p lt e. let w = record_at-within v.records n (Boot p) e in absurd (omega arith);
-      };
-      known = all-append (NumberIs (λ n. n ≤ length v.records)) L (Moved (length v.records) k m d ∷ []) known (omega arith, tt);
+    told (Some L) g = rw g (λ J possible. record {
+      from = v.records;
+      possible = inl refl;
+      led = λ known. rw (only-possible v.records J v.in_doubt none possible)
+          (Led-motion v.records L (Moved (length v.records) k m d) v.places Q (omega arith) (omega arith) places known);
     })
-
--- the journal is shut, or open again
-pub Continues-stored : (v : View) (s : Bool) (d : Option Rec) (o : Open) → Continues v (record v { shut = s; in_doubt = d; open_order = o })
-Continues-stored v s d o = record { leads = told v.motions; key = refl; seed = refl; units = refl }
-  where
-    told : (m : Option (List Motion)) → Leads v (record v { shut = s; in_doubt = d; open_order = o }) m m
-    told None = tt
-    told (Some L) = λ known. record { follows = Follows-same v.records L v.places; known = known }
-
--- one more record, in a journal that stays open
-pub Continues-written : (v : View) (r : Rec) (w : Option (List (List ℕ × ℕ))) (o : Open) → ((p : Places) → r ≡ Boot p → v.places ≡ p) → Continues v (record (longer v r w o) { shut = false; in_doubt = None })
-Continues-written v r w o boots = Continues-trans v (longer v r w o) _ (Continues-record v r w o boots) (Continues-stored (longer v r w o) false None o)

@@ -1,5 +1,5 @@
 -- Places and what follows from what, over several steps.
-use Rattle.std.proofs.Common.{◌≡◌, inl, inr, ℕ, zero, suc, ◌<◌, ◌≤◌, List, [], ◌∷◌, ◌++◌, length, Some, refl, sym, ◌∙◌, ap, arith, length-append, append_assoc}
+use Rattle.std.proofs.Common.{◌≡◌, ⊎_elim, inl, inr, ℕ, zero, suc, ◌<◌, ◌≤◌, List, [], ◌∷◌, ◌++◌, length, Some, refl, sym, ◌∙◌, ap, arith, length-append, append_assoc}
 use Rattle.std.proofs.lemmas.List.{append-nil}
 use Rattle.std.proofs.lemmas.Bool.{cases_lt}
 use Rattle.std.specs.List.{AllByRecursion}
@@ -11,7 +11,7 @@ use Rattle.xfs_journal.specs.Journal.{record_at}
 use Rattle.xfs_guard.specs.Follows.{BootFits, Follows}
 use Rattle.xfs_mech.specs.Motions.{NumberIs}
 use Rattle.xfs_mech.proofs.MotionLaws.{all-append, all-numbers, all-right, PlacesOf-same, PlacesOf-append}
-use Rattle.xfs_journal.proofs.JournalLaws.{record_at-append, record_at-within}
+use Rattle.xfs_journal.proofs.JournalLaws.{record_at-append, record_at-cases, record_at-within}
 
 -- nothing happened
 pub Follows-same : (J : List Rec) (L : List Motion) (P : Places) → Follows J L P J L P
@@ -24,6 +24,21 @@ Follows-same J L P = record {
   later = tt;
   boots = λ n p lt e. let w = record_at-within J n (Boot p) e in absurd (omega arith);
 }
+
+-- one more record, which has the places where it is a Boot
+pub Follows-record : (J : List Rec) (r : Rec) (L : List Motion) (P : Places) → ((p : Places) → r ≡ Boot p → P ≡ p) → Follows J L P (J ++ r ∷ []) L P
+Follows-record J r L P boots = record {
+  recs = r ∷ [];
+  moves = [];
+  grew = refl;
+  moved = sym (append-nil L);
+  reached = PlacesOf-same P;
+  later = tt;
+  boots = fits;
+}
+  where
+    fits : (n : ℕ) (p : Places) → length J < n → record_at (J ++ r ∷ []) n ≡ Some (Boot p) → BootFits P [] n p
+    fits n p lt e = ⊎_elim (λ h. let le : n ≤ length J = h.0 in absurd (omega arith)) (λ h. record { front = []; back = []; split = refl; reached = rw (boots p h.1) (PlacesOf-same p); before = tt; after = tt }) (record_at-cases J r n (Boot p) e)
 
 -- the mechanism's numbers are places of the journal, and the rest composes
 pub Follows-trans : (J0 J1 J2 : List Rec) (L0 L1 L2 : List Motion) (P0 P1 P2 : Places)

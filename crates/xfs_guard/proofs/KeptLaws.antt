@@ -1,5 +1,5 @@
 -- What a guard is after a record was written, and after the disk failed.
-use Rattle.std.proofs.Common.{◌≡◌, ⊎_elim, ℕ, Bool, true, false, List, [], ◌∷◌, None, Some, Err, length, refl, sym, ◌∙◌, true≢false}
+use Rattle.std.proofs.Common.{◌≡◌, ⊎_elim, inl, inr, ℕ, Bool, true, false, List, [], ◌∷◌, None, Some, Err, length, refl, sym, ◌∙◌, true≢false}
 use Rattle.std.specs.declared.option.Option.{Option}
 use Rattle.xfs_base.specs.Causes.{IfTold}
 use Rattle.xfs_base.specs.declared.money.NoteKind.{NoteKind}
@@ -23,8 +23,8 @@ use Rattle.xfs_guard.specs.Sound.{Ties, where_told, IsSound}
 use Rattle.xfs_guard.specs.declared.deny.Deny.{Deny}
 use Rattle.xfs_guard.specs.declared.deny.Deny.TheVariants.{Disk, Memory}
 use Rattle.xfs_guard.specs.LedgerView.{LedgerView, Wrote, IsWriteFault}
-use Rattle.xfs_guard.specs.Continues.{Leads, Continues}
-use Rattle.xfs_guard.proofs.FollowsLaws.{Follows-same}
+use Rattle.xfs_guard.specs.Continues.{Continues}
+use Rattle.xfs_guard.proofs.ContinueLaws.{Continues-grown, doubted-possible}
 use Rattle.xfs_guard.proofs.SoundLaws.{acted_view, IsSound-act}
 use Rattle.xfs_guard.proofs.RecordLaws.{longer}
 
@@ -63,13 +63,13 @@ IsSound-stored v s d h = record {
     go (Some L) t = record { agrees = t.agrees; within = t.within; counted = t.counted; acted = t.acted }
 
 -- a guard whose journal is open
-pub IsKept-open : (v : View) (spare left : ℕ) (kinds : List NoteKind) → IsSound v → HasRoom v.open_order spare left → HasLimits v.open_order v → kinds ≡ v.units
+pub IsKept-open : (v : View) (spare left : ℕ) (kinds : List NoteKind) → IsSound v → v.boot_missing ≡ false → HasRoom v.open_order spare left → HasLimits v.open_order v → kinds ≡ v.units
     → IsKept (record v { shut = false; in_doubt = None }) spare left kinds
-IsKept-open v spare left kinds s room limits units = record {
-  sound = λ e. IsSound-stored v false None s;
+IsKept-open v spare left kinds s booted room limits units = record {
+  sound = λ e m. IsSound-stored v false None s;
   clean = λ e. refl;
   closed = λ e. absurd (true≢false (sym e));
-  booted = λ p e. cc;
+  missing = λ e. absurd (true≢false (sym e ∙ booted));
   recorded = λ told J p. ⊎_elim (λ same. rw same (recorded-sound v s told)) (λ doubt. absurd (none doubt.0 doubt.1)) p;
   room = room;
   limits = has v.open_order limits;
@@ -86,12 +86,12 @@ IsKept-open v spare left kinds s room limits units = record {
 
 -- a guard whose disk failed at a record
 pub IsKept-doubted : (v : View) (r : Rec) (w : Option (List (List ℕ × ℕ))) (o : Open) (spare left : ℕ) (kinds : List NoteKind) → IsSound v → IsSound (longer v r w o) → kinds ≡ v.units
-    → ((p : Places) → r ≡ Boot p → ⊥) → IsKept (record v { shut = true; in_doubt = Some r; open_order = No }) spare left kinds
-IsKept-doubted v r w o spare left kinds s t units other = record {
-  sound = λ e. absurd (true≢false e);
+    → IsKept (record v { shut = true; in_doubt = Some r; open_order = No }) spare left kinds
+IsKept-doubted v r w o spare left kinds s t units = record {
+  sound = λ e m. absurd (true≢false e);
   clean = λ e. absurd (true≢false e);
   closed = λ e. refl;
-  booted = λ p e. other p (some (Boot p) e);
+  missing = λ e. refl;
   recorded = λ told J p. ⊎_elim (λ same. rw same (recorded-sound v s told)) (λ doubt. rw (doubt.2, ← (some doubt.0 doubt.1)) (recorded-sound (longer v r w o) t told)) p;
   room = tt;
   limits = tt;
@@ -115,6 +115,7 @@ over key seed o motions places faults l told = record {
   faults = faults;
   limits = l.limits;
   shut = l.shut;
+  boot_missing = l.boot_missing;
   in_doubt = l.in_doubt;
   disk_told = told;
 }
@@ -122,17 +123,17 @@ over key seed o motions places faults l told = record {
 -- a call that writes and has no order open, where memory ran out or the disk failed
 pub IsKept-refused : (T : Type 0) {D : Type 0} (e : Deny) (key seed : List ℕ) (o : Open) (motions : Option (List Motion)) (places : Places) (faults : ℕ) (old new : LedgerView D) (r : Rec)
     (w : Option (List (List ℕ × ℕ))) (was told : Bool) (spare room left : ℕ) (kinds : List NoteKind)
-    → Wrote {T = T} (Err e) old new r w → IsWriteFault e → told ≡ was → o ≡ No → IsKept (over key seed o motions places faults old was) spare room kinds → old.shut ≡ false
-    → IsSound (longer (over key seed o motions places faults old was) r w No) → ((p : Places) → r ≡ Boot p → ⊥) → IsKept (over key seed o motions places faults new told) spare left kinds
-IsKept-refused T e key seed o motions places faults old new r w was told spare room left kinds wrote why same none kept open_still sound other = ⊎_elim memory disk why
+    → Wrote {T = T} (Err e) old new r w → IsWriteFault e → told ≡ was → o ≡ No → IsKept (over key seed o motions places faults old was) spare room kinds → old.shut ≡ false → old.boot_missing ≡ false
+    → IsSound (longer (over key seed o motions places faults old was) r w No) → IsKept (over key seed o motions places faults new told) spare left kinds
+IsKept-refused T e key seed o motions places faults old new r w was told spare room left kinds wrote why same none kept open_still booted sound = ⊎_elim memory disk why
   where
     memory : e ≡ Memory → IsKept (over key seed o motions places faults new told) spare left kinds
     memory is = let s = rw is at wrote in
-        rw (s.records, s.units, s.bound, s.limits, s.shut, s.in_doubt, same) (record {
+        rw (s.records, s.units, s.bound, s.limits, s.shut, s.boot_missing, s.in_doubt, same) (record {
           sound = kept.sound;
           clean = kept.clean;
           closed = kept.closed;
-          booted = kept.booted;
+          missing = kept.missing;
           recorded = kept.recorded;
           room = rw none tt;
           limits = kept.limits;
@@ -141,27 +142,25 @@ IsKept-refused T e key seed o motions places faults old new r w was told spare r
 
     disk : e ≡ Disk → IsKept (over key seed o motions places faults new told) spare left kinds
     disk is = let s = rw is at wrote in
-        rw (s.records, s.units, s.bound, s.limits, s.shut, s.in_doubt, same, none)
-        (IsKept-doubted (over key seed o motions places faults old was) r w No spare left kinds (kept.sound open_still) sound kept.units other)
+        rw (s.records, s.units, s.bound, s.limits, s.shut, s.boot_missing, s.in_doubt, same, none)
+        (IsKept-doubted (over key seed o motions places faults old was) r w No spare left kinds (kept.sound open_still booted) sound kept.units)
 
 -- what follows then
 pub Continues-refused : (T : Type 0) {D : Type 0} (e : Deny) (key seed : List ℕ) (o : Open) (motions : Option (List Motion)) (places : Places) (faults : ℕ) (old new : LedgerView D) (r : Rec)
     (w : Option (List (List ℕ × ℕ))) (was told : Bool)
-    → Wrote {T = T} (Err e) old new r w → IsWriteFault e → Continues (over key seed o motions places faults old was) (over key seed o motions places faults new told)
-Continues-refused T e key seed o motions places faults old new r w was told wrote why = ⊎_elim memory disk why
+    → Wrote {T = T} (Err e) old new r w → IsWriteFault e → ((p : Places) → r ≡ Boot p → places ≡ p) → Continues (over key seed o motions places faults old was) (over key seed o motions places faults new told)
+Continues-refused T e key seed o motions places faults old new r w was told wrote why boots = ⊎_elim memory disk why
   where
-    from : new.records ≡ old.records → new.units ≡ old.units → Continues (over key seed o motions places faults old was) (over key seed o motions places faults new told)
-    from J u = record { leads = go motions; key = refl; seed = refl; units = u }
-      where
-        go : (m : Option (List Motion)) → Leads (over key seed o motions places faults old was) (over key seed o motions places faults new told) m m
-        go None = tt
-        go (Some l) = λ known. record { follows = rw J (Follows-same old.records l places); known = rw J known }
-
     memory : e ≡ Memory → Continues (over key seed o motions places faults old was) (over key seed o motions places faults new told)
-    memory is = let s = rw is at wrote in from s.records s.units
+    memory is = let s = rw is at wrote in Continues-grown (over key seed o motions places faults old was) (over key seed o motions places faults new told) r boots refl refl refl refl s.units
+        (λ J possible. inl (rw (s.records, s.in_doubt) at possible))
 
     disk : e ≡ Disk → Continues (over key seed o motions places faults old was) (over key seed o motions places faults new told)
-    disk is = let s = rw is at wrote in from s.records s.units
+    disk is = let s = rw is at wrote in Continues-grown (over key seed o motions places faults old was) (over key seed o motions places faults new told) r boots refl refl refl refl s.units
+        (λ J possible. elim (doubted-possible old.records J r (rw (s.records, s.in_doubt) at possible)) [
+          | inl same ↦ inl (inl same)
+          | inr more ↦ inr (old.records, inl refl, more)
+        ])
 
 -- an order is open only in a journal that is
 pub still-open : (shut : Bool) (o : Open) (k : Kind) (c : Counts) → (shut ≡ true → o ≡ No) → o ≡ Written k c → shut ≡ false
@@ -173,10 +172,10 @@ pub IsKept-acted : (v : View) (k : Kind) (c m d : Counts) (failed : Bool) (now :
     → IsKept v was left before → v.open_order ≡ Written k c → MayCarry k c m d failed → Grows v.motions (Moved (length v.records) k m d) now
     → PlacesOf v.places (Moved (length v.records) k m d ∷ []) Q → kinds ≡ v.units → IsKept (acted_view v k m d failed now Q f) spare left kinds
 IsKept-acted v k c m d failed now Q f spare was left kinds before kept written may grows places units = record {
-  sound = λ e. sound;
+  sound = λ e m. sound;
   clean = kept.clean;
   closed = λ e. absurd (true≢false (sym e ∙ still));
-  booted = kept.booted;
+  missing = λ e. absurd (true≢false (sym e ∙ booted));
   recorded = λ told J p. ⊎_elim (λ same. rw same (recorded-sound (acted_view v k m d failed now Q f) sound told)) (λ doubt. absurd (none doubt.0 (sym (kept.clean still) ∙ doubt.1))) p;
   room = (rw written at kept.room).1;
   limits = rw written at kept.limits;
@@ -186,8 +185,11 @@ IsKept-acted v k c m d failed now Q f spare was left kinds before kept written m
     still : v.shut ≡ false
     still = still-open v.shut v.open_order k c kept.closed written
 
+    booted : v.boot_missing ≡ false
+    booted = still-open v.boot_missing v.open_order k c kept.missing written
+
     sound : IsSound (acted_view v k m d failed now Q f)
-    sound = IsSound-act v k c m d failed now Q f (kept.sound still) written may grows places
+    sound = IsSound-act v k c m d failed now Q f (kept.sound still booted) written may grows places
 
     none : (r : Rec) → None ≡ Some r → ⊥
     none r e = cc

@@ -1,17 +1,19 @@
 -- What a ledger keeps beside its records is what is read of them.
-use Rattle.std.proofs.Common.{◌≡◌, ◌≢◌, ℕ, zero, suc, ◌+◌, ◌<◌, ◌≤◌, ◌^◌, List, [], ◌∷◌, ◌++◌, length, None, Some, refl, sym, ◌∙◌, ap, arith, length-append}
+use Rattle.std.proofs.Common.{◌≡◌, ◌≢◌, ◌⊎◌, Bool, true, false, true≢false, take, ℕ, zero, suc, ◌+◌, ◌<◌, ◌≤◌, ◌^◌, List, [], ◌∷◌, ◌++◌, length, None, Some, refl, sym, ◌∙◌, ap, arith, length-append}
 use Rattle.std.specs.Prelude.{slice_get, slice_index}
 use Rattle.std.specs.declared.option.Option.{Option}
 use Rattle.std.specs.Option.{option_map}
 use Rattle.xfs_base.specs.declared.money.NoteKind.{NoteKind}
 use Rattle.xfs_journal.specs.declared.record.Rec.{Rec}
-use Rattle.xfs_journal.specs.declared.record.Rec.TheVariants.{Issue, Bind, Order, Done, Load}
+use Rattle.xfs_journal.specs.declared.record.Rec.TheVariants.{Issue, Clear, Boot, Bind, Order, Done, Load}
 use Rattle.xfs_journal.specs.Journal.{record_at, live_of, last_mark, next_issue, nonce_text, next_number, live_after, mark_after, Finding, found_after, Binding, bound_after}
 use Rattle.xfs_journal.proofs.JournalLaws.{live_of-push, token_of-push, bind_of-push, last_mark-push, next_issue-push, record_at-push, record_at-pushed, record_at-within, eqb-same}
 use Rattle.std.proofs.lemmas.Bool.{cases_lt}
-use Rattle.std.proofs.lemmas.Option.{slice_get_past}
+use Rattle.std.proofs.lemmas.List.{take_all, take_more, length-take-le}
+use Rattle.std.proofs.lemmas.Option.{slice_get_past, slice_get_within, get_or_from_slice_get}
 use Rattle.std.proofs.Common.{inl, inr}
 use Rattle.xfs_base.specs.declared.counts.Counts.{Counts}
+use Rattle.xfs_base.specs.declared.counts.Places.{Places}
 use Rattle.xfs_base.specs.declared.counts.Kind.{Kind}
 use Rattle.xfs_base.specs.declared.counts.Kind.TheVariants.{Stack, Present, Reject, Retract}
 use Rattle.xfs_base.specs.Money.{value}
@@ -20,11 +22,15 @@ use Rattle.xfs_guard.proofs.PresentedLaws.{presented_in-push}
 use Rattle.xfs_guard.specs.declared.bound.Live.{Live}
 use Rattle.xfs_guard.specs.declared.bound.Bound.{Bound}
 use Rattle.xfs_guard.specs.declared.nonce.Nonce.{Nonce}
-use Rattle.xfs_guard.specs.Nonce.{nonce_of, live_nonce}
+use Rattle.xfs_guard.specs.Nonce.{nonce_of, live_nonce, live_in}
 use Rattle.xfs_guard.specs.Refusals.{bound_token, bound_place}
-use Rattle.xfs_guard.specs.Ledger.{IsLive, IsBound, IsRead, AreSums, amounts_kept}
+use Rattle.xfs_guard.specs.Ledger.{IsLive, IsBound, IsRead, IsDoubted, Keeps, AreSums, amounts_kept}
 use Rattle.xfs_guard.specs.Pays.{Fits, Pays}
-use Rattle.xfs_guard.specs.LedgerView.{LedgerView}
+use Rattle.xfs_guard.specs.LedgerView.{LedgerView, IsWriteFault}
+use Rattle.xfs_guard.specs.declared.deny.Deny.{Deny}
+use Rattle.xfs_guard.specs.declared.deny.Deny.TheVariants.{Disk, Memory}
+use Rattle.xfs_journal.specs.JournalView.{IsPossible}
+use Rattle.std.proofs.Math.Seq.{take-append_seam, take-length}
 
 abbrev pub nonce_kept : Option Live → Option Nonce
 nonce_kept l = option_map (λ (x : Live). x.nonce) l
@@ -35,6 +41,10 @@ place_kept b = option_map (λ (x : Bound). x.place) b
 pub live_nonce-kept : (J : List Rec) (l : Option Live) → IsLive J l → live_nonce J ≡ nonce_kept l
 live_nonce-kept J None h = rw h refl
 live_nonce-kept J (Some l) h = rw (h.0, h.1) refl
+
+-- the nonce that lives while the Boot isn't missing
+pub nonce-open : (m : Bool) (J : List Rec) (n : Nonce) → m ≡ false → live_in m J ≡ Some n → live_nonce J ≡ Some n
+nonce-open m J n booted is = rw booted at is
 
 pub bound_token-none : (u : List NoteKind) (J : List Rec) (l : Option Live) → IsLive J l → IsBound u J l None → bound_token J ≡ None
 bound_token-none u J None h b = rw h refl
@@ -250,6 +260,93 @@ fits-sums u J (Some l) (Some b) k m h small = λ is i a e. let s = small is a.0 
 -- the nonce of an issue lives once it is written
 pub live-issued : (J : List Rec) (n w : ℕ) (x : Nonce) → x.text ≡ nonce_text n w → x.number ≡ n → live_nonce (J ++ Issue n w ∷ []) ≡ Some x
 live-issued J n w x text number = rw (live_of-push J (Issue n w), record_at-pushed J (Issue n w)) (ap Some (rw (← text, ← number) refl))
+
+-- a journal that is open has nothing in doubt
+pub Keeps-read : (J : List Rec) (d : Option Rec) (s m : Bool) (u : List NoteKind) (i k : ℕ) (l : Option Live) (b : Option Bound) (x : Option Nonce) → IsRead J u i k l b → d ≡ None → Keeps J d s m u i k l b x
+Keeps-read J d s m u i k l b x h none = record { read = λ _ _. h; lives = λ _. h.lives; doubts = λ n e. absurd (never n (rw none at e)) }
+  where
+    never : (n : Nonce) → nonce_of None ≡ Some n → ⊥
+    never n e = cc
+
+-- a record was not written, or it is not known whether it was; where it is an issue, its nonce is kept
+pub Keeps-refused : (e : Deny) (J : List Rec) (r : Rec) (d d' : Option Rec) (s s' m : Bool) (u : List NoteKind) (i k : ℕ) (l : Option Live) (b : Option Bound) (x x' : Option Nonce) → Keeps J d s m u i k l b x → IsWriteFault e
+    → (e ≡ Memory → (s' ≡ s) × (d' ≡ d) × (x' ≡ x)) → (e ≡ Disk → (s' ≡ true) × (d' ≡ Some r)) → (e ≡ Disk → IsDoubted (Some r) x') → Keeps J d' s' m u i k l b x'
+Keeps-refused e J r d d' s s' m u i k l b x x' h (inl is) memory disk doubts =
+    let same = memory is in rw (same.0, same.1, same.2) h
+Keeps-refused e J r d d' s s' m u i k l b x x' h (inr is) memory disk doubts =
+    let shut = disk is in record { read = λ still booted. absurd (true≢false (sym shut.0 ∙ still)); lives = h.lives; doubts = rw shut.1 (doubts is) }
+
+-- the journal is shut, or as before
+pub Keeps-shut : (J : List Rec) (d : Option Rec) (s s' m : Bool) (u : List NoteKind) (i k : ℕ) (l : Option Live) (b : Option Bound) (x : Option Nonce) → Keeps J d s m u i k l b x → (s' ≡ s) ⊎ (s' ≡ true) → Keeps J d s' m u i k l b x
+Keeps-shut J d s s' m u i k l b x h (inl same) = rw same h
+Keeps-shut J d s s' m u i k l b x h (inr shut) = record { read = λ still booted. absurd (true≢false (sym shut ∙ still)); lives = h.lives; doubts = h.doubts }
+
+-- the journal was read again and got no Boot: either it is missing, or it is not known whether it was written
+pub Keeps-unbooted : (J : List Rec) (d : Option Rec) (s m : Bool) (u : List NoteKind) (i k : ℕ) (l : Option Live) (b : Option Bound) (x : Option Nonce)
+    → (m ≡ false → s ≡ true) → (m ≡ false → IsLive J l) → IsDoubted d x → Keeps J d s m u i k l b x
+Keeps-unbooted J d s m u i k l b x shut lives doubts = record { read = λ still booted. absurd (true≢false (sym (shut booted) ∙ still)); lives = lives; doubts = doubts }
+
+-- a list that was read again has the kept one at its front, and at most one record more
+pub front-possible : (J K : List Rec) (d : Option Rec) → IsPossible J d K → take (length J) K ≡ J
+front-possible J K d (inl is) = rw is (take-length J)
+front-possible J K d (inr (r, doubt, is)) = rw is (take-append_seam J (r ∷ []))
+
+pub longer-possible : (J K : List Rec) (d : Option Rec) → IsPossible J d K → (length J ≤ length K) × (length K ≤ length J + 1)
+longer-possible J K d (inl is) = rw is (omega arith, omega arith)
+longer-possible J K d (inr (r, doubt, is)) = let e = length-append J (r ∷ []) in rw is (omega (arith, e), omega (arith, e))
+
+-- the nonce that is kept for the record in doubt is that of the record that was found
+pub doubts-possible : (J K : List Rec) (d : Option Rec) (x : Option Nonce) → IsPossible J d K → IsDoubted d x → IsDoubted (record_at K (length J + 1)) x
+doubts-possible J K d x (inl is) doubts = rw is (none (record_at J (length J + 1)) refl)
+  where
+    none : (o : Option Rec) → record_at J (length J + 1) ≡ o → IsDoubted o x
+    none None e = λ n never. absurd (no n never)
+      where
+        no : (n : Nonce) → nonce_of None ≡ Some n → ⊥
+        no n e = cc
+    none (Some r) e = let w = record_at-within J (length J + 1) r e in absurd (omega (arith, w.1))
+doubts-possible J K d x (inr (r, doubt, is)) doubts = rw (is, record_at-pushed J r) (rw doubt at doubts)
+
+-- a list that is longer than a front of it by one record
+pub front-record : (K : List Rec) (n : ℕ) (r : Rec) → slice_get K n ≡ Some r → length K ≤ n + 1 → (K ≡ take n K ++ r ∷ []) × (length (take n K) ≡ n)
+front-record K n r e le =
+    let within = slice_get_within K n r e in
+    (sym (take_all (n + 1) K le) ∙ (take_more K n r within ∙ ap (λ y. take n K ++ y ∷ []) (get_or_from_slice_get K n r r e)), length-take-le n K (omega (arith, within)))
+
+last-at : (K : List Rec) (n : ℕ) (r : Rec) → slice_get K n ≡ Some r → record_at K (n + 1) ≡ Some r
+last-at K n r at = let up : n + 1 ≡ suc n = omega arith in ap (record_at K) up ∙ at
+
+-- the issue in doubt was found, and lives
+pub found-issue : (K : List Rec) (n number word : ℕ) (r : Rec) (d : Option Nonce) (x : Nonce) → slice_get K n ≡ Some r → r ≡ Issue number word → length K ≤ n + 1 → IsDoubted (record_at K (n + 1)) d → d ≡ Some x
+    → IsLive K (Some (record { place = n + 1; nonce = x }))
+found-issue K n number word r d x at is le doubts kept =
+    let front = front-record K n r at le in
+    let lives : live_of K ≡ Some (length (take n K) + 1) = ap live_of front.0 ∙ (live_of-push (take n K) r ∙ rw is refl) in
+    let there : record_at K (n + 1) ≡ Some r = last-at K n r at in
+    (lives ∙ ap (λ k. Some (k + 1)) front.1, rw (there, is) (sym ((rw (there, is) at doubts) (record { text = nonce_text number word; number = number }) refl) ∙ kept))
+
+-- the nonce of an issue in doubt is kept
+pub kept-issue : (K : List Rec) (n number word : ℕ) (r : Rec) (d : Option Nonce) → slice_get K n ≡ Some r → r ≡ Issue number word → IsDoubted (record_at K (n + 1)) d → d ≡ None → ⊥
+kept-issue K n number word r d at is doubts none =
+    let there : record_at K (n + 1) ≡ Some r = last-at K n r at in
+    let some : d ≡ Some (record { text = nonce_text number word; number = number }) = (rw (there, is) at doubts) (record { text = nonce_text number word; number = number }) refl in
+    let never : None ≡ Some (record { text = nonce_text number word; number = number }) = sym none ∙ some in cc
+
+-- another record than a mark was found, and leaves the live issue
+pub found-plain : (K : List Rec) (n : ℕ) (r : Rec) (l : Option Live) → slice_get K n ≡ Some r → length K ≤ n + 1
+    → ((number word : ℕ) → r ≡ Issue number word → ⊥) → (r ≡ Clear → ⊥) → ((p : Places) → r ≡ Boot p → ⊥) → IsLive (take n K) l → IsLive K l
+found-plain K n r l at le issue clear boot lives =
+    let front = front-record K n r at le in
+    rw front.0 (lives-plain (take n K) r l lives (λ k o. keeps r issue clear boot k o))
+  where
+    keeps : (r : Rec) → ((number word : ℕ) → r ≡ Issue number word → ⊥) → (r ≡ Clear → ⊥) → ((p : Places) → r ≡ Boot p → ⊥) → (k : ℕ) (o : Option ℕ) → live_after k o r ≡ o
+    keeps (Issue number word) issue clear boot k o = absurd (issue number word refl)
+    keeps Clear issue clear boot k o = absurd (clear refl)
+    keeps (Boot p) issue clear boot k o = absurd (boot p refl)
+    keeps (Bind t) issue clear boot k o = refl
+    keeps (Order kind c) issue clear boot k o = refl
+    keeps (Done m d) issue clear boot k o = refl
+    keeps (Load u c) issue clear boot k o = refl
 
 -- what a call asks of a ledger holds of what stands for it
 pub fresh-at : {D : Type 0} (a b : LedgerView D) → a ≡ b → ((c : List ℕ) → presented_in b.units b.records c ≡ 0) → (c : List ℕ) → presented_in a.units a.records c ≡ 0

@@ -11,6 +11,7 @@ pub mod PresentedLaws
 pub mod RecordLaws
 pub mod ReplayLaws
 pub mod ReportLaws
+pub mod RestoreLaws
 pub mod SizeLaws
 pub mod SoundLaws
 pub mod StoredLaws

@@ -1,8 +1,7 @@
 -- What a guard keeps when the mechanism reports a taking or a loading.
-use Rattle.std.proofs.Common.{◌≡◌, ◌≢◌, ℕ, ◌≤◌, ◌<◌, Bool, true, false, List, [], ◌∷◌, ◌++◌, length, None, Some, refl, sym, arith}
+use Rattle.std.proofs.Common.{◌≡◌, ◌≢◌, ℕ, ◌≤◌, ◌<◌, Bool, true, false, List, [], ◌∷◌, ◌++◌, length, None, Some, refl, arith}
 use Rattle.std.specs.Prelude.{⊤}
 use Rattle.std.specs.declared.option.Option.{Option}
-use Rattle.std.proofs.lemmas.List.{append-nil}
 use Rattle.std.proofs.lemmas.List.Elements.{Contains-append_left}
 use Rattle.xfs_base.specs.Causes.{IfTold}
 use Rattle.xfs_base.specs.Counts.{at, LiesIn}
@@ -18,8 +17,6 @@ use Rattle.xfs_mech.specs.Motions.{NumberIs, PlacesOf}
 use Rattle.xfs_mech.specs.Mechanism.{Grows, Reports, source_of}
 use Rattle.xfs_mech.proofs.MotionLaws.{all-append}
 use Rattle.xfs_journal.specs.declared.record.Rec.{Rec}
-use Rattle.xfs_journal.specs.declared.record.Rec.TheVariants.{Boot}
-use Rattle.xfs_journal.proofs.JournalLaws.{record_at-within}
 use Rattle.xfs_guard.specs.declared.open.Open.{Open}
 use Rattle.xfs_guard.specs.declared.open.Open.TheVariants.{No, Written, Acted}
 use Rattle.xfs_guard.specs.View.{View}
@@ -31,7 +28,7 @@ use Rattle.xfs_guard.specs.Orders.{kind_unacted}
 use Rattle.xfs_guard.specs.Kept.{HasRoom, HasLimits}
 use Rattle.xfs_guard.specs.Sound.{Stands, HasActed, Ties, where_told, IsSound}
 use Rattle.xfs_guard.specs.Continues.{Leads, Continues}
-use Rattle.xfs_guard.proofs.FollowsLaws.{Follows-same}
+use Rattle.xfs_guard.proofs.ContinueLaws.{Led-same, Led-motion}
 use Rattle.xfs_guard.proofs.SoundLaws.{grows-told}
 use Rattle.xfs_guard.proofs.WithinLaws.{Within-quiet, shown-motion}
 
@@ -179,29 +176,22 @@ HasRoom-report o e m d failed was now P Q before spare left room h more r = go o
     go (Written k c) le h = (omega (arith, h.0), h.1)
     go (Acted k m d failed) le h = h
 
--- what follows after a report
+-- what follows after a report, also behind a record in doubt
 pub Continues-report : (v : View) (e : Motion) (m d : Counts) (failed : Bool) (now : Option (List Motion)) (Q : Places) (f spare left : ℕ) → IsReport e
     → Reports e m d failed v.motions now v.places Q spare left → Continues v (reported_view v now Q f)
 Continues-report v e m d true now Q f spare left is r = let none = r.nothing refl in rw (none.0, none.1) (record { leads = same v.motions; key = refl; seed = refl; units = refl })
   where
     same : (told : Option (List Motion)) → Leads v (reported_view v v.motions v.places f) told told
     same None = tt
-    same (Some L) = λ known. record { follows = Follows-same v.records L v.places; known = known }
+    same (Some L) = λ J possible. record { from = J; possible = possible; led = Led-same J L v.places }
 Continues-report v e m d false now Q f spare left is r = record { leads = told v.motions (r.grown refl); key = refl; seed = refl; units = refl }
   where
     told : (was : Option (List Motion)) → Grows was e now → Leads v (reported_view v now Q f) was now
     told None g = rw g tt
-    told (Some L) g = rw g (λ known. record {
-      follows = record {
-        recs = [];
-        moves = e ∷ [];
-        grew = sym (append-nil v.records);
-        moved = refl;
-        reached = r.places refl;
-        later = (number-report (λ n. length v.records ≤ n) e is, tt);
-        boots = λ n p lt b. let w = record_at-within v.records n (Boot p) b in absurd (omega arith);
-      };
-      known = all-append (NumberIs (λ n. n ≤ length v.records)) L (e ∷ []) known (number-report (λ n. n ≤ length v.records) e is, tt);
+    told (Some L) g = rw g (λ J possible. record {
+      from = J;
+      possible = possible;
+      led = Led-motion J L e v.places Q (number-report (λ n. n ≤ length J) e is) (number-report (λ n. length J ≤ n) e is) (r.places refl);
     })
 
 -- a taking leaves what an order takes, where that is no retract

@@ -12,7 +12,7 @@ use Rattle.xfs_journal.specs.JournalView.{passes}
 use Rattle.xfs_journal.specs.declared.limits.Limits.{Limits}
 use Rattle.xfs_journal.specs.declared.record.Rec.{Rec}
 use Rattle.xfs_guard.specs.declared.deny.Deny.{Deny}
-use Rattle.xfs_guard.specs.Fits.{is_full, unfit}
+use Rattle.xfs_guard.specs.Fits.{is_short, unfit}
 use Rattle.xfs_guard.specs.LedgerView.{LedgerView, write_refusal}
 use Rattle.xfs_guard.specs.View.{View, GuardView}
 
@@ -45,14 +45,15 @@ not-under a b le = go (nat_lt a b) refl
     go false e = e
     go true e = let lt = ltb-true a b e in absurd (omega arith)
 
--- a journal that is open and has room: neither shut nor full
-pub fit-parts : (v : View) → unfit v ≡ None → (v.shut ≡ false) × (is_full v ≡ false)
-fit-parts v e = go v.shut (is_full v) e
+-- a journal that takes more records: it isn't shut, enough is left, and its Boot isn't missing
+pub fit-parts : (v : View) → unfit v ≡ None → (v.shut ≡ false) × (is_short v ≡ false) × (v.boot_missing ≡ false)
+fit-parts v e = go v.shut v.boot_missing (is_short v) e
   where
-    go : (s f : Bool) → (if s then Some Deny.Shut else if f then Some Deny.Full else None) ≡ None → (s ≡ false) × (f ≡ false)
-    go true f e = cc
-    go false true e = cc
-    go false false e = (refl, refl)
+    go : (s m f : Bool) → (if s then Some Deny.Shut else if m || f then Some Deny.Full else None) ≡ None → (s ≡ false) × (f ≡ false) × (m ≡ false)
+    go true m f e = cc
+    go false true f e = cc
+    go false false true e = cc
+    go false false false e = (refl, refl, refl)
 
 -- it takes one more record of up to 1,025 bytes
 pub takes-one : (limits : Limits) (J : List Rec) (r : Rec) → (nat_lt (limits.records - length J) 3 || nat_lt (limits.bytes - size J) 2048) ≡ false → length (body r) ≤ 1025 → passes limits (J ++ r ∷ []) ≡ false
@@ -65,17 +66,27 @@ takes-one limits J r free short =
     (not-under limits.bytes (size (J ++ r ∷ [])) (omega (arith, bytes, size-longer J r, short)))
 
 -- the same of a guard's view that stands for another
-pub fit-at : {D : Type 0} (a b : GuardView D) → a ≡ b → unfit b.state ≡ None → (a.state.shut ≡ false) × (is_full a.state ≡ false)
+pub fit-at : {D : Type 0} (a b : GuardView D) → a ≡ b → unfit b.state ≡ None → (a.state.shut ≡ false) × (is_short a.state ≡ false) × (a.state.boot_missing ≡ false)
 fit-at a b e fit = fit-parts a.state (rw e fit)
 
--- a journal that is open and takes one more record refuses none
-pub may-write : {D : Type 0} (l : LedgerView D) (r : Rec) → l.shut ≡ false → passes l.limits (l.records ++ r ∷ []) ≡ false → write_refusal l r ≡ None
-may-write l r e f = go l.shut (passes l.limits (l.records ++ r ∷ [])) e f
+-- a ledger that is open and takes one more record refuses none
+pub may-write : {D : Type 0} (l : LedgerView D) (r : Rec) → l.shut ≡ false → l.boot_missing ≡ false → passes l.limits (l.records ++ r ∷ []) ≡ false → write_refusal l r ≡ None
+may-write l r e m f = go l.shut l.boot_missing (passes l.limits (l.records ++ r ∷ [])) e m f
   where
-    go : (s p : Bool) → s ≡ false → p ≡ false → (if s then Some Deny.Shut else if p then Some Deny.Full else None) ≡ None
-    go true p e f = cc
-    go false true e f = cc
-    go false false e f = refl
+    go : (s b p : Bool) → s ≡ false → b ≡ false → p ≡ false → (if s then Some Deny.Shut else if b then Some Deny.Full else if p then Some Deny.Full else None) ≡ None
+    go true b p e m f = cc
+    go false true p e m f = cc
+    go false false true e m f = cc
+    go false false false e m f = refl
+
+-- a ledger that refuses no record is open
+pub write-open : {D : Type 0} (a b : LedgerView D) (r : Rec) → a ≡ b → write_refusal b r ≡ None → (a.shut ≡ false) × (a.boot_missing ≡ false)
+write-open a b r same none = go a.shut a.boot_missing (passes a.limits (a.records ++ r ∷ [])) (rw same none)
+  where
+    go : (s m p : Bool) → (if s then Some Deny.Shut else if m then Some Deny.Full else if p then Some Deny.Full else None) ≡ None → (s ≡ false) × (m ≡ false)
+    go true m p e = cc
+    go false true p e = cc
+    go false false p e = (refl, refl)
 
 pub order-short : (k : Kind) (c : Counts) → length c.0 ≡ 8 → length (body (Order k c)) ≡ 34
 order-short k c e = omega (arith, length-numbers c.0, e)

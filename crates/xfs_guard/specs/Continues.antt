@@ -1,8 +1,10 @@
--- What happened from one state of a guard to a later one.
+-- What happened from one state of a guard to a later one. The possible lists of a guard are its journal's list and, where the journal keeps a record in doubt, that list with this record: each of the later ones comes from one of the earlier ones.
 use Rattle.std.specs.Prelude.{◌≡◌, ◌≤◌, List, length, Some, None, ⊤}
 use Rattle.std.specs.List.{AllByRecursion}
 use Rattle.std.specs.declared.option.Option.{Option}
+use Rattle.xfs_base.specs.declared.counts.Places.{Places}
 use Rattle.xfs_mech.specs.declared.motion.Motion.{Motion}
+use Rattle.xfs_journal.specs.JournalView.{IsPossible}
 use Rattle.xfs_journal.specs.declared.record.Rec.{Rec}
 use Rattle.xfs_mech.specs.Motions.{NumberIs}
 use Rattle.xfs_guard.specs.View.{View}
@@ -12,16 +14,22 @@ use Rattle.xfs_guard.specs.Follows.{Follows}
 abbrev pub IsKnown : List Rec → List Motion → Type 0
 IsKnown records motions = AllByRecursion (NumberIs (λ n. n ≤ length records)) motions
 
--- an earlier state's lists and places led to these
-pub record Led (old new : View) (before now : List Motion) : Type 0 where
-  pub follows : Follows old.records before old.places new.records now new.places
-  pub known : IsKnown new.records now
+-- earlier lists and places led to these
+pub record Led (records : List Rec) (motions : List Motion) (places : Places) (records' : List Rec) (motions' : List Motion) (places' : Places) : Type 0 where
+  pub follows : Follows records motions places records' motions' places'
+  pub known : IsKnown records' motions'
+
+-- a possible list of the later state comes from one of the earlier state
+pub record Comes (old new : View) (before now : List Motion) (records : List Rec) : Type 0 where
+  pub from : List Rec
+  pub possible : IsPossible old.records old.in_doubt from
+  pub led : IsKnown from before → Led from before old.places records now new.places
 
 abbrev pub Leads : View → View → Option (List Motion) → Option (List Motion) → Type 0
 Leads old new None None = ⊤
 Leads old new None (Some now) = ⊥
 Leads old new (Some before) None = ⊥
-Leads old new (Some before) (Some now) = IsKnown old.records before → Led old new before now
+Leads old new (Some before) (Some now) = (J : List Rec) → IsPossible new.records new.in_doubt J → Comes old new before now J
 
 -- what happened from one state of a guard to another
 pub record Continues (old new : View) : Type 0 where

@@ -1,4 +1,4 @@
--- Whether the journal takes more records: not where it is shut, nor where fewer than 3 records or fewer than 2,048 bytes are left of its limits.
+-- Whether the journal takes more records: not where it is shut, nor where its Boot is missing, nor where fewer than 3 records or fewer than 2,048 bytes are left of its limits.
 use Rattle.std.specs.Prelude.{◌-◌, nat_lt, Bool, ◌||◌, length, Some, None, if◌then◌else◌}
 use Rattle.std.specs.declared.option.Option.{Option}
 use Rattle.xfs_journal.specs.Image.{size}
@@ -6,8 +6,12 @@ use Rattle.xfs_guard.specs.declared.deny.Deny.{Deny}
 use Rattle.xfs_guard.specs.declared.fit.Fit.{Fit}
 use Rattle.xfs_guard.specs.View.{View}
 
+-- too little is left of the limits
+abbrev pub is_short : View → Bool
+is_short v = nat_lt (v.limits.records - length v.records) 3 || nat_lt (v.limits.bytes - size v.records) 2048
+
 abbrev pub is_full : View → Bool
-is_full v = nat_lt (v.limits.records - length v.records) 3 || nat_lt (v.limits.bytes - size v.records) 2048
+is_full v = v.boot_missing || is_short v
 
 abbrev pub fit_of : View → Fit
 fit_of v = if v.shut then Fit.Shut else if is_full v then Fit.Full else Fit.Ready

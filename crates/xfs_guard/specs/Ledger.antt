@@ -1,5 +1,5 @@
 -- What a ledger keeps beside its records.
-use Rattle.std.specs.Prelude.{◌≡◌, ℕ, ◌+◌, ◌≤◌, List, length, slice_get, slice_index, Some, None, ⊤}
+use Rattle.std.specs.Prelude.{◌≡◌, ℕ, ◌+◌, ◌≤◌, Bool, false, List, length, slice_get, slice_index, Some, None, ⊤}
 use Rattle.std.specs.declared.option.Option.{Option}
 use Rattle.std.specs.Option.{option_map}
 use Rattle.xfs_base.specs.declared.money.NoteKind.{NoteKind}
@@ -7,6 +7,7 @@ use Rattle.xfs_journal.specs.declared.record.Rec.{Rec}
 use Rattle.xfs_journal.specs.declared.record.Rec.TheVariants.{Bind}
 use Rattle.xfs_journal.specs.Journal.{record_at, live_of, token_of, bind_of, last_mark, next_issue}
 use Rattle.xfs_guard.specs.declared.bound.Live.{Live}
+use Rattle.xfs_guard.specs.declared.nonce.Nonce.{Nonce}
 use Rattle.xfs_guard.specs.declared.bound.Bound.{Bound}
 use Rattle.xfs_guard.specs.Nonce.{nonce_of}
 use Rattle.xfs_guard.specs.Presented.{presented_in}
@@ -45,3 +46,13 @@ pub record IsRead (records : List Rec) (units : List NoteKind) (issues mark : �
   pub marked : mark ≡ last_mark records
   pub lives : IsLive records live
   pub binds : IsBound units records live bound
+
+-- where the record in doubt is an issue, its nonce is kept
+abbrev pub IsDoubted : Option Rec → Option Nonce → Type 0
+IsDoubted in_doubt doubted = (n : Nonce) → nonce_of in_doubt ≡ Some n → doubted ≡ Some n
+
+-- all of it is so while the journal is open and has its Boot, and the live issue also while it is shut
+pub record Keeps (records : List Rec) (in_doubt : Option Rec) (shut boot_missing : Bool) (units : List NoteKind) (issues mark : ℕ) (live : Option Live) (bound : Option Bound) (doubted : Option Nonce) : Type 0 where
+  pub read : shut ≡ false → boot_missing ≡ false → IsRead records units issues mark live bound
+  pub lives : boot_missing ≡ false → IsLive records live
+  pub doubts : IsDoubted in_doubt doubted

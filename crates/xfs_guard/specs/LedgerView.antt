@@ -11,7 +11,7 @@ use Rattle.xfs_guard.specs.declared.deny.Deny.{Deny}
 use Rattle.xfs_guard.specs.declared.deny.Deny.TheVariants.{Shut, Full, Disk, Memory}
 use Rattle.xfs_guard.specs.Presented.{presented_in}
 
--- a ledger: its journal with the disk, the table of its units, the amounts of the token that is bound to the live nonce, and the room for more records
+-- a ledger: its journal with the disk, the table of its units, the amounts of the token that is bound to the live nonce, the room for more records, and whether its Boot is missing, for which a restore found no room
 pub record LedgerView (D : Type 0) : Type 0 where
   pub records : List Rec
   pub units : List NoteKind
@@ -19,9 +19,14 @@ pub record LedgerView (D : Type 0) : Type 0 where
   pub room : ℕ
   pub limits : Limits
   pub shut : Bool
+  pub boot_missing : Bool
   -- the record whose append last answered that the disk failed
   pub in_doubt : Option Rec
   pub disk : D
+
+-- the journal is open, and its Boot isn't missing
+abbrev pub IsOpen : {D : Type 0} → LedgerView D → Type 0
+IsOpen l = (l.shut ≡ false) × (l.boot_missing ≡ false)
 
 -- one record is written, and these amounts are bound then
 pub record Writes {D : Type 0} (old new : LedgerView D) (r : Rec) (bound : Option (List (List ℕ × ℕ))) : Type 0 where
@@ -30,6 +35,7 @@ pub record Writes {D : Type 0} (old new : LedgerView D) (r : Rec) (bound : Optio
   pub bound_is : new.bound ≡ bound
   pub limits : new.limits ≡ old.limits
   pub open_still : new.shut ≡ false
+  pub boot_missing : new.boot_missing ≡ old.boot_missing
   pub in_doubt : new.in_doubt ≡ None
 
 -- all is as before, the room aside
@@ -39,6 +45,7 @@ pub record IsSame {D : Type 0} (old new : LedgerView D) : Type 0 where
   pub bound : new.bound ≡ old.bound
   pub limits : new.limits ≡ old.limits
   pub shut : new.shut ≡ old.shut
+  pub boot_missing : new.boot_missing ≡ old.boot_missing
   pub in_doubt : new.in_doubt ≡ old.in_doubt
   pub disk : new.disk ≡ old.disk
 
@@ -49,6 +56,7 @@ pub record Doubts {D : Type 0} (old new : LedgerView D) (r : Rec) : Type 0 where
   pub bound : new.bound ≡ old.bound
   pub limits : new.limits ≡ old.limits
   pub shut : new.shut ≡ true
+  pub boot_missing : new.boot_missing ≡ old.boot_missing
   pub in_doubt : new.in_doubt ≡ Some r
 
 -- what a call that writes this record leaves
@@ -57,9 +65,9 @@ Wrote (Ok x) old new r bound = Writes old new r bound
 Wrote (Err Disk) old new r bound = Doubts old new r
 Wrote (Err e) old new r bound = IsSame old new
 
--- why the journal doesn't take a record: it is shut, or a limit would be passed
+-- why a record isn't taken: the journal is shut, its Boot is missing, or a limit would be passed
 abbrev pub write_refusal : {D : Type 0} → LedgerView D → Rec → Option Deny
-write_refusal l r = if l.shut then Some Shut else (if passes l.limits (l.records ++ r ∷ []) then Some Full else None)
+write_refusal l r = if l.shut then Some Shut else if l.boot_missing then Some Full else (if passes l.limits (l.records ++ r ∷ []) then Some Full else None)
 
 -- why a record that nothing refuses isn't written
 abbrev pub IsWriteFault : Deny → Type 0

@@ -1,5 +1,5 @@
 -- The nonce of the live Issue.
-use Rattle.std.specs.Prelude.{List, Some, None}
+use Rattle.std.specs.Prelude.{Bool, List, Some, None, if◌then◌else◌}
 use Rattle.std.specs.Option.{option_and_then}
 use Rattle.std.specs.declared.option.Option.{Option}
 use Rattle.xfs_journal.specs.declared.record.Rec.{Rec}
@@ -15,3 +15,7 @@ nonce_of _ = None
 -- the nonce of the live Issue
 abbrev pub live_nonce : List Rec → Option Nonce
 live_nonce records = option_and_then (λ p. nonce_of (record_at records p)) (live_of records)
+
+-- the nonce that lives: that of the live Issue, and none where the Boot behind the records is missing
+abbrev pub live_in : Bool → List Rec → Option Nonce
+live_in boot_missing records = if boot_missing then None else live_nonce records

@@ -8,7 +8,7 @@ use Rattle.xfs_journal.specs.declared.record.Rec.{Rec}
 use Rattle.xfs_journal.specs.declared.limits.Limits.{Limits}
 use Rattle.xfs_guard.specs.declared.open.Open.{Open}
 
--- a guard: its key, seed and units, its journal, the amounts of the token that is bound to the live nonce, the open order, what its mechanism tells, the journal's limits, whether the journal is shut, the record whose append last answered that the disk failed, and whether the disk tells its bytes
+-- a guard: its key, seed and units, its journal, the amounts of the token that is bound to the live nonce, the open order, what its mechanism tells, the journal's limits, whether the journal is shut, whether a restore found no room for its Boot since the last Boot was appended, the record whose append last answered that the disk failed, and whether the disk tells its bytes
 pub record View : Type 0 where
   pub key : List ℕ
   pub seed : List ℕ
@@ -21,6 +21,7 @@ pub record View : Type 0 where
   pub faults : ℕ
   pub limits : Limits
   pub shut : Bool
+  pub boot_missing : Bool
   pub in_doubt : Option Rec
   pub disk_told : Bool
 

@@ -2,7 +2,7 @@
 
 ghost use Rattle.std.specs.Prelude.{◌≡◌, ◌<◌, ◌^◌};
 ghost use Rattle.xfs_guard.specs.Passed.{spent, is_over, letters_number, earlier, first_currency, passed_in};
-ghost use Rattle.xfs_guard.specs.LedgerView.{IsTold};
+ghost use Rattle.xfs_guard.specs.LedgerView.{IsOpen, IsTold};
 
 use crate::Deny;
 use crate::ledger::Ledger;
@@ -17,7 +17,8 @@ pub fn passed<D: Disk>(
     amounts: &Amounts,
     counts: &Counts,
 ) -> Option<Deny>
-    requires { IsTold ledger.now }
+    requires open_still { IsOpen ledger.now }
+    requires told { IsTold ledger.now }
     ensures { result ≡ passed_in ledger.now.units ledger.now.records transport.now amounts.now counts.now }
 {
     let currency = first_over(ledger, transport, amounts, counts)?;
@@ -37,7 +38,8 @@ fn first_over<D: Disk>(
     amounts: &Amounts,
     counts: &Counts,
 ) -> Option<Currency>
-    requires { IsTold ledger.now }
+    requires open_still { IsOpen ledger.now }
+    requires told { IsTold ledger.now }
     ensures { result ≡ first_currency (is_over ledger.now.units ledger.now.records transport.now amounts.now counts.now) ledger.now.units }
 {
     let kinds = ledger.units().kinds();
@@ -54,7 +56,8 @@ fn first_over<D: Disk>(
 
 // What was presented since the live issue, and what lies on the transport.
 fn spent<D: Disk>(ledger: &Ledger<D>, transport: &Counts, currency: Currency) -> u128
-    requires { IsTold ledger.now }
+    requires open_still { IsOpen ledger.now }
+    requires told { IsTold ledger.now }
     ensures worth { result ≡ spent ledger.now.units ledger.now.records transport.now currency }
     ensures small { result < 2 ^ 66 }
 {

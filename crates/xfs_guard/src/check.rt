@@ -9,6 +9,7 @@ ghost use Rattle.xfs_journal.specs.declared.record.Rec.TheVariants.{Bind};
 ghost use Rattle.xfs_guard.specs.declared.open.Open.TheVariants.{No};
 ghost use Rattle.xfs_guard.specs.Nonce.{live_nonce};
 ghost use Rattle.xfs_guard.specs.Continues.{Continues};
+ghost use Rattle.xfs_guard.specs.Fits.{unfit};
 ghost use Rattle.xfs_base.specs.Causes.{Rose};
 ghost use Rattle.xfs_guard.specs.LedgerView.{IsWriteFault};
 ghost use Rattle.xfs_guard.specs.Refusals.{Answers, Passes, TokenRefused, Binds, claim_refusal, bind_refusal, bound_token, over_budget};
@@ -51,7 +52,8 @@ impl<M: Mechanism, D: Disk> Guard<M, D> {
 
     // The amounts of a token that passes every check.
     fn admits(&self, bytes: &[u8], token: &Token) -> Result<Amounts, Deny>
-        requires { Spells token.now bytes.now }
+        requires spelled { Spells token.now bytes.now }
+        requires fit { unfit self.now.state ≡ None }
         ensures ok { IfOk result (λ a. (claim_refusal self.now.state bytes.now token.now ≡ None) × (amounts_of token.now ≡ Some a)) }
         ensures err { IfErr result (λ e. claim_refusal self.now.state bytes.now token.now ≡ Some e) }
     {
@@ -77,6 +79,7 @@ impl<M: Mechanism, D: Disk> Guard<M, D> {
 
     // Why these bytes are not bound and may not be.
     fn bindable(&self, bytes: &[u8]) -> Option<Deny>
+        requires { unfit self.now.state ≡ None }
         ensures { result ≡ bind_refusal self.now.state bytes.now (bound_token self.now.state.records) }
     {
         match self.ledger.token() {

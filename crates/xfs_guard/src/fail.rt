@@ -4,10 +4,11 @@ use xfs_disk::Disk;
 use xfs_journal::MountFault;
 use xfs_mech::Mechanism;
 
-/// Why a boot is refused.
+/// Why a boot or a restore is refused.
 #[derive(Clone, Copy, Debug, PartialEq, Eq)]
 pub enum BootFault {
-    /// The disk's bytes are no journal; `at` is the place of the first fault.
+    /// The disk's bytes are no journal; `at` is the place of the first fault. A restore is refused so where they
+    /// stand for another list than the possible ones.
     NotJournal { at: u64 },
     /// The disk failed in this call: its count of faults rose.
     Disk,

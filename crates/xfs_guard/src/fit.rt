@@ -4,6 +4,7 @@ pub enum Fit {
     Ready,
     /// The disk failed, and the journal wasn't read again since.
     Shut,
-    /// Fewer than 3 records or fewer than 2,048 bytes are left of the journal's limits.
+    /// Fewer than 3 records or fewer than 2,048 bytes are left of the journal's limits, or a restore found no room
+    /// for its Boot.
     Full,
 }

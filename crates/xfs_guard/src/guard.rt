@@ -4,7 +4,7 @@ ghost use Rattle.xfs_base.specs.Causes.{IfTold, Rose};
 ghost use Rattle.xfs_journal.specs.declared.record.Rec.TheVariants.{Issue, Clear, Boot, Bind, Order, Done};
 ghost use Rattle.xfs_journal.specs.Journal.{next_issue};
 ghost use Rattle.xfs_guard.specs.declared.open.Open.TheVariants.{No, Written};
-ghost use Rattle.xfs_guard.specs.Nonce.{live_nonce};
+ghost use Rattle.xfs_guard.specs.Nonce.{live_in, live_nonce};
 ghost use Rattle.xfs_guard.specs.Word.{issue_word};
 ghost use Rattle.xfs_guard.specs.Fits.{fit_of, unfit};
 ghost use Rattle.xfs_guard.specs.Stored.{IsStored, MayLeave};
@@ -13,7 +13,6 @@ ghost use Rattle.xfs_guard.specs.declared.fail.BootFault.TheVariants.{NotJournal
 ghost use Rattle.xfs_journal.specs.Image.{Stands};
 ghost use Rattle.xfs_journal.specs.JournalView.{IsPossible, StandsForEither, passes};
 ghost use Rattle.xfs_disk.specs.Disk.{AddsNone};
-ghost use Rattle.xfs_base.specs.declared.counts.Places.{Places};
 ghost use Rattle.xfs_journal.specs.Paging.{CeasesAt, IsQuiet};
 ghost use Rattle.xfs_journal.specs.declared.record.Rec.{Rec};
 ghost use Rattle.xfs_guard.specs.Continues.{Continues};
@@ -64,6 +63,7 @@ impl<M: Mechanism, D: Disk> Model for Guard<M, D> {
         faults = M.faults g.mech;
         limits = g.ledger.limits;
         shut = g.ledger.shut;
+        boot_missing = g.ledger.boot_missing;
         in_doubt = g.ledger.in_doubt;
         disk_told = is_some (D.held g.ledger.disk);
       };
@@ -82,6 +82,7 @@ impl<M: Mechanism, D: Disk> Model for Guard<M, D> {
       faults = M.faults g.mech;
       limits = g.ledger.limits;
       shut = g.ledger.shut;
+      boot_missing = g.ledger.boot_missing;
       in_doubt = g.ledger.in_doubt;
       disk_told = is_some (D.held g.ledger.disk);
     }) (M.room g.mech) g.ledger.room (M.units g.mech) };
@@ -113,6 +114,7 @@ impl<M: Mechanism, D: Disk> Guard<M, D> {
           faults = M.faults mech;
           limits = limits;
           shut = false;
+          boot_missing = false;
           in_doubt = None;
           disk_told = is_some (D.held disk);
         })) }
@@ -150,7 +152,6 @@ impl<M: Mechanism, D: Disk> Guard<M, D> {
         ensures left { (J : List Rec) → MayLeave (D.held result.1) (D.images result.1) J → IsPossible self.state.records self.state.in_doubt J }
         ensures recorded { (J : List Rec) → MayLeave (D.held result.1) (D.images result.1) J → IsRecorded self.state.key self.state.units J self.state.motions }
         ensures clean { self.state.shut ≡ false → self.state.in_doubt ≡ None }
-        ensures booted { (p : Places) → self.state.in_doubt ≢ Some (Boot p) }
         ensures told { is_some (D.held result.1) ≡ self.state.disk_told }
         ensures disk { result.1 ≡ self.disk }
         ensures motions { M.motions result.0 ≡ self.state.motions }
@@ -177,7 +178,7 @@ impl<M: Mechanism, D: Disk> Guard<M, D> {
             return Fit::Shut;
         }
         let left = self.ledger.left();
-        if left.records < 3 || left.bytes < 2_048 {
+        if self.ledger.boot_missing() || left.records < 3 || left.bytes < 2_048 {
             return Fit::Full;
         }
         Fit::Ready
@@ -194,9 +195,9 @@ impl<M: Mechanism, D: Disk> Guard<M, D> {
         }
     }
 
-    /// The live nonce. None where none was issued, or it was cleared.
+    /// The live nonce. None where none was issued, or it was cleared, or a restore found no room for its Boot.
     pub fn live(&self) -> Option<Nonce>
-        ensures { result ≡ live_nonce self.now.state.records }
+        ensures { result ≡ live_in self.now.state.boot_missing self.now.state.records }
     {
         self.ledger.live()
     }
@@ -361,6 +362,7 @@ impl<M: Mechanism, D: Disk> Guard<M, D> {
     }
 
     fn presented(&self) -> Result<(Kind, Counts), Deny>
+        requires { unfit self.now.state ≡ None }
         ensures ok { IfOk result (λ r. (order_refusal self.now.state AskPresent ≡ None) × (r.0 ≡ Kind.Present) × (r.1 ≡ self.now.state.places.transport)) }
         ensures err { IfErr result (λ e. (e ≢ Deny.Memory) × (e ≢ Deny.Disk) × (order_refusal self.now.state AskPresent ≡ Some e)) }
     {

@@ -1,6 +1,6 @@
-//! The records of the journal, with what is read of them kept beside: no call but `boot` goes through them.
+//! The records of the journal, with what is read of them kept beside: no call but `boot` and `restore` goes through them.
 
-ghost use Rattle.std.specs.Prelude.{MatchResult, ◌≡◌, ◌≢◌, ℕ, List, ◌+◌, ◌-◌, ◌<◌, ◌≤◌, ◌^◌, [], ◌∷◌, ◌++◌, true, false, is_some, length, slice_get, slice_index, OnErr, IfErr, IfOk, OnOk, Some, None, Err};
+ghost use Rattle.std.specs.Prelude.{MatchResult, ◌≡◌, ◌≢◌, ◌⊎◌, ℕ, List, ◌+◌, ◌-◌, ◌<◌, ◌≤◌, ◌^◌, [], ◌∷◌, ◌++◌, true, false, is_some, length, slice_get, slice_index, take, OnErr, IfErr, IfOk, OnOk, Some, None, Err};
 ghost use Rattle.std.specs.Option.{option_copied, option_map};
 ghost use Rattle.xfs_base.specs.Causes.{IfTold, Rose};
 ghost use Rattle.xfs_base.specs.Money.{value};
@@ -9,15 +9,16 @@ ghost use Rattle.xfs_base.specs.declared.counts.Kind.TheVariants.{Present};
 ghost use Rattle.xfs_journal.specs.Image.{HasUnit, Stands, size};
 ghost use Rattle.xfs_journal.specs.Paging.{CeasesAt, IsQuiet};
 ghost use Rattle.xfs_journal.specs.declared.record.Rec.{Rec};
-ghost use Rattle.xfs_guard.specs.declared.fail.BootFault.TheVariants.{NotJournal, Disk as BootDisk, Full as BootFull};
-ghost use Rattle.xfs_journal.specs.JournalView.{passes, refusal, StandsForEither};
+ghost use Rattle.xfs_guard.specs.declared.fail.BootFault.TheVariants.{NotJournal, Disk as BootDisk, Full as BootFull, Memory as BootMemory};
+ghost use Rattle.xfs_journal.specs.JournalView.{passes, refusal, IsPossible, StandsForEither};
 ghost use Rattle.xfs_disk.specs.Disk.{AddsNone};
 ghost use Rattle.xfs_journal.specs.declared.record.Rec.TheVariants.{Issue, Clear, Boot, Bind, Order, Done, Load};
 ghost use Rattle.xfs_journal.specs.Journal.{record_at, live_of, token_of, last_mark, next_issue, nonce_text};
-ghost use Rattle.xfs_guard.specs.Nonce.{live_nonce};
+ghost use Rattle.xfs_guard.specs.Nonce.{live_in, nonce_of};
 ghost use Rattle.xfs_guard.specs.Refusals.{bound_token, bound_place};
 ghost use Rattle.xfs_guard.specs.Presented.{presented_in};
-ghost use Rattle.xfs_guard.specs.LedgerView.{IsWriteFault, Wrote, IsSame, IsTold, write_refusal};
+ghost use Rattle.xfs_guard.specs.LedgerView.{IsOpen, IsWriteFault, Wrote, IsSame, IsTold, write_refusal};
+ghost use Rattle.xfs_guard.specs.Ledger.{IsLive, IsDoubted};
 ghost use Rattle.xfs_guard.specs.Stored.{IsStored, MayLeave, WasLeft};
 ghost use Rattle.xfs_guard.specs.Pays.{Fits, Pays, IsSumOf};
 
@@ -39,11 +40,14 @@ pub struct Ledger<D: Disk> {
     mark: u64,
     live: Option<Live>,
     bound: Option<Bound>,
+    boot_missing: bool,
+    // The nonce that may live where the record in doubt is an Issue.
+    doubted: Option<Nonce>,
 }
 
 impl<D: Disk> Model for Ledger<D> {
     ghost use Rattle.xfs_guard.specs.LedgerView.{LedgerView};
-    ghost use Rattle.xfs_guard.specs.Ledger.{IsRead, amounts_kept};
+    ghost use Rattle.xfs_guard.specs.Ledger.{Keeps, amounts_kept};
 
     ghost Value = { LedgerView D };
 
@@ -54,11 +58,12 @@ impl<D: Disk> Model for Ledger<D> {
       room = l.journal.room;
       limits = l.journal.limits;
       shut = l.journal.shut;
+      boot_missing = l.boot_missing;
       in_doubt = l.journal.in_doubt;
       disk = l.journal.disk;
     } };
 
-    ghost invariant = { λ l. IsRead l.journal.records l.units l.issues l.mark l.live l.bound };
+    ghost invariant = { λ l. Keeps l.journal.records l.journal.in_doubt l.journal.shut l.boot_missing l.units l.issues l.mark l.live l.bound l.doubted };
 }
 
 /// A refused boot, with the disk.
@@ -79,7 +84,7 @@ impl<D: Disk> Ledger<D> {
     ) -> Result<Ledger<D>, Unbooted<D>>
         ensures records { IfOk result (λ l. (J : List Rec) × IfTold (D.held disk) (λ all. Stands all J) × (l.records ≡ J ++ Boot places ∷ [])) }
         ensures fits { IfOk result (λ l. passes limits l.records ≡ false) }
-        ensures opened { IfOk result (λ l. (l.shut ≡ false) × (l.in_doubt ≡ None) × (l.bound ≡ None)) }
+        ensures opened { IfOk result (λ l. (l.shut ≡ false) × (l.in_doubt ≡ None) × (l.bound ≡ None) × (l.boot_missing ≡ false)) }
         ensures same { IfOk result (λ l. (l.limits ≡ limits) × (l.units ≡ units)) }
         ensures told { IfOk result (λ l. is_some (D.held l.disk) ≡ is_some (D.held disk)) }
         ensures not_journal { IfErr result (λ f. (at : ℕ) → f.why ≡ NotJournal at → IfTold (D.held disk) (λ all. CeasesAt all at × ((J : List Rec) → ¬ Stands all J))) }
@@ -110,6 +115,8 @@ impl<D: Disk> Ledger<D> {
                 mark,
                 live: None,
                 bound: None,
+                boot_missing: false,
+                doubted: None,
             }),
             Err(why) => Err(Unbooted {
                 why,
@@ -137,6 +144,8 @@ impl<D: Disk> Ledger<D> {
             mark: _,
             live: _,
             bound: _,
+            boot_missing: _,
+            doubted: _,
         } = self;
         journal.end()
     }
@@ -148,6 +157,13 @@ impl<D: Disk> Ledger<D> {
         self.journal.shut()
     }
 
+    /// Whether a restore found no room for its Boot since the last one was appended.
+    pub fn boot_missing(&self) -> bool
+        ensures { result ≡ self.now.boot_missing }
+    {
+        self.boot_missing
+    }
+
     pub fn units(&self) -> &UnitTable
         ensures { result.now ≡ self.now.units }
     {
@@ -156,6 +172,7 @@ impl<D: Disk> Ledger<D> {
 
     /// The number of the last mark.
     pub fn mark(&self) -> u64
+        requires { IsOpen self.now }
         ensures { result ≡ last_mark self.now.records }
     {
         self.mark
@@ -163,6 +180,7 @@ impl<D: Disk> Ledger<D> {
 
     /// The number of the next issue.
     pub fn next_issue(&self) -> u64
+        requires { IsOpen self.now }
         ensures { result ≡ next_issue self.now.records }
     {
         let _count = self.journal.records().len();
@@ -170,8 +188,11 @@ impl<D: Disk> Ledger<D> {
     }
 
     pub fn live(&self) -> Option<Nonce>
-        ensures { result ≡ live_nonce self.now.records }
+        ensures { result ≡ live_in self.now.boot_missing self.now.records }
     {
+        if self.boot_missing {
+            return None;
+        }
         match &self.live {
             Some(live) => Some(live.nonce),
             None => None,
@@ -180,6 +201,7 @@ impl<D: Disk> Ledger<D> {
 
     /// The token that is bound to the live nonce.
     pub fn token(&self) -> Option<&Text>
+        requires { IsOpen self.now }
         ensures { option_copied result ≡ bound_token self.now.records }
     {
         match &self.bound {
@@ -193,6 +215,7 @@ impl<D: Disk> Ledger<D> {
 
     /// The number of that token's Bind.
     pub fn bind_place(&self) -> Option<u64>
+        requires { IsOpen self.now }
         ensures { result ≡ bound_place self.now.records }
     {
         match &self.bound {
@@ -213,7 +236,8 @@ impl<D: Disk> Ledger<D> {
 
     /// What was presented since the last mark in a currency, in thousandths.
     pub fn presented(&self, currency: Currency) -> u64
-        requires { IsTold self.now }
+        requires open_still { IsOpen self.now }
+        requires told { IsTold self.now }
         ensures { result ≡ presented_in self.now.units self.now.records currency }
     {
         match &self.bound {
@@ -243,7 +267,15 @@ impl<D: Disk> Ledger<D> {
     {
         let number = self.next_issue();
         let nonce = Nonce::of(self.alloc, number, word)?;
-        let place = append(&mut self.journal, Rec::Issue { number, word })?;
+        let place = match append(&mut self.journal, Rec::Issue { number, word }) {
+            Ok(place) => place,
+            Err(deny) => {
+                if deny == Deny::Disk {
+                    self.doubted = Some(nonce);
+                }
+                return Err(deny);
+            }
+        };
         self.issues = number;
         self.mark = place;
         self.live = Some(Live { place, nonce });
@@ -340,6 +372,66 @@ impl<D: Disk> Ledger<D> {
         self.bound = paid(self.bound.take(), kind, &moved, &self.units);
         Ok(())
     }
+
+    /// The journal is read again, and gets a Boot with these places.
+    pub fn restore(&mut self, places: Places) -> Result<(), BootFault>
+        ensures ok { OnOk result ((J : List Rec) × IsPossible self.old.records self.old.in_doubt J × (self.new ≡ record self.old {
+          records = J ++ Boot places ∷ [];
+          bound = None;
+          shut = false;
+          boot_missing = false;
+          in_doubt = None;
+          room = self.new.room;
+          disk = self.new.disk;
+        })) }
+        ensures fits { OnOk result (passes self.old.limits self.new.records ≡ false) }
+        ensures stands { OnOk result (IfTold (D.held self.old.disk) (λ all. (J : List Rec) × Stands all J × (self.new.records ≡ J ++ Boot places ∷ []))) }
+        ensures memory { result ≡ Err BootMemory → self.new ≡ record self.old { disk = self.new.disk } }
+        ensures full { result ≡ Err BootFull → (J : List Rec) × IsPossible self.old.records self.old.in_doubt J × (passes self.old.limits (J ++ Boot places ∷ []) ≡ true) × (self.new ≡ record self.old {
+          records = J;
+          bound = None;
+          shut = false;
+          boot_missing = true;
+          in_doubt = None;
+          room = self.new.room;
+          disk = self.new.disk;
+        }) }
+        ensures disk { result ≡ Err BootDisk → (self.new ≡ record self.old { shut = true; disk = self.new.disk }) ⊎ ((J : List Rec) × IsPossible self.old.records self.old.in_doubt J × (self.new ≡ record self.old {
+          records = J;
+          bound = None;
+          shut = true;
+          in_doubt = Some (Boot places);
+          room = self.new.room;
+          disk = self.new.disk;
+        })) }
+        ensures not_journal { IfErr result (λ f. (at : ℕ) → f ≡ NotJournal at → (D.held self.old.disk ≡ None) × (self.new ≡ record self.old { shut = true; disk = self.new.disk })) }
+        ensures cause { result ≡ Err BootDisk → Rose (D.faults self.old.disk) (D.faults self.new.disk) }
+        ensures faults { D.faults self.old.disk ≤ D.faults self.new.disk }
+        ensures told { is_some (D.held self.new.disk) ≡ is_some (D.held self.old.disk) }
+    {
+        let before = self.journal.records().len();
+        if let Err(why) = self.journal.remount() {
+            return Err(BootFault::from(why));
+        }
+        self.bound = None;
+        self.live = live_found(self.live, self.doubted, self.journal.records(), before);
+        let issues = issues_of(self.journal.records());
+        match append_boot(&mut self.journal, places) {
+            Ok(mark) => {
+                self.issues = issues;
+                self.mark = mark;
+                self.live = None;
+                self.boot_missing = false;
+                Ok(())
+            }
+            Err(why) => {
+                if why == BootFault::Full {
+                    self.boot_missing = true;
+                }
+                Err(why)
+            }
+        }
+    }
 }
 
 // How many issues there are.
@@ -356,6 +448,35 @@ fn issues_of(records: &[Rec]) -> u64
     issues
 }
 
+// The live issue, once a journal was read again that had so many records: it has one more where that in doubt was
+// found.
+fn live_found(
+    live: Option<Live>,
+    doubted: Option<Nonce>,
+    records: &[Rec],
+    before: usize,
+) -> Option<Live>
+    requires low { before ≤ length records.now }
+    requires high { length records.now ≤ before + 1 }
+    requires doubted { IsDoubted (record_at records.now (before + 1)) doubted }
+    ensures { IsLive (take before records.now) live → IsLive records.now result }
+{
+    if before == records.len() {
+        return live;
+    }
+    match &records[before] {
+        Rec::Issue { .. } => match doubted {
+            Some(nonce) => Some(Live {
+                place: before as u64 + 1,
+                nonce,
+            }),
+            None => None,
+        },
+        Rec::Clear | Rec::Boot { .. } => None,
+        _ => live,
+    }
+}
+
 // Appends the Boot of a journal that was just mounted.
 fn append_boot<D: Disk>(journal: &mut Journal<D>, places: Places) -> Result<u64, BootFault>
     requires { journal.old.shut ≡ false }
@@ -367,6 +488,10 @@ fn append_boot<D: Disk>(journal: &mut Journal<D>, places: Places) -> Result<u64,
     ensures images { IfTold (D.held journal.old.disk) (λ _. (c : List ℕ) → D.images journal.new.disk c → StandsForEither journal.old.records (Boot places) c) }
     ensures told { is_some (D.held journal.new.disk) ≡ is_some (D.held journal.old.disk) }
     ensures not_mounted { IfErr result (λ f. (at : ℕ) → f ≢ NotJournal at) }
+    ensures reserved { 1 ≤ journal.old.room → result ≢ Err BootMemory }
+    ensures same { OnErr result (journal.new.records ≡ journal.old.records) }
+    ensures mounted { result ≡ Err BootFull → (journal.new.shut ≡ false) × (journal.new.in_doubt ≡ journal.old.in_doubt) }
+    ensures in_doubt { result ≡ Err BootDisk → (journal.new.shut ≡ true) × (journal.new.in_doubt ≡ Some (Boot places)) }
     ensures limits { journal.new.limits ≡ journal.old.limits }
     ensures faults { D.faults journal.old.disk ≤ D.faults journal.new.disk }
 {

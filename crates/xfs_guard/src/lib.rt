@@ -17,6 +17,7 @@ mod nonce;
 mod open;
 mod replayed;
 mod reports;
+mod restore;
 
 pub use ask::Ask;
 pub use claim::{Claim, Permit};

@@ -13,7 +13,7 @@ pub returns-in-Ok-clause-upholds : goal.returns-in-Ok-clause-upholds
 returns-in-Ok-clause-upholds g c =
     let ok = c.in-Ok.ensures.ok in
     let continues = rw ok.2 at c.serve-status.ensures.continues in
-    upholds-run _ _ ok.0 _ _ _ _ _ _ refl ok.1 c.requires.starts (g.met.D.Disk.as_read c.args.core.disk) continues c.ended-mech.ensures.booted c.ended-mech.ensures.stored
+    upholds-run _ _ ok.0 _ _ _ _ _ _ refl refl ok.1 c.requires.starts (g.met.D.Disk.as_read c.args.core.disk) continues c.ended-mech.ensures.stored
     c.ended-mech.ensures.recorded c.ended-mech.ensures.motions c.ended-mech.ensures.places
 
 pub returns-in-Err-clause-upholds : goal.returns-in-Err-clause-upholds

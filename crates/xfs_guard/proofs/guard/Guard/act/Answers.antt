@@ -1,6 +1,6 @@
 use Rattle.std.proofs.Common.{◌≡◌, ◌∙◌, length, ap}
 use Rattle.xfs_guard.proofs.ContinueLaws.{Continues-act}
-use Rattle.xfs_guard.proofs.KeptLaws.{IsKept-acted}
+use Rattle.xfs_guard.proofs.KeptLaws.{IsKept-acted, still-open}
 use Rattle.xfs_guard.proofs.guard.Guard.act.Goals as goal
 
 pub invariant_of-self : goal.invariant_of-self
@@ -19,5 +19,6 @@ returns-clause-continues g c =
     let e = rw (c.new.ensures.number, c.new.ensures.kind, c.new.ensures.counts) at c.execute-outcome.ensures in
     let motions = rw number at e.motions in
     let places = rw number at e.places in
+    let still = still-open _ _ _ _ c.self.invariant.closed c.in-Written.is in
     rw (← c.self.view_is) (Continues-act _ c.in-Written.kind c.execute-outcome.result.moved c.execute-outcome.result.diverted c.execute-outcome.result.failed
-    (g.M.Mechanism.motions c.execute-outcome.new.self) (g.M.Mechanism.places c.execute-outcome.new.self) (g.M.Mechanism.faults c.execute-outcome.new.self) motions places)
+    (g.M.Mechanism.motions c.execute-outcome.new.self) (g.M.Mechanism.places c.execute-outcome.new.self) (g.M.Mechanism.faults c.execute-outcome.new.self) (c.self.invariant.clean still) motions places)

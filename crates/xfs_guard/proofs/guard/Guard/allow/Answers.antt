@@ -1,5 +1,6 @@
 use Rattle.std.proofs.Common.{sym}
 use Rattle.xfs_guard.proofs.ContinueLaws.{Continues-same}
+use Rattle.xfs_guard.proofs.LedgerLaws.{nonce-open}
 use Rattle.xfs_guard.proofs.OrderLaws.{live-place, told-live}
 use Rattle.xfs_guard.proofs.SizeLaws.{fit-at}
 use Rattle.xfs_guard.proofs.guard.Guard.allow.Goals as goal
@@ -7,8 +8,8 @@ use Rattle.xfs_guard.proofs.guard.Guard.allow.Goals as goal
 pub passed-requires : goal.passed-requires
 passed-requires g c =
     let fit = fit-at _ _ c.self.view_is c.requires.passes.fit in
-    let live = live-place c.self.inside.ledger.records c.in-Some.nonce (sym c.in-Some.ensures) in
-    told-live _ live.0 (c.self.invariant.sound fit.0) live.1
+    let live = live-place c.self.inside.ledger.records c.in-Some.nonce (nonce-open c.self.inside.ledger.boot_missing c.self.inside.ledger.records c.in-Some.nonce fit.2 (sym c.in-Some.ensures)) in
+    record { open_still = (fit.0, fit.2); told = told-live _ live.0 (c.self.invariant.sound fit.0 fit.2) live.1 }
 
 pub returns-in-Some-passed-clause-continues : goal.returns-in-Some-passed-clause-continues
 returns-in-Some-passed-clause-continues g c = Continues-same _

@@ -16,7 +16,7 @@ pub bind-requires-clause-fits : goal.bind-requires-clause-fits
 bind-requires-clause-fits g c =
     let fit = fit-at _ _ c.self.view_is c.requires.passes.fit in
     let short : length (body (Bind c.claim.inside.token)) ≤ 1025 = omega (arith, c.bytes-short.ensures.high) in
-    may-write c.self.inside.ledger (Bind c.claim.inside.token) fit.0 (takes-one c.self.inside.ledger.limits c.self.inside.ledger.records (Bind c.claim.inside.token) fit.1 short)
+    may-write c.self.inside.ledger (Bind c.claim.inside.token) fit.0 fit.2 (takes-one c.self.inside.ledger.limits c.self.inside.ledger.records (Bind c.claim.inside.token) fit.1 short)
 
 pub invariant_of-self : goal.invariant_of-self
 invariant_of-self g c =
@@ -24,12 +24,12 @@ invariant_of-self g c =
     let passes = rw (← c.self.view_is, ← c.claim.view_is) at c.requires.passes in
     let fit = fit-at _ _ c.self.view_is c.requires.passes.fit in
     let free : bound_token c.self.inside.ledger.records ≡ None = copied-none c.token.result _ c.token.ensures (sym c.is_some.ensures ∙ c.if-is_some.false) in
-    IsKept-refused Unit c.in_err-bind.field-0.0 _ _ _ _ _ _ c.self.inside.ledger c.bind.new.self _ (Some c.claim.inside.amounts) _ _ _ _ _ _ c.in_err-bind.ensures.wrote c.in_err-bind.ensures.err c.bind.ensures.told none c.self.invariant fit.0
-    (IsSound-claim _ c.claim.inside.token c.claim.inside.amounts (c.self.invariant.sound fit.0) none passes free) (λ p e. cc)
+    IsKept-refused Unit c.in_err-bind.field-0.0 _ _ _ _ _ _ c.self.inside.ledger c.bind.new.self _ (Some c.claim.inside.amounts) _ _ _ _ _ _ c.in_err-bind.ensures.wrote c.in_err-bind.ensures.err c.bind.ensures.told none c.self.invariant fit.0 fit.2
+    (IsSound-claim _ c.claim.inside.token c.claim.inside.amounts (c.self.invariant.sound fit.0 fit.2) none passes free)
 
 pub returns-in_err-bind-clause-continues : goal.returns-in_err-bind-clause-continues
 returns-in_err-bind-clause-continues g c =
-    rw (← c.self.view_is) (Continues-refused Unit c.in_err-bind.field-0.0 _ _ _ _ _ _ c.self.inside.ledger c.bind.new.self _ (Some c.claim.inside.amounts) _ _ c.in_err-bind.ensures.wrote c.in_err-bind.ensures.err)
+    rw (← c.self.view_is) (Continues-refused Unit c.in_err-bind.field-0.0 _ _ _ _ _ _ c.self.inside.ledger c.bind.new.self _ (Some c.claim.inside.amounts) _ _ c.in_err-bind.ensures.wrote c.in_err-bind.ensures.err (λ p e. cc))
 
 pub invariant_of-self-2 : goal.invariant_of-self-2
 invariant_of-self-2 g c =
@@ -38,11 +38,11 @@ invariant_of-self-2 g c =
     let fit = fit-at _ _ c.self.view_is c.requires.passes.fit in
     let free : bound_token c.self.inside.ledger.records ≡ None = copied-none c.token.result _ c.token.ensures (sym c.is_some.ensures ∙ c.if-is_some.false) in
     let w = c.in_ok-bind.ensures.wrote in
-    rw (w.records, w.units, w.bound_is, w.limits, w.open_still, w.in_doubt, c.bind.ensures.told, none)
-    (IsKept-open _ _ _ _ (IsSound-claim _ c.claim.inside.token c.claim.inside.amounts (c.self.invariant.sound fit.0) none passes free) tt tt c.self.invariant.units)
+    rw (w.records, w.units, w.bound_is, w.limits, w.open_still, w.boot_missing, w.in_doubt, c.bind.ensures.told, none)
+    (IsKept-open _ _ _ _ (IsSound-claim _ c.claim.inside.token c.claim.inside.amounts (c.self.invariant.sound fit.0 fit.2) none passes free) fit.2 tt tt c.self.invariant.units)
 
 pub returns-clause-continues : goal.returns-clause-continues
 returns-clause-continues g c =
     let w = c.in_ok-bind.ensures.wrote in
-    rw (← c.self.view_is, w.records, w.units, w.bound_is, w.limits, w.open_still, w.in_doubt, c.bind.ensures.told)
+    rw (← c.self.view_is, w.records, w.units, w.bound_is, w.limits, w.open_still, w.boot_missing, w.in_doubt, c.bind.ensures.told)
     (Continues-written _ (Bind c.claim.inside.token) (Some c.claim.inside.amounts) c.self.inside.open_order (λ p e. cc))

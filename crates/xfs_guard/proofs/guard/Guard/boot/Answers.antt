@@ -1,9 +1,9 @@
-use Rattle.std.proofs.Common.{◌∙◌, sym}
+use Rattle.std.proofs.Common.{◌∙◌, false, None, sym}
 use Rattle.std.specs.Prelude.{is_some}
 use Rattle.xfs_journal.specs.declared.record.Rec.TheVariants.{Boot}
 use Rattle.xfs_guard.specs.declared.open.Open.TheVariants.{No}
 use Rattle.xfs_guard.proofs.BootLaws.{IsKept-boot, WasLeft-recorded}
-use Rattle.xfs_guard.proofs.ContinueLaws.{Continues-record}
+use Rattle.xfs_guard.proofs.ContinueLaws.{Continues-written}
 use Rattle.xfs_guard.proofs.KeptLaws.{over}
 use Rattle.xfs_guard.proofs.StoredLaws.{MayLeave-held}
 use Rattle.xfs_guard.proofs.guard.Guard.boot.Goals as goal
@@ -12,7 +12,7 @@ pub invariant_of-result : goal.invariant_of-result
 invariant_of-result g c =
     let e = c.in-Ok.ensures in
     let v = over c.args.key c.args.seed No (g.M.Mechanism.motions c.args.mech) (g.M.Mechanism.places c.args.mech) (g.M.Mechanism.faults c.args.mech) c.in-Ok.ledger (is_some (g.D.Disk.held c.in-Ok.ledger.disk)) in
-    rw (e.records.2, e.opened.0, e.opened.1, e.opened.2)
+    rw (e.records.2, e.opened.0, e.opened.1, e.opened.2, e.opened.3)
     (IsKept-boot v e.records.0 c.survey-places.result _ _ _
     (λ told. rw e.same.1 (c.requires.recorded e.records.0 (MayLeave-held g.D.Disk.held g.D.Disk.images c.args.disk e.records.0 g.met.D.Disk.as_read (sym e.told ∙ told) e.records.1)))
     (c.requires.units ∙ sym e.same.1))
@@ -20,7 +20,7 @@ invariant_of-result g c =
 pub returns-in-Ok-clause-continues : goal.returns-in-Ok-clause-continues
 returns-in-Ok-clause-continues g c = λ J is.
     let v = over c.args.key c.args.seed No (g.M.Mechanism.motions c.args.mech) (g.M.Mechanism.places c.args.mech) (g.M.Mechanism.faults c.args.mech) c.in-Ok.ledger (is_some (g.D.Disk.held c.in-Ok.ledger.disk)) in
-    rw is (Continues-record (record v { records = J }) (Boot (g.M.Mechanism.places c.args.mech)) c.in-Ok.ledger.bound No (λ p same. cc))
+    rw (is, c.in-Ok.ensures.opened.0, c.in-Ok.ensures.opened.1) (Continues-written (record v { records = J; shut = false; in_doubt = None }) (Boot (g.M.Mechanism.places c.args.mech)) c.in-Ok.ledger.bound No (λ p same. cc))
 
 pub returns-in-Err-clause-left : goal.returns-in-Err-clause-left
 returns-in-Err-clause-left g c = λ J may.

@@ -18,30 +18,30 @@ pub clear-requires : goal.clear-requires
 clear-requires g c =
     let fit = fit-at _ _ c.self.view_is (sym c.unfit.ensures ∙ c.in_default.is) in
     let short : length (body Clear) ≤ 1025 = omega arith in record {
-      fits = may-write c.self.inside.ledger Clear fit.0 (takes-one c.self.inside.ledger.limits c.self.inside.ledger.records Clear fit.1 short);
+      fits = may-write c.self.inside.ledger Clear fit.0 fit.2 (takes-one c.self.inside.ledger.limits c.self.inside.ledger.records Clear fit.1 short);
     }
 
 pub invariant_of-self : goal.invariant_of-self
 invariant_of-self g c =
     let none : c.self.inside.open_order ≡ No = rw (← c.self.view_is) at c.requires in
     let fit = fit-at _ _ c.self.view_is (sym c.unfit.ensures ∙ c.in_default.is) in
-    IsKept-refused Unit c.in_err-clear.field-0.0 _ _ _ _ _ _ c.self.inside.ledger c.clear.new.self _ None _ _ _ _ _ _ c.in_err-clear.ensures.wrote c.in_err-clear.ensures.err c.clear.ensures.told none c.self.invariant fit.0
-    (IsSound-clear _ (c.self.invariant.sound fit.0) none) (λ p e. cc)
+    IsKept-refused Unit c.in_err-clear.field-0.0 _ _ _ _ _ _ c.self.inside.ledger c.clear.new.self _ None _ _ _ _ _ _ c.in_err-clear.ensures.wrote c.in_err-clear.ensures.err c.clear.ensures.told none c.self.invariant fit.0 fit.2
+    (IsSound-clear _ (c.self.invariant.sound fit.0 fit.2) none)
 
 pub returns-in_err-clear-clause-continues : goal.returns-in_err-clear-clause-continues
 returns-in_err-clear-clause-continues g c =
-    rw (← c.self.view_is) (Continues-refused Unit c.in_err-clear.field-0.0 _ _ _ _ _ _ c.self.inside.ledger c.clear.new.self _ None _ _ c.in_err-clear.ensures.wrote c.in_err-clear.ensures.err)
+    rw (← c.self.view_is) (Continues-refused Unit c.in_err-clear.field-0.0 _ _ _ _ _ _ c.self.inside.ledger c.clear.new.self _ None _ _ c.in_err-clear.ensures.wrote c.in_err-clear.ensures.err (λ p e. cc))
 
 pub invariant_of-self-2 : goal.invariant_of-self-2
 invariant_of-self-2 g c =
     let none : c.self.inside.open_order ≡ No = rw (← c.self.view_is) at c.requires in
     let fit = fit-at _ _ c.self.view_is (sym c.unfit.ensures ∙ c.in_default.is) in
     let w = c.in_ok-clear.ensures.wrote in
-    rw (w.records, w.units, w.bound_is, w.limits, w.open_still, w.in_doubt, c.clear.ensures.told, none)
-    (IsKept-open _ _ _ _ (IsSound-clear _ (c.self.invariant.sound fit.0) none) tt tt c.self.invariant.units)
+    rw (w.records, w.units, w.bound_is, w.limits, w.open_still, w.boot_missing, w.in_doubt, c.clear.ensures.told, none)
+    (IsKept-open _ _ _ _ (IsSound-clear _ (c.self.invariant.sound fit.0 fit.2) none) fit.2 tt tt c.self.invariant.units)
 
 pub returns-clause-continues : goal.returns-clause-continues
 returns-clause-continues g c =
     let w = c.in_ok-clear.ensures.wrote in
-    rw (← c.self.view_is, w.records, w.units, w.bound_is, w.limits, w.open_still, w.in_doubt, c.clear.ensures.told)
+    rw (← c.self.view_is, w.records, w.units, w.bound_is, w.limits, w.open_still, w.boot_missing, w.in_doubt, c.clear.ensures.told)
     (Continues-written _ Clear None c.self.inside.open_order (λ p e. cc))

@@ -18,27 +18,27 @@ pub issue-requires : goal.issue-requires
 issue-requires g c =
     let fit = fit-at _ _ c.self.view_is (sym c.unfit.ensures ∙ c.in_default.is) in
     let short : length (body (Issue (next_issue c.self.inside.ledger.records) c.word_of-word.result)) ≤ 1025 = omega arith in record {
-      fits = may-write c.self.inside.ledger (Issue (next_issue c.self.inside.ledger.records) c.word_of-word.result) fit.0 (takes-one c.self.inside.ledger.limits c.self.inside.ledger.records (Issue (next_issue c.self.inside.ledger.records) c.word_of-word.result) fit.1 short);
+      fits = may-write c.self.inside.ledger (Issue (next_issue c.self.inside.ledger.records) c.word_of-word.result) fit.0 fit.2 (takes-one c.self.inside.ledger.limits c.self.inside.ledger.records (Issue (next_issue c.self.inside.ledger.records) c.word_of-word.result) fit.1 short);
     }
 
 pub invariant_of-self : goal.invariant_of-self
 invariant_of-self g c =
     let none : c.self.inside.open_order ≡ No = rw (← c.self.view_is) at c.requires in
     let fit = fit-at _ _ c.self.view_is (sym c.unfit.ensures ∙ c.in_default.is) in
-    IsKept-refused Nonce c.in_err-issue.field-0.0 _ _ _ _ _ _ c.self.inside.ledger c.issue.new.self _ None _ _ _ _ _ _ c.in_err-issue.ensures.wrote c.in_err-issue.ensures.err c.issue.ensures.told none c.self.invariant fit.0
-    (IsSound-issue _ _ c.word_of-word.result (c.self.invariant.sound fit.0) none refl) (λ p e. cc)
+    IsKept-refused Nonce c.in_err-issue.field-0.0 _ _ _ _ _ _ c.self.inside.ledger c.issue.new.self _ None _ _ _ _ _ _ c.in_err-issue.ensures.wrote c.in_err-issue.ensures.err c.issue.ensures.told none c.self.invariant fit.0 fit.2
+    (IsSound-issue _ _ c.word_of-word.result (c.self.invariant.sound fit.0 fit.2) none refl)
 
 pub returns-in_err-issue-clause-continues : goal.returns-in_err-issue-clause-continues
 returns-in_err-issue-clause-continues g c =
-    rw (← c.self.view_is) (Continues-refused Nonce c.in_err-issue.field-0.0 _ _ _ _ _ _ c.self.inside.ledger c.issue.new.self _ None _ _ c.in_err-issue.ensures.wrote c.in_err-issue.ensures.err)
+    rw (← c.self.view_is) (Continues-refused Nonce c.in_err-issue.field-0.0 _ _ _ _ _ _ c.self.inside.ledger c.issue.new.self _ None _ _ c.in_err-issue.ensures.wrote c.in_err-issue.ensures.err (λ p e. cc))
 
 pub invariant_of-self-2 : goal.invariant_of-self-2
 invariant_of-self-2 g c =
     let none : c.self.inside.open_order ≡ No = rw (← c.self.view_is) at c.requires in
     let fit = fit-at _ _ c.self.view_is (sym c.unfit.ensures ∙ c.in_default.is) in
     let w = c.in_ok-issue.ensures.wrote in
-    rw (w.records, w.units, w.bound_is, w.limits, w.open_still, w.in_doubt, c.issue.ensures.told, none)
-    (IsKept-open _ _ _ _ (IsSound-issue _ _ c.word_of-word.result (c.self.invariant.sound fit.0) none refl) tt tt c.self.invariant.units)
+    rw (w.records, w.units, w.bound_is, w.limits, w.open_still, w.boot_missing, w.in_doubt, c.issue.ensures.told, none)
+    (IsKept-open _ _ _ _ (IsSound-issue _ _ c.word_of-word.result (c.self.invariant.sound fit.0 fit.2) none refl) fit.2 tt tt c.self.invariant.units)
 
 pub returns-clause-live : goal.returns-clause-live
 returns-clause-live g c =
@@ -47,5 +47,5 @@ returns-clause-live g c =
 pub returns-clause-continues : goal.returns-clause-continues
 returns-clause-continues g c =
     let w = c.in_ok-issue.ensures.wrote in
-    rw (← c.self.view_is, w.records, w.units, w.bound_is, w.limits, w.open_still, w.in_doubt, c.issue.ensures.told)
+    rw (← c.self.view_is, w.records, w.units, w.bound_is, w.limits, w.open_still, w.boot_missing, w.in_doubt, c.issue.ensures.told)
     (Continues-written _ (Issue _ c.word_of-word.result) None c.self.inside.open_order (λ p e. cc))

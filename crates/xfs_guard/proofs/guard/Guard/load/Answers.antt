@@ -8,12 +8,12 @@ pub invariant_of-self-2 : goal.invariant_of-self-2
 invariant_of-self-2 g c =
     let reported = rw (c.ready.ensures.motions, c.ready.ensures.places) at c.load.ensures.reported in
     record {
-      sound = λ still. IsSound-report _ (Loaded c.args.unit c.args.count) c.load.result.moved c.load.result.diverted c.load.result.failed
+      sound = λ still booted. IsSound-report _ (Loaded c.args.unit c.args.count) c.load.result.moved c.load.result.diverted c.load.result.failed
           (g.M.Mechanism.motions c.load.new.self) (g.M.Mechanism.places c.load.new.self) (g.M.Mechanism.faults c.load.new.self)
-          (g.M.Mechanism.room c.ready.new.self) (g.M.Mechanism.room c.load.new.self) (c.self.invariant.sound still) tt reported (loaded-leaves c.self.inside.open_order c.args.unit c.args.count _ _);
+          (g.M.Mechanism.room c.ready.new.self) (g.M.Mechanism.room c.load.new.self) (c.self.invariant.sound still booted) tt reported (loaded-leaves c.self.inside.open_order c.args.unit c.args.count _ _);
       clean = c.self.invariant.clean;
       closed = c.self.invariant.closed;
-      booted = c.self.invariant.booted;
+      missing = c.self.invariant.missing;
       recorded = λ told J p. IsRecorded-report _ _ J (Loaded c.args.unit c.args.count) c.load.result.moved c.load.result.diverted c.load.result.failed _ _ _ _ _ _ tt reported (c.self.invariant.recorded told J p);
       limits = HasLimits-report c.self.inside.open_order _ _ _ _ c.self.invariant.limits;
       room = HasRoom-report c.self.inside.open_order (Loaded c.args.unit c.args.count) c.load.result.moved c.load.result.diverted c.load.result.failed

@@ -15,29 +15,29 @@ pub load-requires-clause-fits : goal.load-requires-clause-fits
 load-requires-clause-fits g c =
     let fit = fit-at _ _ c.self.view_is (sym c.unfit.ensures ∙ c.in_default.is) in
     let short : length (body (Load c.args.unit c.args.count)) ≤ 1025 = omega arith in
-    may-write c.self.inside.ledger (Load c.args.unit c.args.count) fit.0 (takes-one c.self.inside.ledger.limits c.self.inside.ledger.records (Load c.args.unit c.args.count) fit.1 short)
+    may-write c.self.inside.ledger (Load c.args.unit c.args.count) fit.0 fit.2 (takes-one c.self.inside.ledger.limits c.self.inside.ledger.records (Load c.args.unit c.args.count) fit.1 short)
 
 pub invariant_of-self : goal.invariant_of-self
 invariant_of-self g c =
     let none : c.self.inside.open_order ≡ No = rw (← c.self.view_is) at c.requires.none in
     let fit = fit-at _ _ c.self.view_is (sym c.unfit.ensures ∙ c.in_default.is) in
-    IsKept-refused Unit c.in_err-load.field-0.0 _ _ _ _ _ _ c.self.inside.ledger c.load.new.self _ c.self.inside.ledger.bound _ _ _ _ _ _ c.in_err-load.ensures.wrote c.in_err-load.ensures.err c.load.ensures.told none c.self.invariant fit.0
-    (IsSound-load _ c.args.unit c.args.count (c.self.invariant.sound fit.0) none) (λ p e. cc)
+    IsKept-refused Unit c.in_err-load.field-0.0 _ _ _ _ _ _ c.self.inside.ledger c.load.new.self _ c.self.inside.ledger.bound _ _ _ _ _ _ c.in_err-load.ensures.wrote c.in_err-load.ensures.err c.load.ensures.told none c.self.invariant fit.0 fit.2
+    (IsSound-load _ c.args.unit c.args.count (c.self.invariant.sound fit.0 fit.2) none)
 
 pub returns-in_err-load-clause-continues : goal.returns-in_err-load-clause-continues
 returns-in_err-load-clause-continues g c =
-    rw (← c.self.view_is) (Continues-refused Unit c.in_err-load.field-0.0 _ _ _ _ _ _ c.self.inside.ledger c.load.new.self _ c.self.inside.ledger.bound _ _ c.in_err-load.ensures.wrote c.in_err-load.ensures.err)
+    rw (← c.self.view_is) (Continues-refused Unit c.in_err-load.field-0.0 _ _ _ _ _ _ c.self.inside.ledger c.load.new.self _ c.self.inside.ledger.bound _ _ c.in_err-load.ensures.wrote c.in_err-load.ensures.err (λ p e. cc))
 
 pub invariant_of-self-2 : goal.invariant_of-self-2
 invariant_of-self-2 g c =
     let none : c.self.inside.open_order ≡ No = rw (← c.self.view_is) at c.requires.none in
     let fit = fit-at _ _ c.self.view_is (sym c.unfit.ensures ∙ c.in_default.is) in
     let w = c.in_ok-load.ensures.wrote in
-    rw (w.records, w.units, w.bound_is, w.limits, w.open_still, w.in_doubt, c.load.ensures.told, none)
-    (IsKept-open _ _ _ _ (IsSound-load _ c.args.unit c.args.count (c.self.invariant.sound fit.0) none) tt tt c.self.invariant.units)
+    rw (w.records, w.units, w.bound_is, w.limits, w.open_still, w.boot_missing, w.in_doubt, c.load.ensures.told, none)
+    (IsKept-open _ _ _ _ (IsSound-load _ c.args.unit c.args.count (c.self.invariant.sound fit.0 fit.2) none) fit.2 tt tt c.self.invariant.units)
 
 pub returns-clause-continues : goal.returns-clause-continues
 returns-clause-continues g c =
     let w = c.in_ok-load.ensures.wrote in
-    rw (← c.self.view_is, w.records, w.units, w.bound_is, w.limits, w.open_still, w.in_doubt, c.load.ensures.told)
+    rw (← c.self.view_is, w.records, w.units, w.bound_is, w.limits, w.open_still, w.boot_missing, w.in_doubt, c.load.ensures.told)
     (Continues-written _ (Load c.args.unit c.args.count) c.self.inside.ledger.bound c.self.inside.open_order (λ p e. cc))

@@ -1,8 +1,8 @@
-use Rattle.std.proofs.Common.{◌≡◌, ◌≤◌, ◌∙◌, true, Some, sym, length, arith}
+use Rattle.std.proofs.Common.{◌≡◌, ◌≤◌, ◌∙◌, sym, length, arith}
 use Rattle.xfs_guard.specs.declared.open.Open.TheVariants.{No, Written}
 use Rattle.xfs_journal.specs.Image.{body}
 use Rattle.xfs_journal.specs.declared.record.Rec.TheVariants.{Order}
-use Rattle.xfs_guard.proofs.ContinueLaws.{Continues-same, Continues-written, Continues-stored}
+use Rattle.xfs_guard.proofs.ContinueLaws.{Continues-same, Continues-written, Continues-doubted}
 use Rattle.xfs_guard.proofs.KeptLaws.{IsKept-open, IsKept-doubted}
 use Rattle.xfs_guard.proofs.SizeLaws.{fit-at, takes-one, may-write, order-short, leaves-done}
 use Rattle.xfs_guard.proofs.OrderLaws.{IsSound-asked}
@@ -23,13 +23,13 @@ order-requires-clause-fits g c =
     let same = c.in_ok-reserve_two.ensures.same in
     let eight = order-short c.in_ok-kind.kind c.in_ok-kind.counts c.eight.ensures in
     let short : length (body (Order c.in_ok-kind.kind c.in_ok-kind.counts)) ≤ 1025 = omega (arith, eight) in
-    may-write c.reserve_two.new.self (Order c.in_ok-kind.kind c.in_ok-kind.counts) (same.shut ∙ fit.0)
+    may-write c.reserve_two.new.self (Order c.in_ok-kind.kind c.in_ok-kind.counts) (same.shut ∙ fit.0) (same.boot_missing ∙ fit.2)
     (rw (same.limits, same.records) (takes-one c.self.inside.ledger.limits c.self.inside.ledger.records (Order c.in_ok-kind.kind c.in_ok-kind.counts) fit.1 short))
 
 pub returns-in_err-reserve_two-clause-continues : goal.returns-in_err-reserve_two-clause-continues
 returns-in_err-reserve_two-clause-continues g c =
     let same = c.in_err-reserve_two.ensures.same in
-    rw (← c.self.view_is, same.records, same.units, same.bound, same.limits, same.shut, same.in_doubt, same.disk, c.ready.ensures.motions, c.ready.ensures.places, c.ready.ensures.faults) (Continues-same _)
+    rw (← c.self.view_is, same.records, same.units, same.bound, same.limits, same.shut, same.boot_missing, same.in_doubt, same.disk, c.ready.ensures.motions, c.ready.ensures.places, c.ready.ensures.faults) (Continues-same _)
 
 pub invariant_of-self-in_err-order : goal.invariant_of-self-in_err-order
 invariant_of-self-in_err-order g c =
@@ -38,16 +38,16 @@ invariant_of-self-in_err-order g c =
     let fine = rw (← c.self.view_is) at c.in_ok-kind.ensures.ok in
     let same = c.in_ok-reserve_two.ensures.same in
     let s = rw c.in_err-order.ensures.err at c.in_err-order.ensures.wrote in
-    let sound = c.self.invariant.sound fit.0 in
-    rw (s.records, s.units, s.bound, s.limits, s.shut, s.in_doubt, c.order.ensures.told, same.records, same.units, same.bound, same.limits, same.disk, c.ready.ensures.motions, c.ready.ensures.places, c.ready.ensures.faults, none, fine.1, fine.2)
-    (IsKept-doubted _ _ _ _ _ _ _ sound (IsSound-asked _ c.args.ask sound none fine.0) (c.ready.ensures.units ∙ c.self.invariant.units) (λ p e. cc))
+    let sound = c.self.invariant.sound fit.0 fit.2 in
+    rw (s.records, s.units, s.bound, s.limits, s.shut, s.boot_missing, s.in_doubt, c.order.ensures.told, same.records, same.units, same.bound, same.limits, same.boot_missing, same.disk, c.ready.ensures.motions, c.ready.ensures.places, c.ready.ensures.faults, none, fine.1, fine.2)
+    (IsKept-doubted _ _ _ _ _ _ _ sound (IsSound-asked _ c.args.ask sound none fine.0) (c.ready.ensures.units ∙ c.self.invariant.units))
 
 pub returns-in_err-order-clause-continues : goal.returns-in_err-order-clause-continues
 returns-in_err-order-clause-continues g c =
     let same = c.in_ok-reserve_two.ensures.same in
     let s = rw c.in_err-order.ensures.err at c.in_err-order.ensures.wrote in
-    rw (← c.self.view_is, s.records, s.units, s.bound, s.limits, s.shut, s.in_doubt, c.order.ensures.told, same.records, same.units, same.bound, same.limits, same.disk, c.ready.ensures.motions, c.ready.ensures.places, c.ready.ensures.faults)
-    (Continues-stored _ true (Some (Order c.in_ok-kind.kind c.in_ok-kind.counts)) c.self.inside.open_order)
+    rw (← c.self.view_is, s.records, s.units, s.bound, s.limits, s.shut, s.boot_missing, s.in_doubt, c.order.ensures.told, same.records, same.units, same.bound, same.limits, same.boot_missing, same.disk, c.ready.ensures.motions, c.ready.ensures.places, c.ready.ensures.faults)
+    (Continues-doubted _ (Order c.in_ok-kind.kind c.in_ok-kind.counts) c.self.inside.open_order (λ p e. cc))
 
 pub invariant_of-self-2 : goal.invariant_of-self-2
 invariant_of-self-2 g c =
@@ -57,8 +57,8 @@ invariant_of-self-2 g c =
     let eight = rw fine.2 at c.eight.ensures in
     let same = c.in_ok-reserve_two.ensures.same in
     let w = c.in_ok-order.ensures.wrote in
-    rw (w.records, w.units, w.bound_is, w.limits, w.open_still, w.in_doubt, c.order.ensures.told, same.records, same.units, same.bound, same.limits, same.disk, c.ready.ensures.motions, c.ready.ensures.places, c.ready.ensures.faults, fine.1, fine.2)
-    (IsKept-open _ _ _ _ (IsSound-asked _ c.args.ask (c.self.invariant.sound fit.0) none fine.0)
+    rw (w.records, w.units, w.bound_is, w.limits, w.open_still, w.boot_missing, w.in_doubt, c.order.ensures.told, same.records, same.units, same.bound, same.limits, same.boot_missing, same.disk, c.ready.ensures.motions, c.ready.ensures.places, c.ready.ensures.faults, fine.1, fine.2)
+    (IsKept-open _ _ _ _ (IsSound-asked _ c.args.ask (c.self.invariant.sound fit.0 fit.2) none fine.0) fit.2
     (omega (arith, c.in_ok-ready.ensures.room), omega (arith, c.in_ok-reserve_two.ensures.ok, c.order.ensures.room))
     (leaves-done c.self.inside.ledger.limits c.self.inside.ledger.records _ _ fit.1 eight)
     (c.ready.ensures.units ∙ c.self.invariant.units))
@@ -67,5 +67,5 @@ pub returns-clause-continues : goal.returns-clause-continues
 returns-clause-continues g c =
     let same = c.in_ok-reserve_two.ensures.same in
     let w = c.in_ok-order.ensures.wrote in
-    rw (← c.self.view_is, w.records, w.units, w.bound_is, w.limits, w.open_still, w.in_doubt, c.order.ensures.told, same.records, same.units, same.bound, same.limits, same.disk, c.ready.ensures.motions, c.ready.ensures.places, c.ready.ensures.faults)
+    rw (← c.self.view_is, w.records, w.units, w.bound_is, w.limits, w.open_still, w.boot_missing, w.in_doubt, c.order.ensures.told, same.records, same.units, same.bound, same.limits, same.boot_missing, same.disk, c.ready.ensures.motions, c.ready.ensures.places, c.ready.ensures.faults)
     (Continues-written _ (Order c.in_ok-kind.kind c.in_ok-kind.counts) c.self.inside.ledger.bound (Written c.in_ok-kind.kind c.in_ok-kind.counts) (λ p e. cc))

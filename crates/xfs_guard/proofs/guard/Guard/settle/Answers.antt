@@ -1,7 +1,6 @@
-use Rattle.std.proofs.Common.{true, Some}
 use Rattle.xfs_guard.specs.declared.open.Open.TheVariants.{No}
 use Rattle.xfs_journal.specs.declared.record.Rec.TheVariants.{Done}
-use Rattle.xfs_guard.proofs.ContinueLaws.{Continues-written, Continues-stored}
+use Rattle.xfs_guard.proofs.ContinueLaws.{Continues-written, Continues-doubted}
 use Rattle.xfs_guard.proofs.KeptLaws.{IsKept-open, IsKept-doubted, still-acted}
 use Rattle.xfs_guard.proofs.SizeLaws.{may-write, takes-done}
 use Rattle.xfs_guard.proofs.RecordLaws.{IsSound-done}
@@ -11,38 +10,42 @@ use Rattle.xfs_guard.proofs.guard.Guard.settle.Goals as goal
 pub done-requires-clause-fits : goal.done-requires-clause-fits
 done-requires-clause-fits g c =
     let still = still-acted _ _ _ _ _ _ c.self.invariant.closed c.in-Acted.is in
+    let booted = still-acted _ _ _ _ _ _ c.self.invariant.missing c.in-Acted.is in
     let room = rw c.in-Acted.is at c.self.invariant.limits in
-    may-write c.self.inside.ledger (Done c.in-Acted.moved c.in-Acted.diverted) still
+    may-write c.self.inside.ledger (Done c.in-Acted.moved c.in-Acted.diverted) still booted
     (takes-done c.self.inside.ledger.limits c.self.inside.ledger.records c.in-Acted.moved c.in-Acted.diverted c.eight.ensures c.eight-2.ensures room)
 
 pub done-requires-clause-small : goal.done-requires-clause-small
 done-requires-clause-small g c =
     let still = still-acted _ _ _ _ _ _ c.self.invariant.closed c.in-Acted.is in
-    small-done _ c.in-Acted.kind c.in-Acted.moved c.in-Acted.diverted c.in-Acted.failed (c.self.invariant.sound still) c.in-Acted.is
+    let booted = still-acted _ _ _ _ _ _ c.self.invariant.missing c.in-Acted.is in
+    small-done _ c.in-Acted.kind c.in-Acted.moved c.in-Acted.diverted c.in-Acted.failed (c.self.invariant.sound still booted) c.in-Acted.is
 
 pub invariant_of-self : goal.invariant_of-self
 invariant_of-self g c =
     let still = still-acted _ _ _ _ _ _ c.self.invariant.closed c.in-Acted.is in
+    let booted = still-acted _ _ _ _ _ _ c.self.invariant.missing c.in-Acted.is in
     let s = rw c.in_err-done.ensures.err at c.in_err-done.ensures.wrote in
-    rw (s.records, s.units, s.bound, s.limits, s.shut, s.in_doubt, c.done.ensures.told)
-    (IsKept-doubted _ (Done c.in-Acted.moved c.in-Acted.diverted) c.self.inside.ledger.bound No _ _ _ (c.self.invariant.sound still)
-    (IsSound-done _ c.in-Acted.kind c.in-Acted.moved c.in-Acted.diverted c.in-Acted.failed (c.self.invariant.sound still) c.in-Acted.is) c.self.invariant.units (λ p e. cc))
+    rw (s.records, s.units, s.bound, s.limits, s.shut, s.boot_missing, s.in_doubt, c.done.ensures.told)
+    (IsKept-doubted _ (Done c.in-Acted.moved c.in-Acted.diverted) c.self.inside.ledger.bound No _ _ _ (c.self.invariant.sound still booted)
+    (IsSound-done _ c.in-Acted.kind c.in-Acted.moved c.in-Acted.diverted c.in-Acted.failed (c.self.invariant.sound still booted) c.in-Acted.is) c.self.invariant.units)
 
 pub returns-in_err-done-clause-continues : goal.returns-in_err-done-clause-continues
 returns-in_err-done-clause-continues g c =
     let s = rw c.in_err-done.ensures.err at c.in_err-done.ensures.wrote in
-    rw (← c.self.view_is, s.records, s.units, s.bound, s.limits, s.shut, s.in_doubt, c.done.ensures.told)
-    (Continues-stored _ true (Some (Done c.in-Acted.moved c.in-Acted.diverted)) No)
+    rw (← c.self.view_is, s.records, s.units, s.bound, s.limits, s.shut, s.boot_missing, s.in_doubt, c.done.ensures.told)
+    (Continues-doubted _ (Done c.in-Acted.moved c.in-Acted.diverted) No (λ p e. cc))
 
 pub invariant_of-self-2 : goal.invariant_of-self-2
 invariant_of-self-2 g c =
     let still = still-acted _ _ _ _ _ _ c.self.invariant.closed c.in-Acted.is in
+    let booted = still-acted _ _ _ _ _ _ c.self.invariant.missing c.in-Acted.is in
     let w = c.in_ok-done.ensures.wrote in
-    rw (w.records, w.units, w.bound_is, w.limits, w.open_still, w.in_doubt, c.done.ensures.told)
-    (IsKept-open _ _ _ _ (IsSound-done _ c.in-Acted.kind c.in-Acted.moved c.in-Acted.diverted c.in-Acted.failed (c.self.invariant.sound still) c.in-Acted.is) tt tt c.self.invariant.units)
+    rw (w.records, w.units, w.bound_is, w.limits, w.open_still, w.boot_missing, w.in_doubt, c.done.ensures.told)
+    (IsKept-open _ _ _ _ (IsSound-done _ c.in-Acted.kind c.in-Acted.moved c.in-Acted.diverted c.in-Acted.failed (c.self.invariant.sound still booted) c.in-Acted.is) booted tt tt c.self.invariant.units)
 
 pub returns-clause-continues : goal.returns-clause-continues
 returns-clause-continues g c =
     let w = c.in_ok-done.ensures.wrote in
-    rw (← c.self.view_is, w.records, w.units, w.bound_is, w.limits, w.open_still, w.in_doubt, c.done.ensures.told)
+    rw (← c.self.view_is, w.records, w.units, w.bound_is, w.limits, w.open_still, w.boot_missing, w.in_doubt, c.done.ensures.told)
     (Continues-written _ (Done c.in-Acted.moved c.in-Acted.diverted) c.self.inside.ledger.bound No (λ p e. cc))

@@ -9,12 +9,12 @@ invariant_of-self-2 g c =
     let reported = rw (c.ready.ensures.motions, c.ready.ensures.places) at c.taken.ensures.reported in
     let other = rw (← c.self.view_is) at c.requires.no_retract in
     record {
-      sound = λ still. IsSound-report _ (Taken c.taken.result.moved) c.taken.result.moved c.taken.result.diverted c.taken.result.failed
+      sound = λ still booted. IsSound-report _ (Taken c.taken.result.moved) c.taken.result.moved c.taken.result.diverted c.taken.result.failed
           (g.M.Mechanism.motions c.taken.new.self) (g.M.Mechanism.places c.taken.new.self) (g.M.Mechanism.faults c.taken.new.self)
-          (g.M.Mechanism.room c.ready.new.self) (g.M.Mechanism.room c.taken.new.self) (c.self.invariant.sound still) tt reported (taken-leaves c.self.inside.open_order c.taken.result.moved _ _ other);
+          (g.M.Mechanism.room c.ready.new.self) (g.M.Mechanism.room c.taken.new.self) (c.self.invariant.sound still booted) tt reported (taken-leaves c.self.inside.open_order c.taken.result.moved _ _ other);
       clean = c.self.invariant.clean;
       closed = c.self.invariant.closed;
-      booted = c.self.invariant.booted;
+      missing = c.self.invariant.missing;
       recorded = λ told J p. IsRecorded-report _ _ J (Taken c.taken.result.moved) c.taken.result.moved c.taken.result.diverted c.taken.result.failed _ _ _ _ _ _ tt reported (c.self.invariant.recorded told J p);
       limits = HasLimits-report c.self.inside.open_order _ _ _ _ c.self.invariant.limits;
       room = HasRoom-report c.self.inside.open_order (Taken c.taken.result.moved) c.taken.result.moved c.taken.result.diverted c.taken.result.failed

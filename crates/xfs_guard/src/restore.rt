@@ -1,0 +1,56 @@
+//! Reading the journal again after the disk failed.
+
+ghost use Rattle.std.specs.Prelude.{◌≡◌, ◌≤◌, ◌⊎◌, ℕ, true, false, List, [], ◌∷◌, ◌++◌, Some, None, Err, OnOk, IfErr};
+ghost use Rattle.xfs_base.specs.Causes.{IfTold, Rose};
+ghost use Rattle.xfs_journal.specs.Image.{Stands};
+ghost use Rattle.xfs_journal.specs.JournalView.{IsPossible, passes};
+ghost use Rattle.xfs_journal.specs.declared.record.Rec.{Rec};
+ghost use Rattle.xfs_journal.specs.declared.record.Rec.TheVariants.{Boot};
+ghost use Rattle.xfs_guard.specs.declared.fail.BootFault.TheVariants.{NotJournal, Disk as BootDisk, Full as BootFull, Memory as BootMemory};
+ghost use Rattle.xfs_guard.specs.declared.open.Open.TheVariants.{No};
+ghost use Rattle.xfs_guard.specs.Continues.{Continues};
+
+use crate::{BootFault, Guard};
+use xfs_disk::Disk;
+use xfs_mech::Mechanism;
+
+impl<M: Mechanism, D: Disk> Guard<M, D> {
+    /// Reads the journal again, which then gets a Boot with the mechanism's places: no nonce lives after it. The list
+    /// that is read is the kept one, or that one with the record in doubt. After `Memory` the guard is as before;
+    /// after `Disk` and `NotJournal` the journal is shut. After `Full` it is open and its Boot is missing: no nonce
+    /// lives, and nothing is written, until a later restore appends one. A disk that tells its bytes is never refused
+    /// as `NotJournal`.
+    pub fn restore(&mut self) -> Result<(), BootFault>
+        requires { self.old.state.open_order ≡ No }
+        ensures ok { OnOk result ((J : List Rec) × IsPossible self.old.state.records self.old.state.in_doubt J × (self.new.state ≡ record self.old.state {
+          records = J ++ Boot self.old.state.places ∷ [];
+          bound = None;
+          shut = false;
+          boot_missing = false;
+          in_doubt = None;
+        })) }
+        ensures fits { OnOk result (passes self.old.state.limits self.new.state.records ≡ false) }
+        ensures stands { OnOk result (IfTold (D.held self.old.disk) (λ all. (J : List Rec) × Stands all J × (self.new.state.records ≡ J ++ Boot self.old.state.places ∷ []))) }
+        ensures memory { result ≡ Err BootMemory → self.new.state ≡ self.old.state }
+        ensures full { result ≡ Err BootFull → (J : List Rec) × IsPossible self.old.state.records self.old.state.in_doubt J × (passes self.old.state.limits (J ++ Boot self.old.state.places ∷ []) ≡ true) × (self.new.state ≡ record self.old.state {
+          records = J;
+          bound = None;
+          shut = false;
+          boot_missing = true;
+          in_doubt = None;
+        }) }
+        ensures disk { result ≡ Err BootDisk → (self.new.state ≡ record self.old.state { shut = true }) ⊎ ((J : List Rec) × IsPossible self.old.state.records self.old.state.in_doubt J × (self.new.state ≡ record self.old.state {
+          records = J;
+          bound = None;
+          shut = true;
+          in_doubt = Some (Boot self.old.state.places);
+        })) }
+        ensures not_journal { IfErr result (λ f. (at : ℕ) → f ≡ NotJournal at → (D.held self.old.disk ≡ None) × (self.new.state ≡ record self.old.state { shut = true })) }
+        ensures later { D.faults self.old.disk ≤ D.faults self.new.disk }
+        ensures cause { result ≡ Err BootDisk → Rose (D.faults self.old.disk) (D.faults self.new.disk) }
+        ensures continues { Continues self.old.state self.new.state }
+    {
+        let places = self.mech.survey();
+        self.ledger.restore(places)
+    }
+}
