@@ -1,7 +1,8 @@
 -- What was written from the boot on, once the mechanism and the disk come back.
-use Rattle.std.proofs.Common.{◌≡◌, ◌≢◌, ◌≤◌, ◌⊎◌, ℕ, ◌∷◌, [], ◌++◌, List, None, Some, inl, inr, refl, sym, ◌∙◌, ap, arith}
+use Rattle.std.proofs.Common.{◌≡◌, ◌≢◌, ◌≤◌, ◌⊎◌, ℕ, false, ◌∷◌, [], ◌++◌, List, None, Some, inl, inr, refl, sym, ◌∙◌, ap, arith}
+use Rattle.std.specs.Prelude.{codes}
 use Rattle.std.specs.declared.option.Option.{Option}
-use Rattle.xfs_base.specs.Causes.{IfTold}
+use Rattle.xfs_base.specs.Causes.{IfTold, Rose}
 use Rattle.xfs_base.specs.declared.counts.Places.{Places}
 use Rattle.xfs_mech.specs.declared.motion.Motion.{Motion}
 use Rattle.xfs_journal.specs.Image.{Stands}
@@ -16,6 +17,8 @@ use Rattle.xfs_cli.specs.Run.{status_of}
 use Rattle.xfs_cli.specs.Answers.{WritesAll, WritesFront, WritesUntil}
 use Rattle.xfs_cli.specs.Boots.{WritesBoot, boot_status}
 use Rattle.xfs_guard.specs.declared.fail.BootFault.{BootFault}
+use Rattle.xfs_guard.specs.declared.fail.BootFault.TheVariants.{NotJournal, Disk, Full, Memory as BootMemory}
+use Rattle.xfs_cli.specs.RestartAnswers.{HasNoRoom, RestartFails}
 use Rattle.xfs_cli.specs.GuardRuns.{FromBoot, IsEnd, IsOfBoot, IsStop, IsWithin, IsUnbooted}
 use Rattle.xfs_cli.specs.Seen.{Seen, IsLater, seen}
 
@@ -49,6 +52,35 @@ fault-plain Read = (λ e. omega (arith, e), λ e. omega (arith, e), λ e. omega 
 fault-plain Quota = (λ e. omega (arith, e), λ e. omega (arith, e), λ e. omega (arith, e))
 fault-plain (TooLong n) = (λ e. omega (arith, e), λ e. omega (arith, e), λ e. omega (arith, e))
 fault-plain Memory = (λ e. omega (arith, e), λ e. omega (arith, e), λ e. omega (arith, e))
+
+-- an end at a restart
+pub stops-restart : {D : Type 0} (faults : D → ℕ) (g : GuardView D) (last : Option (List ℕ)) (status : ℕ) (why : BootFault) (line : List ℕ) (s : Seen) → status ≡ boot_status why
+    → IsLater s (seen faults g last) → (line ≡ codes "restart") × RestartFails s why (seen faults g last) → IsStop g.state.faults (faults g.disk) status line s
+stops-restart faults g last status why line s is later fails = record {
+  within = record { mech = later.mech; disk = later.disk };
+  restart = λ boot. fails.0;
+  failed = λ e. failed why (sym is ∙ e) fails.1;
+  untold = λ e. untold why (sym is ∙ e) fails.1;
+  full = λ e. full why (sym is ∙ e) fails.1;
+}
+  where
+    failed : (why : BootFault) → boot_status why ≡ 6 → RestartFails s why (seen faults g last) → Rose s.disk_faults (faults g.disk)
+    failed (NotJournal at) e h = absurd (omega (arith, e))
+    failed Disk e h = h
+    failed Full e h = absurd (omega (arith, e))
+    failed BootMemory e h = absurd (omega (arith, e))
+
+    untold : (why : BootFault) → boot_status why ≡ 7 → RestartFails s why (seen faults g last) → s.guard.disk_told ≡ false
+    untold (NotJournal at) e h = h
+    untold Disk e h = absurd (omega (arith, e))
+    untold Full e h = absurd (omega (arith, e))
+    untold BootMemory e h = absurd (omega (arith, e))
+
+    full : (why : BootFault) → boot_status why ≡ 12 → RestartFails s why (seen faults g last) → HasNoRoom s.guard
+    full (NotJournal at) e h = absurd (omega (arith, e))
+    full Disk e h = absurd (omega (arith, e))
+    full Full e h = h
+    full BootMemory e h = absurd (omega (arith, e))
 
 -- the counts of an end are those of what comes back
 pub stops-at : {D : Type 0} (faults : D → ℕ) (g : GuardView D) (mech : ℕ) (disk : D) → mech ≡ g.state.faults → disk ≡ g.disk

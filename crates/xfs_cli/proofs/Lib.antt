@@ -6,4 +6,3 @@ pub mod RunLaws
 pub mod SeenLaws
 pub mod StartLaws
 pub mod TokenTexts
-pub mod VerbLaws

@@ -12,7 +12,7 @@ use Rattle.xfs_journal.specs.declared.record.Rec.{Rec}
 use Rattle.xfs_journal.specs.declared.record.Rec.TheVariants as Rec
 use Rattle.xfs_guard.specs.View.{View}
 use Rattle.xfs_guard.specs.Fits.{unfit}
-use Rattle.xfs_guard.specs.Nonce.{live_nonce}
+use Rattle.xfs_guard.specs.Nonce.{live_nonce, live_in}
 use Rattle.xfs_guard.specs.Reports.{HasReported}
 use Rattle.xfs_guard.specs.Word.{issue_word}
 use Rattle.xfs_guard.specs.declared.ask.Ask.TheVariants as Ask
@@ -26,6 +26,7 @@ use Rattle.xfs_cli.specs.Seen.{Seen}
 use Rattle.xfs_cli.specs.LineAnswers.{IsRefused, WritesOne, WritesNone}
 use Rattle.xfs_cli.specs.OrderAnswers.{MechCalled, Moves}
 use Rattle.xfs_cli.specs.DispenseAnswers.{Dispenses, named}
+use Rattle.xfs_cli.specs.RestartAnswers.{Restarts}
 use Rattle.xfs_cli.specs.declared.refused.Refusal.{Refusal}
 use Rattle.xfs_cli.specs.declared.refused.Refusal.TheVariants.{NoUnit, StorageFull, Deny as Denied}
 
@@ -102,14 +103,14 @@ abbrev pub IsAnswer : Seen → GuardLine → List ℕ → Seen → Type 0
 IsAnswer s Skip line next = ⊥
 IsAnswer s Issue line next = Issues s line next
 IsAnswer s Clear line next = Clears (live_nonce s.guard.records) s line next
-IsAnswer s (Mint amounts) line next = Mints (live_nonce s.guard.records) s amounts line next
+IsAnswer s (Mint amounts) line next = Mints (live_in s.guard.boot_missing s.guard.records) s amounts line next
 IsAnswer s (Dispense token counts) line next = Dispenses s (named s.last token) counts line next
 IsAnswer s (Fill unit count) line next = Fills s unit count line next
 IsAnswer s Present line next = Moves s Ask.Present line next
 IsAnswer s Reject line next = Moves s Ask.Reject line next
 IsAnswer s Retract line next = Moves s Ask.Retract line next
 IsAnswer s Take line next = Takes s line next
-IsAnswer s Restart line next = ⊥
+IsAnswer s Restart line next = Restarts s line next
 IsAnswer s Show line next = (line ≡ show_text (length s.guard.units) s.guard.places) × (next ≡ s)
 
 -- the text that answers a verb; none for a skipped line

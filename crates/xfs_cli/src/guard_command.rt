@@ -13,7 +13,7 @@ ghost use Rattle.xfs_guard.specs.Stored.{IsStored, MayLeave};
 ghost use Rattle.xfs_cli.specs.Run.{IsGuard, AllLines, StopsAtLine, GaveAll};
 ghost use Rattle.xfs_cli.specs.Answers.{WritesAll, WritesFront, WritesUntil, WritesUsage};
 ghost use Rattle.xfs_cli.specs.GuardLines.{IsLine};
-ghost use Rattle.xfs_cli.specs.GuardRuns.{FromBoot, IsEnd, IsStop, IsWithin, IsUnbooted, opened};
+ghost use Rattle.xfs_cli.specs.GuardRuns.{FromBoot, IsEnd, IsStop, IsWithin, IsUnbooted, RunsFull, opened};
 ghost use Rattle.xfs_cli.specs.Seen.{IsLater, seen};
 ghost use Rattle.xfs_cli.specs.VerbAnswers.{AnswersGuard};
 ghost use Rattle.xfs_cli.specs.Boots.{EndsUnread, EndsFailed, EndsFull, BootPasses, IsDue, IsNoJournal, IsUnwritten};
@@ -138,7 +138,8 @@ fn serve<S: Source, K: Sink, M: Mechanism, D: Disk>(
     ensures until { result ≢ 0 → result ≢ 5 → IfTold (S.left source.old) (WritesUntil IsLine AnswersGuard (IsStop session.new.guard.state.faults (D.faults session.new.guard.disk)) (seen D.faults session.old.guard session.old.last) result (S.left source.new) (K.held sink.old) (K.held sink.new)) }
     ensures continues { Continues session.old.guard.state session.new.guard.state }
     ensures usage { result ≢ 2 }
-    ensures booted { (result ≢ 6) × (result ≢ 7) × (result ≢ 12) }
+    ensures failed { result ≡ 6 → Rose (D.faults session.old.guard.disk) (D.faults session.new.guard.disk) }
+    ensures full { result ≡ 12 → RunsFull (seen D.faults session.old.guard session.old.last) }
     ensures whole { result ≡ 0 → IsAtEnd (S.left source.new) }
     ensures lines { result ≡ 0 → IfTold (S.left source.old) AllLines }
     ensures not_a_line { result ≡ 4 → IfTold (S.left source.old) StopsAtLine }
@@ -154,6 +155,7 @@ fn serve<S: Source, K: Sink, M: Mechanism, D: Disk>(
                 Turn::More => {}
                 Turn::NotALine => return not_a_line(session.alloc, sink, line.number),
                 Turn::Write => return 5,
+                Turn::Unbooted(fault) => return unbooted(session.alloc, sink, fault),
                 Turn::Memory => return 8,
             },
             Err(fault) => return faulty(session.alloc, sink, fault),
