@@ -91,8 +91,8 @@ pub fn core_on<M: Mechanism>(
     }
 }
 
-// The same, over a disk whose calls at these places fail.
-fn failing_core<M: Mechanism>(
+/// The same, over a disk whose calls at these places fail.
+pub fn failing_core<M: Mechanism>(
     mech: M,
     units: UnitTable,
     disk: MemDisk,
@@ -290,8 +290,8 @@ pub fn guard_on_no_journal(rt: &impl Abort, alloc: Global, script: &[u8]) -> Res
     told(alloc, ended.status, &sink, &ended.disk)
 }
 
-// Main's mechanism, with these faults.
-fn sim_on(rt: &impl Abort, alloc: Global, units: &UnitTable, faults: Vec<Fault>) -> SimMech
+/// Main's mechanism, with these faults.
+pub fn sim_on(rt: &impl Abort, alloc: Global, units: &UnitTable, faults: Vec<Fault>) -> SimMech
     ensures units { units_of result ≡ units.now }
     ensures fresh { motions_of result ≡ [] }
 {

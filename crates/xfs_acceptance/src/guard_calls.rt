@@ -26,9 +26,10 @@ const TWO_TWENTIES: Counts = Counts([0, 2, 0, 0, 0, 0, 0, 0]);
 
 const FIFTY: Counts = Counts([0, 0, 1, 0, 0, 0, 0, 0]);
 
-// Tokens of EUR 50, of EUR 60 and of no amount for the first nonce, and one of EUR 50 for the second,
-// under the bench's key. The HMACs are those of Python's hmac and hashlib.
-const GENUINE: &str =
+// Tokens of EUR 60 and of no amount for the first nonce, and one of EUR 50 for the second, under the
+// bench's key. The HMACs are those of Python's hmac and hashlib, as is that of this one.
+/// A token of EUR 50 for the first nonce, under the bench's key.
+pub const GENUINE: &str =
     "NONCE=E56A5D4028BD86530000000000000001,TOKENFORMAT=1,TOKENLENGTH=0164,DISPENSE1=50.00EUR,HMACSHA256=3D5C9E3C4712EA6A5C3803CA4CB0E54958CB4C8778ACBBB26FEA1F6935956AC2";
 
 const LARGER: &str =

@@ -4,7 +4,11 @@
 #[cfg(test)]
 mod bench;
 #[cfg(test)]
+mod crash_rows;
+#[cfg(test)]
 mod guard_calls;
+#[cfg(test)]
+mod guard_disks;
 #[cfg(test)]
 mod guard_rows;
 #[cfg(test)]

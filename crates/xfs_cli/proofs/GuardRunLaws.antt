@@ -1,6 +1,6 @@
 -- What was written from the boot on, once the mechanism and the disk come back.
 use Rattle.std.proofs.Common.{◌≡◌, ◌≢◌, ◌≤◌, ◌⊎◌, ℕ, false, ◌∷◌, [], ◌++◌, List, None, Some, inl, inr, refl, sym, ◌∙◌, ap, arith}
-use Rattle.std.specs.Prelude.{codes}
+use Rattle.std.specs.Prelude.{codes, is_some, min, ◌+◌, ◌-◌, ◌^◌}
 use Rattle.std.specs.declared.option.Option.{Option}
 use Rattle.xfs_base.specs.Causes.{IfTold, Rose}
 use Rattle.xfs_base.specs.declared.counts.Places.{Places}
@@ -15,7 +15,9 @@ use Rattle.xfs_script.specs.declared.line.LineFault.TheVariants.{Read, Quota, To
 use Rattle.xfs_cli.specs.GuardLines.{behind}
 use Rattle.xfs_cli.specs.Run.{status_of}
 use Rattle.xfs_cli.specs.Answers.{WritesAll, WritesFront, WritesUntil}
-use Rattle.xfs_cli.specs.Boots.{WritesBoot, boot_status}
+use Rattle.xfs_cli.specs.Boots.{BootPasses, EndsFull, WritesBoot, boot_status}
+use Rattle.xfs_journal.specs.declared.limits.Limits.{Limits}
+use Rattle.xfs_cli.specs.Statuses.{HasRestart}
 use Rattle.xfs_guard.specs.declared.fail.BootFault.{BootFault}
 use Rattle.xfs_guard.specs.declared.fail.BootFault.TheVariants.{NotJournal, Disk, Full, Memory as BootMemory}
 use Rattle.xfs_cli.specs.RestartAnswers.{HasNoRoom, RestartFails}
@@ -132,3 +134,28 @@ from-boot faults g guard_of places held before J Writes stands is later writes =
 -- a refused boot
 pub refused-boot : (why : BootFault) (status : ℕ) (before after : Option (List ℕ)) → status ≡ boot_status why → WritesBoot why before after → IsUnbooted status before after
 refused-boot why status before after is written = record { why = why; status_is = is; written = written }
+
+-- a count that rose in a part rose in the whole
+pub rose-later : (a b c : ℕ) → a ≤ b → Rose b c → Rose a c
+rose-later a b c le rose = min_least a b c le rose
+  where
+    min_least : (a b c : ℕ) → a ≤ b → min (b + 1) (2 ^ 64 - 1) ≤ c → min (a + 1) (2 ^ 64 - 1) ≤ c
+    min_least a b c le rose = grind arith
+
+pub none-told : {T : Type 0} (held : Option T) → is_some held ≡ false → held ≡ None
+none-told None e = refl
+none-told (Some x) e = cc
+
+-- a refused boot whose Boot passes a limit
+pub ends-full : (why : BootFault) (limits : Limits) (places : Places) (held before after : Option (List ℕ)) (status : ℕ) → status ≡ boot_status why → WritesBoot why before after
+    → (why ≡ Full → (J : List Rec) × IfTold held (λ bytes. Stands bytes J) × BootPasses limits places J) → status ≡ 12 → EndsFull limits places held before after
+ends-full (NotJournal at) limits places held before after status is written full twelve = absurd (omega (arith, is, twelve))
+ends-full Disk limits places held before after status is written full twelve = absurd (omega (arith, is, twelve))
+ends-full Full limits places held before after status is written full twelve = let f = full refl in record { records = f.0; stands = f.1; passes_limit = f.2; written = written }
+ends-full BootMemory limits places held before after status is written full twelve = absurd (omega (arith, is, twelve))
+
+-- under status 12 a line of the input is `restart`
+pub restart-line : (L : List ℕ → Type 0) (A : Seen → List ℕ → List (List ℕ) → Seen → Type 0) (mech disk : ℕ) (start : Seen) (status : ℕ) (source left old new : Option (List ℕ))
+    → IfTold source (WritesUntil L A (IsStop mech disk) start status left old new) → status ≡ 12 → IfTold source HasRestart
+restart-line L A mech disk start status None left old new h twelve = tt
+restart-line L A mech disk start status (Some text) left old new h twelve = record { many = h.many; line = h.answers.ends.restart (inr (inr twelve)) }

@@ -1,8 +1,11 @@
 pub mod AnswerLaws
 pub mod DispenseLaws
+pub mod EndLaws
 pub mod GuardRunLaws
 pub mod LineLaws
+pub mod NumberLaws
 pub mod RunLaws
 pub mod SeenLaws
 pub mod StartLaws
 pub mod TokenTexts
+pub mod UnreadLaws

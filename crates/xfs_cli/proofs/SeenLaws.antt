@@ -18,7 +18,7 @@ use Rattle.xfs_guard.specs.declared.ask.Ask.{Ask}
 use Rattle.xfs_guard.specs.declared.ask.Ask.TheVariants.{Stack}
 use Rattle.xfs_journal.specs.Journal.{next_issue, nonce_text}
 use Rattle.xfs_journal.specs.declared.record.Rec.{Rec}
-use Rattle.xfs_journal.specs.declared.record.Rec.TheVariants.{Issue, Clear}
+use Rattle.xfs_journal.specs.declared.record.Rec.TheVariants.{Issue, Clear, Boot}
 use Rattle.xfs_guard.specs.View.{View, GuardView}
 use Rattle.xfs_guard.specs.Fits.{unfit}
 use Rattle.xfs_guard.specs.Nonce.{live_nonce}
@@ -28,6 +28,12 @@ use Rattle.xfs_guard.specs.declared.deny.Deny.{Deny}
 use Rattle.xfs_guard.specs.declared.deny.Deny.TheVariants.{Disk, Memory}
 use Rattle.xfs_guard.specs.declared.nonce.Nonce.{Nonce}
 use Rattle.xfs_guard.proofs.LedgerLaws.{live-issued}
+use Rattle.xfs_journal.specs.JournalView.{IsPossible, passes}
+use Rattle.xfs_guard.specs.declared.fail.BootFault.{BootFault}
+use Rattle.xfs_guard.specs.declared.fail.BootFault.TheVariants.{NotJournal, Disk as BootDisk, Full as BootFull, Memory as BootMemory}
+use Rattle.xfs_cli.specs.RestartAnswers.{RestartFails}
+use Rattle.xfs_cli.specs.declared.session.AnswerFault.{AnswerFault}
+use Rattle.xfs_cli.specs.declared.session.AnswerFault.TheVariants.{Unbooted}
 use Rattle.xfs_cli.specs.Refused.{refusal_text}
 use Rattle.xfs_cli.specs.Seen.{Seen, IsLater, Becomes, Fails, seen, shut_at}
 use Rattle.xfs_cli.specs.LineAnswers.{IsRefused, IsInDoubt, IsDone, WritesOne, WritesNone}
@@ -274,3 +280,31 @@ refused-budget a b d e f = rw (e, f) refl
 
 pub refused-none : (a : Option CountFault) (b : Option Deny) → a ≡ None → b ≡ None → option_or (option_map CountsFault a) (option_map Denied b) ≡ None
 refused-none a b e f = rw (e, f) refl
+
+-- a restart that is refused
+pub restart-fails : {D T : Type 0} (faults : D → ℕ) (old new : GuardView D) (last : Option (List ℕ)) (result : Result T AnswerFault) (why : BootFault)
+    → IsErrAnd result (λ e. e ≡ Unbooted why) → ((at : ℕ) → why ≡ NotJournal at → old.state.disk_told ≡ false)
+    → (◌≡◌ {A = Result (Unit {0}) BootFault} (Err why) (Err BootDisk) → Rose (faults old.disk) (faults new.disk))
+    → (◌≡◌ {A = Result (Unit {0}) BootFault} (Err why) (Err BootFull)
+        → (J : List Rec) × IsPossible old.state.records old.state.in_doubt J × (passes old.state.limits (J ++ Boot old.state.places ∷ []) ≡ true))
+    → (fault : BootFault) → result ≡ Err (Unbooted fault) → RestartFails (seen faults old last) fault (seen faults new last)
+restart-fails faults old new last (Ok x) why err untold cause full fault is = absurd err
+restart-fails faults old new last (Err e) why err untold cause full fault is =
+    let same : why ≡ fault = unbooted-same (sym err ∙ err-fault is) in
+    rw (← same) (by-fault why untold cause full)
+  where
+    err-fault : Err e ≡ Err (Unbooted fault) → e ≡ Unbooted fault
+    err-fault e = cc
+
+    unbooted-same : Unbooted why ≡ Unbooted fault → why ≡ fault
+    unbooted-same e = cc
+
+    by-fault : (why : BootFault) → ((at : ℕ) → why ≡ NotJournal at → old.state.disk_told ≡ false)
+        → (◌≡◌ {A = Result (Unit {0}) BootFault} (Err why) (Err BootDisk) → Rose (faults old.disk) (faults new.disk))
+        → (◌≡◌ {A = Result (Unit {0}) BootFault} (Err why) (Err BootFull)
+            → (J : List Rec) × IsPossible old.state.records old.state.in_doubt J × (passes old.state.limits (J ++ Boot old.state.places ∷ []) ≡ true))
+        → RestartFails (seen faults old last) why (seen faults new last)
+    by-fault (NotJournal at) untold cause full = untold at refl
+    by-fault BootDisk untold cause full = cause refl
+    by-fault BootFull untold cause full = let f = full refl in record { records = f.0; possible = f.1; passes_limit = f.2 }
+    by-fault BootMemory untold cause full = tt

@@ -29,11 +29,6 @@ pub record EndsUnread (held before after : Option (List ℕ)) : Type 0 where
   pub ceases : IfTold held (λ bytes. CeasesAt bytes at × IsNoJournal bytes)
   pub written : WritesBoot (NotJournal at) before after
 
--- the disk failed in the boot, and the last line says so
-pub record EndsFailed (faults now : ℕ) (before after : Option (List ℕ)) : Type 0 where
-  pub cause : Rose faults now
-  pub written : WritesBoot Disk before after
-
 -- the Boot of these places passes a limit behind these records
 abbrev pub BootPasses : Limits → Places → List Rec → Type 0
 BootPasses limits places records = passes limits (records ++ Boot places ∷ []) ≡ true

@@ -11,6 +11,7 @@ pub mod Refused
 pub mod RestartAnswers
 pub mod Run
 pub mod Seen
+pub mod Statuses
 pub mod TokenAnswers
 pub mod Upholds
 pub mod VerbAnswers

@@ -1,6 +1,6 @@
 //! The command `guard`.
 
-ghost use Rattle.std.specs.Prelude.{◌≡◌, ◌≢◌, ◌↔◌, ◌≤◌, ◌⊎◌, ℕ, List, Some, IsTrue, is_some};
+ghost use Rattle.std.specs.Prelude.{◌≡◌, ◌≢◌, ◌↔◌, ◌≤◌, ◌⊎◌, ℕ, List, Some, None, false, IsTrue, is_some, length};
 ghost use Rattle.std.specs.Io.KnownBytes.{IsAtEnd};
 ghost use Rattle.xfs_base.specs.Causes.{Rose, IfTold};
 ghost use Rattle.xfs_disk.specs.Disk.{Only};
@@ -16,8 +16,10 @@ ghost use Rattle.xfs_cli.specs.GuardLines.{IsLine};
 ghost use Rattle.xfs_cli.specs.GuardRuns.{FromBoot, IsEnd, IsStop, IsWithin, IsUnbooted, RunsFull, opened};
 ghost use Rattle.xfs_cli.specs.Seen.{IsLater, seen};
 ghost use Rattle.xfs_cli.specs.VerbAnswers.{AnswersGuard};
-ghost use Rattle.xfs_cli.specs.Boots.{EndsUnread, EndsFailed, EndsFull, BootPasses, IsDue, IsNoJournal, IsUnwritten};
+ghost use Rattle.xfs_cli.specs.Boots.{EndsUnread, EndsFull, BootPasses, IsDue, IsNoJournal, IsUnwritten};
 ghost use Rattle.xfs_cli.specs.Upholds.{Upholds};
+ghost use Rattle.xfs_cli.specs.Statuses.{IsStatus, IsUnhindered, IsFinished};
+ghost use Rattle.xfs_mech.specs.Moves.{AddsUp, IsNewer};
 
 use crate::answer::Turn;
 use crate::ended::Ended;
@@ -63,13 +65,21 @@ pub fn guard<S: Source, K: Sink, M: Mechanism, D: Disk>(
     ensures until { result.status ≢ 0 → result.status ≢ 2 → result.status ≢ 5 → IfTold (S.left source.old) (λ text. IsUnbooted result.status (K.held sink.old) (K.held sink.new) ⊎ FromBoot (opened core.key core.seed core.units core.limits (M.motions core.mech) (M.places core.mech) (M.faults core.mech) (is_some (D.held core.disk))) (M.places core.mech) (D.held core.disk) (D.faults core.disk)
         (λ start. WritesUntil IsLine AnswersGuard (IsStop (M.faults result.mech) (D.faults result.disk)) start result.status (S.left source.new) (K.held sink.old) (K.held sink.new) text)) }
 
-    ensures boot_disk { result.status ≡ 6 → EndsFailed (D.faults core.disk) (D.faults result.disk) (K.held sink.old) (K.held sink.new) }
-    ensures not_journal { result.status ≡ 7 → EndsUnread (D.held core.disk) (K.held sink.old) (K.held sink.new) }
-    ensures full { result.status ≡ 12 → EndsFull core.limits (M.places core.mech) (D.held core.disk) (K.held sink.old) (K.held sink.new) }
+    ensures boot_disk { result.status ≡ 6 → Rose (D.faults core.disk) (D.faults result.disk) }
+    ensures not_journal { result.status ≡ 7 → (D.held core.disk ≡ None) ⊎ EndsUnread (D.held core.disk) (K.held sink.old) (K.held sink.new) }
+    ensures full { result.status ≡ 12 → EndsFull core.limits (M.places core.mech) (D.held core.disk) (K.held sink.old) (K.held sink.new) ⊎ FromBoot (opened core.key core.seed core.units core.limits (M.motions core.mech) (M.places core.mech) (M.faults core.mech) (is_some (D.held core.disk))) (M.places core.mech) (D.held core.disk) (D.faults core.disk) RunsFull }
     ensures unread { IsGuard words.now → IfTold (D.held core.disk) (λ bytes. IsNoJournal bytes → IsDue 7 result.status) }
     ensures overfull { IsGuard words.now → IfTold (D.held core.disk) (λ bytes. (J : List Rec) → Stands bytes J → BootPasses core.limits (M.places core.mech) J → IsDue 12 result.status) }
     ensures unwritten { IfTold (D.held core.disk) (λ bytes. IsNoJournal bytes → IsUnwritten (D.held core.disk) (D.held result.disk) (D.images core.disk) (D.images result.disk)) }
     ensures unmoved { IfTold (D.held core.disk) (λ bytes. IsNoJournal bytes → result.mech ≡ core.mech) }
+
+    ensures newer { IfTold (D.held core.disk) (λ bytes. (J : List Rec) → Stands bytes J → IsNewer (length J) (M.motions core.mech) (M.motions result.mech)) }
+    ensures adds { AddsUp (M.motions core.mech) (M.motions result.mech) (M.places core.mech) (M.places result.mech) }
+    ensures told { is_some (M.motions result.mech) ≡ is_some (M.motions core.mech) }
+    ensures told_disk { is_some (D.held result.disk) ≡ is_some (D.held core.disk) }
+    ensures statuses { IsStatus result.status }
+    ensures finishes { IsGuard words.now → ¬ (Rose (S.faults source.old) (S.faults source.new)) → ¬ (Rose (K.faults sink.old) (K.faults sink.new)) → ¬ (Rose (D.faults core.disk) (D.faults result.disk))
+        → IfTold (S.left source.old) (λ text. IfTold (D.held core.disk) (λ bytes. (J : List Rec) → Stands bytes J → IsUnhindered text core.limits (M.places core.mech) J → IsFinished result.status)) }
 {
     let Core {
         mech,
@@ -114,6 +124,7 @@ fn ended<M: Mechanism, D: Disk>(session: Session<M, D>) -> (M, D)
     ensures motions { M.motions result.0 ≡ session.guard.state.motions }
     ensures places { M.places result.0 ≡ session.guard.state.places }
     ensures faults { M.faults result.0 ≡ session.guard.state.faults }
+    ensures told { is_some (D.held result.1) ≡ session.guard.state.disk_told }
     ensures disk { result.1 ≡ session.guard.disk }
 {
     let Session {
@@ -139,6 +150,7 @@ fn serve<S: Source, K: Sink, M: Mechanism, D: Disk>(
     ensures continues { Continues session.old.guard.state session.new.guard.state }
     ensures usage { result ≢ 2 }
     ensures failed { result ≡ 6 → Rose (D.faults session.old.guard.disk) (D.faults session.new.guard.disk) }
+    ensures untold { result ≡ 7 → session.old.guard.state.disk_told ≡ false }
     ensures full { result ≡ 12 → RunsFull (seen D.faults session.old.guard session.old.last) }
     ensures whole { result ≡ 0 → IsAtEnd (S.left source.new) }
     ensures lines { result ≡ 0 → IfTold (S.left source.old) AllLines }
@@ -146,6 +158,7 @@ fn serve<S: Source, K: Sink, M: Mechanism, D: Disk>(
     ensures quota { result ≡ 10 → GaveAll (S.left source.old) (S.left source.new) }
     ensures read { result ≡ 3 → Rose (S.faults source.old) (S.faults source.new) }
     ensures write { result ≡ 5 → Rose (K.faults sink.old) (K.faults sink.new) }
+    ensures statuses { IsStatus result }
 {
     let mut lines = Lines::new(session.alloc);
     for _ in 0..u64::MAX {

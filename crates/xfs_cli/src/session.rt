@@ -26,7 +26,7 @@ use crate::text::{joined, outcome_text, show_text};
 use std::alloc::{AllocError, AllocFailed, Global};
 use xfs_base::{Bytes, Counts, Memory};
 use xfs_disk::Disk;
-use xfs_guard::{Ask, BootFault, Deny, Fit, Guard, Permit};
+use xfs_guard::{Ask, BootFault, Deny, Guard, Permit};
 use xfs_mech::{Mechanism, Outcome};
 use xfs_mix::check;
 use xfs_script::{Given, GuardLine};
@@ -178,7 +178,7 @@ impl<M: Mechanism, D: Disk> Session<M, D> {
         if !self.guard.room(unit, count) {
             return refusal_text(self.alloc, &Refusal::StorageFull);
         }
-        if let Some(deny) = unfit(&self.guard) {
+        if let Some(deny) = self.guard.unfit() {
             return refusal_text(self.alloc, &Refusal::Deny(deny));
         }
         self.load(unit, count)
@@ -271,7 +271,7 @@ impl<M: Mechanism, D: Disk> Session<M, D> {
         ensures same { IfErr result (λ r. r ≢ Denied Deny.Disk → self.new.guard.state ≡ self.old.guard.state) }
         ensures key { self.new.key ≡ self.old.key }
     {
-        if let Some(deny) = unfit(&self.guard) {
+        if let Some(deny) = self.guard.unfit() {
             return Err(Refusal::Deny(deny));
         }
         let Some(text) = given(&self.last, token) else {
@@ -344,16 +344,5 @@ fn given<'a>(last: &'a Option<Bytes>, token: &'a Given) -> Option<&'a [u8]>
             Some(text) => Some(text.list()),
             None => None,
         },
-    }
-}
-
-// What a line that writes is refused for first.
-fn unfit<M: Mechanism, D: Disk>(guard: &Guard<M, D>) -> Option<Deny>
-    ensures { result ≡ unfit guard.now.state }
-{
-    match guard.fit() {
-        Fit::Ready => None,
-        Fit::Shut => Some(Deny::Shut),
-        Fit::Full => Some(Deny::Full),
     }
 }

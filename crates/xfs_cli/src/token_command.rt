@@ -7,6 +7,7 @@ ghost use Rattle.xfs_cli.specs.Run.{IsToken, GaveAll};
 ghost use Rattle.xfs_cli.specs.Answers.{Unsaid, AnyStop, WritesAll, WritesUntil, WritesFront, SaysAnswer, SaysFront, WritesUsage};
 ghost use Rattle.xfs_guard.specs.declared.fail.BootFault.{BootFault};
 ghost use Rattle.xfs_cli.specs.TokenAnswers.{AnswersToken, IsLineOfToken};
+ghost use Rattle.xfs_cli.specs.Statuses.{IsStatus};
 
 use crate::answer::Turn;
 use crate::ended::Ended;
@@ -44,6 +45,7 @@ pub fn token<S: Source, K: Sink, M: Mechanism, D: Disk>(
     ensures answers { result.status ≡ 0 → IfTold (S.left source.old) (WritesAll AnswersToken Unsaid core.key (K.held sink.old) (K.held sink.new)) }
     ensures front { result.status ≡ 5 → IfTold (S.left source.old) (WritesFront AnswersToken Unsaid core.key (K.held sink.old) (K.held sink.new)) }
     ensures until { result.status ≢ 0 → result.status ≢ 2 → result.status ≢ 5 → IfTold (S.left source.old) (WritesUntil IsLineOfToken AnswersToken AnyStop core.key result.status (S.left source.new) (K.held sink.old) (K.held sink.new)) }
+    ensures statuses { IsStatus result.status }
 {
     let Core {
         mech,
@@ -73,6 +75,7 @@ fn serve<S: Source, K: Sink>(alloc: Global, key: &[u8; 32], source: &mut S, sink
     ensures answers { result ≡ 0 → IfTold (S.left source.old) (WritesAll AnswersToken Unsaid key.now (K.held sink.old) (K.held sink.new)) }
     ensures front { result ≡ 5 → IfTold (S.left source.old) (WritesFront AnswersToken Unsaid key.now (K.held sink.old) (K.held sink.new)) }
     ensures until { result ≢ 0 → result ≢ 5 → IfTold (S.left source.old) (WritesUntil IsLineOfToken AnswersToken AnyStop key.now result (S.left source.new) (K.held sink.old) (K.held sink.new)) }
+    ensures statuses { IsStatus result }
 {
     let mut lines = Lines::new(alloc);
     for _ in 0..u64::MAX {

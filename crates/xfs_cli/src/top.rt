@@ -1,6 +1,6 @@
 //! The top call.
 
-ghost use Rattle.std.specs.Prelude.{◌≡◌, ◌≢◌, ◌↔◌, ◌⊎◌, ℕ, List, is_some};
+ghost use Rattle.std.specs.Prelude.{◌≡◌, ◌≢◌, ◌↔◌, ◌⊎◌, ℕ, List, None, is_some, length};
 ghost use Rattle.std.specs.Io.KnownBytes.{IsAtEnd};
 ghost use Rattle.xfs_base.specs.Causes.{Rose, IfTold};
 ghost use Rattle.xfs_disk.specs.Disk.{Only};
@@ -9,10 +9,12 @@ ghost use Rattle.xfs_journal.specs.declared.record.Rec.{Rec};
 ghost use Rattle.xfs_guard.specs.Recorded.{IsRecorded};
 ghost use Rattle.xfs_cli.specs.Run.{IsGuard, IsToken, IsCommand, AllLines, StopsAtLine, GaveAll};
 ghost use Rattle.xfs_cli.specs.Upholds.{Upholds};
-ghost use Rattle.xfs_cli.specs.Boots.{EndsUnread, EndsFailed, EndsFull, BootPasses, IsDue, IsNoJournal, IsUnwritten};
+ghost use Rattle.xfs_cli.specs.Statuses.{IsStatus, IsUnhindered, IsFinished};
+ghost use Rattle.xfs_mech.specs.Moves.{AddsUp, IsNewer};
+ghost use Rattle.xfs_cli.specs.Boots.{EndsUnread, EndsFull, BootPasses, IsDue, IsNoJournal, IsUnwritten};
 ghost use Rattle.xfs_cli.specs.Answers.{Unsaid, AnyStop, WritesAll, WritesUntil, WritesFront, WritesUsage};
 ghost use Rattle.xfs_cli.specs.GuardLines.{IsLine};
-ghost use Rattle.xfs_cli.specs.GuardRuns.{FromBoot, IsEnd, IsStop, IsWithin, IsUnbooted, opened};
+ghost use Rattle.xfs_cli.specs.GuardRuns.{FromBoot, IsEnd, IsStop, IsWithin, IsUnbooted, RunsFull, opened};
 ghost use Rattle.xfs_cli.specs.VerbAnswers.{AnswersGuard};
 ghost use Rattle.xfs_cli.specs.TokenAnswers.{AnswersToken, IsLineOfToken};
 
@@ -53,9 +55,9 @@ pub fn run<S: Source, K: Sink, M: Mechanism, D: Disk>(
     ensures read { result.status ≡ 3 → Rose (S.faults source.old) (S.faults source.new) }
     ensures write { result.status ≡ 5 → Rose (K.faults sink.old) (K.faults sink.new) }
 
-    ensures boot_disk { result.status ≡ 6 → EndsFailed (D.faults core.disk) (D.faults result.disk) (K.held sink.old) (K.held sink.new) }
-    ensures not_journal { result.status ≡ 7 → EndsUnread (D.held core.disk) (K.held sink.old) (K.held sink.new) }
-    ensures full { result.status ≡ 12 → EndsFull core.limits (M.places core.mech) (D.held core.disk) (K.held sink.old) (K.held sink.new) }
+    ensures boot_disk { result.status ≡ 6 → Rose (D.faults core.disk) (D.faults result.disk) }
+    ensures not_journal { result.status ≡ 7 → (D.held core.disk ≡ None) ⊎ EndsUnread (D.held core.disk) (K.held sink.old) (K.held sink.new) }
+    ensures full { result.status ≡ 12 → EndsFull core.limits (M.places core.mech) (D.held core.disk) (K.held sink.old) (K.held sink.new) ⊎ FromBoot (opened core.key core.seed core.units core.limits (M.motions core.mech) (M.places core.mech) (M.faults core.mech) (is_some (D.held core.disk))) (M.places core.mech) (D.held core.disk) (D.faults core.disk) RunsFull }
     ensures unread { IsGuard words.now → IfTold (D.held core.disk) (λ bytes. IsNoJournal bytes → IsDue 7 result.status) }
     ensures overfull { IsGuard words.now → IfTold (D.held core.disk) (λ bytes. (J : List Rec) → Stands bytes J → BootPasses core.limits (M.places core.mech) J → IsDue 12 result.status) }
 
@@ -79,6 +81,17 @@ pub fn run<S: Source, K: Sink, M: Mechanism, D: Disk>(
     ensures until { IsToken words.now → result.status ≢ 0 → result.status ≢ 5 → IfTold (S.left source.old) (WritesUntil IsLineOfToken AnswersToken AnyStop core.key result.status (S.left source.new) (K.held sink.old) (K.held sink.new)) }
     ensures same { IsToken words.now → result.mech ≡ core.mech }
     ensures same_disk { IsToken words.now → result.disk ≡ core.disk }
+
+    // What the mechanism did in the run: its new numbers lie behind the journal's, and its notes add up.
+    ensures newer { IfTold (D.held core.disk) (λ bytes. (J : List Rec) → Stands bytes J → IsNewer (length J) (M.motions core.mech) (M.motions result.mech)) }
+    ensures adds { AddsUp (M.motions core.mech) (M.motions result.mech) (M.places core.mech) (M.places result.mech) }
+    ensures told { is_some (M.motions result.mech) ≡ is_some (M.motions core.mech) }
+    ensures told_disk { is_some (D.held result.disk) ≡ is_some (D.held core.disk) }
+
+    // The statuses that there are, and a run of `guard` that nothing hinders.
+    ensures statuses { IsStatus result.status }
+    ensures finishes { IsGuard words.now → ¬ (Rose (S.faults source.old) (S.faults source.new)) → ¬ (Rose (K.faults sink.old) (K.faults sink.new)) → ¬ (Rose (D.faults core.disk) (D.faults result.disk))
+        → IfTold (S.left source.old) (λ text. IfTold (D.held core.disk) (λ bytes. (J : List Rec) → Stands bytes J → IsUnhindered text core.limits (M.places core.mech) J → IsFinished result.status)) }
 {
     if is_word(words, "guard") {
         return guard(alloc, words, source, sink, core);

@@ -1,5 +1,5 @@
 -- What a disk in memory shows.
-use Rattle.std.specs.Prelude.{ℕ, List, length, reverse}
+use Rattle.std.specs.Prelude.{◌≡◌, ℕ, List, length, reverse}
 use Rattle.xfs_disk.specs.declared.memory.MemDisk.{MemDisk}
 use Rattle.xfs_disk.specs.declared.step.Step.{Step}
 use Rattle.xfs_disk.specs.Steps.{MayLeave, LeftSince}
@@ -27,3 +27,16 @@ WasImage m = LeftSince (bytes_of m) (steps_of m)
 -- how often a growth was refused
 abbrev pub faults_of : MemDisk → ℕ
 faults_of m = m.faults
+
+-- how often it was read, in a count that stands still at its last value
+abbrev pub reads_of : MemDisk → ℕ
+reads_of m = m.reads
+
+-- the length of the longest buffer that a read was handed
+abbrev pub widest_of : MemDisk → ℕ
+widest_of m = m.widest
+
+-- a call that reads nothing
+pub record IsUnread (old new : MemDisk) : Type 0 where
+  pub reads : reads_of new ≡ reads_of old
+  pub widest : widest_of new ≡ widest_of old

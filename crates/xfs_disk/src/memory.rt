@@ -27,12 +27,13 @@ pub struct MemDisk {
 impl MemDisk {
     ghost use Rattle.std.specs.Prelude.{◌≡◌, [], IsTrue};
     ghost use Rattle.xfs_disk.specs.Steps.{crashed};
-    ghost use Rattle.xfs_disk.specs.MemDisk.{bytes_of, steps_of, IsImage};
+    ghost use Rattle.xfs_disk.specs.MemDisk.{bytes_of, steps_of, reads_of, widest_of, IsImage};
 
     /// A disk with these bytes, all of them synced.
     pub fn new(alloc: Global, bytes: Vec<u8>) -> MemDisk
         ensures bytes { bytes_of result ≡ bytes.items }
         ensures settled { steps_of result ≡ [] }
+        ensures unread { (reads_of result ≡ 0) × (widest_of result ≡ 0) }
     {
         MemDisk {
             alloc,
@@ -52,12 +53,16 @@ impl MemDisk {
     }
 
     /// The number of its reads, or the last value of a `u64`.
-    pub fn reads(&self) -> u64 {
+    pub fn reads(&self) -> u64
+        ensures { result ≡ reads_of self.now }
+    {
         self.reads
     }
 
     /// The length of the longest buffer that a read was handed, 0 before the first read.
-    pub fn widest(&self) -> u64 {
+    pub fn widest(&self) -> u64
+        ensures { result ≡ widest_of self.now }
+    {
         self.widest
     }
 
@@ -73,6 +78,12 @@ impl MemDisk {
 }
 
 impl Disk for MemDisk {
+    ghost use Rattle.std.specs.Prelude.{◌≡◌, ◌+◌, ◌-◌, ◌^◌, ◌≤◌, min, max, Some, length, IfOk, OnOk};
+    ghost use Rattle.std.specs.Io.{ReadsAtMost};
+    ghost use Rattle.xfs_base.specs.Causes.{HasCause};
+    ghost use Rattle.xfs_disk.specs.Disk.{overlaid, resized, Gives, Torn, Cut, Follows, AddsNone, Only, Elapses};
+    ghost use Rattle.xfs_disk.specs.MemDisk.{bytes_of, moment_of, reads_of, widest_of, faults_of, IsImage, WasImage, IsUnread};
+
     ghost held = { λ m. Some m.bytes.items };
 
     ghost images = { λ m. MayLeave m.bytes.items (reverse m.steps.items) };
@@ -89,11 +100,27 @@ impl Disk for MemDisk {
 
     ghost only_now = { λ m c left. only_now m.bytes.items m.steps.items c left };
 
-    fn len(&mut self) -> Result<u64, Failed> {
+    fn len(&mut self) -> Result<u64, Failed>
+        ensures value { IfOk result (λ n. n ≡ length (bytes_of self.old)) }
+        ensures same { bytes_of self.new ≡ bytes_of self.old }
+        ensures crash { AddsNone (IsImage self.old) (IsImage self.new) }
+        ensures time { Elapses (moment_of self.old) (moment_of self.new) (WasImage self.old) (WasImage self.new) (IsImage self.new) }
+        ensures cause { HasCause (faults_of self.old) (faults_of self.new) result }
+        ensures unread { IsUnread self.old self.new }
+    {
         Ok(self.bytes.len() as u64)
     }
 
-    fn read(&mut self, at: u64, into: &mut [u8]) -> Result<usize, Failed> {
+    fn read(&mut self, at: u64, into: &mut [u8]) -> Result<usize, Failed>
+        ensures bound { ReadsAtMost result into.new }
+        ensures bytes { IfOk result (λ n. Gives (bytes_of self.old) at n into.new) }
+        ensures same { bytes_of self.new ≡ bytes_of self.old }
+        ensures crash { AddsNone (IsImage self.old) (IsImage self.new) }
+        ensures time { Elapses (moment_of self.old) (moment_of self.new) (WasImage self.old) (WasImage self.new) (IsImage self.new) }
+        ensures cause { HasCause (faults_of self.old) (faults_of self.new) result }
+        ensures counted { reads_of self.new ≡ min (reads_of self.old + 1) (2 ^ 64 - 1) }
+        ensures widest { widest_of self.new ≡ max (widest_of self.old) (length into.old) }
+    {
         self.reads = self.reads.saturating_add(1);
         self.widest = self.widest.max(into.len() as u64);
         let all = self.bytes.as_slice();
@@ -103,7 +130,14 @@ impl Disk for MemDisk {
         Ok(count)
     }
 
-    fn write_at(&mut self, at: u64, bytes: &[u8]) -> Result<(), Failed> {
+    fn write_at(&mut self, at: u64, bytes: &[u8]) -> Result<(), Failed>
+        requires within { at ≤ length (bytes_of self.old) }
+        ensures written { OnOk result (bytes_of self.new ≡ overlaid (bytes_of self.old) at bytes.now) }
+        ensures crash { Follows (Torn at (length bytes.now)) (IsImage self.old) (IsImage self.new) }
+        ensures time { Elapses (moment_of self.old) (moment_of self.new) (WasImage self.old) (WasImage self.new) (IsImage self.new) }
+        ensures cause { HasCause (faults_of self.old) (faults_of self.new) result }
+        ensures unread { IsUnread self.old self.new }
+    {
         if overwrite(
             self.alloc,
             &mut self.bytes,
@@ -118,14 +152,27 @@ impl Disk for MemDisk {
         Ok(())
     }
 
-    fn cut(&mut self, len: u64) -> Result<(), Failed> {
+    fn cut(&mut self, len: u64) -> Result<(), Failed>
+        ensures cut { OnOk result (bytes_of self.new ≡ resized (bytes_of self.old) len) }
+        ensures crash { Follows (Cut len) (IsImage self.old) (IsImage self.new) }
+        ensures time { Elapses (moment_of self.old) (moment_of self.new) (WasImage self.old) (WasImage self.new) (IsImage self.new) }
+        ensures cause { HasCause (faults_of self.old) (faults_of self.new) result }
+        ensures unread { IsUnread self.old self.new }
+    {
         if resize(self.alloc, &mut self.bytes, &mut self.steps, len).is_err() {
             return Err(fault(&mut self.faults));
         }
         Ok(())
     }
 
-    fn sync(&mut self) -> Result<(), Failed> {
+    fn sync(&mut self) -> Result<(), Failed>
+        ensures durable { OnOk result (Only (bytes_of self.old) (IsImage self.new)) }
+        ensures same { bytes_of self.new ≡ bytes_of self.old }
+        ensures crash { AddsNone (IsImage self.old) (IsImage self.new) }
+        ensures time { Elapses (moment_of self.old) (moment_of self.new) (WasImage self.old) (WasImage self.new) (IsImage self.new) }
+        ensures cause { HasCause (faults_of self.old) (faults_of self.new) result }
+        ensures unread { IsUnread self.old self.new }
+    {
         if note(&mut self.steps).is_err() {
             return Err(fault(&mut self.faults));
         }

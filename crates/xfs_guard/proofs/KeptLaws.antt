@@ -1,4 +1,5 @@
 -- What a guard is after a record was written, and after the disk failed.
+use Rattle.std.specs.Prelude.{◌||◌}
 use Rattle.std.proofs.Common.{◌≡◌, ⊎_elim, inl, inr, ℕ, Bool, true, false, List, [], ◌∷◌, None, Some, Err, length, refl, sym, ◌∙◌, true≢false}
 use Rattle.std.specs.declared.option.Option.{Option}
 use Rattle.xfs_base.specs.Causes.{IfTold}
@@ -12,6 +13,7 @@ use Rattle.xfs_mech.specs.declared.motion.Motion.{Motion}
 use Rattle.xfs_mech.specs.declared.motion.Motion.TheVariants.{Moved}
 use Rattle.xfs_journal.specs.declared.record.Rec.{Rec}
 use Rattle.xfs_journal.specs.declared.record.Rec.TheVariants.{Boot}
+use Rattle.xfs_journal.specs.Journal.{Numbered}
 use Rattle.xfs_guard.specs.declared.open.Open.{Open}
 use Rattle.xfs_guard.specs.declared.open.Open.TheVariants.{No, Written, Acted}
 use Rattle.xfs_guard.specs.View.{View}
@@ -24,17 +26,18 @@ use Rattle.xfs_guard.specs.declared.deny.Deny.{Deny}
 use Rattle.xfs_guard.specs.declared.deny.Deny.TheVariants.{Disk, Memory}
 use Rattle.xfs_guard.specs.LedgerView.{LedgerView, Wrote, IsWriteFault}
 use Rattle.xfs_guard.specs.Continues.{Continues}
+use Rattle.xfs_guard.proofs.CrashedLaws.{begins-same, left-doubt}
 use Rattle.xfs_guard.proofs.ContinueLaws.{Continues-grown, doubted-possible}
 use Rattle.xfs_guard.proofs.SoundLaws.{acted_view, IsSound-act}
 use Rattle.xfs_guard.proofs.RecordLaws.{longer}
 
-told-at : (b : Bool) (v : View) (m : Option (List Motion)) → b ≡ true → IfTold (where_told b m) (Ties v) → IfTold m (Ties v)
+pub told-at : (b : Bool) (v : View) (m : Option (List Motion)) → b ≡ true → IfTold (where_told b m) (Ties v) → IfTold m (Ties v)
 told-at true v m e t = t
 told-at false v m e t = absurd (true≢false (sym e))
 
--- the journal's list agrees with the mechanism's
-pub recorded-sound : (v : View) → IsSound v → v.disk_told ≡ true → IsRecorded v.key v.units v.records v.motions
-recorded-sound v s is = let told = told-at v.disk_told v v.motions is s.told in record { numbered = s.numbered is; agrees = agrees v.motions told; within = within v.motions told }
+-- the journal's list agrees with one that is tied to it
+pub recorded-ties : (v : View) (m : Option (List Motion)) → Numbered v.records → IfTold m (Ties v) → IsRecorded v.key v.units v.records m
+recorded-ties v m numbered told = record { numbered = numbered; agrees = agrees m told; within = within m told }
   where
     agrees : (m : Option (List Motion)) → IfTold m (Ties v) → IfTold m (Agrees v.records)
     agrees None t = tt
@@ -43,6 +46,10 @@ recorded-sound v s is = let told = told-at v.disk_told v v.motions is s.told in 
     within : (m : Option (List Motion)) → IfTold m (Ties v) → IfTold m (Within v.key v.units v.records)
     within None t = tt
     within (Some L) t = t.within
+
+-- and so with the mechanism's
+pub recorded-sound : (v : View) → IsSound v → v.disk_told ≡ true → IsRecorded v.key v.units v.records v.motions
+recorded-sound v s is = recorded-ties v v.motions (s.numbered is) (told-at v.disk_told v v.motions is s.told)
 
 -- whether the journal is shut, and which record is in doubt, changes nothing of what is sound
 pub IsSound-stored : (v : View) (s : Bool) (d : Option Rec) → IsSound v → IsSound (record v { shut = s; in_doubt = d })
@@ -148,19 +155,19 @@ IsKept-refused T e key seed o motions places faults old new r w was told spare r
 -- what follows then
 pub Continues-refused : (T : Type 0) {D : Type 0} (e : Deny) (key seed : List ℕ) (o : Open) (motions : Option (List Motion)) (places : Places) (faults : ℕ) (old new : LedgerView D) (r : Rec)
     (w : Option (List (List ℕ × ℕ))) (was told : Bool)
-    → Wrote {T = T} (Err e) old new r w → IsWriteFault e → ((p : Places) → r ≡ Boot p → places ≡ p) → Continues (over key seed o motions places faults old was) (over key seed o motions places faults new told)
-Continues-refused T e key seed o motions places faults old new r w was told wrote why boots = ⊎_elim memory disk why
+    → Wrote {T = T} (Err e) old new r w → IsWriteFault e → told ≡ was → old.in_doubt ≡ None → old.shut ≡ false → old.boot_missing ≡ false → ((p : Places) → r ≡ Boot p → places ≡ p) → Continues (over key seed o motions places faults old was) (over key seed o motions places faults new told)
+Continues-refused T e key seed o motions places faults old new r w was told wrote why same none open_still booted boots = ⊎_elim memory disk why
   where
     memory : e ≡ Memory → Continues (over key seed o motions places faults old was) (over key seed o motions places faults new told)
-    memory is = let s = rw is at wrote in Continues-grown (over key seed o motions places faults old was) (over key seed o motions places faults new told) r boots refl refl refl refl s.units
-        (λ J possible. inl (rw (s.records, s.in_doubt) at possible))
+    memory is = let s = rw is at wrote in Continues-grown (over key seed o motions places faults old was) (over key seed o motions places faults new told) r boots refl refl refl refl s.units same
+        (λ J possible. inl (rw (s.records, s.in_doubt) at possible)) (rw s.records (begins-same old.records)) (λ J was. rw (s.records, s.in_doubt, s.shut, s.boot_missing) was)
 
     disk : e ≡ Disk → Continues (over key seed o motions places faults old was) (over key seed o motions places faults new told)
-    disk is = let s = rw is at wrote in Continues-grown (over key seed o motions places faults old was) (over key seed o motions places faults new told) r boots refl refl refl refl s.units
+    disk is = let s = rw is at wrote in Continues-grown (over key seed o motions places faults old was) (over key seed o motions places faults new told) r boots refl refl refl refl s.units same
         (λ J possible. elim (doubted-possible old.records J r (rw (s.records, s.in_doubt) at possible)) [
-          | inl same ↦ inl (inl same)
+          | inl kept ↦ inl (inl kept)
           | inr more ↦ inr (old.records, inl refl, more)
-        ])
+        ]) (rw s.records (begins-same old.records)) (λ J was. rw (s.records, s.in_doubt, s.shut) (left-doubt old.records r old.in_doubt (old.shut || old.boot_missing) J none (rw (open_still, booted) refl) was))
 
 -- an order is open only in a journal that is
 pub still-open : (shut : Bool) (o : Open) (k : Kind) (c : Counts) → (shut ≡ true → o ≡ No) → o ≡ Written k c → shut ≡ false

@@ -28,6 +28,8 @@ use Rattle.xfs_guard.specs.Orders.{kind_unacted}
 use Rattle.xfs_guard.specs.Kept.{HasRoom, HasLimits}
 use Rattle.xfs_guard.specs.Sound.{Stands, HasActed, Ties, where_told, IsSound}
 use Rattle.xfs_guard.specs.Continues.{Leads, Continues}
+use Rattle.xfs_guard.proofs.CrashedLaws.{begins-same}
+use Rattle.xfs_mech.proofs.MoveLaws.{Moves-same, Moves-entry}
 use Rattle.xfs_guard.proofs.ContinueLaws.{Led-same, Led-motion}
 use Rattle.xfs_guard.proofs.SoundLaws.{grows-told}
 use Rattle.xfs_guard.proofs.WithinLaws.{Within-quiet, shown-motion}
@@ -179,12 +181,12 @@ HasRoom-report o e m d failed was now P Q before spare left room h more r = go o
 -- what follows after a report, also behind a record in doubt
 pub Continues-report : (v : View) (e : Motion) (m d : Counts) (failed : Bool) (now : Option (List Motion)) (Q : Places) (f spare left : ℕ) → IsReport e
     → Reports e m d failed v.motions now v.places Q spare left → Continues v (reported_view v now Q f)
-Continues-report v e m d true now Q f spare left is r = let none = r.nothing refl in rw (none.0, none.1) (record { leads = same v.motions; key = refl; seed = refl; units = refl })
+Continues-report v e m d true now Q f spare left is r = let none = r.nothing refl in rw (none.0, none.1) (record { leads = same v.motions; key = refl; seed = refl; units = refl; moves = Moves-same v.motions v.places; disk_told = refl; grew = begins-same v.records; left = λ J was. was })
   where
     same : (told : Option (List Motion)) → Leads v (reported_view v v.motions v.places f) told told
     same None = tt
     same (Some L) = λ J possible. record { from = J; possible = possible; led = Led-same J L v.places }
-Continues-report v e m d false now Q f spare left is r = record { leads = told v.motions (r.grown refl); key = refl; seed = refl; units = refl }
+Continues-report v e m d false now Q f spare left is r = record { leads = told v.motions (r.grown refl); key = refl; seed = refl; units = refl; moves = Moves-entry e v.motions now v.places Q (r.grown refl) (r.places refl); disk_told = refl; grew = begins-same v.records; left = λ J was. was }
   where
     told : (was : Option (List Motion)) → Grows was e now → Leads v (reported_view v now Q f) was now
     told None g = rw g tt
@@ -208,11 +210,9 @@ loaded-leaves o unit count P Q places Present is u = omega (arith, places.transp
 loaded-leaves o unit count P Q places Reject is u = omega (arith, places.transport u)
 loaded-leaves o unit count P Q places Retract is u = omega (arith, places.outlet u)
 
--- a list of records agrees with what the mechanism did, also after a report
-pub IsRecorded-report : (key : List ℕ) (u : List NoteKind) (J : List Rec) (e : Motion) (m d : Counts) (failed : Bool) (was now : Option (List Motion)) (P Q : Places) (spare left : ℕ) → IsReport e
-    → Reports e m d failed was now P Q spare left → IsRecorded key u J was → IsRecorded key u J now
-IsRecorded-report key u J e m d true was now P Q spare left is r h = let none = r.nothing refl in rw none.0 h
-IsRecorded-report key u J e m d false was now P Q spare left is r h = record { numbered = h.numbered; agrees = agrees was h.agrees (r.grown refl); within = within was h.within (r.grown refl) }
+-- a list of records agrees with what the mechanism did, also with an entry more that no order asked for
+pub IsRecorded-entry : (key : List ℕ) (u : List NoteKind) (J : List Rec) (e : Motion) (was now : Option (List Motion)) → IsReport e → Grows was e now → IsRecorded key u J was → IsRecorded key u J now
+IsRecorded-entry key u J e was now is g h = record { numbered = h.numbered; agrees = agrees was h.agrees g; within = within was h.within g }
   where
     agrees : (was : Option (List Motion)) → IfTold was (Agrees J) → Grows was e now → IfTold now (Agrees J)
     agrees None a g = rw g tt
@@ -221,6 +221,12 @@ IsRecorded-report key u J e m d false was now P Q spare left is r h = record { n
     within : (was : Option (List Motion)) → IfTold was (Within key u J) → Grows was e now → IfTold now (Within key u J)
     within None a g = rw g tt
     within (Some L) a g = rw g (Within-quiet key u J L e (λ p cur. shown_by-report u J p cur e is) (within-report key u J (L ++ e ∷ []) e is) a)
+
+-- so it does after a report
+pub IsRecorded-report : (key : List ℕ) (u : List NoteKind) (J : List Rec) (e : Motion) (m d : Counts) (failed : Bool) (was now : Option (List Motion)) (P Q : Places) (spare left : ℕ) → IsReport e
+    → Reports e m d failed was now P Q spare left → IsRecorded key u J was → IsRecorded key u J now
+IsRecorded-report key u J e m d true was now P Q spare left is r h = let none = r.nothing refl in rw none.0 h
+IsRecorded-report key u J e m d false was now P Q spare left is r h = IsRecorded-entry key u J e was now is (r.grown refl) h
 
 -- what the limits leave an open order stays
 pub HasLimits-report : (o : Open) (v : View) (now : Option (List Motion)) (Q : Places) (f : ℕ) → HasLimits o v → HasLimits o (reported_view v now Q f)

@@ -1,6 +1,6 @@
 -- What a guard is after a restore, and what follows then.
 use Rattle.std.proofs.Common.{◌≡◌, ◌⊎◌, inl, inr, ⊎_elim, ℕ, Bool, true, false, true≢false, List, [], ◌∷◌, ◌++◌, None, Some, Ok, Err, refl}
-use Rattle.std.specs.Prelude.{OnOk, IfErr}
+use Rattle.std.specs.Prelude.{OnOk, IfErr, ◌||◌, is_some}
 use Rattle.std.specs.declared.option.Option.{Option}
 use Rattle.std.specs.declared.result.Result.{Result}
 use Rattle.xfs_base.specs.declared.money.NoteKind.{NoteKind}
@@ -20,6 +20,7 @@ use Rattle.xfs_guard.specs.LedgerView.{LedgerView}
 use Rattle.xfs_guard.specs.Continues.{Continues}
 use Rattle.xfs_guard.proofs.BootLaws.{IsKept-boot, IsRecorded-boot}
 use Rattle.xfs_guard.proofs.ContinueLaws.{Continues-grown, only-possible, doubted-possible}
+use Rattle.xfs_guard.proofs.CrashedLaws.{begins-same, begins-push, begins-possible, left-close, left-mount, left-boot, left-boot_doubt}
 use Rattle.xfs_guard.proofs.KeptLaws.{over}
 
 -- as before, but for the disk
@@ -133,14 +134,24 @@ IsKept-restored key seed o motions places faults old new p was told spare room l
 
 -- what follows then: the Boot, which has the places, comes behind a possible list, or nothing does
 pub Continues-restored : {D : Type 0} (key seed : List ℕ) (o : Open) (motions : Option (List Motion)) (places : Places) (faults : ℕ) (old new : LedgerView D) (was told : Bool)
-    → MayRestore old new places → Continues (over key seed o motions places faults old was) (over key seed o motions places faults new told)
-Continues-restored key seed o motions places faults old new was told (inl is) =
-    rw is (Continues-grown _ _ (Boot places) (λ q e. cc) refl refl refl refl refl (λ K possible. inl possible))
-Continues-restored key seed o motions places faults old new was told (inr (inl is)) =
-    rw is (Continues-grown _ _ (Boot places) (λ q e. cc) refl refl refl refl refl (λ K possible. inl possible))
-Continues-restored key seed o motions places faults old new was told (inr (inr (J, found, inl is))) =
-    rw is (Continues-grown _ _ (Boot places) (λ q e. cc) refl refl refl refl refl (λ K possible. inr (J, found, only-possible (J ++ Boot places ∷ []) K None refl possible)))
-Continues-restored key seed o motions places faults old new was told (inr (inr (J, found, inr (inl is)))) =
-    rw is (Continues-grown _ _ (Boot places) (λ q e. cc) refl refl refl refl refl (λ K possible. inl (rw (only-possible J K None refl possible) found)))
-Continues-restored key seed o motions places faults old new was told (inr (inr (J, found, inr (inr is)))) =
-    rw is (Continues-grown _ _ (Boot places) (λ q e. cc) refl refl refl refl refl (λ K possible. ⊎_elim (λ same. inl (rw same found)) (λ more. inr (J, found, more)) (doubted-possible J K (Boot places) possible)))
+    → told ≡ was → MayRestore old new places → Continues (over key seed o motions places faults old was) (over key seed o motions places faults new told)
+Continues-restored key seed o motions places faults old new was told same (inl is) =
+    rw is (Continues-grown _ _ (Boot places) (λ q e. cc) refl refl refl refl refl same (λ K possible. inl possible) (begins-same old.records) (λ X left. left))
+Continues-restored key seed o motions places faults old new was told same (inr (inl is)) =
+    rw is (Continues-grown _ _ (Boot places) (λ q e. cc) refl refl refl refl refl same (λ K possible. inl possible) (begins-same old.records) (λ X left. left-close old.records old.in_doubt (old.shut || old.boot_missing) X left))
+Continues-restored key seed o motions places faults old new was told same (inr (inr (J, found, inl is))) =
+    rw is (Continues-grown _ _ (Boot places) (λ q e. cc) refl refl refl refl refl same (λ K possible. inr (J, found, only-possible (J ++ Boot places ∷ []) K None refl possible))
+    (begins-push old.records J (Boot places) (begins-possible old.records old.in_doubt J found))
+    (λ X left. left-boot J places false X (left-mount old.records old.in_doubt (old.shut || old.boot_missing) J X found left)))
+Continues-restored key seed o motions places faults old new was told same (inr (inr (J, found, inr (inl is)))) =
+    rw is (Continues-grown _ _ (Boot places) (λ q e. cc) refl refl refl refl refl same (λ K possible. inl (rw (only-possible J K None refl possible) found))
+    (begins-possible old.records old.in_doubt J found) (λ X left. left-mount old.records old.in_doubt (old.shut || old.boot_missing) J X found left))
+Continues-restored key seed o motions places faults old new was told same (inr (inr (J, found, inr (inr is)))) =
+    rw is (Continues-grown _ _ (Boot places) (λ q e. cc) refl refl refl refl refl same (λ K possible. ⊎_elim (λ same. inl (rw same found)) (λ more. inr (J, found, more)) (doubted-possible J K (Boot places) possible))
+    (begins-possible old.records old.in_doubt J found) (λ X left. left-boot_doubt J places X (left-mount old.records old.in_doubt (old.shut || old.boot_missing) J X found left)))
+
+-- a disk that is refused as no journal tells nothing
+pub untold-refused : {T Q : Type 0} (result : Result T BootFault) (held : Option (List ℕ)) → IfErr result (λ f. (at : ℕ) → f ≡ NotJournal at → (held ≡ None) × Q)
+    → IfErr result (λ f. (at : ℕ) → f ≡ NotJournal at → is_some held ≡ false)
+untold-refused (Ok x) held h = tt
+untold-refused (Err f) held h = λ at is. rw (h at is).0 refl

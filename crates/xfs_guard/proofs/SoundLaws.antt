@@ -105,7 +105,7 @@ counted-act v Present c m d failed L written released t p cur lives =
     some_same : {a b : ℕ} → Some a ≡ Some b → a ≡ b
     some_same e = cc
 
-told-act : (v : View) (k : Kind) (c m d : Counts) (failed : Bool) (was now seen : Option (List Motion)) (Q : Places) (f : ℕ) → Budget v → v.open_order ≡ Written k c
+pub told-act : (v : View) (k : Kind) (c m d : Counts) (failed : Bool) (was now seen : Option (List Motion)) (Q : Places) (f : ℕ) → Budget v → v.open_order ≡ Written k c
     → record_at v.records (length v.records) ≡ Some (Order k c) → LiesIn c (source_of k v.places) → IfPresent k (IsReleased v.records)
     → MayCarry k c m d failed → IfTold was (Ties v) → Grows was (Moved (length v.records) k m d) now
     → IfTold now (Ties (acted_view v k m d failed seen Q f))

@@ -5,7 +5,7 @@ use Rattle.std.proofs.lemmas.Bool.{ltb-true, ltb-false}
 use Rattle.std.specs.declared.option.Option.{Option}
 use Rattle.xfs_base.specs.Causes.{IfTold}
 use Rattle.xfs_base.specs.declared.counts.Places.{Places}
-use Rattle.xfs_disk.specs.Disk.{AddsNone, LeavesOnly}
+use Rattle.xfs_disk.specs.Disk.{LeavesOnly}
 use Rattle.xfs_journal.specs.Image.{Stands}
 use Rattle.xfs_journal.specs.JournalView.{IsPossible, HasPossible, StandsForEither}
 use Rattle.xfs_journal.specs.Paging.{IsOldOrShort, IsQuiet}
@@ -111,16 +111,16 @@ stays-append held images old mid new end places kept as_read mounted ended stand
 -- a refused mount leaves a disk that stands for no list as it was
 pub unlisted-mount : {D : Type 0} (held : D → Option (List ℕ)) (images : D → List ℕ → Type 0) (moment : D → ℕ) (since : D → ℕ → List ℕ → Type 0) (faults : D → ℕ) (old new : D)
     → IfTold (held old) (λ all. 9 < length all → IsQuiet held images moment since faults old new)
-    → IfTold (held old) (λ all. ((J : List Rec) → ¬ Stands all J) → (held new ≡ held old) × AddsNone (images old) (images new))
+    → IfTold (held old) (λ all. ((J : List Rec) → ¬ Stands all J) → IsQuiet held images moment since faults old new)
 unlisted-mount held images moment since faults old new long = go (held old) long
   where
     go : (h : Option (List ℕ)) → IfTold h (λ all. 9 < length all → IsQuiet held images moment since faults old new)
-        → IfTold h (λ all. ((J : List Rec) → ¬ Stands all J) → (held new ≡ held old) × AddsNone (images old) (images new))
+        → IfTold h (λ all. ((J : List Rec) → ¬ Stands all J) → IsQuiet held images moment since faults old new)
     go None l = tt
     go (Some all) l = λ none. by_length none (nat_lt 9 (length all)) refl
       where
-        by_length : ((J : List Rec) → ¬ Stands all J) → (b : Bool) → nat_lt 9 (length all) ≡ b → (held new ≡ held old) × AddsNone (images old) (images new)
-        by_length none true is = let q = l (ltb-true 9 (length all) is) in (q.same, q.adds_none)
+        by_length : ((J : List Rec) → ¬ Stands all J) → (b : Bool) → nat_lt 9 (length all) ≡ b → IsQuiet held images moment since faults old new
+        by_length none true is = l (ltb-true 9 (length all) is)
         by_length none false is = absurd (none [] (short_stands all (ltb-false 9 (length all) is)))
 
 -- a disk that was mounted stands for a list

@@ -7,6 +7,9 @@ use Rattle.xfs_mech.specs.declared.motion.Motion.{Motion}
 use Rattle.xfs_journal.specs.JournalView.{IsPossible}
 use Rattle.xfs_journal.specs.declared.record.Rec.{Rec}
 use Rattle.xfs_mech.specs.Motions.{NumberIs}
+use Rattle.xfs_mech.specs.Moves.{Moves}
+use Rattle.xfs_guard.specs.Crashed.{IsLeftAt}
+use Rattle.xfs_guard.specs.Lives.{BeginsWith}
 use Rattle.xfs_guard.specs.View.{View}
 use Rattle.xfs_guard.specs.Follows.{Follows}
 
@@ -37,3 +40,8 @@ pub record Continues (old new : View) : Type 0 where
   pub key : new.key ≡ old.key
   pub seed : new.seed ≡ old.seed
   pub units : new.units ≡ old.units
+  pub moves : Moves old.motions new.motions old.places new.places
+  pub disk_told : new.disk_told ≡ old.disk_told
+  pub grew : BeginsWith new.records old.records
+  -- a list that a crash left on the way there was left on the way here
+  pub left : (J : List Rec) → IsLeftAt old J → IsLeftAt new J

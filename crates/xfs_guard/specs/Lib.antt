@@ -3,11 +3,14 @@ pub mod BootFaults
 pub mod Budget
 pub mod Claims
 pub mod Continues
+pub mod Crashed
 pub mod Fits
 pub mod Follows
 pub mod Kept
 pub mod Ledger
 pub mod LedgerView
+pub mod Left
+pub mod Lives
 pub mod Nonce
 pub mod Orders
 pub mod Passed

@@ -1,4 +1,5 @@
 ghost use Rattle.std.specs.Prelude.{MatchResult, ◌≡◌, ◌≢◌, ◌↔◌, ℕ, true, List, ◌+◌, ◌<◌, ◌≤◌, [], ◌∷◌, ◌++◌, length, false, true, is_some, OnOk, OnErr, IfOk, IfErr, IsTrue, Some, None, Err, unwrap_or};
+ghost use Rattle.std.specs.List.{Contains};
 ghost use Rattle.std.specs.Option.{option_or};
 ghost use Rattle.xfs_base.specs.Causes.{IfTold, Rose};
 ghost use Rattle.xfs_journal.specs.declared.record.Rec.TheVariants.{Issue, Clear, Boot, Bind, Order, Done};
@@ -7,15 +8,18 @@ ghost use Rattle.xfs_guard.specs.declared.open.Open.TheVariants.{No, Written};
 ghost use Rattle.xfs_guard.specs.Nonce.{live_in, live_nonce};
 ghost use Rattle.xfs_guard.specs.Word.{issue_word};
 ghost use Rattle.xfs_guard.specs.Fits.{fit_of, unfit};
+ghost use Rattle.xfs_guard.specs.Left.{EachStands, Leaves, MayMove, StandsRecorded, StandsThrough};
+ghost use Rattle.xfs_guard.specs.Lives.{Run, IsLife, answered_in};
 ghost use Rattle.xfs_guard.specs.Stored.{IsStored, MayLeave};
 ghost use Rattle.xfs_guard.specs.Recorded.{IsRecorded};
 ghost use Rattle.xfs_guard.specs.declared.fail.BootFault.TheVariants.{NotJournal, Disk as BootDisk, Full as BootFull};
 ghost use Rattle.xfs_journal.specs.Image.{Stands};
 ghost use Rattle.xfs_journal.specs.JournalView.{IsPossible, StandsForEither, passes};
-ghost use Rattle.xfs_disk.specs.Disk.{AddsNone};
+ghost use Rattle.xfs_disk.specs.Disk.{LeavesOnly};
 ghost use Rattle.xfs_journal.specs.Paging.{CeasesAt, IsQuiet};
 ghost use Rattle.xfs_journal.specs.declared.record.Rec.{Rec};
 ghost use Rattle.xfs_guard.specs.Continues.{Continues};
+ghost use Rattle.xfs_guard.specs.Crashed.{LeavesBehind};
 ghost use Rattle.xfs_guard.specs.Orders.{IsWritten, IsActed, Acts, Settles, Unsettles, kind_unacted};
 ghost use Rattle.xfs_guard.specs.Refusals.{Answers, IsAsk, order_refusal, nothing_refusal, notes_of, asked_kind, asked_counts};
 ghost use Rattle.xfs_guard.specs.declared.ask.Ask.TheVariants.{Stack as AskStack, Present as AskPresent};
@@ -33,6 +37,10 @@ use xfs_mech::{Mechanism, Order as MechOrder, Outcome};
 
 /// The guard: it alone hands orders to the mechanism. Each call appends at most one record or makes
 /// at most one call of the mechanism that adds an entry, never both.
+///
+/// Where the disk tells its bytes, a crash at any moment of a call leaves a list of records that agrees
+/// with what the mechanism did (`any_moment`; `inside` for a call of the mechanism), and once a call
+/// that writes answered `Ok` it leaves the list with the record (`kept`).
 #[derive(Drop)]
 pub struct Guard<M: Mechanism, D: Disk> {
     pub(crate) alloc: Global,
@@ -128,8 +136,15 @@ impl<M: Mechanism, D: Disk> Guard<M, D> {
         ensures disk { IfErr result (λ f. f.why ≡ BootDisk → Rose (D.faults disk) (D.faults f.disk)) }
         ensures left { IfErr result (λ f. (J : List Rec) → MayLeave (D.held f.disk) (D.images f.disk) J → IsRecorded key units J (M.motions mech)) }
         ensures either { IfErr result (λ f. IfTold (D.held disk) (λ _. (J : List Rec) → ((c : List ℕ) → D.images disk c → Stands c J) → (c : List ℕ) → D.images f.disk c → StandsForEither J (Boot (M.places mech)) c)) }
-        ensures unlisted { IfErr result (λ f. IfTold (D.held disk) (λ all. ((J : List Rec) → ¬ Stands all J) → (D.held f.disk ≡ D.held disk) × AddsNone (D.images disk) (D.images f.disk))) }
+        ensures unlisted { IfErr result (λ f. IfTold (D.held disk) (λ all. ((J : List Rec) → ¬ Stands all J) → IsQuiet D.held D.images D.moment D.images_since D.faults disk f.disk)) }
         ensures faults { MatchResult result (λ g. D.faults disk ≤ D.faults g.disk) (λ f. D.faults disk ≤ D.faults f.disk) }
+        ensures told { IfErr result (λ f. is_some (D.held f.disk) ≡ is_some (D.held disk)) }
+
+        // Where the disk tells, and each image that it is handed in with stands for a list, so does each that a crash at
+        // any moment of the call leaves, and the list is recorded.
+        ensures any_moment { IfTold (D.held disk) (λ _. EachStands (D.images disk) → MatchResult result
+            (λ g. LeavesOnly D.moment D.images_since disk g.disk (StandsRecorded key units (M.motions mech)))
+            (λ f. LeavesOnly D.moment D.images_since disk f.disk (StandsRecorded key units (M.motions mech)))) }
     {
         let places = mech.survey();
         match Ledger::boot(alloc, disk, limits, units, places) {
@@ -172,7 +187,8 @@ impl<M: Mechanism, D: Disk> Guard<M, D> {
 
     /// Whether the journal takes more records.
     pub fn fit(&self) -> Fit
-        ensures { result ≡ fit_of self.now.state }
+        ensures fit { result ≡ fit_of self.now.state }
+        ensures possible { IsStored (D.held self.now.disk) (D.images self.now.disk) self.now.state.records self.now.state.in_doubt }
     {
         if self.ledger.shut() {
             return Fit::Shut;
@@ -184,9 +200,10 @@ impl<M: Mechanism, D: Disk> Guard<M, D> {
         Fit::Ready
     }
 
-    // What each call that writes is refused for first.
-    pub(crate) fn unfit(&self) -> Option<Deny>
-        ensures { result ≡ unfit self.now.state }
+    /// What each call that writes is refused for first: `Shut` or `Full`, by the fit.
+    pub fn unfit(&self) -> Option<Deny>
+        ensures first { result ≡ unfit self.now.state }
+        ensures possible { IsStored (D.held self.now.disk) (D.images self.now.disk) self.now.state.records self.now.state.in_doubt }
     {
         match self.fit() {
             Fit::Ready => None,
@@ -259,6 +276,10 @@ impl<M: Mechanism, D: Disk> Guard<M, D> {
         ensures cause { result ≡ Err Deny.Disk → Rose (D.faults self.old.disk) (D.faults self.new.disk) }
         ensures same { IfErr result (λ e. e ≢ Deny.Disk → self.new ≡ self.old) }
         ensures continues { Continues self.old.state self.new.state }
+        ensures crashes { LeavesBehind D.held D.images D.moment D.images_since self.old self.new }
+        ensures any_moment { IfTold (D.held self.old.disk) (λ _. LeavesOnly D.moment D.images_since self.old.disk self.new.disk (StandsRecorded self.old.state.key self.old.state.units self.old.state.motions)) }
+        ensures kept { OnOk result (Leaves (D.held self.new.disk) (D.images self.new.disk) self.new.state.records) }
+        ensures never_twice { IfOk result (λ n. self.old.state.disk_told ≡ true → (first : List Rec) (runs : List Run) → IsLife first runs self.old.state.records → ¬ Contains (answered_in runs) n.number) }
     {
         if let Some(deny) = self.unfit() {
             return Err(deny);
@@ -280,6 +301,9 @@ impl<M: Mechanism, D: Disk> Guard<M, D> {
         ensures cause { result ≡ Err Deny.Disk → Rose (D.faults self.old.disk) (D.faults self.new.disk) }
         ensures same { result ≢ Ok true → result ≢ Err Deny.Disk → self.new ≡ self.old }
         ensures continues { Continues self.old.state self.new.state }
+        ensures crashes { LeavesBehind D.held D.images D.moment D.images_since self.old self.new }
+        ensures any_moment { IfTold (D.held self.old.disk) (λ _. LeavesOnly D.moment D.images_since self.old.disk self.new.disk (StandsRecorded self.old.state.key self.old.state.units self.old.state.motions)) }
+        ensures kept { OnOk result (Leaves (D.held self.new.disk) (D.images self.new.disk) self.new.state.records) }
     {
         if let Some(deny) = self.unfit() {
             return Err(deny);
@@ -306,6 +330,9 @@ impl<M: Mechanism, D: Disk> Guard<M, D> {
         ensures cause { result ≡ Err Deny.Disk → Rose (D.faults self.old.disk) (D.faults self.new.disk) }
         ensures same { IfErr result (λ e. e ≢ Deny.Disk → self.new ≡ self.old) }
         ensures continues { Continues self.old.state self.new.state }
+        ensures crashes { LeavesBehind D.held D.images D.moment D.images_since self.old self.new }
+        ensures any_moment { IfTold (D.held self.old.disk) (λ _. LeavesOnly D.moment D.images_since self.old.disk self.new.disk (StandsRecorded self.old.state.key self.old.state.units self.old.state.motions)) }
+        ensures kept { OnOk result (Leaves (D.held self.new.disk) (D.images self.new.disk) self.new.state.records) }
     {
         if let Some(deny) = self.unfit() {
             return Err(deny);
@@ -392,10 +419,13 @@ impl<M: Mechanism, D: Disk> Guard<M, D> {
         ensures cause { result.failed ≡ true → Rose self.old.state.faults self.new.state.faults }
         ensures same { self.new.disk ≡ self.old.disk }
         ensures continues { Continues self.old.state self.new.state }
+        ensures crashes { LeavesBehind D.held D.images D.moment D.images_since self.old self.new }
+        ensures inside { IfTold (D.held self.old.disk) (λ _. LeavesOnly D.moment D.images_since self.old.disk self.new.disk (StandsThrough self.old.state (MayMove self.old.state))) }
     {
         let Open::Written { kind, counts } = self.open_order else {
             unreachable!()
         };
+        let _possible = self.ledger.shut();
         let number = self.ledger.records().len() as u64;
         let outcome = self.mech.execute(MechOrder::new(number, kind, counts));
         self.open_order = Open::Acted {
@@ -417,6 +447,9 @@ impl<M: Mechanism, D: Disk> Guard<M, D> {
         ensures later { D.faults self.old.disk ≤ D.faults self.new.disk }
         ensures cause { OnErr result (Rose (D.faults self.old.disk) (D.faults self.new.disk)) }
         ensures continues { Continues self.old.state self.new.state }
+        ensures crashes { LeavesBehind D.held D.images D.moment D.images_since self.old self.new }
+        ensures any_moment { IfTold (D.held self.old.disk) (λ _. LeavesOnly D.moment D.images_since self.old.disk self.new.disk (StandsRecorded self.old.state.key self.old.state.units self.old.state.motions)) }
+        ensures kept { OnOk result (Leaves (D.held self.new.disk) (D.images self.new.disk) self.new.state.records) }
     {
         let Open::Acted {
             kind,

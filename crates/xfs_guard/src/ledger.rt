@@ -1,6 +1,6 @@
 //! The records of the journal, with what is read of them kept beside: no call but `boot` and `restore` goes through them.
 
-ghost use Rattle.std.specs.Prelude.{MatchResult, ◌≡◌, ◌≢◌, ◌⊎◌, ℕ, List, ◌+◌, ◌-◌, ◌<◌, ◌≤◌, ◌^◌, [], ◌∷◌, ◌++◌, true, false, is_some, length, slice_get, slice_index, take, OnErr, IfErr, IfOk, OnOk, Some, None, Err};
+ghost use Rattle.std.specs.Prelude.{MatchResult, ◌≡◌, ◌≢◌, ◌⊎◌, ℕ, List, ◌+◌, ◌-◌, ◌<◌, ◌≤◌, ◌^◌, [], ◌∷◌, ◌++◌, true, false, is_some, length, slice_get, slice_index, take, OnErr, IfErr, IfOk, OnOk, Some, None, Err, ◌||◌};
 ghost use Rattle.std.specs.Option.{option_copied, option_map};
 ghost use Rattle.xfs_base.specs.Causes.{IfTold, Rose};
 ghost use Rattle.xfs_base.specs.Money.{value};
@@ -11,7 +11,7 @@ ghost use Rattle.xfs_journal.specs.Paging.{CeasesAt, IsQuiet};
 ghost use Rattle.xfs_journal.specs.declared.record.Rec.{Rec};
 ghost use Rattle.xfs_guard.specs.declared.fail.BootFault.TheVariants.{NotJournal, Disk as BootDisk, Full as BootFull, Memory as BootMemory};
 ghost use Rattle.xfs_journal.specs.JournalView.{passes, refusal, IsPossible, StandsForEither};
-ghost use Rattle.xfs_disk.specs.Disk.{AddsNone};
+ghost use Rattle.xfs_disk.specs.Disk.{LeavesOnly};
 ghost use Rattle.xfs_journal.specs.declared.record.Rec.TheVariants.{Issue, Clear, Boot, Bind, Order, Done, Load};
 ghost use Rattle.xfs_journal.specs.Journal.{record_at, live_of, token_of, last_mark, next_issue, nonce_text};
 ghost use Rattle.xfs_guard.specs.Nonce.{live_in, nonce_of};
@@ -19,6 +19,8 @@ ghost use Rattle.xfs_guard.specs.Refusals.{bound_token, bound_place};
 ghost use Rattle.xfs_guard.specs.Presented.{presented_in};
 ghost use Rattle.xfs_guard.specs.LedgerView.{IsOpen, IsWriteFault, Wrote, IsSame, IsTold, write_refusal};
 ghost use Rattle.xfs_guard.specs.Ledger.{IsLive, IsDoubted};
+ghost use Rattle.xfs_guard.specs.Left.{IsOldOrBooted, Leaves};
+ghost use Rattle.xfs_guard.specs.Crashed.{IsLeft, StandsReread};
 ghost use Rattle.xfs_guard.specs.Stored.{IsStored, MayLeave, WasLeft};
 ghost use Rattle.xfs_guard.specs.Pays.{Fits, Pays, IsSumOf};
 
@@ -86,14 +88,17 @@ impl<D: Disk> Ledger<D> {
         ensures fits { IfOk result (λ l. passes limits l.records ≡ false) }
         ensures opened { IfOk result (λ l. (l.shut ≡ false) × (l.in_doubt ≡ None) × (l.bound ≡ None) × (l.boot_missing ≡ false)) }
         ensures same { IfOk result (λ l. (l.limits ≡ limits) × (l.units ≡ units)) }
-        ensures told { IfOk result (λ l. is_some (D.held l.disk) ≡ is_some (D.held disk)) }
+        ensures told { MatchResult result (λ l. is_some (D.held l.disk) ≡ is_some (D.held disk)) (λ f. is_some (D.held f.disk) ≡ is_some (D.held disk)) }
         ensures not_journal { IfErr result (λ f. (at : ℕ) → f.why ≡ NotJournal at → IfTold (D.held disk) (λ all. CeasesAt all at × ((J : List Rec) → ¬ Stands all J))) }
         ensures refused { IfErr result (λ f. (at : ℕ) → f.why ≡ NotJournal at → IsQuiet D.held D.images D.moment D.images_since D.faults disk f.disk) }
         ensures full { IfErr result (λ f. f.why ≡ BootFull → (J : List Rec) × IfTold (D.held disk) (λ all. Stands all J) × (passes limits (J ++ Boot places ∷ []) ≡ true)) }
         ensures disk { IfErr result (λ f. f.why ≡ BootDisk → Rose (D.faults disk) (D.faults f.disk)) }
         ensures left { IfErr result (λ f. (J : List Rec) → MayLeave (D.held f.disk) (D.images f.disk) J → WasLeft (D.held disk) (D.images disk) places J) }
         ensures either { IfErr result (λ f. IfTold (D.held disk) (λ _. (J : List Rec) → ((c : List ℕ) → D.images disk c → Stands c J) → (c : List ℕ) → D.images f.disk c → StandsForEither J (Boot places) c)) }
-        ensures unlisted { IfErr result (λ f. IfTold (D.held disk) (λ all. ((J : List Rec) → ¬ Stands all J) → (D.held f.disk ≡ D.held disk) × AddsNone (D.images disk) (D.images f.disk))) }
+        ensures unlisted { IfErr result (λ f. IfTold (D.held disk) (λ all. ((J : List Rec) → ¬ Stands all J) → IsQuiet D.held D.images D.moment D.images_since D.faults disk f.disk)) }
+        ensures any_moment { IfTold (D.held disk) (λ all. MatchResult result
+            (λ l. LeavesOnly D.moment D.images_since disk l.disk (IsOldOrBooted (D.images disk) all places))
+            (λ f. LeavesOnly D.moment D.images_since disk f.disk (IsOldOrBooted (D.images disk) all places))) }
         ensures faults { MatchResult result (λ l. D.faults disk ≤ D.faults l.disk) (λ f. D.faults disk ≤ D.faults f.disk) }
     {
         let mut journal = match Journal::mount(alloc, disk, limits) {
@@ -152,7 +157,8 @@ impl<D: Disk> Ledger<D> {
 
     /// Whether the disk failed and the journal wasn't read again since.
     pub fn shut(&self) -> bool
-        ensures { result ≡ self.now.shut }
+        ensures shut { result ≡ self.now.shut }
+        ensures possible { IsStored (D.held self.now.disk) (D.images self.now.disk) self.now.records self.now.in_doubt }
     {
         self.journal.shut()
     }
@@ -264,8 +270,11 @@ impl<D: Disk> Ledger<D> {
         ensures cause { result ≡ Err Deny.Disk → Rose (D.faults self.old.disk) (D.faults self.new.disk) }
         ensures faults { D.faults self.old.disk ≤ D.faults self.new.disk }
         ensures told { is_some (D.held self.new.disk) ≡ is_some (D.held self.old.disk) }
+        ensures any_moment { IfTold (D.held self.old.disk) (λ _. LeavesOnly D.moment D.images_since self.old.disk self.new.disk (StandsForEither self.old.records (Issue (next_issue self.old.records) word))) }
+        ensures kept { OnOk result (Leaves (D.held self.new.disk) (D.images self.new.disk) self.new.records) }
     {
         let number = self.next_issue();
+        let _possible = self.journal.shut();
         let nonce = Nonce::of(self.alloc, number, word)?;
         let place = match append(&mut self.journal, Rec::Issue { number, word }) {
             Ok(place) => place,
@@ -291,6 +300,8 @@ impl<D: Disk> Ledger<D> {
         ensures cause { result ≡ Err Deny.Disk → Rose (D.faults self.old.disk) (D.faults self.new.disk) }
         ensures faults { D.faults self.old.disk ≤ D.faults self.new.disk }
         ensures told { is_some (D.held self.new.disk) ≡ is_some (D.held self.old.disk) }
+        ensures any_moment { IfTold (D.held self.old.disk) (λ _. LeavesOnly D.moment D.images_since self.old.disk self.new.disk (StandsForEither self.old.records Clear)) }
+        ensures kept { OnOk result (Leaves (D.held self.new.disk) (D.images self.new.disk) self.new.records) }
     {
         self.mark = append(&mut self.journal, Rec::Clear)?;
         self.live = None;
@@ -309,6 +320,8 @@ impl<D: Disk> Ledger<D> {
         ensures cause { result ≡ Err Deny.Disk → Rose (D.faults self.old.disk) (D.faults self.new.disk) }
         ensures faults { D.faults self.old.disk ≤ D.faults self.new.disk }
         ensures told { is_some (D.held self.new.disk) ≡ is_some (D.held self.old.disk) }
+        ensures any_moment { IfTold (D.held self.old.disk) (λ _. LeavesOnly D.moment D.images_since self.old.disk self.new.disk (StandsForEither self.old.records (Bind token))) }
+        ensures kept { OnOk result (Leaves (D.held self.new.disk) (D.images self.new.disk) self.new.records) }
     {
         let place = append(&mut self.journal, Rec::Bind { token })?;
         self.bound = Some(Bound {
@@ -328,6 +341,8 @@ impl<D: Disk> Ledger<D> {
         ensures cause { result ≡ Err Deny.Disk → Rose (D.faults self.old.disk) (D.faults self.new.disk) }
         ensures faults { D.faults self.old.disk ≤ D.faults self.new.disk }
         ensures told { is_some (D.held self.new.disk) ≡ is_some (D.held self.old.disk) }
+        ensures any_moment { IfTold (D.held self.old.disk) (λ _. LeavesOnly D.moment D.images_since self.old.disk self.new.disk (StandsForEither self.old.records (Load unit count))) }
+        ensures kept { OnOk result (Leaves (D.held self.new.disk) (D.images self.new.disk) self.new.records) }
     {
         append(&mut self.journal, Rec::Load { unit, count })?;
         Ok(())
@@ -351,6 +366,8 @@ impl<D: Disk> Ledger<D> {
         ensures cause { result ≡ Err Deny.Disk → Rose (D.faults self.old.disk) (D.faults self.new.disk) }
         ensures faults { D.faults self.old.disk ≤ D.faults self.new.disk }
         ensures told { is_some (D.held self.new.disk) ≡ is_some (D.held self.old.disk) }
+        ensures any_moment { IfTold (D.held self.old.disk) (λ _. LeavesOnly D.moment D.images_since self.old.disk self.new.disk (StandsForEither self.old.records (Order kind counts))) }
+        ensures kept { OnOk result (Leaves (D.held self.new.disk) (D.images self.new.disk) self.new.records) }
     {
         append(&mut self.journal, Rec::Order { kind, counts })?;
         Ok(())
@@ -367,6 +384,8 @@ impl<D: Disk> Ledger<D> {
         ensures cause { result ≡ Err Deny.Disk → Rose (D.faults self.old.disk) (D.faults self.new.disk) }
         ensures faults { D.faults self.old.disk ≤ D.faults self.new.disk }
         ensures told { is_some (D.held self.new.disk) ≡ is_some (D.held self.old.disk) }
+        ensures any_moment { IfTold (D.held self.old.disk) (λ _. LeavesOnly D.moment D.images_since self.old.disk self.new.disk (StandsForEither self.old.records (Done moved diverted))) }
+        ensures kept { OnOk result (Leaves (D.held self.new.disk) (D.images self.new.disk) self.new.records) }
     {
         append(&mut self.journal, Rec::Done { moved, diverted })?;
         self.bound = paid(self.bound.take(), kind, &moved, &self.units);
@@ -408,6 +427,9 @@ impl<D: Disk> Ledger<D> {
         ensures cause { result ≡ Err BootDisk → Rose (D.faults self.old.disk) (D.faults self.new.disk) }
         ensures faults { D.faults self.old.disk ≤ D.faults self.new.disk }
         ensures told { is_some (D.held self.new.disk) ≡ is_some (D.held self.old.disk) }
+        ensures possible { IsStored (D.held self.old.disk) (D.images self.old.disk) self.old.records self.old.in_doubt }
+        ensures any_moment { IfTold (D.held self.old.disk) (λ _. LeavesOnly D.moment D.images_since self.old.disk self.new.disk
+            (λ bytes. D.images self.old.disk bytes ⊎ StandsReread self.old.records self.old.in_doubt places (IsLeft self.new.records self.new.in_doubt (self.new.shut || self.new.boot_missing)) bytes)) }
     {
         let before = self.journal.records().len();
         if let Err(why) = self.journal.remount() {
@@ -424,12 +446,12 @@ impl<D: Disk> Ledger<D> {
                 self.boot_missing = false;
                 Ok(())
             }
-            Err(why) => {
-                if why == BootFault::Full {
-                    self.boot_missing = true;
-                }
-                Err(why)
+            Err(BootFault::Full) => {
+                self.boot_missing = true;
+                Err(BootFault::Full)
             }
+            Err(BootFault::Disk) => Err(BootFault::Disk),
+            Err(BootFault::Memory | BootFault::NotJournal { .. }) => unreachable!(),
         }
     }
 }
@@ -486,6 +508,7 @@ fn append_boot<D: Disk>(journal: &mut Journal<D>, places: Places) -> Result<u64,
     ensures full { result ≡ Err BootFull → passes journal.old.limits (journal.old.records ++ Boot places ∷ []) ≡ true }
     ensures disk { result ≡ Err BootDisk → Rose (D.faults journal.old.disk) (D.faults journal.new.disk) }
     ensures images { IfTold (D.held journal.old.disk) (λ _. (c : List ℕ) → D.images journal.new.disk c → StandsForEither journal.old.records (Boot places) c) }
+    ensures any_moment { IfTold (D.held journal.old.disk) (λ _. LeavesOnly D.moment D.images_since journal.old.disk journal.new.disk (StandsForEither journal.old.records (Boot places))) }
     ensures told { is_some (D.held journal.new.disk) ≡ is_some (D.held journal.old.disk) }
     ensures not_mounted { IfErr result (λ f. (at : ℕ) → f ≢ NotJournal at) }
     ensures reserved { 1 ≤ journal.old.room → result ≢ Err BootMemory }
@@ -519,6 +542,8 @@ fn append<D: Disk>(journal: &mut Journal<D>, rec: Rec) -> Result<u64, Deny>
     ensures room { journal.old.room ≤ journal.new.room + 1 }
     ensures faults { D.faults journal.old.disk ≤ D.faults journal.new.disk }
     ensures told { is_some (D.held journal.new.disk) ≡ is_some (D.held journal.old.disk) }
+    ensures any_moment { IfTold (D.held journal.old.disk) (λ _. LeavesOnly D.moment D.images_since journal.old.disk journal.new.disk (StandsForEither journal.old.records rec)) }
+    ensures kept { OnOk result (Leaves (D.held journal.new.disk) (D.images journal.new.disk) journal.new.records) }
 {
     match journal.append(rec) {
         Ok(number) => Ok(number),

@@ -1,7 +1,7 @@
 //! What customers and operators do with notes: the guard's reports of it, and the record of a loading.
 
 ghost use Rattle.std.specs.Prelude.{◌≡◌, ◌≢◌, ◌↔◌, ◌≤◌, true, [], ◌∷◌, ◌++◌, length, Some, Err, OnOk, OnErr, IfOk, IfErr, IsTrue};
-ghost use Rattle.xfs_base.specs.Causes.{Rose};
+ghost use Rattle.xfs_base.specs.Causes.{IfTold, Rose};
 ghost use Rattle.xfs_base.specs.Counts.{LiesIn};
 ghost use Rattle.xfs_base.specs.declared.counts.Kind.TheVariants.{Retract};
 ghost use Rattle.xfs_mech.specs.Mechanism.{CanLoad, Loads};
@@ -12,7 +12,10 @@ ghost use Rattle.xfs_guard.specs.Orders.{kind_unacted};
 ghost use Rattle.xfs_guard.specs.Fits.{unfit};
 ghost use Rattle.xfs_guard.specs.Refusals.{Answers};
 ghost use Rattle.xfs_guard.specs.Reports.{HasReported};
+ghost use Rattle.xfs_guard.specs.Left.{Leaves, MayTake, StandsRecorded, StandsThrough};
+ghost use Rattle.xfs_disk.specs.Disk.{LeavesOnly};
 ghost use Rattle.xfs_guard.specs.Continues.{Continues};
+ghost use Rattle.xfs_guard.specs.Crashed.{LeavesBehind};
 
 use crate::{Deny, Guard};
 use xfs_base::Memory;
@@ -39,7 +42,10 @@ impl<M: Mechanism, D: Disk> Guard<M, D> {
         ensures err { OnErr result (self.new.state ≡ self.old.state) }
         ensures same { self.new.disk ≡ self.old.disk }
         ensures continues { Continues self.old.state self.new.state }
+        ensures crashes { LeavesBehind D.held D.images D.moment D.images_since self.old self.new }
+        ensures inside { IfTold (D.held self.old.disk) (λ _. LeavesOnly D.moment D.images_since self.old.disk self.new.disk (StandsThrough self.old.state (MayTake self.old.state))) }
     {
+        let _possible = self.ledger.shut();
         self.mech.ready()?;
         Ok(self.mech.taken())
     }
@@ -55,7 +61,10 @@ impl<M: Mechanism, D: Disk> Guard<M, D> {
         ensures err { OnErr result (self.new.state ≡ self.old.state) }
         ensures same { self.new.disk ≡ self.old.disk }
         ensures continues { Continues self.old.state self.new.state }
+        ensures crashes { LeavesBehind D.held D.images D.moment D.images_since self.old self.new }
+        ensures inside { IfTold (D.held self.old.disk) (λ _. LeavesOnly D.moment D.images_since self.old.disk self.new.disk (StandsThrough self.old.state (λ entry. entry ≡ Loaded unit count))) }
     {
+        let _possible = self.ledger.shut();
         self.mech.ready()?;
         Ok(self.mech.load(unit, count))
     }
@@ -73,6 +82,9 @@ impl<M: Mechanism, D: Disk> Guard<M, D> {
         ensures cause { result ≡ Err Deny.Disk → Rose (D.faults self.old.disk) (D.faults self.new.disk) }
         ensures same { IfErr result (λ e. e ≢ Deny.Disk → self.new ≡ self.old) }
         ensures continues { Continues self.old.state self.new.state }
+        ensures crashes { LeavesBehind D.held D.images D.moment D.images_since self.old self.new }
+        ensures any_moment { IfTold (D.held self.old.disk) (λ _. LeavesOnly D.moment D.images_since self.old.disk self.new.disk (StandsRecorded self.old.state.key self.old.state.units self.old.state.motions)) }
+        ensures kept { OnOk result (Leaves (D.held self.new.disk) (D.images self.new.disk) self.new.state.records) }
     {
         if let Some(deny) = self.unfit() {
             return Err(deny);

@@ -8,7 +8,10 @@ ghost use Rattle.xfs_journal.specs.declared.record.Rec.{Rec};
 ghost use Rattle.xfs_journal.specs.declared.record.Rec.TheVariants.{Boot};
 ghost use Rattle.xfs_guard.specs.declared.fail.BootFault.TheVariants.{NotJournal, Disk as BootDisk, Full as BootFull, Memory as BootMemory};
 ghost use Rattle.xfs_guard.specs.declared.open.Open.TheVariants.{No};
+ghost use Rattle.xfs_disk.specs.Disk.{LeavesOnly};
 ghost use Rattle.xfs_guard.specs.Continues.{Continues};
+ghost use Rattle.xfs_guard.specs.Crashed.{LeavesBehind};
+ghost use Rattle.xfs_guard.specs.Left.{StandsRecorded};
 
 use crate::{BootFault, Guard};
 use xfs_disk::Disk;
@@ -46,9 +49,12 @@ impl<M: Mechanism, D: Disk> Guard<M, D> {
           in_doubt = Some (Boot self.old.state.places);
         })) }
         ensures not_journal { IfErr result (λ f. (at : ℕ) → f ≡ NotJournal at → (D.held self.old.disk ≡ None) × (self.new.state ≡ record self.old.state { shut = true })) }
+        ensures untold { IfErr result (λ f. (at : ℕ) → f ≡ NotJournal at → self.old.state.disk_told ≡ false) }
         ensures later { D.faults self.old.disk ≤ D.faults self.new.disk }
         ensures cause { result ≡ Err BootDisk → Rose (D.faults self.old.disk) (D.faults self.new.disk) }
         ensures continues { Continues self.old.state self.new.state }
+        ensures crashes { LeavesBehind D.held D.images D.moment D.images_since self.old self.new }
+        ensures any_moment { IfTold (D.held self.old.disk) (λ _. LeavesOnly D.moment D.images_since self.old.disk self.new.disk (StandsRecorded self.old.state.key self.old.state.units self.old.state.motions)) }
     {
         let places = self.mech.survey();
         self.ledger.restore(places)

@@ -7,10 +7,10 @@ pub mod Decoding
 pub mod JournalLaws
 pub mod Emptying
 mod Listing
-mod Moments
+pub mod Moments
 mod Opening
 mod Paged
 mod Pieces
 mod Reading
-mod Told
+pub mod Told
 pub mod Unique

@@ -111,9 +111,12 @@ impl<D: Disk> Journal<D> {
         &self.records
     }
 
-    /// Whether the disk failed and the journal wasn't read again since.
+    /// Whether the disk failed and the journal wasn't read again since. Either way a crash leaves the list, or the
+    /// list with the record in doubt.
     pub fn shut(&self) -> bool
-        ensures { result ≡ self.now.shut }
+        ensures shut { result ≡ self.now.shut }
+        ensures settled { self.now.shut ≡ false → self.now.in_doubt ≡ None }
+        ensures possible { IfTold (D.held self.now.disk) (λ _. (c : List ℕ) → D.images self.now.disk c → HasPossible self.now.records self.now.in_doubt c) }
     {
         self.shut
     }

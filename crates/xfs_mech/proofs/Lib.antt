@@ -1,3 +1,4 @@
 pub mod CountLaws
 pub mod MotionLaws
+pub mod MoveLaws
 pub mod SumLaws

@@ -2,6 +2,7 @@ pub mod Faults
 pub mod Keys
 pub mod Mechanism
 pub mod Motions
+pub mod Moves
 pub mod Orders
 pub mod Sim
 pub mod SimWatch

@@ -1,6 +1,8 @@
 use Rattle.std.proofs.Common.{◌≡◌, ◌∙◌, length, ap}
 use Rattle.xfs_guard.proofs.ContinueLaws.{Continues-act}
 use Rattle.xfs_guard.proofs.KeptLaws.{IsKept-acted, still-open}
+use Rattle.xfs_guard.specs.Left.{MayMove}
+use Rattle.xfs_guard.proofs.LeftLaws.{left-through, one-possible, recorded-moved}
 use Rattle.xfs_guard.proofs.guard.Guard.act.Goals as goal
 
 pub invariant_of-self : goal.invariant_of-self
@@ -22,3 +24,12 @@ returns-clause-continues g c =
     let still = still-open _ _ _ _ c.self.invariant.closed c.in-Written.is in
     rw (← c.self.view_is) (Continues-act _ c.in-Written.kind c.execute-outcome.result.moved c.execute-outcome.result.diverted c.execute-outcome.result.failed
     (g.M.Mechanism.motions c.execute-outcome.new.self) (g.M.Mechanism.places c.execute-outcome.new.self) (g.M.Mechanism.faults c.execute-outcome.new.self) (c.self.invariant.clean still) motions places)
+
+pub returns-clause-inside : goal.returns-clause-inside
+returns-clause-inside g c =
+    let still = still-open _ _ _ _ c.self.invariant.closed c.in-Written.is in
+    let booted = still-open _ _ _ _ c.self.invariant.missing c.in-Written.is in
+    let none = c.self.invariant.clean still in
+    rw (← c.self.view_is) (left-through g.D.Disk.held g.D.Disk.images g.D.Disk.moment g.D.Disk.images_since c.self.inside.ledger.disk _ (MayMove _) (g.met.D.Disk.only_now c.self.inside.ledger.disk) c.shut-possible.ensures.possible
+    c.self.invariant.recorded
+    (λ told J p entry now may grows. rw (one-possible _ _ J none p) (recorded-moved _ entry now (c.self.invariant.sound still booted) told may grows)))

@@ -1,4 +1,4 @@
-use Rattle.std.proofs.Common.{◌≡◌, ◌≤◌, ◌∙◌, length, sym, None, Some, arith}
+use Rattle.std.proofs.Common.{◌≡◌, ◌≤◌, ◌∙◌, length, sym, None, Some, arith, refl}
 use Rattle.xfs_journal.specs.Image.{body}
 use Rattle.xfs_journal.specs.declared.record.Rec.TheVariants.{Bind}
 use Rattle.xfs_guard.specs.declared.open.Open.TheVariants.{No}
@@ -7,6 +7,8 @@ use Rattle.xfs_guard.proofs.ClaimLaws.{IsSound-claim, copied-none}
 use Rattle.xfs_guard.proofs.ContinueLaws.{Continues-written, Continues-same}
 use Rattle.xfs_guard.proofs.KeptLaws.{IsKept-open, IsKept-refused, Continues-refused}
 use Rattle.xfs_guard.proofs.SizeLaws.{fit-at, takes-one, may-write}
+use Rattle.xfs_guard.proofs.LeftLaws.{left-written}
+use Rattle.xfs_guard.proofs.BehindLaws.{behind-refused, behind-written}
 use Rattle.xfs_guard.proofs.guard.Guard.bind_once.Goals as goal
 
 pub returns-then-is_some-clause-continues : goal.returns-then-is_some-clause-continues
@@ -29,7 +31,8 @@ invariant_of-self g c =
 
 pub returns-in_err-bind-clause-continues : goal.returns-in_err-bind-clause-continues
 returns-in_err-bind-clause-continues g c =
-    rw (← c.self.view_is) (Continues-refused Unit c.in_err-bind.field-0.0 _ _ _ _ _ _ c.self.inside.ledger c.bind.new.self _ (Some c.claim.inside.amounts) _ _ c.in_err-bind.ensures.wrote c.in_err-bind.ensures.err (λ p e. cc))
+    let fit = fit-at _ _ c.self.view_is c.requires.passes.fit in
+    rw (← c.self.view_is) (Continues-refused Unit c.in_err-bind.field-0.0 _ _ _ _ _ _ c.self.inside.ledger c.bind.new.self _ (Some c.claim.inside.amounts) _ _ c.in_err-bind.ensures.wrote c.in_err-bind.ensures.err c.bind.ensures.told (c.self.invariant.clean fit.0) fit.0 fit.2 (λ p e. cc))
 
 pub invariant_of-self-2 : goal.invariant_of-self-2
 invariant_of-self-2 g c =
@@ -43,6 +46,33 @@ invariant_of-self-2 g c =
 
 pub returns-clause-continues : goal.returns-clause-continues
 returns-clause-continues g c =
+    let fit = fit-at _ _ c.self.view_is c.requires.passes.fit in
     let w = c.in_ok-bind.ensures.wrote in
     rw (← c.self.view_is, w.records, w.units, w.bound_is, w.limits, w.open_still, w.boot_missing, w.in_doubt, c.bind.ensures.told)
-    (Continues-written _ (Bind c.claim.inside.token) (Some c.claim.inside.amounts) c.self.inside.open_order (λ p e. cc))
+    (Continues-written _ (Bind c.claim.inside.token) (Some c.claim.inside.amounts) c.self.inside.open_order (c.self.invariant.clean fit.0) fit.0 fit.2 (λ p e. cc))
+
+pub returns-in_err-bind-clause-any_moment : goal.returns-in_err-bind-clause-any_moment
+returns-in_err-bind-clause-any_moment g c =
+    let none : c.self.inside.open_order ≡ No = rw (← c.self.view_is) at c.requires.none in
+    let passes = rw (← c.self.view_is, ← c.claim.view_is) at c.requires.passes in
+    let fit = fit-at _ _ c.self.view_is c.requires.passes.fit in
+    let free : bound_token c.self.inside.ledger.records ≡ None = copied-none c.token.result _ c.token.ensures (sym c.is_some.ensures ∙ c.if-is_some.false) in
+    let sound = c.self.invariant.sound fit.0 fit.2 in
+    rw (← c.self.view_is) (left-written g.D.Disk.held g.D.Disk.images g.D.Disk.moment g.D.Disk.images_since c.self.inside.ledger.disk c.bind.new.self.disk _ (Bind c.claim.inside.token) (Some c.claim.inside.amounts) No refl sound (IsSound-claim _ c.claim.inside.token c.claim.inside.amounts sound none passes free) c.bind.ensures.any_moment)
+
+pub returns-clause-any_moment : goal.returns-clause-any_moment
+returns-clause-any_moment g c =
+    let none : c.self.inside.open_order ≡ No = rw (← c.self.view_is) at c.requires.none in
+    let passes = rw (← c.self.view_is, ← c.claim.view_is) at c.requires.passes in
+    let fit = fit-at _ _ c.self.view_is c.requires.passes.fit in
+    let free : bound_token c.self.inside.ledger.records ≡ None = copied-none c.token.result _ c.token.ensures (sym c.is_some.ensures ∙ c.if-is_some.false) in
+    let sound = c.self.invariant.sound fit.0 fit.2 in
+    rw (← c.self.view_is) (left-written g.D.Disk.held g.D.Disk.images g.D.Disk.moment g.D.Disk.images_since c.self.inside.ledger.disk c.bind.new.self.disk _ (Bind c.claim.inside.token) (Some c.claim.inside.amounts) No refl sound (IsSound-claim _ c.claim.inside.token c.claim.inside.amounts sound none passes free) c.bind.ensures.any_moment)
+
+pub returns-in_err-bind-clause-crashes : goal.returns-in_err-bind-clause-crashes
+returns-in_err-bind-clause-crashes g c =
+    rw (← c.self.view_is) (behind-refused Unit g.D.Disk.held g.D.Disk.images g.D.Disk.moment g.D.Disk.images_since c.in_err-bind.field-0.0 _ _ _ _ _ _ c.self.inside.ledger c.bind.new.self _ (Some c.claim.inside.amounts) _ _ g.met.D.Disk.only_now c.in_err-bind.ensures.wrote c.in_err-bind.ensures.err c.bind.ensures.told c.bind.ensures.any_moment)
+
+pub returns-clause-crashes : goal.returns-clause-crashes
+returns-clause-crashes g c =
+    rw (← c.self.view_is) (behind-written g.D.Disk.held g.D.Disk.images g.D.Disk.moment g.D.Disk.images_since _ _ (Bind c.claim.inside.token) c.bind.ensures.told c.bind.ensures.any_moment c.in_ok-bind.ensures.wrote.records)

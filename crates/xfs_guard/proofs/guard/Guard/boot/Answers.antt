@@ -1,4 +1,4 @@
-use Rattle.std.proofs.Common.{◌∙◌, false, None, sym}
+use Rattle.std.proofs.Common.{refl, ◌∙◌, false, None, sym}
 use Rattle.std.specs.Prelude.{is_some}
 use Rattle.xfs_journal.specs.declared.record.Rec.TheVariants.{Boot}
 use Rattle.xfs_guard.specs.declared.open.Open.TheVariants.{No}
@@ -6,6 +6,7 @@ use Rattle.xfs_guard.proofs.BootLaws.{IsKept-boot, WasLeft-recorded}
 use Rattle.xfs_guard.proofs.ContinueLaws.{Continues-written}
 use Rattle.xfs_guard.proofs.KeptLaws.{over}
 use Rattle.xfs_guard.proofs.StoredLaws.{MayLeave-held}
+use Rattle.xfs_guard.proofs.LeftLaws.{left-boot}
 use Rattle.xfs_guard.proofs.guard.Guard.boot.Goals as goal
 
 pub invariant_of-result : goal.invariant_of-result
@@ -20,7 +21,7 @@ invariant_of-result g c =
 pub returns-in-Ok-clause-continues : goal.returns-in-Ok-clause-continues
 returns-in-Ok-clause-continues g c = λ J is.
     let v = over c.args.key c.args.seed No (g.M.Mechanism.motions c.args.mech) (g.M.Mechanism.places c.args.mech) (g.M.Mechanism.faults c.args.mech) c.in-Ok.ledger (is_some (g.D.Disk.held c.in-Ok.ledger.disk)) in
-    rw (is, c.in-Ok.ensures.opened.0, c.in-Ok.ensures.opened.1) (Continues-written (record v { records = J; shut = false; in_doubt = None }) (Boot (g.M.Mechanism.places c.args.mech)) c.in-Ok.ledger.bound No (λ p same. cc))
+    rw (is, c.in-Ok.ensures.opened.0, c.in-Ok.ensures.opened.1, c.in-Ok.ensures.opened.3) (Continues-written (record v { records = J; shut = false; boot_missing = false; in_doubt = None }) (Boot (g.M.Mechanism.places c.args.mech)) c.in-Ok.ledger.bound No refl refl refl (λ p same. cc))
 
 pub returns-in-Err-clause-left : goal.returns-in-Err-clause-left
 returns-in-Err-clause-left g c = λ J may.
@@ -28,3 +29,11 @@ returns-in-Err-clause-left g c = λ J may.
 
 pub returns-in-Err-clause-either : goal.returns-in-Err-clause-either
 returns-in-Err-clause-either g c = rw c.survey-places.ensures at c.in-Err.ensures.either
+
+pub returns-in-Ok-clause-any_moment : goal.returns-in-Ok-clause-any_moment
+returns-in-Ok-clause-any_moment g c =
+    left-boot g.D.Disk.held g.D.Disk.images g.D.Disk.moment g.D.Disk.images_since c.args.disk c.in-Ok.ledger.disk c.args.key c.args.units (g.M.Mechanism.motions c.args.mech) c.survey-places.result g.met.D.Disk.as_read c.requires.recorded c.in-Ok.ensures.any_moment
+
+pub returns-in-Err-clause-any_moment : goal.returns-in-Err-clause-any_moment
+returns-in-Err-clause-any_moment g c =
+    left-boot g.D.Disk.held g.D.Disk.images g.D.Disk.moment g.D.Disk.images_since c.args.disk c.in-Err.field-0.disk c.args.key c.args.units (g.M.Mechanism.motions c.args.mech) c.survey-places.result g.met.D.Disk.as_read c.requires.recorded c.in-Err.ensures.any_moment

@@ -9,6 +9,9 @@ use Rattle.xfs_guard.proofs.ContinueLaws.{Continues-same, Continues-written}
 use Rattle.xfs_guard.proofs.KeptLaws.{IsKept-open, IsKept-refused, Continues-refused}
 use Rattle.xfs_guard.proofs.SizeLaws.{fit-at, takes-one, may-write}
 use Rattle.xfs_guard.proofs.RecordLaws.{IsSound-issue}
+use Rattle.xfs_guard.proofs.LeftLaws.{left-written}
+use Rattle.xfs_guard.proofs.LifeLaws.{next-fresh}
+use Rattle.xfs_guard.proofs.BehindLaws.{behind-refused, behind-written}
 use Rattle.xfs_guard.proofs.guard.Guard.issue.Goals as goal
 
 pub returns-in-Some-clause-continues : goal.returns-in-Some-clause-continues
@@ -16,7 +19,7 @@ returns-in-Some-clause-continues g c = Continues-same _
 
 pub issue-requires : goal.issue-requires
 issue-requires g c =
-    let fit = fit-at _ _ c.self.view_is (sym c.unfit.ensures ∙ c.in_default.is) in
+    let fit = fit-at _ _ c.self.view_is (sym c.unfit.ensures.first ∙ c.in_default.is) in
     let short : length (body (Issue (next_issue c.self.inside.ledger.records) c.word_of-word.result)) ≤ 1025 = omega arith in record {
       fits = may-write c.self.inside.ledger (Issue (next_issue c.self.inside.ledger.records) c.word_of-word.result) fit.0 fit.2 (takes-one c.self.inside.ledger.limits c.self.inside.ledger.records (Issue (next_issue c.self.inside.ledger.records) c.word_of-word.result) fit.1 short);
     }
@@ -24,18 +27,19 @@ issue-requires g c =
 pub invariant_of-self : goal.invariant_of-self
 invariant_of-self g c =
     let none : c.self.inside.open_order ≡ No = rw (← c.self.view_is) at c.requires in
-    let fit = fit-at _ _ c.self.view_is (sym c.unfit.ensures ∙ c.in_default.is) in
+    let fit = fit-at _ _ c.self.view_is (sym c.unfit.ensures.first ∙ c.in_default.is) in
     IsKept-refused Nonce c.in_err-issue.field-0.0 _ _ _ _ _ _ c.self.inside.ledger c.issue.new.self _ None _ _ _ _ _ _ c.in_err-issue.ensures.wrote c.in_err-issue.ensures.err c.issue.ensures.told none c.self.invariant fit.0 fit.2
     (IsSound-issue _ _ c.word_of-word.result (c.self.invariant.sound fit.0 fit.2) none refl)
 
 pub returns-in_err-issue-clause-continues : goal.returns-in_err-issue-clause-continues
 returns-in_err-issue-clause-continues g c =
-    rw (← c.self.view_is) (Continues-refused Nonce c.in_err-issue.field-0.0 _ _ _ _ _ _ c.self.inside.ledger c.issue.new.self _ None _ _ c.in_err-issue.ensures.wrote c.in_err-issue.ensures.err (λ p e. cc))
+    let fit = fit-at _ _ c.self.view_is (sym c.unfit.ensures.first ∙ c.in_default.is) in
+    rw (← c.self.view_is) (Continues-refused Nonce c.in_err-issue.field-0.0 _ _ _ _ _ _ c.self.inside.ledger c.issue.new.self _ None _ _ c.in_err-issue.ensures.wrote c.in_err-issue.ensures.err c.issue.ensures.told (c.self.invariant.clean fit.0) fit.0 fit.2 (λ p e. cc))
 
 pub invariant_of-self-2 : goal.invariant_of-self-2
 invariant_of-self-2 g c =
     let none : c.self.inside.open_order ≡ No = rw (← c.self.view_is) at c.requires in
-    let fit = fit-at _ _ c.self.view_is (sym c.unfit.ensures ∙ c.in_default.is) in
+    let fit = fit-at _ _ c.self.view_is (sym c.unfit.ensures.first ∙ c.in_default.is) in
     let w = c.in_ok-issue.ensures.wrote in
     rw (w.records, w.units, w.bound_is, w.limits, w.open_still, w.boot_missing, w.in_doubt, c.issue.ensures.told, none)
     (IsKept-open _ _ _ _ (IsSound-issue _ _ c.word_of-word.result (c.self.invariant.sound fit.0 fit.2) none refl) fit.2 tt tt c.self.invariant.units)
@@ -46,6 +50,35 @@ returns-clause-live g c =
 
 pub returns-clause-continues : goal.returns-clause-continues
 returns-clause-continues g c =
+    let fit = fit-at _ _ c.self.view_is (sym c.unfit.ensures.first ∙ c.in_default.is) in
     let w = c.in_ok-issue.ensures.wrote in
     rw (← c.self.view_is, w.records, w.units, w.bound_is, w.limits, w.open_still, w.boot_missing, w.in_doubt, c.issue.ensures.told)
-    (Continues-written _ (Issue _ c.word_of-word.result) None c.self.inside.open_order (λ p e. cc))
+    (Continues-written _ (Issue _ c.word_of-word.result) None c.self.inside.open_order (c.self.invariant.clean fit.0) fit.0 fit.2 (λ p e. cc))
+
+pub returns-in_err-issue-clause-any_moment : goal.returns-in_err-issue-clause-any_moment
+returns-in_err-issue-clause-any_moment g c =
+    let none : c.self.inside.open_order ≡ No = rw (← c.self.view_is) at c.requires in
+    let fit = fit-at _ _ c.self.view_is (sym c.unfit.ensures.first ∙ c.in_default.is) in
+    let sound = c.self.invariant.sound fit.0 fit.2 in
+    rw (← c.self.view_is) (left-written g.D.Disk.held g.D.Disk.images g.D.Disk.moment g.D.Disk.images_since c.self.inside.ledger.disk c.issue.new.self.disk _ (Issue (next_issue c.self.inside.ledger.records) c.word_of-word.result) None No refl sound (IsSound-issue _ _ c.word_of-word.result sound none refl) c.issue.ensures.any_moment)
+
+pub returns-clause-any_moment : goal.returns-clause-any_moment
+returns-clause-any_moment g c =
+    let none : c.self.inside.open_order ≡ No = rw (← c.self.view_is) at c.requires in
+    let fit = fit-at _ _ c.self.view_is (sym c.unfit.ensures.first ∙ c.in_default.is) in
+    let sound = c.self.invariant.sound fit.0 fit.2 in
+    rw (← c.self.view_is) (left-written g.D.Disk.held g.D.Disk.images g.D.Disk.moment g.D.Disk.images_since c.self.inside.ledger.disk c.issue.new.self.disk _ (Issue (next_issue c.self.inside.ledger.records) c.word_of-word.result) None No refl sound (IsSound-issue _ _ c.word_of-word.result sound none refl) c.issue.ensures.any_moment)
+
+pub returns-clause-never_twice : goal.returns-clause-never_twice
+returns-clause-never_twice g c =
+    let fit = fit-at _ _ c.self.view_is (sym c.unfit.ensures.first ∙ c.in_default.is) in
+    rw (← c.self.view_is) (λ told first runs life.
+    rw c.in_ok-issue.ensures.number (next-fresh first runs c.self.inside.ledger.records life ((c.self.invariant.sound fit.0 fit.2).numbered told)))
+
+pub returns-in_err-issue-clause-crashes : goal.returns-in_err-issue-clause-crashes
+returns-in_err-issue-clause-crashes g c =
+    rw (← c.self.view_is) (behind-refused Nonce g.D.Disk.held g.D.Disk.images g.D.Disk.moment g.D.Disk.images_since c.in_err-issue.field-0.0 _ _ _ _ _ _ c.self.inside.ledger c.issue.new.self _ None _ _ g.met.D.Disk.only_now c.in_err-issue.ensures.wrote c.in_err-issue.ensures.err c.issue.ensures.told c.issue.ensures.any_moment)
+
+pub returns-clause-crashes : goal.returns-clause-crashes
+returns-clause-crashes g c =
+    rw (← c.self.view_is) (behind-written g.D.Disk.held g.D.Disk.images g.D.Disk.moment g.D.Disk.images_since _ _ (Issue _ c.word_of-word.result) c.issue.ensures.told c.issue.ensures.any_moment c.in_ok-issue.ensures.wrote.records)

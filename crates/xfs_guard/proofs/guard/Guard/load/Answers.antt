@@ -1,7 +1,8 @@
-use Rattle.std.proofs.Common.{◌∙◌, refl}
+use Rattle.std.proofs.Common.{◌≡◌, ◌∙◌, refl}
 use Rattle.xfs_mech.specs.declared.motion.Motion.TheVariants.{Loaded}
-use Rattle.xfs_guard.proofs.ReportLaws.{IsSound-report, IsRecorded-report, HasRoom-report, HasLimits-report, Continues-report, loaded-leaves}
+use Rattle.xfs_guard.proofs.ReportLaws.{IsSound-report, IsRecorded-entry, IsRecorded-report, HasRoom-report, HasLimits-report, Continues-report, loaded-leaves}
 use Rattle.xfs_guard.proofs.ContinueLaws.{Continues-same}
+use Rattle.xfs_guard.proofs.LeftLaws.{left-through}
 use Rattle.xfs_guard.proofs.guard.Guard.load.Goals as goal
 
 pub invariant_of-self-2 : goal.invariant_of-self-2
@@ -35,3 +36,15 @@ returns-clause-continues g c =
 
 pub returns-in_err-ready-clause-continues : goal.returns-in_err-ready-clause-continues
 returns-in_err-ready-clause-continues g c = rw (← c.self.view_is, c.ready.ensures.motions, c.ready.ensures.places, c.ready.ensures.faults) (Continues-same _)
+
+pub returns-in_err-ready-clause-inside : goal.returns-in_err-ready-clause-inside
+returns-in_err-ready-clause-inside g c =
+    rw (← c.self.view_is) (left-through g.D.Disk.held g.D.Disk.images g.D.Disk.moment g.D.Disk.images_since c.self.inside.ledger.disk _ (λ entry. entry ≡ Loaded c.args.unit c.args.count) (g.met.D.Disk.only_now c.self.inside.ledger.disk) c.shut-possible.ensures.possible
+    c.self.invariant.recorded
+    (λ told J p entry now may grows. IsRecorded-entry _ _ J (Loaded c.args.unit c.args.count) _ now tt (rw may at grows) (c.self.invariant.recorded told J p)))
+
+pub returns-clause-inside : goal.returns-clause-inside
+returns-clause-inside g c =
+    rw (← c.self.view_is) (left-through g.D.Disk.held g.D.Disk.images g.D.Disk.moment g.D.Disk.images_since c.self.inside.ledger.disk _ (λ entry. entry ≡ Loaded c.args.unit c.args.count) (g.met.D.Disk.only_now c.self.inside.ledger.disk) c.shut-possible.ensures.possible
+    c.self.invariant.recorded
+    (λ told J p entry now may grows. IsRecorded-entry _ _ J (Loaded c.args.unit c.args.count) _ now tt (rw may at grows) (c.self.invariant.recorded told J p)))

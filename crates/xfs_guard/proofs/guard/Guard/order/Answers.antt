@@ -1,4 +1,4 @@
-use Rattle.std.proofs.Common.{◌≡◌, ◌≤◌, ◌∙◌, sym, length, arith}
+use Rattle.std.proofs.Common.{◌≡◌, ◌≤◌, ◌∙◌, sym, length, arith, refl}
 use Rattle.xfs_guard.specs.declared.open.Open.TheVariants.{No, Written}
 use Rattle.xfs_journal.specs.Image.{body}
 use Rattle.xfs_journal.specs.declared.record.Rec.TheVariants.{Order}
@@ -6,6 +6,8 @@ use Rattle.xfs_guard.proofs.ContinueLaws.{Continues-same, Continues-written, Con
 use Rattle.xfs_guard.proofs.KeptLaws.{IsKept-open, IsKept-doubted}
 use Rattle.xfs_guard.proofs.SizeLaws.{fit-at, takes-one, may-write, order-short, leaves-done}
 use Rattle.xfs_guard.proofs.OrderLaws.{IsSound-asked}
+use Rattle.xfs_guard.proofs.LeftLaws.{left-written}
+use Rattle.xfs_guard.proofs.BehindLaws.{behind-doubted, behind-written}
 use Rattle.xfs_guard.proofs.guard.Guard.order.Goals as goal
 
 pub returns-in-Some-clause-continues : goal.returns-in-Some-clause-continues
@@ -19,7 +21,7 @@ returns-in_err-ready-clause-continues g c = rw (← c.self.view_is, c.ready.ensu
 
 pub order-requires-clause-fits : goal.order-requires-clause-fits
 order-requires-clause-fits g c =
-    let fit = fit-at _ _ c.self.view_is (sym c.unfit.ensures ∙ c.in_default.is) in
+    let fit = fit-at _ _ c.self.view_is (sym c.unfit.ensures.first ∙ c.in_default.is) in
     let same = c.in_ok-reserve_two.ensures.same in
     let eight = order-short c.in_ok-kind.kind c.in_ok-kind.counts c.eight.ensures in
     let short : length (body (Order c.in_ok-kind.kind c.in_ok-kind.counts)) ≤ 1025 = omega (arith, eight) in
@@ -34,7 +36,7 @@ returns-in_err-reserve_two-clause-continues g c =
 pub invariant_of-self-in_err-order : goal.invariant_of-self-in_err-order
 invariant_of-self-in_err-order g c =
     let none : c.self.inside.open_order ≡ No = rw (← c.self.view_is) at c.requires.none in
-    let fit = fit-at _ _ c.self.view_is (sym c.unfit.ensures ∙ c.in_default.is) in
+    let fit = fit-at _ _ c.self.view_is (sym c.unfit.ensures.first ∙ c.in_default.is) in
     let fine = rw (← c.self.view_is) at c.in_ok-kind.ensures.ok in
     let same = c.in_ok-reserve_two.ensures.same in
     let s = rw c.in_err-order.ensures.err at c.in_err-order.ensures.wrote in
@@ -44,15 +46,16 @@ invariant_of-self-in_err-order g c =
 
 pub returns-in_err-order-clause-continues : goal.returns-in_err-order-clause-continues
 returns-in_err-order-clause-continues g c =
+    let fit = fit-at _ _ c.self.view_is (sym c.unfit.ensures.first ∙ c.in_default.is) in
     let same = c.in_ok-reserve_two.ensures.same in
     let s = rw c.in_err-order.ensures.err at c.in_err-order.ensures.wrote in
     rw (← c.self.view_is, s.records, s.units, s.bound, s.limits, s.shut, s.boot_missing, s.in_doubt, c.order.ensures.told, same.records, same.units, same.bound, same.limits, same.boot_missing, same.disk, c.ready.ensures.motions, c.ready.ensures.places, c.ready.ensures.faults)
-    (Continues-doubted _ (Order c.in_ok-kind.kind c.in_ok-kind.counts) c.self.inside.open_order (λ p e. cc))
+    (Continues-doubted _ (Order c.in_ok-kind.kind c.in_ok-kind.counts) c.self.inside.open_order (c.self.invariant.clean fit.0) fit.0 fit.2 (λ p e. cc))
 
 pub invariant_of-self-2 : goal.invariant_of-self-2
 invariant_of-self-2 g c =
     let none : c.self.inside.open_order ≡ No = rw (← c.self.view_is) at c.requires.none in
-    let fit = fit-at _ _ c.self.view_is (sym c.unfit.ensures ∙ c.in_default.is) in
+    let fit = fit-at _ _ c.self.view_is (sym c.unfit.ensures.first ∙ c.in_default.is) in
     let fine = rw (← c.self.view_is) at c.in_ok-kind.ensures.ok in
     let eight = rw fine.2 at c.eight.ensures in
     let same = c.in_ok-reserve_two.ensures.same in
@@ -65,7 +68,41 @@ invariant_of-self-2 g c =
 
 pub returns-clause-continues : goal.returns-clause-continues
 returns-clause-continues g c =
+    let fit = fit-at _ _ c.self.view_is (sym c.unfit.ensures.first ∙ c.in_default.is) in
     let same = c.in_ok-reserve_two.ensures.same in
     let w = c.in_ok-order.ensures.wrote in
     rw (← c.self.view_is, w.records, w.units, w.bound_is, w.limits, w.open_still, w.boot_missing, w.in_doubt, c.order.ensures.told, same.records, same.units, same.bound, same.limits, same.boot_missing, same.disk, c.ready.ensures.motions, c.ready.ensures.places, c.ready.ensures.faults)
-    (Continues-written _ (Order c.in_ok-kind.kind c.in_ok-kind.counts) c.self.inside.ledger.bound (Written c.in_ok-kind.kind c.in_ok-kind.counts) (λ p e. cc))
+    (Continues-written _ (Order c.in_ok-kind.kind c.in_ok-kind.counts) c.self.inside.ledger.bound (Written c.in_ok-kind.kind c.in_ok-kind.counts) (c.self.invariant.clean fit.0) fit.0 fit.2 (λ p e. cc))
+
+pub returns-in_err-order-clause-any_moment : goal.returns-in_err-order-clause-any_moment
+returns-in_err-order-clause-any_moment g c =
+    let none : c.self.inside.open_order ≡ No = rw (← c.self.view_is) at c.requires.none in
+    let fit = fit-at _ _ c.self.view_is (sym c.unfit.ensures.first ∙ c.in_default.is) in
+    let fine = rw (← c.self.view_is) at c.in_ok-kind.ensures.ok in
+    let same = c.in_ok-reserve_two.ensures.same in
+    let sound = c.self.invariant.sound fit.0 fit.2 in
+    let moments = rw (same.disk, same.records) at c.order.ensures.any_moment in
+    rw (← c.self.view_is) (left-written g.D.Disk.held g.D.Disk.images g.D.Disk.moment g.D.Disk.images_since c.self.inside.ledger.disk c.order.new.self.disk _ (Order c.in_ok-kind.kind c.in_ok-kind.counts) c.self.inside.ledger.bound (Written c.in_ok-kind.kind c.in_ok-kind.counts) refl sound (rw (fine.1, fine.2) (IsSound-asked _ c.args.ask sound none fine.0)) moments)
+
+pub returns-clause-any_moment : goal.returns-clause-any_moment
+returns-clause-any_moment g c =
+    let none : c.self.inside.open_order ≡ No = rw (← c.self.view_is) at c.requires.none in
+    let fit = fit-at _ _ c.self.view_is (sym c.unfit.ensures.first ∙ c.in_default.is) in
+    let fine = rw (← c.self.view_is) at c.in_ok-kind.ensures.ok in
+    let same = c.in_ok-reserve_two.ensures.same in
+    let sound = c.self.invariant.sound fit.0 fit.2 in
+    let moments = rw (same.disk, same.records) at c.order.ensures.any_moment in
+    rw (← c.self.view_is) (left-written g.D.Disk.held g.D.Disk.images g.D.Disk.moment g.D.Disk.images_since c.self.inside.ledger.disk c.order.new.self.disk _ (Order c.in_ok-kind.kind c.in_ok-kind.counts) c.self.inside.ledger.bound (Written c.in_ok-kind.kind c.in_ok-kind.counts) refl sound (rw (fine.1, fine.2) (IsSound-asked _ c.args.ask sound none fine.0)) moments)
+
+pub returns-in_err-order-clause-crashes : goal.returns-in_err-order-clause-crashes
+returns-in_err-order-clause-crashes g c =
+    let same = c.in_ok-reserve_two.ensures.same in
+    let s = rw c.in_err-order.ensures.err at c.in_err-order.ensures.wrote in
+    rw (← c.self.view_is) (behind-doubted g.D.Disk.held g.D.Disk.images g.D.Disk.moment g.D.Disk.images_since _ _ (Order c.in_ok-kind.kind c.in_ok-kind.counts) (rw same.disk at c.order.ensures.told) (rw (same.records, same.disk) at c.order.ensures.any_moment)
+    (s.records ∙ same.records) s.shut s.in_doubt)
+
+pub returns-clause-crashes : goal.returns-clause-crashes
+returns-clause-crashes g c =
+    let same = c.in_ok-reserve_two.ensures.same in
+    rw (← c.self.view_is) (behind-written g.D.Disk.held g.D.Disk.images g.D.Disk.moment g.D.Disk.images_since _ _ (Order c.in_ok-kind.kind c.in_ok-kind.counts) (rw same.disk at c.order.ensures.told) (rw (same.records, same.disk) at c.order.ensures.any_moment)
+    (rw same.records at c.in_ok-order.ensures.wrote.records))

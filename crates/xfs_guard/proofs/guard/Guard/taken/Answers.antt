@@ -1,7 +1,9 @@
 use Rattle.std.proofs.Common.{◌∙◌, refl}
 use Rattle.xfs_mech.specs.declared.motion.Motion.TheVariants.{Taken}
-use Rattle.xfs_guard.proofs.ReportLaws.{IsSound-report, IsRecorded-report, HasRoom-report, HasLimits-report, Continues-report, taken-leaves}
+use Rattle.xfs_guard.proofs.ReportLaws.{IsSound-report, IsRecorded-entry, IsRecorded-report, HasRoom-report, HasLimits-report, Continues-report, taken-leaves}
 use Rattle.xfs_guard.proofs.ContinueLaws.{Continues-same}
+use Rattle.xfs_guard.specs.Left.{MayTake}
+use Rattle.xfs_guard.proofs.LeftLaws.{left-through}
 use Rattle.xfs_guard.proofs.guard.Guard.taken.Goals as goal
 
 pub invariant_of-self-2 : goal.invariant_of-self-2
@@ -36,3 +38,15 @@ returns-clause-continues g c =
 
 pub returns-in_err-ready-clause-continues : goal.returns-in_err-ready-clause-continues
 returns-in_err-ready-clause-continues g c = rw (← c.self.view_is, c.ready.ensures.motions, c.ready.ensures.places, c.ready.ensures.faults) (Continues-same _)
+
+pub returns-in_err-ready-clause-inside : goal.returns-in_err-ready-clause-inside
+returns-in_err-ready-clause-inside g c =
+    rw (← c.self.view_is) (left-through g.D.Disk.held g.D.Disk.images g.D.Disk.moment g.D.Disk.images_since c.self.inside.ledger.disk _ (MayTake _) (g.met.D.Disk.only_now c.self.inside.ledger.disk) c.shut-possible.ensures.possible
+    c.self.invariant.recorded
+    (λ told J p entry now may grows. IsRecorded-entry _ _ J (Taken may.counts) _ now tt (rw may.entry_is at grows) (c.self.invariant.recorded told J p)))
+
+pub returns-clause-inside : goal.returns-clause-inside
+returns-clause-inside g c =
+    rw (← c.self.view_is) (left-through g.D.Disk.held g.D.Disk.images g.D.Disk.moment g.D.Disk.images_since c.self.inside.ledger.disk _ (MayTake _) (g.met.D.Disk.only_now c.self.inside.ledger.disk) c.shut-possible.ensures.possible
+    c.self.invariant.recorded
+    (λ told J p entry now may grows. IsRecorded-entry _ _ J (Taken may.counts) _ now tt (rw may.entry_is at grows) (c.self.invariant.recorded told J p)))

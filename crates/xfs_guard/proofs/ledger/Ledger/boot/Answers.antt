@@ -2,6 +2,7 @@ use Rattle.std.proofs.Common.{refl}
 use Rattle.xfs_journal.specs.declared.record.Rec.TheVariants.{Boot}
 use Rattle.xfs_guard.proofs.LedgerLaws.{IsRead-mark, Keeps-read}
 use Rattle.xfs_guard.proofs.StoredLaws.{WasLeft-mount, WasLeft-append, stays-mount, stays-append, unlisted-mount, unlisted-booted}
+use Rattle.xfs_guard.proofs.LeftLaws.{left-mounted, left-booted}
 use Rattle.xfs_guard.proofs.ledger.Ledger.boot.Goals as goal
 
 pub invariant_of-result : goal.invariant_of-result
@@ -31,3 +32,16 @@ returns-in-Err-clause-unlisted g c = unlisted-mount g.D.Disk.held g.D.Disk.image
 
 pub returns-in-Err-append_boot-clause-unlisted : goal.returns-in-Err-append_boot-clause-unlisted
 returns-in-Err-append_boot-clause-unlisted g c = unlisted-booted (g.D.Disk.held c.args.disk) c.in-Ok.journal.records _ c.in-Ok.ensures.ok
+
+pub returns-in-Err-clause-any_moment : goal.returns-in-Err-clause-any_moment
+returns-in-Err-clause-any_moment g c = left-mounted g.D.Disk.held g.D.Disk.images g.D.Disk.moment g.D.Disk.images_since c.args.disk c.in-Err.field-0.disk c.args.places c.in-Err.ensures.any_moment
+
+pub returns-in-Ok-append_boot-clause-any_moment : goal.returns-in-Ok-append_boot-clause-any_moment
+returns-in-Ok-append_boot-clause-any_moment g c =
+    left-booted g.D.Disk.held g.D.Disk.images g.D.Disk.moment g.D.Disk.images_since c.args.disk c.in-Ok.journal.disk c.args.places c.in-Ok.ensures.any_moment
+    c.append_boot.new.journal.disk c.in-Ok.journal.records c.in-Ok.ensures.told c.in-Ok.ensures.ok c.append_boot.ensures.any_moment
+
+pub returns-in-Err-append_boot-clause-any_moment : goal.returns-in-Err-append_boot-clause-any_moment
+returns-in-Err-append_boot-clause-any_moment g c = rw c.end.ensures.disk
+    (left-booted g.D.Disk.held g.D.Disk.images g.D.Disk.moment g.D.Disk.images_since c.args.disk c.in-Ok.journal.disk c.args.places c.in-Ok.ensures.any_moment
+    c.append_boot.new.journal.disk c.in-Ok.journal.records c.in-Ok.ensures.told c.in-Ok.ensures.ok c.append_boot.ensures.any_moment)

@@ -1,13 +1,12 @@
-use Rattle.std.proofs.Common.{◌≡◌, Err, ap, refl}
+use Rattle.std.proofs.Common.{◌≡◌, ◌∙◌, inl, inr, Err, ap, refl}
 use Rattle.xfs_journal.specs.declared.record.Rec.TheVariants.{Boot}
 use Rattle.std.specs.declared.result.Result.{Result}
 use Rattle.xfs_guard.specs.declared.fail.BootFault.{BootFault}
-use Rattle.xfs_guard.specs.declared.fail.BootFault.TheVariants.{Full}
+use Rattle.xfs_guard.specs.declared.fail.BootFault.TheVariants.{Full, Memory}
 use Rattle.xfs_guard.proofs.LedgerLaws.{IsRead-mark, Keeps-read}
+use Rattle.xfs_guard.proofs.CrashedLaws.{begins-same, begins-push, IsLoose-missing, IsLoose-in_doubt}
+use Rattle.xfs_guard.proofs.RereadLaws.{reread-append}
 use Rattle.xfs_guard.proofs.ledger.Ledger.restore.Goals as goal
-
-abbrev refused : BootFault → Result Unit BootFault
-refused why = Err why
 
 pub invariant_of-self-in-Ok : goal.invariant_of-self-in-Ok
 invariant_of-self-in-Ok g c =
@@ -15,12 +14,40 @@ invariant_of-self-in-Ok g c =
     rw (w.ok.0, w.number) (Keeps-read _ _ _ _ _ _ _ _ _ _
     (IsRead-mark _ _ _ (Boot c.args.places) (rw c.records-2.ensures at c.issues_of-issues.ensures.issues) (rw c.records-2.ensures at c.issues_of-issues.ensures.few) (λ k. refl) (λ k x. refl) (λ k x. refl)) w.ok.2)
 
-pub returns-then-eq-clause-full : goal.returns-then-eq-clause-full
-returns-then-eq-clause-full g c = rw (← c.self.view_is) (λ full.
-    let is : c.in-Err-append_boot.why ≡ Full = full-of full in
-    let e = c.in-Err-append_boot.ensures in
-    let m = e.mounted (ap Err is) in
-    (c.remount.new.self.records, c.in_default.ensures.ok, rw c.remount.ensures.limits at (e.full (ap Err is)), rw (e.same, e.limits, c.remount.ensures.limits, m.0, m.1, c.in_default.ensures.opened.1) refl))
-  where
-    full-of : {why : BootFault} → refused why ≡ refused Full → why ≡ Full
-    full-of e = cc
+pub returns-in-Err-Full-clause-full : goal.returns-in-Err-Full-clause-full
+returns-in-Err-Full-clause-full g c = rw (← c.self.view_is) (λ full.
+    let e = c.in-Err-Full.ensures in
+    let m = e.mounted (ap Err c.in-Err-Full.field-0-is) in
+    (c.remount.new.self.records, c.in_default.ensures.ok, rw c.remount.ensures.limits at (e.full (ap Err c.in-Err-Full.field-0-is)), rw (e.same, e.limits, c.remount.ensures.limits, m.0, m.1, c.in_default.ensures.opened.1) refl))
+
+pub returns-in-Ok-clause-possible : goal.returns-in-Ok-clause-possible
+returns-in-Ok-clause-possible g c = rw (← c.self.view_is) c.remount.ensures.possible
+
+pub returns-in-Err-Full-clause-possible : goal.returns-in-Err-Full-clause-possible
+returns-in-Err-Full-clause-possible g c = rw (← c.self.view_is) c.remount.ensures.possible
+
+pub returns-in-Err-Disk-clause-possible : goal.returns-in-Err-Disk-clause-possible
+returns-in-Err-Disk-clause-possible g c = rw (← c.self.view_is) c.remount.ensures.possible
+
+pub returns-in-Ok-clause-any_moment : goal.returns-in-Ok-clause-any_moment
+returns-in-Ok-clause-any_moment g c =
+    let J = c.remount.new.self.records in
+    let w = c.in-Ok.ensures.ok in
+    rw (← c.self.view_is) (reread-append g.D.Disk.held g.D.Disk.images g.D.Disk.moment g.D.Disk.images_since g.D.Disk.faults _ c.remount.new.self.disk _ J (Boot c.args.places) _ c.remount.ensures.told c.remount.ensures.any_moment c.append_boot.ensures.any_moment
+    (λ bytes either. record { list = J; possible = c.in_default.ensures.ok; either = either; without = inl (rw w.0 (begins-push J J (Boot c.args.places) (begins-same J))); booted = inl (rw w.0 (begins-same _)) }))
+
+pub returns-in-Err-Full-clause-any_moment : goal.returns-in-Err-Full-clause-any_moment
+returns-in-Err-Full-clause-any_moment g c =
+    let J = c.remount.new.self.records in
+    let e = c.in-Err-Full.ensures in
+    let m = e.mounted (ap Err c.in-Err-Full.field-0-is) in
+    rw (← c.self.view_is) (reread-append g.D.Disk.held g.D.Disk.images g.D.Disk.moment g.D.Disk.images_since g.D.Disk.faults _ c.remount.new.self.disk _ J (Boot c.args.places) _ c.remount.ensures.told c.remount.ensures.any_moment c.append_boot.ensures.any_moment
+    (λ bytes either. record { list = J; possible = c.in_default.ensures.ok; either = either; without = inl (rw e.same (begins-same J)); booted = inr (rw (e.same, m.0, m.1, c.in_default.ensures.opened.1) (IsLoose-missing J (Boot c.args.places))) }))
+
+pub returns-in-Err-Disk-clause-any_moment : goal.returns-in-Err-Disk-clause-any_moment
+returns-in-Err-Disk-clause-any_moment g c =
+    let J = c.remount.new.self.records in
+    let e = c.in-Err-Disk.ensures in
+    let m = e.in_doubt (ap Err c.in-Err-Disk.field-0-is) in
+    rw (← c.self.view_is) (reread-append g.D.Disk.held g.D.Disk.images g.D.Disk.moment g.D.Disk.images_since g.D.Disk.faults _ c.remount.new.self.disk _ J (Boot c.args.places) _ c.remount.ensures.told c.remount.ensures.any_moment c.append_boot.ensures.any_moment
+    (λ bytes either. record { list = J; possible = c.in_default.ensures.ok; either = either; without = inl (rw e.same (begins-same J)); booted = inr (rw (e.same, m.0, m.1) (IsLoose-in_doubt J (Boot c.args.places))) }))

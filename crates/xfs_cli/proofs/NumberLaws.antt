@@ -1,0 +1,56 @@
+-- The numbers of what the mechanism did in a run lie behind the journal that the run began with.
+use Rattle.std.proofs.Common.{◌≡◌, inl, ℕ, ◌+◌, ◌<◌, ◌≤◌, List, [], ◌∷◌, ◌++◌, length, None, Some, refl, ◌∙◌, ap, arith}
+use Rattle.std.specs.declared.option.Option.{Option}
+use Rattle.xfs_base.specs.Causes.{IfTold}
+use Rattle.xfs_base.specs.declared.counts.Places.{Places}
+use Rattle.xfs_base.specs.declared.money.NoteKind.{NoteKind}
+use Rattle.xfs_mech.specs.Motions.{NumberIs}
+use Rattle.xfs_mech.specs.Moves.{IsNewer}
+use Rattle.xfs_mech.specs.declared.motion.Motion.{Motion}
+use Rattle.xfs_mech.proofs.MotionLaws.{all-numbers}
+use Rattle.xfs_mech.proofs.MoveLaws.{IsNewer-same}
+use Rattle.xfs_journal.specs.Image.{Stands}
+use Rattle.xfs_journal.specs.declared.record.Rec.{Rec}
+use Rattle.xfs_journal.specs.declared.record.Rec.TheVariants.{Boot}
+use Rattle.xfs_journal.proofs.Unique.{stands_for_one}
+use Rattle.xfs_guard.specs.Agrees.{Agrees}
+use Rattle.xfs_guard.specs.Continues.{Continues, Leads, Led, IsKnown}
+use Rattle.xfs_guard.specs.View.{View}
+use Rattle.xfs_guard.proofs.AgreesLaws.{numbers_within}
+use Rattle.xfs_guard.proofs.ContinueLaws.{Led-record, only-possible}
+use Rattle.xfs_guard.proofs.RecordLaws.{length-pushed}
+use Rattle.xfs_cli.proofs.RunLaws.{Starts}
+
+-- what led from a list with a Boot has numbers behind the list without it
+newer-led : (J K : List Rec) (b n : List Motion) (P Q R : Places) → Led (J ++ Boot P ∷ []) b Q K n R → IsNewer (length J) (Some b) (Some n)
+newer-led J K b n P Q R led = record {
+  entries = led.follows.moves;
+  grown = ap Some led.follows.moved;
+  newer = all-numbers (λ k. length (J ++ Boot P ∷ []) ≤ k) (λ k. length J < k) led.follows.moves (λ k le. let more = length-pushed J (Boot P) in omega (arith, le, more)) led.follows.later;
+}
+
+newer-leads : (first last : View) (J0 : List Rec) (before now : Option (List Motion)) → first.records ≡ J0 ++ Boot first.places ∷ [] → first.in_doubt ≡ None → IfTold before (Agrees J0)
+    → Leads first last before now → IsNewer (length J0) before now
+newer-leads first last J0 None None booted clean agrees leads = IsNewer-same (length J0) None
+newer-leads first last J0 None (Some n) booted clean agrees leads = absurd leads
+newer-leads first last J0 (Some b) None booted clean agrees leads = absurd leads
+newer-leads first last J0 (Some b) (Some n) booted clean agrees leads =
+    let comes = leads last.records (inl refl) in
+    let from : comes.from ≡ J0 ++ Boot first.places ∷ [] = only-possible first.records comes.from first.in_doubt clean comes.possible ∙ booted in
+    let known : IsKnown (J0 ++ Boot first.places ∷ []) b = (Led-record J0 (Boot first.places) b first.places (λ p e. cc) (numbers_within J0 b agrees)).known in
+    newer-led J0 last.records b n first.places first.places last.places (rw from at (comes.led (rw from known)))
+
+pub newer-run : (first last : View) (J0 : List Rec) (held : Option (List ℕ)) (images : List ℕ → Type 0) (told : Option (List Motion))
+    → first.records ≡ J0 ++ Boot first.places ∷ [] → first.in_doubt ≡ None → IfTold held (λ bytes. Stands bytes J0)
+    → Starts held images first.key first.units first.motions → ((bytes : List ℕ) → held ≡ Some bytes → images bytes)
+    → Continues first last → told ≡ last.motions
+    → IfTold held (λ bytes. (J : List Rec) → Stands bytes J → IsNewer (length J) first.motions told)
+newer-run first last J0 None images told booted clean stood starts read c told_is = tt
+newer-run first last J0 (Some bytes) images told booted clean stood starts read c told_is = λ J stands.
+    let same : J ≡ J0 = stands_for_one bytes J J0 stands stood in
+    rw (same, told_is) (newer-leads first last J0 first.motions last.motions booted clean (starts bytes (read bytes refl) J0 stood).agrees c.leads)
+
+-- a mechanism that did nothing
+pub newer-same : (held : Option (List ℕ)) (list : Option (List Motion)) → IfTold held (λ bytes. (J : List Rec) → Stands bytes J → IsNewer (length J) list list)
+newer-same None list = tt
+newer-same (Some bytes) list = λ J stands. IsNewer-same (length J) list

@@ -1,0 +1,61 @@
+-- What a crash may leave at any moment of a call.
+use Rattle.std.specs.Prelude.{◌≡◌, ◌⊎◌, ℕ, Bool, List, length}
+use Rattle.std.specs.declared.option.Option.{Option}
+use Rattle.xfs_base.specs.Causes.{IfTold}
+use Rattle.xfs_base.specs.Counts.{LiesIn}
+use Rattle.xfs_base.specs.declared.counts.Counts.{Counts}
+use Rattle.xfs_base.specs.declared.counts.Kind.{Kind}
+use Rattle.xfs_base.specs.declared.counts.Places.{Places}
+use Rattle.xfs_base.specs.declared.money.NoteKind.{NoteKind}
+use Rattle.xfs_mech.specs.Mechanism.{Grows, Carries as MayCarry}
+use Rattle.xfs_mech.specs.declared.motion.Motion.{Motion}
+use Rattle.xfs_mech.specs.declared.motion.Motion.TheVariants.{Moved, Taken}
+use Rattle.xfs_journal.specs.Image.{Stands}
+use Rattle.xfs_journal.specs.JournalView.{StandsForEither}
+use Rattle.xfs_journal.specs.declared.record.Rec.{Rec}
+use Rattle.xfs_journal.specs.declared.record.Rec.TheVariants.{Boot}
+use Rattle.xfs_guard.specs.declared.open.Open.TheVariants.{Written}
+use Rattle.xfs_guard.specs.Recorded.{IsRecorded}
+use Rattle.xfs_guard.specs.View.{View}
+
+-- where the disk tells, a crash leaves this list
+abbrev pub Leaves : Option (List ℕ) → (List ℕ → Type 0) → List Rec → Type 0
+Leaves held images records = IfTold held (λ _. (c : List ℕ) → images c → Stands c records)
+
+-- each image stands for some list
+abbrev pub EachStands : (List ℕ → Type 0) → Type 0
+EachStands images = (c : List ℕ) → images c → (records : List Rec) × Stands c records
+
+-- the bytes stand for a list of records that is recorded with the mechanism's list
+pub record StandsRecorded (key : List ℕ) (units : List NoteKind) (motions : Option (List Motion)) (bytes : List ℕ) : Type 0 where
+  pub records : List Rec
+  pub stands : Stands bytes records
+  pub recorded : IsRecorded key units records motions
+
+-- the bytes stand for a list of records that is recorded with the mechanism's list, and with that list and one such entry more
+pub record StandsThrough (v : View) (MayAdd : Motion → Type 0) (bytes : List ℕ) : Type 0 where
+  pub records : List Rec
+  pub stands : Stands bytes records
+  pub before : IsRecorded v.key v.units records v.motions
+  pub after : (entry : Motion) (now : Option (List Motion)) → MayAdd entry → Grows v.motions entry now → IsRecorded v.key v.units records now
+
+-- an entry that the mechanism may add when it carries out the written order
+pub record MayMove (v : View) (entry : Motion) : Type 0 where
+  pub kind : Kind
+  pub counts : Counts
+  pub moved : Counts
+  pub diverted : Counts
+  pub failed : Bool
+  pub written : v.open_order ≡ Written kind counts
+  pub carried : MayCarry kind counts moved diverted failed
+  pub entry_is : entry ≡ Moved (length v.records) kind moved diverted
+
+-- an entry that the mechanism may add when the customer takes notes
+pub record MayTake (v : View) (entry : Motion) : Type 0 where
+  pub counts : Counts
+  pub lie : LiesIn counts v.places.outlet
+  pub entry_is : entry ≡ Taken counts
+
+-- one of the images before, or the bytes stand for the list that was found, with this Boot or without it
+abbrev pub IsOldOrBooted : (List ℕ → Type 0) → List ℕ → Places → List ℕ → Type 0
+IsOldOrBooted images all places bytes = images bytes ⊎ ((found : List Rec) × Stands all found × StandsForEither found (Boot places) bytes)
