@@ -1,6 +1,6 @@
 -- What was written from the boot on, once the mechanism and the disk come back.
 use Rattle.std.proofs.Common.{◌≡◌, ◌≢◌, ◌≤◌, ◌⊎◌, ℕ, false, ◌∷◌, [], ◌++◌, List, None, Some, inl, inr, refl, sym, ◌∙◌, ap, arith}
-use Rattle.std.specs.Prelude.{codes, is_some, min, ◌+◌, ◌-◌, ◌^◌}
+use Rattle.std.specs.Prelude.{codes, is_some}
 use Rattle.std.specs.declared.option.Option.{Option}
 use Rattle.xfs_base.specs.Causes.{IfTold, Rose}
 use Rattle.xfs_base.specs.declared.counts.Places.{Places}
@@ -137,10 +137,7 @@ refused-boot why status before after is written = record { why = why; status_is 
 
 -- a count that rose in a part rose in the whole
 pub rose-later : (a b c : ℕ) → a ≤ b → Rose b c → Rose a c
-rose-later a b c le rose = min_least a b c le rose
-  where
-    min_least : (a b c : ℕ) → a ≤ b → min (b + 1) (2 ^ 64 - 1) ≤ c → min (a + 1) (2 ^ 64 - 1) ≤ c
-    min_least a b c le rose = grind arith
+rose-later a b c le rose = omega (arith, le, rose)
 
 pub none-told : {T : Type 0} (held : Option T) → is_some held ≡ false → held ≡ None
 none-told None e = refl

@@ -31,6 +31,9 @@ use Rattle.xfs_guard.proofs.LedgerLaws.{live-issued}
 use Rattle.xfs_journal.specs.JournalView.{IsPossible, passes}
 use Rattle.xfs_guard.specs.declared.fail.BootFault.{BootFault}
 use Rattle.xfs_guard.specs.declared.fail.BootFault.TheVariants.{NotJournal, Disk as BootDisk, Full as BootFull, Memory as BootMemory}
+use Rattle.xfs_script.specs.Guard.{IsGuardLine}
+use Rattle.xfs_script.specs.declared.guard_line.GuardLine.{GuardLine}
+use Rattle.xfs_script.specs.declared.guard_line.GuardLine.TheVariants.{Restart}
 use Rattle.xfs_cli.specs.RestartAnswers.{RestartFails}
 use Rattle.xfs_cli.specs.declared.session.AnswerFault.{AnswerFault}
 use Rattle.xfs_cli.specs.declared.session.AnswerFault.TheVariants.{Unbooted}
@@ -291,7 +294,7 @@ pub restart-fails : {D T : Type 0} (faults : D → ℕ) (old new : GuardView D) 
 restart-fails faults old new last (Ok x) why err untold cause full fault is = absurd err
 restart-fails faults old new last (Err e) why err untold cause full fault is =
     let same : why ≡ fault = unbooted-same (sym err ∙ err-fault is) in
-    rw (← same) (by-fault why untold cause full)
+    subst (λ f. RestartFails (seen faults old last) f (seen faults new last)) same (by-fault why untold cause full)
   where
     err-fault : Err e ≡ Err (Unbooted fault) → e ≡ Unbooted fault
     err-fault e = cc
@@ -308,3 +311,9 @@ restart-fails faults old new last (Err e) why err untold cause full fault is =
     by-fault BootDisk untold cause full = cause refl
     by-fault BootFull untold cause full = let f = full refl in record { records = f.0; possible = f.1; passes_limit = f.2 }
     by-fault BootMemory untold cause full = tt
+
+-- the line of a restart, with the fault that is told
+pub restart-line : {D : Type 0} (faults : D → ℕ) (old new : GuardView D) (last last' : Option (List ℕ)) (verb : GuardLine) (text : List ℕ) (why fault : BootFault) → verb ≡ Restart → IsGuardLine text verb
+    → RestartFails (seen faults old last) why (seen faults new last') → why ≡ fault → (text ≡ codes "restart") × RestartFails (seen faults old last) fault (seen faults new last')
+restart-line faults old new last last' verb text why fault is reads fails same =
+    (subst (λ v. IsGuardLine text v) is reads, subst (λ f. RestartFails (seen faults old last) f (seen faults new last')) same fails)

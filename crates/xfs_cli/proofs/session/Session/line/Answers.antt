@@ -1,7 +1,8 @@
-use Rattle.xfs_guard.proofs.ContinueLaws.{Continues-same}
-use Rattle.std.proofs.Common.{◌≡◌, refl}
+use Rattle.std.proofs.Common.{◌≡◌, ◌∙◌, Err, refl, sym, subst, ap}
 use Rattle.xfs_guard.specs.declared.fail.BootFault.{BootFault}
+use Rattle.xfs_guard.proofs.ContinueLaws.{Continues-same}
 use Rattle.xfs_cli.specs.declared.answer.Turn.TheVariants.{Unbooted}
+use Rattle.xfs_cli.proofs.SeenLaws.{restart-line}
 use Rattle.xfs_cli.proofs.session.Session.line.Goals as goal
 
 turn-same : {a b : BootFault} → Unbooted a ≡ Unbooted b → a ≡ b
@@ -15,6 +16,5 @@ returns-in-Err-Memory-clause-continues g c = Continues-same _
 
 pub returns-in-Err-Unbooted-clause-unbooted : goal.returns-in-Err-Unbooted-clause-unbooted
 returns-in-Err-Unbooted-clause-unbooted g c = λ fault is.
-    let same : c.in-Err-Unbooted.fault ≡ fault = turn-same is in
-    let fails = c.in-Err-Unbooted.ensures.unbooted c.in-Err-Unbooted.fault refl in
-    rw (← same) (rw fails.0 at c.in-Ok.ensures.ok, fails.1)
+    let fails = c.answer.ensures.unbooted c.in-Err-Unbooted.fault (c.in-Err-Unbooted.is ∙ ap (λ e. Err e) c.in-Err-Unbooted.field-0-is) in
+    restart-line g.D.Disk.faults c.args.self.now.guard c.answer.new.self.guard c.args.self.now.last c.answer.new.self.last _ _ c.in-Err-Unbooted.fault fault fails.0 c.in-Ok.ensures.ok fails.1 (turn-same is)
