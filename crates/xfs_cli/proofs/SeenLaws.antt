@@ -27,6 +27,7 @@ use Rattle.xfs_guard.specs.Word.{issue_word}
 use Rattle.xfs_guard.specs.declared.deny.Deny.{Deny}
 use Rattle.xfs_guard.specs.declared.deny.Deny.TheVariants.{Disk, Memory}
 use Rattle.xfs_guard.specs.declared.nonce.Nonce.{Nonce}
+use Rattle.xfs_guard.specs.declared.open.Open.TheVariants.{No}
 use Rattle.xfs_guard.proofs.LedgerLaws.{live-issued}
 use Rattle.xfs_journal.specs.JournalView.{IsPossible, passes}
 use Rattle.xfs_guard.specs.declared.fail.BootFault.{BootFault}
@@ -121,6 +122,14 @@ pub later-err : (T : Type 0) {D : Type 0} (faults : D → ℕ) (old new : GuardV
 later-err T faults old new last last' r deny disk later same = elim (is_disk deny) [
   | inl is ↦ record { mech = rw (disk (ap (λ e. Err e) is)) (omega arith); disk = later }
   | inr other ↦ record { mech = rw (same other) (omega arith); disk = later }
+]
+
+-- no order is open then either
+pub none-err : (T : Type 0) {D : Type 0} (old new : GuardView D) (r : Rec) (deny : Deny)
+    → (IsDiskFault T deny → new.state ≡ shut_at r old.state) → (deny ≢ Disk → new ≡ old) → old.state.open_order ≡ No → new.state.open_order ≡ No
+none-err T old new r deny disk same none = elim (is_disk deny) [
+  | inl is ↦ rw (disk (ap (λ e. Err e) is)) none
+  | inr other ↦ rw (same other) none
 ]
 
 pub later-ok : {D : Type 0} (faults : D → ℕ) (old new : GuardView D) (last last' : Option (List ℕ)) → new.state.faults ≡ old.state.faults → faults old.disk ≤ faults new.disk → IsLater (seen faults old last) (seen faults new last')
