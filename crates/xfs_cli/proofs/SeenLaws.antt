@@ -293,6 +293,12 @@ refused-budget a b d e f = rw (e, f) refl
 pub refused-none : (a : Option CountFault) (b : Option Deny) → a ≡ None → b ≡ None → option_or (option_map CountsFault a) (option_map Denied b) ≡ None
 refused-none a b e f = rw (e, f) refl
 
+err-fault : {T : Type 0} {a b : AnswerFault} → ◌≡◌ {A = Result T AnswerFault} (Err a) (Err b) → a ≡ b
+err-fault e = cc
+
+unbooted-same : {a b : BootFault} → ◌≡◌ {A = AnswerFault} (Unbooted a) (Unbooted b) → a ≡ b
+unbooted-same e = cc
+
 -- a restart that is refused
 pub restart-fails : {D T : Type 0} (faults : D → ℕ) (old new : GuardView D) (last : Option (List ℕ)) (result : Result T AnswerFault) (why : BootFault)
     → IsErrAnd result (λ e. e ≡ Unbooted why) → ((at : ℕ) → why ≡ NotJournal at → old.state.disk_told ≡ false)
@@ -305,12 +311,6 @@ restart-fails faults old new last (Err e) why err untold cause full fault is =
     let same : why ≡ fault = unbooted-same (sym err ∙ err-fault is) in
     subst (λ f. RestartFails (seen faults old last) f (seen faults new last)) same (by-fault why untold cause full)
   where
-    err-fault : Err e ≡ Err (Unbooted fault) → e ≡ Unbooted fault
-    err-fault e = cc
-
-    unbooted-same : Unbooted why ≡ Unbooted fault → why ≡ fault
-    unbooted-same e = cc
-
     by-fault : (why : BootFault) → ((at : ℕ) → why ≡ NotJournal at → old.state.disk_told ≡ false)
         → (◌≡◌ {A = Result (Unit {0}) BootFault} (Err why) (Err BootDisk) → Rose (faults old.disk) (faults new.disk))
         → (◌≡◌ {A = Result (Unit {0}) BootFault} (Err why) (Err BootFull)

@@ -151,7 +151,7 @@ Continues-restored key seed o motions places faults old new was told same (inr (
     (begins-possible old.records old.in_doubt J found) (λ X left. left-boot_doubt J places X (left-mount old.records old.in_doubt (old.shut || old.boot_missing) J X found left)))
 
 -- a disk that is refused as no journal tells nothing
-pub untold-refused : {T Q : Type 0} (result : Result T BootFault) (held : Option (List ℕ)) → IfErr result (λ f. (at : ℕ) → f ≡ NotJournal at → (held ≡ None) × Q)
+pub untold-refused : {T : Type 0} (Q : Type 0) (result : Result T BootFault) (held : Option (List ℕ)) → IfErr result (λ f. (at : ℕ) → f ≡ NotJournal at → (held ≡ None) × Q)
     → IfErr result (λ f. (at : ℕ) → f ≡ NotJournal at → is_some held ≡ false)
-untold-refused (Ok x) held h = tt
-untold-refused (Err f) held h = λ at is. rw (h at is).0 refl
+untold-refused Q (Ok x) held h = tt
+untold-refused Q (Err f) held h = λ at is. rw (h at is).0 refl

@@ -29,4 +29,4 @@ returns-clause-any_moment g c =
     c.survey-places.result _ c.restore.ensures.possible c.self.invariant.recorded c.restore.ensures.any_moment)
 
 pub returns-clause-untold : goal.returns-clause-untold
-returns-clause-untold g c = rw (← c.self.view_is) (untold-refused c.restore.result (g.D.Disk.held c.self.inside.ledger.disk) c.restore.ensures.not_journal)
+returns-clause-untold g c = rw (← c.self.view_is) (untold-refused _ c.restore.result (g.D.Disk.held c.self.inside.ledger.disk) c.restore.ensures.not_journal)
