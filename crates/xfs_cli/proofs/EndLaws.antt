@@ -1,18 +1,15 @@
 -- How a run ends: with one of the statuses, and with its input where nothing hinders it.
-use Rattle.std.proofs.Common.{◌≡◌, ◌⊎◌, ⊎_elim, inl, inr, ℕ, zero, suc, ◌+◌, ◌-◌, ◌<◌, ◌≤◌, true, List, [], ◌∷◌, ◌++◌, length, None, Some, refl, sym, ◌∙◌, ap, arith, length-append}
+use Rattle.std.proofs.Common.{◌≡◌, ◌⊎◌, ⊎_elim, inl, inr, ℕ, zero, suc, ◌+◌, ◌-◌, ◌<◌, ◌≤◌, List, [], ◌++◌, length, None, Some, refl, sym, ◌∙◌, ap, arith, length-append}
 use Rattle.std.proofs.lemmas.Bool.{cases_lt}
 use Rattle.std.specs.declared.option.Option.{Option}
-use Rattle.std.specs.Io.KnownBytes.{Consumes}
-use Rattle.xfs_base.specs.Causes.{IfTold, Rose}
+use Rattle.xfs_base.specs.Causes.{IfTold}
 use Rattle.xfs_base.specs.declared.counts.Places.{Places}
 use Rattle.xfs_journal.specs.Image.{Stands}
-use Rattle.xfs_journal.specs.JournalView.{passes}
 use Rattle.xfs_journal.specs.Paging.{CeasesAt}
 use Rattle.xfs_journal.specs.declared.limits.Limits.{Limits}
 use Rattle.xfs_journal.specs.declared.record.Rec.{Rec}
-use Rattle.xfs_journal.specs.declared.record.Rec.TheVariants.{Boot}
 use Rattle.xfs_journal.proofs.Unique.{stands_for_one}
-use Rattle.xfs_script.specs.Lines.{first_line, rest}
+use Rattle.xfs_script.specs.Lines.{rest}
 use Rattle.xfs_script.specs.declared.guard_line.GuardLine.TheVariants.{Skip}
 use Rattle.xfs_script.specs.declared.line.LineFault.{LineFault}
 use Rattle.xfs_script.specs.declared.line.LineFault.TheVariants.{Read, Quota, TooLong, Memory}
@@ -21,7 +18,7 @@ use Rattle.xfs_guard.specs.declared.fail.BootFault.TheVariants.{NotJournal, Disk
 use Rattle.xfs_cli.specs.Boots.{BootPasses, IsNoJournal, boot_status}
 use Rattle.xfs_cli.specs.GuardLines.{IsLine, behind}
 use Rattle.xfs_cli.specs.Run.{AllLines, StopsAtLine, GaveAll, status_of}
-use Rattle.xfs_cli.specs.Statuses.{HasRestart, IsOneOf, IsStatus, IsUnhindered, IsFinished}
+use Rattle.xfs_cli.specs.Statuses.{HasRestart, IsStatus, IsUnhindered, IsFinished}
 
 -- the statuses of the faults of the input and of a refused boot are of the table
 pub status-fault : (fault : LineFault) → IsStatus (status_of fault)
@@ -49,9 +46,9 @@ lines-all : (text : List ℕ) → AllLines text → ¬ (StopsAtLine text)
 lines-all text all stops = elim (cases_lt stops.many all.many) [
   | inl within ↦ stops.none (all.lines stops.many within)
   | inr past ↦ (
-    let more = stops.many - all.many in
-    let is : stops.many ≡ all.many + more = omega (arith, past) in
-    stops.none (rw (is, behind-end all.many more text all.whole) empty-line))
+      let more = stops.many - all.many in
+      let is : stops.many ≡ all.many + more = omega (arith, past) in
+      stops.none (rw (is, behind-end all.many more text all.whole) empty-line))
 ]
 
 -- a short input doesn't give all that there may be

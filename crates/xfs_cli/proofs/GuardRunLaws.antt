@@ -1,5 +1,5 @@
 -- What was written from the boot on, once the mechanism and the disk come back.
-use Rattle.std.proofs.Common.{◌≡◌, ◌≢◌, ◌≤◌, ◌⊎◌, ℕ, false, ◌∷◌, [], ◌++◌, List, None, Some, inl, inr, refl, sym, ◌∙◌, ap, arith}
+use Rattle.std.proofs.Common.{◌≡◌, ◌≢◌, ◌≤◌, ℕ, false, ◌∷◌, [], ◌++◌, List, None, Some, inl, inr, refl, sym, ◌∙◌, ap, arith}
 use Rattle.std.specs.Prelude.{codes, is_some}
 use Rattle.std.specs.declared.option.Option.{Option}
 use Rattle.xfs_base.specs.Causes.{IfTold, Rose}

@@ -39,8 +39,8 @@ use Rattle.xfs_cli.specs.RestartAnswers.{RestartFails}
 use Rattle.xfs_cli.specs.declared.session.AnswerFault.{AnswerFault}
 use Rattle.xfs_cli.specs.declared.session.AnswerFault.TheVariants.{Unbooted}
 use Rattle.xfs_cli.specs.Refused.{refusal_text}
-use Rattle.xfs_cli.specs.Seen.{Seen, IsLater, Becomes, Fails, seen, shut_at}
-use Rattle.xfs_cli.specs.LineAnswers.{IsRefused, IsInDoubt, IsDone, WritesOne, WritesNone}
+use Rattle.xfs_cli.specs.Seen.{Seen, IsLater, seen, shut_at}
+use Rattle.xfs_cli.specs.LineAnswers.{WritesOne, WritesNone}
 use Rattle.xfs_cli.specs.OrderAnswers.{Carries, IsStopped, Stacks, refusal_of, order_of, with_stacked}
 use Rattle.xfs_cli.specs.VerbAnswers.{Issues, Clears, next_record}
 use Rattle.xfs_cli.specs.declared.refused.Refusal.{Refusal}
@@ -251,7 +251,7 @@ pub stacks-next : (issue : ℕ) (counts : List ℕ) (u at : ℕ) (all one : Outc
     → Stacks issue (drop (u + 1) counts) (u + 1) (with_stacked all at one) middle result next → Stacks issue (drop u counts) u all s result next
 stacks-next issue counts u at all one s middle result next is =
     subst (λ i. slice_index counts i ≢ 0 → Carries s (Stack issue (u + 1) (slice_index counts i)) (Ok one) middle → one.failed ≡ false
-        → Stacks issue (drop (u + 1) counts) (u + 1) (with_stacked all i one) middle result next → Stacks issue (drop u counts) u all s result next) (sym is)
+    → Stacks issue (drop (u + 1) counts) (u + 1) (with_stacked all i one) middle result next → Stacks issue (drop u counts) u all s result next) (sym is)
     (λ some carried fine h. stacks-first issue counts u all s result next some (stacks-unit issue (slice_index counts u) (drop (u + 1) counts) u all one s middle result next some carried fine h))
 
 pub stacks-stop : (issue : ℕ) (counts : List ℕ) (u at : ℕ) (all : Outcome) (s middle : Seen) (result result' : Result Outcome Deny) (deny : Deny)
@@ -304,7 +304,7 @@ pub restart-fails : {D T : Type 0} (faults : D → ℕ) (old new : GuardView D) 
     → IsErrAnd result (λ e. e ≡ Unbooted why) → ((at : ℕ) → why ≡ NotJournal at → old.state.disk_told ≡ false)
     → (◌≡◌ {A = Result (Unit {0}) BootFault} (Err why) (Err BootDisk) → Rose (faults old.disk) (faults new.disk))
     → (◌≡◌ {A = Result (Unit {0}) BootFault} (Err why) (Err BootFull)
-        → (J : List Rec) × IsPossible old.state.records old.state.in_doubt J × (passes old.state.limits (J ++ Boot old.state.places ∷ []) ≡ true))
+    → (J : List Rec) × IsPossible old.state.records old.state.in_doubt J × (passes old.state.limits (J ++ Boot old.state.places ∷ []) ≡ true))
     → (fault : BootFault) → result ≡ Err (Unbooted fault) → RestartFails (seen faults old last) fault (seen faults new last)
 restart-fails faults old new last (Ok x) why err untold cause full fault is = absurd err
 restart-fails faults old new last (Err e) why err untold cause full fault is =
@@ -314,7 +314,7 @@ restart-fails faults old new last (Err e) why err untold cause full fault is =
     by-fault : (why : BootFault) → ((at : ℕ) → why ≡ NotJournal at → old.state.disk_told ≡ false)
         → (◌≡◌ {A = Result (Unit {0}) BootFault} (Err why) (Err BootDisk) → Rose (faults old.disk) (faults new.disk))
         → (◌≡◌ {A = Result (Unit {0}) BootFault} (Err why) (Err BootFull)
-            → (J : List Rec) × IsPossible old.state.records old.state.in_doubt J × (passes old.state.limits (J ++ Boot old.state.places ∷ []) ≡ true))
+        → (J : List Rec) × IsPossible old.state.records old.state.in_doubt J × (passes old.state.limits (J ++ Boot old.state.places ∷ []) ≡ true))
         → RestartFails (seen faults old last) why (seen faults new last)
     by-fault (NotJournal at) untold cause full = untold at refl
     by-fault BootDisk untold cause full = cause refl

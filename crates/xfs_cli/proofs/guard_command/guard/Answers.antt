@@ -95,7 +95,7 @@ returns-in-Ok-clause-newer g c =
 pub returns-in-Ok-clause-finishes : goal.returns-in-Ok-clause-finishes
 returns-in-Ok-clause-finishes g c =
     let end = c.serve-status.ensures in
-    λ guard. finishes _ _ (g.S.Source.left c.serve-status.new.source) _ _ _ _ _ _ (causes-served _ _ _ _ _ _ _ _ _ end.statuses end.usage 
+    λ guard. finishes _ _ (g.S.Source.left c.serve-status.new.source) _ _ _ _ _ _ (causes-served _ _ _ _ _ _ _ _ _ end.statuses end.usage
     (λ six. rw c.ended-mech.ensures.disk (rose-later _ _ _ c.in-Ok.ensures.faults (end.failed six)))
     (λ seven. none-told _ (rw c.in-Ok.ensures.ok.2 at end.untold seven))
     (λ twelve. restart-line IsLine AnswersGuard _ _ _ _ _ _ _ _ (end.until (λ e. omega (arith, twelve, e)) (λ e. omega (arith, twelve, e))) twelve) end.read end.not_a_line end.write end.quota)
