@@ -1,7 +1,7 @@
-use Rattle.std.proofs.Common.{inl, inr, refl, ap, ◌∙◌, arith}
-use Rattle.xfs_guard.specs.View.{View}
+use Rattle.std.proofs.Common.{◌≡◌, ◌∙◌, inl, inr, refl, ap, arith}
 use Rattle.std.proofs.lemmas.Result.{IfOk-weaker}
 use Rattle.xfs_guard.proofs.ContinueLaws.{Continues-trans}
+use Rattle.xfs_guard.specs.View.{View}
 use Rattle.xfs_cli.specs.Seen.{seen}
 use Rattle.xfs_cli.proofs.SeenLaws.{wrote-kept, wrote-err, later-err, later-trans, none-err}
 use Rattle.xfs_guard.proofs.BehindLaws.{behind-trans}
@@ -68,11 +68,12 @@ pub returns-in-Err-clause-later : goal.returns-in-Err-clause-later
 returns-in-Err-clause-later g c =
     let e = c.in_ok-outcome.ensures in
     let w = c.in-Err.ensures in
-    later-trans _ (seen g.D.Disk.faults c.load.new.self c.args.self.now.last) _ (record { mech = e.later; disk = rw e.same (omega arith) })
+    let same : g.D.Disk.faults c.load.new.self.disk ≡ g.D.Disk.faults c.args.self.now.guard.disk = ap g.D.Disk.faults e.same in
+    later-trans (seen g.D.Disk.faults c.args.self.now.guard c.args.self.now.last) (seen g.D.Disk.faults c.load.new.self c.args.self.now.last) _ (record { mech = e.later; disk = omega (arith, same) })
     (later-err (Unit {0}) g.D.Disk.faults c.load.new.self c.note_load.new.self _ _ _ c.in-Err.deny w.disk w.later w.same)
 
 pub returns-in-Err-clause-none : goal.returns-in-Err-clause-none
 returns-in-Err-clause-none g c =
-    let e = c.in_ok-outcome.ensures in
     let w = c.in-Err.ensures in
-    none-err (Unit {0}) c.load.new.self c.note_load.new.self _ c.in-Err.deny w.disk w.same (ap (λ (v : View). v.open_order) e.ok.same ∙ c.requires.none)
+    let kept = ap (λ (v : View). v.open_order) c.in_ok-outcome.ensures.ok.same in
+    none-err (Unit {0}) c.load.new.self c.note_load.new.self _ c.in-Err.deny w.disk w.same (kept ∙ c.requires.none)
