@@ -219,6 +219,7 @@ impl<M: Mechanism, D: Disk> Session<M, D> {
         ensures unbooted { (fault : BootFault) → result ≡ Err (AnswerFault.Unbooted fault) → RestartFails (seen D.faults self.old.guard self.old.last) fault (seen D.faults self.new.guard self.new.last) }
         ensures later { IsLater (seen D.faults self.old.guard self.old.last) (seen D.faults self.new.guard self.new.last) }
         ensures continues { Continues self.old.guard.state self.new.guard.state }
+        ensures crashes { LeavesBehind D.held D.images D.moment D.images_since self.old.guard self.new.guard }
         ensures none { self.new.guard.state.open_order ≡ No }
         ensures key { self.new.key ≡ self.old.key }
     {

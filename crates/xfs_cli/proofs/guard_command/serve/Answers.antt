@@ -57,6 +57,10 @@ returns-in-Unbooted-clause-until g c = λ not_zero not_five.
 pub returns-in-Unbooted-clause-continues : goal.returns-in-Unbooted-clause-continues
 returns-in-Unbooted-clause-continues g c = Continues-trans _ _ _ c.loop.invariant.continues c.line.ensures.continues
 
+pub returns-in-Unbooted-clause-crashes : goal.returns-in-Unbooted-clause-crashes
+returns-in-Unbooted-clause-crashes g c =
+    behind-trans g.D.Disk.held g.D.Disk.images g.D.Disk.moment g.D.Disk.images_since _ _ _ g.met.D.Disk.counts_now c.loop.invariant.continues c.line.ensures.continues c.loop.invariant.crashes c.line.ensures.crashes
+
 pub returns-in-Unbooted-clause-failed : goal.returns-in-Unbooted-clause-failed
 returns-in-Unbooted-clause-failed g c = λ six.
     let stop = stops-restart g.D.Disk.faults c.line.new.self.guard c.line.new.self.last _ _ c.in-Ok-Some.line.text (seen g.D.Disk.faults c.loop.session.guard c.loop.session.last) c.unbooted.ensures.status c.line.ensures.faults (c.in-Unbooted.ensures.unbooted _ refl) in

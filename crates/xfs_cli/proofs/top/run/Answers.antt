@@ -1,3 +1,4 @@
+use Rattle.std.proofs.Common.{refl}
 use Rattle.xfs_cli.proofs.RunLaws.{upholds-same}
 use Rattle.xfs_cli.proofs.MomentLaws.{moments-same}
 use Rattle.xfs_cli.proofs.top.run.Goals as goal
