@@ -38,12 +38,12 @@ module _ {D : Type 0} (held : D → Option (List ℕ)) (images : D → List ℕ 
       → WasOnTheWayAll held moment since old new motions
   moments-same old new motions only_now rest same = rw same (on_told (held old) (λ bytes. (J : List Rec) → Stands bytes J → LeavesOnly moment since old old (WasOnTheWay J (held old) motions)) (λ bytes told J stands.
       started moment since old (WasOnTheWay J (held old) motions) (λ c left.
-          let here : Stands c J = rw (from_told (held old) (λ b. Only b (images old)) rest bytes told c (only_now old c left)) stands in record {
-            list = J;
-            stands = here;
-            begins = begins-same J;
-            front = on_told (held old) (λ now. (R : List Rec) → Stands now R → IsFront R motions J) (λ now is R reads. inl (rw (stands_for_one now R J reads (rw (same_bytes now bytes is told) stands)) (begins-same J)));
-          })))
+      let here : Stands c J = rw (from_told (held old) (λ b. Only b (images old)) rest bytes told c (only_now old c left)) stands in record {
+        list = J;
+        stands = here;
+        begins = begins-same J;
+        front = on_told (held old) (λ now. (R : List Rec) → Stands now R → IsFront R motions J) (λ now is R reads. inl (rw (stands_for_one now R J reads (rw (same_bytes now bytes is told) stands)) (begins-same J)));
+      })))
     where
       same_bytes : (now bytes : List ℕ) → held old ≡ Some now → held old ≡ Some bytes → now ≡ bytes
       same_bytes now bytes is told = let e : Some now ≡ Some bytes = sym is ∙ told in cc
@@ -108,7 +108,7 @@ module _ {D : Type 0} (held : D → Option (List ℕ)) (images : D → List ℕ 
       let later = from_told (held first.disk) (λ _. LeavesOnly moment since first.disk last.disk (λ c. images first.disk c ⊎ StandsLeft first.state last.state c)) behind.moments still.0 still.1 in
       weaken moment since old last.disk (λ c. IsOldOrBooted (images old) bytes p c ⊎ (images first.disk c ⊎ StandsLeft first.state last.state c)) (WasOnTheWay J (held last.disk) motions)
       (λ c e. rw one (⊎_elim (λ in_boot. early c (booted-either old bytes J0 p c only (rw one at stands) in_boot))
-          (λ then. ⊎_elim (λ here. early c (booted-either old bytes J0 p c only (rw one at stands) (boot.each c (counts_now first.disk (moment old) c boot.later here)))) (late c) then) e))
+      (λ then. ⊎_elim (λ here. early c (booted-either old bytes J0 p c only (rw one at stands) (boot.each c (counts_now first.disk (moment old) c boot.later here)))) (late c) then) e))
       (joins moment since old first.disk last.disk (IsOldOrBooted (images old) bytes p) (λ c. images first.disk c ⊎ StandsLeft first.state last.state c) boot later))
     where
       front : (X : List Rec) → IsLeftAt last.state X → IfTold (held last.disk) (λ now. (R : List Rec) → Stands now R → IsFront R motions X)

@@ -73,7 +73,7 @@ module _ {D : Type 0} (held : D → Option (List ℕ)) (images : D → List ℕ 
       let each = recorded (ap is_some told) in
       weaken moment since old new (λ bytes. images old bytes ⊎ StandsReread v.records v.in_doubt p IsLeftNow bytes) (StandsRecorded v.key v.units v.motions)
       (λ bytes e. ⊎_elim
-          (λ was. recorded-possible v.key v.units v.motions v.records v.in_doubt bytes each (from_told (held old) (λ _. (c : List ℕ) → images old c → HasPossible v.records v.in_doubt c) stored all told bytes was))
-          (λ read. recorded-either v.key v.units v.motions read.list (Boot p) bytes (each read.list read.possible) (IsRecorded-boot v.key v.units read.list p v.motions (each read.list read.possible)) read.either)
-          e)
+      (λ was. recorded-possible v.key v.units v.motions v.records v.in_doubt bytes each (from_told (held old) (λ _. (c : List ℕ) → images old c → HasPossible v.records v.in_doubt c) stored all told bytes was))
+      (λ read. recorded-either v.key v.units v.motions read.list (Boot p) bytes (each read.list read.possible) (IsRecorded-boot v.key v.units read.list p v.motions (each read.list read.possible)) read.either)
+      e)
       (from_told (held old) (λ _. LeavesOnly moment since old new (λ bytes. images old bytes ⊎ StandsReread v.records v.in_doubt p IsLeftNow bytes)) leaves all told))
