@@ -1,11 +1,9 @@
 -- What a crash leaves at each moment of a restore: the journal is read again, and a Boot is appended.
-use Rattle.std.proofs.Common.{◌≡◌, ◌⊎◌, inl, inr, ⊎_elim, ℕ, ◌≤◌, Bool, true, List, [], ◌∷◌, ◌++◌, None, Some, refl, sym, ◌∙◌, ap}
+use Rattle.std.proofs.Common.{◌≡◌, ◌⊎◌, inl, inr, ⊎_elim, ℕ, true, List, [], ◌∷◌, ◌++◌, refl, ◌∙◌, ap}
 use Rattle.std.specs.Prelude.{is_some}
 use Rattle.std.specs.declared.option.Option.{Option}
 use Rattle.xfs_base.specs.Causes.{IfTold}
 use Rattle.xfs_base.specs.declared.counts.Places.{Places}
-use Rattle.xfs_base.specs.declared.money.NoteKind.{NoteKind}
-use Rattle.xfs_mech.specs.declared.motion.Motion.{Motion}
 use Rattle.xfs_disk.specs.Disk.{LeavesOnly}
 use Rattle.xfs_journal.specs.JournalView.{IsPossible, HasPossible, StandsForEither}
 use Rattle.xfs_journal.specs.Paging.{IsQuiet}
@@ -15,12 +13,11 @@ use Rattle.xfs_journal.proofs.Moments.{weaken, joins}
 use Rattle.xfs_journal.proofs.Told.{on_told, from_told}
 use Rattle.xfs_guard.specs.Crashed.{IsLeftAt, StandsLeft, StandsReread, LeavesBehind}
 use Rattle.xfs_guard.specs.Left.{StandsRecorded}
-use Rattle.xfs_guard.specs.Lives.{BeginsWith}
 use Rattle.xfs_guard.specs.Recorded.{IsRecorded}
 use Rattle.xfs_guard.specs.Stored.{IsStored}
 use Rattle.xfs_guard.specs.View.{View, GuardView}
 use Rattle.xfs_guard.proofs.BootLaws.{IsRecorded-boot}
-use Rattle.xfs_guard.proofs.CrashedLaws.{begins-same, begins-trans, begins-possible}
+use Rattle.xfs_guard.proofs.CrashedLaws.{begins-trans, begins-possible}
 use Rattle.xfs_guard.proofs.LeftLaws.{recorded-possible, recorded-either}
 use Rattle.xfs_guard.proofs.StoredLaws.{tells}
 

@@ -1,8 +1,5 @@
-use Rattle.std.proofs.Common.{◌≡◌, ◌∙◌, inl, inr, Err, ap, refl}
+use Rattle.std.proofs.Common.{inl, inr, Err, ap, refl}
 use Rattle.xfs_journal.specs.declared.record.Rec.TheVariants.{Boot}
-use Rattle.std.specs.declared.result.Result.{Result}
-use Rattle.xfs_guard.specs.declared.fail.BootFault.{BootFault}
-use Rattle.xfs_guard.specs.declared.fail.BootFault.TheVariants.{Full, Memory}
 use Rattle.xfs_guard.proofs.LedgerLaws.{IsRead-mark, Keeps-read}
 use Rattle.xfs_guard.proofs.CrashedLaws.{begins-same, begins-push, IsLoose-missing, IsLoose-in_doubt}
 use Rattle.xfs_guard.proofs.RereadLaws.{reread-append}
