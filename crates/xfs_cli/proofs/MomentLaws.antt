@@ -1,5 +1,5 @@
 -- What a crash leaves at any moment of a run goes on from the records at entry.
-use Rattle.std.proofs.Common.{◌≡◌, ◌⊎◌, inl, inr, ⊎_elim, ℕ, ◌≤◌, true, List, [], ◌∷◌, ◌++◌, None, Some, refl, sym, ◌∙◌, ap}
+use Rattle.std.proofs.Common.{◌≡◌, ◌⊎◌, inl, inr, ⊎_elim, ℕ, ◌≤◌, true, List, [], ◌∷◌, ◌++◌, Some, refl, sym, ◌∙◌, ap}
 use Rattle.std.specs.Prelude.{is_some}
 use Rattle.std.specs.declared.option.Option.{Option}
 use Rattle.xfs_base.specs.Causes.{IfTold}
@@ -17,10 +17,9 @@ use Rattle.xfs_journal.proofs.Unique.{stands_for_one}
 use Rattle.xfs_guard.specs.Continues.{Continues}
 use Rattle.xfs_guard.specs.Crashed.{IsLeft, IsLeftAt, StandsLeft, LeavesBehind}
 use Rattle.xfs_guard.specs.Left.{IsOldOrBooted}
-use Rattle.xfs_guard.specs.Lives.{BeginsWith}
 use Rattle.xfs_guard.specs.Recorded.{IsRecorded}
 use Rattle.xfs_guard.specs.Stored.{IsStored, MayLeave}
-use Rattle.xfs_guard.specs.View.{View, GuardView}
+use Rattle.xfs_guard.specs.View.{GuardView}
 use Rattle.xfs_guard.proofs.BootLaws.{IsRecorded-boot}
 use Rattle.xfs_guard.proofs.CrashedLaws.{begins-same, begins-trans, begins-push, left-front, IsLoose-in_doubt}
 use Rattle.xfs_guard.proofs.StoredLaws.{MayLeave-held, left-possible, tells}
