@@ -1,4 +1,6 @@
 pub mod AnswerLaws
+pub mod CompleteOrders
+pub mod CompleteStacks
 pub mod DispenseLaws
 pub mod EndLaws
 pub mod GuardRunLaws
