@@ -13,7 +13,7 @@ fn scripts_are_answered_line_by_line(rt: HostRuntime) -> Result<(), Fail> {
         ("issue", 0, NONCE),
         ("issue\r\n", 0, NONCE),
         ("mint 1EUR\n", 0, "token none\n"),
-        ("restart\n", 4, "line 1: not a script line\n"),
+        ("restart\nmint 1EUR\n", 0, "restarted\ntoken none\n"),
         (
             "issue\nmint 1EUR,1EUR\n",
             4,

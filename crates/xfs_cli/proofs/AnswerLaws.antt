@@ -11,6 +11,9 @@ use Rattle.xfs_script.specs.Answer.{bytes_ahead, ReadsLine}
 use Rattle.xfs_script.specs.declared.line.Line.{Line}
 use Rattle.xfs_script.specs.declared.line.LineFault.{LineFault}
 use Rattle.xfs_script.specs.declared.line.LineFault.TheVariants.{Read, Quota, TooLong, Memory}
+use Rattle.xfs_guard.specs.declared.fail.BootFault.{BootFault}
+use Rattle.xfs_guard.specs.declared.fail.BootFault.TheVariants.{NotJournal, Disk, Full, Memory as BootMemory}
+use Rattle.xfs_cli.specs.Boots.{WritesBoot, boot_status}
 use Rattle.xfs_cli.specs.GuardLines.{behind}
 use Rattle.xfs_cli.specs.Run.{status_of}
 use Rattle.xfs_cli.specs.Answers.{lines_text, first_lines, AnswersEach, WritesAll, WritesUntil, WritesFront, SaysAnswer, SaysFront, NoLineEnds, fault_line, last_line, no_line_text}
@@ -166,3 +169,20 @@ answered-fault IsLine A E start state status r s (Some text) y z old new newer (
     let number : n ≡ r.handed + 1 = reads.number in
     let none : ¬ (IsLine (first_line (behind r.handed text))) = λ line. (let l = rw a.2 at long in let e = short _ line in omega (arith, l, e)) in
     rw is (until-status IsLine A E start state 4 0 r y z old new newer text (rw is at (ends (first_line (behind r.handed text)))) h (λ four. none) (λ ten. absurd (omega (arith, ten))) (rw (← number) front))
+
+-- a restart that is refused
+pub answered-unbooted : {S : Type 0} (IsLine : List ℕ → Type 0) (A : S → List ℕ → List (List ℕ) → S → Type 0) (E : ℕ → List ℕ → S → Type 0) (start state : S) (status : ℕ) (r s : Reading) (x y z old new newer : Option (List ℕ)) (line : Line) (why : BootFault)
+    → E status line.text state → IfTold x (HasAnswered A start state r y old new) → ReadsLine r s y z (Ok (Some line)) → status ≡ boot_status why
+    → WritesBoot why new newer → IfTold x (WritesUntil IsLine A E start status z old newer)
+answered-unbooted IsLine A E start state status r s None y z old new newer line why ends h reads is front = tt
+answered-unbooted IsLine A E start state status r s (Some text) y z old new newer line why ends h reads is front =
+    let a = ahead-some r y (behind r.handed text) h.ahead in
+    let first = answer-line r a.0 line (told _ y a.0 a.1 reads.answer) in
+    let here : E status (first_line (behind r.handed text)) state = rw (← a.2, ← first) ends in
+    rw is (by-fault why (rw is at here) front)
+  where
+    by-fault : (why : BootFault) → E (boot_status why) (first_line (behind r.handed text)) state → WritesBoot why new newer → WritesUntil IsLine A E start (boot_status why) z old newer text
+    by-fault (NotJournal at) ends front = until-status IsLine A E start state 7 at r y z old new newer text ends h (λ four. absurd (omega (arith, four))) (λ ten. absurd (omega (arith, ten))) front
+    by-fault Disk ends front = until-status IsLine A E start state 6 0 r y z old new newer text ends h (λ four. absurd (omega (arith, four))) (λ ten. absurd (omega (arith, ten))) front
+    by-fault Full ends front = until-status IsLine A E start state 12 0 r y z old new newer text ends h (λ four. absurd (omega (arith, four))) (λ ten. absurd (omega (arith, ten))) front
+    by-fault BootMemory ends front = until-status IsLine A E start state 8 0 r y z old new newer text ends h (λ four. absurd (omega (arith, four))) (λ ten. absurd (omega (arith, ten))) front

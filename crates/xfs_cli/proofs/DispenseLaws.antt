@@ -1,5 +1,5 @@
 -- What the checks of a dispense say of its answer.
-use Rattle.std.proofs.Common.{◌≡◌, ◌≢◌, ◌≤◌, ◌⊎◌, ℕ, List, None, Some, Ok, Err, inl, inr, refl, sym, ◌∙◌, ap}
+use Rattle.std.proofs.Common.{◌≡◌, ◌≢◌, ◌≤◌, ℕ, List, None, Some, Ok, Err, inl, inr, refl, sym, ◌∙◌, ap}
 use Rattle.std.specs.Prelude.{IfErr, IsErrAnd, IsTrue, drop, length}
 use Rattle.std.specs.Option.{option_map}
 use Rattle.std.specs.declared.option.Option.{Option}
@@ -9,16 +9,15 @@ use Rattle.xfs_base.specs.declared.counts.Counts.{Counts as CountsOf}
 use Rattle.xfs_base.specs.declared.counts.Places.{Places}
 use Rattle.xfs_base.specs.declared.money.NoteKind.{NoteKind}
 use Rattle.xfs_mix.specs.Asked.{count_fault, is_none}
-use Rattle.xfs_mix.specs.declared.asked.CountFault.{CountFault}
 use Rattle.xfs_journal.specs.declared.record.Rec.TheVariants.{Bind}
-use Rattle.xfs_guard.specs.View.{View, GuardView}
+use Rattle.xfs_guard.specs.View.{GuardView}
 use Rattle.xfs_guard.specs.LedgerView.{IsWriteFault}
-use Rattle.xfs_guard.specs.Refusals.{Answers, Passes, bound_token, over_budget}
+use Rattle.xfs_guard.specs.Refusals.{Answers, bound_token, over_budget}
 use Rattle.xfs_guard.specs.declared.claim.Permit.{Permit}
 use Rattle.xfs_guard.specs.declared.deny.Deny.{Deny}
 use Rattle.xfs_guard.specs.declared.deny.Deny.TheVariants.{Disk, Memory}
 use Rattle.xfs_cli.specs.Seen.{Seen, seen, shut_at}
-use Rattle.xfs_cli.specs.DispenseAnswers.{IsAdmitted, IsForbidden, IsPermitted, counts_refusal}
+use Rattle.xfs_cli.specs.DispenseAnswers.{IsAdmitted, IsForbidden, IsPermitted}
 use Rattle.xfs_cli.specs.declared.refused.Refusal.{Refusal}
 use Rattle.xfs_cli.specs.declared.refused.Refusal.TheVariants.{Deny as Denied}
 use Rattle.xfs_cli.proofs.SeenLaws.{IsDiskFault, due-some, is_disk, seen-same, none-past, fits-counts, refused-budget, refused-none}

@@ -1,18 +1,15 @@
 -- How a run ends: with one of the statuses, and with its input where nothing hinders it.
-use Rattle.std.proofs.Common.{◌≡◌, inl, inr, ℕ, zero, suc, ◌+◌, ◌-◌, ◌<◌, ◌≤◌, true, List, [], ◌∷◌, ◌++◌, length, None, Some, refl, sym, ◌∙◌, ap, arith, length-append}
+use Rattle.std.proofs.Common.{◌≡◌, ◌⊎◌, ⊎_elim, inl, inr, ℕ, zero, suc, ◌+◌, ◌-◌, ◌<◌, ◌≤◌, List, [], ◌++◌, length, None, Some, refl, sym, ◌∙◌, ap, arith, length-append}
 use Rattle.std.proofs.lemmas.Bool.{cases_lt}
 use Rattle.std.specs.declared.option.Option.{Option}
-use Rattle.std.specs.Io.KnownBytes.{Consumes}
-use Rattle.xfs_base.specs.Causes.{IfTold, Rose}
+use Rattle.xfs_base.specs.Causes.{IfTold}
 use Rattle.xfs_base.specs.declared.counts.Places.{Places}
 use Rattle.xfs_journal.specs.Image.{Stands}
-use Rattle.xfs_journal.specs.JournalView.{passes}
 use Rattle.xfs_journal.specs.Paging.{CeasesAt}
 use Rattle.xfs_journal.specs.declared.limits.Limits.{Limits}
 use Rattle.xfs_journal.specs.declared.record.Rec.{Rec}
-use Rattle.xfs_journal.specs.declared.record.Rec.TheVariants.{Boot}
 use Rattle.xfs_journal.proofs.Unique.{stands_for_one}
-use Rattle.xfs_script.specs.Lines.{first_line, rest}
+use Rattle.xfs_script.specs.Lines.{rest}
 use Rattle.xfs_script.specs.declared.guard_line.GuardLine.TheVariants.{Skip}
 use Rattle.xfs_script.specs.declared.line.LineFault.{LineFault}
 use Rattle.xfs_script.specs.declared.line.LineFault.TheVariants.{Read, Quota, TooLong, Memory}
@@ -21,7 +18,7 @@ use Rattle.xfs_guard.specs.declared.fail.BootFault.TheVariants.{NotJournal, Disk
 use Rattle.xfs_cli.specs.Boots.{BootPasses, IsNoJournal, boot_status}
 use Rattle.xfs_cli.specs.GuardLines.{IsLine, behind}
 use Rattle.xfs_cli.specs.Run.{AllLines, StopsAtLine, GaveAll, status_of}
-use Rattle.xfs_cli.specs.Statuses.{IsOneOf, IsStatus, IsUnhindered, IsFinished}
+use Rattle.xfs_cli.specs.Statuses.{HasRestart, IsStatus, IsUnhindered, IsFinished}
 
 -- the statuses of the faults of the input and of a refused boot are of the table
 pub status-fault : (fault : LineFault) → IsStatus (status_of fault)
@@ -42,16 +39,16 @@ behind-end many zero text is = let none : many + 0 ≡ many = omega arith in rw 
 behind-end many (suc more) text is = let next : many + suc more ≡ suc (many + more) = omega arith in rw next (ap rest (behind-end many more text is))
 
 empty-line : IsLine []
-empty-line = record { verb = Skip; reads = tt; built = tt; short = omega arith }
+empty-line = record { verb = Skip; reads = tt; short = omega arith }
 
 -- a text of lines alone stops at none
 lines-all : (text : List ℕ) → AllLines text → ¬ (StopsAtLine text)
 lines-all text all stops = elim (cases_lt stops.many all.many) [
   | inl within ↦ stops.none (all.lines stops.many within)
   | inr past ↦ (
-    let more = stops.many - all.many in
-    let is : stops.many ≡ all.many + more = omega (arith, past) in
-    stops.none (rw (is, behind-end all.many more text all.whole) empty-line))
+      let more = stops.many - all.many in
+      let is : stops.many ≡ all.many + more = omega (arith, past) in
+      stops.none (rw (is, behind-end all.many more text all.whole) empty-line))
 ]
 
 -- a short input doesn't give all that there may be
@@ -71,7 +68,7 @@ pub record HasCauses (status : ℕ) (left left' held : Option (List ℕ)) (limit
   pub disk_fault : status ≡ 6 → disk
   pub journal : status ≡ 7 → IfTold held IsNoJournal
   pub quota : status ≡ 10 → GaveAll left left'
-  pub full : status ≡ 12 → IfTold held (λ bytes. (J : List Rec) → Stands bytes J → BootPasses limits places J)
+  pub full : status ≡ 12 → IfTold left (λ text. IfTold held (λ bytes. (J : List Rec) → Stands bytes J → BootPasses limits places J ⊎ HasRestart text))
 
 -- a refused boot has the cause of its status
 pub causes-refused : (why : BootFault) (status : ℕ) (left left' held : Option (List ℕ)) (limits : Limits) (places : Places) (source sink disk : Type 0) → status ≡ boot_status why
@@ -122,19 +119,28 @@ causes-refused why status left left' held limits places source sink disk is none
     seven NoMemory e none = absurd (omega (arith, e))
 
     twelve : (why : BootFault) → boot_status why ≡ 12 → (why ≡ Full → (J : List Rec) × IfTold held (λ bytes. Stands bytes J) × BootPasses limits places J)
-        → IfTold held (λ bytes. (J : List Rec) → Stands bytes J → BootPasses limits places J)
+        → IfTold left (λ text. IfTold held (λ bytes. (J : List Rec) → Stands bytes J → BootPasses limits places J ⊎ HasRestart text))
     twelve (NotJournal at) e full = absurd (omega (arith, e))
     twelve Disk e full = absurd (omega (arith, e))
-    twelve Full e full = let over = full refl in go held over.0 over.1 over.2
+    twelve Full e full = let over = full refl in go left held over.0 over.1 over.2
       where
-        go : (held : Option (List ℕ)) (J : List Rec) → IfTold held (λ bytes. Stands bytes J) → BootPasses limits places J → IfTold held (λ bytes. (J : List Rec) → Stands bytes J → BootPasses limits places J)
-        go None J stood over = tt
-        go (Some bytes) J stood over = λ K stands. rw (stands_for_one bytes K J stands stood) over
+        go : (left held : Option (List ℕ)) (J : List Rec) → IfTold held (λ bytes. Stands bytes J) → BootPasses limits places J
+            → IfTold left (λ text. IfTold held (λ bytes. (J : List Rec) → Stands bytes J → BootPasses limits places J ⊎ HasRestart text))
+        go None held J stood over = tt
+        go (Some text) None J stood over = tt
+        go (Some text) (Some bytes) J stood over = λ K stands. inl (rw (stands_for_one bytes K J stands stood) over)
     twelve NoMemory e full = absurd (omega (arith, e))
+
+-- where a line of the input is `restart`, its Boot may pass a limit
+pub full-restart : (left held : Option (List ℕ)) (limits : Limits) (places : Places) → IfTold left HasRestart
+    → IfTold left (λ text. IfTold held (λ bytes. (J : List Rec) → Stands bytes J → BootPasses limits places J ⊎ HasRestart text))
+full-restart None held limits places has = tt
+full-restart (Some text) None limits places has = tt
+full-restart (Some text) (Some bytes) limits places has = λ J stands. inr has
 
 -- a run whose boot was not refused has the cause of its status
 pub causes-served : (status : ℕ) (left left' held : Option (List ℕ)) (limits : Limits) (places : Places) (source sink disk : Type 0) → IsStatus status
-    → (status ≡ 2 → ⊥) → (status ≡ 6 → ⊥) → (status ≡ 7 → ⊥) → (status ≡ 12 → ⊥)
+    → (status ≡ 2 → ⊥) → (status ≡ 6 → disk) → (status ≡ 7 → held ≡ None) → (status ≡ 12 → IfTold left HasRestart)
     → (status ≡ 3 → source) → (status ≡ 4 → IfTold left StopsAtLine) → (status ≡ 5 → sink) → (status ≡ 10 → GaveAll left left')
     → HasCauses status left left' held limits places source sink disk
 causes-served status left left' held limits places source sink disk one two six seven twelve read line write quota = record {
@@ -143,10 +149,10 @@ causes-served status left left' held limits places source sink disk one two six 
   read = read;
   line = line;
   write = write;
-  disk_fault = λ e. absurd (six e);
-  journal = λ e. absurd (seven e);
+  disk_fault = six;
+  journal = λ e. rw (seven e) tt;
   quota = quota;
-  full = λ e. absurd (twelve e);
+  full = λ e. full-restart left held limits places (twelve e);
 }
 
 -- where no cause is there, the run ends with its input
@@ -166,5 +172,5 @@ finishes status (Some text) left' (Some bytes) limits places source sink disk ca
     by_status J stands free (inr (inr (inr (inr (inr (inr (inl is))))))) = absurd (causes.journal is J stands)
     by_status J stands free (inr (inr (inr (inr (inr (inr (inr (inl is)))))))) = inr is
     by_status J stands free (inr (inr (inr (inr (inr (inr (inr (inr (inl is))))))))) = absurd (short-all text left' free.short (causes.quota is))
-    by_status J stands free (inr (inr (inr (inr (inr (inr (inr (inr (inr (inl is)))))))))) = absurd (free.boots (causes.full is J stands))
+    by_status J stands free (inr (inr (inr (inr (inr (inr (inr (inr (inr (inl is)))))))))) = absurd (⊎_elim free.boots free.restarts (causes.full is J stands))
     by_status J stands free (inr (inr (inr (inr (inr (inr (inr (inr (inr (inr none)))))))))) = absurd none

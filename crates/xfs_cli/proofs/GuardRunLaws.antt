@@ -1,7 +1,8 @@
 -- What was written from the boot on, once the mechanism and the disk come back.
-use Rattle.std.proofs.Common.{◌≡◌, ◌≢◌, ◌≤◌, ◌⊎◌, ℕ, ◌∷◌, [], ◌++◌, List, None, Some, inl, inr, refl, sym, ◌∙◌, ap, arith}
+use Rattle.std.proofs.Common.{◌≡◌, ◌≢◌, ◌≤◌, ℕ, false, ◌∷◌, [], ◌++◌, List, None, Some, inl, inr, refl, sym, ◌∙◌, ap, arith}
+use Rattle.std.specs.Prelude.{codes, is_some}
 use Rattle.std.specs.declared.option.Option.{Option}
-use Rattle.xfs_base.specs.Causes.{IfTold}
+use Rattle.xfs_base.specs.Causes.{IfTold, Rose}
 use Rattle.xfs_base.specs.declared.counts.Places.{Places}
 use Rattle.xfs_mech.specs.declared.motion.Motion.{Motion}
 use Rattle.xfs_journal.specs.Image.{Stands}
@@ -14,8 +15,12 @@ use Rattle.xfs_script.specs.declared.line.LineFault.TheVariants.{Read, Quota, To
 use Rattle.xfs_cli.specs.GuardLines.{behind}
 use Rattle.xfs_cli.specs.Run.{status_of}
 use Rattle.xfs_cli.specs.Answers.{WritesAll, WritesFront, WritesUntil}
-use Rattle.xfs_cli.specs.Boots.{WritesBoot, boot_status}
+use Rattle.xfs_cli.specs.Boots.{BootPasses, EndsFull, WritesBoot, boot_status}
+use Rattle.xfs_journal.specs.declared.limits.Limits.{Limits}
+use Rattle.xfs_cli.specs.Statuses.{HasRestart}
 use Rattle.xfs_guard.specs.declared.fail.BootFault.{BootFault}
+use Rattle.xfs_guard.specs.declared.fail.BootFault.TheVariants.{NotJournal, Disk, Full, Memory as BootMemory}
+use Rattle.xfs_cli.specs.RestartAnswers.{HasNoRoom, RestartFails}
 use Rattle.xfs_cli.specs.GuardRuns.{FromBoot, IsEnd, IsOfBoot, IsStop, IsWithin, IsUnbooted}
 use Rattle.xfs_cli.specs.Seen.{Seen, IsLater, seen}
 
@@ -49,6 +54,35 @@ fault-plain Read = (λ e. omega (arith, e), λ e. omega (arith, e), λ e. omega 
 fault-plain Quota = (λ e. omega (arith, e), λ e. omega (arith, e), λ e. omega (arith, e))
 fault-plain (TooLong n) = (λ e. omega (arith, e), λ e. omega (arith, e), λ e. omega (arith, e))
 fault-plain Memory = (λ e. omega (arith, e), λ e. omega (arith, e), λ e. omega (arith, e))
+
+-- an end at a restart
+pub stops-restart : {D : Type 0} (faults : D → ℕ) (g : GuardView D) (last : Option (List ℕ)) (status : ℕ) (why : BootFault) (line : List ℕ) (s : Seen) → status ≡ boot_status why
+    → IsLater s (seen faults g last) → (line ≡ codes "restart") × RestartFails s why (seen faults g last) → IsStop g.state.faults (faults g.disk) status line s
+stops-restart faults g last status why line s is later fails = record {
+  within = record { mech = later.mech; disk = later.disk };
+  restart = λ boot. fails.0;
+  failed = λ e. failed why (sym is ∙ e) fails.1;
+  untold = λ e. untold why (sym is ∙ e) fails.1;
+  full = λ e. full why (sym is ∙ e) fails.1;
+}
+  where
+    failed : (why : BootFault) → boot_status why ≡ 6 → RestartFails s why (seen faults g last) → Rose s.disk_faults (faults g.disk)
+    failed (NotJournal at) e h = absurd (omega (arith, e))
+    failed Disk e h = h
+    failed Full e h = absurd (omega (arith, e))
+    failed BootMemory e h = absurd (omega (arith, e))
+
+    untold : (why : BootFault) → boot_status why ≡ 7 → RestartFails s why (seen faults g last) → s.guard.disk_told ≡ false
+    untold (NotJournal at) e h = h
+    untold Disk e h = absurd (omega (arith, e))
+    untold Full e h = absurd (omega (arith, e))
+    untold BootMemory e h = absurd (omega (arith, e))
+
+    full : (why : BootFault) → boot_status why ≡ 12 → RestartFails s why (seen faults g last) → HasNoRoom s.guard
+    full (NotJournal at) e h = absurd (omega (arith, e))
+    full Disk e h = absurd (omega (arith, e))
+    full Full e h = h
+    full BootMemory e h = absurd (omega (arith, e))
 
 -- the counts of an end are those of what comes back
 pub stops-at : {D : Type 0} (faults : D → ℕ) (g : GuardView D) (mech : ℕ) (disk : D) → mech ≡ g.state.faults → disk ≡ g.disk
@@ -100,3 +134,25 @@ from-boot faults g guard_of places held before J Writes stands is later writes =
 -- a refused boot
 pub refused-boot : (why : BootFault) (status : ℕ) (before after : Option (List ℕ)) → status ≡ boot_status why → WritesBoot why before after → IsUnbooted status before after
 refused-boot why status before after is written = record { why = why; status_is = is; written = written }
+
+-- a count that rose in a part rose in the whole
+pub rose-later : (a b c : ℕ) → a ≤ b → Rose b c → Rose a c
+rose-later a b c le rose = omega (arith, le, rose)
+
+pub none-told : {T : Type 0} (held : Option T) → is_some held ≡ false → held ≡ None
+none-told None e = refl
+none-told (Some x) e = cc
+
+-- a refused boot whose Boot passes a limit
+pub ends-full : (why : BootFault) (limits : Limits) (places : Places) (held before after : Option (List ℕ)) (status : ℕ) → status ≡ boot_status why → WritesBoot why before after
+    → (why ≡ Full → (J : List Rec) × IfTold held (λ bytes. Stands bytes J) × BootPasses limits places J) → status ≡ 12 → EndsFull limits places held before after
+ends-full (NotJournal at) limits places held before after status is written full twelve = absurd (omega (arith, is, twelve))
+ends-full Disk limits places held before after status is written full twelve = absurd (omega (arith, is, twelve))
+ends-full Full limits places held before after status is written full twelve = let f = full refl in record { records = f.0; stands = f.1; passes_limit = f.2; written = written }
+ends-full BootMemory limits places held before after status is written full twelve = absurd (omega (arith, is, twelve))
+
+-- under status 12 a line of the input is `restart`
+pub restart-line : (L : List ℕ → Type 0) (A : Seen → List ℕ → List (List ℕ) → Seen → Type 0) (mech disk : ℕ) (start : Seen) (status : ℕ) (source left old new : Option (List ℕ))
+    → IfTold source (WritesUntil L A (IsStop mech disk) start status left old new) → status ≡ 12 → IfTold source HasRestart
+restart-line L A mech disk start status None left old new h twelve = tt
+restart-line L A mech disk start status (Some text) left old new h twelve = record { many = h.many; line = h.answers.ends.restart (inr (inr twelve)) }

@@ -12,4 +12,3 @@ pub mod SeenLaws
 pub mod StartLaws
 pub mod TokenTexts
 pub mod UnreadLaws
-pub mod VerbLaws

@@ -18,7 +18,7 @@ use Rattle.xfs_guard.specs.declared.ask.Ask.{Ask}
 use Rattle.xfs_guard.specs.declared.ask.Ask.TheVariants.{Stack}
 use Rattle.xfs_journal.specs.Journal.{next_issue, nonce_text}
 use Rattle.xfs_journal.specs.declared.record.Rec.{Rec}
-use Rattle.xfs_journal.specs.declared.record.Rec.TheVariants.{Issue, Clear}
+use Rattle.xfs_journal.specs.declared.record.Rec.TheVariants.{Issue, Clear, Boot}
 use Rattle.xfs_guard.specs.View.{View, GuardView}
 use Rattle.xfs_guard.specs.Fits.{unfit}
 use Rattle.xfs_guard.specs.Nonce.{live_nonce}
@@ -27,10 +27,20 @@ use Rattle.xfs_guard.specs.Word.{issue_word}
 use Rattle.xfs_guard.specs.declared.deny.Deny.{Deny}
 use Rattle.xfs_guard.specs.declared.deny.Deny.TheVariants.{Disk, Memory}
 use Rattle.xfs_guard.specs.declared.nonce.Nonce.{Nonce}
+use Rattle.xfs_guard.specs.declared.open.Open.TheVariants.{No}
 use Rattle.xfs_guard.proofs.LedgerLaws.{live-issued}
+use Rattle.xfs_journal.specs.JournalView.{IsPossible, passes}
+use Rattle.xfs_guard.specs.declared.fail.BootFault.{BootFault}
+use Rattle.xfs_guard.specs.declared.fail.BootFault.TheVariants.{NotJournal, Disk as BootDisk, Full as BootFull, Memory as BootMemory}
+use Rattle.xfs_script.specs.Guard.{IsGuardLine}
+use Rattle.xfs_script.specs.declared.guard_line.GuardLine.{GuardLine}
+use Rattle.xfs_script.specs.declared.guard_line.GuardLine.TheVariants.{Restart}
+use Rattle.xfs_cli.specs.RestartAnswers.{RestartFails}
+use Rattle.xfs_cli.specs.declared.session.AnswerFault.{AnswerFault}
+use Rattle.xfs_cli.specs.declared.session.AnswerFault.TheVariants.{Unbooted}
 use Rattle.xfs_cli.specs.Refused.{refusal_text}
-use Rattle.xfs_cli.specs.Seen.{Seen, IsLater, Becomes, Fails, seen, shut_at}
-use Rattle.xfs_cli.specs.LineAnswers.{IsRefused, IsInDoubt, IsDone, WritesOne, WritesNone}
+use Rattle.xfs_cli.specs.Seen.{Seen, IsLater, seen, shut_at}
+use Rattle.xfs_cli.specs.LineAnswers.{WritesOne, WritesNone}
 use Rattle.xfs_cli.specs.OrderAnswers.{Carries, IsStopped, Stacks, refusal_of, order_of, with_stacked}
 use Rattle.xfs_cli.specs.VerbAnswers.{Issues, Clears, next_record}
 use Rattle.xfs_cli.specs.declared.refused.Refusal.{Refusal}
@@ -112,6 +122,14 @@ pub later-err : (T : Type 0) {D : Type 0} (faults : D → ℕ) (old new : GuardV
 later-err T faults old new last last' r deny disk later same = elim (is_disk deny) [
   | inl is ↦ record { mech = rw (disk (ap (λ e. Err e) is)) (omega arith); disk = later }
   | inr other ↦ record { mech = rw (same other) (omega arith); disk = later }
+]
+
+-- no order is open then either
+pub none-err : (T : Type 0) {D : Type 0} (old new : GuardView D) (r : Rec) (deny : Deny)
+    → (IsDiskFault T deny → new.state ≡ shut_at r old.state) → (deny ≢ Disk → new ≡ old) → old.state.open_order ≡ No → new.state.open_order ≡ No
+none-err T old new r deny disk same none = elim (is_disk deny) [
+  | inl is ↦ rw (disk (ap (λ e. Err e) is)) none
+  | inr other ↦ rw (same other) none
 ]
 
 pub later-ok : {D : Type 0} (faults : D → ℕ) (old new : GuardView D) (last last' : Option (List ℕ)) → new.state.faults ≡ old.state.faults → faults old.disk ≤ faults new.disk → IsLater (seen faults old last) (seen faults new last')
@@ -233,7 +251,7 @@ pub stacks-next : (issue : ℕ) (counts : List ℕ) (u at : ℕ) (all one : Outc
     → Stacks issue (drop (u + 1) counts) (u + 1) (with_stacked all at one) middle result next → Stacks issue (drop u counts) u all s result next
 stacks-next issue counts u at all one s middle result next is =
     subst (λ i. slice_index counts i ≢ 0 → Carries s (Stack issue (u + 1) (slice_index counts i)) (Ok one) middle → one.failed ≡ false
-        → Stacks issue (drop (u + 1) counts) (u + 1) (with_stacked all i one) middle result next → Stacks issue (drop u counts) u all s result next) (sym is)
+    → Stacks issue (drop (u + 1) counts) (u + 1) (with_stacked all i one) middle result next → Stacks issue (drop u counts) u all s result next) (sym is)
     (λ some carried fine h. stacks-first issue counts u all s result next some (stacks-unit issue (slice_index counts u) (drop (u + 1) counts) u all one s middle result next some carried fine h))
 
 pub stacks-stop : (issue : ℕ) (counts : List ℕ) (u at : ℕ) (all : Outcome) (s middle : Seen) (result result' : Result Outcome Deny) (deny : Deny)
@@ -274,3 +292,37 @@ refused-budget a b d e f = rw (e, f) refl
 
 pub refused-none : (a : Option CountFault) (b : Option Deny) → a ≡ None → b ≡ None → option_or (option_map CountsFault a) (option_map Denied b) ≡ None
 refused-none a b e f = rw (e, f) refl
+
+err-fault : {T : Type 0} {a b : AnswerFault} → ◌≡◌ {A = Result T AnswerFault} (Err a) (Err b) → a ≡ b
+err-fault e = cc
+
+unbooted-same : {a b : BootFault} → ◌≡◌ {A = AnswerFault} (Unbooted a) (Unbooted b) → a ≡ b
+unbooted-same e = cc
+
+-- a restart that is refused
+pub restart-fails : {D T : Type 0} (faults : D → ℕ) (old new : GuardView D) (last : Option (List ℕ)) (result : Result T AnswerFault) (why : BootFault)
+    → IsErrAnd result (λ e. e ≡ Unbooted why) → ((at : ℕ) → why ≡ NotJournal at → old.state.disk_told ≡ false)
+    → (◌≡◌ {A = Result (Unit {0}) BootFault} (Err why) (Err BootDisk) → Rose (faults old.disk) (faults new.disk))
+    → (◌≡◌ {A = Result (Unit {0}) BootFault} (Err why) (Err BootFull)
+    → (J : List Rec) × IsPossible old.state.records old.state.in_doubt J × (passes old.state.limits (J ++ Boot old.state.places ∷ []) ≡ true))
+    → (fault : BootFault) → result ≡ Err (Unbooted fault) → RestartFails (seen faults old last) fault (seen faults new last)
+restart-fails faults old new last (Ok x) why err untold cause full fault is = absurd err
+restart-fails faults old new last (Err e) why err untold cause full fault is =
+    let same : why ≡ fault = unbooted-same (sym err ∙ err-fault is) in
+    subst (λ f. RestartFails (seen faults old last) f (seen faults new last)) same (by-fault why untold cause full)
+  where
+    by-fault : (why : BootFault) → ((at : ℕ) → why ≡ NotJournal at → old.state.disk_told ≡ false)
+        → (◌≡◌ {A = Result (Unit {0}) BootFault} (Err why) (Err BootDisk) → Rose (faults old.disk) (faults new.disk))
+        → (◌≡◌ {A = Result (Unit {0}) BootFault} (Err why) (Err BootFull)
+        → (J : List Rec) × IsPossible old.state.records old.state.in_doubt J × (passes old.state.limits (J ++ Boot old.state.places ∷ []) ≡ true))
+        → RestartFails (seen faults old last) why (seen faults new last)
+    by-fault (NotJournal at) untold cause full = untold at refl
+    by-fault BootDisk untold cause full = cause refl
+    by-fault BootFull untold cause full = let f = full refl in record { records = f.0; possible = f.1; passes_limit = f.2 }
+    by-fault BootMemory untold cause full = tt
+
+-- the line of a restart, with the fault that is told
+pub restart-line : {D : Type 0} (faults : D → ℕ) (old new : GuardView D) (last last' : Option (List ℕ)) (verb : GuardLine) (text : List ℕ) (why fault : BootFault) → verb ≡ Restart → IsGuardLine text verb
+    → RestartFails (seen faults old last) why (seen faults new last') → why ≡ fault → (text ≡ codes "restart") × RestartFails (seen faults old last) fault (seen faults new last')
+restart-line faults old new last last' verb text why fault is reads fails same =
+    (subst (λ v. IsGuardLine text v) is reads, subst (λ f. RestartFails (seen faults old last) f (seen faults new last')) same fails)

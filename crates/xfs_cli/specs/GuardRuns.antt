@@ -6,14 +6,15 @@ use Rattle.xfs_base.specs.declared.counts.Places.{Places}
 use Rattle.xfs_base.specs.declared.money.NoteKind.{NoteKind}
 use Rattle.xfs_mech.specs.declared.motion.Motion.{Motion}
 use Rattle.xfs_journal.specs.Image.{Stands}
-use Rattle.xfs_journal.specs.JournalView.{IsPossible}
 use Rattle.xfs_journal.specs.declared.limits.Limits.{Limits}
 use Rattle.xfs_journal.specs.declared.record.Rec.{Rec}
 use Rattle.xfs_journal.specs.declared.record.Rec.TheVariants.{Boot}
+use Rattle.xfs_guard.specs.Continues.{Continues}
 use Rattle.xfs_guard.specs.View.{View}
 use Rattle.xfs_guard.specs.declared.fail.BootFault.{BootFault}
 use Rattle.xfs_guard.specs.declared.open.Open.TheVariants.{No}
-use Rattle.xfs_cli.specs.Boots.{BootPasses, WritesBoot, boot_status}
+use Rattle.xfs_cli.specs.Boots.{WritesBoot, boot_status}
+use Rattle.xfs_cli.specs.RestartAnswers.{HasNoRoom}
 use Rattle.xfs_cli.specs.Seen.{Seen}
 
 -- a guard over a mechanism with these motions, places and faults, whose journal has these records and is open
@@ -61,12 +62,6 @@ pub record IsWithin (mech_faults disk_faults : ℕ) (last : Seen) : Type 0 where
   pub mech : last.guard.faults ≤ mech_faults
   pub disk : last.disk_faults ≤ disk_faults
 
--- the Boot of a restart passes a limit behind the list that the disk has: the kept one, or that one with the record in doubt
-pub record HasNoRoom (v : View) : Type 0 where
-  pub records : List Rec
-  pub possible : IsPossible v.records v.in_doubt records
-  pub passes_limit : BootPasses v.limits v.places records
-
 -- the statuses of a refused boot that has a last line
 abbrev pub IsOfBoot : ℕ → Type 0
 IsOfBoot status = (status ≡ 6) ⊎ ((status ≡ 7) ⊎ (status ≡ 12))
@@ -78,6 +73,12 @@ pub record IsStop (mech_faults disk_faults status : ℕ) (line : List ℕ) (last
   pub failed : status ≡ 6 → Rose last.disk_faults disk_faults
   pub untold : status ≡ 7 → last.guard.disk_told ≡ false
   pub full : status ≡ 12 → HasNoRoom last.guard
+
+-- a later state of the run, in which a restart has no room for its Boot
+pub record RunsFull (start : Seen) : Type 0 where
+  pub later : View
+  pub continues : Continues start.guard later
+  pub full : HasNoRoom later
 
 -- the boot was refused: no line is answered, and the sink took a front of the last line
 pub record IsUnbooted (status : ℕ) (before after : Option (List ℕ)) : Type 0 where

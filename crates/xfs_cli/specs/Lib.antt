@@ -9,6 +9,7 @@ pub mod GuardRuns
 pub mod LineAnswers
 pub mod OrderAnswers
 pub mod Refused
+pub mod RestartAnswers
 pub mod Run
 pub mod Seen
 pub mod Statuses

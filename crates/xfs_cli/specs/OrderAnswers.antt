@@ -5,7 +5,6 @@ use Rattle.std.specs.declared.result.Result.{Result}
 use Rattle.std.specs.Option.{option_or}
 use Rattle.xfs_base.specs.Causes.{Rose}
 use Rattle.xfs_base.specs.Counts.{at}
-use Rattle.xfs_base.specs.declared.counts.Counts.{Counts}
 use Rattle.xfs_mech.specs.declared.motion.Outcome.{Outcome}
 use Rattle.xfs_journal.specs.declared.record.Rec.{Rec}
 use Rattle.xfs_journal.specs.declared.record.Rec.TheVariants.{Order}

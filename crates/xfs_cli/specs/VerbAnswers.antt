@@ -1,22 +1,19 @@
 -- The answers of the command `guard`: what each line is answered in a session, and what the session is then.
-use Rattle.std.specs.Prelude.{◌≡◌, ◌≤◌, ◌⊎◌, ℕ, true, false, List, [], ◌∷◌, ◌++◌, length, codes, Ok, Err, Some, None}
+use Rattle.std.specs.Prelude.{◌≡◌, ◌≤◌, ◌⊎◌, ℕ, true, false, List, [], ◌∷◌, ◌++◌, length, codes, Some, None}
 use Rattle.std.specs.declared.option.Option.{Option}
 use Rattle.xfs_base.specs.Counts.{LiesIn}
 use Rattle.xfs_token.specs.Amounts.{IsMade}
 use Rattle.xfs_mech.specs.Mechanism.{CanLoad}
 use Rattle.xfs_mech.specs.declared.motion.Outcome.{Outcome}
-use Rattle.xfs_mech.specs.declared.motion.Motion.{Motion}
 use Rattle.xfs_mech.specs.declared.motion.Motion.TheVariants.{Taken, Loaded}
 use Rattle.xfs_journal.specs.Journal.{next_issue, nonce_text}
 use Rattle.xfs_journal.specs.declared.record.Rec.{Rec}
-use Rattle.xfs_journal.specs.declared.record.Rec.TheVariants as Rec
 use Rattle.xfs_guard.specs.View.{View}
 use Rattle.xfs_guard.specs.Fits.{unfit}
 use Rattle.xfs_guard.specs.Nonce.{live_nonce, live_in}
 use Rattle.xfs_guard.specs.Reports.{HasReported}
 use Rattle.xfs_guard.specs.Word.{issue_word}
 use Rattle.xfs_guard.specs.declared.ask.Ask.TheVariants as Ask
-use Rattle.xfs_guard.specs.declared.deny.Deny.{Deny}
 use Rattle.xfs_guard.specs.declared.nonce.Nonce.{Nonce}
 use Rattle.xfs_script.specs.Guard.{IsGuardLine}
 use Rattle.xfs_script.specs.declared.guard_line.GuardLine.{GuardLine}
@@ -26,6 +23,7 @@ use Rattle.xfs_cli.specs.Seen.{Seen}
 use Rattle.xfs_cli.specs.LineAnswers.{IsRefused, WritesOne, WritesNone}
 use Rattle.xfs_cli.specs.OrderAnswers.{MechCalled, Moves}
 use Rattle.xfs_cli.specs.DispenseAnswers.{Dispenses, named}
+use Rattle.xfs_cli.specs.RestartAnswers.{Restarts}
 use Rattle.xfs_cli.specs.declared.refused.Refusal.{Refusal}
 use Rattle.xfs_cli.specs.declared.refused.Refusal.TheVariants.{NoUnit, StorageFull, Deny as Denied}
 
@@ -109,7 +107,7 @@ IsAnswer s Present line next = Moves s Ask.Present line next
 IsAnswer s Reject line next = Moves s Ask.Reject line next
 IsAnswer s Retract line next = Moves s Ask.Retract line next
 IsAnswer s Take line next = Takes s line next
-IsAnswer s Restart line next = ⊥
+IsAnswer s Restart line next = Restarts s line next
 IsAnswer s Show line next = (line ≡ show_text (length s.guard.units) s.guard.places) × (next ≡ s)
 
 -- the text that answers a verb; none for a skipped line

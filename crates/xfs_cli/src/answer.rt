@@ -1,11 +1,13 @@
 //! One line of `guard` and its answer.
 
-ghost use Rattle.std.specs.Prelude.{◌≡◌, ◌≢◌, ◌≤◌, length};
+ghost use Rattle.std.specs.Prelude.{◌≡◌, ◌≢◌, ◌≤◌, codes, length};
 ghost use Rattle.xfs_base.specs.Causes.{Rose};
 ghost use Rattle.xfs_guard.specs.declared.open.Open.TheVariants.{No};
 ghost use Rattle.xfs_guard.specs.Continues.{Continues};
 ghost use Rattle.xfs_cli.specs.Answers.{SaysAnswer, SaysFront};
 ghost use Rattle.xfs_cli.specs.GuardLines.{IsLine};
+ghost use Rattle.xfs_cli.specs.RestartAnswers.{RestartFails};
+ghost use Rattle.xfs_guard.specs.declared.fail.BootFault.{BootFault};
 ghost use Rattle.xfs_cli.specs.Seen.{IsLater, seen};
 ghost use Rattle.xfs_cli.specs.VerbAnswers.{AnswersGuard};
 ghost use Rattle.xfs_cli.specs.declared.answer.Turn.TheVariants.{More};
@@ -14,6 +16,7 @@ use crate::say::{SayFault, say_line};
 use crate::session::{AnswerFault, Session};
 use xfs_base::Sink;
 use xfs_disk::Disk;
+use xfs_guard::BootFault;
 use xfs_mech::Mechanism;
 use xfs_script::{Line, ScriptFault, read_guard};
 
@@ -23,6 +26,8 @@ pub enum Turn {
     More,
     NotALine,
     Write,
+    /// The line is `restart`, and that was refused for this.
+    Unbooted(BootFault),
     Memory,
 }
 
@@ -36,6 +41,8 @@ impl<M: Mechanism, D: Disk> Session<M, D> {
         ensures write { result ≡ Turn.Write → SaysFront AnswersGuard (seen D.faults self.old.guard self.old.last) line.now.text (seen D.faults self.new.guard self.new.last) (K.held sink.old) (K.held sink.new) }
         ensures line { result ≢ Turn.NotALine → result ≢ Turn.Memory → IsLine line.now.text }
         ensures no_line { result ≡ Turn.NotALine → ¬ (IsLine line.now.text) }
+        ensures unbooted { (fault : BootFault) → result ≡ Turn.Unbooted fault → (line.now.text ≡ codes "restart") × RestartFails (seen D.faults self.old.guard self.old.last) fault (seen D.faults self.new.guard self.new.last) }
+        ensures same_unbooted { (fault : BootFault) → result ≡ Turn.Unbooted fault → sink.new ≡ sink.old }
         ensures same_no_line { result ≡ Turn.NotALine → sink.new ≡ sink.old }
         ensures same_memory { result ≡ Turn.Memory → sink.new ≡ sink.old }
         ensures faults { IsLater (seen D.faults self.old.guard self.old.last) (seen D.faults self.new.guard self.new.last) }
@@ -57,7 +64,7 @@ impl<M: Mechanism, D: Disk> Session<M, D> {
                 Err(SayFault::Write) => Turn::Write,
                 Err(SayFault::Memory) => Turn::Memory,
             },
-            Err(AnswerFault::NotBuilt) => Turn::NotALine,
+            Err(AnswerFault::Unbooted(fault)) => Turn::Unbooted(fault),
             Err(AnswerFault::Memory) => Turn::Memory,
         }
     }

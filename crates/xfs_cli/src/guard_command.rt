@@ -1,6 +1,6 @@
 //! The command `guard`.
 
-ghost use Rattle.std.specs.Prelude.{◌≡◌, ◌≢◌, ◌↔◌, ◌≤◌, ◌⊎◌, ℕ, List, Some, IsTrue, is_some, length};
+ghost use Rattle.std.specs.Prelude.{◌≡◌, ◌≢◌, ◌↔◌, ◌≤◌, ◌⊎◌, ℕ, List, Some, None, false, IsTrue, is_some, length};
 ghost use Rattle.std.specs.Io.KnownBytes.{IsAtEnd};
 ghost use Rattle.xfs_base.specs.Causes.{Rose, IfTold};
 ghost use Rattle.xfs_disk.specs.Disk.{Only};
@@ -13,10 +13,10 @@ ghost use Rattle.xfs_guard.specs.Stored.{IsStored, MayLeave};
 ghost use Rattle.xfs_cli.specs.Run.{IsGuard, AllLines, StopsAtLine, GaveAll};
 ghost use Rattle.xfs_cli.specs.Answers.{WritesAll, WritesFront, WritesUntil, WritesUsage};
 ghost use Rattle.xfs_cli.specs.GuardLines.{IsLine};
-ghost use Rattle.xfs_cli.specs.GuardRuns.{FromBoot, IsEnd, IsStop, IsWithin, IsUnbooted, opened};
+ghost use Rattle.xfs_cli.specs.GuardRuns.{FromBoot, IsEnd, IsStop, IsWithin, IsUnbooted, RunsFull, opened};
 ghost use Rattle.xfs_cli.specs.Seen.{IsLater, seen};
 ghost use Rattle.xfs_cli.specs.VerbAnswers.{AnswersGuard};
-ghost use Rattle.xfs_cli.specs.Boots.{EndsUnread, EndsFailed, EndsFull, BootPasses, IsDue, IsNoJournal, IsUnwritten};
+ghost use Rattle.xfs_cli.specs.Boots.{EndsUnread, EndsFull, BootPasses, IsDue, IsNoJournal, IsUnwritten};
 ghost use Rattle.xfs_cli.specs.Upholds.{Upholds};
 ghost use Rattle.xfs_cli.specs.Statuses.{IsStatus, IsUnhindered, IsFinished};
 ghost use Rattle.xfs_mech.specs.Moves.{AddsUp, IsNewer};
@@ -65,9 +65,9 @@ pub fn guard<S: Source, K: Sink, M: Mechanism, D: Disk>(
     ensures until { result.status ≢ 0 → result.status ≢ 2 → result.status ≢ 5 → IfTold (S.left source.old) (λ text. IsUnbooted result.status (K.held sink.old) (K.held sink.new) ⊎ FromBoot (opened core.key core.seed core.units core.limits (M.motions core.mech) (M.places core.mech) (M.faults core.mech) (is_some (D.held core.disk))) (M.places core.mech) (D.held core.disk) (D.faults core.disk)
         (λ start. WritesUntil IsLine AnswersGuard (IsStop (M.faults result.mech) (D.faults result.disk)) start result.status (S.left source.new) (K.held sink.old) (K.held sink.new) text)) }
 
-    ensures boot_disk { result.status ≡ 6 → EndsFailed (D.faults core.disk) (D.faults result.disk) (K.held sink.old) (K.held sink.new) }
-    ensures not_journal { result.status ≡ 7 → EndsUnread (D.held core.disk) (K.held sink.old) (K.held sink.new) }
-    ensures full { result.status ≡ 12 → EndsFull core.limits (M.places core.mech) (D.held core.disk) (K.held sink.old) (K.held sink.new) }
+    ensures boot_disk { result.status ≡ 6 → Rose (D.faults core.disk) (D.faults result.disk) }
+    ensures not_journal { result.status ≡ 7 → (D.held core.disk ≡ None) ⊎ EndsUnread (D.held core.disk) (K.held sink.old) (K.held sink.new) }
+    ensures full { result.status ≡ 12 → EndsFull core.limits (M.places core.mech) (D.held core.disk) (K.held sink.old) (K.held sink.new) ⊎ FromBoot (opened core.key core.seed core.units core.limits (M.motions core.mech) (M.places core.mech) (M.faults core.mech) (is_some (D.held core.disk))) (M.places core.mech) (D.held core.disk) (D.faults core.disk) RunsFull }
     ensures unread { IsGuard words.now → IfTold (D.held core.disk) (λ bytes. IsNoJournal bytes → IsDue 7 result.status) }
     ensures overfull { IsGuard words.now → IfTold (D.held core.disk) (λ bytes. (J : List Rec) → Stands bytes J → BootPasses core.limits (M.places core.mech) J → IsDue 12 result.status) }
     ensures unwritten { IfTold (D.held core.disk) (λ bytes. IsNoJournal bytes → IsUnwritten (D.held core.disk) (D.held result.disk) (D.images core.disk) (D.images result.disk)) }
@@ -149,7 +149,9 @@ fn serve<S: Source, K: Sink, M: Mechanism, D: Disk>(
     ensures until { result ≢ 0 → result ≢ 5 → IfTold (S.left source.old) (WritesUntil IsLine AnswersGuard (IsStop session.new.guard.state.faults (D.faults session.new.guard.disk)) (seen D.faults session.old.guard session.old.last) result (S.left source.new) (K.held sink.old) (K.held sink.new)) }
     ensures continues { Continues session.old.guard.state session.new.guard.state }
     ensures usage { result ≢ 2 }
-    ensures booted { (result ≢ 6) × (result ≢ 7) × (result ≢ 12) }
+    ensures failed { result ≡ 6 → Rose (D.faults session.old.guard.disk) (D.faults session.new.guard.disk) }
+    ensures untold { result ≡ 7 → session.old.guard.state.disk_told ≡ false }
+    ensures full { result ≡ 12 → RunsFull (seen D.faults session.old.guard session.old.last) }
     ensures whole { result ≡ 0 → IsAtEnd (S.left source.new) }
     ensures lines { result ≡ 0 → IfTold (S.left source.old) AllLines }
     ensures not_a_line { result ≡ 4 → IfTold (S.left source.old) StopsAtLine }
@@ -166,6 +168,7 @@ fn serve<S: Source, K: Sink, M: Mechanism, D: Disk>(
                 Turn::More => {}
                 Turn::NotALine => return not_a_line(session.alloc, sink, line.number),
                 Turn::Write => return 5,
+                Turn::Unbooted(fault) => return unbooted(session.alloc, sink, fault),
                 Turn::Memory => return 8,
             },
             Err(fault) => return faulty(session.alloc, sink, fault),

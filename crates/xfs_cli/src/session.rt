@@ -12,11 +12,13 @@ ghost use Rattle.xfs_guard.specs.declared.deny.Deny.TheVariants.{Memory as NoMem
 ghost use Rattle.xfs_mix.specs.Asked.{is_none};
 ghost use Rattle.xfs_cli.specs.Answers.{lines_in};
 ghost use Rattle.xfs_cli.specs.GuardAnswers.{show_text};
-ghost use Rattle.xfs_cli.specs.GuardLines.{IsBuilt};
 ghost use Rattle.xfs_cli.specs.Seen.{IsLater, seen};
 ghost use Rattle.xfs_cli.specs.OrderAnswers.{Carries, Moves, Stacks, nothing_stacked};
 ghost use Rattle.xfs_cli.specs.DispenseAnswers.{Dispenses, IsForbidden, IsPermitted, named};
 ghost use Rattle.xfs_cli.specs.VerbAnswers.{AreAnswer, Clears, Fills, IsLoaded, Issues, Mints, Takes};
+ghost use Rattle.xfs_cli.specs.RestartAnswers.{RestartFails, Restarts};
+ghost use Rattle.xfs_guard.specs.declared.fail.BootFault.{BootFault};
+ghost use Rattle.xfs_script.specs.declared.guard_line.GuardLine.TheVariants.{Restart};
 ghost use Rattle.xfs_cli.specs.declared.refused.Refusal.TheVariants.{Deny as Denied};
 
 use crate::refused::{Refusal, refusal_text};
@@ -24,7 +26,7 @@ use crate::text::{joined, outcome_text, show_text};
 use std::alloc::{AllocError, AllocFailed, Global};
 use xfs_base::{Bytes, Counts, Memory};
 use xfs_disk::Disk;
-use xfs_guard::{Ask, Deny, Guard, Permit};
+use xfs_guard::{Ask, BootFault, Deny, Guard, Permit};
 use xfs_mech::{Mechanism, Outcome};
 use xfs_mix::check;
 use xfs_script::{Given, GuardLine};
@@ -33,9 +35,20 @@ use xfs_token::{Amounts, make};
 /// Why a verb has no answer.
 #[derive(Clone, Copy, Debug, PartialEq, Eq)]
 pub enum AnswerFault {
-    /// No guard answers the verb yet.
-    NotBuilt,
+    /// The line is `restart`, and that was refused for this.
+    Unbooted(BootFault),
     Memory,
+}
+
+impl From<BootFault> for AnswerFault {
+    ghost use Rattle.std.specs.Prelude.{◌≡◌};
+    ghost use Rattle.xfs_cli.specs.declared.session.AnswerFault.TheVariants.{Unbooted};
+
+    ghost from_gives = { λ fault e. e ≡ Unbooted fault };
+
+    fn from(fault: BootFault) -> Self {
+        AnswerFault::Unbooted(fault)
+    }
 }
 
 impl From<Memory> for AnswerFault {
@@ -63,9 +76,8 @@ impl<M: Mechanism, D: Disk> Session<M, D> {
     pub fn answer(&mut self, verb: &GuardLine) -> Result<Option<Vec<u8>>, AnswerFault>
         requires none { self.old.guard.state.open_order ≡ No }
         requires key { self.old.key ≡ self.old.guard.state.key }
-        ensures built { result ≢ Err AnswerFault.NotBuilt → IsBuilt verb.now }
-        ensures not_built { result ≡ Err AnswerFault.NotBuilt → ¬ (IsBuilt verb.now) }
         ensures answer { IfOk result (λ a. AreAnswer (seen D.faults self.old.guard self.old.last) verb.now (lines_in (option_map (λ v. v.items) a)) (seen D.faults self.new.guard self.new.last)) }
+        ensures unbooted { (fault : BootFault) → result ≡ Err (AnswerFault.Unbooted fault) → (verb.now ≡ Restart) × RestartFails (seen D.faults self.old.guard self.old.last) fault (seen D.faults self.new.guard self.new.last) }
         ensures later { IsLater (seen D.faults self.old.guard self.old.last) (seen D.faults self.new.guard self.new.last) }
         ensures continues { Continues self.old.guard.state self.new.guard.state }
         ensures none { self.new.guard.state.open_order ≡ No }
@@ -83,7 +95,7 @@ impl<M: Mechanism, D: Disk> Session<M, D> {
             GuardLine::Take => Ok(Some(self.take()?)),
             GuardLine::Fill { unit, count } => Ok(Some(self.fill(*unit, *count)?)),
             GuardLine::Show => Ok(Some(self.show()?)),
-            _ => Err(AnswerFault::NotBuilt),
+            GuardLine::Restart => Ok(Some(self.restart()?)),
         }
     }
 
@@ -191,6 +203,20 @@ impl<M: Mechanism, D: Disk> Session<M, D> {
             Ok(()) => joined(self.alloc, b"filled", b""),
             Err(deny) => refusal_text(self.alloc, &Refusal::Deny(deny)),
         }
+    }
+
+    // Reads the journal again, as a start of the guard would. The token that was minted last stays.
+    fn restart(&mut self) -> Result<Vec<u8>, AnswerFault>
+        requires { self.old.guard.state.open_order ≡ No }
+        ensures answer { IfOk result (λ text. Restarts (seen D.faults self.old.guard self.old.last) text.items (seen D.faults self.new.guard self.new.last)) }
+        ensures unbooted { (fault : BootFault) → result ≡ Err (AnswerFault.Unbooted fault) → RestartFails (seen D.faults self.old.guard self.old.last) fault (seen D.faults self.new.guard self.new.last) }
+        ensures later { IsLater (seen D.faults self.old.guard self.old.last) (seen D.faults self.new.guard self.new.last) }
+        ensures continues { Continues self.old.guard.state self.new.guard.state }
+        ensures none { self.new.guard.state.open_order ≡ No }
+        ensures key { self.new.key ≡ self.old.key }
+    {
+        self.guard.restore()?;
+        Ok(joined(self.alloc, b"restarted", b"")?)
     }
 
     fn show(&mut self) -> Result<Vec<u8>, Memory>

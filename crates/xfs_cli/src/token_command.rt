@@ -5,6 +5,7 @@ ghost use Rattle.std.specs.Io.KnownBytes.{IsAtEnd, Appends};
 ghost use Rattle.xfs_base.specs.Causes.{Rose, IfTold, TookFront};
 ghost use Rattle.xfs_cli.specs.Run.{IsToken, GaveAll};
 ghost use Rattle.xfs_cli.specs.Answers.{Unsaid, AnyStop, WritesAll, WritesUntil, WritesFront, SaysAnswer, SaysFront, WritesUsage};
+ghost use Rattle.xfs_guard.specs.declared.fail.BootFault.{BootFault};
 ghost use Rattle.xfs_cli.specs.TokenAnswers.{AnswersToken, IsLineOfToken};
 ghost use Rattle.xfs_cli.specs.Statuses.{IsStatus};
 
@@ -84,6 +85,7 @@ fn serve<S: Source, K: Sink>(alloc: Global, key: &[u8; 32], source: &mut S, sink
                 Turn::More => {}
                 Turn::NotALine => return not_a_line(alloc, sink, line.number),
                 Turn::Write => return 5,
+                Turn::Unbooted(_) => unreachable!(),
                 Turn::Memory => return 8,
             },
             Err(fault) => return faulty(alloc, sink, fault),
@@ -98,6 +100,7 @@ fn answer_line<K: Sink>(alloc: Global, key: &[u8; 32], line: &Line, sink: &mut K
     requires { length line.now.text ≤ 70000 }
     ensures more { result ≡ Turn.More → SaysAnswer AnswersToken key.now line.now.text key.now (K.held sink.old) (K.held sink.new) }
     ensures write { result ≡ Turn.Write → SaysFront AnswersToken key.now line.now.text key.now (K.held sink.old) (K.held sink.new) }
+    ensures no_restart { (fault : BootFault) → result ≢ Turn.Unbooted fault }
     ensures no_line { result ≡ Turn.NotALine → ¬ (IsLineOfToken line.now.text) }
     ensures same_no_line { result ≡ Turn.NotALine → sink.new ≡ sink.old }
     ensures same_memory { result ≡ Turn.Memory → sink.new ≡ sink.old }

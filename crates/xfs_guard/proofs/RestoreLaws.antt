@@ -1,6 +1,6 @@
 -- What a guard is after a restore, and what follows then.
 use Rattle.std.proofs.Common.{◌≡◌, ◌⊎◌, inl, inr, ⊎_elim, ℕ, Bool, true, false, true≢false, List, [], ◌∷◌, ◌++◌, None, Some, Ok, Err, refl}
-use Rattle.std.specs.Prelude.{OnOk, IfErr, ◌||◌}
+use Rattle.std.specs.Prelude.{OnOk, IfErr, ◌||◌, is_some}
 use Rattle.std.specs.declared.option.Option.{Option}
 use Rattle.std.specs.declared.result.Result.{Result}
 use Rattle.xfs_base.specs.declared.money.NoteKind.{NoteKind}
@@ -149,3 +149,9 @@ Continues-restored key seed o motions places faults old new was told same (inr (
 Continues-restored key seed o motions places faults old new was told same (inr (inr (J, found, inr (inr is)))) =
     rw is (Continues-grown _ _ (Boot places) (λ q e. cc) refl refl refl refl refl same (λ K possible. ⊎_elim (λ same. inl (rw same found)) (λ more. inr (J, found, more)) (doubted-possible J K (Boot places) possible))
     (begins-possible old.records old.in_doubt J found) (λ X left. left-boot_doubt J places X (left-mount old.records old.in_doubt (old.shut || old.boot_missing) J X found left)))
+
+-- a disk that is refused as no journal tells nothing
+pub untold-refused : {T : Type 0} (Q : Type 0) (result : Result T BootFault) (held : Option (List ℕ)) → IfErr result (λ f. (at : ℕ) → f ≡ NotJournal at → (held ≡ None) × Q)
+    → IfErr result (λ f. (at : ℕ) → f ≡ NotJournal at → is_some held ≡ false)
+untold-refused Q (Ok x) held h = tt
+untold-refused Q (Err f) held h = λ at is. rw (h at is).0 refl

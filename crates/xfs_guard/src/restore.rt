@@ -49,6 +49,7 @@ impl<M: Mechanism, D: Disk> Guard<M, D> {
           in_doubt = Some (Boot self.old.state.places);
         })) }
         ensures not_journal { IfErr result (λ f. (at : ℕ) → f ≡ NotJournal at → (D.held self.old.disk ≡ None) × (self.new.state ≡ record self.old.state { shut = true })) }
+        ensures untold { IfErr result (λ f. (at : ℕ) → f ≡ NotJournal at → self.old.state.disk_told ≡ false) }
         ensures later { D.faults self.old.disk ≤ D.faults self.new.disk }
         ensures cause { result ≡ Err BootDisk → Rose (D.faults self.old.disk) (D.faults self.new.disk) }
         ensures continues { Continues self.old.state self.new.state }

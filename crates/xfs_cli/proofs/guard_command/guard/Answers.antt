@@ -1,9 +1,10 @@
-use Rattle.std.proofs.Common.{None, inl, inr, refl, ap}
+use Rattle.std.proofs.Common.{None, arith, inl, inr, refl, ap}
 use Rattle.xfs_guard.specs.View.{View}
 use Rattle.xfs_cli.proofs.RunLaws.{recorded-start, upholds-same, upholds-refused, upholds-run, ends-unread, due-full, journal-run, fits-run}
 use Rattle.xfs_cli.specs.GuardLines.{IsLine}
+use Rattle.xfs_cli.specs.GuardRuns.{RunsFull}
 use Rattle.xfs_cli.specs.VerbAnswers.{AnswersGuard}
-use Rattle.xfs_cli.proofs.GuardRunLaws.{all-ends, front-ends, until-stops, stops-at, ends-at, ends-within, told-more, told-any, from-boot, refused-boot}
+use Rattle.xfs_cli.proofs.GuardRunLaws.{all-ends, front-ends, until-stops, stops-at, ends-at, ends-within, told-more, told-any, from-boot, refused-boot, ends-full, none-told, restart-line, rose-later}
 use Rattle.xfs_cli.proofs.EndLaws.{finishes, causes-served, causes-refused}
 use Rattle.xfs_cli.proofs.NumberLaws.{newer-run}
 use Rattle.xfs_cli.proofs.UnreadLaws.{unwritten-quiet}
@@ -24,7 +25,20 @@ returns-in-Err-clause-upholds g c =
     rw c.in-Err.ensures.mech (upholds-refused _ _ _ _ _ _ _ _ c.requires.starts c.requires.at_rest (g.met.D.Disk.as_read c.args.core.disk) c.in-Err.ensures.either)
 
 pub returns-in-Err-clause-not_journal : goal.returns-in-Err-clause-not_journal
-returns-in-Err-clause-not_journal g c = ends-unread _ _ _ _ _ c.unbooted.ensures.status c.unbooted.ensures.written c.in-Err.ensures.not_journal
+returns-in-Err-clause-not_journal g c = λ seven. inr (ends-unread _ _ _ _ _ c.unbooted.ensures.status c.unbooted.ensures.written c.in-Err.ensures.not_journal seven)
+
+pub returns-in-Err-clause-full : goal.returns-in-Err-clause-full
+returns-in-Err-clause-full g c = λ twelve. inl (ends-full _ _ _ _ _ _ _ c.unbooted.ensures.status c.unbooted.ensures.written c.in-Err.ensures.full twelve)
+
+pub returns-in-Ok-clause-boot_disk : goal.returns-in-Ok-clause-boot_disk
+returns-in-Ok-clause-boot_disk g c = λ six. rw c.ended-mech.ensures.disk (rose-later _ _ _ c.in-Ok.ensures.faults (c.serve-status.ensures.failed six))
+
+pub returns-in-Ok-clause-not_journal : goal.returns-in-Ok-clause-not_journal
+returns-in-Ok-clause-not_journal g c = λ seven. inl (none-told _ (rw c.in-Ok.ensures.ok.2 at c.serve-status.ensures.untold seven))
+
+pub returns-in-Ok-clause-full : goal.returns-in-Ok-clause-full
+returns-in-Ok-clause-full g c = λ twelve.
+    let ok = c.in-Ok.ensures.ok in inr (from-boot g.D.Disk.faults c.in-Ok.guard _ _ _ _ ok.0 RunsFull ok.1 ok.2 c.in-Ok.ensures.faults (c.serve-status.ensures.full twelve))
 
 pub returns-in-Err-clause-overfull : goal.returns-in-Err-clause-overfull
 returns-in-Err-clause-overfull g c = λ guard. due-full _ _ _ _ _ c.unbooted.ensures.status c.in-Err.ensures.not_journal
@@ -81,7 +95,10 @@ returns-in-Ok-clause-newer g c =
 pub returns-in-Ok-clause-finishes : goal.returns-in-Ok-clause-finishes
 returns-in-Ok-clause-finishes g c =
     let end = c.serve-status.ensures in
-    λ guard. finishes _ _ (g.S.Source.left c.serve-status.new.source) _ _ _ _ _ _ (causes-served _ _ _ _ _ _ _ _ _ end.statuses end.usage end.booted.0 end.booted.1 end.booted.2 end.read end.not_a_line end.write end.quota)
+    λ guard. finishes _ _ (g.S.Source.left c.serve-status.new.source) _ _ _ _ _ _ (causes-served _ _ _ _ _ _ _ _ _ end.statuses end.usage
+    (λ six. rw c.ended-mech.ensures.disk (rose-later _ _ _ c.in-Ok.ensures.faults (end.failed six)))
+    (λ seven. none-told _ (rw c.in-Ok.ensures.ok.2 at end.untold seven))
+    (λ twelve. restart-line IsLine AnswersGuard _ _ _ _ _ _ _ _ (end.until (λ e. omega (arith, twelve, e)) (λ e. omega (arith, twelve, e))) twelve) end.read end.not_a_line end.write end.quota)
 
 pub returns-in-Err-clause-finishes : goal.returns-in-Err-clause-finishes
 returns-in-Err-clause-finishes g c =

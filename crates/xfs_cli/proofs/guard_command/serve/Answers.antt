@@ -3,10 +3,12 @@ use Rattle.xfs_guard.proofs.ContinueLaws.{Continues-same, Continues-trans}
 use Rattle.xfs_cli.proofs.LineLaws.{Gives-start, HasRead-start, Gives-trans, read-line, read-end, read-stop, read-fault, read-quota}
 use Rattle.xfs_cli.specs.GuardLines.{IsLine}
 use Rattle.xfs_cli.specs.VerbAnswers.{AnswersGuard}
-use Rattle.xfs_cli.proofs.AnswerLaws.{answered-start, answered-line, answered-all, answered-front, answered-no_line, answered-memory, answered-fault}
+use Rattle.xfs_cli.proofs.AnswerLaws.{answered-start, answered-line, answered-all, answered-front, answered-no_line, answered-memory, answered-fault, answered-unbooted}
 use Rattle.xfs_cli.specs.Run.{status_of}
-use Rattle.xfs_cli.proofs.GuardRunLaws.{stops-plain, fault-plain}
-use Rattle.xfs_cli.proofs.SeenLaws.{later-same}
+use Rattle.xfs_cli.specs.Seen.{seen}
+use Rattle.xfs_cli.proofs.GuardRunLaws.{stops-plain, stops-restart, fault-plain, rose-later}
+use Rattle.xfs_cli.proofs.SeenLaws.{later-same, later-trans}
+use Rattle.xfs_cli.proofs.EndLaws.{status-boot}
 use Rattle.xfs_cli.proofs.guard_command.serve.Goals as goal
 
 pub loop-init : goal.loop-init
@@ -14,6 +16,7 @@ loop-init g c = record {
   continues = Continues-same _;
   key = c.requires.key;
   answered = answered-start AnswersGuard _ _ _ _ c.new-lines.ensures;
+  faults = later-same _;
   none = c.requires.none;
   source_later = omega arith;
   sink_later = omega arith;
@@ -43,6 +46,33 @@ returns-in-Err-clause-until g c = λ not_zero not_five.
     answered-fault IsLine AnswersGuard _ _ _ _ _ _ _ _ _ _ _ _ c.in-Err.fault (λ l is. is.short)
     (stops-plain g.D.Disk.faults c.loop.session.guard c.loop.session.last _ (status_of c.in-Err.fault) _ c.faulty.ensures.status plain.0 plain.1 plain.2 (later-same _)) c.loop.invariant.answered c.in-Err.ensures.reads c.faulty.ensures.status c.faulty.ensures.written
 
+pub returns-in-Unbooted-clause-until : goal.returns-in-Unbooted-clause-until
+returns-in-Unbooted-clause-until g c = λ not_zero not_five.
+    answered-unbooted IsLine AnswersGuard _ _ _ _ _ _ _ _ _ _ _ _ c.in-Ok-Some.line _
+    (stops-restart g.D.Disk.faults c.line.new.self.guard c.line.new.self.last _ _ c.in-Ok-Some.line.text (seen g.D.Disk.faults c.loop.session.guard c.loop.session.last) c.unbooted.ensures.status c.line.ensures.faults (c.in-Unbooted.ensures.unbooted _ refl))
+    c.loop.invariant.answered (rw c.in-Ok-Some.field-0-is at c.in-Ok-Some.ensures.reads) c.unbooted.ensures.status (rw (c.in-Unbooted.ensures.same_unbooted _ refl) at c.unbooted.ensures.written)
+
+pub returns-in-Unbooted-clause-continues : goal.returns-in-Unbooted-clause-continues
+returns-in-Unbooted-clause-continues g c = Continues-trans _ _ _ c.loop.invariant.continues c.line.ensures.continues
+
+pub returns-in-Unbooted-clause-failed : goal.returns-in-Unbooted-clause-failed
+returns-in-Unbooted-clause-failed g c = λ six.
+    let stop = stops-restart g.D.Disk.faults c.line.new.self.guard c.line.new.self.last _ _ c.in-Ok-Some.line.text (seen g.D.Disk.faults c.loop.session.guard c.loop.session.last) c.unbooted.ensures.status c.line.ensures.faults (c.in-Unbooted.ensures.unbooted _ refl) in
+    rose-later _ _ _ c.loop.invariant.faults.disk (stop.failed six)
+
+pub returns-in-Unbooted-clause-untold : goal.returns-in-Unbooted-clause-untold
+returns-in-Unbooted-clause-untold g c = λ seven.
+    let stop = stops-restart g.D.Disk.faults c.line.new.self.guard c.line.new.self.last _ _ c.in-Ok-Some.line.text (seen g.D.Disk.faults c.loop.session.guard c.loop.session.last) c.unbooted.ensures.status c.line.ensures.faults (c.in-Unbooted.ensures.unbooted _ refl) in
+    sym c.loop.invariant.continues.disk_told ∙ stop.untold seven
+
+pub returns-in-Unbooted-clause-full : goal.returns-in-Unbooted-clause-full
+returns-in-Unbooted-clause-full g c = λ twelve.
+    let stop = stops-restart g.D.Disk.faults c.line.new.self.guard c.line.new.self.last _ _ c.in-Ok-Some.line.text (seen g.D.Disk.faults c.loop.session.guard c.loop.session.last) c.unbooted.ensures.status c.line.ensures.faults (c.in-Unbooted.ensures.unbooted _ refl) in
+    record { later = c.loop.session.guard.state; continues = c.loop.invariant.continues; full = stop.full twelve }
+
+pub returns-in-Unbooted-clause-statuses : goal.returns-in-Unbooted-clause-statuses
+returns-in-Unbooted-clause-statuses g c = rw c.unbooted.ensures.status (status-boot _)
+
 pub returns-in-Ok-None-clause-lines : goal.returns-in-Ok-None-clause-lines
 returns-in-Ok-None-clause-lines g c = λ zero. read-end _ _ _ _ _ c.loop.invariant.read (rw c.in-Ok-None.field-0-is at c.in-Ok-None.ensures.reads)
 
@@ -69,6 +99,7 @@ loop-preserved g c = record {
   continues = Continues-trans _ _ _ c.loop.invariant.continues c.line.ensures.continues;
   key = c.line.ensures.key;
   answered = answered-line AnswersGuard _ _ _ _ _ _ _ _ _ _ _ c.in-Ok-Some.line c.loop.invariant.answered (rw c.in-Ok-Some.field-0-is at c.in-Ok-Some.ensures.reads) (c.in-More.ensures.more refl);
+  faults = later-trans _ _ _ c.loop.invariant.faults c.line.ensures.faults;
   none = c.line.ensures.none;
   source_later = omega (arith, c.loop.invariant.source_later, c.next.ensures.later);
   sink_later = omega (arith, c.loop.invariant.sink_later, c.line.ensures.later);

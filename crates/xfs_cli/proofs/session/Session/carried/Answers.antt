@@ -15,20 +15,24 @@ returns-in_err-settle-clause-carried g c = λ some.
     let e = c.in_ok-order.ensures in
     let a = c.act-outcome.ensures in
     let s = c.in_err-settle.ensures in
-    carried-err _ _ c.from_residual-in_err-settle.result c.in_err-settle.field-0.0 _ c.from_residual-in_err-settle.ensures.1 some (λ other. inr (e.refused, s.err, inr (record {
-      outcome = c.act-outcome.result;
-      acted = seen g.D.Disk.faults c.act-outcome.new.self c.args.self.now.last;
-      first = record {
-        written = seen g.D.Disk.faults c.order.new.self c.args.self.now.last;
-        order = record { guard_is = e.ok; later = e.later; last_is = refl };
-        acts = a.acted;
-        called = record { later = a.later; cause = a.cause; disk_same = ap g.D.Disk.faults a.same; last_is = refl };
-      };
-      unsettles = s.disk;
-      later = s.later;
-      cause = s.cause;
-      last_is = refl;
-    })))
+    carried-err _ _ c.from_residual-in_err-settle.result c.in_err-settle.field-0.0 _ c.from_residual-in_err-settle.ensures.1 some (λ other. inr (
+      e.refused,
+      s.err,
+      inr (record {
+        outcome = c.act-outcome.result;
+        acted = seen g.D.Disk.faults c.act-outcome.new.self c.args.self.now.last;
+        first = record {
+          written = seen g.D.Disk.faults c.order.new.self c.args.self.now.last;
+          order = record { guard_is = e.ok; later = e.later; last_is = refl };
+          acts = a.acted;
+          called = record { later = a.later; cause = a.cause; disk_same = ap g.D.Disk.faults a.same; last_is = refl };
+        };
+        unsettles = s.disk;
+        later = s.later;
+        cause = s.cause;
+        last_is = refl;
+      }),
+    ))
 
 pub returns-in_err-settle-clause-continues : goal.returns-in_err-settle-clause-continues
 returns-in_err-settle-clause-continues g c =

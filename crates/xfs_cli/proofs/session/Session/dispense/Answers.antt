@@ -1,7 +1,6 @@
-use Rattle.std.proofs.Common.{Ok, Err, inl, inr, ap, sym, ◌∙◌}
+use Rattle.std.proofs.Common.{inl}
 use Rattle.std.proofs.lemmas.Result.{IfOk-weaker}
 use Rattle.xfs_guard.proofs.ContinueLaws.{Continues-trans}
-use Rattle.xfs_cli.specs.Seen.{seen}
 use Rattle.xfs_cli.proofs.DispenseLaws.{few-permitted}
 use Rattle.xfs_cli.proofs.SeenLaws.{told-some}
 use Rattle.xfs_cli.proofs.session.Session.dispense.Goals as goal

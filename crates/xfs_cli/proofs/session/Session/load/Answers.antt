@@ -1,8 +1,9 @@
-use Rattle.std.proofs.Common.{inl, inr, refl, ap}
+use Rattle.std.proofs.Common.{◌≡◌, ◌∙◌, inl, inr, refl, ap, arith}
 use Rattle.std.proofs.lemmas.Result.{IfOk-weaker}
 use Rattle.xfs_guard.proofs.ContinueLaws.{Continues-trans}
+use Rattle.xfs_guard.specs.View.{View}
 use Rattle.xfs_cli.specs.Seen.{seen}
-use Rattle.xfs_cli.proofs.SeenLaws.{wrote-kept, wrote-err}
+use Rattle.xfs_cli.proofs.SeenLaws.{wrote-kept, wrote-err, later-err, later-trans, none-err}
 use Rattle.xfs_cli.proofs.session.Session.load.Goals as goal
 
 pub returns-then-outcome-clause-answer : goal.returns-then-outcome-clause-answer
@@ -53,3 +54,17 @@ returns-in-Err-clause-answer g c =
 
 pub returns-in-Err-clause-continues : goal.returns-in-Err-clause-continues
 returns-in-Err-clause-continues g c = Continues-trans _ _ _ c.in_ok-outcome.ensures.continues c.note_load.ensures.continues
+
+pub returns-in-Err-clause-later : goal.returns-in-Err-clause-later
+returns-in-Err-clause-later g c =
+    let e = c.in_ok-outcome.ensures in
+    let w = c.in-Err.ensures in
+    let same : g.D.Disk.faults c.load.new.self.disk ≡ g.D.Disk.faults c.args.self.now.guard.disk = ap g.D.Disk.faults e.same in
+    later-trans (seen g.D.Disk.faults c.args.self.now.guard c.args.self.now.last) (seen g.D.Disk.faults c.load.new.self c.args.self.now.last) _ (record { mech = e.later; disk = omega (arith, same) })
+    (later-err (Unit {0}) g.D.Disk.faults c.load.new.self c.note_load.new.self _ _ _ c.in-Err.deny w.disk w.later w.same)
+
+pub returns-in-Err-clause-none : goal.returns-in-Err-clause-none
+returns-in-Err-clause-none g c =
+    let w = c.in-Err.ensures in
+    let kept = ap (λ (v : View). v.open_order) c.in_ok-outcome.ensures.ok.same in
+    none-err (Unit {0}) c.load.new.self c.note_load.new.self _ c.in-Err.deny w.disk w.same (kept ∙ c.requires.none)

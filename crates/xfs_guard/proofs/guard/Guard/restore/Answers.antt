@@ -1,6 +1,6 @@
 use Rattle.std.proofs.Common.{◌≡◌, None}
 use Rattle.xfs_guard.specs.declared.open.Open.TheVariants.{No}
-use Rattle.xfs_guard.proofs.RestoreLaws.{restored, IsKept-restored, Continues-restored}
+use Rattle.xfs_guard.proofs.RestoreLaws.{restored, untold-refused, IsKept-restored, Continues-restored}
 use Rattle.std.specs.Prelude.{is_some}
 use Rattle.xfs_guard.proofs.KeptLaws.{over}
 use Rattle.xfs_guard.proofs.RereadLaws.{behind-reread, recorded-reread}
@@ -27,3 +27,6 @@ returns-clause-any_moment g c =
     rw (← c.self.view_is) (recorded-reread g.D.Disk.held g.D.Disk.images g.D.Disk.moment g.D.Disk.images_since c.self.inside.ledger.disk c.restore.new.self.disk
     (over c.self.inside.key c.self.inside.seed c.self.inside.open_order (g.M.Mechanism.motions c.self.inside.mech) (g.M.Mechanism.places c.self.inside.mech) (g.M.Mechanism.faults c.self.inside.mech) c.self.inside.ledger (is_some (g.D.Disk.held c.self.inside.ledger.disk)))
     c.survey-places.result _ c.restore.ensures.possible c.self.invariant.recorded c.restore.ensures.any_moment)
+
+pub returns-clause-untold : goal.returns-clause-untold
+returns-clause-untold g c = rw (← c.self.view_is) (untold-refused _ c.restore.result (g.D.Disk.held c.self.inside.ledger.disk) c.restore.ensures.not_journal)

@@ -1,0 +1,36 @@
+-- The line `restart`: the journal is read again and gets a Boot; or the run ends as a refused boot does.
+use Rattle.std.specs.Prelude.{◌≡◌, ℕ, false, List, [], ◌∷◌, ◌++◌, codes, None, ⊤}
+use Rattle.xfs_base.specs.Causes.{Rose}
+use Rattle.xfs_journal.specs.JournalView.{IsPossible, passes}
+use Rattle.xfs_journal.specs.declared.record.Rec.{Rec}
+use Rattle.xfs_journal.specs.declared.record.Rec.TheVariants.{Boot}
+use Rattle.xfs_guard.specs.View.{View}
+use Rattle.xfs_guard.specs.declared.fail.BootFault.{BootFault}
+use Rattle.xfs_guard.specs.declared.fail.BootFault.TheVariants.{NotJournal, Disk, Full, Memory}
+use Rattle.xfs_cli.specs.Boots.{BootPasses}
+use Rattle.xfs_cli.specs.Seen.{Seen, Becomes}
+
+-- a guard whose journal was read as this list, with a Boot of the mechanism's places behind it
+abbrev pub restarted : View → List Rec → View
+restarted v records = record v { records = records ++ Boot v.places ∷ []; bound = None; shut = false; boot_missing = false; in_doubt = None }
+
+-- the journal is read as the kept list, or as that one with the record in doubt, and its Boot passes no limit; the token that was minted last stays
+pub record Restarts (s : Seen) (line : List ℕ) (next : Seen) : Type 0 where
+  pub records : List Rec
+  pub possible : IsPossible s.guard.records s.guard.in_doubt records
+  pub fits : passes s.guard.limits (records ++ Boot s.guard.places ∷ []) ≡ false
+  pub text : line ≡ codes "restarted"
+  pub becomes : Becomes s (restarted s.guard records) next
+
+-- the Boot passes a limit behind such a list
+pub record HasNoRoom (v : View) : Type 0 where
+  pub records : List Rec
+  pub possible : IsPossible v.records v.in_doubt records
+  pub passes_limit : BootPasses v.limits v.places records
+
+-- why a restart ends the run: the disk's bytes are no journal, which is never so where it tells them; the disk fails; its Boot has no room; or memory runs out
+abbrev pub RestartFails : Seen → BootFault → Seen → Type 0
+RestartFails s (NotJournal at) next = s.guard.disk_told ≡ false
+RestartFails s Disk next = Rose s.disk_faults next.disk_faults
+RestartFails s Full next = HasNoRoom s.guard
+RestartFails s Memory next = ⊤
