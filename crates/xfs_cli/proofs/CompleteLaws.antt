@@ -1,13 +1,13 @@
 -- A dispense that its token covers, and a present behind it, are done in full, where no count of faults rises.
 use Rattle.std.proofs.Common.{◌≡◌, ◌≤◌, ◌⊎◌, ◌+◌, ◌-◌, ◌*◌, ◌==◌, ℕ, zero, suc, Bool, true, false, List, [], ◌∷◌, ◌++◌, length, drop, get_or, None, Some, Ok, Err, inl, inr, refl, sym, ◌∙◌, ap, arith, true≢false}
-use Rattle.std.specs.Prelude.{◌&&◌, nat_lt, not, sum, zip, take, codes, slice_index, if◌then◌else◌}
+use Rattle.std.specs.Prelude.{◌&&◌, fold, replicate, nat_lt, not, sum, zip, take, codes, slice_index, if◌then◌else◌}
 use Rattle.std.specs.List.{list_all, prefix_len}
 use Rattle.std.specs.Str.{bytes_eq}
 use Rattle.std.specs.Option.{option_map, option_or}
 use Rattle.std.specs.declared.option.Option.{Option}
 use Rattle.std.specs.declared.result.Result.{Result}
 use Rattle.std.proofs.lemmas.Bool.{le-ltb, eq-eqb, ne_eqb}
-use Rattle.std.proofs.lemmas.List.{get_or-drop}
+use Rattle.std.proofs.lemmas.List.{append-nil, get_or-drop, length-set}
 use Rattle.std.proofs.lemmas.List.Folds.{sum_by-zero}
 use Rattle.std.proofs.lemmas.Slice.Eq.{bytes_eq-Decides}
 use Rattle.xfs_base.specs.Counts.{at, LiesIn}
@@ -41,7 +41,8 @@ use Rattle.xfs_guard.specs.declared.nonce.Nonce.{Nonce}
 use Rattle.xfs_guard.proofs.PresentedLaws.{presented_in-push}
 use Rattle.xfs_guard.proofs.SizeLaws.{size-longer}
 use Rattle.xfs_guard.proofs.RecordLaws.{length-pushed}
-use Rattle.xfs_script.specs.Counts.{counts_text, filled_units, units_or_none}
+use Rattle.xfs_script.specs.Counts.{with_unit}
+use Rattle.xfs_script.specs.Dispense.{IsDispense}
 use Rattle.xfs_script.specs.declared.guard_line.Given.{Given}
 use Rattle.xfs_script.specs.declared.guard_line.GuardLine.{GuardLine}
 use Rattle.xfs_script.specs.declared.guard_line.GuardLine.TheVariants.{Skip, Dispense, Present}
@@ -51,7 +52,7 @@ use Rattle.xfs_cli.specs.OrderAnswers.{Moves, Tells, nothing_stacked, refusal_of
 use Rattle.xfs_cli.specs.DispenseAnswers.{Dispenses, IsAdmitted, IsForbidden, IsOrdered, IsPermitted, IsUnmoved, counts_refusal, named}
 use Rattle.xfs_cli.specs.GuardAnswers.{outcome_text}
 use Rattle.xfs_cli.specs.VerbAnswers.{AnswersGuard, AreAnswer}
-use Rattle.xfs_cli.specs.Complete.{CanDispense, CanPresent, HasRoom, IsBoundWith, IsCalm, IsComplete, IsCoveredBy, IsDispensed, IsFree, IsGood, IsPresented, moved_line}
+use Rattle.xfs_cli.specs.Complete.{CanDispense, CanPresent, HasRoom, IsBoundWith, IsCalm, IsComplete, IsCoveredBy, IsDispensed, IsFree, IsGood, IsOfFormat, IsPresented, moved_line}
 use Rattle.xfs_cli.specs.declared.refused.Refusal.{Refusal}
 use Rattle.xfs_cli.specs.declared.refused.Refusal.TheVariants.{Counts, NoToken, Deny as Denied}
 use Rattle.xfs_cli.proofs.CompleteOrders.{IsFull, carries-full, present-places, calm-rest, IsGrown, stacks-grown}
@@ -220,13 +221,13 @@ some-nonce (Some n) issue e = (n, refl)
 told-all : (outcome : Outcome) (counts : CountsOf) → outcome.failed ≡ false → outcome.moved.0 ≡ counts.0 → outcome_text (codes "moved") outcome ≡ moved_line counts
 told-all outcome counts fine moved = rw (fine, moved) refl
 
-ordered-full : (s next : Seen) (token : Option (List ℕ)) (bytes line : List ℕ) (counts : CountsOf) → token ≡ Some bytes → CanDispense s.guard bytes counts → IsCalm s next
+ordered-full : (s next : Seen) (token : Option (List ℕ)) (bytes line : List ℕ) (counts : CountsOf) → length counts.0 ≡ 8 → token ≡ Some bytes → CanDispense s.guard bytes counts → IsCalm s next → IsOfFormat next
     → IsOrdered s token counts line next → IsDispensed s counts (line ∷ []) next
-ordered-full s next token bytes line counts is c calm o =
+ordered-full s next token bytes line counts eight is c calm format o =
     let ready = permitted-open s token bytes counts o.issue o.bound c is o.permitted in
     let calm-on = calm-rest s o.bound next (bound-grown c.binding) calm in
-    let all = stacks-full o.issue c.amounts counts.0 0 [] nothing_stacked o.bound o.result next refl (let e = c.covered.eight in omega (arith, e)) refl (rw c.covered.eight refl)
-        (rw c.covered.eight ready.0) ready.1 calm-on o.stacked in
+    let all = stacks-full o.issue c.amounts counts.0 0 [] nothing_stacked o.bound o.result next refl (omega (arith, eight)) refl (rw eight refl)
+        (rw eight ready.0) ready.1 calm-on format o.stacked in
     let told : Tells (codes "moved") (Ok all.outcome) line = rw all.is at o.told in
     let lives = some-nonce (live_nonce next.guard.records) o.issue all.open_for.lives in
     let gained : (u : ℕ) → at next.guard.places.transport u ≡ at s.guard.places.transport u + at counts u = (λ u. rw ready.2 at (all.transport u)) in
@@ -250,16 +251,16 @@ ordered-full s next token bytes line counts is c calm o =
     bound-grown (inl b) =
         let now : o.bound.guard ≡ s.guard = o.permitted.binds.again (λ none. let e : Some bytes ≡ None = sym b.bound ∙ none in cc) in
         let faults : o.bound.guard.faults ≡ s.guard.faults = ap (λ (v : View). v.faults) now in
-        record { mech = omega (arith, faults); disk = o.permitted.later; more = []; grown = ap (λ (v : View). v.records) now ∙ sym (Rattle.std.proofs.lemmas.List.append-nil s.guard.records) }
+        record { mech = omega (arith, faults); disk = o.permitted.later; more = []; grown = ap (λ (v : View). v.records) now ∙ sym (append-nil s.guard.records) }
     bound-grown (inr f) =
         let now = o.permitted.binds.first f.none in
         let faults : o.bound.guard.faults ≡ s.guard.faults = ap (λ (v : View). v.faults) now in
         record { mech = omega (arith, faults); disk = o.permitted.later; more = Bind o.permitted.bytes ∷ []; grown = ap (λ (v : View). v.records) now }
 
-dispenses-full : (s next : Seen) (token : Option (List ℕ)) (bytes line : List ℕ) (counts : CountsOf) → token ≡ Some bytes → CanDispense s.guard bytes counts → IsCalm s next
+dispenses-full : (s next : Seen) (token : Option (List ℕ)) (bytes line : List ℕ) (counts : CountsOf) → length counts.0 ≡ 8 → token ≡ Some bytes → CanDispense s.guard bytes counts → IsCalm s next → IsOfFormat next
     → Dispenses s token counts line next → IsDispensed s counts (line ∷ []) next
-dispenses-full s next token bytes line counts is c calm (inr o) = ordered-full s next token bytes line counts is c calm o
-dispenses-full s next token bytes line counts is c calm (inl r) = absurd (never r.forbidden)
+dispenses-full s next token bytes line counts eight is c calm format (inr o) = ordered-full s next token bytes line counts eight is c calm format o
+dispenses-full s next token bytes line counts eight is c calm format (inl r) = absurd (never r.forbidden)
   where
     never : IsForbidden s token counts r.refusal next → ⊥
     never (inl (u, same)) = unmoved-no s.guard token bytes line counts r.refusal is c r.text u
@@ -282,20 +283,28 @@ presents-full s next line c calm m =
       left = λ u. (present-places s.guard.places next.guard.places f.number f.outcome.diverted f.places u).1;
     }
 
-dispense-answer : (s next : Seen) (output : List (List ℕ)) (given : Given) (counts : CountsOf) (bytes : List ℕ) → AreAnswer s (Dispense given counts) output next
-    → named s.last given ≡ Some bytes → CanDispense s.guard bytes counts → IsCalm s next → IsDispensed s counts output next
-dispense-answer s next [] given counts bytes a is c calm = (let e = a.0 in cc)
-dispense-answer s next (line ∷ []) given counts bytes a is c calm = dispenses-full s next (named s.last given) bytes line counts is c calm a
-dispense-answer s next (line ∷ other ∷ more) given counts bytes a is c calm = absurd a
+dispense-answer : (s next : Seen) (output : List (List ℕ)) (given : Given) (counts : CountsOf) (bytes : List ℕ) → length counts.0 ≡ 8 → AreAnswer s (Dispense given counts) output next
+    → named s.last given ≡ Some bytes → CanDispense s.guard bytes counts → IsCalm s next → IsOfFormat next → IsDispensed s counts output next
+dispense-answer s next [] given counts bytes eight a is c calm format = (let e = a.0 in cc)
+dispense-answer s next (line ∷ []) given counts bytes eight a is c calm format = dispenses-full s next (named s.last given) bytes line counts eight is c calm format a
+dispense-answer s next (line ∷ other ∷ more) given counts bytes eight a is c calm format = absurd a
 
 present-answer : (s next : Seen) (output : List (List ℕ)) → AreAnswer s Present output next → CanPresent s.guard → IsCalm s next → IsPresented s output next
 present-answer s next [] a c calm = (let e = a.0 in cc)
 present-answer s next (line ∷ []) a c calm = presents-full s next line c calm a
 present-answer s next (line ∷ other ∷ more) a c calm = absurd a
 
+-- a line tells eight counts
+length-units : (counts : List ℕ) (units : List (ℕ × ℕ)) → length (fold with_unit counts units) ≡ length counts
+length-units counts [] = refl
+length-units counts (u ∷ units) = length-units (with_unit counts u) units ∙ length-set counts (u.0 - 1) u.1
+
+eight-counts : (text : List ℕ) (given : Given) (counts : CountsOf) → IsDispense text given counts → length counts.0 ≡ 8
+eight-counts text given counts d = ap length d.has.spells.is ∙ length-units (replicate 8 0) d.has.spells.units
+
 -- what is answered where nothing stands against it
 pub complete : IsComplete
 complete = record {
-  dispense = λ s next text output given counts bytes a verb is c calm. dispense-answer s next output given counts bytes (rw verb at a.answer) is c calm;
+  dispense = λ s next text output given counts bytes a verb is c calm format. dispense-answer s next output given counts bytes (eight-counts text given counts (rw verb at a.reads)) (rw verb at a.answer) is c calm format;
   present = λ s next text output a verb c calm. present-answer s next output (rw verb at a.answer) c calm;
 }

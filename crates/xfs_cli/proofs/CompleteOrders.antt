@@ -25,8 +25,8 @@ use Rattle.xfs_guard.specs.declared.deny.Deny.{Deny}
 use Rattle.xfs_guard.specs.declared.open.Open.{Open}
 use Rattle.xfs_guard.specs.declared.open.Open.TheVariants.{Written, Acted}
 use Rattle.xfs_cli.specs.Seen.{Seen}
+use Rattle.xfs_cli.specs.Complete.{IsCalm, IsOfFormat}
 use Rattle.xfs_cli.specs.OrderAnswers.{Carries, IsActed, IsSettled, IsStopped, Stacks, FollowsUnit, refusal_of, order_of, with_stacked}
-use Rattle.xfs_cli.specs.Complete.{IsCalm}
 
 -- a rise within a longer while is one of the longer while
 rose-within : (a b x y : ℕ) → a ≤ x → y ≤ b → Rose x y → Rose a b
@@ -104,19 +104,20 @@ pub all-left : {X : Type 0} (P : X → Type 0) (xs ys : List X) → AllByRecursi
 all-left P [] ys h = tt
 all-left P (x ∷ xs) ys h = (h.0, all-left P xs ys h.1)
 
+pub format-before : (s next : Seen) → IsGrown s next → IsOfFormat next → IsOfFormat s
+format-before s next more all = all-left IsRecord s.guard.records more.more (rw (← more.grown) all)
+
 -- a calm while is calm in its first part and in the rest
 pub calm-first : (r s t : Seen) → IsGrown s t → IsCalm r t → IsCalm r s
 calm-first r s t more calm = record {
   mech = λ rose. calm.mech (rose-within r.guard.faults t.guard.faults r.guard.faults s.guard.faults (omega arith) more.mech rose);
   disk = λ rose. calm.disk (rose-within r.disk_faults t.disk_faults r.disk_faults s.disk_faults (omega arith) more.disk rose);
-  of_table = all-left IsRecord s.guard.records more.more (rw (← more.grown) calm.of_table);
 }
 
 pub calm-rest : (r s t : Seen) → IsGrown r s → IsCalm r t → IsCalm s t
 calm-rest r s t more calm = record {
   mech = λ rose. calm.mech (rose-within r.guard.faults t.guard.faults s.guard.faults t.guard.faults more.mech (omega arith) rose);
   disk = λ rose. calm.disk (rose-within r.disk_faults t.disk_faults s.disk_faults t.disk_faults more.disk (omega arith) rose);
-  of_table = calm.of_table;
 }
 
 -- an order was carried out with all of its notes

@@ -41,8 +41,8 @@ use Rattle.xfs_guard.proofs.RecordLaws.{last-pushed, lives-within}
 use Rattle.xfs_guard.proofs.SizeLaws.{size-longer, order-short}
 use Rattle.xfs_cli.specs.Seen.{Seen}
 use Rattle.xfs_cli.specs.OrderAnswers.{Carries, Stacks, GoesOn, FollowsUnit, refusal_of, order_of, with_stacked}
-use Rattle.xfs_cli.specs.Complete.{IsCalm}
-use Rattle.xfs_cli.proofs.CompleteOrders.{IsFull, IsGrown, carries-full, carries-grown, follows-grown, stacks-grown, stack-places, calm-first, calm-rest}
+use Rattle.xfs_cli.specs.Complete.{IsCalm, IsOfFormat}
+use Rattle.xfs_cli.proofs.CompleteOrders.{IsFull, IsGrown, carries-full, carries-grown, follows-grown, stacks-grown, stack-places, calm-first, calm-rest, format-before}
 
 -- counts from the unit u on, behind units without notes
 abbrev pub ahead : ℕ → List ℕ → List ℕ
@@ -179,7 +179,7 @@ done-short : (m d : Counts) → length m.0 ≡ 8 → length d.0 ≡ 8 → length
 done-short m d e f = omega (arith, length-append (counts_bytes m) (counts_bytes d), length-numbers m.0, length-numbers d.0, e, f)
 
 -- behind an order that was carried out in full
-open-after : (s middle : Seen) (issue u n : ℕ) (amounts : List (List ℕ × ℕ)) (orders : ℕ) (result : Result Outcome Deny) → AllByRecursion IsRecord middle.guard.records
+open-after : (s middle : Seen) (issue u n : ℕ) (amounts : List (List ℕ × ℕ)) (orders : ℕ) (result : Result Outcome Deny) → IsOfFormat middle
     → IsFull s (AskStack issue (u + 1) n) result middle → IsOpenFor s.guard issue amounts (suc orders) → IsOpenFor middle.guard issue amounts orders
 open-after s middle issue u n amounts orders result of_table f o =
     let notes = notes_of (u + 1) n in
@@ -286,9 +286,9 @@ stacks-at issue rest u v all s result next e h = subst (λ k. Stacks issue rest 
 
 pub stacks-full : (issue : ℕ) (amounts : List (List ℕ × ℕ)) (rest : List ℕ) (u : ℕ) (front : List ℕ) (all : Outcome) (s : Seen) (result : Result Outcome Deny) (next : Seen)
     → length front ≡ u → u + length rest ≤ 8 → all.failed ≡ false → all.moved.0 ≡ front ++ zeros (length rest)
-    → IsOpenFor s.guard issue amounts (length rest) → IsAhead s.guard amounts (ahead u rest) → IsCalm s next → Stacks issue rest u all s result next
+    → IsOpenFor s.guard issue amounts (length rest) → IsAhead s.guard amounts (ahead u rest) → IsCalm s next → IsOfFormat next → Stacks issue rest u all s result next
     → IsStacked s issue amounts u front rest result next
-stacks-full issue amounts [] u front all s result next long few fine was o h calm (is, same) = rw same (record {
+stacks-full issue amounts [] u front all s result next long few fine was o h calm format (is, same) = rw same (record {
   outcome = all;
   is = is;
   fine = fine;
@@ -298,13 +298,13 @@ stacks-full issue amounts [] u front all s result next long few fine was o h cal
   outlet = λ w. refl;
   open_for = o;
 })
-stacks-full issue amounts (zero ∷ rest) u front all s result next long few fine was o h calm more =
+stacks-full issue amounts (zero ∷ rest) u front all s result next long few fine was o h calm format more =
     let there = stacks-at issue rest (u + 1) (suc u) all s result next (add-one u) more in
     let had : IsAhead s.guard amounts (ahead (suc u) rest) = rw (ahead-zero u rest) at h in
     stacked-zero s issue amounts u front rest result next (stacks-full issue amounts rest (suc u) (front ++ 0 ∷ []) all s result next
     (omega (arith, length-append front (0 ∷ []), long)) (omega (arith, few)) fine (was ∙ sym (one-more front (zeros (length rest)) 0))
-    (more-room s.guard issue (length rest) amounts o) had calm there)
-stacks-full issue amounts (suc n ∷ rest) u front all s result next long few fine was o h calm unit =
+    (more-room s.guard issue (length rest) amounts o) had calm format there)
+stacks-full issue amounts (suc n ∷ rest) u front all s result next long few fine was o h calm format unit =
     let low : u < 8 = omega (arith, few) in
     let behind = follows-grown (Stacks issue rest (u + 1)) (λ all s result next more. stacks-grown issue rest (u + 1) all s result next more) all u unit.one unit.middle result next unit.onward in
     let first = calm-first s unit.middle next behind calm in
@@ -317,7 +317,7 @@ stacks-full issue amounts (suc n ∷ rest) u front all s result next long few fi
         let there = stacks-at issue rest (u + 1) (suc u) (with_stacked all u f.outcome) unit.middle result next (add-one u) on.1 in
         stacked-unit s unit.middle issue amounts u (suc n) front rest unit.one result next low f (stacks-full issue amounts rest (suc u) (front ++ suc n ∷ []) (with_stacked all u f.outcome) unit.middle result next
         (omega (arith, length-append front (suc n ∷ []), long)) (omega (arith, few)) f.fine (moved-after all f.outcome front rest u (suc n) low long was f.moved)
-        (open-after s unit.middle issue u (suc n) amounts (length rest) unit.one first.of_table f o) (ahead-after s unit.middle issue u (suc n) amounts rest unit.one low f h) later there)
+        (open-after s unit.middle issue u (suc n) amounts (length rest) unit.one (format-before unit.middle next behind format) f o) (ahead-after s unit.middle issue u (suc n) amounts rest unit.one low f h) later format there)
       )
     ]
   where

@@ -20,11 +20,14 @@ use Rattle.xfs_cli.specs.Seen.{Seen}
 use Rattle.xfs_cli.specs.DispenseAnswers.{named}
 use Rattle.xfs_cli.specs.VerbAnswers.{AnswersGuard}
 
--- no count of faults rose, and each record of the journal is of the format
+-- no count of faults rose
 pub record IsCalm (s next : Seen) : Type 0 where
   pub mech : ¬ (Rose s.guard.faults next.guard.faults)
   pub disk : ¬ (Rose s.disk_faults next.disk_faults)
-  pub of_table : AllByRecursion IsRecord next.guard.records
+
+-- each record of the journal is of the format
+abbrev pub IsOfFormat : Seen → Type 0
+IsOfFormat s = AllByRecursion IsRecord s.guard.records
 
 -- the journal is open, its Boot isn't missing, and so many records and bytes are left of its limits
 pub record HasRoom (v : View) (many long : ℕ) : Type 0 where
@@ -54,7 +57,6 @@ pub record IsFree (v : View) : Type 0 where
 
 -- from 1 to 60 notes of units of the table, which lie in the units, and with what was presented and lies on the transport are worth no more than the amounts
 pub record IsCoveredBy (v : View) (amounts : List (List ℕ × ℕ)) (counts : CountsOf) : Type 0 where
-  pub eight : length counts.0 ≡ 8
   pub table : (u : ℕ) → length v.units ≤ u → at counts u ≡ 0
   pub low : 1 ≤ sum counts.0
   pub high : sum counts.0 ≤ 60
@@ -100,6 +102,6 @@ pub record IsPresented (s : Seen) (output : List (List ℕ)) (next : Seen) : Typ
 -- what is answered to a dispense and to a present that nothing stands against, where no count of faults rises
 pub record IsComplete : Type 0 where
   pub dispense : (s next : Seen) (text : List ℕ) (output : List (List ℕ)) (given : Given) (counts : CountsOf) (bytes : List ℕ) (a : AnswersGuard s text output next)
-      → a.verb ≡ Dispense given counts → named s.last given ≡ Some bytes → CanDispense s.guard bytes counts → IsCalm s next → IsDispensed s counts output next
+      → a.verb ≡ Dispense given counts → named s.last given ≡ Some bytes → CanDispense s.guard bytes counts → IsCalm s next → IsOfFormat next → IsDispensed s counts output next
   pub present : (s next : Seen) (text : List ℕ) (output : List (List ℕ)) (a : AnswersGuard s text output next)
       → a.verb ≡ Present → CanPresent s.guard → IsCalm s next → IsPresented s output next
