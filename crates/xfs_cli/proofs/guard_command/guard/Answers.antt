@@ -8,6 +8,7 @@ use Rattle.xfs_cli.proofs.GuardRunLaws.{all-ends, front-ends, until-stops, stops
 use Rattle.xfs_cli.proofs.EndLaws.{finishes, causes-served, causes-refused}
 use Rattle.xfs_cli.proofs.NumberLaws.{newer-run}
 use Rattle.xfs_cli.proofs.UnreadLaws.{unwritten-quiet}
+use Rattle.xfs_cli.proofs.CompleteLaws.{complete}
 use Rattle.xfs_cli.proofs.guard_command.guard.Goals as goal
 
 pub returns-then-not-is_word-clause-upholds : goal.returns-then-not-is_word-clause-upholds
@@ -107,3 +108,12 @@ returns-in-Err-clause-finishes g c =
 
 pub returns-in-Err-clause-unwritten : goal.returns-in-Err-clause-unwritten
 returns-in-Err-clause-unwritten g c = unwritten-quiet g.D.Disk.held g.D.Disk.images g.D.Disk.moment g.D.Disk.images_since g.D.Disk.faults c.args.core.disk c.in-Err.field-0.disk c.in-Err.ensures.unlisted
+
+pub returns-then-not-is_word-clause-complete : goal.returns-then-not-is_word-clause-complete
+returns-then-not-is_word-clause-complete g c = complete
+
+pub returns-in-Ok-clause-complete : goal.returns-in-Ok-clause-complete
+returns-in-Ok-clause-complete g c = complete
+
+pub returns-in-Err-clause-complete : goal.returns-in-Err-clause-complete
+returns-in-Err-clause-complete g c = complete

@@ -1,4 +1,5 @@
 use Rattle.xfs_cli.proofs.RunLaws.{upholds-same}
+use Rattle.xfs_cli.proofs.CompleteLaws.{complete}
 use Rattle.xfs_cli.proofs.top.run.Goals as goal
 
 pub returns-then-is_word-2-clause-upholds : goal.returns-then-is_word-2-clause-upholds
@@ -6,3 +7,9 @@ returns-then-is_word-2-clause-upholds g c = rw (c.token.ensures.same, c.token.en
 
 pub returns-clause-upholds : goal.returns-clause-upholds
 returns-clause-upholds g c = upholds-same _ _ _ _ _ _ c.requires.starts c.requires.at_rest
+
+pub returns-then-is_word-2-clause-complete : goal.returns-then-is_word-2-clause-complete
+returns-then-is_word-2-clause-complete g c = complete
+
+pub returns-clause-complete : goal.returns-clause-complete
+returns-clause-complete g c = complete
