@@ -1,42 +1,32 @@
 -- A dispense that its token covers, and a present behind it, are done in full, where no count of faults rises.
-use Rattle.std.proofs.Common.{◌≡◌, ◌≤◌, ◌⊎◌, ◌+◌, ◌-◌, ◌*◌, ◌==◌, ℕ, zero, suc, Bool, true, false, List, [], ◌∷◌, ◌++◌, length, drop, get_or, None, Some, Ok, Err, inl, inr, refl, sym, ◌∙◌, ap, arith, true≢false}
-use Rattle.std.specs.Prelude.{◌&&◌, fold, replicate, nat_lt, not, sum, zip, take, codes, slice_index, if◌then◌else◌}
-use Rattle.std.specs.List.{list_all, prefix_len}
+use Rattle.std.proofs.Common.{◌≡◌, ◌≤◌, ◌⊎◌, ◌+◌, ◌-◌, ◌==◌, ℕ, zero, suc, Bool, true, false, List, [], ◌∷◌, ◌++◌, length, drop, get_or, None, Some, Ok, inl, inr, refl, sym, ◌∙◌, ap, arith, true≢false}
+use Rattle.std.specs.Prelude.{◌&&◌, fold, replicate, nat_lt, not, sum, zip, take, codes, if◌then◌else◌}
+use Rattle.std.specs.List.{prefix_len}
 use Rattle.std.specs.Str.{bytes_eq}
 use Rattle.std.specs.Option.{option_map, option_or}
 use Rattle.std.specs.declared.option.Option.{Option}
-use Rattle.std.specs.declared.result.Result.{Result}
 use Rattle.std.proofs.lemmas.Bool.{le-ltb, eq-eqb, ne_eqb}
 use Rattle.std.proofs.lemmas.List.{append-nil, get_or-drop, length-set}
 use Rattle.std.proofs.lemmas.List.Folds.{sum_by-zero}
 use Rattle.std.proofs.lemmas.Slice.Eq.{bytes_eq-Decides}
-use Rattle.xfs_base.specs.Counts.{at, LiesIn}
-use Rattle.xfs_base.specs.Money.{value}
+use Rattle.xfs_base.specs.Counts.{at}
 use Rattle.xfs_base.specs.declared.counts.Counts.{Counts as CountsOf}
-use Rattle.xfs_base.specs.declared.money.NoteKind.{NoteKind}
 use Rattle.xfs_hmac.specs.Hmac.{hmac}
-use Rattle.xfs_token.specs.Token.{Parts, Spells}
-use Rattle.xfs_token.specs.Fault.{IsFault}
 use Rattle.xfs_token.specs.Amounts.{amounts_of}
 use Rattle.xfs_token.specs.declared.faults.TokenFault.{TokenFault}
 use Rattle.xfs_token.proofs.Whole.{one_token, no_fault}
-use Rattle.xfs_mix.specs.Asked.{count_fault, first_short, is_none}
-use Rattle.xfs_mix.specs.declared.asked.CountFault.{CountFault}
+use Rattle.xfs_mix.specs.Asked.{count_fault, is_none}
 use Rattle.xfs_mix.specs.declared.asked.CountFault.TheVariants.{Empty, TooMany, Short as ShortCount}
 use Rattle.xfs_mech.specs.declared.motion.Outcome.{Outcome}
-use Rattle.xfs_journal.specs.Image.{size}
-use Rattle.xfs_journal.specs.Journal.{last_mark}
-use Rattle.xfs_journal.specs.declared.record.Rec.{Rec}
 use Rattle.xfs_journal.specs.declared.record.Rec.TheVariants.{Bind}
 use Rattle.xfs_guard.specs.View.{View}
 use Rattle.xfs_guard.specs.Fits.{unfit}
 use Rattle.xfs_guard.specs.Nonce.{live_nonce}
 use Rattle.xfs_guard.specs.Presented.{presented_in}
-use Rattle.xfs_guard.specs.Refusals.{Passes, TokenRefused, bound_token, bind_refusal, claim_refusal, claim_refusal_at, order_refusal, order_refusal_at, over_budget, present_refusal}
+use Rattle.xfs_guard.specs.Refusals.{Passes, TokenRefused, bound_token, bind_refusal, claim_refusal, order_refusal}
 use Rattle.xfs_guard.specs.TokenDeny.{deny_of}
 use Rattle.xfs_guard.specs.declared.ask.Ask.TheVariants.{Present as AskPresent}
 use Rattle.xfs_guard.specs.declared.deny.Deny.{Deny}
-use Rattle.xfs_guard.specs.declared.deny.Deny.TheVariants.{NotEmpty, OtherBound, WrongNonce, WrongMac, NoAmounts}
 use Rattle.xfs_guard.specs.declared.nonce.Nonce.{Nonce}
 use Rattle.xfs_guard.proofs.PresentedLaws.{presented_in-push}
 use Rattle.xfs_guard.proofs.SizeLaws.{size-longer}
@@ -44,19 +34,18 @@ use Rattle.xfs_guard.proofs.RecordLaws.{length-pushed}
 use Rattle.xfs_script.specs.Counts.{with_unit}
 use Rattle.xfs_script.specs.Dispense.{IsDispense}
 use Rattle.xfs_script.specs.declared.guard_line.Given.{Given}
-use Rattle.xfs_script.specs.declared.guard_line.GuardLine.{GuardLine}
-use Rattle.xfs_script.specs.declared.guard_line.GuardLine.TheVariants.{Skip, Dispense, Present}
+use Rattle.xfs_script.specs.declared.guard_line.GuardLine.TheVariants.{Dispense, Present}
 use Rattle.xfs_cli.specs.Refused.{refusal_text}
 use Rattle.xfs_cli.specs.Seen.{Seen}
 use Rattle.xfs_cli.specs.OrderAnswers.{Moves, Tells, nothing_stacked, refusal_of}
-use Rattle.xfs_cli.specs.DispenseAnswers.{Dispenses, IsAdmitted, IsForbidden, IsOrdered, IsPermitted, IsUnmoved, counts_refusal, named}
+use Rattle.xfs_cli.specs.DispenseAnswers.{Dispenses, IsForbidden, IsOrdered, IsPermitted, IsUnmoved, counts_refusal, named}
 use Rattle.xfs_cli.specs.GuardAnswers.{outcome_text}
-use Rattle.xfs_cli.specs.VerbAnswers.{AnswersGuard, AreAnswer}
-use Rattle.xfs_cli.specs.Complete.{CanDispense, CanPresent, HasRoom, IsBoundWith, IsCalm, IsComplete, IsCoveredBy, IsDispensed, IsFree, IsGood, IsOfFormat, IsPresented, moved_line}
+use Rattle.xfs_cli.specs.VerbAnswers.{AreAnswer}
+use Rattle.xfs_cli.specs.Complete.{CanDispense, CanPresent, IsBoundWith, IsCalm, IsComplete, IsCoveredBy, IsDispensed, IsFree, IsGood, IsOfFormat, IsPresented, moved_line}
 use Rattle.xfs_cli.specs.declared.refused.Refusal.{Refusal}
-use Rattle.xfs_cli.specs.declared.refused.Refusal.TheVariants.{Counts, NoToken, Deny as Denied}
-use Rattle.xfs_cli.proofs.CompleteOrders.{IsFull, carries-full, present-places, calm-rest, IsGrown, stacks-grown}
-use Rattle.xfs_cli.proofs.CompleteStacks.{IsAhead, IsOpenFor, IsStacked, budget-none, nonce-push, stacks-full, unfit-none}
+use Rattle.xfs_cli.specs.declared.refused.Refusal.TheVariants.{Deny as Denied}
+use Rattle.xfs_cli.proofs.CompleteOrders.{carries-full, present-places, calm-rest, IsGrown}
+use Rattle.xfs_cli.proofs.CompleteStacks.{IsAhead, IsOpenFor, budget-none, nonce-push, stacks-full, unfit-none}
 
 -- a list of counts is 0 everywhere where its sum is, and then alone
 zero-at : (xs : List ℕ) (w : ℕ) → is_none xs ≡ true → get_or xs w 0 ≡ 0
@@ -227,7 +216,7 @@ ordered-full s next token bytes line counts eight is c calm format o =
     let ready = permitted-open s token bytes counts o.issue o.bound c is o.permitted in
     let calm-on = calm-rest s o.bound next (bound-grown c.binding) calm in
     let all = stacks-full o.issue c.amounts counts.0 0 [] nothing_stacked o.bound o.result next refl (omega (arith, eight)) refl (rw eight refl)
-        (rw eight ready.0) ready.1 calm-on format o.stacked in
+    (rw eight ready.0) ready.1 calm-on format o.stacked in
     let told : Tells (codes "moved") (Ok all.outcome) line = rw all.is at o.told in
     let lives = some-nonce (live_nonce next.guard.records) o.issue all.open_for.lives in
     let gained : (u : ℕ) → at next.guard.places.transport u ≡ at s.guard.places.transport u + at counts u = (λ u. rw ready.2 at (all.transport u)) in

@@ -1,5 +1,5 @@
 -- Counts that a token covers are stacked in full, unit by unit, where no count of faults rises.
-use Rattle.std.proofs.Common.{◌≡◌, ◌≢◌, ◌≤◌, ◌<◌, ◌⊎◌, ◌+◌, ◌-◌, ◌*◌, ◌==◌, ℕ, zero, suc, Bool, true, false, List, [], ◌∷◌, ◌++◌, length, set, get_or, None, Some, Ok, Err, inl, inr, refl, sym, subst, ◌∙◌, ap, arith, append_assoc, add-one, length-append}
+use Rattle.std.proofs.Common.{◌≡◌, ◌≢◌, ◌≤◌, ◌<◌, ◌+◌, ◌-◌, ◌*◌, ℕ, zero, suc, Bool, true, false, List, [], ◌∷◌, ◌++◌, length, set, get_or, None, Some, Ok, inl, inr, refl, sym, subst, ◌∙◌, ap, arith, append_assoc, add-one, length-append}
 use Rattle.std.specs.Prelude.{nat_lt, slice_index, if◌then◌else◌, ◌||◌}
 use Rattle.std.specs.List.{AllByRecursion}
 use Rattle.std.specs.Option.{option_map, option_and_then, option_or}
@@ -7,12 +7,11 @@ use Rattle.std.specs.declared.option.Option.{Option}
 use Rattle.std.specs.declared.result.Result.{Result}
 use Rattle.std.proofs.Math.Seq.{set-append_seam}
 use Rattle.std.proofs.lemmas.Bool.{le-ltb, cases_eq}
-use Rattle.std.proofs.lemmas.List.{append-nil, get_or-set_other}
+use Rattle.std.proofs.lemmas.List.{get_or-set_other}
 use Rattle.std.proofs.lemmas.Grind.{get_or-set_at}
 use Rattle.xfs_base.specs.Counts.{at}
 use Rattle.xfs_base.specs.Money.{value, value_from}
 use Rattle.xfs_base.specs.declared.counts.Counts.{Counts}
-use Rattle.xfs_base.specs.declared.counts.Kind.{Kind}
 use Rattle.xfs_base.specs.declared.counts.Kind.TheVariants.{Stack}
 use Rattle.xfs_base.specs.declared.money.NoteKind.{NoteKind}
 use Rattle.xfs_base.proofs.MoneyLaws.{value_from-plus, value_from-le}
@@ -28,10 +27,9 @@ use Rattle.xfs_journal.proofs.JournalLaws.{live_of-push, record_at-push, eqb-sam
 use Rattle.xfs_guard.specs.View.{View}
 use Rattle.xfs_guard.specs.Fits.{unfit}
 use Rattle.xfs_guard.specs.Nonce.{nonce_of, live_nonce}
-use Rattle.xfs_guard.specs.Passed.{first_currency, earlier, is_over}
+use Rattle.xfs_guard.specs.Passed.{first_currency, is_over}
 use Rattle.xfs_guard.specs.Presented.{presented_in, done_worth}
 use Rattle.xfs_guard.specs.Refusals.{notes_of, over_budget, order_refusal, order_refusal_at}
-use Rattle.xfs_guard.specs.declared.ask.Ask.{Ask}
 use Rattle.xfs_guard.specs.declared.ask.Ask.TheVariants.{Stack as AskStack}
 use Rattle.xfs_guard.specs.declared.deny.Deny.{Deny}
 use Rattle.xfs_guard.specs.declared.deny.Deny.TheVariants.{Shut, Full}
@@ -40,9 +38,9 @@ use Rattle.xfs_guard.proofs.PresentedLaws.{presented_in-push}
 use Rattle.xfs_guard.proofs.RecordLaws.{last-pushed, lives-within}
 use Rattle.xfs_guard.proofs.SizeLaws.{size-longer, order-short}
 use Rattle.xfs_cli.specs.Seen.{Seen}
-use Rattle.xfs_cli.specs.OrderAnswers.{Carries, Stacks, GoesOn, FollowsUnit, refusal_of, order_of, with_stacked}
+use Rattle.xfs_cli.specs.OrderAnswers.{Stacks, GoesOn, refusal_of, with_stacked}
 use Rattle.xfs_cli.specs.Complete.{IsCalm, IsOfFormat}
-use Rattle.xfs_cli.proofs.CompleteOrders.{IsFull, IsGrown, carries-full, carries-grown, follows-grown, stacks-grown, stack-places, calm-first, calm-rest, format-before}
+use Rattle.xfs_cli.proofs.CompleteOrders.{IsFull, carries-full, carries-grown, follows-grown, stacks-grown, stack-places, calm-first, calm-rest, format-before}
 
 -- counts from the unit u on, behind units without notes
 abbrev pub ahead : ℕ → List ℕ → List ℕ
@@ -100,11 +98,11 @@ notes-other u n w other = get_or-set_other eight (u + 1 - 1) w n 0 (λ e. other 
 ahead-split : (u n w : ℕ) (rest : List ℕ) → u < 8 → slice_index (ahead u (n ∷ rest)) w ≡ at (notes_of (u + 1) n) w + slice_index (ahead (suc u) rest) w
 ahead-split u n w rest low = elim (cases_eq w u) [
   | inl same ↦ (
-    let a : get_or (ahead u (n ∷ rest)) w 0 ≡ n = rw same (ahead-here u n rest) in
-    let b : at (notes_of (u + 1) n) w ≡ n = rw same (notes-here u n low) in
-    let c : get_or (ahead (suc u) rest) w 0 ≡ 0 = rw same (ahead-behind u rest) in
-    omega (arith, a, b, c)
-  )
+      let a : get_or (ahead u (n ∷ rest)) w 0 ≡ n = rw same (ahead-here u n rest) in
+      let b : at (notes_of (u + 1) n) w ≡ n = rw same (notes-here u n low) in
+      let c : get_or (ahead (suc u) rest) w 0 ≡ 0 = rw same (ahead-behind u rest) in
+      omega (arith, a, b, c)
+      )
   | inr other ↦ (let a = ahead-other u n w rest other in let b = notes-other u n w other in omega (arith, a, b))
 ]
 
@@ -314,11 +312,11 @@ stacks-full issue amounts (suc n ∷ rest) u front all s result next long few fi
     elim goes [
       | inl stops ↦ absurd (true-false f.outcome.failed stops.0 f.fine)
       | inr on ↦ (
-        let there = stacks-at issue rest (u + 1) (suc u) (with_stacked all u f.outcome) unit.middle result next (add-one u) on.1 in
-        stacked-unit s unit.middle issue amounts u (suc n) front rest unit.one result next low f (stacks-full issue amounts rest (suc u) (front ++ suc n ∷ []) (with_stacked all u f.outcome) unit.middle result next
-        (omega (arith, length-append front (suc n ∷ []), long)) (omega (arith, few)) f.fine (moved-after all f.outcome front rest u (suc n) low long was f.moved)
-        (open-after s unit.middle issue u (suc n) amounts (length rest) unit.one (format-before unit.middle next behind format) f o) (ahead-after s unit.middle issue u (suc n) amounts rest unit.one low f h) later format there)
-      )
+          let there = stacks-at issue rest (u + 1) (suc u) (with_stacked all u f.outcome) unit.middle result next (add-one u) on.1 in
+          stacked-unit s unit.middle issue amounts u (suc n) front rest unit.one result next low f (stacks-full issue amounts rest (suc u) (front ++ suc n ∷ []) (with_stacked all u f.outcome) unit.middle result next
+          (omega (arith, length-append front (suc n ∷ []), long)) (omega (arith, few)) f.fine (moved-after all f.outcome front rest u (suc n) low long was f.moved)
+          (open-after s unit.middle issue u (suc n) amounts (length rest) unit.one (format-before unit.middle next behind format) f o) (ahead-after s unit.middle issue u (suc n) amounts rest unit.one low f h) later format there)
+          )
     ]
   where
     true-false : (b : Bool) → b ≡ true → b ≡ false → ⊥
