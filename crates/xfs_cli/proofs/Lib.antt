@@ -1,4 +1,7 @@
 pub mod AnswerLaws
+pub mod CompleteLaws
+pub mod CompleteOrders
+pub mod CompleteStacks
 pub mod DispenseLaws
 pub mod EndLaws
 pub mod GuardRunLaws

@@ -1,6 +1,7 @@
 pub mod Answers
 pub mod BootLines
 pub mod Boots
+pub mod Complete
 pub mod DispenseAnswers
 pub mod GuardAnswers
 pub mod GuardLines

@@ -18,6 +18,7 @@ ghost use Rattle.xfs_cli.specs.GuardLines.{IsLine};
 ghost use Rattle.xfs_cli.specs.GuardRuns.{FromBoot, IsEnd, IsStop, IsWithin, IsUnbooted, RunsFull, opened};
 ghost use Rattle.xfs_cli.specs.Seen.{IsLater, seen};
 ghost use Rattle.xfs_cli.specs.VerbAnswers.{AnswersGuard};
+ghost use Rattle.xfs_cli.specs.Complete.{IsComplete};
 ghost use Rattle.xfs_cli.specs.Boots.{EndsUnread, EndsFull, BootPasses, IsDue, IsNoJournal, IsUnwritten};
 ghost use Rattle.xfs_cli.specs.Upholds.{Upholds};
 ghost use Rattle.xfs_cli.specs.Statuses.{IsStatus, IsUnhindered, IsFinished};
@@ -66,6 +67,9 @@ pub fn guard<S: Source, K: Sink, M: Mechanism, D: Disk>(
         (λ start. WritesFront AnswersGuard (IsWithin (M.faults result.mech) (D.faults result.disk)) start (K.held sink.old) (K.held sink.new) text)) }
     ensures until { result.status ≢ 0 → result.status ≢ 2 → result.status ≢ 5 → IfTold (S.left source.old) (λ text. IsUnbooted result.status (K.held sink.old) (K.held sink.new) ⊎ FromBoot (opened core.key core.seed core.units core.limits (M.motions core.mech) (M.places core.mech) (M.faults core.mech) (is_some (D.held core.disk))) (M.places core.mech) (D.held core.disk) (D.faults core.disk)
         (λ start. WritesUntil IsLine AnswersGuard (IsStop (M.faults result.mech) (D.faults result.disk)) start result.status (S.left source.new) (K.held sink.old) (K.held sink.new) text)) }
+
+    // Of these answers: a dispense that its token covers, and a present behind it, are done in full where nothing fails.
+    ensures complete { IsComplete }
 
     ensures boot_disk { result.status ≡ 6 → Rose (D.faults core.disk) (D.faults result.disk) }
     ensures not_journal { result.status ≡ 7 → (D.held core.disk ≡ None) ⊎ EndsUnread (D.held core.disk) (K.held sink.old) (K.held sink.new) }

@@ -16,6 +16,7 @@ ghost use Rattle.xfs_cli.specs.Boots.{EndsUnread, EndsFull, BootPasses, IsDue, I
 ghost use Rattle.xfs_cli.specs.Answers.{Unsaid, AnyStop, WritesAll, WritesUntil, WritesFront, WritesUsage};
 ghost use Rattle.xfs_cli.specs.GuardLines.{IsLine};
 ghost use Rattle.xfs_cli.specs.GuardRuns.{FromBoot, IsEnd, IsStop, IsWithin, IsUnbooted, RunsFull, opened};
+ghost use Rattle.xfs_cli.specs.Complete.{IsComplete};
 ghost use Rattle.xfs_cli.specs.VerbAnswers.{AnswersGuard};
 ghost use Rattle.xfs_cli.specs.TokenAnswers.{AnswersToken, IsLineOfToken};
 
@@ -79,6 +80,9 @@ pub fn run<S: Source, K: Sink, M: Mechanism, D: Disk>(
         (λ start. WritesFront AnswersGuard (IsWithin (M.faults result.mech) (D.faults result.disk)) start (K.held sink.old) (K.held sink.new) text)) }
     ensures guard_until { IsGuard words.now → result.status ≢ 0 → result.status ≢ 5 → IfTold (S.left source.old) (λ text. IsUnbooted result.status (K.held sink.old) (K.held sink.new) ⊎ FromBoot (opened core.key core.seed core.units core.limits (M.motions core.mech) (M.places core.mech) (M.faults core.mech) (is_some (D.held core.disk))) (M.places core.mech) (D.held core.disk) (D.faults core.disk)
         (λ start. WritesUntil IsLine AnswersGuard (IsStop (M.faults result.mech) (D.faults result.disk)) start result.status (S.left source.new) (K.held sink.old) (K.held sink.new) text)) }
+
+    // Of the answers of `guard`: a dispense that its token covers, and a present behind it, are done in full where nothing fails.
+    ensures complete { IsComplete }
 
     // The lines of `token`, and what is written: their answers, and at most one last line.
     ensures answers { IsToken words.now → result.status ≡ 0 → IfTold (S.left source.old) (WritesAll AnswersToken Unsaid core.key (K.held sink.old) (K.held sink.new)) }

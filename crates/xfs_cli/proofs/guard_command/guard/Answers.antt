@@ -9,6 +9,7 @@ use Rattle.xfs_cli.proofs.EndLaws.{finishes, causes-served, causes-refused}
 use Rattle.xfs_cli.proofs.NumberLaws.{newer-run}
 use Rattle.xfs_cli.proofs.UnreadLaws.{unwritten-quiet}
 use Rattle.xfs_cli.proofs.MomentLaws.{moments-same, moments-refused, moments-run}
+use Rattle.xfs_cli.proofs.CompleteLaws.{complete}
 use Rattle.xfs_cli.proofs.guard_command.guard.Goals as goal
 
 pub returns-then-not-is_word-clause-upholds : goal.returns-then-not-is_word-clause-upholds
@@ -124,3 +125,12 @@ returns-in-Ok-clause-any_moment g c =
 pub returns-in-Err-clause-any_moment : goal.returns-in-Err-clause-any_moment
 returns-in-Err-clause-any_moment g c =
     rw c.in-Err.ensures.mech (moments-refused g.D.Disk.held g.D.Disk.images g.D.Disk.moment g.D.Disk.images_since g.met.D.Disk.as_read _ _ _ _ _ _ c.requires.starts c.requires.at_rest c.in-Err.ensures.crashes c.in-Err.ensures.either)
+
+pub returns-then-not-is_word-clause-complete : goal.returns-then-not-is_word-clause-complete
+returns-then-not-is_word-clause-complete g c = complete
+
+pub returns-in-Ok-clause-complete : goal.returns-in-Ok-clause-complete
+returns-in-Ok-clause-complete g c = complete
+
+pub returns-in-Err-clause-complete : goal.returns-in-Err-clause-complete
+returns-in-Err-clause-complete g c = complete

@@ -1,6 +1,7 @@
 use Rattle.std.proofs.Common.{refl}
 use Rattle.xfs_cli.proofs.RunLaws.{upholds-same}
 use Rattle.xfs_cli.proofs.MomentLaws.{moments-same}
+use Rattle.xfs_cli.proofs.CompleteLaws.{complete}
 use Rattle.xfs_cli.proofs.top.run.Goals as goal
 
 pub returns-then-is_word-2-clause-upholds : goal.returns-then-is_word-2-clause-upholds
@@ -14,3 +15,9 @@ returns-then-is_word-2-clause-any_moment g c = moments-same g.D.Disk.held g.D.Di
 
 pub returns-clause-any_moment : goal.returns-clause-any_moment
 returns-clause-any_moment g c = moments-same g.D.Disk.held g.D.Disk.images g.D.Disk.moment g.D.Disk.images_since g.met.D.Disk.as_read _ _ _ g.met.D.Disk.only_now c.requires.at_rest refl
+
+pub returns-then-is_word-2-clause-complete : goal.returns-then-is_word-2-clause-complete
+returns-then-is_word-2-clause-complete g c = complete
+
+pub returns-clause-complete : goal.returns-clause-complete
+returns-clause-complete g c = complete

@@ -1,0 +1,299 @@
+-- A dispense that its token covers, and a present behind it, are done in full, where no count of faults rises.
+use Rattle.std.proofs.Common.{◌≡◌, ◌≤◌, ◌⊎◌, ◌+◌, ◌-◌, ◌==◌, ℕ, zero, suc, Bool, true, false, List, [], ◌∷◌, ◌++◌, length, drop, get_or, None, Some, Ok, inl, inr, refl, sym, ◌∙◌, ap, arith, true≢false}
+use Rattle.std.specs.Prelude.{◌&&◌, fold, replicate, nat_lt, not, sum, zip, take, codes, if◌then◌else◌}
+use Rattle.std.specs.List.{prefix_len}
+use Rattle.std.specs.Str.{bytes_eq}
+use Rattle.std.specs.Option.{option_map, option_or}
+use Rattle.std.specs.declared.option.Option.{Option}
+use Rattle.std.proofs.lemmas.Bool.{le-ltb, eq-eqb, ne_eqb}
+use Rattle.std.proofs.lemmas.List.{append-nil, get_or-drop, length-set}
+use Rattle.std.proofs.lemmas.List.Folds.{sum_by-zero}
+use Rattle.std.proofs.lemmas.Slice.Eq.{bytes_eq-Decides}
+use Rattle.xfs_base.specs.Counts.{at}
+use Rattle.xfs_base.specs.declared.counts.Counts.{Counts as CountsOf}
+use Rattle.xfs_hmac.specs.Hmac.{hmac}
+use Rattle.xfs_token.specs.Amounts.{amounts_of}
+use Rattle.xfs_token.specs.declared.faults.TokenFault.{TokenFault}
+use Rattle.xfs_token.proofs.Whole.{one_token, no_fault}
+use Rattle.xfs_mix.specs.Asked.{count_fault, is_none}
+use Rattle.xfs_mix.specs.declared.asked.CountFault.TheVariants.{Empty, TooMany, Short as ShortCount}
+use Rattle.xfs_mech.specs.declared.motion.Outcome.{Outcome}
+use Rattle.xfs_journal.specs.declared.record.Rec.TheVariants.{Bind}
+use Rattle.xfs_guard.specs.View.{View}
+use Rattle.xfs_guard.specs.Fits.{unfit}
+use Rattle.xfs_guard.specs.Nonce.{live_nonce}
+use Rattle.xfs_guard.specs.Presented.{presented_in}
+use Rattle.xfs_guard.specs.Refusals.{Passes, TokenRefused, bound_token, bind_refusal, claim_refusal, order_refusal}
+use Rattle.xfs_guard.specs.TokenDeny.{deny_of}
+use Rattle.xfs_guard.specs.declared.ask.Ask.TheVariants.{Present as AskPresent}
+use Rattle.xfs_guard.specs.declared.deny.Deny.{Deny}
+use Rattle.xfs_guard.specs.declared.nonce.Nonce.{Nonce}
+use Rattle.xfs_guard.proofs.PresentedLaws.{presented_in-push}
+use Rattle.xfs_guard.proofs.SizeLaws.{size-longer}
+use Rattle.xfs_guard.proofs.RecordLaws.{length-pushed}
+use Rattle.xfs_script.specs.Counts.{with_unit}
+use Rattle.xfs_script.specs.Dispense.{IsDispense}
+use Rattle.xfs_script.specs.declared.guard_line.Given.{Given}
+use Rattle.xfs_script.specs.declared.guard_line.GuardLine.TheVariants.{Dispense, Present}
+use Rattle.xfs_cli.specs.Refused.{refusal_text}
+use Rattle.xfs_cli.specs.Seen.{Seen}
+use Rattle.xfs_cli.specs.OrderAnswers.{Moves, Tells, nothing_stacked, refusal_of}
+use Rattle.xfs_cli.specs.DispenseAnswers.{Dispenses, IsForbidden, IsOrdered, IsPermitted, IsUnmoved, counts_refusal, named}
+use Rattle.xfs_cli.specs.GuardAnswers.{outcome_text}
+use Rattle.xfs_cli.specs.VerbAnswers.{AreAnswer}
+use Rattle.xfs_cli.specs.Complete.{CanDispense, CanPresent, IsBoundWith, IsCalm, IsComplete, IsCoveredBy, IsDispensed, IsFree, IsGood, IsOfFormat, IsPresented, moved_line}
+use Rattle.xfs_cli.specs.declared.refused.Refusal.{Refusal}
+use Rattle.xfs_cli.specs.declared.refused.Refusal.TheVariants.{Deny as Denied}
+use Rattle.xfs_cli.proofs.CompleteOrders.{carries-full, present-places, calm-rest, IsGrown}
+use Rattle.xfs_cli.proofs.CompleteStacks.{IsAhead, IsOpenFor, budget-none, nonce-push, stacks-full, unfit-none}
+
+-- a list of counts is 0 everywhere where its sum is, and then alone
+zero-at : (xs : List ℕ) (w : ℕ) → is_none xs ≡ true → get_or xs w 0 ≡ 0
+zero-at [] w none = refl
+zero-at (zero ∷ xs) zero none = refl
+zero-at (zero ∷ xs) (suc w) none = zero-at xs w none
+zero-at (suc n ∷ xs) w none = absurd (never (suc n == 0) (is_none xs) (ne_eqb (suc n) 0 (λ e. omega (arith, e))) none)
+  where
+    never : (a b : Bool) → a ≡ false → (a && b) ≡ true → ⊥
+    never a b e f = (let g = rw e at f in cc)
+
+all-zero : (xs : List ℕ) → ((w : ℕ) → get_or xs w 0 ≡ 0) → is_none xs ≡ true
+all-zero [] none = refl
+all-zero (zero ∷ xs) none = all-zero xs (λ w. none (suc w))
+all-zero (suc n ∷ xs) none = (let e = none zero in absurd (omega (arith, e)))
+
+some-notes : (xs : List ℕ) → 1 ≤ sum xs → is_none xs ≡ false
+some-notes xs low = sym (sum_by-zero (λ x. x) xs) ∙ ne_eqb (sum xs) 0 (λ e. omega (arith, e, low))
+
+-- notes that came to a place are some of those that lie there
+some-gained : (before now : CountsOf) (counts : CountsOf) → 1 ≤ sum counts.0 → ((w : ℕ) → at now w ≡ at before w + at counts w) → 1 ≤ sum now.0
+some-gained before now counts low gained = go (sum now.0) refl
+  where
+    go : (n : ℕ) → sum now.0 ≡ n → 1 ≤ sum now.0
+    go (suc n) e = omega (arith, e)
+    go zero e =
+        let none : is_none now.0 ≡ true = sym (sum_by-zero (λ x. x) now.0) ∙ ap (λ n. n == 0) e in
+        let all = all-zero counts.0 (λ w. let g = gained w in let z = zero-at now.0 w none in omega (arith, g, z)) in
+        let some = some-notes counts.0 low in
+        absurd (true≢false (sym all ∙ some))
+
+all-held : (have counts : List ℕ) → ((w : ℕ) → get_or counts w 0 ≤ get_or have w 0) → prefix_len (λ (p : ℕ × ℕ). not (nat_lt p.0 p.1)) (zip have counts) ≡ length (zip have counts)
+all-held [] counts lie = refl
+all-held (h ∷ hs) [] lie = refl
+all-held (h ∷ hs) (c ∷ cs) lie = let first : nat_lt h c ≡ false = le-ltb h c (lie 0) in let rest = all-held hs cs (λ w. lie (suc w)) in rw (first, rest) (omega arith)
+
+-- counts that are covered are no fault
+fault-none : (v : View) (amounts : List (List ℕ × ℕ)) (counts : CountsOf) → IsCoveredBy v amounts counts → count_fault v.units v.places.units counts ≡ None
+fault-none v amounts counts c =
+    go (is_none counts.0) (is_none (drop (length v.units) counts.0)) (nat_lt 60 (sum counts.0)) (nat_lt (prefix_len test pairs) (length pairs)) (prefix_len test pairs)
+    (some-notes counts.0 c.low)
+    (all-zero (drop (length v.units) counts.0) (λ w. get_or-drop (length v.units) counts.0 w 0 ∙ c.table (length v.units + w) (omega arith)))
+    (le-ltb 60 (sum counts.0) c.high)
+    (le-ltb (prefix_len test pairs) (length pairs) (let e = all-held v.places.units.0 counts.0 c.lie in omega (arith, e)))
+  where
+    test : ℕ × ℕ → Bool
+    test p = not (nat_lt p.0 p.1)
+
+    pairs : List (ℕ × ℕ)
+    pairs = zip v.places.units.0 counts.0
+
+    go : (a b c d : Bool) (n : ℕ) → a ≡ false → b ≡ true → c ≡ false → d ≡ false
+        → (if a then Some Empty else if not b then Some Empty else if c then Some TooMany else option_map (λ at. ShortCount (at + 1)) (if d then Some n else None)) ≡ None
+    go a b c d n e f g h = rw (e, f, g, h) refl
+
+same-bytes : (a b : List ℕ) → a ≡ b → bytes_eq a b ≡ true
+same-bytes a b e = (bytes_eq-Decides a b).1 e
+
+bind-none : (v : View) (bytes : List ℕ) (amounts : List (List ℕ × ℕ)) → IsBoundWith v bytes amounts ⊎ IsFree v → bind_refusal v bytes (bound_token v.records) ≡ None
+bind-none v bytes amounts (inl b) = rw (b.bound, same-bytes bytes bytes refl) refl
+bind-none v bytes amounts (inr f) = rw (f.none, eq-eqb (sum v.places.transport.0) 0 f.empty) refl
+
+-- a good token is not refused
+claim-none : (v : View) (bytes : List ℕ) (amounts : List (List ℕ × ℕ)) (g : IsGood v bytes amounts) → IsBoundWith v bytes amounts ⊎ IsFree v → claim_refusal v bytes g.token ≡ None
+claim-none v bytes amounts g b =
+    rw (g.lives, same-bytes g.token.nonce g.nonce.text g.carried, same-bytes g.token.mac (hmac v.key (take (length bytes - 76) bytes)) g.genuine.mac, g.amounts_are) (bind-none v bytes amounts b)
+
+-- a token that passes has the amounts of the good one
+same-amounts : (v : View) (bytes : List ℕ) (amounts other : List (List ℕ × ℕ)) → IsGood v bytes amounts → Passes v bytes other → other ≡ amounts
+same-amounts v bytes amounts other g p =
+    let one = one_token p.token g.token bytes p.spelled g.genuine.spelled in
+    let e : Some other ≡ Some amounts = sym p.amounts_are ∙ (ap amounts_of one ∙ g.amounts_are) in
+    cc
+
+no-memory : (f : TokenFault) (deny : Deny) (line : List ℕ) → f ≡ TokenFault.Memory → deny ≡ deny_of f → refusal_text (Denied deny) ≡ Some line → ⊥
+no-memory f deny line e d told = let none = rw (d, e) at told in cc
+
+token-unrefused : (v : View) (bytes : List ℕ) (amounts : List (List ℕ × ℕ)) (deny : Deny) (line : List ℕ) → unfit v ≡ None → IsGood v bytes amounts → IsBoundWith v bytes amounts ⊎ IsFree v
+    → refusal_text (Denied deny) ≡ Some line → TokenRefused v bytes deny → ⊥
+token-unrefused v bytes amounts deny line fit g b told (inl e) = (let f : None ≡ Some deny = sym fit ∙ e in cc)
+token-unrefused v bytes amounts deny line fit g b told (inr (e, inl m)) = no-memory m.fault deny line (no_fault g.token bytes m.fault g.genuine.spelled m.is) m.denied told
+token-unrefused v bytes amounts deny line fit g b told (inr (e, inr r)) =
+    let one = one_token r.token g.token bytes r.spelled g.genuine.spelled in
+    let f : None ≡ Some deny = sym (ap (claim_refusal v bytes) one ∙ claim-none v bytes amounts g b) ∙ r.first in
+    cc
+
+named-same : (token : Option (List ℕ)) (a b : List ℕ) → token ≡ Some a → token ≡ Some b → b ≡ a
+named-same token a b e f = (let g : Some a ≡ Some b = sym e ∙ f in cc)
+
+counts-none : (v : View) (amounts : List (List ℕ × ℕ)) (counts : CountsOf) → IsCoveredBy v amounts counts → counts_refusal v amounts counts ≡ None
+counts-none v amounts counts c = rw (fault-none v amounts counts c, budget-none v amounts counts c.enough) refl
+
+can-fit : (v : View) (bytes : List ℕ) (counts : CountsOf) → CanDispense v bytes counts → unfit v ≡ None
+can-fit v bytes counts c = unfit-none v c.room.open_still c.room.booted (let e = c.room.records in omega (arith, e)) (let e = c.room.bytes in omega (arith, e))
+
+unmoved-no : (v : View) (token : Option (List ℕ)) (bytes line : List ℕ) (counts : CountsOf) (refusal : Refusal) → token ≡ Some bytes → CanDispense v bytes counts
+    → refusal_text refusal ≡ Some line → IsUnmoved v token counts refusal → ⊥
+unmoved-no v token bytes line counts refusal is c told (inl e) =
+    let f : None ≡ Some refusal = sym (ap (option_map (λ d. Denied d)) (can-fit v bytes counts c)) ∙ e in
+    cc
+unmoved-no v token bytes line counts refusal is c told (inr (inl (fit, none, e))) = (let f : Some bytes ≡ None = sym is ∙ none in cc)
+unmoved-no v token bytes line counts refusal is c told (inr (inr (inl (fit, r)))) =
+    let same = named-same token bytes r.bytes is r.is_named in
+    token-unrefused v bytes c.amounts r.deny line fit c.good c.binding (rw r.is at told) (rw same at r.refused)
+unmoved-no v token bytes line counts refusal is c told (inr (inr (inr r))) =
+    let same = named-same token bytes r.bytes is r.admitted.is_named in
+    let amounts = same-amounts v bytes c.amounts r.amounts c.good (rw same at r.admitted.passes) in
+    let f : None ≡ Some refusal = sym (counts-none v c.amounts counts c.covered) ∙ (ap (λ a. counts_refusal v a counts) (sym amounts) ∙ r.refused) in
+    cc
+
+-- the session whose token is bound
+permitted-open : (s : Seen) (token : Option (List ℕ)) (bytes : List ℕ) (counts : CountsOf) (issue : ℕ) (bound : Seen) (c : CanDispense s.guard bytes counts) → token ≡ Some bytes → IsPermitted s token counts issue bound
+    → IsOpenFor bound.guard issue c.amounts 8 × IsAhead bound.guard c.amounts counts.0 × (bound.guard.places ≡ s.guard.places)
+permitted-open s token bytes counts issue bound c is p = go c.binding
+  where
+    same : p.bytes ≡ bytes
+    same = named-same token bytes p.bytes is p.admitted.is_named
+
+    amounts : p.amounts ≡ c.amounts
+    amounts = same-amounts s.guard bytes c.amounts p.amounts c.good (rw same at p.admitted.passes)
+
+    short : length bytes ≤ 1024
+    short = c.good.genuine.spelled.short
+
+    go : IsBoundWith s.guard bytes c.amounts ⊎ IsFree s.guard → IsOpenFor bound.guard issue c.amounts 8 × IsAhead bound.guard c.amounts counts.0 × (bound.guard.places ≡ s.guard.places)
+    go (inl b) =
+        let now : bound.guard ≡ s.guard = p.binds.again (λ none. let e : Some bytes ≡ None = sym b.bound ∙ none in cc) in
+        rw now (
+          record {
+            open_still = c.room.open_still;
+            booted = c.room.booted;
+            records = (let e = c.room.records in omega (arith, e));
+            bytes = (let e = c.room.bytes in omega (arith, e));
+            lives = p.lives;
+            bound = b.kept;
+          },
+          record { lie = c.covered.lie; enough = c.covered.enough },
+          refl,
+        )
+    go (inr f) =
+        let now : bound.guard ≡ record s.guard { records = s.guard.records ++ Bind p.bytes ∷ []; bound = Some p.amounts } = p.binds.first f.none in
+        let live = nonce-push s.guard.records (Bind p.bytes) (λ count live. refl) in
+        let long : length p.bytes ≤ 1024 = rw same short in
+        rw now (
+          record {
+            open_still = c.room.open_still;
+            booted = c.room.booted;
+            records = (let e = c.room.records in let l = length-pushed s.guard.records (Bind p.bytes) in omega (arith, e, l));
+            bytes = (let e = c.room.bytes in let l = size-longer s.guard.records (Bind p.bytes) in omega (arith, e, l, long));
+            lives = ap (λ l. option_map (λ (n : Nonce). n.number) l) live ∙ p.lives;
+            bound = ap (λ a. Some a) amounts;
+          },
+          record { lie = c.covered.lie; enough = λ k. let e = c.covered.enough k in let q : presented_in s.guard.units (s.guard.records ++ Bind p.bytes ∷ []) k ≡ presented_in s.guard.units s.guard.records k = presented_in-push s.guard.units s.guard.records (Bind p.bytes) k in omega (arith, e, q) },
+          refl,
+        )
+
+-- a session in which the nonce of an issue lives has a live nonce
+some-nonce : (l : Option Nonce) (issue : ℕ) → option_map (λ (n : Nonce). n.number) l ≡ Some issue → (n : Nonce) × (l ≡ Some n)
+some-nonce None issue e = cc
+some-nonce (Some n) issue e = (n, refl)
+
+told-all : (outcome : Outcome) (counts : CountsOf) → outcome.failed ≡ false → outcome.moved.0 ≡ counts.0 → outcome_text (codes "moved") outcome ≡ moved_line counts
+told-all outcome counts fine moved = rw (fine, moved) refl
+
+ordered-full : (s next : Seen) (token : Option (List ℕ)) (bytes line : List ℕ) (counts : CountsOf) → length counts.0 ≡ 8 → token ≡ Some bytes → CanDispense s.guard bytes counts → IsCalm s next → IsOfFormat next
+    → IsOrdered s token counts line next → IsDispensed s counts (line ∷ []) next
+ordered-full s next token bytes line counts eight is c calm format o =
+    let ready = permitted-open s token bytes counts o.issue o.bound c is o.permitted in
+    let calm-on = calm-rest s o.bound next (bound-grown c.binding) calm in
+    let all = stacks-full o.issue c.amounts counts.0 0 [] nothing_stacked o.bound o.result next refl (omega (arith, eight)) refl (rw eight refl)
+    (rw eight ready.0) ready.1 calm-on format o.stacked in
+    let told : Tells (codes "moved") (Ok all.outcome) line = rw all.is at o.told in
+    let lives = some-nonce (live_nonce next.guard.records) o.issue all.open_for.lives in
+    let gained : (u : ℕ) → at next.guard.places.transport u ≡ at s.guard.places.transport u + at counts u = (λ u. rw ready.2 at (all.transport u)) in
+    record {
+      text = ap (λ l. l ∷ []) (told ∙ told-all all.outcome counts all.fine all.moved);
+      gained = gained;
+      given = λ u. rw ready.2 at (all.units u);
+      outlet = λ u. rw ready.2 at (all.outlet u);
+      ready = λ empty. record {
+        room = record { open_still = all.open_for.open_still; booted = all.open_for.booted; records = (let e = all.open_for.records in omega (arith, e)); bytes = (let e = all.open_for.bytes in omega (arith, e)) };
+        nonce = lives.0;
+        lives = lives.1;
+        amounts = c.amounts;
+        kept = all.open_for.bound;
+        low = some-gained s.guard.places.transport next.guard.places.transport counts c.covered.low gained;
+        empty = empty;
+      };
+    }
+  where
+    bound-grown : IsBoundWith s.guard bytes c.amounts ⊎ IsFree s.guard → IsGrown s o.bound
+    bound-grown (inl b) =
+        let now : o.bound.guard ≡ s.guard = o.permitted.binds.again (λ none. let e : Some bytes ≡ None = sym b.bound ∙ none in cc) in
+        let faults : o.bound.guard.faults ≡ s.guard.faults = ap (λ (v : View). v.faults) now in
+        record { mech = omega (arith, faults); disk = o.permitted.later; more = []; grown = ap (λ (v : View). v.records) now ∙ sym (append-nil s.guard.records) }
+    bound-grown (inr f) =
+        let now = o.permitted.binds.first f.none in
+        let faults : o.bound.guard.faults ≡ s.guard.faults = ap (λ (v : View). v.faults) now in
+        record { mech = omega (arith, faults); disk = o.permitted.later; more = Bind o.permitted.bytes ∷ []; grown = ap (λ (v : View). v.records) now }
+
+dispenses-full : (s next : Seen) (token : Option (List ℕ)) (bytes line : List ℕ) (counts : CountsOf) → length counts.0 ≡ 8 → token ≡ Some bytes → CanDispense s.guard bytes counts → IsCalm s next → IsOfFormat next
+    → Dispenses s token counts line next → IsDispensed s counts (line ∷ []) next
+dispenses-full s next token bytes line counts eight is c calm format (inr o) = ordered-full s next token bytes line counts eight is c calm format o
+dispenses-full s next token bytes line counts eight is c calm format (inl r) = absurd (never r.forbidden)
+  where
+    never : IsForbidden s token counts r.refusal next → ⊥
+    never (inl (u, same)) = unmoved-no s.guard token bytes line counts r.refusal is c r.text u
+    never (inr (e, u)) = calm.disk u.fails.cause
+
+present-free : (v : View) → CanPresent v → refusal_of v AskPresent ≡ None
+present-free v c = both (unfit v) (order_refusal v AskPresent) (unfit-none v c.room.open_still c.room.booted c.room.records c.room.bytes)
+    (rw (c.lives, c.kept, ne_eqb (sum v.places.transport.0) 0 (λ e. let l = c.low in omega (arith, e, l)), eq-eqb (sum v.places.outlet.0) 0 c.empty) refl)
+  where
+    both : (a b : Option Deny) → a ≡ None → b ≡ None → option_or a b ≡ None
+    both a b e f = rw (e, f) refl
+
+presents-full : (s next : Seen) (line : List ℕ) → CanPresent s.guard → IsCalm s next → Moves s AskPresent line next → IsPresented s (line ∷ []) next
+presents-full s next line c calm m =
+    let f = carries-full s AskPresent m.result next (present-free s.guard c) calm m.carried in
+    let told : Tells (codes "moved") (Ok f.outcome) line = rw f.is at m.told in
+    record {
+      text = ap (λ l. l ∷ []) (told ∙ told-all f.outcome s.guard.places.transport f.fine (ap (λ (k : CountsOf). k.0) f.moved));
+      gained = λ u. (present-places s.guard.places next.guard.places f.number f.outcome.diverted f.places u).0;
+      left = λ u. (present-places s.guard.places next.guard.places f.number f.outcome.diverted f.places u).1;
+    }
+
+dispense-answer : (s next : Seen) (output : List (List ℕ)) (given : Given) (counts : CountsOf) (bytes : List ℕ) → length counts.0 ≡ 8 → AreAnswer s (Dispense given counts) output next
+    → named s.last given ≡ Some bytes → CanDispense s.guard bytes counts → IsCalm s next → IsOfFormat next → IsDispensed s counts output next
+dispense-answer s next [] given counts bytes eight a is c calm format = (let e = a.0 in cc)
+dispense-answer s next (line ∷ []) given counts bytes eight a is c calm format = dispenses-full s next (named s.last given) bytes line counts eight is c calm format a
+dispense-answer s next (line ∷ other ∷ more) given counts bytes eight a is c calm format = absurd a
+
+present-answer : (s next : Seen) (output : List (List ℕ)) → AreAnswer s Present output next → CanPresent s.guard → IsCalm s next → IsPresented s output next
+present-answer s next [] a c calm = (let e = a.0 in cc)
+present-answer s next (line ∷ []) a c calm = presents-full s next line c calm a
+present-answer s next (line ∷ other ∷ more) a c calm = absurd a
+
+-- a line tells eight counts
+length-units : (counts : List ℕ) (units : List (ℕ × ℕ)) → length (fold with_unit counts units) ≡ length counts
+length-units counts [] = refl
+length-units counts (u ∷ units) = length-units (with_unit counts u) units ∙ length-set counts (u.0 - 1) u.1
+
+eight-counts : (text : List ℕ) (given : Given) (counts : CountsOf) → IsDispense text given counts → length counts.0 ≡ 8
+eight-counts text given counts d = ap length d.has.spells.is ∙ length-units (replicate 8 0) d.has.spells.units
+
+-- what is answered where nothing stands against it
+pub complete : IsComplete
+complete = record {
+  dispense = λ s next text output given counts bytes a verb is c calm format. dispense-answer s next output given counts bytes (eight-counts text given counts (rw verb at a.reads)) (rw verb at a.answer) is c calm format;
+  present = λ s next text output a verb c calm. present-answer s next output (rw verb at a.answer) c calm;
+}

@@ -1,0 +1,323 @@
+-- Counts that a token covers are stacked in full, unit by unit, where no count of faults rises.
+use Rattle.std.proofs.Common.{◌≡◌, ◌≢◌, ◌≤◌, ◌<◌, ◌+◌, ◌-◌, ◌*◌, ℕ, zero, suc, Bool, true, false, List, [], ◌∷◌, ◌++◌, length, set, get_or, None, Some, Ok, inl, inr, refl, sym, subst, ◌∙◌, ap, arith, append_assoc, add-one, length-append}
+use Rattle.std.specs.Prelude.{nat_lt, slice_index, if◌then◌else◌, ◌||◌}
+use Rattle.std.specs.List.{AllByRecursion}
+use Rattle.std.specs.Option.{option_map, option_and_then, option_or}
+use Rattle.std.specs.declared.option.Option.{Option}
+use Rattle.std.specs.declared.result.Result.{Result}
+use Rattle.std.proofs.Math.Seq.{set-append_seam}
+use Rattle.std.proofs.lemmas.Bool.{le-ltb, cases_eq}
+use Rattle.std.proofs.lemmas.List.{get_or-set_other}
+use Rattle.std.proofs.lemmas.Grind.{get_or-set_at}
+use Rattle.xfs_base.specs.Counts.{at}
+use Rattle.xfs_base.specs.Money.{value, value_from}
+use Rattle.xfs_base.specs.declared.counts.Counts.{Counts}
+use Rattle.xfs_base.specs.declared.counts.Kind.TheVariants.{Stack}
+use Rattle.xfs_base.specs.declared.money.NoteKind.{NoteKind}
+use Rattle.xfs_base.proofs.MoneyLaws.{value_from-plus, value_from-le}
+use Rattle.xfs_mech.specs.declared.motion.Outcome.{Outcome}
+use Rattle.xfs_mech.proofs.MotionLaws.{all-right}
+use Rattle.xfs_token.specs.Amounts.{amount_in}
+use Rattle.xfs_journal.specs.Image.{IsRecord, counts_bytes, body, size}
+use Rattle.xfs_journal.proofs.Decoding.{length-numbers}
+use Rattle.xfs_journal.specs.Journal.{live_of, live_after, record_at}
+use Rattle.xfs_journal.specs.declared.record.Rec.{Rec}
+use Rattle.xfs_journal.specs.declared.record.Rec.TheVariants.{Order, Done}
+use Rattle.xfs_journal.proofs.JournalLaws.{live_of-push, record_at-push, eqb-same}
+use Rattle.xfs_guard.specs.View.{View}
+use Rattle.xfs_guard.specs.Fits.{unfit}
+use Rattle.xfs_guard.specs.Nonce.{nonce_of, live_nonce}
+use Rattle.xfs_guard.specs.Passed.{first_currency, is_over}
+use Rattle.xfs_guard.specs.Presented.{presented_in, done_worth}
+use Rattle.xfs_guard.specs.Refusals.{notes_of, over_budget, order_refusal, order_refusal_at}
+use Rattle.xfs_guard.specs.declared.ask.Ask.TheVariants.{Stack as AskStack}
+use Rattle.xfs_guard.specs.declared.deny.Deny.{Deny}
+use Rattle.xfs_guard.specs.declared.deny.Deny.TheVariants.{Shut, Full}
+use Rattle.xfs_guard.specs.declared.nonce.Nonce.{Nonce}
+use Rattle.xfs_guard.proofs.PresentedLaws.{presented_in-push}
+use Rattle.xfs_guard.proofs.RecordLaws.{last-pushed, lives-within}
+use Rattle.xfs_guard.proofs.SizeLaws.{size-longer, order-short}
+use Rattle.xfs_cli.specs.Seen.{Seen}
+use Rattle.xfs_cli.specs.OrderAnswers.{Stacks, GoesOn, refusal_of, with_stacked}
+use Rattle.xfs_cli.specs.Complete.{IsCalm, IsOfFormat}
+use Rattle.xfs_cli.proofs.CompleteOrders.{IsFull, carries-full, carries-grown, follows-grown, stacks-grown, stack-places, calm-first, calm-rest, format-before}
+
+-- counts from the unit u on, behind units without notes
+abbrev pub ahead : ℕ → List ℕ → List ℕ
+ahead zero counts = counts
+ahead (suc u) counts = 0 ∷ ahead u counts
+
+abbrev pub zeros : ℕ → List ℕ
+zeros zero = []
+zeros (suc n) = 0 ∷ zeros n
+
+ahead-zero : (u : ℕ) (rest : List ℕ) → ahead u (0 ∷ rest) ≡ ahead (suc u) rest
+ahead-zero zero rest = refl
+ahead-zero (suc u) rest = ap (λ l. 0 ∷ l) (ahead-zero u rest)
+
+ahead-here : (u n : ℕ) (rest : List ℕ) → get_or (ahead u (n ∷ rest)) u 0 ≡ n
+ahead-here zero n rest = refl
+ahead-here (suc u) n rest = ahead-here u n rest
+
+ahead-behind : (u : ℕ) (rest : List ℕ) → get_or (ahead (suc u) rest) u 0 ≡ 0
+ahead-behind zero rest = refl
+ahead-behind (suc u) rest = ahead-behind u rest
+
+ahead-other : (u n w : ℕ) (rest : List ℕ) → w ≢ u → get_or (ahead u (n ∷ rest)) w 0 ≡ get_or (ahead (suc u) rest) w 0
+ahead-other zero n zero rest other = absurd (other refl)
+ahead-other zero n (suc w) rest other = refl
+ahead-other (suc u) n zero rest other = refl
+ahead-other (suc u) n (suc w) rest other = ahead-other u n w rest (λ e. other (ap suc e))
+
+pub ahead-none : (u w : ℕ) → get_or (ahead u []) w 0 ≡ 0
+ahead-none zero w = refl
+ahead-none (suc u) zero = refl
+ahead-none (suc u) (suc w) = ahead-none u w
+
+abbrev eight : List ℕ
+eight = 0 ∷ 0 ∷ 0 ∷ 0 ∷ 0 ∷ 0 ∷ 0 ∷ 0 ∷ []
+
+nothing : (w : ℕ) → get_or eight w 0 ≡ 0
+nothing zero = refl
+nothing (suc zero) = refl
+nothing (suc (suc zero)) = refl
+nothing (suc (suc (suc zero))) = refl
+nothing (suc (suc (suc (suc zero)))) = refl
+nothing (suc (suc (suc (suc (suc zero))))) = refl
+nothing (suc (suc (suc (suc (suc (suc zero)))))) = refl
+nothing (suc (suc (suc (suc (suc (suc (suc zero))))))) = refl
+nothing (suc (suc (suc (suc (suc (suc (suc (suc w)))))))) = refl
+
+notes-here : (u n : ℕ) → u < 8 → at (notes_of (u + 1) n) u ≡ n
+notes-here u n low = get_or-set_at eight (u + 1 - 1) u n 0 (omega arith) (omega (arith, low))
+
+notes-other : (u n w : ℕ) → w ≢ u → at (notes_of (u + 1) n) w ≡ 0
+notes-other u n w other = get_or-set_other eight (u + 1 - 1) w n 0 (λ e. other (omega (arith, e))) ∙ nothing w
+
+-- the first unit's notes, and those of the next units
+ahead-split : (u n w : ℕ) (rest : List ℕ) → u < 8 → slice_index (ahead u (n ∷ rest)) w ≡ at (notes_of (u + 1) n) w + slice_index (ahead (suc u) rest) w
+ahead-split u n w rest low = elim (cases_eq w u) [
+  | inl same ↦ (
+      let a : get_or (ahead u (n ∷ rest)) w 0 ≡ n = rw same (ahead-here u n rest) in
+      let b : at (notes_of (u + 1) n) w ≡ n = rw same (notes-here u n low) in
+      let c : get_or (ahead (suc u) rest) w 0 ≡ 0 = rw same (ahead-behind u rest) in
+      omega (arith, a, b, c)
+      )
+  | inr other ↦ (let a = ahead-other u n w rest other in let b = notes-other u n w other in omega (arith, a, b))
+]
+
+-- the live nonce stays where a record is no mark
+pub nonce-push : (J : List Rec) (r : Rec) → ((count : ℕ) (live : Option ℕ) → live_after count live r ≡ live) → live_nonce (J ++ r ∷ []) ≡ live_nonce J
+nonce-push J r plain = ap (λ l. option_and_then (λ p. nonce_of (record_at (J ++ r ∷ []) p)) l) (live_of-push J r ∙ plain (length J) (live_of J)) ∙ go (live_of J) refl
+  where
+    go : (l : Option ℕ) → live_of J ≡ l → option_and_then (λ p. nonce_of (record_at (J ++ r ∷ []) p)) l ≡ option_and_then (λ p. nonce_of (record_at J p)) l
+    go None e = refl
+    go (Some p) e = ap nonce_of (record_at-push J r p (rw e at (lives-within J)))
+
+-- the journal is open, and takes so many orders with their Dones; the nonce of this issue lives, and these amounts are kept
+pub record IsOpenFor (v : View) (issue : ℕ) (kept : List (List ℕ × ℕ)) (orders : ℕ) : Type 0 where
+  pub open_still : v.shut ≡ false
+  pub booted : v.boot_missing ≡ false
+  pub records : length v.records + (2 * orders + 3) ≤ v.limits.records
+  pub bytes : size v.records + (105 * orders + 2048) ≤ v.limits.bytes
+  pub lives : option_map (λ (n : Nonce). n.number) (live_nonce v.records) ≡ Some issue
+  pub bound : v.bound ≡ Some kept
+
+-- these counts lie in the units, and are within the amounts
+pub record IsAhead (v : View) (amounts : List (List ℕ × ℕ)) (counts : List ℕ) : Type 0 where
+  pub lie : (w : ℕ) → slice_index counts w ≤ at v.places.units w
+  pub enough : (c : List ℕ) → presented_in v.units v.records c + value v.units v.places.transport c + value_from v.units 0 counts c ≤ amount_in amounts c
+
+pub unfit-none : (v : View) → v.shut ≡ false → v.boot_missing ≡ false → length v.records + 3 ≤ v.limits.records → size v.records + 2048 ≤ v.limits.bytes → unfit v ≡ None
+unfit-none v shut booted many long =
+    go v.shut v.boot_missing (nat_lt (v.limits.records - length v.records) 3) (nat_lt (v.limits.bytes - size v.records) 2048) shut booted
+    (le-ltb (v.limits.records - length v.records) 3 (omega (arith, many))) (le-ltb (v.limits.bytes - size v.records) 2048 (omega (arith, long)))
+  where
+    go : (s m a b : Bool) → s ≡ false → m ≡ false → a ≡ false → b ≡ false → (if s then Some Shut else if m || (a || b) then Some Full else None) ≡ None
+    go s m a b e f g h = rw (e, f, g, h) refl
+
+first-no : (test : List ℕ → Bool) (ks : List NoteKind) → ((c : List ℕ) → test c ≡ false) → first_currency test ks ≡ None
+first-no test [] never = refl
+first-no test (k ∷ ks) never = rw (never k.currency) (first-no test ks never)
+
+-- counts that are covered pass in no currency
+pub budget-none : (v : View) (amounts : List (List ℕ × ℕ)) (counts : Counts)
+    → ((c : List ℕ) → presented_in v.units v.records c + value v.units v.places.transport c + value v.units counts c ≤ amount_in amounts c) → over_budget v amounts counts ≡ None
+budget-none v amounts counts enough =
+    rw (first-no (is_over v.units v.records v.places.transport amounts counts) v.units (λ c. le-ltb (amount_in amounts c) (presented_in v.units v.records c + value v.units v.places.transport c + value v.units counts c) (enough c))) refl
+
+-- the order of the next unit isn't refused
+free-order : (v : View) (issue u n : ℕ) (amounts : List (List ℕ × ℕ)) (rest : List ℕ) → u < 8 → IsOpenFor v issue amounts (suc (length rest)) → IsAhead v amounts (ahead u (n ∷ rest))
+    → refusal_of v (AskStack issue (u + 1) n) ≡ None
+free-order v issue u n amounts rest low o h =
+    both (unfit v) (order_refusal v (AskStack issue (u + 1) n)) (unfit-none v o.open_still o.booted (omega (arith, o.records)) (omega (arith, o.bytes))) (live (live_nonce v.records) o.lives)
+  where
+    both : (a b : Option Deny) → a ≡ None → b ≡ None → option_or a b ≡ None
+    both a b e f = rw (e, f) refl
+
+    few : (w : ℕ) → at (notes_of (u + 1) n) w ≤ slice_index (ahead u (n ∷ rest)) w
+    few w = let e = ahead-split u n w rest low in omega (arith, e)
+
+    covered : over_budget v amounts (notes_of (u + 1) n) ≡ None
+    covered = budget-none v amounts (notes_of (u + 1) n) (λ c.
+        let e = value_from-le v.units 0 (notes_of (u + 1) n).0 (ahead u (n ∷ rest)) c few in
+        let f = h.enough c in
+        omega (arith, e, f))
+
+    held : nat_lt (at v.places.units (u + 1 - 1)) n ≡ false
+    held =
+        let e : u + 1 - 1 ≡ u = omega arith in
+        le-ltb (at v.places.units (u + 1 - 1)) n (rw e (let a = ahead-here u n rest in let b = h.lie u in omega (arith, a, b)))
+
+    live : (l : Option Nonce) → option_map (λ (n : Nonce). n.number) l ≡ Some issue → order_refusal_at v (AskStack issue (u + 1) n) l ≡ None
+    live None e = cc
+    live (Some nonce) e = (let is : nonce.number ≡ issue = cc in rw (is, eqb-same issue, o.bound, covered, held) refl)
+
+done-short : (m d : Counts) → length m.0 ≡ 8 → length d.0 ≡ 8 → length (body (Done m d)) ≡ 65
+done-short m d e f = omega (arith, length-append (counts_bytes m) (counts_bytes d), length-numbers m.0, length-numbers d.0, e, f)
+
+-- behind an order that was carried out in full
+open-after : (s middle : Seen) (issue u n : ℕ) (amounts : List (List ℕ × ℕ)) (orders : ℕ) (result : Result Outcome Deny) → IsOfFormat middle
+    → IsFull s (AskStack issue (u + 1) n) result middle → IsOpenFor s.guard issue amounts (suc orders) → IsOpenFor middle.guard issue amounts orders
+open-after s middle issue u n amounts orders result of_table f o =
+    let notes = notes_of (u + 1) n in
+    let J = s.guard.records ++ Order Stack notes ∷ [] in
+    let longer : middle.guard.records ≡ J ++ Done notes f.outcome.diverted ∷ [] = f.records in
+    let of_done : AllByRecursion IsRecord (Done notes f.outcome.diverted ∷ []) = all-right IsRecord J (Done notes f.outcome.diverted ∷ []) (rw longer at of_table) in
+    let m : length notes.0 ≡ 8 = of_done.0.0.0 in
+    let d : length f.outcome.diverted.0 ≡ 8 = of_done.0.1.0 in
+    let many : length middle.guard.records ≡ length s.guard.records + 2 = ap length longer ∙ omega (arith, length-append J (Done notes f.outcome.diverted ∷ []), length-append s.guard.records (Order Stack notes ∷ [])) in
+    let long : size middle.guard.records ≡ size s.guard.records + 105 = ap size longer ∙ omega (arith, size-longer J (Done notes f.outcome.diverted), size-longer s.guard.records (Order Stack notes), order-short Stack notes m, done-short notes f.outcome.diverted m d) in
+    let live : live_nonce middle.guard.records ≡ live_nonce s.guard.records = ap live_nonce longer ∙ (nonce-push J (Done notes f.outcome.diverted) (λ count live. refl) ∙ nonce-push s.guard.records (Order Stack notes) (λ count live. refl)) in
+    record {
+      open_still = f.shut ∙ o.open_still;
+      booted = f.boot_missing ∙ o.booted;
+      records = rw f.limits (omega (arith, o.records, many));
+      bytes = rw f.limits (omega (arith, o.bytes, long));
+      lives = ap (λ l. option_map (λ (n : Nonce). n.number) l) live ∙ o.lives;
+      bound = f.bound ∙ o.bound;
+    }
+
+-- what an order of a unit presents, which is nothing
+presented-after : (units : List NoteKind) (J : List Rec) (m n d : Counts) (c : List ℕ) → presented_in units ((J ++ Order Stack m ∷ []) ++ Done n d ∷ []) c ≡ presented_in units J c
+presented-after units J m n d c =
+    let K = J ++ Order Stack m ∷ [] in
+    let a : presented_in units (K ++ Done n d ∷ []) c ≡ presented_in units K c + done_worth units c (record_at K (length K)) n = presented_in-push units K (Done n d) c in
+    let b : presented_in units K c ≡ presented_in units J c = presented_in-push units J (Order Stack m) c in
+    let e : done_worth units c (record_at K (length K)) n ≡ 0 = ap (λ r. done_worth units c r n) (last-pushed J (Order Stack m)) in
+    omega (arith, a, b, e)
+
+ahead-after : (s middle : Seen) (issue u n : ℕ) (amounts : List (List ℕ × ℕ)) (rest : List ℕ) (result : Result Outcome Deny) → u < 8
+    → IsFull s (AskStack issue (u + 1) n) result middle → IsAhead s.guard amounts (ahead u (n ∷ rest)) → IsAhead middle.guard amounts (ahead (suc u) rest)
+ahead-after s middle issue u n amounts rest result low f h = record {
+  lie = λ w. let p = (stack-places s.guard.places middle.guard.places f.number notes f.outcome.diverted f.places f.none w).0 in let e = ahead-split u n w rest low in let l = h.lie w in omega (arith, p, e, l);
+  enough = λ c.
+      let a = value_from-plus s.guard.units 0 s.guard.places.transport.0 notes.0 middle.guard.places.transport.0 c (λ w. (stack-places s.guard.places middle.guard.places f.number notes f.outcome.diverted f.places f.none w).1) in
+      let b = value_from-plus s.guard.units 0 notes.0 (ahead (suc u) rest) (ahead u (n ∷ rest)) c (λ w. ahead-split u n w rest low) in
+      let p : presented_in s.guard.units middle.guard.records c ≡ presented_in s.guard.units s.guard.records c = ap (λ J. presented_in s.guard.units J c) f.records ∙ presented-after s.guard.units s.guard.records notes notes f.outcome.diverted c in
+      let e = h.enough c in
+      rw f.units (omega (arith, a, b, p, e));
+}
+  where
+    notes : Counts
+    notes = notes_of (u + 1) n
+
+-- all these counts were stacked behind those before
+pub record IsStacked (s : Seen) (issue : ℕ) (amounts : List (List ℕ × ℕ)) (u : ℕ) (front rest : List ℕ) (result : Result Outcome Deny) (next : Seen) : Type 0 where
+  pub outcome : Outcome
+  pub is : result ≡ Ok outcome
+  pub fine : outcome.failed ≡ false
+  pub moved : outcome.moved.0 ≡ front ++ rest
+  pub units : (w : ℕ) → at next.guard.places.units w + slice_index (ahead u rest) w ≡ at s.guard.places.units w
+  pub transport : (w : ℕ) → at next.guard.places.transport w ≡ at s.guard.places.transport w + slice_index (ahead u rest) w
+  pub outlet : (w : ℕ) → at next.guard.places.outlet w ≡ at s.guard.places.outlet w
+  pub open_for : IsOpenFor next.guard issue amounts 0
+
+one-more : (front rest : List ℕ) (n : ℕ) → (front ++ n ∷ []) ++ rest ≡ front ++ n ∷ rest
+one-more front rest n = append_assoc front (n ∷ []) rest
+
+more-room : (v : View) (issue orders : ℕ) (amounts : List (List ℕ × ℕ)) → IsOpenFor v issue amounts (suc orders) → IsOpenFor v issue amounts orders
+more-room v issue orders amounts o = record { open_still = o.open_still; booted = o.booted; records = omega (arith, o.records); bytes = omega (arith, o.bytes); lives = o.lives; bound = o.bound }
+
+-- a unit of which nothing is asked
+stacked-zero : (s : Seen) (issue : ℕ) (amounts : List (List ℕ × ℕ)) (u : ℕ) (front rest : List ℕ) (result : Result Outcome Deny) (next : Seen)
+    → IsStacked s issue amounts (suc u) (front ++ 0 ∷ []) rest result next → IsStacked s issue amounts u front (0 ∷ rest) result next
+stacked-zero s issue amounts u front rest result next h = record {
+  outcome = h.outcome;
+  is = h.is;
+  fine = h.fine;
+  moved = h.moved ∙ one-more front rest 0;
+  units = λ w. rw (ahead-zero u rest) (h.units w);
+  transport = λ w. rw (ahead-zero u rest) (h.transport w);
+  outlet = h.outlet;
+  open_for = h.open_for;
+}
+
+-- a unit's notes and those of the next units
+stacked-unit : (s middle : Seen) (issue : ℕ) (amounts : List (List ℕ × ℕ)) (u n : ℕ) (front rest : List ℕ) (one result : Result Outcome Deny) (next : Seen) → u < 8
+    → IsFull s (AskStack issue (u + 1) n) one middle → IsStacked middle issue amounts (suc u) (front ++ n ∷ []) rest result next → IsStacked s issue amounts u front (n ∷ rest) result next
+stacked-unit s middle issue amounts u n front rest one result next low f h = record {
+  outcome = h.outcome;
+  is = h.is;
+  fine = h.fine;
+  moved = h.moved ∙ one-more front rest n;
+  units = λ w. let p = (places w).0 in let e = ahead-split u n w rest low in let l = h.units w in omega (arith, p, e, l);
+  transport = λ w. let p = (places w).1 in let e = ahead-split u n w rest low in let l = h.transport w in omega (arith, p, e, l);
+  outlet = λ w. h.outlet w ∙ (places w).2;
+  open_for = h.open_for;
+}
+  where
+    places : (w : ℕ) → (at middle.guard.places.units w + at (notes_of (u + 1) n) w ≡ at s.guard.places.units w) × (at middle.guard.places.transport w ≡ at s.guard.places.transport w + at (notes_of (u + 1) n) w) × (at middle.guard.places.outlet w ≡ at s.guard.places.outlet w)
+    places = stack-places s.guard.places middle.guard.places f.number (notes_of (u + 1) n) f.outcome.diverted f.places f.none
+
+-- the notes of one more unit stand behind those before
+moved-after : (all one : Outcome) (front rest : List ℕ) (u n : ℕ) → u < 8 → length front ≡ u → all.moved.0 ≡ front ++ zeros (suc (length rest)) → one.moved ≡ notes_of (u + 1) n
+    → (with_stacked all u one).moved.0 ≡ (front ++ n ∷ []) ++ zeros (length rest)
+moved-after all one front rest u n low long was is =
+    let v : at one.moved u ≡ n = ap (λ (m : Counts). at m u) is ∙ notes-here u n low in
+    let a : set all.moved.0 u (at one.moved u) ≡ set (front ++ 0 ∷ zeros (length rest)) u n = rw (was, v) refl in
+    let b : set (front ++ 0 ∷ zeros (length rest)) u n ≡ front ++ n ∷ zeros (length rest) = rw (← long) (set-append_seam front 0 (zeros (length rest)) n) in
+    a ∙ (b ∙ sym (one-more front (zeros (length rest)) n))
+
+stacks-at : (issue : ℕ) (rest : List ℕ) (u v : ℕ) (all : Outcome) (s : Seen) (result : Result Outcome Deny) (next : Seen) → u ≡ v → Stacks issue rest u all s result next → Stacks issue rest v all s result next
+stacks-at issue rest u v all s result next e h = subst (λ k. Stacks issue rest k all s result next) e h
+
+pub stacks-full : (issue : ℕ) (amounts : List (List ℕ × ℕ)) (rest : List ℕ) (u : ℕ) (front : List ℕ) (all : Outcome) (s : Seen) (result : Result Outcome Deny) (next : Seen)
+    → length front ≡ u → u + length rest ≤ 8 → all.failed ≡ false → all.moved.0 ≡ front ++ zeros (length rest)
+    → IsOpenFor s.guard issue amounts (length rest) → IsAhead s.guard amounts (ahead u rest) → IsCalm s next → IsOfFormat next → Stacks issue rest u all s result next
+    → IsStacked s issue amounts u front rest result next
+stacks-full issue amounts [] u front all s result next long few fine was o h calm format (is, same) = rw same (record {
+  outcome = all;
+  is = is;
+  fine = fine;
+  moved = was;
+  units = λ w. let e = ahead-none u w in omega (arith, e);
+  transport = λ w. let e = ahead-none u w in omega (arith, e);
+  outlet = λ w. refl;
+  open_for = o;
+})
+stacks-full issue amounts (zero ∷ rest) u front all s result next long few fine was o h calm format more =
+    let there = stacks-at issue rest (u + 1) (suc u) all s result next (add-one u) more in
+    let had : IsAhead s.guard amounts (ahead (suc u) rest) = rw (ahead-zero u rest) at h in
+    stacked-zero s issue amounts u front rest result next (stacks-full issue amounts rest (suc u) (front ++ 0 ∷ []) all s result next
+    (omega (arith, length-append front (0 ∷ []), long)) (omega (arith, few)) fine (was ∙ sym (one-more front (zeros (length rest)) 0))
+    (more-room s.guard issue (length rest) amounts o) had calm format there)
+stacks-full issue amounts (suc n ∷ rest) u front all s result next long few fine was o h calm format unit =
+    let low : u < 8 = omega (arith, few) in
+    let behind = follows-grown (Stacks issue rest (u + 1)) (λ all s result next more. stacks-grown issue rest (u + 1) all s result next more) all u unit.one unit.middle result next unit.onward in
+    let first = calm-first s unit.middle next behind calm in
+    let later = calm-rest s unit.middle next (carries-grown s (AskStack issue (u + 1) (suc n)) unit.one unit.middle unit.carried) calm in
+    let f = carries-full s (AskStack issue (u + 1) (suc n)) unit.one unit.middle (free-order s.guard issue u (suc n) amounts rest low o h) first unit.carried in
+    let goes : GoesOn (Stacks issue rest (u + 1)) (with_stacked all u f.outcome) unit.middle result next = rw f.is at unit.onward in
+    elim goes [
+      | inl stops ↦ absurd (true-false f.outcome.failed stops.0 f.fine)
+      | inr on ↦ (
+          let there = stacks-at issue rest (u + 1) (suc u) (with_stacked all u f.outcome) unit.middle result next (add-one u) on.1 in
+          stacked-unit s unit.middle issue amounts u (suc n) front rest unit.one result next low f (stacks-full issue amounts rest (suc u) (front ++ suc n ∷ []) (with_stacked all u f.outcome) unit.middle result next
+          (omega (arith, length-append front (suc n ∷ []), long)) (omega (arith, few)) f.fine (moved-after all f.outcome front rest u (suc n) low long was f.moved)
+          (open-after s unit.middle issue u (suc n) amounts (length rest) unit.one (format-before unit.middle next behind format) f o) (ahead-after s unit.middle issue u (suc n) amounts rest unit.one low f h) later format there)
+          )
+    ]
+  where
+    true-false : (b : Bool) → b ≡ true → b ≡ false → ⊥
+    true-false b e f = cc
