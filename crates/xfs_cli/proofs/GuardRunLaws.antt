@@ -17,11 +17,12 @@ use Rattle.xfs_cli.specs.Run.{status_of}
 use Rattle.xfs_cli.specs.Answers.{WritesAll, WritesFront, WritesUntil}
 use Rattle.xfs_cli.specs.Boots.{BootPasses, EndsFull, WritesBoot, boot_status}
 use Rattle.xfs_journal.specs.declared.limits.Limits.{Limits}
-use Rattle.xfs_cli.specs.Statuses.{HasRestart}
+use Rattle.xfs_cli.specs.Statuses.{HasFullRestart}
 use Rattle.xfs_guard.specs.declared.fail.BootFault.{BootFault}
 use Rattle.xfs_guard.specs.declared.fail.BootFault.TheVariants.{NotJournal, Disk, Full, Memory as BootMemory}
 use Rattle.xfs_cli.specs.RestartAnswers.{HasNoRoom, RestartFails}
-use Rattle.xfs_cli.specs.GuardRuns.{FromBoot, IsEnd, IsOfBoot, IsStop, IsWithin, IsUnbooted}
+use Rattle.xfs_cli.specs.GuardRuns.{FromBoot, IsStart, IsEnd, IsOfBoot, IsStop, IsWithin, IsUnbooted}
+use Rattle.xfs_cli.specs.VerbAnswers.{AnswersGuard}
 use Rattle.xfs_cli.specs.Seen.{Seen, IsLater, seen}
 
 -- the last state is that of a guard which is over
@@ -122,12 +123,17 @@ pub told-any : {T : Type 0} (held : Option T) (Q : T → Type 0) → ((x : T) �
 told-any None Q all = tt
 told-any (Some x) Q all = all x
 
+-- the start of a run
+pub starts-run : {D : Type 0} (faults : D → ℕ) (g : GuardView D) (guard_of : List Rec → View) (places : Places) (held : Option (List ℕ)) (before : ℕ) (J : List Rec)
+    → IfTold held (λ bytes. Stands bytes J) → g.state ≡ guard_of (J ++ Boot places ∷ []) → before ≤ faults g.disk → IsStart guard_of places held before (seen faults g None)
+starts-run faults g guard_of places held before J stands is later = record { records = J; stands = stands; guard_is = is; later = later; none = refl }
+
 -- the boot begins the session that its guard is seen as, from which the lines are answered
 pub from-boot : {D : Type 0} (faults : D → ℕ) (g : GuardView D) (guard_of : List Rec → View) (places : Places) (held : Option (List ℕ)) (before : ℕ) (J : List Rec) (Writes : Seen → Type 0)
     → IfTold held (λ bytes. Stands bytes J) → g.state ≡ guard_of (J ++ Boot places ∷ []) → before ≤ faults g.disk → Writes (seen faults g None) → FromBoot guard_of places held before Writes
 from-boot faults g guard_of places held before J Writes stands is later writes = record {
   start = seen faults g None;
-  begins = record { records = J; stands = stands; guard_is = is; later = later; none = refl };
+  begins = starts-run faults g guard_of places held before J stands is later;
   writes = writes;
 }
 
@@ -151,8 +157,17 @@ ends-full Disk limits places held before after status is written full twelve = a
 ends-full Full limits places held before after status is written full twelve = let f = full refl in record { records = f.0; stands = f.1; passes_limit = f.2; written = written }
 ends-full BootMemory limits places held before after status is written full twelve = absurd (omega (arith, is, twelve))
 
--- under status 12 a line of the input is `restart`
-pub restart-line : (L : List ℕ → Type 0) (A : Seen → List ℕ → List (List ℕ) → Seen → Type 0) (mech disk : ℕ) (start : Seen) (status : ℕ) (source left old new : Option (List ℕ))
-    → IfTold source (WritesUntil L A (IsStop mech disk) start status left old new) → status ≡ 12 → IfTold source HasRestart
-restart-line L A mech disk start status None left old new h twelve = tt
-restart-line L A mech disk start status (Some text) left old new h twelve = record { many = h.many; line = h.answers.ends.restart (inr (inr twelve)) }
+-- under status 12 a restart found no room for its Boot
+pub full-line : (IsStartOf : Seen → Type 0) (L : List ℕ → Type 0) (mech disk : ℕ) (start : Seen) (status : ℕ) (source left old new : Option (List ℕ)) → IsStartOf start
+    → IfTold source (WritesUntil L AnswersGuard (IsStop mech disk) start status left old new) → status ≡ 12 → IfTold source (HasFullRestart IsStartOf)
+full-line IsStartOf L mech disk start status None left old new begins h twelve = tt
+full-line IsStartOf L mech disk start status (Some text) left old new begins h twelve = record {
+  start = start;
+  begins = begins;
+  many = h.many;
+  output = h.output;
+  last = h.answers.last;
+  each = h.answers.each;
+  line = h.answers.ends.restart (inr (inr twelve));
+  full = h.answers.ends.full twelve;
+}

@@ -1,4 +1,4 @@
--- The statuses of the program, and when a run of `guard` ends with its input: where every line is one and none asks for a restart, the input is short enough, the disk has room for the Boot, and nothing failed.
+-- The statuses of the program, and when a run of `guard` ends with its input: where every line is one, the input is short enough, the journal has room for each Boot, and nothing failed.
 use Rattle.std.specs.Prelude.{◌≡◌, ◌⊎◌, ℕ, ◌<◌, List, [], ◌∷◌, length, codes}
 use Rattle.xfs_base.specs.declared.counts.Places.{Places}
 use Rattle.xfs_journal.specs.declared.limits.Limits.{Limits}
@@ -7,6 +7,10 @@ use Rattle.xfs_cli.specs.Boots.{BootPasses}
 use Rattle.xfs_script.specs.Lines.{first_line}
 use Rattle.xfs_cli.specs.GuardLines.{behind}
 use Rattle.xfs_cli.specs.Run.{AllLines}
+use Rattle.xfs_cli.specs.Answers.{AnswersEach, first_lines}
+use Rattle.xfs_cli.specs.RestartAnswers.{HasNoRoom}
+use Rattle.xfs_cli.specs.Seen.{Seen}
+use Rattle.xfs_cli.specs.VerbAnswers.{AnswersGuard}
 
 -- a number is one of these
 abbrev pub IsOneOf : List ℕ → ℕ → Type 0
@@ -16,17 +20,23 @@ IsOneOf (x ∷ xs) n = (n ≡ x) ⊎ IsOneOf xs n
 abbrev pub IsStatus : ℕ → Type 0
 IsStatus status = IsOneOf (0 ∷ 2 ∷ 3 ∷ 4 ∷ 5 ∷ 6 ∷ 7 ∷ 8 ∷ 10 ∷ 12 ∷ []) status
 
--- a line of the text is `restart`
-pub record HasRestart (text : List ℕ) : Type 0 where
+-- a line of the text is `restart`, and finds no room for its Boot behind the state that the lines before it left, answered from the start of the run on
+pub record HasFullRestart (IsStartOf : Seen → Type 0) (text : List ℕ) : Type 0 where
+  pub start : Seen
+  pub begins : IsStartOf start
   pub many : ℕ
+  pub output : List (List ℕ)
+  pub last : Seen
+  pub each : AnswersEach AnswersGuard start (first_lines many text) output last
   pub line : first_line (behind many text) ≡ codes "restart"
+  pub full : HasNoRoom last.guard
 
--- every line of the input is a line and none of them is `restart`, the input is short enough, and the Boot passes no limit behind the records of the disk (the Boots of later starts belong here too, once a line makes them)
-pub record IsUnhindered (text : List ℕ) (limits : Limits) (places : Places) (records : List Rec) : Type 0 where
+-- every line of the input is a line, the input is short enough, and the Boot passes no limit behind the records of the disk, nor does that of a restart
+pub record IsUnhindered (IsStartOf : Seen → Type 0) (text : List ℕ) (limits : Limits) (places : Places) (records : List Rec) : Type 0 where
   pub lines : AllLines text
-  pub restarts : ¬ (HasRestart text)
   pub short : length text < 67108864
   pub boots : ¬ (BootPasses limits places records)
+  pub restarts : ¬ (HasFullRestart IsStartOf text)
 
 -- the input was read to its end, or memory ran out
 abbrev pub IsFinished : ℕ → Type 0

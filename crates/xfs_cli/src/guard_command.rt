@@ -15,7 +15,7 @@ ghost use Rattle.xfs_guard.specs.Stored.{IsStored, MayLeave};
 ghost use Rattle.xfs_cli.specs.Run.{IsGuard, AllLines, StopsAtLine, GaveAll};
 ghost use Rattle.xfs_cli.specs.Answers.{WritesAll, WritesFront, WritesUntil, WritesUsage};
 ghost use Rattle.xfs_cli.specs.GuardLines.{IsLine};
-ghost use Rattle.xfs_cli.specs.GuardRuns.{FromBoot, IsEnd, IsStop, IsWithin, IsUnbooted, RunsFull, opened};
+ghost use Rattle.xfs_cli.specs.GuardRuns.{FromBoot, IsEnd, IsStart, IsStop, IsWithin, IsUnbooted, RunsFull, opened};
 ghost use Rattle.xfs_cli.specs.Seen.{IsLater, seen};
 ghost use Rattle.xfs_cli.specs.VerbAnswers.{AnswersGuard};
 ghost use Rattle.xfs_cli.specs.Complete.{IsComplete};
@@ -86,7 +86,7 @@ pub fn guard<S: Source, K: Sink, M: Mechanism, D: Disk>(
     ensures told_disk { is_some (D.held result.disk) ≡ is_some (D.held core.disk) }
     ensures statuses { IsStatus result.status }
     ensures finishes { IsGuard words.now → ¬ (Rose (S.faults source.old) (S.faults source.new)) → ¬ (Rose (K.faults sink.old) (K.faults sink.new)) → ¬ (Rose (D.faults core.disk) (D.faults result.disk))
-        → IfTold (S.left source.old) (λ text. IfTold (D.held core.disk) (λ bytes. (J : List Rec) → Stands bytes J → IsUnhindered text core.limits (M.places core.mech) J → IsFinished result.status)) }
+        → IfTold (S.left source.old) (λ text. IfTold (D.held core.disk) (λ bytes. (J : List Rec) → Stands bytes J → IsUnhindered (IsStart (opened core.key core.seed core.units core.limits (M.motions core.mech) (M.places core.mech) (M.faults core.mech) (is_some (D.held core.disk))) (M.places core.mech) (D.held core.disk) (D.faults core.disk)) text core.limits (M.places core.mech) J → IsFinished result.status)) }
 {
     let Core {
         mech,

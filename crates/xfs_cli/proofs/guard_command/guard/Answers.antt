@@ -4,7 +4,7 @@ use Rattle.xfs_cli.proofs.RunLaws.{recorded-start, upholds-same, upholds-refused
 use Rattle.xfs_cli.specs.GuardLines.{IsLine}
 use Rattle.xfs_cli.specs.GuardRuns.{RunsFull}
 use Rattle.xfs_cli.specs.VerbAnswers.{AnswersGuard}
-use Rattle.xfs_cli.proofs.GuardRunLaws.{all-ends, front-ends, until-stops, stops-at, ends-at, ends-within, told-more, told-any, from-boot, refused-boot, ends-full, none-told, restart-line, rose-later}
+use Rattle.xfs_cli.proofs.GuardRunLaws.{all-ends, front-ends, until-stops, stops-at, ends-at, ends-within, told-more, told-any, from-boot, refused-boot, ends-full, none-told, full-line, starts-run, rose-later}
 use Rattle.xfs_cli.proofs.EndLaws.{finishes, causes-served, causes-refused}
 use Rattle.xfs_cli.proofs.NumberLaws.{newer-run}
 use Rattle.xfs_cli.proofs.UnreadLaws.{unwritten-quiet}
@@ -97,15 +97,15 @@ returns-in-Ok-clause-newer g c =
 pub returns-in-Ok-clause-finishes : goal.returns-in-Ok-clause-finishes
 returns-in-Ok-clause-finishes g c =
     let end = c.serve-status.ensures in
-    λ guard. finishes _ _ (g.S.Source.left c.serve-status.new.source) _ _ _ _ _ _ (causes-served _ _ _ _ _ _ _ _ _ end.statuses end.usage
+    λ guard. finishes _ _ _ (g.S.Source.left c.serve-status.new.source) _ _ _ _ _ _ (causes-served _ _ _ _ _ _ _ _ _ _ end.statuses end.usage
     (λ six. rw c.ended-mech.ensures.disk (rose-later _ _ _ c.in-Ok.ensures.faults (end.failed six)))
     (λ seven. none-told _ (rw c.in-Ok.ensures.ok.2 at end.untold seven))
-    (λ twelve. restart-line IsLine AnswersGuard _ _ _ _ _ _ _ _ (end.until (λ e. omega (arith, twelve, e)) (λ e. omega (arith, twelve, e))) twelve) end.read end.not_a_line end.write end.quota)
+    (λ twelve. full-line _ IsLine _ _ _ _ _ _ _ _ (starts-run g.D.Disk.faults c.in-Ok.guard _ _ _ _ c.in-Ok.ensures.ok.0 c.in-Ok.ensures.ok.1 c.in-Ok.ensures.ok.2 c.in-Ok.ensures.faults) (end.until (λ e. omega (arith, twelve, e)) (λ e. omega (arith, twelve, e))) twelve) end.read end.not_a_line end.write end.quota)
 
 pub returns-in-Err-clause-finishes : goal.returns-in-Err-clause-finishes
 returns-in-Err-clause-finishes g c =
     let why = c.in-Err.ensures in
-    λ guard. finishes _ _ None _ _ _ _ _ _ (causes-refused _ _ _ _ _ _ _ _ _ _ c.unbooted.ensures.status why.not_journal why.disk why.full)
+    λ guard. finishes _ _ _ None _ _ _ _ _ _ (causes-refused _ _ _ _ _ _ _ _ _ _ _ c.unbooted.ensures.status why.not_journal why.disk why.full)
 
 pub returns-in-Err-clause-unwritten : goal.returns-in-Err-clause-unwritten
 returns-in-Err-clause-unwritten g c = unwritten-quiet g.D.Disk.held g.D.Disk.images g.D.Disk.moment g.D.Disk.images_since g.D.Disk.faults c.args.core.disk c.in-Err.field-0.disk c.in-Err.ensures.unlisted
