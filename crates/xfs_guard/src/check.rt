@@ -125,6 +125,7 @@ impl<M: Mechanism, D: Disk> Guard<M, D> {
         let Some(nonce) = self.ledger.live() else {
             unreachable!()
         };
+        // Its clause tells what a crash may leave now.
         let _possible = self.ledger.shut();
         let transport = self.mech.survey().transport;
         if let Some(deny) = passed(&self.ledger, &transport, &claim.amounts, counts) {
@@ -154,6 +155,7 @@ impl<M: Mechanism, D: Disk> Guard<M, D> {
         ensures any_moment { IfTold (D.held self.old.disk) (λ _. LeavesOnly D.moment D.images_since self.old.disk self.new.disk (StandsRecorded self.old.state.key self.old.state.units self.old.state.motions)) }
         ensures kept { OnOk result (Leaves (D.held self.new.disk) (D.images self.new.disk) self.new.state.records) }
     {
+        // Its clause tells what a crash may leave now.
         let _possible = self.ledger.shut();
         if self.ledger.token().is_some() {
             return Ok(());

@@ -36,7 +36,7 @@ use xfs_journal::{Limits, Rec};
 use xfs_mech::{Mechanism, Order as MechOrder, Outcome};
 
 /// The guard: it alone hands orders to the mechanism. Each call appends at most one record or makes
-/// at most one call of the mechanism that adds an entry, never both.
+/// at most one call of the mechanism that adds an entry, never both; `restore` alone reads the disk again.
 ///
 /// Where the disk tells its bytes, a crash at any moment of a call leaves a list of records that agrees
 /// with what the mechanism did (`any_moment`; `inside` for a call of the mechanism), and once a call
@@ -430,6 +430,7 @@ impl<M: Mechanism, D: Disk> Guard<M, D> {
         let Open::Written { kind, counts } = self.open_order else {
             unreachable!()
         };
+        // Its clause tells what a crash may leave now.
         let _possible = self.ledger.shut();
         let number = self.ledger.records().len() as u64;
         let outcome = self.mech.execute(MechOrder::new(number, kind, counts));

@@ -274,6 +274,7 @@ impl<D: Disk> Ledger<D> {
         ensures kept { OnOk result (Leaves (D.held self.new.disk) (D.images self.new.disk) self.new.records) }
     {
         let number = self.next_issue();
+        // Its clause tells what a crash may leave now.
         let _possible = self.journal.shut();
         let nonce = Nonce::of(self.alloc, number, word)?;
         let place = match append(&mut self.journal, Rec::Issue { number, word }) {

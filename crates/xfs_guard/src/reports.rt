@@ -45,6 +45,7 @@ impl<M: Mechanism, D: Disk> Guard<M, D> {
         ensures crashes { LeavesBehind D.held D.images D.moment D.images_since self.old self.new }
         ensures inside { IfTold (D.held self.old.disk) (λ _. LeavesOnly D.moment D.images_since self.old.disk self.new.disk (StandsThrough self.old.state (MayTake self.old.state))) }
     {
+        // Its clause tells what a crash may leave now.
         let _possible = self.ledger.shut();
         self.mech.ready()?;
         Ok(self.mech.taken())
@@ -64,6 +65,7 @@ impl<M: Mechanism, D: Disk> Guard<M, D> {
         ensures crashes { LeavesBehind D.held D.images D.moment D.images_since self.old self.new }
         ensures inside { IfTold (D.held self.old.disk) (λ _. LeavesOnly D.moment D.images_since self.old.disk self.new.disk (StandsThrough self.old.state (λ entry. entry ≡ Loaded unit count))) }
     {
+        // Its clause tells what a crash may leave now.
         let _possible = self.ledger.shut();
         self.mech.ready()?;
         Ok(self.mech.load(unit, count))
