@@ -57,7 +57,10 @@ fn failing_at(rt: &impl Abort, alloc: Global, call: u64) -> Result<Guard<SimMech
     let mech = sim_on(rt, alloc, &units, Vec::new(alloc));
     let mut failing = Vec::new(alloc);
     failing.push(call)?;
-    let mut guard = booted(alloc, failing_core(mech, units, empty(alloc), LIMITS, failing))?;
+    let mut guard = booted(
+        alloc,
+        failing_core(mech, units, empty(alloc), LIMITS, failing),
+    )?;
     guard.issue()?;
     Ok(guard)
 }

@@ -5,9 +5,9 @@ use std::alloc::Global;
 use std::test::Fail;
 use xfs_mech::Fault;
 
-// A script and its answers, a stroke between two lines. N stands for the answer to `issue`, T for
+// A script and its answers, a stroke between two lines. N stands for the first nonce, N2 for the second, and T for
 // the answer to a `mint` that gave a token.
-const SCRIPTS: [(&str, &str); 26] = [
+const SCRIPTS: [(&str, &str); 30] = [
     (
         "issue/mint 50.00EUR/dispense @ unit3:1/present/dispense @ unit1:1/clear/dispense @ unit1:1",
         "N/T/moved unit3:1/moved unit3:1/refused invalidToken left 0/cleared/refused noCommandNonce record 8",
@@ -58,11 +58,11 @@ const SCRIPTS: [(&str, &str); 26] = [
     // Notes of before a new nonce.
     (
         "issue/mint 50.00EUR/dispense @ unit2:1/issue/mint 50.00EUR/dispense @ unit3:1/reject/dispense @ unit3:1",
-        "N/T/moved unit2:1/N/T/refused sequenceError/moved unit2:1/moved unit3:1",
+        "N/T/moved unit2:1/N2/T/refused sequenceError/moved unit2:1/moved unit3:1",
     ),
     (
         "issue/mint 50.00EUR/dispense @ unit2:1/issue/present/dispense @ unit2:1",
-        "N/T/moved unit2:1/N/refused authorisationRequired/refused invalidTokenNonce record 6",
+        "N/T/moved unit2:1/N2/refused authorisationRequired/refused invalidTokenNonce record 6",
     ),
     // A second token for the same nonce.
     (
@@ -86,7 +86,7 @@ const SCRIPTS: [(&str, &str); 26] = [
     // Amounts in thousandths, with leading zeros, and 0.
     (
         "issue/mint 0010.009EUR/dispense @ unit1:1/dispense @ unit1:1/issue/mint 0EUR/reject/dispense @ unit1:1",
-        "N/T/moved unit1:1/refused invalidToken left 9/N/T/moved unit1:1/refused invalidToken left 0",
+        "N/T/moved unit1:1/refused invalidToken left 9/N2/T/moved unit1:1/refused invalidToken left 0",
     ),
     // Counts that can't be dispensed, before the amount is looked at.
     (
@@ -121,6 +121,25 @@ const SCRIPTS: [(&str, &str); 26] = [
         "unit1 100 0 0 0 0 0/unit2 100 0 0 0 0 0/unit3 100 0 0 0 0 0/unit4 100 0 0 0 0 0",
     ),
     ("# nothing//issue", "N"),
+    // A nonce and its token end with a restart, and the next nonce has another number.
+    (
+        "issue/mint 50.00EUR/restart/dispense @ unit2:1/issue/dispense @ unit2:1",
+        "N/T/restarted/refused noCommandNonce record 3/N2/refused invalidTokenNonce record 4",
+    ),
+    (
+        "restart/restart/issue/restart/clear/mint 1EUR/issue",
+        "restarted/restarted/N/restarted/nothing to clear/token none/N2",
+    ),
+    // Notes lie after a restart where they lay before, and can be had back.
+    (
+        "issue/mint 50.00EUR/dispense @ unit2:1/present/dispense @ unit1:1/restart/show/present/reject/retract/show",
+        "N/T/moved unit2:1/moved unit2:1/moved unit1:1/restarted/unit1 99 1 0 0 0 0/unit2 99 0 1 0 0 0/unit3 100 0 0 0 0 0/unit4 100 0 0 0 0 0/refused noCommandNonce record 10/moved unit1:1/moved unit2:1/unit1 99 0 0 0 0 1/unit2 99 0 0 0 1 0/unit3 100 0 0 0 0 0/unit4 100 0 0 0 0 0",
+    ),
+    // A new token serves after a restart, once the notes of before are off the transport.
+    (
+        "issue/mint 50.00EUR/dispense @ unit3:1/restart/issue/mint 20.00EUR/dispense @ unit2:1/reject/dispense @ unit2:1/present/take/dispense @ unit1:1",
+        "N/T/moved unit3:1/restarted/N2/T/refused sequenceError/moved unit3:1/moved unit2:1/moved unit2:1/taken unit2:1/refused invalidToken left 0",
+    ),
 ];
 
 #[test]
@@ -245,7 +264,7 @@ fn tokens_may_stand_in_the_line(rt: HostRuntime) -> Result<(), Fail> {
         (
             "issue/issue/",
             FIFTY.as_bytes(),
-            "N/N/refused invalidTokenNonce record 3",
+            "N/N2/refused invalidTokenNonce record 3",
         ),
         (
             "issue/clear/",
@@ -288,7 +307,8 @@ pub fn lines_of(alloc: Global, script: &[u8]) -> Result<Vec<u8>, Fail> {
     Ok(lines)
 }
 
-/// The answers with strokes between them, N for a nonce and T for a token.
+/// The answers with strokes between them, T for a token, N for the nonce of number 1, and for another N with its
+/// number's last digit.
 pub fn shown(alloc: Global, text: &[u8]) -> Result<Vec<u8>, Fail> {
     let mut shown = Vec::new(alloc);
     let lines = match text.split_last() {
@@ -301,6 +321,10 @@ pub fn shown(alloc: Global, text: &[u8]) -> Result<Vec<u8>, Fail> {
         }
         if line.starts_with(b"nonce ") {
             shown.push(b'N')?;
+            match line.last() {
+                Some(digit) if !line.ends_with(b"0000000000000001") => shown.push(*digit)?,
+                _ => {}
+            }
         } else if line.starts_with(b"token NONCE=") {
             shown.push(b'T')?;
         } else {

@@ -9,7 +9,7 @@ const DISPENSE: &str = "issue/mint 50.00EUR/dispense @ unit3:1/fill unit1 1/pres
 
 #[test]
 fn a_journal_takes_records_up_to_its_limits(rt: HostRuntime) -> Result<(), Fail> {
-    let rows: [(u64, u64, &str, u8, &str); 4] = [
+    let rows: [(u64, u64, &str, u8, &str); 8] = [
         (
             4,
             1_000_000,
@@ -26,6 +26,29 @@ fn a_journal_takes_records_up_to_its_limits(rt: HostRuntime) -> Result<(), Fail>
         ),
         (0, 1_000_000, "issue", 12, "boot: journal full"),
         (4, 204, "issue", 12, "boot: journal full"),
+        // The Boot of a restart has 196 bytes behind the 205 of a journal that has one.
+        (
+            1,
+            1_000_000,
+            "issue/restart/issue",
+            12,
+            "refused deviceNotReady/boot: journal full",
+        ),
+        (
+            2,
+            1_000_000,
+            "issue/restart/issue/restart",
+            12,
+            "refused deviceNotReady/restarted/refused deviceNotReady/boot: journal full",
+        ),
+        (4, 400, "restart/show", 12, "boot: journal full"),
+        (
+            4,
+            401,
+            "restart/issue/restart",
+            12,
+            "restarted/refused deviceNotReady/boot: journal full",
+        ),
     ];
     for (records, bytes, script, status, answers) in rows {
         let lines = lines_of(rt.alloc(), script.as_bytes())?;
@@ -110,6 +133,80 @@ fn a_disk_that_fails_in_a_dispense_is_not_ready_from_then_on(rt: HostRuntime) ->
             let shown = shown(rt.alloc(), &written.text)?;
             assert_eq!(rt; shown.as_slice(), answers.as_bytes(), "call {call}");
             assert_eq!(rt; written.status, status, "call {call}");
+        }
+    }
+    Ok(())
+}
+
+#[test]
+fn a_disk_that_failed_in_a_call_serves_again_from_the_restart_on(
+    rt: HostRuntime,
+) -> Result<(), Fail> {
+    // The calls that fail, the answers up to the dispense, what is told of unit 3, and the next nonce. The Issue makes
+    // the calls from 9 on, the Bind those from 13, the Order from 17 and the Done from 21. In the call 12 the gate of
+    // the Issue was opened, so that the restart finds it.
+    let rows: [(u64, u64, &str, &str, &str); 4] = [
+        (
+            9,
+            11,
+            "refused deviceNotReady/token none",
+            "unit3 100 0 0 0 0 0",
+            "N",
+        ),
+        (
+            12,
+            12,
+            "refused deviceNotReady/token none",
+            "unit3 100 0 0 0 0 0",
+            "N2",
+        ),
+        (13, 20, "N/T", "unit3 100 0 0 0 0 0", "N2"),
+        (21, 24, "N/T", "unit3 99 1 0 0 0 0", "N2"),
+    ];
+    let script = b"issue/mint 50.00EUR/dispense @ unit3:1/issue/show/restart/show/issue";
+    let lines = lines_of(rt.alloc(), script)?;
+    for (first, last, before, unit, nonce) in rows {
+        let places = format!(in rt.alloc();
+            "unit1 100 0 0 0 0 0/unit2 100 0 0 0 0 0/{unit}/unit4 100 0 0 0 0 0"
+        )?;
+        let refused = "refused deviceNotReady/refused deviceNotReady";
+        let answers = format!(in rt.alloc();
+            "{before}/{refused}/{places}/restarted/{places}/{nonce}"
+        )?;
+        for call in first..=last {
+            let written = guard_failing(&rt, rt.alloc(), &lines, &[call])?;
+            let shown = shown(rt.alloc(), &written.text)?;
+            assert_eq!(rt; shown.as_slice(), answers.as_bytes(), "call {call}");
+            assert_eq!(rt; written.status, 0, "call {call}");
+        }
+    }
+    Ok(())
+}
+
+#[test]
+fn a_disk_that_fails_in_a_restart_ends_the_run_behind_the_earlier_answers(
+    rt: HostRuntime,
+) -> Result<(), Fail> {
+    // Behind the boot and the Issue, a restart makes 3 calls that read the journal again, and 4 for its Boot. Where
+    // also the call 12 fails, the Issue does.
+    let rows: [(u64, u64, u8, &str); 2] = [
+        (13, 19, 6, "boot: disk"),
+        (20, 20, 0, "restarted/refused deviceNotReady"),
+    ];
+    let lines = lines_of(rt.alloc(), b"issue/restart/issue")?;
+    for (first, last, status, behind) in rows {
+        for call in first..=last {
+            let rows: [(&[u64], &str); 2] = [
+                (&[call], "N"),
+                (&[12, call], "refused deviceNotReady"),
+            ];
+            for (failing, before) in rows {
+                let written = guard_failing(&rt, rt.alloc(), &lines, failing)?;
+                let shown = shown(rt.alloc(), &written.text)?;
+                let answers = format!(in rt.alloc(); "{before}/{behind}")?;
+                assert_eq!(rt; shown.as_slice(), answers.as_bytes(), "{failing:?} fail");
+                assert_eq!(rt; written.status, status, "{failing:?} fail");
+            }
         }
     }
     Ok(())

@@ -1,6 +1,5 @@
 -- A mechanism in memory: its list, its places, and the faults that it was made with.
 use Rattle.std.specs.Prelude.{◌≡◌, ℕ, ◌+◌, ◌-◌, ◌^◌, min, List, Bool, is_some, if◌then◌else◌}
-use Rattle.std.specs.Vec.{vec_len, vec_capacity}
 use Rattle.std.specs.declared.option.Option.{Option}
 use Rattle.xfs_base.specs.declared.counts.Places.{Places}
 use Rattle.xfs_base.specs.declared.money.NoteKind.{NoteKind}
@@ -20,7 +19,7 @@ abbrev pub motions_of : SimMech → List Motion
 motions_of m = m.motions.items
 
 abbrev pub room_of : SimMech → ℕ
-room_of m = vec_capacity m.motions - vec_len m.motions
+room_of m = m.room
 
 -- the faults that it was made with
 abbrev pub faults_of : SimMech → List Fault

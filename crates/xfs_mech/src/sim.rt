@@ -1,4 +1,5 @@
-ghost use Rattle.std.specs.Prelude.{◌≤◌, length};
+ghost use Rattle.std.specs.Prelude.{◌+◌, ◌≤◌, length};
+ghost use Rattle.std.specs.Vec.{vec_len, vec_capacity};
 ghost use Rattle.xfs_mech.specs.Mechanism.{PlacesFit};
 
 use crate::fault::{done, fault_of, nothing, outcome_of};
@@ -13,17 +14,20 @@ pub struct SimMech {
     units: UnitTable,
     places: Places,
     motions: Vec<Motion>,
+    // For how many more motions there is room.
+    room: usize,
     faults: Vec<Fault>,
     calls: u64,
     failures: u64,
     ghost few: { length units ≤ 8 },
+    ghost held: { vec_len motions + room ≤ vec_capacity motions },
     ghost fit: { PlacesFit units places },
 }
 
 impl SimMech {
     ghost use Rattle.std.specs.Prelude.{◌≡◌, ◌≤◌, [], is_some};
     ghost use Rattle.xfs_mech.specs.Mechanism.{PlacesFit};
-    ghost use Rattle.xfs_mech.specs.Sim.{units_of, places_of, motions_of, faults_of, calls_of, failures_of, due, next, Counted};
+    ghost use Rattle.xfs_mech.specs.Sim.{units_of, places_of, motions_of, room_of, faults_of, calls_of, failures_of, due, next, Counted};
 
     /// A mechanism that has done nothing yet, with these faults to come.
     pub fn new(alloc: Global, units: UnitTable, places: Places, faults: Vec<Fault>) -> SimMech
@@ -40,6 +44,7 @@ impl SimMech {
             units,
             places,
             motions: Vec::new(alloc),
+            room: 0,
             faults,
             calls: 0,
             failures: 0,
@@ -61,6 +66,7 @@ impl SimMech {
             units,
             places,
             motions,
+            room: 0,
             faults: Vec::new(alloc),
             calls: 0,
             failures: 0,
@@ -81,6 +87,7 @@ impl SimMech {
         ensures units { units_of self.new ≡ units_of self.old }
         ensures places { places_of self.new ≡ places_of self.old }
         ensures motions { self.new.motions ≡ self.old.motions }
+        ensures room { room_of self.new ≡ room_of self.old }
         ensures later { failures_of self.old ≤ failures_of self.new }
     {
         self.calls = self.calls.saturating_add(1);
@@ -114,8 +121,9 @@ impl Mechanism for SimMech {
     ghost faults = { failures_of };
 
     fn ready(&mut self) -> Result<(), Memory> {
-        let spare = self.motions.capacity() - self.motions.len();
-        self.motions.reserve(spare + 1)?;
+        let room = self.room.checked_add(1).ok_or(Memory)?;
+        self.motions.reserve(room)?;
+        self.room = room;
         Ok(())
     }
 
@@ -136,6 +144,7 @@ impl Mechanism for SimMech {
         let (number, kind) = (order.number(), order.kind());
         let outcome = outcome_of(fault, kind, &order.counts());
         self.places = after_order(&self.places, kind, &outcome.moved, &outcome.diverted);
+        self.room -= 1;
         self.motions.push_reserved(Motion::Moved {
             number,
             kind,
@@ -160,6 +169,7 @@ impl Mechanism for SimMech {
         }
         let counts = self.places.outlet;
         self.places = after_taking(&self.places, &counts);
+        self.room -= 1;
         self.motions.push_reserved(Motion::Taken { counts });
         done(counts)
     }
@@ -178,6 +188,7 @@ impl Mechanism for SimMech {
             return nothing();
         }
         self.places = after_loading(&self.places, unit, count);
+        self.room -= 1;
         self.motions.push_reserved(Motion::Loaded { unit, count });
         done(of_unit(unit, count))
     }

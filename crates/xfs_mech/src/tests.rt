@@ -136,6 +136,20 @@ fn reports_add_an_entry_only_where_they_succeed(rt: HostRuntime) -> Result<(), F
     Ok(())
 }
 
+// Nothing but the notes bounds a list, and each entry takes the room for one.
+#[test]
+fn a_list_grows_entry_by_entry(rt: HostRuntime) -> Result<(), Fail> {
+    let (units, begun) = (units()?, places(FULL));
+    assert!(rt; places_fit(&units, &begun));
+    let mut mech = SimMech::new(rt.alloc(), units, begun, Vec::new(rt.alloc()));
+    for _ in 0..100 {
+        carry(&rt, &mut mech, Kind::Stack, Counts([1, 0, 0, 0, 0, 0, 0, 0]));
+    }
+    assert_eq!(rt; mech.motions().len(), 100);
+    assert_eq!(rt; mech.survey().units.0[0], 0);
+    Ok(())
+}
+
 #[test]
 fn a_silent_mechanism_goes_on_with_a_list(rt: HostRuntime) -> Result<(), Fail> {
     let (units, begun) = (units()?, places(FULL));
