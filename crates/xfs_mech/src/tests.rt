@@ -143,7 +143,12 @@ fn a_list_grows_entry_by_entry(rt: HostRuntime) -> Result<(), Fail> {
     assert!(rt; places_fit(&units, &begun));
     let mut mech = SimMech::new(rt.alloc(), units, begun, Vec::new(rt.alloc()));
     for _ in 0..100 {
-        carry(&rt, &mut mech, Kind::Stack, Counts([1, 0, 0, 0, 0, 0, 0, 0]));
+        carry(
+            &rt,
+            &mut mech,
+            Kind::Stack,
+            Counts([1, 0, 0, 0, 0, 0, 0, 0]),
+        );
     }
     assert_eq!(rt; mech.motions().len(), 100);
     assert_eq!(rt; mech.survey().units.0[0], 0);
