@@ -15,7 +15,7 @@ use Rattle.xfs_script.specs.declared.line.LineFault.TheVariants.{Read, Quota, To
 use Rattle.xfs_cli.specs.GuardLines.{behind}
 use Rattle.xfs_cli.specs.Run.{status_of}
 use Rattle.xfs_cli.specs.Answers.{WritesAll, WritesFront, WritesUntil}
-use Rattle.xfs_cli.specs.Boots.{BootPasses, EndsFull, WritesBoot, boot_status}
+use Rattle.xfs_cli.specs.Boots.{EndsFailed, BootPasses, EndsFull, WritesBoot, boot_status}
 use Rattle.xfs_journal.specs.declared.limits.Limits.{Limits}
 use Rattle.xfs_cli.specs.Statuses.{HasFullRestart}
 use Rattle.xfs_guard.specs.declared.fail.BootFault.{BootFault}
@@ -148,6 +148,14 @@ rose-later a b c le rose = omega (arith, le, rose)
 pub none-told : {T : Type 0} (held : Option T) → is_some held ≡ false → held ≡ None
 none-told None e = refl
 none-told (Some x) e = cc
+
+-- a refused boot whose disk failed
+pub ends-failed : (why : BootFault) (faults now : ℕ) (before after : Option (List ℕ)) (status : ℕ) → status ≡ boot_status why → WritesBoot why before after → (why ≡ Disk → Rose faults now)
+    → status ≡ 6 → EndsFailed faults now before after
+ends-failed (NotJournal at) faults now before after status is written failed six = absurd (omega (arith, is, six))
+ends-failed Disk faults now before after status is written failed six = record { cause = failed refl; written = written }
+ends-failed Full faults now before after status is written failed six = absurd (omega (arith, is, six))
+ends-failed BootMemory faults now before after status is written failed six = absurd (omega (arith, is, six))
 
 -- a refused boot whose Boot passes a limit
 pub ends-full : (why : BootFault) (limits : Limits) (places : Places) (held before after : Option (List ℕ)) (status : ℕ) → status ≡ boot_status why → WritesBoot why before after

@@ -1,7 +1,7 @@
 -- How a command ends whose boot is refused: status 6, 7, 8 or 12, and its last line.
 use Rattle.std.specs.Prelude.{◌≡◌, ◌⊎◌, ℕ, true, List, [], ◌∷◌, ◌++◌}
 use Rattle.std.specs.declared.option.Option.{Option}
-use Rattle.xfs_base.specs.Causes.{IfTold, TookFront}
+use Rattle.xfs_base.specs.Causes.{Rose, IfTold, TookFront}
 use Rattle.xfs_base.specs.declared.counts.Places.{Places}
 use Rattle.xfs_disk.specs.Disk.{AddsNone}
 use Rattle.xfs_journal.specs.Image.{Stands}
@@ -11,7 +11,7 @@ use Rattle.xfs_journal.specs.declared.limits.Limits.{Limits}
 use Rattle.xfs_journal.specs.declared.record.Rec.{Rec}
 use Rattle.xfs_journal.specs.declared.record.Rec.TheVariants.{Boot}
 use Rattle.xfs_guard.specs.declared.fail.BootFault.{BootFault}
-use Rattle.xfs_guard.specs.declared.fail.BootFault.TheVariants.{NotJournal, Full}
+use Rattle.xfs_guard.specs.declared.fail.BootFault.TheVariants.{NotJournal, Disk, Full}
 use Rattle.xfs_cli.specs.Answers.{lines_text}
 pub use Rattle.xfs_cli.specs.BootLines.{boot_status, boot_line}
 
@@ -28,6 +28,11 @@ pub record EndsUnread (held before after : Option (List ℕ)) : Type 0 where
   pub at : ℕ
   pub ceases : IfTold held (λ bytes. CeasesAt bytes at × IsNoJournal bytes)
   pub written : WritesBoot (NotJournal at) before after
+
+-- the disk failed in the boot, and the last line says so
+pub record EndsFailed (faults now : ℕ) (before after : Option (List ℕ)) : Type 0 where
+  pub cause : Rose faults now
+  pub written : WritesBoot Disk before after
 
 -- the Boot of these places passes a limit behind these records
 abbrev pub BootPasses : Limits → Places → List Rec → Type 0

@@ -1,10 +1,11 @@
-use Rattle.std.proofs.Common.{None, arith, inl, inr, refl, ap, sym, ◌∙◌}
+use Rattle.std.proofs.Common.{None, arith, inl, inr, refl, ap, sym, ◌∙◌, ◌≡◌}
+use Rattle.xfs_base.specs.Causes.{Rose}
 use Rattle.xfs_guard.specs.View.{View}
 use Rattle.xfs_cli.proofs.RunLaws.{recorded-start, upholds-same, upholds-refused, upholds-run, ends-unread, due-full, journal-run, fits-run}
 use Rattle.xfs_cli.specs.GuardLines.{IsLine}
 use Rattle.xfs_cli.specs.GuardRuns.{RunsFull}
 use Rattle.xfs_cli.specs.VerbAnswers.{AnswersGuard}
-use Rattle.xfs_cli.proofs.GuardRunLaws.{all-ends, front-ends, until-stops, stops-at, ends-at, ends-within, told-more, told-any, from-boot, refused-boot, ends-full, none-told, full-line, starts-run, rose-later}
+use Rattle.xfs_cli.proofs.GuardRunLaws.{all-ends, front-ends, until-stops, stops-at, ends-at, ends-within, told-more, told-any, from-boot, refused-boot, ends-failed, ends-full, none-told, full-line, starts-run, rose-later}
 use Rattle.xfs_cli.proofs.EndLaws.{finishes, causes-served, causes-refused}
 use Rattle.xfs_cli.proofs.NumberLaws.{newer-run}
 use Rattle.xfs_cli.proofs.UnreadLaws.{unwritten-quiet}
@@ -27,16 +28,23 @@ returns-in-Err-clause-upholds g c =
     rw c.in-Err.ensures.mech (upholds-refused _ _ _ _ _ _ _ _ c.requires.starts c.requires.at_rest (g.met.D.Disk.as_read c.args.core.disk) c.in-Err.ensures.either)
 
 pub returns-in-Err-clause-not_journal : goal.returns-in-Err-clause-not_journal
-returns-in-Err-clause-not_journal g c = λ seven. inr (ends-unread _ _ _ _ _ c.unbooted.ensures.status c.unbooted.ensures.written c.in-Err.ensures.not_journal seven)
+returns-in-Err-clause-not_journal g c = λ seven. inl (ends-unread _ _ _ _ _ c.unbooted.ensures.status c.unbooted.ensures.written c.in-Err.ensures.not_journal seven)
 
 pub returns-in-Err-clause-full : goal.returns-in-Err-clause-full
 returns-in-Err-clause-full g c = λ twelve. inl (ends-full _ _ _ _ _ _ _ c.unbooted.ensures.status c.unbooted.ensures.written c.in-Err.ensures.full twelve)
 
 pub returns-in-Ok-clause-boot_disk : goal.returns-in-Ok-clause-boot_disk
-returns-in-Ok-clause-boot_disk g c = λ six. rw c.ended-mech.ensures.disk (rose-later _ _ _ c.in-Ok.ensures.faults (c.serve-status.ensures.failed six))
+returns-in-Ok-clause-boot_disk g c = λ six.
+    let ok = c.in-Ok.ensures.ok in inr (from-boot g.D.Disk.faults c.in-Ok.guard _ _ _ _ ok.0 (λ s. Rose (g.D.Disk.faults c.args.core.disk) (g.D.Disk.faults c.ended-mech.result.1)) ok.1 ok.2 c.in-Ok.ensures.faults
+    (rw c.ended-mech.ensures.disk (rose-later _ _ _ c.in-Ok.ensures.faults (c.serve-status.ensures.failed six))))
+
+pub returns-in-Err-clause-boot_disk : goal.returns-in-Err-clause-boot_disk
+returns-in-Err-clause-boot_disk g c = λ six. inl (ends-failed _ _ _ _ _ _ c.unbooted.ensures.status c.unbooted.ensures.written c.in-Err.ensures.disk six)
 
 pub returns-in-Ok-clause-not_journal : goal.returns-in-Ok-clause-not_journal
-returns-in-Ok-clause-not_journal g c = λ seven. inl (none-told _ (rw c.in-Ok.ensures.ok.2 at c.serve-status.ensures.untold seven))
+returns-in-Ok-clause-not_journal g c = λ seven.
+    let ok = c.in-Ok.ensures.ok in inr (from-boot g.D.Disk.faults c.in-Ok.guard _ _ _ _ ok.0 (λ s. g.D.Disk.held c.args.core.disk ≡ None) ok.1 ok.2 c.in-Ok.ensures.faults
+    (none-told _ (rw ok.2 at c.serve-status.ensures.untold seven)))
 
 pub returns-in-Ok-clause-full : goal.returns-in-Ok-clause-full
 returns-in-Ok-clause-full g c = λ twelve.
