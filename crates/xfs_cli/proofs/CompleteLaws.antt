@@ -41,7 +41,7 @@ use Rattle.xfs_cli.specs.OrderAnswers.{Moves, Tells, nothing_stacked, refusal_of
 use Rattle.xfs_cli.specs.DispenseAnswers.{Dispenses, IsForbidden, IsOrdered, IsPermitted, IsUnmoved, counts_refusal, named}
 use Rattle.xfs_cli.specs.GuardAnswers.{outcome_text}
 use Rattle.xfs_cli.specs.VerbAnswers.{AreAnswer}
-use Rattle.xfs_cli.specs.Complete.{CanDispense, CanPresent, IsBoundWith, IsCalm, IsComplete, IsCoveredBy, IsDispensed, IsFree, IsGood, IsOfFormat, IsPresented, moved_line}
+use Rattle.xfs_cli.specs.Complete.{CanDispense, CanPresent, IsBindable, IsCalm, IsComplete, IsCoveredBy, IsDispensed, IsGood, IsPresented, moved_line}
 use Rattle.xfs_cli.specs.declared.refused.Refusal.{Refusal}
 use Rattle.xfs_cli.specs.declared.refused.Refusal.TheVariants.{Deny as Denied}
 use Rattle.xfs_cli.proofs.CompleteOrders.{carries-full, present-places, calm-rest, IsGrown}
@@ -104,14 +104,14 @@ fault-none v amounts counts c =
 same-bytes : (a b : List ℕ) → a ≡ b → bytes_eq a b ≡ true
 same-bytes a b e = (bytes_eq-Decides a b).1 e
 
-bind-none : (v : View) (bytes : List ℕ) (amounts : List (List ℕ × ℕ)) → IsBoundWith v bytes amounts ⊎ IsFree v → bind_refusal v bytes (bound_token v.records) ≡ None
-bind-none v bytes amounts (inl b) = rw (b.bound, same-bytes bytes bytes refl) refl
-bind-none v bytes amounts (inr f) = rw (f.none, eq-eqb (sum v.places.transport.0) 0 f.empty) refl
+bind-none : (v : View) (bytes : List ℕ) → IsBindable v bytes → bind_refusal v bytes (bound_token v.records) ≡ None
+bind-none v bytes (inl b) = rw (b, same-bytes bytes bytes refl) refl
+bind-none v bytes (inr f) = rw (f.none, eq-eqb (sum v.places.transport.0) 0 f.empty) refl
 
 -- a good token is not refused
-claim-none : (v : View) (bytes : List ℕ) (amounts : List (List ℕ × ℕ)) (g : IsGood v bytes amounts) → IsBoundWith v bytes amounts ⊎ IsFree v → claim_refusal v bytes g.token ≡ None
+claim-none : (v : View) (bytes : List ℕ) (amounts : List (List ℕ × ℕ)) (g : IsGood v bytes amounts) → IsBindable v bytes → claim_refusal v bytes g.token ≡ None
 claim-none v bytes amounts g b =
-    rw (g.lives, same-bytes g.token.nonce g.nonce.text g.carried, same-bytes g.token.mac (hmac v.key (take (length bytes - 76) bytes)) g.genuine.mac, g.amounts_are) (bind-none v bytes amounts b)
+    rw (g.lives, same-bytes g.token.nonce g.nonce.text g.carried, same-bytes g.token.mac (hmac v.key (take (length bytes - 76) bytes)) g.genuine.mac, g.amounts_are) (bind-none v bytes b)
 
 -- a token that passes has the amounts of the good one
 same-amounts : (v : View) (bytes : List ℕ) (amounts other : List (List ℕ × ℕ)) → IsGood v bytes amounts → Passes v bytes other → other ≡ amounts
@@ -123,7 +123,7 @@ same-amounts v bytes amounts other g p =
 no-memory : (f : TokenFault) (deny : Deny) (line : List ℕ) → f ≡ TokenFault.Memory → deny ≡ deny_of f → refusal_text (Denied deny) ≡ Some line → ⊥
 no-memory f deny line e d told = let none = rw (d, e) at told in cc
 
-token-unrefused : (v : View) (bytes : List ℕ) (amounts : List (List ℕ × ℕ)) (deny : Deny) (line : List ℕ) → unfit v ≡ None → IsGood v bytes amounts → IsBoundWith v bytes amounts ⊎ IsFree v
+token-unrefused : (v : View) (bytes : List ℕ) (amounts : List (List ℕ × ℕ)) (deny : Deny) (line : List ℕ) → unfit v ≡ None → IsGood v bytes amounts → IsBindable v bytes
     → refusal_text (Denied deny) ≡ Some line → TokenRefused v bytes deny → ⊥
 token-unrefused v bytes amounts deny line fit g b told (inl e) = (let f : None ≡ Some deny = sym fit ∙ e in cc)
 token-unrefused v bytes amounts deny line fit g b told (inr (e, inl m)) = no-memory m.fault deny line (no_fault g.token bytes m.fault g.genuine.spelled m.is) m.denied told
@@ -170,9 +170,9 @@ permitted-open s token bytes counts issue bound c is p = go c.binding
     short : length bytes ≤ 1024
     short = c.good.genuine.spelled.short
 
-    go : IsBoundWith s.guard bytes c.amounts ⊎ IsFree s.guard → IsOpenFor bound.guard issue c.amounts 8 × IsAhead bound.guard c.amounts counts.0 × (bound.guard.places ≡ s.guard.places)
+    go : IsBindable s.guard bytes → IsOpenFor bound.guard issue c.amounts 8 × IsAhead bound.guard c.amounts counts.0 × (bound.guard.places ≡ s.guard.places)
     go (inl b) =
-        let now : bound.guard ≡ s.guard = p.binds.again (λ none. let e : Some bytes ≡ None = sym b.bound ∙ none in cc) in
+        let now : bound.guard ≡ s.guard = p.binds.again (λ none. let e : Some bytes ≡ None = sym b ∙ none in cc) in
         rw now (
           record {
             open_still = c.room.open_still;
@@ -180,7 +180,7 @@ permitted-open s token bytes counts issue bound c is p = go c.binding
             records = (let e = c.room.records in omega (arith, e));
             bytes = (let e = c.room.bytes in omega (arith, e));
             lives = p.lives;
-            bound = b.kept;
+            bound = sym (ap (λ (v : View). v.bound) now) ∙ (p.binds.kept ∙ ap (λ a. Some a) amounts);
           },
           record { lie = c.covered.lie; enough = c.covered.enough },
           refl,
@@ -210,13 +210,13 @@ some-nonce (Some n) issue e = (n, refl)
 told-all : (outcome : Outcome) (counts : CountsOf) → outcome.failed ≡ false → outcome.moved.0 ≡ counts.0 → outcome_text (codes "moved") outcome ≡ moved_line counts
 told-all outcome counts fine moved = rw (fine, moved) refl
 
-ordered-full : (s next : Seen) (token : Option (List ℕ)) (bytes line : List ℕ) (counts : CountsOf) → length counts.0 ≡ 8 → token ≡ Some bytes → CanDispense s.guard bytes counts → IsCalm s next → IsOfFormat next
+ordered-full : (s next : Seen) (token : Option (List ℕ)) (bytes line : List ℕ) (counts : CountsOf) → length counts.0 ≡ 8 → token ≡ Some bytes → CanDispense s.guard bytes counts → IsCalm s next
     → IsOrdered s token counts line next → IsDispensed s counts (line ∷ []) next
-ordered-full s next token bytes line counts eight is c calm format o =
+ordered-full s next token bytes line counts eight is c calm o =
     let ready = permitted-open s token bytes counts o.issue o.bound c is o.permitted in
     let calm-on = calm-rest s o.bound next (bound-grown c.binding) calm in
     let all = stacks-full o.issue c.amounts counts.0 0 [] nothing_stacked o.bound o.result next refl (omega (arith, eight)) refl (rw eight refl)
-    (rw eight ready.0) ready.1 calm-on format o.stacked in
+    (rw eight ready.0) ready.1 calm-on o.stacked in
     let told : Tells (codes "moved") (Ok all.outcome) line = rw all.is at o.told in
     let lives = some-nonce (live_nonce next.guard.records) o.issue all.open_for.lives in
     let gained : (u : ℕ) → at next.guard.places.transport u ≡ at s.guard.places.transport u + at counts u = (λ u. rw ready.2 at (all.transport u)) in
@@ -236,9 +236,9 @@ ordered-full s next token bytes line counts eight is c calm format o =
       };
     }
   where
-    bound-grown : IsBoundWith s.guard bytes c.amounts ⊎ IsFree s.guard → IsGrown s o.bound
+    bound-grown : IsBindable s.guard bytes → IsGrown s o.bound
     bound-grown (inl b) =
-        let now : o.bound.guard ≡ s.guard = o.permitted.binds.again (λ none. let e : Some bytes ≡ None = sym b.bound ∙ none in cc) in
+        let now : o.bound.guard ≡ s.guard = o.permitted.binds.again (λ none. let e : Some bytes ≡ None = sym b ∙ none in cc) in
         let faults : o.bound.guard.faults ≡ s.guard.faults = ap (λ (v : View). v.faults) now in
         record { mech = omega (arith, faults); disk = o.permitted.later; more = []; grown = ap (λ (v : View). v.records) now ∙ sym (append-nil s.guard.records) }
     bound-grown (inr f) =
@@ -246,10 +246,10 @@ ordered-full s next token bytes line counts eight is c calm format o =
         let faults : o.bound.guard.faults ≡ s.guard.faults = ap (λ (v : View). v.faults) now in
         record { mech = omega (arith, faults); disk = o.permitted.later; more = Bind o.permitted.bytes ∷ []; grown = ap (λ (v : View). v.records) now }
 
-dispenses-full : (s next : Seen) (token : Option (List ℕ)) (bytes line : List ℕ) (counts : CountsOf) → length counts.0 ≡ 8 → token ≡ Some bytes → CanDispense s.guard bytes counts → IsCalm s next → IsOfFormat next
+dispenses-full : (s next : Seen) (token : Option (List ℕ)) (bytes line : List ℕ) (counts : CountsOf) → length counts.0 ≡ 8 → token ≡ Some bytes → CanDispense s.guard bytes counts → IsCalm s next
     → Dispenses s token counts line next → IsDispensed s counts (line ∷ []) next
-dispenses-full s next token bytes line counts eight is c calm format (inr o) = ordered-full s next token bytes line counts eight is c calm format o
-dispenses-full s next token bytes line counts eight is c calm format (inl r) = absurd (never r.forbidden)
+dispenses-full s next token bytes line counts eight is c calm (inr o) = ordered-full s next token bytes line counts eight is c calm o
+dispenses-full s next token bytes line counts eight is c calm (inl r) = absurd (never r.forbidden)
   where
     never : IsForbidden s token counts r.refusal next → ⊥
     never (inl (u, same)) = unmoved-no s.guard token bytes line counts r.refusal is c r.text u
@@ -273,10 +273,10 @@ presents-full s next line c calm m =
     }
 
 dispense-answer : (s next : Seen) (output : List (List ℕ)) (given : Given) (counts : CountsOf) (bytes : List ℕ) → length counts.0 ≡ 8 → AreAnswer s (Dispense given counts) output next
-    → named s.last given ≡ Some bytes → CanDispense s.guard bytes counts → IsCalm s next → IsOfFormat next → IsDispensed s counts output next
-dispense-answer s next [] given counts bytes eight a is c calm format = (let e = a.0 in cc)
-dispense-answer s next (line ∷ []) given counts bytes eight a is c calm format = dispenses-full s next (named s.last given) bytes line counts eight is c calm format a
-dispense-answer s next (line ∷ other ∷ more) given counts bytes eight a is c calm format = absurd a
+    → named s.last given ≡ Some bytes → CanDispense s.guard bytes counts → IsCalm s next → IsDispensed s counts output next
+dispense-answer s next [] given counts bytes eight a is c calm = (let e = a.0 in cc)
+dispense-answer s next (line ∷ []) given counts bytes eight a is c calm = dispenses-full s next (named s.last given) bytes line counts eight is c calm a
+dispense-answer s next (line ∷ other ∷ more) given counts bytes eight a is c calm = absurd a
 
 present-answer : (s next : Seen) (output : List (List ℕ)) → AreAnswer s Present output next → CanPresent s.guard → IsCalm s next → IsPresented s output next
 present-answer s next [] a c calm = (let e = a.0 in cc)
@@ -294,6 +294,6 @@ eight-counts text given counts d = ap length d.has.spells.is ∙ length-units (r
 -- what is answered where nothing stands against it
 pub complete : IsComplete
 complete = record {
-  dispense = λ s next text output given counts bytes a verb is c calm format. dispense-answer s next output given counts bytes (eight-counts text given counts (rw verb at a.reads)) (rw verb at a.answer) is c calm format;
+  dispense = λ s next text output given counts bytes a verb is c calm. dispense-answer s next output given counts bytes (eight-counts text given counts (rw verb at a.reads)) (rw verb at a.answer) is c calm;
   present = λ s next text output a verb c calm. present-answer s next output (rw verb at a.answer) c calm;
 }

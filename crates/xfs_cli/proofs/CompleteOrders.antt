@@ -1,6 +1,5 @@
 -- An order that isn't refused is carried out in full, where no count of faults rises.
 use Rattle.std.proofs.Common.{◌≡◌, ◌≤◌, ◌+◌, ℕ, zero, suc, Bool, true, false, List, [], ◌∷◌, ◌++◌, length, None, Some, Ok, Err, inl, inr, refl, sym, ◌∙◌, ap, arith, append_assoc}
-use Rattle.std.specs.List.{AllByRecursion}
 use Rattle.std.specs.declared.result.Result.{Result}
 use Rattle.std.proofs.lemmas.List.{append-nil}
 use Rattle.xfs_base.specs.Causes.{Rose}
@@ -12,7 +11,6 @@ use Rattle.xfs_base.specs.declared.counts.Places.{Places}
 use Rattle.xfs_mech.specs.Motions.{PlacesOf}
 use Rattle.xfs_mech.specs.declared.motion.Motion.TheVariants.{Moved}
 use Rattle.xfs_mech.specs.declared.motion.Outcome.{Outcome}
-use Rattle.xfs_journal.specs.Image.{IsRecord}
 use Rattle.xfs_journal.specs.declared.record.Rec.{Rec}
 use Rattle.xfs_journal.specs.declared.record.Rec.TheVariants.{Done}
 use Rattle.xfs_guard.specs.View.{View}
@@ -22,7 +20,7 @@ use Rattle.xfs_guard.specs.declared.ask.Ask.TheVariants.{Stack as AskStack}
 use Rattle.xfs_guard.specs.declared.deny.Deny.{Deny}
 use Rattle.xfs_guard.specs.declared.open.Open.TheVariants.{Written, Acted}
 use Rattle.xfs_cli.specs.Seen.{Seen}
-use Rattle.xfs_cli.specs.Complete.{IsCalm, IsOfFormat}
+use Rattle.xfs_cli.specs.Complete.{IsCalm}
 use Rattle.xfs_cli.specs.OrderAnswers.{Carries, IsActed, IsSettled, IsStopped, Stacks, FollowsUnit, refusal_of, order_of, with_stacked}
 
 -- a rise within a longer while is one of the longer while
@@ -97,13 +95,6 @@ stacks-grown issue (suc n ∷ counts) u all s result next h =
     grown-trans s h.middle next (carries-grown s (AskStack issue (u + 1) (suc n)) h.one h.middle h.carried)
     (follows-grown (Stacks issue counts (u + 1)) (λ all s result next more. stacks-grown issue counts (u + 1) all s result next more) all u h.one h.middle result next h.onward)
 
-pub all-left : {X : Type 0} (P : X → Type 0) (xs ys : List X) → AllByRecursion P (xs ++ ys) → AllByRecursion P xs
-all-left P [] ys h = tt
-all-left P (x ∷ xs) ys h = (h.0, all-left P xs ys h.1)
-
-pub format-before : (s next : Seen) → IsGrown s next → IsOfFormat next → IsOfFormat s
-format-before s next more all = all-left IsRecord s.guard.records more.more (rw (← more.grown) all)
-
 -- a calm while is calm in its first part and in the rest
 pub calm-first : (r s t : Seen) → IsGrown s t → IsCalm r t → IsCalm r s
 calm-first r s t more calm = record {
@@ -124,6 +115,7 @@ pub record IsFull (s : Seen) (ask : Ask) (result : Result Outcome Deny) (next : 
   pub fine : outcome.failed ≡ false
   pub moved : outcome.moved ≡ asked_counts s.guard ask
   pub none : IsZero outcome.diverted
+  pub eight : length outcome.diverted.0 ≡ 8
   pub number : ℕ
   pub places : PlacesOf s.guard.places (Moved number (asked_kind ask) (asked_counts s.guard ask) outcome.diverted ∷ []) next.guard.places
   pub records : next.guard.records ≡ (s.guard.records ++ order_of s.guard ask ∷ []) ++ Done (asked_counts s.guard ask) outcome.diverted ∷ []
@@ -162,6 +154,7 @@ settled-full s ask outcome next calm h =
       fine = fine;
       moved = moved;
       none = full.1;
+      eight = a.acts.diverted_eight;
       number = length a.written.guard.records;
       places = places-at (length a.written.guard.records) a.acts.kind (asked_kind ask) outcome.moved (asked_counts s.guard ask) outcome.diverted a.written.guard.places s.guard.places next.guard.places h.acted.guard.places
           (ap (λ (v : View). v.places) a.order.guard_is) asked.0 moved (ap (λ (v : View). v.places) h.settles.same) a.acts.places;

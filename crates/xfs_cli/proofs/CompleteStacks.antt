@@ -1,13 +1,12 @@
 -- Counts that a token covers are stacked in full, unit by unit, where no count of faults rises.
 use Rattle.std.proofs.Common.{◌≡◌, ◌≢◌, ◌≤◌, ◌<◌, ◌+◌, ◌-◌, ◌*◌, ℕ, zero, suc, Bool, true, false, List, [], ◌∷◌, ◌++◌, length, set, get_or, None, Some, Ok, inl, inr, refl, sym, subst, ◌∙◌, ap, arith, append_assoc, add-one, length-append}
 use Rattle.std.specs.Prelude.{nat_lt, slice_index, if◌then◌else◌, ◌||◌}
-use Rattle.std.specs.List.{AllByRecursion}
 use Rattle.std.specs.Option.{option_map, option_and_then, option_or}
 use Rattle.std.specs.declared.option.Option.{Option}
 use Rattle.std.specs.declared.result.Result.{Result}
 use Rattle.std.proofs.Math.Seq.{set-append_seam}
 use Rattle.std.proofs.lemmas.Bool.{le-ltb, cases_eq}
-use Rattle.std.proofs.lemmas.List.{get_or-set_other}
+use Rattle.std.proofs.lemmas.List.{get_or-set_other, length-set}
 use Rattle.std.proofs.lemmas.Grind.{get_or-set_at}
 use Rattle.xfs_base.specs.Counts.{at}
 use Rattle.xfs_base.specs.Money.{value, value_from}
@@ -16,9 +15,8 @@ use Rattle.xfs_base.specs.declared.counts.Kind.TheVariants.{Stack}
 use Rattle.xfs_base.specs.declared.money.NoteKind.{NoteKind}
 use Rattle.xfs_base.proofs.MoneyLaws.{value_from-plus, value_from-le}
 use Rattle.xfs_mech.specs.declared.motion.Outcome.{Outcome}
-use Rattle.xfs_mech.proofs.MotionLaws.{all-right}
 use Rattle.xfs_token.specs.Amounts.{amount_in}
-use Rattle.xfs_journal.specs.Image.{IsRecord, counts_bytes, body, size}
+use Rattle.xfs_journal.specs.Image.{counts_bytes, body, size}
 use Rattle.xfs_journal.proofs.Decoding.{length-numbers}
 use Rattle.xfs_journal.specs.Journal.{live_of, live_after, record_at}
 use Rattle.xfs_journal.specs.declared.record.Rec.{Rec}
@@ -39,8 +37,8 @@ use Rattle.xfs_guard.proofs.RecordLaws.{last-pushed, lives-within}
 use Rattle.xfs_guard.proofs.SizeLaws.{size-longer, order-short}
 use Rattle.xfs_cli.specs.Seen.{Seen}
 use Rattle.xfs_cli.specs.OrderAnswers.{Stacks, GoesOn, refusal_of, with_stacked}
-use Rattle.xfs_cli.specs.Complete.{IsCalm, IsOfFormat}
-use Rattle.xfs_cli.proofs.CompleteOrders.{IsFull, carries-full, carries-grown, follows-grown, stacks-grown, stack-places, calm-first, calm-rest, format-before}
+use Rattle.xfs_cli.specs.Complete.{IsCalm}
+use Rattle.xfs_cli.proofs.CompleteOrders.{IsFull, carries-full, carries-grown, follows-grown, stacks-grown, stack-places, calm-first, calm-rest}
 
 -- counts from the unit u on, behind units without notes
 abbrev pub ahead : ℕ → List ℕ → List ℕ
@@ -177,17 +175,15 @@ done-short : (m d : Counts) → length m.0 ≡ 8 → length d.0 ≡ 8 → length
 done-short m d e f = omega (arith, length-append (counts_bytes m) (counts_bytes d), length-numbers m.0, length-numbers d.0, e, f)
 
 -- behind an order that was carried out in full
-open-after : (s middle : Seen) (issue u n : ℕ) (amounts : List (List ℕ × ℕ)) (orders : ℕ) (result : Result Outcome Deny) → IsOfFormat middle
+open-after : (s middle : Seen) (issue u n : ℕ) (amounts : List (List ℕ × ℕ)) (orders : ℕ) (result : Result Outcome Deny)
     → IsFull s (AskStack issue (u + 1) n) result middle → IsOpenFor s.guard issue amounts (suc orders) → IsOpenFor middle.guard issue amounts orders
-open-after s middle issue u n amounts orders result of_table f o =
+open-after s middle issue u n amounts orders result f o =
     let notes = notes_of (u + 1) n in
     let J = s.guard.records ++ Order Stack notes ∷ [] in
     let longer : middle.guard.records ≡ J ++ Done notes f.outcome.diverted ∷ [] = f.records in
-    let of_done : AllByRecursion IsRecord (Done notes f.outcome.diverted ∷ []) = all-right IsRecord J (Done notes f.outcome.diverted ∷ []) (rw longer at of_table) in
-    let m : length notes.0 ≡ 8 = of_done.0.0.0 in
-    let d : length f.outcome.diverted.0 ≡ 8 = of_done.0.1.0 in
+    let m : length notes.0 ≡ 8 = length-set eight (u + 1 - 1) n in
     let many : length middle.guard.records ≡ length s.guard.records + 2 = ap length longer ∙ omega (arith, length-append J (Done notes f.outcome.diverted ∷ []), length-append s.guard.records (Order Stack notes ∷ [])) in
-    let long : size middle.guard.records ≡ size s.guard.records + 105 = ap size longer ∙ omega (arith, size-longer J (Done notes f.outcome.diverted), size-longer s.guard.records (Order Stack notes), order-short Stack notes m, done-short notes f.outcome.diverted m d) in
+    let long : size middle.guard.records ≡ size s.guard.records + 105 = ap size longer ∙ omega (arith, size-longer J (Done notes f.outcome.diverted), size-longer s.guard.records (Order Stack notes), order-short Stack notes m, done-short notes f.outcome.diverted m f.eight) in
     let live : live_nonce middle.guard.records ≡ live_nonce s.guard.records = ap live_nonce longer ∙ (nonce-push J (Done notes f.outcome.diverted) (λ count live. refl) ∙ nonce-push s.guard.records (Order Stack notes) (λ count live. refl)) in
     record {
       open_still = f.shut ∙ o.open_still;
@@ -284,9 +280,9 @@ stacks-at issue rest u v all s result next e h = subst (λ k. Stacks issue rest 
 
 pub stacks-full : (issue : ℕ) (amounts : List (List ℕ × ℕ)) (rest : List ℕ) (u : ℕ) (front : List ℕ) (all : Outcome) (s : Seen) (result : Result Outcome Deny) (next : Seen)
     → length front ≡ u → u + length rest ≤ 8 → all.failed ≡ false → all.moved.0 ≡ front ++ zeros (length rest)
-    → IsOpenFor s.guard issue amounts (length rest) → IsAhead s.guard amounts (ahead u rest) → IsCalm s next → IsOfFormat next → Stacks issue rest u all s result next
+    → IsOpenFor s.guard issue amounts (length rest) → IsAhead s.guard amounts (ahead u rest) → IsCalm s next → Stacks issue rest u all s result next
     → IsStacked s issue amounts u front rest result next
-stacks-full issue amounts [] u front all s result next long few fine was o h calm format (is, same) = rw same (record {
+stacks-full issue amounts [] u front all s result next long few fine was o h calm (is, same) = rw same (record {
   outcome = all;
   is = is;
   fine = fine;
@@ -296,13 +292,13 @@ stacks-full issue amounts [] u front all s result next long few fine was o h cal
   outlet = λ w. refl;
   open_for = o;
 })
-stacks-full issue amounts (zero ∷ rest) u front all s result next long few fine was o h calm format more =
+stacks-full issue amounts (zero ∷ rest) u front all s result next long few fine was o h calm more =
     let there = stacks-at issue rest (u + 1) (suc u) all s result next (add-one u) more in
     let had : IsAhead s.guard amounts (ahead (suc u) rest) = rw (ahead-zero u rest) at h in
     stacked-zero s issue amounts u front rest result next (stacks-full issue amounts rest (suc u) (front ++ 0 ∷ []) all s result next
     (omega (arith, length-append front (0 ∷ []), long)) (omega (arith, few)) fine (was ∙ sym (one-more front (zeros (length rest)) 0))
-    (more-room s.guard issue (length rest) amounts o) had calm format there)
-stacks-full issue amounts (suc n ∷ rest) u front all s result next long few fine was o h calm format unit =
+    (more-room s.guard issue (length rest) amounts o) had calm there)
+stacks-full issue amounts (suc n ∷ rest) u front all s result next long few fine was o h calm unit =
     let low : u < 8 = omega (arith, few) in
     let behind = follows-grown (Stacks issue rest (u + 1)) (λ all s result next more. stacks-grown issue rest (u + 1) all s result next more) all u unit.one unit.middle result next unit.onward in
     let first = calm-first s unit.middle next behind calm in
@@ -315,7 +311,7 @@ stacks-full issue amounts (suc n ∷ rest) u front all s result next long few fi
           let there = stacks-at issue rest (u + 1) (suc u) (with_stacked all u f.outcome) unit.middle result next (add-one u) on.1 in
           stacked-unit s unit.middle issue amounts u (suc n) front rest unit.one result next low f (stacks-full issue amounts rest (suc u) (front ++ suc n ∷ []) (with_stacked all u f.outcome) unit.middle result next
           (omega (arith, length-append front (suc n ∷ []), long)) (omega (arith, few)) f.fine (moved-after all f.outcome front rest u (suc n) low long was f.moved)
-          (open-after s unit.middle issue u (suc n) amounts (length rest) unit.one (format-before unit.middle next behind format) f o) (ahead-after s unit.middle issue u (suc n) amounts rest unit.one low f h) later format there)
+          (open-after s unit.middle issue u (suc n) amounts (length rest) unit.one f o) (ahead-after s unit.middle issue u (suc n) amounts rest unit.one low f h) later there)
           )
     ]
   where

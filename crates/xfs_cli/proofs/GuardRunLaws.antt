@@ -21,7 +21,7 @@ use Rattle.xfs_cli.specs.Statuses.{HasFullRestart}
 use Rattle.xfs_guard.specs.declared.fail.BootFault.{BootFault}
 use Rattle.xfs_guard.specs.declared.fail.BootFault.TheVariants.{NotJournal, Disk, Full, Memory as BootMemory}
 use Rattle.xfs_cli.specs.RestartAnswers.{HasNoRoom, RestartFails}
-use Rattle.xfs_cli.specs.GuardRuns.{FromBoot, IsStart, IsEnd, IsOfBoot, IsStop, IsWithin, IsUnbooted}
+use Rattle.xfs_cli.specs.GuardRuns.{AtEntry, FromBoot, IsStart, opened, IsEnd, IsOfBoot, IsStop, IsWithin, IsUnbooted}
 use Rattle.xfs_cli.specs.VerbAnswers.{AnswersGuard}
 use Rattle.xfs_cli.specs.Seen.{Seen, IsLater, seen}
 
@@ -124,18 +124,14 @@ told-any None Q all = tt
 told-any (Some x) Q all = all x
 
 -- the start of a run
-pub starts-run : {D : Type 0} (faults : D → ℕ) (g : GuardView D) (guard_of : List Rec → View) (places : Places) (held : Option (List ℕ)) (before : ℕ) (J : List Rec)
-    → IfTold held (λ bytes. Stands bytes J) → g.state ≡ guard_of (J ++ Boot places ∷ []) → before ≤ faults g.disk → IsStart guard_of places held before (seen faults g None)
-starts-run faults g guard_of places held before J stands is later = record { records = J; stands = stands; guard_is = is; later = later; none = refl }
+pub starts-run : {D : Type 0} (faults : D → ℕ) (g : GuardView D) (e : AtEntry) (J : List Rec)
+    → IfTold e.held (λ bytes. Stands bytes J) → g.state ≡ opened e (J ++ Boot e.places ∷ []) → e.disk_faults ≤ faults g.disk → IsStart e (seen faults g None)
+starts-run faults g e J stands is later = record { records = J; stands = stands; guard_is = is; later = later; none = refl }
 
 -- the boot begins the session that its guard is seen as, from which the lines are answered
-pub from-boot : {D : Type 0} (faults : D → ℕ) (g : GuardView D) (guard_of : List Rec → View) (places : Places) (held : Option (List ℕ)) (before : ℕ) (J : List Rec) (Writes : Seen → Type 0)
-    → IfTold held (λ bytes. Stands bytes J) → g.state ≡ guard_of (J ++ Boot places ∷ []) → before ≤ faults g.disk → Writes (seen faults g None) → FromBoot guard_of places held before Writes
-from-boot faults g guard_of places held before J Writes stands is later writes = record {
-  start = seen faults g None;
-  begins = starts-run faults g guard_of places held before J stands is later;
-  writes = writes;
-}
+pub from-boot : {D : Type 0} (faults : D → ℕ) (g : GuardView D) (e : AtEntry) (J : List Rec) (Writes : Seen → Type 0)
+    → IfTold e.held (λ bytes. Stands bytes J) → g.state ≡ opened e (J ++ Boot e.places ∷ []) → e.disk_faults ≤ faults g.disk → Writes (seen faults g None) → FromBoot e Writes
+from-boot faults g e J Writes stands is later writes = record { start = seen faults g None; begins = starts-run faults g e J stands is later; writes = writes }
 
 -- a refused boot
 pub refused-boot : (why : BootFault) (status : ℕ) (before after : Option (List ℕ)) → status ≡ boot_status why → WritesBoot why before after → IsUnbooted status before after

@@ -1,13 +1,12 @@
 -- A dispense that its token covers, and a present behind it, are answered `moved` with all of their notes, where no count of faults rises.
 use Rattle.std.specs.Prelude.{◌≡◌, ◌≤◌, ◌⊎◌, ◌+◌, ℕ, false, List, [], ◌∷◌, ◌++◌, length, sum, codes, Some, None}
-use Rattle.std.specs.List.{AllByRecursion}
 use Rattle.xfs_base.specs.Causes.{Rose}
 use Rattle.xfs_base.specs.Counts.{at, LiesIn, IsZero}
 use Rattle.xfs_base.specs.Money.{value}
 use Rattle.xfs_base.specs.declared.counts.Counts.{Counts as CountsOf}
 use Rattle.xfs_token.specs.Token.{Parts, Genuine}
 use Rattle.xfs_token.specs.Amounts.{amount_in, amounts_of}
-use Rattle.xfs_journal.specs.Image.{IsRecord, size}
+use Rattle.xfs_journal.specs.Image.{size}
 use Rattle.xfs_guard.specs.View.{View}
 use Rattle.xfs_guard.specs.Nonce.{live_nonce}
 use Rattle.xfs_guard.specs.Presented.{presented_in}
@@ -25,10 +24,6 @@ pub record IsCalm (s next : Seen) : Type 0 where
   pub mech : ¬ (Rose s.guard.faults next.guard.faults)
   pub disk : ¬ (Rose s.disk_faults next.disk_faults)
 
--- each record of the journal is of the format
-abbrev pub IsOfFormat : Seen → Type 0
-IsOfFormat s = AllByRecursion IsRecord s.guard.records
-
 -- the journal is open, its Boot isn't missing, and so many records and bytes are left of its limits
 pub record HasRoom (v : View) (many long : ℕ) : Type 0 where
   pub open_still : v.shut ≡ false
@@ -45,15 +40,14 @@ pub record IsGood (v : View) (bytes : List ℕ) (amounts : List (List ℕ × ℕ
   pub carried : token.nonce ≡ nonce.text
   pub amounts_are : amounts_of token ≡ Some amounts
 
--- this token is bound to the live nonce, and its amounts are those that are kept
-pub record IsBoundWith (v : View) (bytes : List ℕ) (amounts : List (List ℕ × ℕ)) : Type 0 where
-  pub bound : bound_token v.records ≡ Some bytes
-  pub kept : v.bound ≡ Some amounts
-
 -- no token is bound, and the transport is empty
 pub record IsFree (v : View) : Type 0 where
   pub none : bound_token v.records ≡ None
   pub empty : sum v.places.transport.0 ≡ 0
+
+-- this token is bound to the live nonce, or may be
+abbrev pub IsBindable : View → List ℕ → Type 0
+IsBindable v bytes = (bound_token v.records ≡ Some bytes) ⊎ IsFree v
 
 -- from 1 to 60 notes of units of the table, which lie in the units, and with what was presented and lies on the transport are worth no more than the amounts
 pub record IsCoveredBy (v : View) (amounts : List (List ℕ × ℕ)) (counts : CountsOf) : Type 0 where
@@ -68,7 +62,7 @@ pub record CanDispense (v : View) (bytes : List ℕ) (counts : CountsOf) : Type 
   pub room : HasRoom v 20 4096
   pub amounts : List (List ℕ × ℕ)
   pub good : IsGood v bytes amounts
-  pub binding : IsBoundWith v bytes amounts ⊎ IsFree v
+  pub binding : IsBindable v bytes
   pub covered : IsCoveredBy v amounts counts
 
 -- nothing stands against a present: a nonce lives, a token's amounts are kept, there are notes, and the outlet is empty
@@ -102,6 +96,6 @@ pub record IsPresented (s : Seen) (output : List (List ℕ)) (next : Seen) : Typ
 -- what is answered to a dispense and to a present that nothing stands against, where no count of faults rises
 pub record IsComplete : Type 0 where
   pub dispense : (s next : Seen) (text : List ℕ) (output : List (List ℕ)) (given : Given) (counts : CountsOf) (bytes : List ℕ) (a : AnswersGuard s text output next)
-      → a.verb ≡ Dispense given counts → named s.last given ≡ Some bytes → CanDispense s.guard bytes counts → IsCalm s next → IsOfFormat next → IsDispensed s counts output next
+      → a.verb ≡ Dispense given counts → named s.last given ≡ Some bytes → CanDispense s.guard bytes counts → IsCalm s next → IsDispensed s counts output next
   pub present : (s next : Seen) (text : List ℕ) (output : List (List ℕ)) (a : AnswersGuard s text output next)
       → a.verb ≡ Present → CanPresent s.guard → IsCalm s next → IsPresented s output next

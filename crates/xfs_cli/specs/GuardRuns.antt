@@ -1,5 +1,5 @@
 -- A run of `guard`: the session that its boot begins, and what its last state says of the mechanism and the disk that come back.
-use Rattle.std.specs.Prelude.{◌≡◌, ◌≤◌, ◌⊎◌, ℕ, Bool, false, List, [], ◌∷◌, ◌++◌, codes, None}
+use Rattle.std.specs.Prelude.{◌≡◌, ◌≤◌, ◌⊎◌, ℕ, false, List, [], ◌∷◌, ◌++◌, codes, is_some, None}
 use Rattle.std.specs.declared.option.Option.{Option}
 use Rattle.xfs_base.specs.Causes.{IfTold, Rose}
 use Rattle.xfs_base.specs.declared.counts.Places.{Places}
@@ -11,43 +11,70 @@ use Rattle.xfs_journal.specs.declared.record.Rec.{Rec}
 use Rattle.xfs_journal.specs.declared.record.Rec.TheVariants.{Boot}
 use Rattle.xfs_guard.specs.Continues.{Continues}
 use Rattle.xfs_guard.specs.View.{View}
+use Rattle.xfs_guard.specs.declared.machine_core.Core.{Core}
 use Rattle.xfs_guard.specs.declared.fail.BootFault.{BootFault}
 use Rattle.xfs_guard.specs.declared.open.Open.TheVariants.{No}
 use Rattle.xfs_cli.specs.Boots.{WritesBoot, boot_status}
 use Rattle.xfs_cli.specs.RestartAnswers.{HasNoRoom}
 use Rattle.xfs_cli.specs.Seen.{Seen}
 
--- a guard over a mechanism with these motions, places and faults, whose journal has these records and is open
-abbrev pub opened : List ℕ → List ℕ → List NoteKind → Limits → Option (List Motion) → Places → ℕ → Bool → List Rec → View
-opened key seed units limits motions places faults told records = record {
-  key = key;
-  seed = seed;
-  units = units;
+-- what a command finds at its entry: the key, the seed, the table of the units, the journal's limits, what the mechanism tells, the disk's bytes where it tells them, and how often the disk failed
+pub record AtEntry : Type 0 where
+  pub key : List ℕ
+  pub seed : List ℕ
+  pub units : List NoteKind
+  pub limits : Limits
+  pub motions : Option (List Motion)
+  pub places : Places
+  pub faults : ℕ
+  pub held : Option (List ℕ)
+  pub disk_faults : ℕ
+
+-- the same of the core that it is handed
+abbrev pub at_entry : {M D : Type 0} → (M → Option (List Motion)) → (M → Places) → (M → ℕ) → (D → Option (List ℕ)) → (D → ℕ) → Core M D → AtEntry
+at_entry motions places faults held disk_faults core = record {
+  key = core.key;
+  seed = core.seed;
+  units = core.units;
+  limits = core.limits;
+  motions = motions core.mech;
+  places = places core.mech;
+  faults = faults core.mech;
+  held = held core.disk;
+  disk_faults = disk_faults core.disk;
+}
+
+-- the guard of a boot whose journal has these records then
+abbrev pub opened : AtEntry → List Rec → View
+opened e records = record {
+  key = e.key;
+  seed = e.seed;
+  units = e.units;
   records = records;
   bound = None;
   open_order = No;
-  motions = motions;
-  places = places;
-  faults = faults;
-  limits = limits;
+  motions = e.motions;
+  places = e.places;
+  faults = e.faults;
+  limits = e.limits;
   shut = false;
   boot_missing = false;
   in_doubt = None;
-  disk_told = told;
+  disk_told = is_some e.held;
 }
 
--- the session that the boot begins: the list that the disk had, with a Boot of these places behind it; no token was minted
-pub record IsStart (guard_of : List Rec → View) (places : Places) (held : Option (List ℕ)) (faults : ℕ) (start : Seen) : Type 0 where
+-- the session that the boot begins: the list that the disk had, with a Boot of the mechanism's places behind it; no token was minted
+pub record IsStart (e : AtEntry) (start : Seen) : Type 0 where
   pub records : List Rec
-  pub stands : IfTold held (λ bytes. Stands bytes records)
-  pub guard_is : start.guard ≡ guard_of (records ++ Boot places ∷ [])
-  pub later : faults ≤ start.disk_faults
+  pub stands : IfTold e.held (λ bytes. Stands bytes records)
+  pub guard_is : start.guard ≡ opened e (records ++ Boot e.places ∷ [])
+  pub later : e.disk_faults ≤ start.disk_faults
   pub none : start.last ≡ None
 
 -- the lines are answered from there on
-pub record FromBoot (guard_of : List Rec → View) (places : Places) (held : Option (List ℕ)) (faults : ℕ) (Writes : Seen → Type 0) : Type 0 where
+pub record FromBoot (e : AtEntry) (Writes : Seen → Type 0) : Type 0 where
   pub start : Seen
-  pub begins : IsStart guard_of places held faults start
+  pub begins : IsStart e start
   pub writes : Writes start
 
 -- the mechanism and the disk that come back are those of the last state

@@ -15,7 +15,7 @@ ghost use Rattle.xfs_mech.specs.Moves.{AddsUp, IsNewer};
 ghost use Rattle.xfs_cli.specs.Boots.{EndsFailed, EndsUnread, EndsFull, BootPasses, IsDue, IsNoJournal, IsUnwritten};
 ghost use Rattle.xfs_cli.specs.Answers.{Unsaid, AnyStop, WritesAll, WritesUntil, WritesFront, WritesUsage};
 ghost use Rattle.xfs_cli.specs.GuardLines.{IsLine};
-ghost use Rattle.xfs_cli.specs.GuardRuns.{FromBoot, IsEnd, IsStart, IsStop, IsWithin, IsUnbooted, RunsFull, opened};
+ghost use Rattle.xfs_cli.specs.GuardRuns.{FromBoot, IsEnd, IsStart, IsStop, IsWithin, IsUnbooted, RunsFull, at_entry};
 ghost use Rattle.xfs_cli.specs.Complete.{IsComplete};
 ghost use Rattle.xfs_cli.specs.VerbAnswers.{AnswersGuard};
 ghost use Rattle.xfs_cli.specs.TokenAnswers.{AnswersToken, IsLineOfToken};
@@ -61,9 +61,9 @@ pub fn run<S: Source, K: Sink, M: Mechanism, D: Disk>(
     ensures read { result.status ≡ 3 → Rose (S.faults source.old) (S.faults source.new) }
     ensures write { result.status ≡ 5 → Rose (K.faults sink.old) (K.faults sink.new) }
 
-    ensures boot_disk { result.status ≡ 6 → EndsFailed (D.faults core.disk) (D.faults result.disk) (K.held sink.old) (K.held sink.new) ⊎ FromBoot (opened core.key core.seed core.units core.limits (M.motions core.mech) (M.places core.mech) (M.faults core.mech) (is_some (D.held core.disk))) (M.places core.mech) (D.held core.disk) (D.faults core.disk) (λ _. Rose (D.faults core.disk) (D.faults result.disk)) }
-    ensures not_journal { result.status ≡ 7 → EndsUnread (D.held core.disk) (K.held sink.old) (K.held sink.new) ⊎ FromBoot (opened core.key core.seed core.units core.limits (M.motions core.mech) (M.places core.mech) (M.faults core.mech) (is_some (D.held core.disk))) (M.places core.mech) (D.held core.disk) (D.faults core.disk) (λ _. D.held core.disk ≡ None) }
-    ensures full { result.status ≡ 12 → EndsFull core.limits (M.places core.mech) (D.held core.disk) (K.held sink.old) (K.held sink.new) ⊎ FromBoot (opened core.key core.seed core.units core.limits (M.motions core.mech) (M.places core.mech) (M.faults core.mech) (is_some (D.held core.disk))) (M.places core.mech) (D.held core.disk) (D.faults core.disk) RunsFull }
+    ensures boot_disk { result.status ≡ 6 → EndsFailed (D.faults core.disk) (D.faults result.disk) (K.held sink.old) (K.held sink.new) ⊎ FromBoot (at_entry M.motions M.places M.faults D.held D.faults core) (λ _. Rose (D.faults core.disk) (D.faults result.disk)) }
+    ensures not_journal { result.status ≡ 7 → EndsUnread (D.held core.disk) (K.held sink.old) (K.held sink.new) ⊎ FromBoot (at_entry M.motions M.places M.faults D.held D.faults core) (λ _. D.held core.disk ≡ None) }
+    ensures full { result.status ≡ 12 → EndsFull core.limits (M.places core.mech) (D.held core.disk) (K.held sink.old) (K.held sink.new) ⊎ FromBoot (at_entry M.motions M.places M.faults D.held D.faults core) RunsFull }
     ensures unread { IsGuard words.now → IfTold (D.held core.disk) (λ bytes. IsNoJournal bytes → IsDue 7 result.status) }
     ensures overfull { IsGuard words.now → IfTold (D.held core.disk) (λ bytes. (J : List Rec) → Stands bytes J → BootPasses core.limits (M.places core.mech) J → IsDue 12 result.status) }
 
@@ -74,11 +74,11 @@ pub fn run<S: Source, K: Sink, M: Mechanism, D: Disk>(
     // The lines of `guard`, and what is written: their answers from the boot on, and at most one last line.
     ensures lines { IsGuard words.now → result.status ≡ 0 → IfTold (S.left source.old) AllLines }
     ensures not_a_line { IsGuard words.now → result.status ≡ 4 → IfTold (S.left source.old) StopsAtLine }
-    ensures guard_answers { IsGuard words.now → result.status ≡ 0 → IfTold (S.left source.old) (λ text. FromBoot (opened core.key core.seed core.units core.limits (M.motions core.mech) (M.places core.mech) (M.faults core.mech) (is_some (D.held core.disk))) (M.places core.mech) (D.held core.disk) (D.faults core.disk)
+    ensures guard_answers { IsGuard words.now → result.status ≡ 0 → IfTold (S.left source.old) (λ text. FromBoot (at_entry M.motions M.places M.faults D.held D.faults core)
         (λ start. WritesAll AnswersGuard (IsEnd (M.motions result.mech) (M.places result.mech) (M.faults result.mech) (D.faults result.disk)) start (K.held sink.old) (K.held sink.new) text)) }
-    ensures guard_front { IsGuard words.now → result.status ≡ 5 → IfTold (S.left source.old) (λ text. FromBoot (opened core.key core.seed core.units core.limits (M.motions core.mech) (M.places core.mech) (M.faults core.mech) (is_some (D.held core.disk))) (M.places core.mech) (D.held core.disk) (D.faults core.disk)
+    ensures guard_front { IsGuard words.now → result.status ≡ 5 → IfTold (S.left source.old) (λ text. FromBoot (at_entry M.motions M.places M.faults D.held D.faults core)
         (λ start. WritesFront AnswersGuard (IsWithin (M.faults result.mech) (D.faults result.disk)) start (K.held sink.old) (K.held sink.new) text)) }
-    ensures guard_until { IsGuard words.now → result.status ≢ 0 → result.status ≢ 5 → IfTold (S.left source.old) (λ text. IsUnbooted result.status (K.held sink.old) (K.held sink.new) ⊎ FromBoot (opened core.key core.seed core.units core.limits (M.motions core.mech) (M.places core.mech) (M.faults core.mech) (is_some (D.held core.disk))) (M.places core.mech) (D.held core.disk) (D.faults core.disk)
+    ensures guard_until { IsGuard words.now → result.status ≢ 0 → result.status ≢ 5 → IfTold (S.left source.old) (λ text. IsUnbooted result.status (K.held sink.old) (K.held sink.new) ⊎ FromBoot (at_entry M.motions M.places M.faults D.held D.faults core)
         (λ start. WritesUntil IsLine AnswersGuard (IsStop (M.faults result.mech) (D.faults result.disk)) start result.status (S.left source.new) (K.held sink.old) (K.held sink.new) text)) }
 
     // Of the answers of `guard`: a dispense that its token covers, and a present behind it, are done in full where nothing fails.
@@ -100,7 +100,7 @@ pub fn run<S: Source, K: Sink, M: Mechanism, D: Disk>(
     // The statuses that there are, and a run of `guard` that nothing hinders.
     ensures statuses { IsStatus result.status }
     ensures finishes { IsGuard words.now → ¬ (Rose (S.faults source.old) (S.faults source.new)) → ¬ (Rose (K.faults sink.old) (K.faults sink.new)) → ¬ (Rose (D.faults core.disk) (D.faults result.disk))
-        → IfTold (S.left source.old) (λ text. IfTold (D.held core.disk) (λ bytes. (J : List Rec) → Stands bytes J → IsUnhindered (IsStart (opened core.key core.seed core.units core.limits (M.motions core.mech) (M.places core.mech) (M.faults core.mech) (is_some (D.held core.disk))) (M.places core.mech) (D.held core.disk) (D.faults core.disk)) text core.limits (M.places core.mech) J → IsFinished result.status)) }
+        → IfTold (S.left source.old) (λ text. IfTold (D.held core.disk) (λ bytes. (J : List Rec) → Stands bytes J → IsUnhindered (IsStart (at_entry M.motions M.places M.faults D.held D.faults core)) text core.limits (M.places core.mech) J → IsFinished result.status)) }
 {
     if is_word(words, "guard") {
         return guard(alloc, words, source, sink, core);

@@ -1,6 +1,6 @@
 -- What a token that passes every check carries.
-use Rattle.std.proofs.Common.{◌≡◌, ℕ, ◌+◌, ◌-◌, ◌*◌, Bool, true, false, List, [], ◌∷◌, length, take, None, Some, refl, sym, ◌∙◌, ap, arith}
-use Rattle.std.specs.Prelude.{sum, not, is_none, slice_index, if◌then◌else◌, ◌==◌}
+use Rattle.std.proofs.Common.{◌≡◌, ◌≢◌, ℕ, ◌+◌, ◌-◌, ◌*◌, Bool, true, false, List, [], ◌∷◌, length, take, None, Some, refl, sym, subst, ◌∙◌, ap, arith}
+use Rattle.std.specs.Prelude.{sum, not, is_none, slice_index, unwrap_or, if◌then◌else◌, ◌==◌}
 use Rattle.std.specs.declared.option.Option.{Option}
 use Rattle.std.specs.Borrow.{Bor}
 use Rattle.std.specs.Option.{option_and_then, option_copied}
@@ -10,17 +10,19 @@ use Rattle.std.proofs.lemmas.Slice.Eq.{bytes_eq-Decides}
 use Rattle.xfs_base.specs.Money.{value_at, value_from, value}
 use Rattle.xfs_base.specs.declared.money.NoteKind.{NoteKind}
 use Rattle.xfs_hmac.specs.Hmac.{hmac}
-use Rattle.xfs_token.specs.Token.{Parts}
+use Rattle.xfs_token.specs.Token.{Parts, Spells}
 use Rattle.xfs_token.specs.Amounts.{amounts_of}
+use Rattle.xfs_token.proofs.Whole.{one_token}
 use Rattle.xfs_journal.specs.declared.record.Rec.{Rec}
 use Rattle.xfs_journal.specs.declared.record.Rec.TheVariants.{Issue, Clear, Boot, Bind, Order, Done, Load}
 use Rattle.xfs_journal.specs.Journal.{record_at, live_of, token_of, last_mark, nonce_text}
 use Rattle.xfs_guard.specs.declared.nonce.Nonce.{Nonce}
-use Rattle.xfs_guard.specs.declared.deny.Deny.TheVariants.{WrongNonce, WrongMac, NoAmounts, NotEmpty}
+use Rattle.xfs_guard.specs.declared.deny.Deny.{Deny}
+use Rattle.xfs_guard.specs.declared.deny.Deny.TheVariants.{WrongNonce, WrongMac, NoAmounts, NotEmpty, OtherBound}
 use Rattle.xfs_guard.specs.View.{View}
 use Rattle.xfs_guard.specs.Nonce.{nonce_of, live_nonce}
 use Rattle.xfs_guard.specs.Within.{Carries, HasNonce}
-use Rattle.xfs_guard.specs.Refusals.{Passes, claim_refusal, claim_refusal_at, bind_refusal, bound_token}
+use Rattle.xfs_guard.specs.Refusals.{Passes, claim_refusal, claim_refusal_at, bind_refusal, bound_token, bound_place}
 use Rattle.xfs_guard.specs.declared.open.Open.TheVariants.{No}
 use Rattle.xfs_guard.specs.Presented.{presented_in}
 use Rattle.xfs_guard.specs.Sound.{IsSound}
@@ -118,6 +120,27 @@ IsSound-claim v bytes amounts s none h free =
     IsSound-bind v live.0 bytes h.token amounts s none live.1 unbound (passes-carries v bytes amounts live.0 h live.1) h.amounts_are
     (λ c. let z = empty-transport v bytes amounts c h free in omega (arith, z))
 
+-- where one is bound and a token passes, it is that one, and its amounts are kept
+pub kept-claim : (v : View) (bytes : List ℕ) (amounts : List (List ℕ × ℕ)) → IsSound v → Passes v bytes amounts → bound_token v.records ≢ None → v.bound ≡ Some amounts
+kept-claim v bytes amounts s h again = go live.0 live.1 (token_of v.records live.0) refl
+  where
+    live : (p : ℕ) × (live_of v.records ≡ Some p)
+    live = passes-live v bytes amounts h
+
+    is-same : (t : Bool) (deny : Deny) → (if t then None else Some deny) ≡ None → t ≡ true
+    is-same true deny e = refl
+    is-same false deny e = cc
+
+    go : (p : ℕ) → live_of v.records ≡ Some p → (t : Option (List ℕ)) → token_of v.records p ≡ t → v.bound ≡ Some amounts
+    go p lives None e = absurd (again (ap (λ l. option_and_then (token_of v.records) l) lives ∙ e))
+    go p lives (Some other) e =
+        let f = fine v bytes h.token h.passed in
+        let bound : bound_token v.records ≡ Some other = ap (λ l. option_and_then (token_of v.records) l) lives ∙ e in
+        let is : other ≡ bytes = same-bytes other bytes (is-same (bytes_eq other bytes) (OtherBound (unwrap_or (bound_place v.records) 0)) (rw bound at f.free)) in
+        let funded = s.budget.funded p other lives e in
+        let one = one_token funded.token h.token bytes (subst (Spells funded.token) is funded.carries.genuine.spelled) h.spelled in
+        funded.kept ∙ (sym funded.amounts_are ∙ (ap amounts_of one ∙ h.amounts_are))
+
 -- nothing was presented for a live nonce without a token
 pub fresh-claim : (v : View) (bytes : List ℕ) (amounts : List (List ℕ × ℕ)) → IsSound v → Passes v bytes amounts → bound_token v.records ≡ None → (c : List ℕ) → presented_in v.units v.records c ≡ 0
 fresh-claim v bytes amounts s h free c =
@@ -129,3 +152,8 @@ fresh-claim v bytes amounts s h free c =
 pub copied-none : {T : Type 0} (o : Option (Bor T)) (x : Option T) → option_copied o ≡ x → is_some o ≡ false → x ≡ None
 copied-none None x e none = sym e
 copied-none (Some b) x e none = cc
+
+-- what a reference points to, where there is one
+pub copied-some : {T : Type 0} (o : Option (Bor T)) (x : Option T) → option_copied o ≡ x → is_some o ≡ true → x ≢ None
+copied-some None x e some none = cc
+copied-some (Some b) x e some none = let f = e ∙ none in cc

@@ -26,12 +26,14 @@ abbrev pub kind_unacted : Open → Option Kind
 kind_unacted (Written kind counts) = Some kind
 kind_unacted o = None
 
--- the written order was carried out
+-- the written order was carried out, and its outcome counts the notes of eight units
 pub record Acts (old new : View) (moved diverted : Counts) (failed : Bool) : Type 0 where
   pub kind : Kind
   pub counts : Counts
   pub written : old.open_order ≡ Written kind counts
   pub carried : MayCarry kind counts moved diverted failed
+  pub moved_eight : length moved.0 ≡ 8
+  pub diverted_eight : length diverted.0 ≡ 8
   pub motions : Grows old.motions (Moved (length old.records) kind moved diverted) new.motions
   pub places : PlacesOf old.places (Moved (length old.records) kind moved diverted ∷ []) new.places
   pub same : new ≡ record old { open_order = Acted kind moved diverted failed; motions = new.motions; places = new.places; faults = new.faults }

@@ -80,8 +80,9 @@ pub record IsMisspelled (bytes : List ℕ) (refusal : Deny) : Type 0 where
 abbrev pub TokenRefused : View → List ℕ → Deny → Type 0
 TokenRefused v bytes refusal = (unfit v ≡ Some refusal) ⊎ ((unfit v ≡ None) × (IsMisspelled bytes refusal ⊎ IsRefused v bytes refusal))
 
--- the token is bound where none was yet, and nothing else changes
+-- the token is bound where none was yet, and nothing else changes; its amounts are kept then
 pub record Binds (old new : View) (bytes : List ℕ) (amounts : List (List ℕ × ℕ)) : Type 0 where
+  pub kept : new.bound ≡ Some amounts
   pub first : bound_token old.records ≡ None → new ≡ record old { records = old.records ++ Bind bytes ∷ []; bound = Some amounts }
   pub again : bound_token old.records ≢ None → new ≡ old
 

@@ -10,9 +10,8 @@ ghost use Rattle.xfs_guard.specs.declared.open.Open.TheVariants.{No};
 ghost use Rattle.xfs_guard.specs.Nonce.{live_nonce};
 ghost use Rattle.xfs_guard.specs.Continues.{Continues};
 ghost use Rattle.xfs_guard.specs.Crashed.{LeavesBehind};
-ghost use Rattle.xfs_base.specs.Causes.{IfTold, Rose};
-ghost use Rattle.xfs_disk.specs.Disk.{LeavesOnly};
-ghost use Rattle.xfs_guard.specs.Left.{Leaves, StandsRecorded};
+ghost use Rattle.xfs_base.specs.Causes.{Rose};
+ghost use Rattle.xfs_guard.specs.Left.{Leaves, StaysRecorded};
 ghost use Rattle.xfs_guard.specs.Fits.{unfit};
 ghost use Rattle.xfs_guard.specs.LedgerView.{IsWriteFault};
 ghost use Rattle.xfs_guard.specs.Refusals.{Answers, Passes, TokenRefused, Binds, claim_refusal, bind_refusal, bound_token, over_budget};
@@ -119,7 +118,7 @@ impl<M: Mechanism, D: Disk> Guard<M, D> {
         ensures same { IfErr result (λ e. e ≢ Deny.Disk → self.new ≡ self.old) }
         ensures continues { Continues self.old.state self.new.state }
         ensures crashes { LeavesBehind D.held D.images D.moment D.images_since self.old self.new }
-        ensures any_moment { IfTold (D.held self.old.disk) (λ _. LeavesOnly D.moment D.images_since self.old.disk self.new.disk (StandsRecorded self.old.state.key self.old.state.units self.old.state.motions)) }
+        ensures any_moment { StaysRecorded D.held D.moment D.images_since self.old self.new }
         ensures kept { OnOk result (Leaves (D.held self.new.disk) (D.images self.new.disk) self.new.state.records) }
     {
         let Some(nonce) = self.ledger.live() else {
@@ -152,7 +151,7 @@ impl<M: Mechanism, D: Disk> Guard<M, D> {
         ensures same { IfErr result (λ e. e ≢ Deny.Disk → self.new ≡ self.old) }
         ensures continues { Continues self.old.state self.new.state }
         ensures crashes { LeavesBehind D.held D.images D.moment D.images_since self.old self.new }
-        ensures any_moment { IfTold (D.held self.old.disk) (λ _. LeavesOnly D.moment D.images_since self.old.disk self.new.disk (StandsRecorded self.old.state.key self.old.state.units self.old.state.motions)) }
+        ensures any_moment { StaysRecorded D.held D.moment D.images_since self.old self.new }
         ensures kept { OnOk result (Leaves (D.held self.new.disk) (D.images self.new.disk) self.new.state.records) }
     {
         // Its clause tells what a crash may leave now.

@@ -8,7 +8,7 @@ ghost use Rattle.xfs_guard.specs.declared.open.Open.TheVariants.{No, Written};
 ghost use Rattle.xfs_guard.specs.Nonce.{live_in, live_nonce};
 ghost use Rattle.xfs_guard.specs.Word.{issue_word};
 ghost use Rattle.xfs_guard.specs.Fits.{fit_of, unfit};
-ghost use Rattle.xfs_guard.specs.Left.{EachStands, IsOldOrBooted, Leaves, MayMove, StandsRecorded, StandsThrough};
+ghost use Rattle.xfs_guard.specs.Left.{EachStands, IsOldOrBooted, Leaves, MayMove, StandsRecorded, StaysRecorded, StaysThrough};
 ghost use Rattle.xfs_guard.specs.Lives.{Run, IsLife, answered_in};
 ghost use Rattle.xfs_guard.specs.Stored.{IsStored, MayLeave};
 ghost use Rattle.xfs_guard.specs.Recorded.{IsRecorded};
@@ -282,7 +282,7 @@ impl<M: Mechanism, D: Disk> Guard<M, D> {
         ensures same { IfErr result (λ e. e ≢ Deny.Disk → self.new ≡ self.old) }
         ensures continues { Continues self.old.state self.new.state }
         ensures crashes { LeavesBehind D.held D.images D.moment D.images_since self.old self.new }
-        ensures any_moment { IfTold (D.held self.old.disk) (λ _. LeavesOnly D.moment D.images_since self.old.disk self.new.disk (StandsRecorded self.old.state.key self.old.state.units self.old.state.motions)) }
+        ensures any_moment { StaysRecorded D.held D.moment D.images_since self.old self.new }
         ensures kept { OnOk result (Leaves (D.held self.new.disk) (D.images self.new.disk) self.new.state.records) }
         ensures never_twice { IfOk result (λ n. self.old.state.disk_told ≡ true → (first : List Rec) (runs : List Run) → IsLife first runs self.old.state.records → ¬ Contains (answered_in runs) n.number) }
     {
@@ -307,7 +307,7 @@ impl<M: Mechanism, D: Disk> Guard<M, D> {
         ensures same { result ≢ Ok true → result ≢ Err Deny.Disk → self.new ≡ self.old }
         ensures continues { Continues self.old.state self.new.state }
         ensures crashes { LeavesBehind D.held D.images D.moment D.images_since self.old self.new }
-        ensures any_moment { IfTold (D.held self.old.disk) (λ _. LeavesOnly D.moment D.images_since self.old.disk self.new.disk (StandsRecorded self.old.state.key self.old.state.units self.old.state.motions)) }
+        ensures any_moment { StaysRecorded D.held D.moment D.images_since self.old self.new }
         ensures kept { OnOk result (Leaves (D.held self.new.disk) (D.images self.new.disk) self.new.state.records) }
     {
         if let Some(deny) = self.unfit() {
@@ -336,7 +336,7 @@ impl<M: Mechanism, D: Disk> Guard<M, D> {
         ensures same { IfErr result (λ e. e ≢ Deny.Disk → self.new ≡ self.old) }
         ensures continues { Continues self.old.state self.new.state }
         ensures crashes { LeavesBehind D.held D.images D.moment D.images_since self.old self.new }
-        ensures any_moment { IfTold (D.held self.old.disk) (λ _. LeavesOnly D.moment D.images_since self.old.disk self.new.disk (StandsRecorded self.old.state.key self.old.state.units self.old.state.motions)) }
+        ensures any_moment { StaysRecorded D.held D.moment D.images_since self.old self.new }
         ensures kept { OnOk result (Leaves (D.held self.new.disk) (D.images self.new.disk) self.new.state.records) }
     {
         if let Some(deny) = self.unfit() {
@@ -425,7 +425,7 @@ impl<M: Mechanism, D: Disk> Guard<M, D> {
         ensures same { self.new.disk ≡ self.old.disk }
         ensures continues { Continues self.old.state self.new.state }
         ensures crashes { LeavesBehind D.held D.images D.moment D.images_since self.old self.new }
-        ensures inside { IfTold (D.held self.old.disk) (λ _. LeavesOnly D.moment D.images_since self.old.disk self.new.disk (StandsThrough self.old.state (MayMove self.old.state))) }
+        ensures inside { StaysThrough D.held D.moment D.images_since self.old self.new (MayMove self.old.state) }
     {
         let Open::Written { kind, counts } = self.open_order else {
             unreachable!()
@@ -434,6 +434,8 @@ impl<M: Mechanism, D: Disk> Guard<M, D> {
         let _possible = self.ledger.shut();
         let number = self.ledger.records().len() as u64;
         let outcome = self.mech.execute(MechOrder::new(number, kind, counts));
+        eight(&outcome.moved);
+        eight(&outcome.diverted);
         self.open_order = Open::Acted {
             kind,
             moved: outcome.moved,
@@ -454,7 +456,7 @@ impl<M: Mechanism, D: Disk> Guard<M, D> {
         ensures cause { OnErr result (Rose (D.faults self.old.disk) (D.faults self.new.disk)) }
         ensures continues { Continues self.old.state self.new.state }
         ensures crashes { LeavesBehind D.held D.images D.moment D.images_since self.old self.new }
-        ensures any_moment { IfTold (D.held self.old.disk) (λ _. LeavesOnly D.moment D.images_since self.old.disk self.new.disk (StandsRecorded self.old.state.key self.old.state.units self.old.state.motions)) }
+        ensures any_moment { StaysRecorded D.held D.moment D.images_since self.old self.new }
         ensures kept { OnOk result (Leaves (D.held self.new.disk) (D.images self.new.disk) self.new.state.records) }
     {
         let Open::Acted {

@@ -416,6 +416,7 @@ impl<D: Disk> Ledger<D> {
           room = self.new.room;
           disk = self.new.disk;
         }) }
+        ensures found { result ≡ Err BootFull → IfTold (D.held self.old.disk) (λ all. Stands all self.new.records) }
         ensures disk { result ≡ Err BootDisk → (self.new ≡ record self.old { shut = true; disk = self.new.disk }) ⊎ ((J : List Rec) × IsPossible self.old.records self.old.in_doubt J × (self.new ≡ record self.old {
           records = J;
           bound = None;

@@ -1,7 +1,7 @@
 //! What customers and operators do with notes: the guard's reports of it, and the record of a loading.
 
 ghost use Rattle.std.specs.Prelude.{◌≡◌, ◌≢◌, ◌↔◌, ◌≤◌, true, [], ◌∷◌, ◌++◌, length, Some, Err, OnOk, OnErr, IfOk, IfErr, IsTrue};
-ghost use Rattle.xfs_base.specs.Causes.{IfTold, Rose};
+ghost use Rattle.xfs_base.specs.Causes.{Rose};
 ghost use Rattle.xfs_base.specs.Counts.{LiesIn};
 ghost use Rattle.xfs_base.specs.declared.counts.Kind.TheVariants.{Retract};
 ghost use Rattle.xfs_mech.specs.Mechanism.{CanLoad, Loads};
@@ -12,8 +12,7 @@ ghost use Rattle.xfs_guard.specs.Orders.{kind_unacted};
 ghost use Rattle.xfs_guard.specs.Fits.{unfit};
 ghost use Rattle.xfs_guard.specs.Refusals.{Answers};
 ghost use Rattle.xfs_guard.specs.Reports.{HasReported};
-ghost use Rattle.xfs_guard.specs.Left.{Leaves, MayTake, StandsRecorded, StandsThrough};
-ghost use Rattle.xfs_disk.specs.Disk.{LeavesOnly};
+ghost use Rattle.xfs_guard.specs.Left.{Leaves, MayTake, StaysRecorded, StaysThrough};
 ghost use Rattle.xfs_guard.specs.Continues.{Continues};
 ghost use Rattle.xfs_guard.specs.Crashed.{LeavesBehind};
 
@@ -43,7 +42,7 @@ impl<M: Mechanism, D: Disk> Guard<M, D> {
         ensures same { self.new.disk ≡ self.old.disk }
         ensures continues { Continues self.old.state self.new.state }
         ensures crashes { LeavesBehind D.held D.images D.moment D.images_since self.old self.new }
-        ensures inside { IfTold (D.held self.old.disk) (λ _. LeavesOnly D.moment D.images_since self.old.disk self.new.disk (StandsThrough self.old.state (MayTake self.old.state))) }
+        ensures inside { StaysThrough D.held D.moment D.images_since self.old self.new (MayTake self.old.state) }
     {
         // Its clause tells what a crash may leave now.
         let _possible = self.ledger.shut();
@@ -63,7 +62,7 @@ impl<M: Mechanism, D: Disk> Guard<M, D> {
         ensures same { self.new.disk ≡ self.old.disk }
         ensures continues { Continues self.old.state self.new.state }
         ensures crashes { LeavesBehind D.held D.images D.moment D.images_since self.old self.new }
-        ensures inside { IfTold (D.held self.old.disk) (λ _. LeavesOnly D.moment D.images_since self.old.disk self.new.disk (StandsThrough self.old.state (λ entry. entry ≡ Loaded unit count))) }
+        ensures inside { StaysThrough D.held D.moment D.images_since self.old self.new (λ entry. entry ≡ Loaded unit count) }
     {
         // Its clause tells what a crash may leave now.
         let _possible = self.ledger.shut();
@@ -85,7 +84,7 @@ impl<M: Mechanism, D: Disk> Guard<M, D> {
         ensures same { IfErr result (λ e. e ≢ Deny.Disk → self.new ≡ self.old) }
         ensures continues { Continues self.old.state self.new.state }
         ensures crashes { LeavesBehind D.held D.images D.moment D.images_since self.old self.new }
-        ensures any_moment { IfTold (D.held self.old.disk) (λ _. LeavesOnly D.moment D.images_since self.old.disk self.new.disk (StandsRecorded self.old.state.key self.old.state.units self.old.state.motions)) }
+        ensures any_moment { StaysRecorded D.held D.moment D.images_since self.old self.new }
         ensures kept { OnOk result (Leaves (D.held self.new.disk) (D.images self.new.disk) self.new.state.records) }
     {
         if let Some(deny) = self.unfit() {

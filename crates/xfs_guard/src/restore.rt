@@ -8,10 +8,9 @@ ghost use Rattle.xfs_journal.specs.declared.record.Rec.{Rec};
 ghost use Rattle.xfs_journal.specs.declared.record.Rec.TheVariants.{Boot};
 ghost use Rattle.xfs_guard.specs.declared.fail.BootFault.TheVariants.{NotJournal, Disk as BootDisk, Full as BootFull, Memory as BootMemory};
 ghost use Rattle.xfs_guard.specs.declared.open.Open.TheVariants.{No};
-ghost use Rattle.xfs_disk.specs.Disk.{LeavesOnly};
 ghost use Rattle.xfs_guard.specs.Continues.{Continues};
 ghost use Rattle.xfs_guard.specs.Crashed.{LeavesBehind};
-ghost use Rattle.xfs_guard.specs.Left.{StandsRecorded};
+ghost use Rattle.xfs_guard.specs.Left.{StaysRecorded};
 
 use crate::{BootFault, Guard};
 use xfs_disk::Disk;
@@ -42,6 +41,7 @@ impl<M: Mechanism, D: Disk> Guard<M, D> {
           boot_missing = true;
           in_doubt = None;
         }) }
+        ensures found { result ≡ Err BootFull → IfTold (D.held self.old.disk) (λ all. Stands all self.new.state.records) }
         ensures disk { result ≡ Err BootDisk → (self.new.state ≡ record self.old.state { shut = true }) ⊎ ((J : List Rec) × IsPossible self.old.state.records self.old.state.in_doubt J × (self.new.state ≡ record self.old.state {
           records = J;
           bound = None;
@@ -54,7 +54,7 @@ impl<M: Mechanism, D: Disk> Guard<M, D> {
         ensures cause { result ≡ Err BootDisk → Rose (D.faults self.old.disk) (D.faults self.new.disk) }
         ensures continues { Continues self.old.state self.new.state }
         ensures crashes { LeavesBehind D.held D.images D.moment D.images_since self.old self.new }
-        ensures any_moment { IfTold (D.held self.old.disk) (λ _. LeavesOnly D.moment D.images_since self.old.disk self.new.disk (StandsRecorded self.old.state.key self.old.state.units self.old.state.motions)) }
+        ensures any_moment { StaysRecorded D.held D.moment D.images_since self.old self.new }
     {
         let places = self.mech.survey();
         self.ledger.restore(places)

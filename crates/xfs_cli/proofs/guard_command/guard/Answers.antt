@@ -35,7 +35,7 @@ returns-in-Err-clause-full g c = λ twelve. inl (ends-full _ _ _ _ _ _ _ c.unboo
 
 pub returns-in-Ok-clause-boot_disk : goal.returns-in-Ok-clause-boot_disk
 returns-in-Ok-clause-boot_disk g c = λ six.
-    let ok = c.in-Ok.ensures.ok in inr (from-boot g.D.Disk.faults c.in-Ok.guard _ _ _ _ ok.0 (λ s. Rose (g.D.Disk.faults c.args.core.disk) (g.D.Disk.faults c.ended-mech.result.1)) ok.1 ok.2 c.in-Ok.ensures.faults
+    let ok = c.in-Ok.ensures.ok in inr (from-boot g.D.Disk.faults c.in-Ok.guard _ ok.0 (λ s. Rose (g.D.Disk.faults c.args.core.disk) (g.D.Disk.faults c.ended-mech.result.1)) ok.1 ok.2 c.in-Ok.ensures.faults
     (rw c.ended-mech.ensures.disk (rose-later _ _ _ c.in-Ok.ensures.faults (c.serve-status.ensures.failed six))))
 
 pub returns-in-Err-clause-boot_disk : goal.returns-in-Err-clause-boot_disk
@@ -43,12 +43,12 @@ returns-in-Err-clause-boot_disk g c = λ six. inl (ends-failed _ _ _ _ _ _ c.unb
 
 pub returns-in-Ok-clause-not_journal : goal.returns-in-Ok-clause-not_journal
 returns-in-Ok-clause-not_journal g c = λ seven.
-    let ok = c.in-Ok.ensures.ok in inr (from-boot g.D.Disk.faults c.in-Ok.guard _ _ _ _ ok.0 (λ s. g.D.Disk.held c.args.core.disk ≡ None) ok.1 ok.2 c.in-Ok.ensures.faults
+    let ok = c.in-Ok.ensures.ok in inr (from-boot g.D.Disk.faults c.in-Ok.guard _ ok.0 (λ s. g.D.Disk.held c.args.core.disk ≡ None) ok.1 ok.2 c.in-Ok.ensures.faults
     (none-told _ (rw ok.2 at c.serve-status.ensures.untold seven)))
 
 pub returns-in-Ok-clause-full : goal.returns-in-Ok-clause-full
 returns-in-Ok-clause-full g c = λ twelve.
-    let ok = c.in-Ok.ensures.ok in inr (from-boot g.D.Disk.faults c.in-Ok.guard _ _ _ _ ok.0 RunsFull ok.1 ok.2 c.in-Ok.ensures.faults (c.serve-status.ensures.full twelve))
+    let ok = c.in-Ok.ensures.ok in inr (from-boot g.D.Disk.faults c.in-Ok.guard _ ok.0 RunsFull ok.1 ok.2 c.in-Ok.ensures.faults (c.serve-status.ensures.full twelve))
 
 pub returns-in-Err-clause-overfull : goal.returns-in-Err-clause-overfull
 returns-in-Err-clause-overfull g c = λ guard. due-full _ _ _ _ _ c.unbooted.ensures.status c.in-Err.ensures.not_journal
@@ -61,7 +61,7 @@ returns-in-Ok-clause-answers g c = λ zero.
     let ok = c.in-Ok.ensures.ok in
     let e = c.ended-mech.ensures in
     let faults = g.D.Disk.faults in
-    told-more _ _ _ (λ text writes. from-boot faults c.in-Ok.guard _ _ _ _ ok.0 _ ok.1 ok.2 c.in-Ok.ensures.faults
+    told-more _ _ _ (λ text writes. from-boot faults c.in-Ok.guard _ ok.0 _ ok.1 ok.2 c.in-Ok.ensures.faults
     (all-ends AnswersGuard _ _ _ _ _ text (ends-at faults c.serve-status.new.session.guard c.serve-status.new.session.last _ _ _ _ e.motions e.places e.faults e.disk) writes)) (c.serve-status.ensures.answers zero)
 
 pub returns-in-Ok-clause-front : goal.returns-in-Ok-clause-front
@@ -69,7 +69,7 @@ returns-in-Ok-clause-front g c = λ five.
     let ok = c.in-Ok.ensures.ok in
     let e = c.ended-mech.ensures in
     let faults = g.D.Disk.faults in
-    told-more _ _ _ (λ text writes. from-boot faults c.in-Ok.guard _ _ _ _ ok.0 _ ok.1 ok.2 c.in-Ok.ensures.faults
+    told-more _ _ _ (λ text writes. from-boot faults c.in-Ok.guard _ ok.0 _ ok.1 ok.2 c.in-Ok.ensures.faults
     (front-ends AnswersGuard _ _ _ _ _ text (ends-within faults c.serve-status.new.session.guard c.serve-status.new.session.last _ _ e.faults e.disk) writes)) (c.serve-status.ensures.front five)
 
 pub returns-in-Ok-clause-until : goal.returns-in-Ok-clause-until
@@ -77,7 +77,7 @@ returns-in-Ok-clause-until g c = λ not_zero not_two not_five.
     let ok = c.in-Ok.ensures.ok in
     let e = c.ended-mech.ensures in
     let faults = g.D.Disk.faults in
-    told-more _ _ _ (λ text writes. inr (from-boot faults c.in-Ok.guard _ _ _ _ ok.0 _ ok.1 ok.2 c.in-Ok.ensures.faults
+    told-more _ _ _ (λ text writes. inr (from-boot faults c.in-Ok.guard _ ok.0 _ ok.1 ok.2 c.in-Ok.ensures.faults
     (until-stops IsLine AnswersGuard _ _ _ _ _ _ _ text (stops-at faults c.serve-status.new.session.guard _ _ e.faults e.disk) writes))) (c.serve-status.ensures.until not_zero not_five)
 
 pub returns-in-Err-clause-until : goal.returns-in-Err-clause-until
@@ -108,7 +108,7 @@ returns-in-Ok-clause-finishes g c =
     λ guard. finishes _ _ _ (g.S.Source.left c.serve-status.new.source) _ _ _ _ _ _ (causes-served _ _ _ _ _ _ _ _ _ _ end.statuses end.usage
     (λ six. rw c.ended-mech.ensures.disk (rose-later _ _ _ c.in-Ok.ensures.faults (end.failed six)))
     (λ seven. none-told _ (rw c.in-Ok.ensures.ok.2 at end.untold seven))
-    (λ twelve. full-line _ IsLine _ _ _ _ _ _ _ _ (starts-run g.D.Disk.faults c.in-Ok.guard _ _ _ _ c.in-Ok.ensures.ok.0 c.in-Ok.ensures.ok.1 c.in-Ok.ensures.ok.2 c.in-Ok.ensures.faults) (end.until (λ e. omega (arith, twelve, e)) (λ e. omega (arith, twelve, e))) twelve) end.read end.not_a_line end.write end.quota)
+    (λ twelve. full-line _ IsLine _ _ _ _ _ _ _ _ (starts-run g.D.Disk.faults c.in-Ok.guard _ c.in-Ok.ensures.ok.0 c.in-Ok.ensures.ok.1 c.in-Ok.ensures.ok.2 c.in-Ok.ensures.faults) (end.until (λ e. omega (arith, twelve, e)) (λ e. omega (arith, twelve, e))) twelve) end.read end.not_a_line end.write end.quota)
 
 pub returns-in-Err-clause-finishes : goal.returns-in-Err-clause-finishes
 returns-in-Err-clause-finishes g c =

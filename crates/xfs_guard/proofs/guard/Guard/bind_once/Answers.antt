@@ -1,15 +1,26 @@
-use Rattle.std.proofs.Common.{◌≡◌, ◌≤◌, ◌∙◌, length, sym, None, Some, arith, refl}
+use Rattle.std.proofs.Common.{◌≡◌, ◌≢◌, ◌≤◌, ◌∙◌, length, sym, None, Some, arith, refl}
 use Rattle.xfs_journal.specs.Image.{body}
 use Rattle.xfs_journal.specs.declared.record.Rec.TheVariants.{Bind}
 use Rattle.xfs_guard.specs.declared.open.Open.TheVariants.{No}
 use Rattle.xfs_guard.specs.Refusals.{bound_token}
-use Rattle.xfs_guard.proofs.ClaimLaws.{IsSound-claim, copied-none}
+use Rattle.xfs_guard.proofs.ClaimLaws.{IsSound-claim, kept-claim, copied-none, copied-some}
 use Rattle.xfs_guard.proofs.ContinueLaws.{Continues-written, Continues-same}
 use Rattle.xfs_guard.proofs.KeptLaws.{IsKept-open, IsKept-refused, Continues-refused}
 use Rattle.xfs_guard.proofs.SizeLaws.{fit-at, takes-one, may-write}
 use Rattle.xfs_guard.proofs.LeftLaws.{left-written}
 use Rattle.xfs_guard.proofs.BehindLaws.{behind-refused, behind-written}
 use Rattle.xfs_guard.proofs.guard.Guard.bind_once.Goals as goal
+
+pub returns-then-is_some-clause-ok : goal.returns-then-is_some-clause-ok
+returns-then-is_some-clause-ok g c =
+    let passes = rw (← c.self.view_is, ← c.claim.view_is) at c.requires.passes in
+    let fit = fit-at _ _ c.self.view_is c.requires.passes.fit in
+    let there : bound_token c.self.inside.ledger.records ≢ None = copied-some c.token.result _ c.token.ensures (sym c.is_some.ensures ∙ c.if-is_some.true) in
+    rw (← c.self.view_is, ← c.claim.view_is) (record {
+      kept = kept-claim _ c.claim.inside.token c.claim.inside.amounts (c.self.invariant.sound fit.0 fit.2) passes there;
+      first = λ none. absurd (there none);
+      again = λ some. refl;
+    })
 
 pub returns-then-is_some-clause-continues : goal.returns-then-is_some-clause-continues
 returns-then-is_some-clause-continues g c = Continues-same _
