@@ -37,6 +37,7 @@ impl Currency {
         }
     }
 
+    /// The three letters, A to Z, as in ISO 4217's alphabetic codes.
     pub fn letters(self) -> [u8; 3]
         ensures now { result ≡ self }
         ensures valid { IsCurrency result }

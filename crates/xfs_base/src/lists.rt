@@ -17,18 +17,21 @@ impl Model for Bytes {
 }
 
 impl Bytes {
+    /// Takes the list over.
     pub fn new(list: Vec<u8>) -> Bytes
         ensures { result ≡ list.items }
     {
         Bytes { list }
     }
 
+    /// The bytes, lent.
     pub fn list(&self) -> &[u8]
         ensures { result.now ≡ self.now }
     {
         &self.list
     }
 
+    /// Gives the list back.
     pub fn into_list(self) -> Vec<u8>
         ensures { result.items ≡ self }
     {
@@ -51,18 +54,21 @@ impl Model for Numbers {
 }
 
 impl Numbers {
+    /// Takes the list over.
     pub fn new(list: Vec<u64>) -> Numbers
         ensures { result ≡ list.items }
     {
         Numbers { list }
     }
 
+    /// The numbers, lent.
     pub fn list(&self) -> &[u64]
         ensures { result.now ≡ self.now }
     {
         &self.list
     }
 
+    /// Gives the list back.
     pub fn into_list(self) -> Vec<u64>
         ensures { result.items ≡ self }
     {

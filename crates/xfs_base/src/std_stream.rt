@@ -9,6 +9,7 @@ pub struct StdSource<R: Read + Drop> {
 }
 
 impl<R: Read + Drop> StdSource<R> {
+    /// Over this reader. Its count of faults begins at 0.
     pub fn new(inner: R) -> Self {
         StdSource { inner, faults: 0 }
     }
@@ -38,6 +39,7 @@ pub struct StdSink<W: Write + Drop> {
 }
 
 impl<W: Write + Drop> StdSink<W> {
+    /// Over this writer. Its count of faults begins at 0.
     pub fn new(inner: W) -> Self {
         StdSink { inner, faults: 0 }
     }

@@ -20,6 +20,7 @@ pub struct FailDisk {
 impl FailDisk {
     ghost use Rattle.xfs_disk.specs.Wrapped.{failing_inner};
 
+    /// Over this disk in memory. `failing` has the places, from 1, of the calls that fail.
     pub fn new(inner: MemDisk, failing: Vec<u64>) -> FailDisk
         ensures inner { failing_inner result ≡ inner }
     {

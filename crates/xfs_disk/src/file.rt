@@ -17,6 +17,7 @@ pub struct FileDisk {
 }
 
 impl FileDisk {
+    /// Over this open file, whose bytes are the disk's. Its count of faults begins at 0.
     pub fn new(file: File) -> FileDisk {
         FileDisk { file, faults: 0 }
     }

@@ -19,6 +19,7 @@ pub struct FuseDisk {
 impl FuseDisk {
     ghost use Rattle.xfs_disk.specs.Wrapped.{fuse_inner};
 
+    /// Over this disk in memory. So many calls are passed on to it.
     pub fn new(inner: MemDisk, calls: u64) -> FuseDisk
         ensures inner { fuse_inner result ≡ inner }
     {

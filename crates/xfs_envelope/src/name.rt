@@ -33,6 +33,7 @@ impl Model for Name {
 }
 
 impl Name {
+    /// The name with this text. `Form` exactly where the text has another form.
     pub fn new(alloc: Global, text: &[u8]) -> Result<Name, NameFault>
         ensures text { IfOk result (λ n. n ≡ text.now) }
         ensures name { OnOk result (IsTrue (is_name text.now)) }
@@ -58,6 +59,7 @@ impl Name {
         }
     }
 
+    /// The name's text.
     pub fn as_str(&self) -> &str
         ensures text { result.now ≡ self.now }
         ensures name { IsTrue (is_name self.now) }

@@ -16,6 +16,7 @@ block_key k = shortened k ++ replicate (64 - length (shortened k)) 0
 abbrev pub masked : ℕ → List ℕ → List ℕ
 masked mask k = map (λ b. bit_xor b mask) (block_key k)
 
+-- H(K xor opad, H(K xor ipad, message)), as in RFC 2104, section 2
 unfoldable pub hmac : List ℕ → List ℕ → List ℕ
 hmac k m = sha256 (masked 0x5c k ++ sha256 (masked 0x36 k ++ m))
 

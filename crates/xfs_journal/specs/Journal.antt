@@ -17,6 +17,7 @@ pub record Reading : Type 0 where
   pub count : ℕ
   pub live : Option ℕ
 
+-- the live issue after one more record: an Issue lives from its place on, and a Clear or a Boot ends it
 abbrev pub live_after : ℕ → Option ℕ → Rec → Option ℕ
 live_after count live (Issue number word) = Some (count + 1)
 live_after count live Clear = None
@@ -52,7 +53,7 @@ abbrev pub first_place : Option ℕ → ℕ → Option ℕ
 first_place None place = Some place
 first_place (Some q) place = Some q
 
--- the token that was bound first while the issue at p lived
+-- how far the records were read, and the token that was found
 pub record Finding : Type 0 where
   pub read : Reading
   pub token : Option (List ℕ)
@@ -65,6 +66,7 @@ found_after p f r = f.token
 abbrev pub finding_after : ℕ → Finding → Rec → Finding
 finding_after p f r = record { read = reading_after f.read r; token = found_after p f r }
 
+-- the token that was bound first while the issue at p lived
 abbrev pub token_of : List Rec → ℕ → Option (List ℕ)
 token_of records p = (fold (finding_after p) (record { read = nothing_read; token = None }) records).token
 
@@ -86,6 +88,7 @@ abbrev pub CarriesNumber : ℕ → Rec → Type 0
 CarriesNumber n (Issue number word) = number ≡ n
 CarriesNumber n r = ⊤
 
+-- each Issue carries one more than the number of Issues before it
 abbrev pub Numbered : List Rec → Type 0
 Numbered records = Walk next_number CarriesNumber 1 records
 
@@ -111,7 +114,7 @@ marking_after m rec = record { count = m.count + 1; mark = mark_after m.count m.
 abbrev pub last_mark : List Rec → ℕ
 last_mark records = (fold marking_after (record { count = 0; mark = 0 }) records).mark
 
--- the number of the record that bound a token first while the issue at p lived
+-- how far the records were read, and the number of the Bind that was found
 pub record Binding : Type 0 where
   pub read : Reading
   pub place : Option ℕ
@@ -124,5 +127,6 @@ bound_after p f r = f.place
 abbrev pub binding_after : ℕ → Binding → Rec → Binding
 binding_after p f r = record { read = reading_after f.read r; place = bound_after p f r }
 
+-- the number of the record that bound a token first while the issue at p lived
 abbrev pub bind_of : List Rec → ℕ → Option ℕ
 bind_of records p = (fold (binding_after p) (record { read = nothing_read; place = None }) records).place

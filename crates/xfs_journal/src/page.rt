@@ -7,8 +7,6 @@ use std::marker::Model;
 use xfs_base::Failed;
 use xfs_disk::Disk;
 
-const SIZE: usize = 4096;
-
 /// The bytes of a disk from a place on, as far as they were read.
 #[derive(Drop)]
 pub(crate) struct Page {

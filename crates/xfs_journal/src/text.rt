@@ -30,6 +30,7 @@ impl Text {
         Some(Text { list: bytes })
     }
 
+    /// The bytes, lent.
     pub fn bytes(&self) -> &[u8]
         ensures now { result.now ≡ self.now }
         ensures low { 1 ≤ length self.now }

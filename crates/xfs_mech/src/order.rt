@@ -27,18 +27,21 @@ impl Order {
         }
     }
 
+    /// The number of the order's record in the journal.
     pub fn number(&self) -> u64
         ensures { result ≡ number_of self.now }
     {
         self.number
     }
 
+    /// Which places the notes go from and to.
     pub fn kind(&self) -> Kind
         ensures { result ≡ kind_of self.now }
     {
         self.kind
     }
 
+    /// The notes that are asked for, unit by unit.
     pub fn counts(&self) -> Counts
         ensures { result ≡ counts_of self.now }
     {

@@ -11,6 +11,7 @@ impl SilentMech {
     ghost use Rattle.std.specs.Prelude.{◌≡◌};
     ghost use Rattle.xfs_mech.specs.Sim.{inner_of};
 
+    /// Over this mechanism, whose list it hides.
     pub fn new(inner: SimMech) -> SilentMech
         ensures { inner_of result ≡ inner }
     {

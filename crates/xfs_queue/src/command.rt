@@ -81,6 +81,7 @@ impl Ticket {
 }
 
 impl<J> Command<J> {
+    /// The client and the request id, which together name the command.
     pub fn ticket(&self) -> Ticket
         ensures { result ≡ ticket_of self.now }
     {

@@ -46,6 +46,7 @@ impl<J> Queue<J> {
     ghost use Rattle.xfs_queue.specs.declared.command.Stage.TheVariants.{Waiting, Running, Ready};
     ghost use Rattle.xfs_queue.specs.declared.command.Line.TheVariants.{Device};
 
+    /// A queue without commands. It takes no memory.
     pub fn new(alloc: Global) -> Queue<J>
         ensures { result ≡ [] }
     {

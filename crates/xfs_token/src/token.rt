@@ -33,7 +33,8 @@ impl From<AllocError> for BuildFault {
     }
 }
 
-/// A token's parts: its nonce, its pairs of key and value, and its HMAC.
+/// A token's parts: its nonce, its pairs of key and value, and its HMAC. Its text is this project's
+/// profile (docs/FORMATS.md) of the end-to-end security token of CWA XFS4IoT.
 #[derive(Drop)]
 pub struct Token {
     nonce: Vec<u8>,
@@ -112,12 +113,14 @@ impl Token {
         Ok(())
     }
 
+    /// Sets the HMAC, whatever it is; `genuine` says whether it is that of the token's bytes.
     pub fn set_mac(&mut self, mac: [u8; 32])
         ensures { self.new ≡ record self.old { mac = mac } }
     {
         self.mac = mac;
     }
 
+    /// The nonce: 1 to 128 upper-case hexadecimal digits.
     pub fn nonce(&self) -> &[u8]
         ensures { result.now ≡ self.now.nonce }
     {
@@ -147,6 +150,7 @@ impl Token {
         &self.pairs[i].value
     }
 
+    /// The HMAC that the token carries.
     pub fn mac(&self) -> [u8; 32]
         ensures { result ≡ self.now.mac }
     {

@@ -29,6 +29,7 @@ impl Model for Book {
 }
 
 impl Book {
+    /// Over these units, with these notes in their places.
     pub fn new(units: UnitTable, places: Places) -> Book
         requires { PlacesFit units places }
         ensures units { result.units ≡ units }
