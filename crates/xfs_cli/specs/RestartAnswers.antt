@@ -4,15 +4,11 @@ use Rattle.xfs_base.specs.Causes.{Rose}
 use Rattle.xfs_journal.specs.JournalView.{IsPossible, passes}
 use Rattle.xfs_journal.specs.declared.record.Rec.{Rec}
 use Rattle.xfs_journal.specs.declared.record.Rec.TheVariants.{Boot}
-use Rattle.xfs_guard.specs.View.{View}
+use Rattle.xfs_guard.specs.View.{View, restarted}
 use Rattle.xfs_guard.specs.declared.fail.BootFault.{BootFault}
 use Rattle.xfs_guard.specs.declared.fail.BootFault.TheVariants.{NotJournal, Disk, Full, Memory}
 use Rattle.xfs_cli.specs.Boots.{BootPasses}
 use Rattle.xfs_cli.specs.Seen.{Seen, Becomes}
-
--- a guard whose journal was read as this list, with a Boot of the mechanism's places behind it
-abbrev pub restarted : View → List Rec → View
-restarted v records = record v { records = records ++ Boot v.places ∷ []; bound = None; shut = false; boot_missing = false; in_doubt = None }
 
 -- the journal is read as the kept list, or as that one with the record in doubt, and its Boot passes no limit; the token that was minted last stays
 pub record Restarts (s : Seen) (line : List ℕ) (next : Seen) : Type 0 where

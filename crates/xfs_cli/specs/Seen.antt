@@ -1,9 +1,10 @@
 -- What is seen of a session of `guard`, and how a call of its guard may change it.
-use Rattle.std.specs.Prelude.{◌≡◌, ◌≤◌, ℕ, true, List, Some}
+use Rattle.std.specs.Prelude.{◌≡◌, ◌≤◌, ℕ, List}
 use Rattle.std.specs.declared.option.Option.{Option}
 use Rattle.xfs_base.specs.Causes.{Rose}
 use Rattle.xfs_journal.specs.declared.record.Rec.{Rec}
 use Rattle.xfs_guard.specs.View.{View, GuardView}
+pub use Rattle.xfs_guard.specs.View.{shut_at}
 
 -- a session: its guard, how often its disk failed, and the token that was minted last
 pub record Seen : Type 0 where
@@ -30,7 +31,3 @@ pub record Becomes (old : Seen) (now : View) (new : Seen) : Type 0 where
 pub record Fails (old : Seen) (now : View) (new : Seen) : Type 0 where
   pub becomes : Becomes old now new
   pub cause : Rose old.disk_faults new.disk_faults
-
--- a guard whose journal is shut, with this record in doubt
-abbrev pub shut_at : Rec → View → View
-shut_at r v = record v { shut = true; in_doubt = Some r }

@@ -1,5 +1,5 @@
 -- What a token that passes every check carries.
-use Rattle.std.proofs.Common.{◌≡◌, ◌≢◌, ℕ, ◌+◌, ◌-◌, ◌*◌, Bool, true, false, List, [], ◌∷◌, length, take, None, Some, refl, sym, subst, ◌∙◌, ap, arith}
+use Rattle.std.proofs.Common.{◌≡◌, ◌≢◌, ◌≤◌, ℕ, ◌+◌, ◌-◌, ◌*◌, Bool, true, false, List, [], ◌∷◌, length, take, None, Some, refl, sym, subst, ◌∙◌, ap, arith}
 use Rattle.std.specs.Prelude.{sum, not, is_none, slice_index, unwrap_or, if◌then◌else◌, ◌==◌}
 use Rattle.std.specs.declared.option.Option.{Option}
 use Rattle.std.specs.Borrow.{Bor}
@@ -13,6 +13,7 @@ use Rattle.xfs_hmac.specs.Hmac.{hmac}
 use Rattle.xfs_token.specs.Token.{Parts, Spells}
 use Rattle.xfs_token.specs.Amounts.{amounts_of}
 use Rattle.xfs_token.proofs.Whole.{one_token}
+use Rattle.xfs_token.proofs.Written.{length-form}
 use Rattle.xfs_journal.specs.declared.record.Rec.{Rec}
 use Rattle.xfs_journal.specs.declared.record.Rec.TheVariants.{Issue, Clear, Boot, Bind, Order, Done, Load}
 use Rattle.xfs_journal.specs.Journal.{record_at, live_of, token_of, last_mark, nonce_text}
@@ -119,6 +120,13 @@ IsSound-claim v bytes amounts s none h free =
     let unbound : token_of v.records live.0 ≡ None = sym (ap (λ l. option_and_then (token_of v.records) l) live.1) ∙ free in
     IsSound-bind v live.0 bytes h.token amounts s none live.1 unbound (passes-carries v bytes amounts live.0 h live.1) h.amounts_are
     (λ c. let z = empty-transport v bytes amounts c h free in omega (arith, z))
+
+-- a text that spells a token has an HMAC's field at its end
+pub spelled-long : (t : Parts) (bytes : List ℕ) → Spells t bytes → 76 ≤ length bytes
+spelled-long t bytes s =
+    let l = length-form t (length bytes) s.formed.mac.long in
+    let e = ap length s.text in
+    omega (arith, l, e)
 
 -- where one is bound and a token passes, it is that one, and its amounts are kept
 pub kept-claim : (v : View) (bytes : List ℕ) (amounts : List (List ℕ × ℕ)) → IsSound v → Passes v bytes amounts → bound_token v.records ≢ None → v.bound ≡ Some amounts

@@ -16,6 +16,7 @@ use Rattle.xfs_journal.specs.declared.record.Rec.TheVariants.{Boot}
 use Rattle.xfs_journal.specs.Journal.{Numbered}
 use Rattle.xfs_guard.specs.declared.open.Open.{Open}
 use Rattle.xfs_guard.specs.declared.open.Open.TheVariants.{No, Written, Acted}
+pub use Rattle.xfs_guard.specs.View.{over}
 use Rattle.xfs_guard.specs.View.{View}
 use Rattle.xfs_guard.specs.Agrees.{Agrees}
 use Rattle.xfs_guard.specs.Within.{Within}
@@ -107,25 +108,6 @@ IsKept-doubted v r w o spare left kinds s t units = record {
   where
     some : (x : Rec) → Some r ≡ Some x → r ≡ x
     some x e = cc
-
--- a guard's view with what this ledger has
-abbrev pub over : {D : Type 0} → List ℕ → List ℕ → Open → Option (List Motion) → Places → ℕ → LedgerView D → Bool → View
-over key seed o motions places faults l told = record {
-  key = key;
-  seed = seed;
-  units = l.units;
-  records = l.records;
-  bound = l.bound;
-  open_order = o;
-  motions = motions;
-  places = places;
-  faults = faults;
-  limits = l.limits;
-  shut = l.shut;
-  boot_missing = l.boot_missing;
-  in_doubt = l.in_doubt;
-  disk_told = told;
-}
 
 -- a call that writes and has no order open, where memory ran out or the disk failed
 pub IsKept-refused : (T : Type 0) {D : Type 0} (e : Deny) (key seed : List ℕ) (o : Open) (motions : Option (List Motion)) (places : Places) (faults : ℕ) (old new : LedgerView D) (r : Rec)

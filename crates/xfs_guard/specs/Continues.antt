@@ -28,6 +28,7 @@ pub record Comes (old new : View) (before now : List Motion) (records : List Rec
   pub possible : IsPossible old.records old.in_doubt from
   pub led : IsKnown from before → Led from before old.places records now new.places
 
+-- each possible list now comes from one of before; a list of motions is told in both states or in neither
 abbrev pub Leads : View → View → Option (List Motion) → Option (List Motion) → Type 0
 Leads old new None None = ⊤
 Leads old new None (Some now) = ⊥

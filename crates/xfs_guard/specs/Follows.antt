@@ -17,7 +17,6 @@ pub record BootFits (old : Places) (motions : List Motion) (n : ℕ) (places : P
   pub before : AllByRecursion (NumberIs (λ k. k ≤ n)) front
   pub after : AllByRecursion (NumberIs (λ k. n ≤ k)) back
 
--- what happened since an earlier state: the lists grew, and the places are those that the new motions lead to
 pub record Follows (records : List Rec) (motions : List Motion) (places : Places) (records' : List Rec) (motions' : List Motion) (places' : Places) : Type 0 where
   pub recs : List Rec
   pub moves : List Motion

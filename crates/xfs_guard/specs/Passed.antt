@@ -1,7 +1,9 @@
 -- In which currency counts pass the amounts of a token.
-use Rattle.std.specs.Prelude.{ℕ, ◌+◌, ◌-◌, ◌*◌, nat_lt, Bool, List, [], ◌∷◌, slice_index, Some, None, if◌then◌else◌}
+use Rattle.std.specs.Prelude.{ℕ, ◌+◌, ◌-◌, nat_lt, Bool, List, [], ◌∷◌, Some, None, if◌then◌else◌}
 use Rattle.std.specs.declared.option.Option.{Option}
 use Rattle.std.specs.Option.{option_map}
+use Rattle.std.specs.Cmp.Lexicographic.{slice_cmp}
+use Rattle.std.specs.Ordering.{is_lt, nat_cmp}
 use Rattle.xfs_base.specs.Money.{value}
 use Rattle.xfs_base.specs.declared.counts.Counts.{Counts}
 use Rattle.xfs_base.specs.declared.money.NoteKind.{NoteKind}
@@ -19,13 +21,10 @@ spent units records transport c = presented_in units records c + value units tra
 abbrev pub is_over : List NoteKind → List Rec → Counts → List (List ℕ × ℕ) → Counts → List ℕ → Bool
 is_over units records transport amounts counts c = nat_lt (amount_in amounts c) (spent units records transport c + value units counts c)
 
--- three letters as a number of base 256, so that the order of these numbers is that of the letters
-abbrev pub letters_number : List ℕ → ℕ
-letters_number c = slice_index c 0 * 65536 + slice_index c 1 * 256 + slice_index c 2
-
+-- of two currencies the first in the order of letters
 abbrev pub earlier : List ℕ → Option (List ℕ) → List ℕ
 earlier c None = c
-earlier c (Some d) = if nat_lt (letters_number d) (letters_number c) then d else c
+earlier c (Some d) = if is_lt (slice_cmp nat_cmp d c) then d else c
 
 -- the first currency of the table, in the order of letters, that meets a test
 abbrev pub first_currency : (List ℕ → Bool) → List NoteKind → Option (List ℕ)

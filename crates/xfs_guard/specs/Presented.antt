@@ -29,6 +29,7 @@ worth_after units currency p r = p.worth
 abbrev pub paid_after : List NoteKind → List ℕ → Paid → Rec → Paid
 paid_after units currency p r = record { last = Some r; worth = worth_after units currency p r }
 
+-- what was presented in a currency since the last Issue, Clear or Boot, in thousandths
 abbrev pub presented_in : List NoteKind → List Rec → List ℕ → ℕ
 presented_in units records currency = (fold (paid_after units currency) (record { last = None; worth = 0 }) records).worth
 

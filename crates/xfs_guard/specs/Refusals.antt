@@ -53,6 +53,7 @@ claim_refusal_at v bytes t (Some nonce) =
     else if is_none (amounts_of t) then Some NoAmounts
     else bind_refusal v bytes (bound_token v.records)
 
+-- the same beside the live nonce
 abbrev pub claim_refusal : View → List ℕ → Parts → Option Deny
 claim_refusal v bytes t = claim_refusal_at v bytes t (live_nonce v.records)
 
@@ -128,6 +129,7 @@ order_refusal_at v AskPresent (Some nonce) = present_refusal v v.bound
 order_refusal_at v AskReject live = nothing_refusal v.places.transport
 order_refusal_at v AskRetract live = nothing_refusal v.places.outlet
 
+-- the first refusal of an order that applies, beside the live nonce
 abbrev pub order_refusal : View → Ask → Option Deny
 order_refusal v ask = order_refusal_at v ask (live_nonce v.records)
 

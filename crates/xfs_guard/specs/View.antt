@@ -1,11 +1,13 @@
 -- What is seen of a guard.
-use Rattle.std.specs.Prelude.{ℕ, Bool, List}
+use Rattle.std.specs.Prelude.{ℕ, Bool, true, false, List, [], ◌∷◌, ◌++◌, None, Some}
 use Rattle.std.specs.declared.option.Option.{Option}
 use Rattle.xfs_base.specs.declared.money.NoteKind.{NoteKind}
 use Rattle.xfs_base.specs.declared.counts.Places.{Places}
 use Rattle.xfs_mech.specs.declared.motion.Motion.{Motion}
 use Rattle.xfs_journal.specs.declared.record.Rec.{Rec}
+use Rattle.xfs_journal.specs.declared.record.Rec.TheVariants.{Boot}
 use Rattle.xfs_journal.specs.declared.limits.Limits.{Limits}
+use Rattle.xfs_guard.specs.LedgerView.{LedgerView}
 use Rattle.xfs_guard.specs.declared.open.Open.{Open}
 
 -- a guard: its key, seed and units, its journal, the amounts of the token that is bound to the live nonce, the open order, what its mechanism tells, the journal's limits, whether the journal is shut, whether a restore found no room for its Boot since the last Boot was appended, the record whose append last answered that the disk failed, and whether the disk tells its bytes
@@ -24,6 +26,33 @@ pub record View : Type 0 where
   pub boot_missing : Bool
   pub in_doubt : Option Rec
   pub disk_told : Bool
+
+-- a guard over a ledger and what its mechanism tells; whether the disk tells its bytes
+abbrev pub over : {D : Type 0} → List ℕ → List ℕ → Open → Option (List Motion) → Places → ℕ → LedgerView D → Bool → View
+over key seed open_order motions places faults l told = record {
+  key = key;
+  seed = seed;
+  units = l.units;
+  records = l.records;
+  bound = l.bound;
+  open_order = open_order;
+  motions = motions;
+  places = places;
+  faults = faults;
+  limits = l.limits;
+  shut = l.shut;
+  boot_missing = l.boot_missing;
+  in_doubt = l.in_doubt;
+  disk_told = told;
+}
+
+-- the disk failed at this record: the journal is shut, and the record is in doubt
+abbrev pub shut_at : Rec → View → View
+shut_at r v = record v { shut = true; in_doubt = Some r }
+
+-- the journal was read again, as this list, and has a Boot of the mechanism's places behind it
+abbrev pub restarted : View → List Rec → View
+restarted v records = record v { records = records ++ Boot v.places ∷ []; bound = None; shut = false; boot_missing = false; in_doubt = None }
 
 -- the same, and the disk of the journal
 pub record GuardView (D : Type 0) : Type 0 where

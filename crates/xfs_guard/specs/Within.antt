@@ -54,5 +54,6 @@ abbrev pub IsWithin : List ℕ → List NoteKind → List Rec → List Motion �
 IsWithin key units records motions (Moved number Present moved diverted) = IsPaidFor key units records motions number
 IsWithin key units records motions m = ⊤
 
+-- each motion that put notes out is paid for by the one token of its segment
 abbrev pub Within : List ℕ → List NoteKind → List Rec → List Motion → Type 0
 Within key units records motions = AllByRecursion (IsWithin key units records motions) motions

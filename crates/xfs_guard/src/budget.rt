@@ -1,7 +1,7 @@
 //! Whether counts pass the amounts of a token.
 
 ghost use Rattle.std.specs.Prelude.{◌≡◌, ◌<◌, ◌^◌};
-ghost use Rattle.xfs_guard.specs.Passed.{spent, is_over, letters_number, earlier, first_currency, passed_in};
+ghost use Rattle.xfs_guard.specs.Passed.{spent, is_over, earlier, first_currency, passed_in};
 ghost use Rattle.xfs_guard.specs.LedgerView.{IsOpen, IsTold};
 
 use crate::Deny;
@@ -10,7 +10,7 @@ use xfs_base::{Counts, Currency, Milli};
 use xfs_disk::Disk;
 use xfs_token::Amounts;
 
-// OverBudget, for the first currency of the table in which the counts pass the amounts.
+/// `OverBudget`, for the first currency, in the order of letters, in which the counts pass the amounts.
 pub fn passed<D: Disk>(
     ledger: &Ledger<D>,
     transport: &Counts,
@@ -69,14 +69,7 @@ fn before(currency: Currency, other: Option<Currency>) -> Currency
     ensures { result ≡ earlier currency other }
 {
     match other {
-        Some(other) if number(other) < number(currency) => other,
+        Some(other) if other.letters().cmp(&currency.letters()).is_lt() => other,
         _ => currency,
     }
-}
-
-fn number(currency: Currency) -> u32
-    ensures { result ≡ letters_number currency }
-{
-    let [a, b, c] = currency.letters();
-    u32::from(a) * 65536 + u32::from(b) * 256 + u32::from(c)
 }

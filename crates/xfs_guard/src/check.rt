@@ -12,6 +12,7 @@ ghost use Rattle.xfs_guard.specs.Continues.{Continues};
 ghost use Rattle.xfs_guard.specs.Crashed.{LeavesBehind};
 ghost use Rattle.xfs_base.specs.Causes.{Rose};
 ghost use Rattle.xfs_guard.specs.Left.{Leaves, StaysRecorded};
+ghost use Rattle.xfs_guard.specs.View.{shut_at};
 ghost use Rattle.xfs_guard.specs.Fits.{unfit};
 ghost use Rattle.xfs_guard.specs.LedgerView.{IsWriteFault};
 ghost use Rattle.xfs_guard.specs.Refusals.{Answers, Passes, TokenRefused, Binds, claim_refusal, bind_refusal, bound_token, over_budget};
@@ -46,7 +47,7 @@ impl<M: Mechanism, D: Disk> Guard<M, D> {
             Ok(amounts) => amounts,
             Err(deny) => return Err(deny),
         };
-        match text_of(self.alloc, token, &parts) {
+        match text_of(self.alloc, token) {
             Ok(token) => Ok(Claim { token, amounts }),
             Err(_) => Err(Deny::Memory),
         }
@@ -66,7 +67,7 @@ impl<M: Mechanism, D: Disk> Guard<M, D> {
         if token.nonce() != nonce.text.as_slice() {
             return Err(Deny::WrongNonce { since });
         }
-        let due = due(&self.key, bytes, token);
+        let due = due(&self.key, bytes);
         if token.mac() != due {
             return Err(Deny::WrongMac { due });
         }
@@ -112,7 +113,7 @@ impl<M: Mechanism, D: Disk> Guard<M, D> {
         ensures none { self.new.state.open_order ≡ No }
         ensures again { bound_token self.old.state.records ≢ None → self.new ≡ self.old }
         ensures unbound { IfErr result (λ e. IsWriteFault e → bound_token self.old.state.records ≡ None) }
-        ensures disk { result ≡ Err Deny.Disk → self.new.state ≡ record self.old.state { shut = true; in_doubt = Some (Bind claim.token) } }
+        ensures disk { result ≡ Err Deny.Disk → self.new.state ≡ shut_at (Bind claim.token) self.old.state }
         ensures later { D.faults self.old.disk ≤ D.faults self.new.disk }
         ensures cause { result ≡ Err Deny.Disk → Rose (D.faults self.old.disk) (D.faults self.new.disk) }
         ensures same { IfErr result (λ e. e ≢ Deny.Disk → self.new ≡ self.old) }
@@ -145,7 +146,7 @@ impl<M: Mechanism, D: Disk> Guard<M, D> {
         ensures err { IfErr result IsWriteFault }
         ensures again { bound_token self.old.state.records ≢ None → self.new ≡ self.old }
         ensures unbound { OnErr result (bound_token self.old.state.records ≡ None) }
-        ensures disk { result ≡ Err Deny.Disk → self.new.state ≡ record self.old.state { shut = true; in_doubt = Some (Bind claim.token) } }
+        ensures disk { result ≡ Err Deny.Disk → self.new.state ≡ shut_at (Bind claim.token) self.old.state }
         ensures later { D.faults self.old.disk ≤ D.faults self.new.disk }
         ensures cause { result ≡ Err Deny.Disk → Rose (D.faults self.old.disk) (D.faults self.new.disk) }
         ensures same { IfErr result (λ e. e ≢ Deny.Disk → self.new ≡ self.old) }
@@ -167,13 +168,13 @@ impl<M: Mechanism, D: Disk> Guard<M, D> {
 }
 
 // A copy of a token's text.
-fn text_of(alloc: Global, bytes: &[u8], token: &Token) -> Result<Text, AllocError>
-    requires { Spells token.now bytes.now }
+fn text_of(alloc: Global, bytes: &[u8]) -> Result<Text, AllocError>
+    requires low { 1 ≤ length bytes.now }
+    requires high { length bytes.now ≤ 1024 }
     ensures { IfOk result (λ t. t ≡ bytes.now) }
 {
     let mut list = Vec::new(alloc);
     list.extend_from_slice(bytes)?;
-    let _ = token;
     match Text::new(list) {
         Some(text) => Ok(text),
         None => unreachable!(),
@@ -181,11 +182,10 @@ fn text_of(alloc: Global, bytes: &[u8], token: &Token) -> Result<Text, AllocErro
 }
 
 // The HMAC that is due: that of all but the last 76 bytes of the token's text.
-fn due(key: &[u8; 32], bytes: &[u8], token: &Token) -> [u8; 32]
-    requires { Spells token.now bytes.now }
+fn due(key: &[u8; 32], bytes: &[u8]) -> [u8; 32]
+    requires { 76 ≤ length bytes.now }
     ensures { result ≡ hmac key.now (take (length bytes.now - 76) bytes.now) }
 {
     let (front, _) = bytes.split_at(bytes.len() - 76);
-    let _ = token;
     mac(key, front)
 }

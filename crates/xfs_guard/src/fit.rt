@@ -1,6 +1,7 @@
 /// Whether the journal takes more records.
 #[derive(Clone, Copy, Debug, PartialEq, Eq)]
 pub enum Fit {
+    /// It takes them.
     Ready,
     /// The disk failed, and the journal wasn't read again since.
     Shut,

@@ -6,6 +6,7 @@ ghost use Rattle.xfs_journal.specs.declared.record.Rec.TheVariants.{Issue, Clear
 ghost use Rattle.xfs_journal.specs.Journal.{next_issue};
 ghost use Rattle.xfs_guard.specs.declared.open.Open.TheVariants.{No, Written};
 ghost use Rattle.xfs_guard.specs.Nonce.{live_in, live_nonce};
+ghost use Rattle.xfs_guard.specs.View.{shut_at};
 ghost use Rattle.xfs_guard.specs.Word.{issue_word};
 ghost use Rattle.xfs_guard.specs.Fits.{fit_of, unfit};
 ghost use Rattle.xfs_guard.specs.Left.{EachStands, IsOldOrBooted, Leaves, MayMove, StandsRecorded, StaysRecorded, StaysThrough};
@@ -53,47 +54,18 @@ pub struct Guard<M: Mechanism, D: Disk> {
 
 impl<M: Mechanism, D: Disk> Model for Guard<M, D> {
     ghost use Rattle.std.specs.Prelude.{is_some};
-    ghost use Rattle.xfs_guard.specs.View.{GuardView};
+    ghost use Rattle.xfs_guard.specs.View.{GuardView, over};
     ghost use Rattle.xfs_guard.specs.Kept.{IsKept};
 
     ghost Value = { GuardView D };
 
     ghost view = { λ g. record {
-      state = record {
-        key = g.key;
-        seed = g.seed;
-        units = g.ledger.units;
-        records = g.ledger.records;
-        bound = g.ledger.bound;
-        open_order = g.open_order;
-        motions = M.motions g.mech;
-        places = M.places g.mech;
-        faults = M.faults g.mech;
-        limits = g.ledger.limits;
-        shut = g.ledger.shut;
-        boot_missing = g.ledger.boot_missing;
-        in_doubt = g.ledger.in_doubt;
-        disk_told = is_some (D.held g.ledger.disk);
-      };
+      state = over g.key g.seed g.open_order (M.motions g.mech) (M.places g.mech) (M.faults g.mech) g.ledger (is_some (D.held g.ledger.disk));
       disk = g.ledger.disk;
     } };
 
-    ghost invariant = { λ g. IsKept (record {
-      key = g.key;
-      seed = g.seed;
-      units = g.ledger.units;
-      records = g.ledger.records;
-      bound = g.ledger.bound;
-      open_order = g.open_order;
-      motions = M.motions g.mech;
-      places = M.places g.mech;
-      faults = M.faults g.mech;
-      limits = g.ledger.limits;
-      shut = g.ledger.shut;
-      boot_missing = g.ledger.boot_missing;
-      in_doubt = g.ledger.in_doubt;
-      disk_told = is_some (D.held g.ledger.disk);
-    }) (M.room g.mech) g.ledger.room (M.units g.mech) };
+    ghost invariant = { λ g. IsKept (over g.key g.seed g.open_order (M.motions g.mech) (M.places g.mech) (M.faults g.mech) g.ledger (is_some (D.held g.ledger.disk)))
+        (M.room g.mech) g.ledger.room (M.units g.mech) };
 }
 
 impl<M: Mechanism, D: Disk> Guard<M, D> {
@@ -217,7 +189,8 @@ impl<M: Mechanism, D: Disk> Guard<M, D> {
         }
     }
 
-    /// The live nonce. None where none was issued, or it was cleared, or a restore found no room for its Boot.
+    /// The live nonce. None where none was issued since the last Boot, or it was cleared, or a restore found no
+    /// room for its Boot.
     pub fn live(&self) -> Option<Nonce>
         ensures { result ≡ live_in self.now.state.boot_missing self.now.state.records }
     {
@@ -273,10 +246,7 @@ impl<M: Mechanism, D: Disk> Guard<M, D> {
           records = self.old.state.records ++ Issue n.number (issue_word self.old.state.seed n.number) ∷ [];
           bound = None;
         }) }
-        ensures disk { result ≡ Err Deny.Disk → self.new.state ≡ record self.old.state {
-          shut = true;
-          in_doubt = Some (Issue (next_issue self.old.state.records) (issue_word self.old.state.seed (next_issue self.old.state.records)));
-        } }
+        ensures disk { result ≡ Err Deny.Disk → self.new.state ≡ shut_at (Issue (next_issue self.old.state.records) (issue_word self.old.state.seed (next_issue self.old.state.records))) self.old.state }
         ensures later { D.faults self.old.disk ≤ D.faults self.new.disk }
         ensures cause { result ≡ Err Deny.Disk → Rose (D.faults self.old.disk) (D.faults self.new.disk) }
         ensures same { IfErr result (λ e. e ≢ Deny.Disk → self.new ≡ self.old) }
@@ -301,7 +271,7 @@ impl<M: Mechanism, D: Disk> Guard<M, D> {
         ensures dead { IfOk result (λ b. IsTrue b ↔ (live_nonce self.old.state.records ≢ None)) }
         ensures cleared { result ≡ Ok true → self.new.state ≡ record self.old.state { records = self.old.state.records ++ Clear ∷ []; bound = None } }
         ensures unwritten { result ≡ Err Deny.Disk → live_nonce self.old.state.records ≢ None }
-        ensures disk { result ≡ Err Deny.Disk → self.new.state ≡ record self.old.state { shut = true; in_doubt = Some Clear } }
+        ensures disk { result ≡ Err Deny.Disk → self.new.state ≡ shut_at Clear self.old.state }
         ensures later { D.faults self.old.disk ≤ D.faults self.new.disk }
         ensures cause { result ≡ Err Deny.Disk → Rose (D.faults self.old.disk) (D.faults self.new.disk) }
         ensures same { result ≢ Ok true → result ≢ Err Deny.Disk → self.new ≡ self.old }
@@ -330,7 +300,7 @@ impl<M: Mechanism, D: Disk> Guard<M, D> {
           records = self.old.state.records ++ Order (asked_kind ask) (asked_counts self.old.state ask) ∷ [];
           open_order = Written (asked_kind ask) (asked_counts self.old.state ask);
         }) }
-        ensures disk { result ≡ Err Deny.Disk → self.new.state ≡ record self.old.state { shut = true; in_doubt = Some (Order (asked_kind ask) (asked_counts self.old.state ask)) } }
+        ensures disk { result ≡ Err Deny.Disk → self.new.state ≡ shut_at (Order (asked_kind ask) (asked_counts self.old.state ask)) self.old.state }
         ensures later { D.faults self.old.disk ≤ D.faults self.new.disk }
         ensures cause { result ≡ Err Deny.Disk → Rose (D.faults self.old.disk) (D.faults self.new.disk) }
         ensures same { IfErr result (λ e. e ≢ Deny.Disk → self.new ≡ self.old) }

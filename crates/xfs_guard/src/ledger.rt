@@ -33,6 +33,8 @@ use xfs_disk::Disk;
 use xfs_journal::{AppendFault, Journal, Limits, MountFail, Rec, Text};
 use xfs_token::Amounts;
 
+/// The journal, and beside it what of its records would else be looked for at each call: the number of issues,
+/// the last mark, the live nonce, and the bound token with its amounts.
 #[derive(Drop)]
 pub struct Ledger<D: Disk> {
     alloc: Global,
@@ -130,6 +132,7 @@ impl<D: Disk> Ledger<D> {
         }
     }
 
+    /// The records of the journal.
     pub fn records(&self) -> &[Rec]
         ensures { result.now ≡ self.now.records }
     {
@@ -170,6 +173,7 @@ impl<D: Disk> Ledger<D> {
         self.boot_missing
     }
 
+    /// The table of the units.
     pub fn units(&self) -> &UnitTable
         ensures { result.now ≡ self.now.units }
     {
@@ -193,6 +197,7 @@ impl<D: Disk> Ledger<D> {
         self.issues + 1
     }
 
+    /// The live nonce. None where a restore found no room for its Boot.
     pub fn live(&self) -> Option<Nonce>
         ensures { result ≡ live_in self.now.boot_missing self.now.records }
     {

@@ -9,6 +9,7 @@ ghost use Rattle.xfs_mech.specs.declared.motion.Motion.TheVariants.{Taken, Loade
 ghost use Rattle.xfs_journal.specs.declared.record.Rec.TheVariants.{Load};
 ghost use Rattle.xfs_guard.specs.declared.open.Open.TheVariants.{No};
 ghost use Rattle.xfs_guard.specs.Orders.{kind_unacted};
+ghost use Rattle.xfs_guard.specs.View.{shut_at};
 ghost use Rattle.xfs_guard.specs.Fits.{unfit};
 ghost use Rattle.xfs_guard.specs.Refusals.{Answers};
 ghost use Rattle.xfs_guard.specs.Reports.{HasReported};
@@ -78,7 +79,7 @@ impl<M: Mechanism, D: Disk> Guard<M, D> {
         requires high { unit ≤ length self.old.state.units }
         ensures refused { Answers result (unfit self.old.state) }
         ensures ok { OnOk result (self.new.state ≡ record self.old.state { records = self.old.state.records ++ Load unit count ∷ [] }) }
-        ensures disk { result ≡ Err Deny.Disk → self.new.state ≡ record self.old.state { shut = true; in_doubt = Some (Load unit count) } }
+        ensures disk { result ≡ Err Deny.Disk → self.new.state ≡ shut_at (Load unit count) self.old.state }
         ensures later { D.faults self.old.disk ≤ D.faults self.new.disk }
         ensures cause { result ≡ Err Deny.Disk → Rose (D.faults self.old.disk) (D.faults self.new.disk) }
         ensures same { IfErr result (λ e. e ≢ Deny.Disk → self.new ≡ self.old) }

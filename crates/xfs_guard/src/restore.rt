@@ -11,6 +11,7 @@ ghost use Rattle.xfs_guard.specs.declared.open.Open.TheVariants.{No};
 ghost use Rattle.xfs_guard.specs.Continues.{Continues};
 ghost use Rattle.xfs_guard.specs.Crashed.{LeavesBehind};
 ghost use Rattle.xfs_guard.specs.Left.{StaysRecorded};
+ghost use Rattle.xfs_guard.specs.View.{restarted};
 
 use crate::{BootFault, Guard};
 use xfs_disk::Disk;
@@ -24,13 +25,7 @@ impl<M: Mechanism, D: Disk> Guard<M, D> {
     /// as `NotJournal`.
     pub fn restore(&mut self) -> Result<(), BootFault>
         requires { self.old.state.open_order ≡ No }
-        ensures ok { OnOk result ((J : List Rec) × IsPossible self.old.state.records self.old.state.in_doubt J × (self.new.state ≡ record self.old.state {
-          records = J ++ Boot self.old.state.places ∷ [];
-          bound = None;
-          shut = false;
-          boot_missing = false;
-          in_doubt = None;
-        })) }
+        ensures ok { OnOk result ((J : List Rec) × IsPossible self.old.state.records self.old.state.in_doubt J × (self.new.state ≡ restarted self.old.state J)) }
         ensures fits { OnOk result (passes self.old.state.limits self.new.state.records ≡ false) }
         ensures stands { OnOk result (IfTold (D.held self.old.disk) (λ all. (J : List Rec) × Stands all J × (self.new.state.records ≡ J ++ Boot self.old.state.places ∷ []))) }
         ensures memory { result ≡ Err BootMemory → self.new.state ≡ self.old.state }
