@@ -1,4 +1,4 @@
-//! The worked rows that cross crates, as tests on the top call.
+//! Scripts and calls that cross crates, as tests on the top call and on the guard.
 #![tactic(auto)]
 
 #[cfg(test)]
