@@ -60,7 +60,7 @@ short-all text (Some left) short gave =
     omega (arith, whole, length-append gave.bytes left, gave.many, short)
 
 -- what each status of a run has as its cause
-pub record HasCauses (IsStartOf : Seen → Type 0) (status : ℕ) (left left' held : Option (List ℕ)) (limits : Limits) (places : Places) (source sink disk : Type 0) : Type 0 where
+pub record HasCauses (IsStartOf Ends : Seen → Type 0) (status : ℕ) (left left' held : Option (List ℕ)) (limits : Limits) (places : Places) (source sink disk : Type 0) : Type 0 where
   pub one : IsStatus status
   pub words : status ≡ 2 → ⊥
   pub read : status ≡ 3 → source
@@ -69,14 +69,14 @@ pub record HasCauses (IsStartOf : Seen → Type 0) (status : ℕ) (left left' he
   pub disk_fault : status ≡ 6 → disk
   pub journal : status ≡ 7 → IfTold held IsNoJournal
   pub quota : status ≡ 10 → GaveAll left left'
-  pub full : status ≡ 12 → IfTold left (λ text. IfTold held (λ bytes. (J : List Rec) → Stands bytes J → BootPasses limits places J ⊎ HasFullRestart IsStartOf text))
+  pub full : status ≡ 12 → IfTold left (λ text. IfTold held (λ bytes. (J : List Rec) → Stands bytes J → BootPasses limits places J ⊎ HasFullRestart IsStartOf Ends text))
 
 -- a refused boot has the cause of its status
-pub causes-refused : (IsStartOf : Seen → Type 0) (why : BootFault) (status : ℕ) (left left' held : Option (List ℕ)) (limits : Limits) (places : Places) (source sink disk : Type 0) → status ≡ boot_status why
+pub causes-refused : (IsStartOf Ends : Seen → Type 0) (why : BootFault) (status : ℕ) (left left' held : Option (List ℕ)) (limits : Limits) (places : Places) (source sink disk : Type 0) → status ≡ boot_status why
     → ((at : ℕ) → why ≡ NotJournal at → IfTold held (λ bytes. CeasesAt bytes at × IsNoJournal bytes)) → (why ≡ Disk → disk)
     → (why ≡ Full → (J : List Rec) × IfTold held (λ bytes. Stands bytes J) × BootPasses limits places J)
-    → HasCauses IsStartOf status left left' held limits places source sink disk
-causes-refused IsStartOf why status left left' held limits places source sink disk is none failed full = record {
+    → HasCauses IsStartOf Ends status left left' held limits places source sink disk
+causes-refused IsStartOf Ends why status left left' held limits places source sink disk is none failed full = record {
   one = rw is (status-boot why);
   words = λ e. omega (arith, low, e);
   read = λ e. absurd (omega (arith, low, e));
@@ -120,31 +120,31 @@ causes-refused IsStartOf why status left left' held limits places source sink di
     seven NoMemory e none = absurd (omega (arith, e))
 
     twelve : (why : BootFault) → boot_status why ≡ 12 → (why ≡ Full → (J : List Rec) × IfTold held (λ bytes. Stands bytes J) × BootPasses limits places J)
-        → IfTold left (λ text. IfTold held (λ bytes. (J : List Rec) → Stands bytes J → BootPasses limits places J ⊎ HasFullRestart IsStartOf text))
+        → IfTold left (λ text. IfTold held (λ bytes. (J : List Rec) → Stands bytes J → BootPasses limits places J ⊎ HasFullRestart IsStartOf Ends text))
     twelve (NotJournal at) e full = absurd (omega (arith, e))
     twelve Disk e full = absurd (omega (arith, e))
     twelve Full e full = let over = full refl in go left held over.0 over.1 over.2
       where
         go : (left held : Option (List ℕ)) (J : List Rec) → IfTold held (λ bytes. Stands bytes J) → BootPasses limits places J
-            → IfTold left (λ text. IfTold held (λ bytes. (J : List Rec) → Stands bytes J → BootPasses limits places J ⊎ HasFullRestart IsStartOf text))
+            → IfTold left (λ text. IfTold held (λ bytes. (J : List Rec) → Stands bytes J → BootPasses limits places J ⊎ HasFullRestart IsStartOf Ends text))
         go None held J stood over = tt
         go (Some text) None J stood over = tt
         go (Some text) (Some bytes) J stood over = λ K stands. inl (rw (stands_for_one bytes K J stands stood) over)
     twelve NoMemory e full = absurd (omega (arith, e))
 
 -- the Boot of a restart may pass a limit
-pub full-restart : (IsStartOf : Seen → Type 0) (left held : Option (List ℕ)) (limits : Limits) (places : Places) → IfTold left (HasFullRestart IsStartOf)
-    → IfTold left (λ text. IfTold held (λ bytes. (J : List Rec) → Stands bytes J → BootPasses limits places J ⊎ HasFullRestart IsStartOf text))
-full-restart IsStartOf None held limits places has = tt
-full-restart IsStartOf (Some text) None limits places has = tt
-full-restart IsStartOf (Some text) (Some bytes) limits places has = λ J stands. inr has
+pub full-restart : (IsStartOf Ends : Seen → Type 0) (left held : Option (List ℕ)) (limits : Limits) (places : Places) → IfTold left (HasFullRestart IsStartOf Ends)
+    → IfTold left (λ text. IfTold held (λ bytes. (J : List Rec) → Stands bytes J → BootPasses limits places J ⊎ HasFullRestart IsStartOf Ends text))
+full-restart IsStartOf Ends None held limits places has = tt
+full-restart IsStartOf Ends (Some text) None limits places has = tt
+full-restart IsStartOf Ends (Some text) (Some bytes) limits places has = λ J stands. inr has
 
 -- a run whose boot was not refused has the cause of its status
-pub causes-served : (IsStartOf : Seen → Type 0) (status : ℕ) (left left' held : Option (List ℕ)) (limits : Limits) (places : Places) (source sink disk : Type 0) → IsStatus status
-    → (status ≡ 2 → ⊥) → (status ≡ 6 → disk) → (status ≡ 7 → held ≡ None) → (status ≡ 12 → IfTold left (HasFullRestart IsStartOf))
+pub causes-served : (IsStartOf Ends : Seen → Type 0) (status : ℕ) (left left' held : Option (List ℕ)) (limits : Limits) (places : Places) (source sink disk : Type 0) → IsStatus status
+    → (status ≡ 2 → ⊥) → (status ≡ 6 → disk) → (status ≡ 7 → held ≡ None) → (status ≡ 12 → IfTold left (HasFullRestart IsStartOf Ends))
     → (status ≡ 3 → source) → (status ≡ 4 → IfTold left StopsAtLine) → (status ≡ 5 → sink) → (status ≡ 10 → GaveAll left left')
-    → HasCauses IsStartOf status left left' held limits places source sink disk
-causes-served IsStartOf status left left' held limits places source sink disk one two six seven twelve read line write quota = record {
+    → HasCauses IsStartOf Ends status left left' held limits places source sink disk
+causes-served IsStartOf Ends status left left' held limits places source sink disk one two six seven twelve read line write quota = record {
   one = one;
   words = two;
   read = read;
@@ -153,17 +153,17 @@ causes-served IsStartOf status left left' held limits places source sink disk on
   disk_fault = six;
   journal = λ e. rw (seven e) tt;
   quota = quota;
-  full = λ e. full-restart IsStartOf left held limits places (twelve e);
+  full = λ e. full-restart IsStartOf Ends left held limits places (twelve e);
 }
 
 -- where no cause is there, the run ends with its input
-pub finishes : (IsStartOf : Seen → Type 0) (status : ℕ) (left left' held : Option (List ℕ)) (limits : Limits) (places : Places) (source sink disk : Type 0) → HasCauses IsStartOf status left left' held limits places source sink disk
-    → ¬ source → ¬ sink → ¬ disk → IfTold left (λ text. IfTold held (λ bytes. (J : List Rec) → Stands bytes J → IsUnhindered IsStartOf text limits places J → IsFinished status))
-finishes IsStartOf status None left' held limits places source sink disk causes no_source no_sink no_disk = tt
-finishes IsStartOf status (Some text) left' None limits places source sink disk causes no_source no_sink no_disk = tt
-finishes IsStartOf status (Some text) left' (Some bytes) limits places source sink disk causes no_source no_sink no_disk = λ J stands free. by_status J stands free causes.one
+pub finishes : (IsStartOf Ends : Seen → Type 0) (status : ℕ) (left left' held : Option (List ℕ)) (limits : Limits) (places : Places) (source sink disk : Type 0) → HasCauses IsStartOf Ends status left left' held limits places source sink disk
+    → ¬ source → ¬ sink → ¬ disk → IfTold left (λ text. IfTold held (λ bytes. (J : List Rec) → Stands bytes J → IsUnhindered IsStartOf Ends text limits places J → IsFinished status))
+finishes IsStartOf Ends status None left' held limits places source sink disk causes no_source no_sink no_disk = tt
+finishes IsStartOf Ends status (Some text) left' None limits places source sink disk causes no_source no_sink no_disk = tt
+finishes IsStartOf Ends status (Some text) left' (Some bytes) limits places source sink disk causes no_source no_sink no_disk = λ J stands free. by_status J stands free causes.one
   where
-    by_status : (J : List Rec) → Stands bytes J → IsUnhindered IsStartOf text limits places J → IsStatus status → IsFinished status
+    by_status : (J : List Rec) → Stands bytes J → IsUnhindered IsStartOf Ends text limits places J → IsStatus status → IsFinished status
     by_status J stands free (inl is) = inl is
     by_status J stands free (inr (inl is)) = absurd (causes.words is)
     by_status J stands free (inr (inr (inl is))) = absurd (no_source (causes.read is))

@@ -8,7 +8,10 @@ use Rattle.xfs_mech.specs.declared.motion.Motion.{Motion}
 use Rattle.xfs_journal.specs.Image.{Stands}
 use Rattle.xfs_journal.specs.declared.record.Rec.{Rec}
 use Rattle.xfs_journal.specs.declared.record.Rec.TheVariants.{Boot}
+use Rattle.xfs_guard.specs.Continues.{Continues}
+use Rattle.xfs_guard.specs.Stored.{IsStored}
 use Rattle.xfs_guard.specs.View.{View, GuardView}
+use Rattle.xfs_guard.proofs.ContinueLaws.{Continues-same, only-possible}
 use Rattle.xfs_script.specs.Lines.{first_line}
 use Rattle.xfs_script.specs.declared.line.LineFault.{LineFault}
 use Rattle.xfs_script.specs.declared.line.LineFault.TheVariants.{Read, Quota, TooLong, Memory}
@@ -17,28 +20,37 @@ use Rattle.xfs_cli.specs.Run.{status_of}
 use Rattle.xfs_cli.specs.Answers.{WritesAll, WritesFront, WritesUntil}
 use Rattle.xfs_cli.specs.Boots.{EndsFailed, BootPasses, EndsFull, WritesBoot, boot_status}
 use Rattle.xfs_journal.specs.declared.limits.Limits.{Limits}
-use Rattle.xfs_cli.specs.Statuses.{HasFullRestart}
+use Rattle.xfs_cli.specs.Statuses.{HasFullRestart, IsOneOf}
 use Rattle.xfs_guard.specs.declared.fail.BootFault.{BootFault}
 use Rattle.xfs_guard.specs.declared.fail.BootFault.TheVariants.{NotJournal, Disk, Full, Memory as BootMemory}
-use Rattle.xfs_cli.specs.RestartAnswers.{HasNoRoom, RestartFails}
-use Rattle.xfs_cli.specs.GuardRuns.{AtEntry, FromBoot, IsStart, opened, IsEnd, IsOfBoot, IsStop, IsWithin, IsUnbooted}
+use Rattle.xfs_cli.specs.RestartAnswers.{HasNoRoom, IsFull, RestartCause, RestartFails}
+use Rattle.xfs_cli.specs.GuardRuns.{AtEntry, FromBoot, IsStart, opened, IsEnd, IsFullAtEnd, IsOfBoot, IsStop, IsUnbooted}
 use Rattle.xfs_cli.specs.VerbAnswers.{AnswersGuard}
-use Rattle.xfs_cli.specs.Seen.{Seen, IsLater, seen}
+use Rattle.xfs_cli.specs.Seen.{Seen, IsLater, IsStill, seen}
+use Rattle.xfs_cli.proofs.SeenLaws.{later-same}
 
 -- the last state is that of a guard which is over
-pub ends-at : {D : Type 0} (faults : D → ℕ) (g : GuardView D) (last : Option (List ℕ)) (motions : Option (List Motion)) (places : Places) (mech : ℕ) (disk : D)
-    → motions ≡ g.state.motions → places ≡ g.state.places → mech ≡ g.state.faults → disk ≡ g.disk → (s : Seen) → s ≡ seen faults g last → IsEnd motions places mech (faults disk) s
-ends-at faults g last motions places mech disk m p f d s is = rw is (record { motions_are = sym m; places_are = sym p; mech_is = sym f; disk_is = ap faults (sym d) })
+pub ends-at : {D : Type 0} (faults : D → ℕ) (g : GuardView D) (last : Option (List ℕ)) (motions : Option (List Motion)) (places : Places) (mech : ℕ) (disk : D) (held : Option (List ℕ)) (images : List ℕ → Type 0)
+    → motions ≡ g.state.motions → places ≡ g.state.places → mech ≡ g.state.faults → disk ≡ g.disk → IsStored held images g.state.records g.state.in_doubt
+    → (s : Seen) → s ≡ seen faults g last → IsEnd motions places mech (faults disk) held images s
+ends-at faults g last motions places mech disk held images m p f d stored s is =
+    rw is (record { motions_are = sym m; places_are = sym p; mech_is = sym f; disk_is = ap faults (sym d); stored = stored })
 
-pub ends-within : {D : Type 0} (faults : D → ℕ) (g : GuardView D) (last : Option (List ℕ)) (mech : ℕ) (disk : D)
-    → mech ≡ g.state.faults → disk ≡ g.disk → (s : Seen) → IsLater s (seen faults g last) → IsWithin mech (faults disk) s
-ends-within faults g last mech disk f d s later = record { mech = rw f later.mech; disk = rw d later.disk }
+-- such a guard leaves the mechanism as it stood in an earlier state, where it is still so
+pub still-at : {D : Type 0} (faults : D → ℕ) (g : GuardView D) (last : Option (List ℕ)) (motions : Option (List Motion)) (places : Places) (mech : ℕ) (disk : D)
+    → motions ≡ g.state.motions → places ≡ g.state.places → mech ≡ g.state.faults → disk ≡ g.disk
+    → (end s : Seen) → end ≡ seen faults g last → IsStill end.guard.motions end.guard.places end.guard.faults end.disk_faults s → IsStill motions places mech (faults disk) s
+still-at faults g last motions places mech disk m p f d end s is still = rw (m, p, f, d) (rw is at still)
 
--- an end that is none of a boot's
-pub stops-plain : {D : Type 0} (faults : D → ℕ) (g : GuardView D) (last : Option (List ℕ)) (status plain : ℕ) (s : Seen) → status ≡ plain → plain ≢ 6 → plain ≢ 7 → plain ≢ 12
-    → IsLater s (seen faults g last) → (line : List ℕ) → IsStop g.state.faults (faults g.disk) status line s
-stops-plain faults g last status plain s is six seven twelve later line = record {
-  within = record { mech = later.mech; disk = later.disk };
+-- a run that ends between two lines, under no status of a boot
+pub stops-input : (status plain : ℕ) (s end : Seen) → status ≡ plain → (plain ≢ 6) × (plain ≢ 7) × (plain ≢ 12) → s ≡ end → (line : List ℕ) → IsStop (λ e. e ≡ end) status line s
+stops-input status plain s end is (six, seven, twelve) same line = record {
+  end = end;
+  ends = refl;
+  continues = rw same (Continues-same end.guard);
+  later = rw same (later-same end);
+  ended = λ one. same;
+  still = λ boot. absurd (none boot);
   restart = λ boot. absurd (none boot);
   failed = λ e. absurd (six (sym is ∙ e));
   untold = λ e. absurd (seven (sym is ∙ e));
@@ -50,45 +62,111 @@ stops-plain faults g last status plain s is six seven twelve later line = record
     none (inr (inl e)) = seven (sym is ∙ e)
     none (inr (inr e)) = twelve (sym is ∙ e)
 
+-- a run that ends within a line for want of memory
+pub stops-memory : (s end : Seen) → Continues s.guard end.guard → IsLater s end → (line : List ℕ) → IsStop (λ e. e ≡ end) 8 line s
+stops-memory s end continues later line = record {
+  end = end;
+  ends = refl;
+  continues = continues;
+  later = later;
+  ended = λ one. absurd (input one);
+  still = λ boot. absurd (none boot);
+  restart = λ boot. absurd (none boot);
+  failed = λ e. absurd (omega (arith, e));
+  untold = λ e. absurd (omega (arith, e));
+  full = λ e. absurd (omega (arith, e));
+}
+  where
+    input : IsOneOf (3 ∷ 4 ∷ 10 ∷ []) 8 → ⊥
+    input (inl e) = omega (arith, e)
+    input (inr (inl e)) = omega (arith, e)
+    input (inr (inr (inl e))) = omega (arith, e)
+    input (inr (inr (inr none))) = none
+
+    none : IsOfBoot 8 → ⊥
+    none (inl e) = omega (arith, e)
+    none (inr (inl e)) = omega (arith, e)
+    none (inr (inr e)) = omega (arith, e)
+
 pub fault-plain : (fault : LineFault) → (status_of fault ≢ 6) × (status_of fault ≢ 7) × (status_of fault ≢ 12)
 fault-plain Read = (λ e. omega (arith, e), λ e. omega (arith, e), λ e. omega (arith, e))
 fault-plain Quota = (λ e. omega (arith, e), λ e. omega (arith, e), λ e. omega (arith, e))
 fault-plain (TooLong n) = (λ e. omega (arith, e), λ e. omega (arith, e), λ e. omega (arith, e))
 fault-plain Memory = (λ e. omega (arith, e), λ e. omega (arith, e), λ e. omega (arith, e))
 
--- an end at a restart
-pub stops-restart : {D : Type 0} (faults : D → ℕ) (g : GuardView D) (last : Option (List ℕ)) (status : ℕ) (why : BootFault) (line : List ℕ) (s : Seen) → status ≡ boot_status why
-    → IsLater s (seen faults g last) → (line ≡ codes "restart") × RestartFails s why (seen faults g last) → IsStop g.state.faults (faults g.disk) status line s
-stops-restart faults g last status why line s is later fails = record {
-  within = record { mech = later.mech; disk = later.disk };
+-- the causes of the statuses of a restart that is refused
+pub failed-then : (status : ℕ) (why : BootFault) (s end : Seen) → status ≡ boot_status why → RestartCause s why end → status ≡ 6 → Rose s.disk_faults end.disk_faults
+failed-then status (NotJournal at) s end is cause six = absurd (omega (arith, is, six))
+failed-then status Disk s end is cause six = cause
+failed-then status Full s end is cause six = absurd (omega (arith, is, six))
+failed-then status BootMemory s end is cause six = absurd (omega (arith, is, six))
+
+pub untold-then : (status : ℕ) (why : BootFault) (s end : Seen) → status ≡ boot_status why → RestartCause s why end → status ≡ 7 → s.guard.disk_told ≡ false
+untold-then status (NotJournal at) s end is cause seven = cause
+untold-then status Disk s end is cause seven = absurd (omega (arith, is, seven))
+untold-then status Full s end is cause seven = absurd (omega (arith, is, seven))
+untold-then status BootMemory s end is cause seven = absurd (omega (arith, is, seven))
+
+pub full-then : (status : ℕ) (why : BootFault) (s end : Seen) → status ≡ boot_status why → RestartCause s why end → status ≡ 12 → HasNoRoom s.guard × IsFull end.guard
+full-then status (NotJournal at) s end is cause twelve = absurd (omega (arith, is, twelve))
+full-then status Disk s end is cause twelve = absurd (omega (arith, is, twelve))
+full-then status Full s end is cause twelve = cause
+full-then status BootMemory s end is cause twelve = absurd (omega (arith, is, twelve))
+
+-- a run that ends at a restart
+pub stops-restart : (status : ℕ) (why : BootFault) (line : List ℕ) (s end : Seen) → status ≡ boot_status why → Continues s.guard end.guard → IsLater s end
+    → (line ≡ codes "restart") × RestartFails s why end → IsStop (λ e. e ≡ end) status line s
+stops-restart status why line s end is continues later fails = record {
+  end = end;
+  ends = refl;
+  continues = continues;
+  later = later;
+  ended = λ one. absurd (input why (rw is at one));
+  still = λ boot. fails.1.still;
   restart = λ boot. fails.0;
-  failed = λ e. failed why (sym is ∙ e) fails.1;
-  untold = λ e. untold why (sym is ∙ e) fails.1;
-  full = λ e. full why (sym is ∙ e) fails.1;
+  failed = failed-then status why s end is fails.1.cause;
+  untold = untold-then status why s end is fails.1.cause;
+  full = λ twelve. (full-then status why s end is fails.1.cause twelve).0;
 }
   where
-    failed : (why : BootFault) → boot_status why ≡ 6 → RestartFails s why (seen faults g last) → Rose s.disk_faults (faults g.disk)
-    failed (NotJournal at) e h = absurd (omega (arith, e))
-    failed Disk e h = h
-    failed Full e h = absurd (omega (arith, e))
-    failed BootMemory e h = absurd (omega (arith, e))
+    least : (why : BootFault) → (6 ≤ boot_status why) × (boot_status why ≢ 10)
+    least (NotJournal at) = (omega arith, λ e. omega (arith, e))
+    least Disk = (omega arith, λ e. omega (arith, e))
+    least Full = (omega arith, λ e. omega (arith, e))
+    least BootMemory = (omega arith, λ e. omega (arith, e))
 
-    untold : (why : BootFault) → boot_status why ≡ 7 → RestartFails s why (seen faults g last) → s.guard.disk_told ≡ false
-    untold (NotJournal at) e h = h
-    untold Disk e h = absurd (omega (arith, e))
-    untold Full e h = absurd (omega (arith, e))
-    untold BootMemory e h = absurd (omega (arith, e))
+    input : (why : BootFault) → IsOneOf (3 ∷ 4 ∷ 10 ∷ []) (boot_status why) → ⊥
+    input why (inl e) = let low = (least why).0 in omega (arith, low, e)
+    input why (inr (inl e)) = let low = (least why).0 in omega (arith, low, e)
+    input why (inr (inr (inl e))) = (least why).1 e
+    input why (inr (inr (inr none))) = none
 
-    full : (why : BootFault) → boot_status why ≡ 12 → RestartFails s why (seen faults g last) → HasNoRoom s.guard
-    full (NotJournal at) e h = absurd (omega (arith, e))
-    full Disk e h = absurd (omega (arith, e))
-    full Full e h = h
-    full BootMemory e h = absurd (omega (arith, e))
+-- a guard whose Boot has no room leaves a disk that reads as its list
+pub full-end : (v : View) (limits : Limits) (places : Places) (held : Option (List ℕ)) (images : List ℕ → Type 0) → v.limits ≡ limits → places ≡ v.places
+    → ((bytes : List ℕ) → held ≡ Some bytes → images bytes) → IsStored held images v.records v.in_doubt → IsFull v → IsFullAtEnd limits places held
+full-end v limits places held images l p read stored full = record { records = v.records; stands = go held read stored; passes_limit = rw (← l, p) full.passes_limit }
+  where
+    go : (held : Option (List ℕ)) → ((bytes : List ℕ) → held ≡ Some bytes → images bytes) → IsStored held images v.records v.in_doubt → IfTold held (λ bytes. Stands bytes v.records)
+    go None read stored = tt
+    go (Some bytes) read stored =
+        let kept = stored bytes (read bytes refl) in
+        let here : Stands bytes kept.0 = inl kept.2 in
+        rw (only-possible v.records kept.0 v.in_doubt full.clear kept.1) at here
 
--- the counts of an end are those of what comes back
-pub stops-at : {D : Type 0} (faults : D → ℕ) (g : GuardView D) (mech : ℕ) (disk : D) → mech ≡ g.state.faults → disk ≡ g.disk
-    → (status : ℕ) (line : List ℕ) (s : Seen) → IsStop g.state.faults (faults g.disk) status line s → IsStop mech (faults disk) status line s
-stops-at faults g mech disk f d status line s stop = rw (f, d) stop
+-- what is said of the end of a run follows from what was said of it
+pub stops-at : (E E' : Seen → Type 0) → ((s : Seen) → E s → E' s) → (status : ℕ) (line : List ℕ) (s : Seen) → IsStop E status line s → IsStop E' status line s
+stops-at E E' more status line s stop = record {
+  end = stop.end;
+  ends = more stop.end stop.ends;
+  continues = stop.continues;
+  later = stop.later;
+  ended = stop.ended;
+  still = stop.still;
+  restart = stop.restart;
+  failed = stop.failed;
+  untold = stop.untold;
+  full = stop.full;
+}
 
 -- what is said of the last state follows from what was said of it
 pub all-ends : {S : Type 0} (A : S → List ℕ → List (List ℕ) → S → Type 0) (E E' : S → Type 0) (start : S) (old new : Option (List ℕ)) (text : List ℕ)
@@ -134,8 +212,8 @@ pub from-boot : {D : Type 0} (faults : D → ℕ) (g : GuardView D) (e : AtEntry
 from-boot faults g e J Writes stands is later writes = record { start = seen faults g None; begins = starts-run faults g e J stands is later; writes = writes }
 
 -- a refused boot
-pub refused-boot : (why : BootFault) (status : ℕ) (before after : Option (List ℕ)) → status ≡ boot_status why → WritesBoot why before after → IsUnbooted status before after
-refused-boot why status before after is written = record { why = why; status_is = is; written = written }
+pub refused-boot : (why : BootFault) (status : ℕ) (left left' before after : Option (List ℕ)) → status ≡ boot_status why → left' ≡ left → WritesBoot why before after → IsUnbooted status left left' before after
+refused-boot why status left left' before after is unread written = record { why = why; status_is = is; unread = unread; written = written }
 
 -- a count that rose in a part rose in the whole
 pub rose-later : (a b c : ℕ) → a ≤ b → Rose b c → Rose a c
@@ -162,16 +240,18 @@ ends-full Full limits places held before after status is written full twelve = l
 ends-full BootMemory limits places held before after status is written full twelve = absurd (omega (arith, is, twelve))
 
 -- under status 12 a restart found no room for its Boot
-pub full-line : (IsStartOf : Seen → Type 0) (L : List ℕ → Type 0) (mech disk : ℕ) (start : Seen) (status : ℕ) (source left old new : Option (List ℕ)) → IsStartOf start
-    → IfTold source (WritesUntil L AnswersGuard (IsStop mech disk) start status left old new) → status ≡ 12 → IfTold source (HasFullRestart IsStartOf)
-full-line IsStartOf L mech disk start status None left old new begins h twelve = tt
-full-line IsStartOf L mech disk start status (Some text) left old new begins h twelve = record {
+pub full-line : (IsStartOf Ends Still : Seen → Type 0) (L : List ℕ → Type 0) (start : Seen) (status : ℕ) (source left old new : Option (List ℕ)) → IsStartOf start
+    → ((end s : Seen) → Ends end → IsStill end.guard.motions end.guard.places end.guard.faults end.disk_faults s → Still s)
+    → IfTold source (WritesUntil L AnswersGuard (IsStop Ends) start status left old new) → status ≡ 12 → IfTold source (HasFullRestart IsStartOf Still)
+full-line IsStartOf Ends Still L start status None left old new begins more h twelve = tt
+full-line IsStartOf Ends Still L start status (Some text) left old new begins more h twelve = let stop = h.answers.ends in record {
   start = start;
   begins = begins;
   many = h.many;
   output = h.output;
   last = h.answers.last;
   each = h.answers.each;
-  line = h.answers.ends.restart (inr (inr twelve));
-  full = h.answers.ends.full twelve;
+  line = stop.restart (inr (inr twelve));
+  full = stop.full twelve;
+  ends = more stop.end h.answers.last stop.ends (stop.still (inr (inr twelve)));
 }

@@ -36,11 +36,11 @@ use Rattle.xfs_guard.specs.declared.fail.BootFault.TheVariants.{NotJournal, Disk
 use Rattle.xfs_script.specs.Guard.{IsGuardLine}
 use Rattle.xfs_script.specs.declared.guard_line.GuardLine.{GuardLine}
 use Rattle.xfs_script.specs.declared.guard_line.GuardLine.TheVariants.{Restart}
-use Rattle.xfs_cli.specs.RestartAnswers.{RestartFails}
+use Rattle.xfs_cli.specs.RestartAnswers.{IsFull, RestartCause, RestartFails}
 use Rattle.xfs_cli.specs.declared.session.AnswerFault.{AnswerFault}
 use Rattle.xfs_cli.specs.declared.session.AnswerFault.TheVariants.{Unbooted}
 use Rattle.xfs_cli.specs.Refused.{refusal_text}
-use Rattle.xfs_cli.specs.Seen.{Seen, IsLater, seen, shut_at}
+use Rattle.xfs_cli.specs.Seen.{Seen, IsLater, IsStill, seen, shut_at}
 use Rattle.xfs_cli.specs.LineAnswers.{WritesOne, WritesNone}
 use Rattle.xfs_cli.specs.OrderAnswers.{Carries, IsStopped, Stacks, refusal_of, order_of, with_stacked}
 use Rattle.xfs_cli.specs.VerbAnswers.{Issues, Clears, next_record}
@@ -300,26 +300,62 @@ err-fault e = cc
 unbooted-same : {a b : BootFault} → ◌≡◌ {A = AnswerFault} (Unbooted a) (Unbooted b) → a ≡ b
 unbooted-same e = cc
 
+-- a fault is handed on
+pub fault-through : {T U : Type 0} (result : Result T AnswerFault) (given fault : AnswerFault) → IsErrAnd result (λ e. e ≡ given) → result ≡ Err fault → ◌≡◌ {A = Result U AnswerFault} (Err given) (Err fault)
+fault-through (Ok x) given fault err is = absurd err
+fault-through (Err e) given fault err is = ap (λ d. Err d) (sym err ∙ err-fault is)
+
+-- a restart was refused for this
+abbrev IsFault : BootFault → BootFault → Type 0
+IsFault why fault = ◌≡◌ {A = Result (Unit {0}) BootFault} (Err why) (Err fault)
+
+-- a restart found no room for its Boot
+abbrev FindsFull : View → View → Type 0
+FindsFull old new = (J : List Rec) × IsPossible old.records old.in_doubt J × (passes old.limits (J ++ Boot old.places ∷ []) ≡ true)
+    × (new ≡ record old { records = J; bound = None; shut = false; boot_missing = true; in_doubt = None })
+
+-- a call that changes nothing of the mechanism
+still-of : {D : Type 0} (faults : D → ℕ) (old new : GuardView D) (last : Option (List ℕ)) (now : View) → faults old.disk ≤ faults new.disk → new.state ≡ now
+    → old.state.motions ≡ now.motions → old.state.places ≡ now.places → old.state.faults ≡ now.faults → IsStill new.state.motions new.state.places new.state.faults (faults new.disk) (seen faults old last)
+still-of faults old new last now later is m p f = rw is (record { motions_are = m; places_are = p; mech_is = f; later = later })
+
+-- a restart that is refused moves nothing
+pub restart-still : {D P : Type 0} (faults : D → ℕ) (old new : GuardView D) (last : Option (List ℕ)) (why : BootFault) → faults old.disk ≤ faults new.disk
+    → (IsFault why BootMemory → new.state ≡ old.state) → (IsFault why BootFull → FindsFull old.state new.state)
+    → (IsFault why BootDisk → (new.state ≡ record old.state { shut = true }) ⊎ ((J : List Rec) × IsPossible old.state.records old.state.in_doubt J × (new.state ≡ record old.state {
+      records = J;
+      bound = None;
+      shut = true;
+      in_doubt = Some (Boot old.state.places);
+    })))
+    → ((at : ℕ) → why ≡ NotJournal at → P × (new.state ≡ record old.state { shut = true }))
+    → IsStill new.state.motions new.state.places new.state.faults (faults new.disk) (seen faults old last)
+restart-still faults old new last (NotJournal at) later memory full disk none = still-of faults old new last _ later (none at refl).1 refl refl refl
+restart-still faults old new last BootDisk later memory full disk none = elim (disk refl) [
+  | inl is ↦ still-of faults old new last _ later is refl refl refl
+  | inr found ↦ still-of faults old new last _ later found.2 refl refl refl
+]
+restart-still faults old new last BootFull later memory full disk none = still-of faults old new last _ later (full refl).3 refl refl refl
+restart-still faults old new last BootMemory later memory full disk none = still-of faults old new last _ later (memory refl) refl refl refl
+
 -- a restart that is refused
 pub restart-fails : {D T : Type 0} (faults : D → ℕ) (old new : GuardView D) (last : Option (List ℕ)) (result : Result T AnswerFault) (why : BootFault)
-    → IsErrAnd result (λ e. e ≡ Unbooted why) → ((at : ℕ) → why ≡ NotJournal at → old.state.disk_told ≡ false)
-    → (◌≡◌ {A = Result (Unit {0}) BootFault} (Err why) (Err BootDisk) → Rose (faults old.disk) (faults new.disk))
-    → (◌≡◌ {A = Result (Unit {0}) BootFault} (Err why) (Err BootFull)
-    → (J : List Rec) × IsPossible old.state.records old.state.in_doubt J × (passes old.state.limits (J ++ Boot old.state.places ∷ []) ≡ true))
+    → IsErrAnd result (λ e. e ≡ Unbooted why) → IsStill new.state.motions new.state.places new.state.faults (faults new.disk) (seen faults old last)
+    → ((at : ℕ) → why ≡ NotJournal at → old.state.disk_told ≡ false) → (IsFault why BootDisk → Rose (faults old.disk) (faults new.disk)) → (IsFault why BootFull → FindsFull old.state new.state)
     → (fault : BootFault) → result ≡ Err (Unbooted fault) → RestartFails (seen faults old last) fault (seen faults new last)
-restart-fails faults old new last (Ok x) why err untold cause full fault is = absurd err
-restart-fails faults old new last (Err e) why err untold cause full fault is =
+restart-fails faults old new last (Ok x) why err still untold cause full fault is = absurd err
+restart-fails faults old new last (Err e) why err still untold cause full fault is =
     let same : why ≡ fault = unbooted-same (sym err ∙ err-fault is) in
-    subst (λ f. RestartFails (seen faults old last) f (seen faults new last)) same (by-fault why untold cause full)
+    subst (λ f. RestartFails (seen faults old last) f (seen faults new last)) same (record { still = still; cause = by-fault why untold cause full })
   where
-    by-fault : (why : BootFault) → ((at : ℕ) → why ≡ NotJournal at → old.state.disk_told ≡ false)
-        → (◌≡◌ {A = Result (Unit {0}) BootFault} (Err why) (Err BootDisk) → Rose (faults old.disk) (faults new.disk))
-        → (◌≡◌ {A = Result (Unit {0}) BootFault} (Err why) (Err BootFull)
-        → (J : List Rec) × IsPossible old.state.records old.state.in_doubt J × (passes old.state.limits (J ++ Boot old.state.places ∷ []) ≡ true))
-        → RestartFails (seen faults old last) why (seen faults new last)
+    by-fault : (why : BootFault) → ((at : ℕ) → why ≡ NotJournal at → old.state.disk_told ≡ false) → (IsFault why BootDisk → Rose (faults old.disk) (faults new.disk)) → (IsFault why BootFull → FindsFull old.state new.state)
+        → RestartCause (seen faults old last) why (seen faults new last)
     by-fault (NotJournal at) untold cause full = untold at refl
     by-fault BootDisk untold cause full = cause refl
-    by-fault BootFull untold cause full = let f = full refl in record { records = f.0; possible = f.1; passes_limit = f.2 }
+    by-fault BootFull untold cause full =
+        let f = full refl in
+        let none : IsFull new.state = rw f.3 (record { clear = refl; passes_limit = f.2 }) in
+        (record { records = f.0; possible = f.1; passes_limit = f.2 }, none)
     by-fault BootMemory untold cause full = tt
 
 -- the line of a restart, with the fault that is told

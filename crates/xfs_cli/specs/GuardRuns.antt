@@ -10,13 +10,15 @@ use Rattle.xfs_journal.specs.declared.limits.Limits.{Limits}
 use Rattle.xfs_journal.specs.declared.record.Rec.{Rec}
 use Rattle.xfs_journal.specs.declared.record.Rec.TheVariants.{Boot}
 use Rattle.xfs_guard.specs.Continues.{Continues}
+use Rattle.xfs_guard.specs.Stored.{IsStored}
 use Rattle.xfs_guard.specs.View.{View}
 use Rattle.xfs_guard.specs.declared.machine_core.Core.{Core}
 use Rattle.xfs_guard.specs.declared.fail.BootFault.{BootFault}
 use Rattle.xfs_guard.specs.declared.open.Open.TheVariants.{No}
-use Rattle.xfs_cli.specs.Boots.{WritesBoot, boot_status}
+use Rattle.xfs_cli.specs.Boots.{BootPasses, WritesBoot, boot_status}
 use Rattle.xfs_cli.specs.RestartAnswers.{HasNoRoom}
-use Rattle.xfs_cli.specs.Seen.{Seen}
+use Rattle.xfs_cli.specs.Seen.{Seen, IsLater, IsStill}
+use Rattle.xfs_cli.specs.Statuses.{IsOneOf}
 
 -- what a command finds at its entry: the key, the seed, the table of the units, the journal's limits, what the mechanism tells, the disk's bytes where it tells them, and how often the disk failed
 pub record AtEntry : Type 0 where
@@ -78,37 +80,43 @@ pub record FromBoot (e : AtEntry) (Writes : Seen → Type 0) : Type 0 where
   pub writes : Writes start
 
 -- the mechanism and the disk that come back are those of the last state
-pub record IsEnd (motions : Option (List Motion)) (places : Places) (mech_faults disk_faults : ℕ) (last : Seen) : Type 0 where
+pub record IsEnd (motions : Option (List Motion)) (places : Places) (mech_faults disk_faults : ℕ) (held : Option (List ℕ)) (images : List ℕ → Type 0) (last : Seen) : Type 0 where
   pub motions_are : last.guard.motions ≡ motions
   pub places_are : last.guard.places ≡ places
   pub mech_is : last.guard.faults ≡ mech_faults
   pub disk_is : last.disk_faults ≡ disk_faults
-
--- they failed at least as often as in the last state
-pub record IsWithin (mech_faults disk_faults : ℕ) (last : Seen) : Type 0 where
-  pub mech : last.guard.faults ≤ mech_faults
-  pub disk : last.disk_faults ≤ disk_faults
+  -- each image of the disk is that of the last state's list, or of that list with its record in doubt
+  pub stored : IsStored held images last.guard.records last.guard.in_doubt
 
 -- the statuses of a refused boot that has a last line
 abbrev pub IsOfBoot : ℕ → Type 0
 IsOfBoot status = (status ≡ 6) ⊎ ((status ≡ 7) ⊎ (status ≡ 12))
 
--- a run ended under this status at this line, behind the last state that was answered: under a status of a boot the line is `restart`, and the disk failed, doesn't tell its bytes, or has no room
-pub record IsStop (mech_faults disk_faults status : ℕ) (line : List ℕ) (last : Seen) : Type 0 where
-  pub within : IsWithin mech_faults disk_faults last
+-- a run ended under this status at this line, behind the last state that was answered, in a state of which Ends tells: under a status of a boot the line is `restart`, and the disk failed, doesn't tell its bytes, or has no room
+pub record IsStop (Ends : Seen → Type 0) (status : ℕ) (line : List ℕ) (last : Seen) : Type 0 where
+  pub end : Seen
+  pub ends : Ends end
+  -- want of memory may come behind some of a line's motions and records
+  pub continues : Continues last.guard end.guard
+  pub later : IsLater last end
+  -- where the input ended the run, nothing came behind the last state
+  pub ended : IsOneOf (3 ∷ 4 ∷ 10 ∷ []) status → last ≡ end
+  -- a refused restart moves nothing
+  pub still : IsOfBoot status → IsStill end.guard.motions end.guard.places end.guard.faults end.disk_faults last
   pub restart : IsOfBoot status → line ≡ codes "restart"
-  pub failed : status ≡ 6 → Rose last.disk_faults disk_faults
+  pub failed : status ≡ 6 → Rose last.disk_faults end.disk_faults
   pub untold : status ≡ 7 → last.guard.disk_told ≡ false
   pub full : status ≡ 12 → HasNoRoom last.guard
 
--- a later state of the run, in which a restart has no room for its Boot
-pub record RunsFull (start : Seen) : Type 0 where
-  pub later : View
-  pub continues : Continues start.guard later
-  pub full : HasNoRoom later
+-- the disk reads as a list behind which a Boot of these places passes a limit
+pub record IsFullAtEnd (limits : Limits) (places : Places) (held : Option (List ℕ)) : Type 0 where
+  pub records : List Rec
+  pub stands : IfTold held (λ bytes. Stands bytes records)
+  pub passes_limit : BootPasses limits places records
 
--- the boot was refused: no line is answered, and the sink took a front of the last line
-pub record IsUnbooted (status : ℕ) (before after : Option (List ℕ)) : Type 0 where
+-- the boot was refused: nothing was read of the input, and the sink took a front of the last line
+pub record IsUnbooted (status : ℕ) (left left' before after : Option (List ℕ)) : Type 0 where
   pub why : BootFault
   pub status_is : status ≡ boot_status why
+  pub unread : left' ≡ left
   pub written : WritesBoot why before after

@@ -8,7 +8,7 @@ use Rattle.xfs_guard.specs.View.{View, restarted}
 use Rattle.xfs_guard.specs.declared.fail.BootFault.{BootFault}
 use Rattle.xfs_guard.specs.declared.fail.BootFault.TheVariants.{NotJournal, Disk, Full, Memory}
 use Rattle.xfs_cli.specs.Boots.{BootPasses}
-use Rattle.xfs_cli.specs.Seen.{Seen, Becomes}
+use Rattle.xfs_cli.specs.Seen.{Seen, Becomes, IsStill}
 
 -- the journal is read as the kept list, or as that one with the record in doubt, and its Boot passes no limit; the token that was minted last stays
 pub record Restarts (s : Seen) (line : List ℕ) (next : Seen) : Type 0 where
@@ -24,9 +24,19 @@ pub record HasNoRoom (v : View) : Type 0 where
   pub possible : IsPossible v.records v.in_doubt records
   pub passes_limit : BootPasses v.limits v.places records
 
--- why a restart ends the run: the disk's bytes are no journal, which is never so where it tells them; the disk fails; its Boot has no room; or memory runs out
-abbrev pub RestartFails : Seen → BootFault → Seen → Type 0
-RestartFails s (NotJournal at) next = s.guard.disk_told ≡ false
-RestartFails s Disk next = Rose s.disk_faults next.disk_faults
-RestartFails s Full next = HasNoRoom s.guard
-RestartFails s Memory next = ⊤
+-- no record is in doubt, and the Boot passes a limit behind the list
+pub record IsFull (v : View) : Type 0 where
+  pub clear : v.in_doubt ≡ None
+  pub passes_limit : BootPasses v.limits v.places v.records
+
+-- why a restart ends the run: the disk's bytes are no journal, which is never so where it tells them; the disk fails; its Boot has no room, and none behind the list that was read; or memory runs out
+abbrev pub RestartCause : Seen → BootFault → Seen → Type 0
+RestartCause s (NotJournal at) next = s.guard.disk_told ≡ false
+RestartCause s Disk next = Rose s.disk_faults next.disk_faults
+RestartCause s Full next = HasNoRoom s.guard × IsFull next.guard
+RestartCause s Memory next = ⊤
+
+-- a restart that ends the run has a cause, and moves nothing
+pub record RestartFails (s : Seen) (fault : BootFault) (next : Seen) : Type 0 where
+  pub still : IsStill next.guard.motions next.guard.places next.guard.faults next.disk_faults s
+  pub cause : RestartCause s fault next

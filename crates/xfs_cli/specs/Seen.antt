@@ -2,6 +2,8 @@
 use Rattle.std.specs.Prelude.{◌≡◌, ◌≤◌, ℕ, List}
 use Rattle.std.specs.declared.option.Option.{Option}
 use Rattle.xfs_base.specs.Causes.{Rose}
+use Rattle.xfs_base.specs.declared.counts.Places.{Places}
+use Rattle.xfs_mech.specs.declared.motion.Motion.{Motion}
 use Rattle.xfs_journal.specs.declared.record.Rec.{Rec}
 use Rattle.xfs_guard.specs.View.{View, GuardView}
 pub use Rattle.xfs_guard.specs.View.{shut_at}
@@ -20,6 +22,13 @@ seen faults g last = record { guard = g.state; disk_faults = faults g.disk; last
 pub record IsLater (old new : Seen) : Type 0 where
   pub mech : old.guard.faults ≤ new.guard.faults
   pub disk : old.disk_faults ≤ new.disk_faults
+
+-- the mechanism is still as the session has it, and the disk's count of faults has not fallen
+pub record IsStill (motions : Option (List Motion)) (places : Places) (mech_faults disk_faults : ℕ) (s : Seen) : Type 0 where
+  pub motions_are : s.guard.motions ≡ motions
+  pub places_are : s.guard.places ≡ places
+  pub mech_is : s.guard.faults ≡ mech_faults
+  pub later : s.disk_faults ≤ disk_faults
 
 -- this is the guard then; the disk may have been called
 pub record Becomes (old : Seen) (now : View) (new : Seen) : Type 0 where

@@ -20,8 +20,8 @@ IsOneOf (x ∷ xs) n = (n ≡ x) ⊎ IsOneOf xs n
 abbrev pub IsStatus : ℕ → Type 0
 IsStatus status = IsOneOf (0 ∷ 2 ∷ 3 ∷ 4 ∷ 5 ∷ 6 ∷ 7 ∷ 8 ∷ 10 ∷ 12 ∷ []) status
 
--- a line of the text is `restart`, and finds no room for its Boot behind the state that the lines before it left, answered from the start of the run on
-pub record HasFullRestart (IsStartOf : Seen → Type 0) (text : List ℕ) : Type 0 where
+-- a line of the text is `restart`, and finds no room for its Boot behind the state that the lines before it left, answered from the start of the run on; Ends tells of that state
+pub record HasFullRestart (IsStartOf Ends : Seen → Type 0) (text : List ℕ) : Type 0 where
   pub start : Seen
   pub begins : IsStartOf start
   pub many : ℕ
@@ -30,13 +30,14 @@ pub record HasFullRestart (IsStartOf : Seen → Type 0) (text : List ℕ) : Type
   pub each : AnswersEach AnswersGuard start (first_lines many text) output last
   pub line : first_line (behind many text) ≡ codes "restart"
   pub full : HasNoRoom last.guard
+  pub ends : Ends last
 
--- every line of the input is a line, the input is short enough, and the Boot passes no limit behind the records of the disk, nor does that of a restart
-pub record IsUnhindered (IsStartOf : Seen → Type 0) (text : List ℕ) (limits : Limits) (places : Places) (records : List Rec) : Type 0 where
+-- every line of the input is a line, the input is short enough, and the Boot passes no limit behind the records of the disk, nor does that of a restart which ends the run
+pub record IsUnhindered (IsStartOf Ends : Seen → Type 0) (text : List ℕ) (limits : Limits) (places : Places) (records : List Rec) : Type 0 where
   pub lines : AllLines text
   pub short : length text < 67108864
   pub boots : ¬ (BootPasses limits places records)
-  pub restarts : ¬ (HasFullRestart IsStartOf text)
+  pub restarts : ¬ (HasFullRestart IsStartOf Ends text)
 
 -- the input was read to its end, or memory ran out
 abbrev pub IsFinished : ℕ → Type 0

@@ -42,6 +42,7 @@ impl<M: Mechanism, D: Disk> Session<M, D> {
         ensures write { result ≡ Turn.Write → SaysFront AnswersGuard (seen D.faults self.old.guard self.old.last) line.now.text (seen D.faults self.new.guard self.new.last) (K.held sink.old) (K.held sink.new) }
         ensures line { result ≢ Turn.NotALine → result ≢ Turn.Memory → IsLine line.now.text }
         ensures no_line { result ≡ Turn.NotALine → ¬ (IsLine line.now.text) }
+        ensures still { result ≡ Turn.NotALine → seen D.faults self.new.guard self.new.last ≡ seen D.faults self.old.guard self.old.last }
         ensures unbooted { (fault : BootFault) → result ≡ Turn.Unbooted fault → (line.now.text ≡ codes "restart") × RestartFails (seen D.faults self.old.guard self.old.last) fault (seen D.faults self.new.guard self.new.last) }
         ensures same_unbooted { (fault : BootFault) → result ≡ Turn.Unbooted fault → sink.new ≡ sink.old }
         ensures same_no_line { result ≡ Turn.NotALine → sink.new ≡ sink.old }

@@ -15,8 +15,9 @@ ghost use Rattle.xfs_guard.specs.Stored.{IsStored, MayLeave};
 ghost use Rattle.xfs_cli.specs.Run.{IsGuard, AllLines, StopsAtLine, GaveAll};
 ghost use Rattle.xfs_cli.specs.Answers.{WritesAll, WritesFront, WritesUntil, WritesUsage};
 ghost use Rattle.xfs_cli.specs.GuardLines.{IsLine};
-ghost use Rattle.xfs_cli.specs.GuardRuns.{FromBoot, IsEnd, IsStart, IsStop, IsWithin, IsUnbooted, RunsFull, at_entry};
-ghost use Rattle.xfs_cli.specs.Seen.{IsLater, seen};
+ghost use Rattle.xfs_cli.specs.GuardRuns.{FromBoot, IsEnd, IsFullAtEnd, IsStart, IsStop, IsUnbooted, at_entry};
+ghost use Rattle.xfs_cli.specs.Seen.{IsStill, seen};
+ghost use Rattle.xfs_cli.specs.RestartAnswers.{IsFull};
 ghost use Rattle.xfs_cli.specs.VerbAnswers.{AnswersGuard};
 ghost use Rattle.xfs_cli.specs.Complete.{IsComplete};
 ghost use Rattle.xfs_cli.specs.Boots.{EndsFailed, EndsUnread, EndsFull, BootPasses, IsDue, IsNoJournal, IsUnwritten};
@@ -53,6 +54,8 @@ pub fn guard<S: Source, K: Sink, M: Mechanism, D: Disk>(
 
     ensures usage { (result.status ≡ 2) ↔ ¬ (IsGuard words.now) }
     ensures usage_written { result.status ≡ 2 → WritesUsage (K.held sink.old) (K.held sink.new) }
+    ensures idle { result.status ≡ 2 → result.mech ≡ core.mech }
+    ensures idle_disk { result.status ≡ 2 → result.disk ≡ core.disk }
     ensures whole { result.status ≡ 0 → IsAtEnd (S.left source.new) }
     ensures lines { result.status ≡ 0 → IfTold (S.left source.old) AllLines }
     ensures not_a_line { result.status ≡ 4 → IfTold (S.left source.old) StopsAtLine }
@@ -62,18 +65,18 @@ pub fn guard<S: Source, K: Sink, M: Mechanism, D: Disk>(
 
     // What is written: the answers of the lines, and at most one last line.
     ensures answers { result.status ≡ 0 → IfTold (S.left source.old) (λ text. FromBoot (at_entry M.motions M.places M.faults D.held D.faults core)
-        (λ start. WritesAll AnswersGuard (IsEnd (M.motions result.mech) (M.places result.mech) (M.faults result.mech) (D.faults result.disk)) start (K.held sink.old) (K.held sink.new) text)) }
+        (λ start. WritesAll AnswersGuard (IsEnd (M.motions result.mech) (M.places result.mech) (M.faults result.mech) (D.faults result.disk) (D.held result.disk) (D.images result.disk)) start (K.held sink.old) (K.held sink.new) text)) }
     ensures front { result.status ≡ 5 → IfTold (S.left source.old) (λ text. FromBoot (at_entry M.motions M.places M.faults D.held D.faults core)
-        (λ start. WritesFront AnswersGuard (IsWithin (M.faults result.mech) (D.faults result.disk)) start (K.held sink.old) (K.held sink.new) text)) }
-    ensures until { result.status ≢ 0 → result.status ≢ 2 → result.status ≢ 5 → IfTold (S.left source.old) (λ text. IsUnbooted result.status (K.held sink.old) (K.held sink.new) ⊎ FromBoot (at_entry M.motions M.places M.faults D.held D.faults core)
-        (λ start. WritesUntil IsLine AnswersGuard (IsStop (M.faults result.mech) (D.faults result.disk)) start result.status (S.left source.new) (K.held sink.old) (K.held sink.new) text)) }
+        (λ start. WritesFront AnswersGuard (IsEnd (M.motions result.mech) (M.places result.mech) (M.faults result.mech) (D.faults result.disk) (D.held result.disk) (D.images result.disk)) start (K.held sink.old) (K.held sink.new) text)) }
+    ensures until { result.status ≢ 0 → result.status ≢ 2 → result.status ≢ 5 → IfTold (S.left source.old) (λ text. IsUnbooted result.status (S.left source.old) (S.left source.new) (K.held sink.old) (K.held sink.new) ⊎ FromBoot (at_entry M.motions M.places M.faults D.held D.faults core)
+        (λ start. WritesUntil IsLine AnswersGuard (IsStop (IsEnd (M.motions result.mech) (M.places result.mech) (M.faults result.mech) (D.faults result.disk) (D.held result.disk) (D.images result.disk))) start result.status (S.left source.new) (K.held sink.old) (K.held sink.new) text)) }
 
     // Of these answers: a dispense that its token covers, and a present behind it, are done in full where nothing fails.
     ensures complete { IsComplete }
 
     ensures boot_disk { result.status ≡ 6 → EndsFailed (D.faults core.disk) (D.faults result.disk) (K.held sink.old) (K.held sink.new) ⊎ FromBoot (at_entry M.motions M.places M.faults D.held D.faults core) (λ _. Rose (D.faults core.disk) (D.faults result.disk)) }
     ensures not_journal { result.status ≡ 7 → EndsUnread (D.held core.disk) (K.held sink.old) (K.held sink.new) ⊎ FromBoot (at_entry M.motions M.places M.faults D.held D.faults core) (λ _. D.held core.disk ≡ None) }
-    ensures full { result.status ≡ 12 → EndsFull core.limits (M.places core.mech) (D.held core.disk) (K.held sink.old) (K.held sink.new) ⊎ FromBoot (at_entry M.motions M.places M.faults D.held D.faults core) RunsFull }
+    ensures full { result.status ≡ 12 → EndsFull core.limits (M.places core.mech) (D.held core.disk) (K.held sink.old) (K.held sink.new) ⊎ FromBoot (at_entry M.motions M.places M.faults D.held D.faults core) (λ _. IsFullAtEnd core.limits (M.places result.mech) (D.held result.disk)) }
     ensures unread { IsGuard words.now → IfTold (D.held core.disk) (λ bytes. IsNoJournal bytes → IsDue 7 result.status) }
     ensures overfull { IsGuard words.now → IfTold (D.held core.disk) (λ bytes. (J : List Rec) → Stands bytes J → BootPasses core.limits (M.places core.mech) J → IsDue 12 result.status) }
     ensures unwritten { IfTold (D.held core.disk) (λ bytes. IsNoJournal bytes → IsUnwritten (D.held core.disk) (D.held result.disk) (D.images core.disk) (D.images result.disk)) }
@@ -86,7 +89,7 @@ pub fn guard<S: Source, K: Sink, M: Mechanism, D: Disk>(
     ensures told_disk { is_some (D.held result.disk) ≡ is_some (D.held core.disk) }
     ensures statuses { IsStatus result.status }
     ensures finishes { IsGuard words.now → ¬ (Rose (S.faults source.old) (S.faults source.new)) → ¬ (Rose (K.faults sink.old) (K.faults sink.new)) → ¬ (Rose (D.faults core.disk) (D.faults result.disk))
-        → IfTold (S.left source.old) (λ text. IfTold (D.held core.disk) (λ bytes. (J : List Rec) → Stands bytes J → IsUnhindered (IsStart (at_entry M.motions M.places M.faults D.held D.faults core)) text core.limits (M.places core.mech) J → IsFinished result.status)) }
+        → IfTold (S.left source.old) (λ text. IfTold (D.held core.disk) (λ bytes. (J : List Rec) → Stands bytes J → IsUnhindered (IsStart (at_entry M.motions M.places M.faults D.held D.faults core)) (IsStill (M.motions result.mech) (M.places result.mech) (M.faults result.mech) (D.faults result.disk)) text core.limits (M.places core.mech) J → IsFinished result.status)) }
 {
     let Core {
         mech,
@@ -152,14 +155,14 @@ fn serve<S: Source, K: Sink, M: Mechanism, D: Disk>(
     requires none { session.old.guard.state.open_order ≡ No }
     requires key { session.old.key ≡ session.old.guard.state.key }
     ensures answers { result ≡ 0 → IfTold (S.left source.old) (WritesAll AnswersGuard (λ last. last ≡ seen D.faults session.new.guard session.new.last) (seen D.faults session.old.guard session.old.last) (K.held sink.old) (K.held sink.new)) }
-    ensures front { result ≡ 5 → IfTold (S.left source.old) (WritesFront AnswersGuard (λ last. IsLater last (seen D.faults session.new.guard session.new.last)) (seen D.faults session.old.guard session.old.last) (K.held sink.old) (K.held sink.new)) }
-    ensures until { result ≢ 0 → result ≢ 5 → IfTold (S.left source.old) (WritesUntil IsLine AnswersGuard (IsStop session.new.guard.state.faults (D.faults session.new.guard.disk)) (seen D.faults session.old.guard session.old.last) result (S.left source.new) (K.held sink.old) (K.held sink.new)) }
+    ensures front { result ≡ 5 → IfTold (S.left source.old) (WritesFront AnswersGuard (λ last. last ≡ seen D.faults session.new.guard session.new.last) (seen D.faults session.old.guard session.old.last) (K.held sink.old) (K.held sink.new)) }
+    ensures until { result ≢ 0 → result ≢ 5 → IfTold (S.left source.old) (WritesUntil IsLine AnswersGuard (IsStop (λ end. end ≡ seen D.faults session.new.guard session.new.last)) (seen D.faults session.old.guard session.old.last) result (S.left source.new) (K.held sink.old) (K.held sink.new)) }
     ensures continues { Continues session.old.guard.state session.new.guard.state }
     ensures crashes { LeavesBehind D.held D.images D.moment D.images_since session.old.guard session.new.guard }
     ensures usage { result ≢ 2 }
     ensures failed { result ≡ 6 → Rose (D.faults session.old.guard.disk) (D.faults session.new.guard.disk) }
     ensures untold { result ≡ 7 → session.old.guard.state.disk_told ≡ false }
-    ensures full { result ≡ 12 → RunsFull (seen D.faults session.old.guard session.old.last) }
+    ensures full { result ≡ 12 → IsFull session.new.guard.state }
     ensures whole { result ≡ 0 → IsAtEnd (S.left source.new) }
     ensures lines { result ≡ 0 → IfTold (S.left source.old) AllLines }
     ensures not_a_line { result ≡ 4 → IfTold (S.left source.old) StopsAtLine }

@@ -15,7 +15,8 @@ ghost use Rattle.xfs_mech.specs.Moves.{AddsUp, IsNewer};
 ghost use Rattle.xfs_cli.specs.Boots.{EndsFailed, EndsUnread, EndsFull, BootPasses, IsDue, IsNoJournal, IsUnwritten};
 ghost use Rattle.xfs_cli.specs.Answers.{Unsaid, AnyStop, WritesAll, WritesUntil, WritesFront, WritesUsage};
 ghost use Rattle.xfs_cli.specs.GuardLines.{IsLine};
-ghost use Rattle.xfs_cli.specs.GuardRuns.{FromBoot, IsEnd, IsStart, IsStop, IsWithin, IsUnbooted, RunsFull, at_entry};
+ghost use Rattle.xfs_cli.specs.Seen.{IsStill};
+ghost use Rattle.xfs_cli.specs.GuardRuns.{FromBoot, IsEnd, IsFullAtEnd, IsStart, IsStop, IsUnbooted, at_entry};
 ghost use Rattle.xfs_cli.specs.Complete.{IsComplete};
 ghost use Rattle.xfs_cli.specs.VerbAnswers.{AnswersGuard};
 ghost use Rattle.xfs_cli.specs.TokenAnswers.{AnswersToken, IsLineOfToken};
@@ -56,6 +57,8 @@ pub fn run<S: Source, K: Sink, M: Mechanism, D: Disk>(
     // Each status has its cause.
     ensures usage { (result.status ≡ 2) ↔ ¬ (IsCommand words.now) }
     ensures usage_written { result.status ≡ 2 → WritesUsage (K.held sink.old) (K.held sink.new) }
+    ensures idle { result.status ≡ 2 → result.mech ≡ core.mech }
+    ensures idle_disk { result.status ≡ 2 → result.disk ≡ core.disk }
     ensures whole { result.status ≡ 0 → IsAtEnd (S.left source.new) }
     ensures quota { result.status ≡ 10 → GaveAll (S.left source.old) (S.left source.new) }
     ensures read { result.status ≡ 3 → Rose (S.faults source.old) (S.faults source.new) }
@@ -63,7 +66,7 @@ pub fn run<S: Source, K: Sink, M: Mechanism, D: Disk>(
 
     ensures boot_disk { result.status ≡ 6 → EndsFailed (D.faults core.disk) (D.faults result.disk) (K.held sink.old) (K.held sink.new) ⊎ FromBoot (at_entry M.motions M.places M.faults D.held D.faults core) (λ _. Rose (D.faults core.disk) (D.faults result.disk)) }
     ensures not_journal { result.status ≡ 7 → EndsUnread (D.held core.disk) (K.held sink.old) (K.held sink.new) ⊎ FromBoot (at_entry M.motions M.places M.faults D.held D.faults core) (λ _. D.held core.disk ≡ None) }
-    ensures full { result.status ≡ 12 → EndsFull core.limits (M.places core.mech) (D.held core.disk) (K.held sink.old) (K.held sink.new) ⊎ FromBoot (at_entry M.motions M.places M.faults D.held D.faults core) RunsFull }
+    ensures full { result.status ≡ 12 → EndsFull core.limits (M.places core.mech) (D.held core.disk) (K.held sink.old) (K.held sink.new) ⊎ FromBoot (at_entry M.motions M.places M.faults D.held D.faults core) (λ _. IsFullAtEnd core.limits (M.places result.mech) (D.held result.disk)) }
     ensures unread { IsGuard words.now → IfTold (D.held core.disk) (λ bytes. IsNoJournal bytes → IsDue 7 result.status) }
     ensures overfull { IsGuard words.now → IfTold (D.held core.disk) (λ bytes. (J : List Rec) → Stands bytes J → BootPasses core.limits (M.places core.mech) J → IsDue 12 result.status) }
 
@@ -75,11 +78,11 @@ pub fn run<S: Source, K: Sink, M: Mechanism, D: Disk>(
     ensures lines { IsGuard words.now → result.status ≡ 0 → IfTold (S.left source.old) AllLines }
     ensures not_a_line { IsGuard words.now → result.status ≡ 4 → IfTold (S.left source.old) StopsAtLine }
     ensures guard_answers { IsGuard words.now → result.status ≡ 0 → IfTold (S.left source.old) (λ text. FromBoot (at_entry M.motions M.places M.faults D.held D.faults core)
-        (λ start. WritesAll AnswersGuard (IsEnd (M.motions result.mech) (M.places result.mech) (M.faults result.mech) (D.faults result.disk)) start (K.held sink.old) (K.held sink.new) text)) }
+        (λ start. WritesAll AnswersGuard (IsEnd (M.motions result.mech) (M.places result.mech) (M.faults result.mech) (D.faults result.disk) (D.held result.disk) (D.images result.disk)) start (K.held sink.old) (K.held sink.new) text)) }
     ensures guard_front { IsGuard words.now → result.status ≡ 5 → IfTold (S.left source.old) (λ text. FromBoot (at_entry M.motions M.places M.faults D.held D.faults core)
-        (λ start. WritesFront AnswersGuard (IsWithin (M.faults result.mech) (D.faults result.disk)) start (K.held sink.old) (K.held sink.new) text)) }
-    ensures guard_until { IsGuard words.now → result.status ≢ 0 → result.status ≢ 5 → IfTold (S.left source.old) (λ text. IsUnbooted result.status (K.held sink.old) (K.held sink.new) ⊎ FromBoot (at_entry M.motions M.places M.faults D.held D.faults core)
-        (λ start. WritesUntil IsLine AnswersGuard (IsStop (M.faults result.mech) (D.faults result.disk)) start result.status (S.left source.new) (K.held sink.old) (K.held sink.new) text)) }
+        (λ start. WritesFront AnswersGuard (IsEnd (M.motions result.mech) (M.places result.mech) (M.faults result.mech) (D.faults result.disk) (D.held result.disk) (D.images result.disk)) start (K.held sink.old) (K.held sink.new) text)) }
+    ensures guard_until { IsGuard words.now → result.status ≢ 0 → result.status ≢ 5 → IfTold (S.left source.old) (λ text. IsUnbooted result.status (S.left source.old) (S.left source.new) (K.held sink.old) (K.held sink.new) ⊎ FromBoot (at_entry M.motions M.places M.faults D.held D.faults core)
+        (λ start. WritesUntil IsLine AnswersGuard (IsStop (IsEnd (M.motions result.mech) (M.places result.mech) (M.faults result.mech) (D.faults result.disk) (D.held result.disk) (D.images result.disk))) start result.status (S.left source.new) (K.held sink.old) (K.held sink.new) text)) }
 
     // Of the answers of `guard`: a dispense that its token covers, and a present behind it, are done in full where nothing fails.
     ensures complete { IsComplete }
@@ -100,7 +103,7 @@ pub fn run<S: Source, K: Sink, M: Mechanism, D: Disk>(
     // The statuses that there are, and a run of `guard` that nothing hinders.
     ensures statuses { IsStatus result.status }
     ensures finishes { IsGuard words.now → ¬ (Rose (S.faults source.old) (S.faults source.new)) → ¬ (Rose (K.faults sink.old) (K.faults sink.new)) → ¬ (Rose (D.faults core.disk) (D.faults result.disk))
-        → IfTold (S.left source.old) (λ text. IfTold (D.held core.disk) (λ bytes. (J : List Rec) → Stands bytes J → IsUnhindered (IsStart (at_entry M.motions M.places M.faults D.held D.faults core)) text core.limits (M.places core.mech) J → IsFinished result.status)) }
+        → IfTold (S.left source.old) (λ text. IfTold (D.held core.disk) (λ bytes. (J : List Rec) → Stands bytes J → IsUnhindered (IsStart (at_entry M.motions M.places M.faults D.held D.faults core)) (IsStill (M.motions result.mech) (M.places result.mech) (M.faults result.mech) (D.faults result.disk)) text core.limits (M.places core.mech) J → IsFinished result.status)) }
 {
     if is_word(words, "guard") {
         return guard(alloc, words, source, sink, core);

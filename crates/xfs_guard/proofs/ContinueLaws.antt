@@ -72,7 +72,7 @@ pub Led-trans : (J0 J1 J2 : List Rec) (L0 L1 L2 : List Motion) (P0 P1 P2 : Place
 Led-trans J0 J1 J2 L0 L1 L2 P0 P1 P2 one two = record { follows = Follows-trans J0 J1 J2 L0 L1 L2 P0 P1 P2 one.known one.follows two.follows; known = two.known }
 
 pub Continues-trans : (a b c : View) → Continues a b → Continues b c → Continues a c
-Continues-trans a b c p q = record { leads = go a.motions b.motions c.motions p.leads q.leads; key = q.key ∙ p.key; seed = q.seed ∙ p.seed; units = q.units ∙ p.units; moves = Moves-trans a.motions b.motions c.motions a.places b.places c.places p.moves q.moves; disk_told = q.disk_told ∙ p.disk_told; grew = begins-trans a.records b.records c.records p.grew q.grew; left = λ J was. q.left J (p.left J was) }
+Continues-trans a b c p q = record { leads = go a.motions b.motions c.motions p.leads q.leads; key = q.key ∙ p.key; seed = q.seed ∙ p.seed; units = q.units ∙ p.units; moves = Moves-trans a.motions b.motions c.motions a.places b.places c.places p.moves q.moves; disk_told = q.disk_told ∙ p.disk_told; limits = q.limits ∙ p.limits; grew = begins-trans a.records b.records c.records p.grew q.grew; left = λ J was. q.left J (p.left J was) }
   where
     go : (x y z : Option (List Motion)) → Leads a b x y → Leads b c y z → Leads a c x z
     go None None None p q = tt
@@ -98,9 +98,9 @@ abbrev pub MayGrow : View → Rec → List Rec → Type 0
 MayGrow v r J = IsPossible v.records v.in_doubt J ⊎ ((K : List Rec) × IsPossible v.records v.in_doubt K × (J ≡ K ++ r ∷ []))
 
 -- at most this record came behind the possible lists; a Boot has the places
-pub Continues-grown : (v w : View) (r : Rec) → ((p : Places) → r ≡ Boot p → v.places ≡ p) → w.motions ≡ v.motions → w.places ≡ v.places → w.key ≡ v.key → w.seed ≡ v.seed → w.units ≡ v.units → w.disk_told ≡ v.disk_told
+pub Continues-grown : (v w : View) (r : Rec) → ((p : Places) → r ≡ Boot p → v.places ≡ p) → w.motions ≡ v.motions → w.places ≡ v.places → w.key ≡ v.key → w.seed ≡ v.seed → w.units ≡ v.units → w.disk_told ≡ v.disk_told → w.limits ≡ v.limits
     → ((J : List Rec) → IsPossible w.records w.in_doubt J → MayGrow v r J) → BeginsWith w.records v.records → ((J : List Rec) → IsLeftAt v J → IsLeftAt w J) → Continues v w
-Continues-grown v w r boots motions places key seed units disk grown longer left = record { leads = told v.motions w.motions motions; key = key; seed = seed; units = units; moves = rw (motions, places) (Moves-same v.motions v.places); disk_told = disk; grew = longer; left = left }
+Continues-grown v w r boots motions places key seed units disk limits grown longer left = record { leads = told v.motions w.motions motions; key = key; seed = seed; units = units; moves = rw (motions, places) (Moves-same v.motions v.places); disk_told = disk; limits = limits; grew = longer; left = left }
   where
     comes : (L : List Motion) (J : List Rec) → MayGrow v r J → Comes v w L L J
     comes L J (inl old) = record { from = J; possible = old; led = λ known. rw places (Led-same J L v.places known) }
@@ -111,7 +111,7 @@ Continues-grown v w r boots motions places key seed units disk grown longer left
     told (Some L) n e = rw e (λ J possible. comes L J (grown J possible))
 
 pub Continues-same : (v : View) → Continues v v
-Continues-same v = record { leads = told v.motions; key = refl; seed = refl; units = refl; moves = Moves-same v.motions v.places; disk_told = refl; grew = begins-same v.records; left = λ J was. was }
+Continues-same v = record { leads = told v.motions; key = refl; seed = refl; units = refl; moves = Moves-same v.motions v.places; disk_told = refl; limits = refl; grew = begins-same v.records; left = λ J was. was }
   where
     told : (m : Option (List Motion)) → Leads v v m m
     told None = tt
@@ -120,13 +120,13 @@ Continues-same v = record { leads = told v.motions; key = refl; seed = refl; uni
 -- one more record was written
 pub Continues-written : (v : View) (r : Rec) (w : Option (List (List ℕ × ℕ))) (o : Open) → v.in_doubt ≡ None → v.shut ≡ false → v.boot_missing ≡ false → ((p : Places) → r ≡ Boot p → v.places ≡ p) → Continues v (record (longer v r w o) { shut = false; in_doubt = None })
 Continues-written v r w o none open_still booted boots =
-    Continues-grown v (record (longer v r w o) { shut = false; in_doubt = None }) r boots refl refl refl refl refl refl (λ J possible. inr (v.records, inl refl, only-possible (v.records ++ r ∷ []) J None refl possible))
+    Continues-grown v (record (longer v r w o) { shut = false; in_doubt = None }) r boots refl refl refl refl refl refl refl (λ J possible. inr (v.records, inl refl, only-possible (v.records ++ r ∷ []) J None refl possible))
     (begins-push v.records v.records r (begins-same v.records)) (λ J was. left-push v.records r v.in_doubt (is_closed v) (is_closed (record (longer v r w o) { shut = false; in_doubt = None })) J none (rw (open_still, booted) refl) was)
 
 -- it is not known whether the record was written
 pub Continues-doubted : (v : View) (r : Rec) (o : Open) → v.in_doubt ≡ None → v.shut ≡ false → v.boot_missing ≡ false → ((p : Places) → r ≡ Boot p → v.places ≡ p) → Continues v (record v { shut = true; in_doubt = Some r; open_order = o })
 Continues-doubted v r o none open_still booted boots =
-    Continues-grown v (record v { shut = true; in_doubt = Some r; open_order = o }) r boots refl refl refl refl refl refl (λ J possible. elim (doubted-possible v.records J r possible) [
+    Continues-grown v (record v { shut = true; in_doubt = Some r; open_order = o }) r boots refl refl refl refl refl refl refl (λ J possible. elim (doubted-possible v.records J r possible) [
       | inl is ↦ inl (inl is)
       | inr is ↦ inr (v.records, inl refl, is)
     ]) (begins-same v.records) (λ J was. left-doubt v.records r v.in_doubt (is_closed v) J none (rw (open_still, booted) refl) was)
@@ -135,7 +135,7 @@ Continues-doubted v r o none open_still booted boots =
 pub Continues-act : (v : View) (k : Kind) (m d : Counts) (failed : Bool) (now : Option (List Motion)) (Q : Places) (f : ℕ) → v.in_doubt ≡ None
     → Grows v.motions (Moved (length v.records) k m d) now → PlacesOf v.places (Moved (length v.records) k m d ∷ []) Q
     → Continues v (acted_view v k m d failed now Q f)
-Continues-act v k m d failed now Q f none grows places = record { leads = told v.motions grows; key = refl; seed = refl; units = refl; moves = Moves-entry _ v.motions now v.places Q grows places; disk_told = refl; grew = begins-same v.records; left = λ J was. was }
+Continues-act v k m d failed now Q f none grows places = record { leads = told v.motions grows; key = refl; seed = refl; units = refl; moves = Moves-entry _ v.motions now v.places Q grows places; disk_told = refl; limits = refl; grew = begins-same v.records; left = λ J was. was }
   where
     told : (was : Option (List Motion)) → Grows was (Moved (length v.records) k m d) now → Leads v (acted_view v k m d failed now Q f) was now
     told None g = rw g tt

@@ -141,11 +141,11 @@ pub Continues-refused : (T : Type 0) {D : Type 0} (e : Deny) (key seed : List �
 Continues-refused T e key seed o motions places faults old new r w was told wrote why same none open_still booted boots = ⊎_elim memory disk why
   where
     memory : e ≡ Memory → Continues (over key seed o motions places faults old was) (over key seed o motions places faults new told)
-    memory is = let s = rw is at wrote in Continues-grown (over key seed o motions places faults old was) (over key seed o motions places faults new told) r boots refl refl refl refl s.units same
+    memory is = let s = rw is at wrote in Continues-grown (over key seed o motions places faults old was) (over key seed o motions places faults new told) r boots refl refl refl refl s.units same s.limits
         (λ J possible. inl (rw (s.records, s.in_doubt) at possible)) (rw s.records (begins-same old.records)) (λ J was. rw (s.records, s.in_doubt, s.shut, s.boot_missing) was)
 
     disk : e ≡ Disk → Continues (over key seed o motions places faults old was) (over key seed o motions places faults new told)
-    disk is = let s = rw is at wrote in Continues-grown (over key seed o motions places faults old was) (over key seed o motions places faults new told) r boots refl refl refl refl s.units same
+    disk is = let s = rw is at wrote in Continues-grown (over key seed o motions places faults old was) (over key seed o motions places faults new told) r boots refl refl refl refl s.units same s.limits
         (λ J possible. elim (doubted-possible old.records J r (rw (s.records, s.in_doubt) at possible)) [
           | inl kept ↦ inl (inl kept)
           | inr more ↦ inr (old.records, inl refl, more)

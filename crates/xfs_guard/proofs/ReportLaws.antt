@@ -181,12 +181,12 @@ HasRoom-report o e m d failed was now P Q before spare left room h more r = go o
 -- what follows after a report, also behind a record in doubt
 pub Continues-report : (v : View) (e : Motion) (m d : Counts) (failed : Bool) (now : Option (List Motion)) (Q : Places) (f spare left : ℕ) → IsReport e
     → Reports e m d failed v.motions now v.places Q spare left → Continues v (reported_view v now Q f)
-Continues-report v e m d true now Q f spare left is r = let none = r.nothing refl in rw (none.0, none.1) (record { leads = same v.motions; key = refl; seed = refl; units = refl; moves = Moves-same v.motions v.places; disk_told = refl; grew = begins-same v.records; left = λ J was. was })
+Continues-report v e m d true now Q f spare left is r = let none = r.nothing refl in rw (none.0, none.1) (record { leads = same v.motions; key = refl; seed = refl; units = refl; moves = Moves-same v.motions v.places; disk_told = refl; limits = refl; grew = begins-same v.records; left = λ J was. was })
   where
     same : (told : Option (List Motion)) → Leads v (reported_view v v.motions v.places f) told told
     same None = tt
     same (Some L) = λ J possible. record { from = J; possible = possible; led = Led-same J L v.places }
-Continues-report v e m d false now Q f spare left is r = record { leads = told v.motions (r.grown refl); key = refl; seed = refl; units = refl; moves = Moves-entry e v.motions now v.places Q (r.grown refl) (r.places refl); disk_told = refl; grew = begins-same v.records; left = λ J was. was }
+Continues-report v e m d false now Q f spare left is r = record { leads = told v.motions (r.grown refl); key = refl; seed = refl; units = refl; moves = Moves-entry e v.motions now v.places Q (r.grown refl) (r.places refl); disk_told = refl; limits = refl; grew = begins-same v.records; left = λ J was. was }
   where
     told : (was : Option (List Motion)) → Grows was e now → Leads v (reported_view v now Q f) was now
     told None g = rw g tt

@@ -136,18 +136,18 @@ IsKept-restored key seed o motions places faults old new p was told spare room l
 pub Continues-restored : {D : Type 0} (key seed : List ℕ) (o : Open) (motions : Option (List Motion)) (places : Places) (faults : ℕ) (old new : LedgerView D) (was told : Bool)
     → told ≡ was → MayRestore old new places → Continues (over key seed o motions places faults old was) (over key seed o motions places faults new told)
 Continues-restored key seed o motions places faults old new was told same (inl is) =
-    rw is (Continues-grown _ _ (Boot places) (λ q e. cc) refl refl refl refl refl same (λ K possible. inl possible) (begins-same old.records) (λ X left. left))
+    rw is (Continues-grown _ _ (Boot places) (λ q e. cc) refl refl refl refl refl same refl (λ K possible. inl possible) (begins-same old.records) (λ X left. left))
 Continues-restored key seed o motions places faults old new was told same (inr (inl is)) =
-    rw is (Continues-grown _ _ (Boot places) (λ q e. cc) refl refl refl refl refl same (λ K possible. inl possible) (begins-same old.records) (λ X left. left-close old.records old.in_doubt (old.shut || old.boot_missing) X left))
+    rw is (Continues-grown _ _ (Boot places) (λ q e. cc) refl refl refl refl refl same refl (λ K possible. inl possible) (begins-same old.records) (λ X left. left-close old.records old.in_doubt (old.shut || old.boot_missing) X left))
 Continues-restored key seed o motions places faults old new was told same (inr (inr (J, found, inl is))) =
-    rw is (Continues-grown _ _ (Boot places) (λ q e. cc) refl refl refl refl refl same (λ K possible. inr (J, found, only-possible (J ++ Boot places ∷ []) K None refl possible))
+    rw is (Continues-grown _ _ (Boot places) (λ q e. cc) refl refl refl refl refl same refl (λ K possible. inr (J, found, only-possible (J ++ Boot places ∷ []) K None refl possible))
     (begins-push old.records J (Boot places) (begins-possible old.records old.in_doubt J found))
     (λ X left. left-boot J places false X (left-mount old.records old.in_doubt (old.shut || old.boot_missing) J X found left)))
 Continues-restored key seed o motions places faults old new was told same (inr (inr (J, found, inr (inl is)))) =
-    rw is (Continues-grown _ _ (Boot places) (λ q e. cc) refl refl refl refl refl same (λ K possible. inl (rw (only-possible J K None refl possible) found))
+    rw is (Continues-grown _ _ (Boot places) (λ q e. cc) refl refl refl refl refl same refl (λ K possible. inl (rw (only-possible J K None refl possible) found))
     (begins-possible old.records old.in_doubt J found) (λ X left. left-mount old.records old.in_doubt (old.shut || old.boot_missing) J X found left))
 Continues-restored key seed o motions places faults old new was told same (inr (inr (J, found, inr (inr is)))) =
-    rw is (Continues-grown _ _ (Boot places) (λ q e. cc) refl refl refl refl refl same (λ K possible. ⊎_elim (λ same. inl (rw same found)) (λ more. inr (J, found, more)) (doubted-possible J K (Boot places) possible))
+    rw is (Continues-grown _ _ (Boot places) (λ q e. cc) refl refl refl refl refl same refl (λ K possible. ⊎_elim (λ same. inl (rw same found)) (λ more. inr (J, found, more)) (doubted-possible J K (Boot places) possible))
     (begins-possible old.records old.in_doubt J found) (λ X left. left-boot_doubt J places X (left-mount old.records old.in_doubt (old.shut || old.boot_missing) J X found left)))
 
 -- a disk that is refused as no journal tells nothing

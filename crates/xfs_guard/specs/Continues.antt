@@ -43,6 +43,7 @@ pub record Continues (old new : View) : Type 0 where
   pub units : new.units ≡ old.units
   pub moves : Moves old.motions new.motions old.places new.places
   pub disk_told : new.disk_told ≡ old.disk_told
+  pub limits : new.limits ≡ old.limits
   pub grew : BeginsWith new.records old.records
   -- a list that a crash left on the way there was left on the way here
   pub left : (J : List Rec) → IsLeftAt old J → IsLeftAt new J

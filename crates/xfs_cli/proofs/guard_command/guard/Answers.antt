@@ -3,9 +3,9 @@ use Rattle.xfs_base.specs.Causes.{Rose}
 use Rattle.xfs_guard.specs.View.{View}
 use Rattle.xfs_cli.proofs.RunLaws.{recorded-start, upholds-same, upholds-refused, upholds-run, ends-unread, due-full, journal-run, fits-run}
 use Rattle.xfs_cli.specs.GuardLines.{IsLine}
-use Rattle.xfs_cli.specs.GuardRuns.{RunsFull}
+use Rattle.xfs_cli.specs.GuardRuns.{IsFullAtEnd}
 use Rattle.xfs_cli.specs.VerbAnswers.{AnswersGuard}
-use Rattle.xfs_cli.proofs.GuardRunLaws.{all-ends, front-ends, until-stops, stops-at, ends-at, ends-within, told-more, told-any, from-boot, refused-boot, ends-failed, ends-full, none-told, full-line, starts-run, rose-later}
+use Rattle.xfs_cli.proofs.GuardRunLaws.{all-ends, front-ends, until-stops, stops-at, ends-at, still-at, told-more, told-any, from-boot, refused-boot, ends-failed, ends-full, none-told, full-end, full-line, starts-run, rose-later}
 use Rattle.xfs_cli.proofs.EndLaws.{finishes, causes-served, causes-refused}
 use Rattle.xfs_cli.proofs.NumberLaws.{newer-run}
 use Rattle.xfs_cli.proofs.UnreadLaws.{unwritten-quiet}
@@ -48,7 +48,11 @@ returns-in-Ok-clause-not_journal g c = λ seven.
 
 pub returns-in-Ok-clause-full : goal.returns-in-Ok-clause-full
 returns-in-Ok-clause-full g c = λ twelve.
-    let ok = c.in-Ok.ensures.ok in inr (from-boot g.D.Disk.faults c.in-Ok.guard _ ok.0 RunsFull ok.1 ok.2 c.in-Ok.ensures.faults (c.serve-status.ensures.full twelve))
+    let ok = c.in-Ok.ensures.ok in
+    let e = c.ended-mech.ensures in
+    let limits = c.serve-status.ensures.continues.limits ∙ ap (λ (v : View). v.limits) ok.2 in
+    inr (from-boot g.D.Disk.faults c.in-Ok.guard _ ok.0 (λ s. IsFullAtEnd c.args.core.limits (g.M.Mechanism.places c.ended-mech.result.0) (g.D.Disk.held c.ended-mech.result.1)) ok.1 ok.2 c.in-Ok.ensures.faults
+    (full-end c.serve-status.new.session.guard.state _ _ _ _ limits e.places (g.met.D.Disk.as_read c.ended-mech.result.1) e.stored (c.serve-status.ensures.full twelve)))
 
 pub returns-in-Err-clause-overfull : goal.returns-in-Err-clause-overfull
 returns-in-Err-clause-overfull g c = λ guard. due-full _ _ _ _ _ c.unbooted.ensures.status c.in-Err.ensures.not_journal
@@ -62,7 +66,7 @@ returns-in-Ok-clause-answers g c = λ zero.
     let e = c.ended-mech.ensures in
     let faults = g.D.Disk.faults in
     told-more _ _ _ (λ text writes. from-boot faults c.in-Ok.guard _ ok.0 _ ok.1 ok.2 c.in-Ok.ensures.faults
-    (all-ends AnswersGuard _ _ _ _ _ text (ends-at faults c.serve-status.new.session.guard c.serve-status.new.session.last _ _ _ _ e.motions e.places e.faults e.disk) writes)) (c.serve-status.ensures.answers zero)
+    (all-ends AnswersGuard _ _ _ _ _ text (ends-at faults c.serve-status.new.session.guard c.serve-status.new.session.last _ _ _ _ _ _ e.motions e.places e.faults e.disk e.stored) writes)) (c.serve-status.ensures.answers zero)
 
 pub returns-in-Ok-clause-front : goal.returns-in-Ok-clause-front
 returns-in-Ok-clause-front g c = λ five.
@@ -70,7 +74,7 @@ returns-in-Ok-clause-front g c = λ five.
     let e = c.ended-mech.ensures in
     let faults = g.D.Disk.faults in
     told-more _ _ _ (λ text writes. from-boot faults c.in-Ok.guard _ ok.0 _ ok.1 ok.2 c.in-Ok.ensures.faults
-    (front-ends AnswersGuard _ _ _ _ _ text (ends-within faults c.serve-status.new.session.guard c.serve-status.new.session.last _ _ e.faults e.disk) writes)) (c.serve-status.ensures.front five)
+    (front-ends AnswersGuard _ _ _ _ _ text (ends-at faults c.serve-status.new.session.guard c.serve-status.new.session.last _ _ _ _ _ _ e.motions e.places e.faults e.disk e.stored) writes)) (c.serve-status.ensures.front five)
 
 pub returns-in-Ok-clause-until : goal.returns-in-Ok-clause-until
 returns-in-Ok-clause-until g c = λ not_zero not_two not_five.
@@ -78,10 +82,10 @@ returns-in-Ok-clause-until g c = λ not_zero not_two not_five.
     let e = c.ended-mech.ensures in
     let faults = g.D.Disk.faults in
     told-more _ _ _ (λ text writes. inr (from-boot faults c.in-Ok.guard _ ok.0 _ ok.1 ok.2 c.in-Ok.ensures.faults
-    (until-stops IsLine AnswersGuard _ _ _ _ _ _ _ text (stops-at faults c.serve-status.new.session.guard _ _ e.faults e.disk) writes))) (c.serve-status.ensures.until not_zero not_five)
+    (until-stops IsLine AnswersGuard _ _ _ _ _ _ _ text (stops-at _ _ (ends-at faults c.serve-status.new.session.guard c.serve-status.new.session.last _ _ _ _ _ _ e.motions e.places e.faults e.disk e.stored)) writes))) (c.serve-status.ensures.until not_zero not_five)
 
 pub returns-in-Err-clause-until : goal.returns-in-Err-clause-until
-returns-in-Err-clause-until g c = λ not_zero not_two not_five. told-any _ _ (λ text. inl (refused-boot _ _ _ _ c.unbooted.ensures.status c.unbooted.ensures.written))
+returns-in-Err-clause-until g c = λ not_zero not_two not_five. told-any _ _ (λ text. inl (refused-boot _ _ _ _ _ _ c.unbooted.ensures.status refl c.unbooted.ensures.written))
 
 pub returns-in-Ok-clause-unread : goal.returns-in-Ok-clause-unread
 returns-in-Ok-clause-unread g c = λ guard. journal-run c.in-Ok.ensures.ok.0 _ _ c.in-Ok.ensures.ok.1
@@ -105,15 +109,18 @@ returns-in-Ok-clause-newer g c =
 pub returns-in-Ok-clause-finishes : goal.returns-in-Ok-clause-finishes
 returns-in-Ok-clause-finishes g c =
     let end = c.serve-status.ensures in
-    λ guard. finishes _ _ _ (g.S.Source.left c.serve-status.new.source) _ _ _ _ _ _ (causes-served _ _ _ _ _ _ _ _ _ _ end.statuses end.usage
+    let e = c.ended-mech.ensures in
+    λ guard. finishes _ _ _ _ (g.S.Source.left c.serve-status.new.source) _ _ _ _ _ _ (causes-served _ _ _ _ _ _ _ _ _ _ _ end.statuses end.usage
     (λ six. rw c.ended-mech.ensures.disk (rose-later _ _ _ c.in-Ok.ensures.faults (end.failed six)))
     (λ seven. none-told _ (rw c.in-Ok.ensures.ok.2 at end.untold seven))
-    (λ twelve. full-line _ IsLine _ _ _ _ _ _ _ _ (starts-run g.D.Disk.faults c.in-Ok.guard _ c.in-Ok.ensures.ok.0 c.in-Ok.ensures.ok.1 c.in-Ok.ensures.ok.2 c.in-Ok.ensures.faults) (end.until (λ e. omega (arith, twelve, e)) (λ e. omega (arith, twelve, e))) twelve) end.read end.not_a_line end.write end.quota)
+    (λ twelve. full-line _ _ _ IsLine _ _ _ _ _ _ (starts-run g.D.Disk.faults c.in-Ok.guard _ c.in-Ok.ensures.ok.0 c.in-Ok.ensures.ok.1 c.in-Ok.ensures.ok.2 c.in-Ok.ensures.faults)
+    (still-at g.D.Disk.faults c.serve-status.new.session.guard c.serve-status.new.session.last _ _ _ _ e.motions e.places e.faults e.disk)
+    (end.until (λ e. omega (arith, twelve, e)) (λ e. omega (arith, twelve, e))) twelve) end.read end.not_a_line end.write end.quota)
 
 pub returns-in-Err-clause-finishes : goal.returns-in-Err-clause-finishes
 returns-in-Err-clause-finishes g c =
     let why = c.in-Err.ensures in
-    λ guard. finishes _ _ _ None _ _ _ _ _ _ (causes-refused _ _ _ _ _ _ _ _ _ _ _ c.unbooted.ensures.status why.not_journal why.disk why.full)
+    λ guard. finishes _ _ _ _ None _ _ _ _ _ _ (causes-refused _ _ _ _ _ _ _ _ _ _ _ _ c.unbooted.ensures.status why.not_journal why.disk why.full)
 
 pub returns-in-Err-clause-unwritten : goal.returns-in-Err-clause-unwritten
 returns-in-Err-clause-unwritten g c = unwritten-quiet g.D.Disk.held g.D.Disk.images g.D.Disk.moment g.D.Disk.images_since g.D.Disk.faults c.args.core.disk c.in-Err.field-0.disk c.in-Err.ensures.unlisted

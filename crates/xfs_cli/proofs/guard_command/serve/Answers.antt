@@ -6,7 +6,7 @@ use Rattle.xfs_cli.specs.VerbAnswers.{AnswersGuard}
 use Rattle.xfs_cli.proofs.AnswerLaws.{answered-start, answered-line, answered-all, answered-front, answered-no_line, answered-memory, answered-fault, answered-unbooted}
 use Rattle.xfs_cli.specs.Run.{status_of}
 use Rattle.xfs_cli.specs.Seen.{seen}
-use Rattle.xfs_cli.proofs.GuardRunLaws.{stops-plain, stops-restart, fault-plain, rose-later}
+use Rattle.xfs_cli.proofs.GuardRunLaws.{stops-input, stops-memory, stops-restart, failed-then, untold-then, full-then, fault-plain, rose-later}
 use Rattle.xfs_cli.proofs.SeenLaws.{later-same, later-trans}
 use Rattle.xfs_cli.proofs.EndLaws.{status-boot}
 use Rattle.xfs_guard.proofs.BehindLaws.{behind-trans, behind-still}
@@ -31,27 +31,26 @@ returns-in-Ok-None-clause-answers g c = λ zero. answered-all AnswersGuard _ _ _
 
 pub returns-in-NotALine-clause-until : goal.returns-in-NotALine-clause-until
 returns-in-NotALine-clause-until g c = λ not_zero not_five.
-    answered-no_line IsLine AnswersGuard _ _ _ _ _ _ _ _ _ _ _ _ _ c.in-Ok-Some.line (stops-plain g.D.Disk.faults c.line.new.self.guard c.line.new.self.last _ 4 _ c.not_a_line.ensures.status (λ e. omega (arith, e)) (λ e. omega (arith, e)) (λ e. omega (arith, e)) c.line.ensures.faults) c.loop.invariant.answered (rw c.in-Ok-Some.field-0-is at c.in-Ok-Some.ensures.reads) (c.in-NotALine.ensures.no_line refl)
+    answered-no_line IsLine AnswersGuard _ _ _ _ _ _ _ _ _ _ _ _ _ c.in-Ok-Some.line (stops-input _ 4 _ _ c.not_a_line.ensures.status (λ e. omega (arith, e), λ e. omega (arith, e), λ e. omega (arith, e)) (sym (c.in-NotALine.ensures.still refl))) c.loop.invariant.answered (rw c.in-Ok-Some.field-0-is at c.in-Ok-Some.ensures.reads) (c.in-NotALine.ensures.no_line refl)
     c.not_a_line.ensures.status refl (rw (c.in-NotALine.ensures.same_no_line refl) at c.not_a_line.ensures.written)
 
 pub returns-in-Write-clause-front : goal.returns-in-Write-clause-front
 returns-in-Write-clause-front g c = λ five.
-    answered-front AnswersGuard _ _ _ _ _ _ _ _ _ _ _ _ c.in-Ok-Some.line (later-same _) c.loop.invariant.answered (rw c.in-Ok-Some.field-0-is at c.in-Ok-Some.ensures.reads) (c.in-Write.ensures.write refl)
+    answered-front AnswersGuard _ _ _ _ _ _ _ _ _ _ _ _ c.in-Ok-Some.line refl c.loop.invariant.answered (rw c.in-Ok-Some.field-0-is at c.in-Ok-Some.ensures.reads) (c.in-Write.ensures.write refl)
 
 pub returns-in-Memory-clause-until : goal.returns-in-Memory-clause-until
 returns-in-Memory-clause-until g c = λ not_zero not_five.
-    answered-memory IsLine AnswersGuard _ _ _ _ _ _ _ _ _ _ (stops-plain g.D.Disk.faults c.line.new.self.guard c.line.new.self.last 8 8 _ refl (λ e. omega (arith, e)) (λ e. omega (arith, e)) (λ e. omega (arith, e)) c.line.ensures.faults) c.loop.invariant.answered (ap g.K.Sink.held (c.in-Memory.ensures.same_memory refl))
+    answered-memory IsLine AnswersGuard _ _ _ _ _ _ _ _ _ _ (stops-memory _ _ c.line.ensures.continues c.line.ensures.faults) c.loop.invariant.answered (ap g.K.Sink.held (c.in-Memory.ensures.same_memory refl))
 
 pub returns-in-Err-clause-until : goal.returns-in-Err-clause-until
 returns-in-Err-clause-until g c = λ not_zero not_five.
-    let plain = fault-plain c.in-Err.fault in
     answered-fault IsLine AnswersGuard _ _ _ _ _ _ _ _ _ _ _ _ c.in-Err.fault (λ l is. is.short)
-    (stops-plain g.D.Disk.faults c.loop.session.guard c.loop.session.last _ (status_of c.in-Err.fault) _ c.faulty.ensures.status plain.0 plain.1 plain.2 (later-same _)) c.loop.invariant.answered c.in-Err.ensures.reads c.faulty.ensures.status c.faulty.ensures.written
+    (stops-input _ (status_of c.in-Err.fault) _ _ c.faulty.ensures.status (fault-plain c.in-Err.fault) refl) c.loop.invariant.answered c.in-Err.ensures.reads c.faulty.ensures.status c.faulty.ensures.written
 
 pub returns-in-Unbooted-clause-until : goal.returns-in-Unbooted-clause-until
 returns-in-Unbooted-clause-until g c = λ not_zero not_five.
     answered-unbooted IsLine AnswersGuard _ _ _ _ _ _ _ _ _ _ _ _ c.in-Ok-Some.line _
-    (stops-restart g.D.Disk.faults c.line.new.self.guard c.line.new.self.last _ _ c.in-Ok-Some.line.text (seen g.D.Disk.faults c.loop.session.guard c.loop.session.last) c.unbooted.ensures.status c.line.ensures.faults (c.in-Unbooted.ensures.unbooted _ refl))
+    (stops-restart _ _ c.in-Ok-Some.line.text _ _ c.unbooted.ensures.status c.line.ensures.continues c.line.ensures.faults (c.in-Unbooted.ensures.unbooted _ refl))
     c.loop.invariant.answered (rw c.in-Ok-Some.field-0-is at c.in-Ok-Some.ensures.reads) c.unbooted.ensures.status (rw (c.in-Unbooted.ensures.same_unbooted _ refl) at c.unbooted.ensures.written)
 
 pub returns-in-Unbooted-clause-continues : goal.returns-in-Unbooted-clause-continues
@@ -63,18 +62,21 @@ returns-in-Unbooted-clause-crashes g c =
 
 pub returns-in-Unbooted-clause-failed : goal.returns-in-Unbooted-clause-failed
 returns-in-Unbooted-clause-failed g c = λ six.
-    let stop = stops-restart g.D.Disk.faults c.line.new.self.guard c.line.new.self.last _ _ c.in-Ok-Some.line.text (seen g.D.Disk.faults c.loop.session.guard c.loop.session.last) c.unbooted.ensures.status c.line.ensures.faults (c.in-Unbooted.ensures.unbooted _ refl) in
-    rose-later _ _ _ c.loop.invariant.faults.disk (stop.failed six)
+    let old = seen g.D.Disk.faults c.loop.session.guard c.loop.session.last in
+    let new = seen g.D.Disk.faults c.line.new.self.guard c.line.new.self.last in
+    rose-later _ _ _ c.loop.invariant.faults.disk (failed-then _ _ old new c.unbooted.ensures.status (c.in-Unbooted.ensures.unbooted _ refl).1.cause six)
 
 pub returns-in-Unbooted-clause-untold : goal.returns-in-Unbooted-clause-untold
 returns-in-Unbooted-clause-untold g c = λ seven.
-    let stop = stops-restart g.D.Disk.faults c.line.new.self.guard c.line.new.self.last _ _ c.in-Ok-Some.line.text (seen g.D.Disk.faults c.loop.session.guard c.loop.session.last) c.unbooted.ensures.status c.line.ensures.faults (c.in-Unbooted.ensures.unbooted _ refl) in
-    sym c.loop.invariant.continues.disk_told ∙ stop.untold seven
+    let old = seen g.D.Disk.faults c.loop.session.guard c.loop.session.last in
+    let new = seen g.D.Disk.faults c.line.new.self.guard c.line.new.self.last in
+    sym c.loop.invariant.continues.disk_told ∙ untold-then _ _ old new c.unbooted.ensures.status (c.in-Unbooted.ensures.unbooted _ refl).1.cause seven
 
 pub returns-in-Unbooted-clause-full : goal.returns-in-Unbooted-clause-full
 returns-in-Unbooted-clause-full g c = λ twelve.
-    let stop = stops-restart g.D.Disk.faults c.line.new.self.guard c.line.new.self.last _ _ c.in-Ok-Some.line.text (seen g.D.Disk.faults c.loop.session.guard c.loop.session.last) c.unbooted.ensures.status c.line.ensures.faults (c.in-Unbooted.ensures.unbooted _ refl) in
-    record { later = c.loop.session.guard.state; continues = c.loop.invariant.continues; full = stop.full twelve }
+    let old = seen g.D.Disk.faults c.loop.session.guard c.loop.session.last in
+    let new = seen g.D.Disk.faults c.line.new.self.guard c.line.new.self.last in
+    (full-then _ _ old new c.unbooted.ensures.status (c.in-Unbooted.ensures.unbooted _ refl).1.cause twelve).1
 
 pub returns-in-Unbooted-clause-statuses : goal.returns-in-Unbooted-clause-statuses
 returns-in-Unbooted-clause-statuses g c = rw c.unbooted.ensures.status (status-boot _)
@@ -125,3 +127,7 @@ loop-preserved g c = record {
   gives = Gives-trans _ _ _ _ _ _ c.loop.invariant.gives c.in-Ok-Some.ensures.reads.gives;
   read = read-line _ _ _ _ _ c.in-Ok-Some.line c.loop.invariant.read (rw c.in-Ok-Some.field-0-is at c.in-Ok-Some.ensures.reads) (c.in-More.ensures.line (λ e. cc) (λ e. cc));
 }
+
+pub returns-clause-until : goal.returns-clause-until
+returns-clause-until g c = λ not_zero not_five.
+    answered-memory IsLine AnswersGuard _ _ _ _ _ _ _ _ _ _ (stops-input 8 8 _ _ refl (λ e. omega (arith, e), λ e. omega (arith, e), λ e. omega (arith, e)) refl) c.loop.invariant.answered refl

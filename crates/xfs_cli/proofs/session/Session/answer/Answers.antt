@@ -1,4 +1,5 @@
 use Rattle.xfs_guard.proofs.ContinueLaws.{Continues-same}
+use Rattle.xfs_cli.proofs.SeenLaws.{fault-through}
 use Rattle.xfs_cli.proofs.session.Session.answer.Goals as goal
 
 pub returns-in-Skip-clause-continues : goal.returns-in-Skip-clause-continues
@@ -15,3 +16,6 @@ returns-in_err-show-in-Show-clause-continues g c = rw c.show.ensures.same (Conti
 
 pub returns-in_ok-show-in-Show-clause-continues : goal.returns-in_ok-show-in-Show-clause-continues
 returns-in_ok-show-in-Show-clause-continues g c = rw c.show.ensures.same (Continues-same _)
+
+pub returns-in_err-restart-in-Restart-clause-unbooted : goal.returns-in_err-restart-in-Restart-clause-unbooted
+returns-in_err-restart-in-Restart-clause-unbooted g c = λ fault is. (c.in-Restart.is, c.in_err-restart-in-Restart.ensures.unbooted fault (fault-through _ _ _ c.from_residual-in_err-restart-in-Restart.ensures.1 is))
