@@ -1,5 +1,5 @@
 -- One more line that is read, answered and written; and what was written where the lines end.
-use Rattle.std.proofs.Common.{◌≡◌, ℕ, suc, ◌+◌, ◌≤◌, List, [], ◌∷◌, ◌++◌, length, take, None, Some, Ok, Err, refl, sym, subst, ◌∙◌, ap, arith, append_assoc, add-one}
+use Rattle.std.proofs.Common.{◌≡◌, ◌⊎◌, inl, inr, ℕ, suc, ◌+◌, ◌≤◌, List, [], ◌∷◌, ◌++◌, length, take, None, Some, Ok, Err, refl, sym, subst, ◌∙◌, ap, arith, append_assoc, add-one}
 use Rattle.std.specs.declared.option.Option.{Option}
 use Rattle.std.specs.Io.KnownBytes.{Appends}
 use Rattle.std.proofs.lemmas.List.{append-nil}
@@ -118,9 +118,14 @@ answered-front A E start state next r s (Some text) y z old new newer line ends 
       };
     }
 
+-- a status under which the reading was not cut off
+no-limit : (status : ℕ) (X : Type 0) → (status ≡ 3 → ⊥) → (status ≡ 10 → ⊥) → (status ≡ 3) ⊎ (status ≡ 10) → X
+no-limit status X three ten (inl e) = absurd (three e)
+no-limit status X three ten (inr e) = absurd (ten e)
+
 -- the run ends between two lines, and the sink took a front of the last line
 until-status : {S : Type 0} (IsLine : List ℕ → Type 0) (A : S → List ℕ → List (List ℕ) → S → Type 0) (E : ℕ → List ℕ → S → Type 0) (start state : S) (status at : ℕ) (r : Reading) (y z old new newer : Option (List ℕ)) (text : List ℕ)
-    → E status (first_line (behind r.handed text)) state → HasAnswered A start state r y old new text → (status ≡ 4 → ¬ (IsLine (first_line (behind r.handed text)))) → (status ≡ 10 → IfTold z (NoLineEnds r.handed text)) → TookFront new newer (lines_text (last_line status r.handed at))
+    → E status (first_line (behind r.handed text)) state → HasAnswered A start state r y old new text → (status ≡ 4 → ¬ (IsLine (first_line (behind r.handed text)))) → ((status ≡ 3) ⊎ (status ≡ 10) → IfTold z (NoLineEnds r.handed text)) → TookFront new newer (lines_text (last_line status r.handed at))
     → WritesUntil IsLine A E start status z old newer text
 until-status IsLine A E start state status at r y z old new newer text ends h none limit front = record {
   many = r.handed;
@@ -142,14 +147,14 @@ answered-no_line IsLine A E start state status number r s (Some text) y z old ne
     let a = ahead-some r y (behind r.handed text) h.ahead in
     let first = answer-line r a.0 line (told _ y a.0 a.1 reads.answer) in
     let numbered : number ≡ r.handed + 1 = same ∙ reads.number.0 in
-    until-status IsLine A E start state status 0 r y z old new newer text (ends (first_line (behind r.handed text))) h (λ four. rw (← a.2, ← first) is) (λ ten. absurd (omega (arith, four, ten))) (rw (four, ← numbered) front)
+    until-status IsLine A E start state status 0 r y z old new newer text (ends (first_line (behind r.handed text))) h (λ four. rw (← a.2, ← first) is) (no-limit status _ (λ e. omega (arith, four, e)) (λ e. omega (arith, four, e))) (rw (four, ← numbered) front)
 
 -- want of memory at a line
 pub answered-memory : {S : Type 0} (IsLine : List ℕ → Type 0) (A : S → List ℕ → List (List ℕ) → S → Type 0) (E : ℕ → List ℕ → S → Type 0) (start state : S) (r : Reading) (x y z old new newer : Option (List ℕ))
     → ((l : List ℕ) → E 8 l state) → IfTold x (HasAnswered A start state r y old new) → newer ≡ new → IfTold x (WritesUntil IsLine A E start 8 z old newer)
 answered-memory IsLine A E start state r None y z old new newer ends h same = tt
 answered-memory IsLine A E start state r (Some text) y z old new newer ends h same =
-    until-status IsLine A E start state 8 0 r y z old new newer text (ends (first_line (behind r.handed text))) h (λ four. absurd (omega (arith, four))) (λ ten. absurd (omega (arith, ten))) (record { many = 0; taken = rw same (Appends-none new) })
+    until-status IsLine A E start state 8 0 r y z old new newer text (ends (first_line (behind r.handed text))) h (λ four. absurd (omega (arith, four))) (no-limit 8 _ (λ e. omega (arith, e)) (λ e. omega (arith, e))) (record { many = 0; taken = rw same (Appends-none new) })
 
 -- a fault of the input
 pub answered-fault : {S : Type 0} (IsLine : List ℕ → Type 0) (A : S → List ℕ → List (List ℕ) → S → Type 0) (E : ℕ → List ℕ → S → Type 0) (start state : S) (status : ℕ) (r s : Reading) (x y z old new newer : Option (List ℕ)) (fault : LineFault)
@@ -158,17 +163,17 @@ pub answered-fault : {S : Type 0} (IsLine : List ℕ → Type 0) (A : S → List
     → TookFront new newer (lines_text (fault_line fault)) → IfTold x (WritesUntil IsLine A E start status z old newer)
 answered-fault IsLine A E start state status r s None y z old new newer fault short ends h reads is front = tt
 answered-fault IsLine A E start state status r s (Some text) y z old new newer Read short ends h reads is front =
-    rw is (until-status IsLine A E start state 3 0 r y z old new newer text (rw is at (ends (first_line (behind r.handed text)))) h (λ four. absurd (omega (arith, four))) (λ ten. absurd (omega (arith, ten))) front)
+    rw is (until-status IsLine A E start state 3 0 r y z old new newer text (rw is at (ends (first_line (behind r.handed text)))) h (λ four. absurd (omega (arith, four))) (λ cut. read-limit r s y z r.handed text Read h.ahead reads (inl refl)) front)
 answered-fault IsLine A E start state status r s (Some text) y z old new newer Quota short ends h reads is front =
-    rw is (until-status IsLine A E start state 10 0 r y z old new newer text (rw is at (ends (first_line (behind r.handed text)))) h (λ four. absurd (omega (arith, four))) (λ ten. read-limit r s y z r.handed text h.ahead reads) front)
+    rw is (until-status IsLine A E start state 10 0 r y z old new newer text (rw is at (ends (first_line (behind r.handed text)))) h (λ four. absurd (omega (arith, four))) (λ cut. read-limit r s y z r.handed text Quota h.ahead reads (inr refl)) front)
 answered-fault IsLine A E start state status r s (Some text) y z old new newer Memory short ends h reads is front =
-    rw is (until-status IsLine A E start state 8 0 r y z old new newer text (rw is at (ends (first_line (behind r.handed text)))) h (λ four. absurd (omega (arith, four))) (λ ten. absurd (omega (arith, ten))) front)
+    rw is (until-status IsLine A E start state 8 0 r y z old new newer text (rw is at (ends (first_line (behind r.handed text)))) h (λ four. absurd (omega (arith, four))) (no-limit 8 _ (λ e. omega (arith, e)) (λ e. omega (arith, e))) front)
 answered-fault IsLine A E start state status r s (Some text) y z old new newer (TooLong n) short ends h reads is front =
     let a = ahead-some r y (behind r.handed text) h.ahead in
     let long = answer-long r a.0 n (told _ y a.0 a.1 reads.answer) in
     let number : n ≡ r.handed + 1 = reads.number in
     let none : ¬ (IsLine (first_line (behind r.handed text))) = λ line. (let l = rw a.2 at long in let e = short _ line in omega (arith, l, e)) in
-    rw is (until-status IsLine A E start state 4 0 r y z old new newer text (rw is at (ends (first_line (behind r.handed text)))) h (λ four. none) (λ ten. absurd (omega (arith, ten))) (rw (← number) front))
+    rw is (until-status IsLine A E start state 4 0 r y z old new newer text (rw is at (ends (first_line (behind r.handed text)))) h (λ four. none) (no-limit 4 _ (λ e. omega (arith, e)) (λ e. omega (arith, e))) (rw (← number) front))
 
 -- a restart that is refused
 pub answered-unbooted : {S : Type 0} (IsLine : List ℕ → Type 0) (A : S → List ℕ → List (List ℕ) → S → Type 0) (E : ℕ → List ℕ → S → Type 0) (start state : S) (status : ℕ) (r s : Reading) (x y z old new newer : Option (List ℕ)) (line : Line) (why : BootFault)
@@ -182,7 +187,7 @@ answered-unbooted IsLine A E start state status r s (Some text) y z old new newe
     rw is (by-fault why (rw is at here) front)
   where
     by-fault : (why : BootFault) → E (boot_status why) (first_line (behind r.handed text)) state → WritesBoot why new newer → WritesUntil IsLine A E start (boot_status why) z old newer text
-    by-fault (NotJournal at) ends front = until-status IsLine A E start state 7 at r y z old new newer text ends h (λ four. absurd (omega (arith, four))) (λ ten. absurd (omega (arith, ten))) front
-    by-fault Disk ends front = until-status IsLine A E start state 6 0 r y z old new newer text ends h (λ four. absurd (omega (arith, four))) (λ ten. absurd (omega (arith, ten))) front
-    by-fault Full ends front = until-status IsLine A E start state 12 0 r y z old new newer text ends h (λ four. absurd (omega (arith, four))) (λ ten. absurd (omega (arith, ten))) front
-    by-fault BootMemory ends front = until-status IsLine A E start state 8 0 r y z old new newer text ends h (λ four. absurd (omega (arith, four))) (λ ten. absurd (omega (arith, ten))) front
+    by-fault (NotJournal at) ends front = until-status IsLine A E start state 7 at r y z old new newer text ends h (λ four. absurd (omega (arith, four))) (no-limit 7 _ (λ e. omega (arith, e)) (λ e. omega (arith, e))) front
+    by-fault Disk ends front = until-status IsLine A E start state 6 0 r y z old new newer text ends h (λ four. absurd (omega (arith, four))) (no-limit 6 _ (λ e. omega (arith, e)) (λ e. omega (arith, e))) front
+    by-fault Full ends front = until-status IsLine A E start state 12 0 r y z old new newer text ends h (λ four. absurd (omega (arith, four))) (no-limit 12 _ (λ e. omega (arith, e)) (λ e. omega (arith, e))) front
+    by-fault BootMemory ends front = until-status IsLine A E start state 8 0 r y z old new newer text ends h (λ four. absurd (omega (arith, four))) (no-limit 8 _ (λ e. omega (arith, e)) (λ e. omega (arith, e))) front

@@ -9,7 +9,7 @@ use Rattle.xfs_journal.specs.Paging.{CeasesAt}
 use Rattle.xfs_journal.specs.declared.limits.Limits.{Limits}
 use Rattle.xfs_journal.specs.declared.record.Rec.{Rec}
 use Rattle.xfs_journal.proofs.Unique.{stands_for_one}
-use Rattle.xfs_script.specs.Lines.{rest}
+use Rattle.xfs_script.specs.Lines.{first_line, rest}
 use Rattle.xfs_script.specs.declared.guard_line.GuardLine.TheVariants.{Skip}
 use Rattle.xfs_script.specs.declared.line.LineFault.{LineFault}
 use Rattle.xfs_script.specs.declared.line.LineFault.TheVariants.{Read, Quota, TooLong, Memory}
@@ -42,18 +42,18 @@ behind-end many (suc more) text is = let next : many + suc more ≡ suc (many + 
 empty-line : IsLine []
 empty-line = record { verb = Skip; reads = tt; short = omega arith }
 
--- a text of lines alone stops at none
-lines-all : (text : List ℕ) → AllLines text → ¬ (StopsAtLine text)
-lines-all text all stops = elim (cases_lt stops.many all.many) [
-  | inl within ↦ stops.none (all.lines stops.many within)
+-- a text of lines alone has none that is no line
+pub lines-all : (IsLineOf : List ℕ → Type 0) (text : List ℕ) (many : ℕ) → IsLineOf [] → AllLines IsLineOf text → ¬ (IsLineOf (first_line (behind many text))) → ⊥
+lines-all IsLineOf text many empty all none = elim (cases_lt many all.many) [
+  | inl within ↦ none (all.lines many within)
   | inr past ↦ (
-      let more = stops.many - all.many in
-      let is : stops.many ≡ all.many + more = omega (arith, past) in
-      stops.none (rw (is, behind-end all.many more text all.whole) empty-line))
+      let more = many - all.many in
+      let is : many ≡ all.many + more = omega (arith, past) in
+      none (rw (is, behind-end all.many more text all.whole) empty))
 ]
 
 -- a short input doesn't give all that there may be
-short-all : (text : List ℕ) (after : Option (List ℕ)) → length text < 67108864 → ¬ (GaveAll (Some text) after)
+pub short-all : (text : List ℕ) (after : Option (List ℕ)) → length text < 67108864 → ¬ (GaveAll (Some text) after)
 short-all text None short gave = gave.taken
 short-all text (Some left) short gave =
     let whole : length text ≡ length (gave.bytes ++ left) = ap length gave.taken in
@@ -167,7 +167,7 @@ finishes IsStartOf Ends status (Some text) left' (Some bytes) limits places sour
     by_status J stands free (inl is) = inl is
     by_status J stands free (inr (inl is)) = absurd (causes.words is)
     by_status J stands free (inr (inr (inl is))) = absurd (no_source (causes.read is))
-    by_status J stands free (inr (inr (inr (inl is)))) = absurd (lines-all text free.lines (causes.line is))
+    by_status J stands free (inr (inr (inr (inl is)))) = (let stops = causes.line is in absurd (lines-all IsLine text stops.many empty-line free.lines stops.none))
     by_status J stands free (inr (inr (inr (inr (inl is))))) = absurd (no_sink (causes.write is))
     by_status J stands free (inr (inr (inr (inr (inr (inl is)))))) = absurd (no_disk (causes.disk_fault is))
     by_status J stands free (inr (inr (inr (inr (inr (inr (inl is))))))) = absurd (causes.journal is J stands)

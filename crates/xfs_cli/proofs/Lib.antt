@@ -11,5 +11,6 @@ pub mod NumberLaws
 pub mod RunLaws
 pub mod SeenLaws
 pub mod StartLaws
+pub mod TokenEndLaws
 pub mod TokenTexts
 pub mod UnreadLaws

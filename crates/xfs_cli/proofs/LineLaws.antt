@@ -6,12 +6,11 @@ use Rattle.std.specs.declared.option.Option.{Option}
 use Rattle.std.specs.declared.result.Result.{Result}
 use Rattle.std.proofs.lemmas.Bool.{ltb-true, ltb-false, leb-false}
 use Rattle.std.proofs.lemmas.List.{take_all, take-append-le}
-use Rattle.std.proofs.Math.Seq.{take-append_seam}
-use Rattle.std.specs.Io.KnownBytes.{Consumes}
+use Rattle.std.specs.Io.KnownBytes.{Consumes, IsAtEnd}
 use Rattle.xfs_script.specs.Lines.{has_line_feed, first_line, line_end, without_return, rest}
 use Rattle.xfs_script.specs.Reading.{Reading, Gives, nothing_read}
 use Rattle.xfs_base.specs.Causes.{IfTold}
-use Rattle.xfs_script.specs.Answer.{answer_of, line_answer, bytes_within, bytes_ahead, ReadsLine}
+use Rattle.xfs_script.specs.Answer.{answer_of, line_answer, bytes_within, bytes_ahead, IsCutOff, ReadsLine}
 use Rattle.xfs_script.specs.declared.line.Line.{Line}
 use Rattle.xfs_script.specs.declared.line.LineFault.{LineFault}
 use Rattle.xfs_script.specs.declared.line.LineFault.TheVariants.{Read, Quota, TooLong, Memory}
@@ -31,7 +30,7 @@ Gives-trans r s t x y z a b = record {
 
 -- so many lines were handed out, all of them lines, and what is to come stands behind them
 abbrev pub HasRead : Reading → Option (List ℕ) → Option (List ℕ) → Type 0
-HasRead r before now = IfTold before (λ text. (bytes_ahead r now ≡ Some (behind r.handed text)) × AreLines r.handed text)
+HasRead r before now = IfTold before (λ text. (bytes_ahead r now ≡ Some (behind r.handed text)) × AreLines IsLine r.handed text)
 
 -- the due answer on three tests
 abbrev due_on : Reading → List ℕ → Bool → Bool → Bool → Result (Option Line) LineFault
@@ -108,24 +107,6 @@ answer-long r left n e = go (has_line_feed (bytes_within r left)) (nat_le 671088
     go false false true has below e = rw (← all-within r left below) (line_answer-long _ n _ e)
     go false false false has below e = cc
 
--- where the limit is reached, no line ends within it
-pub answer-quota : (r : Reading) (left : List ℕ) → answer_of r left ≡ Err Quota → has_line_feed (bytes_within r left) ≡ false
-unfolding answer_of
-answer-quota r left e = go (has_line_feed (bytes_within r left)) refl e
-  where
-    no-quota : (n : ℕ) (l : List ℕ) → line_answer n l ≡ Err Quota → ⊥
-    no-quota n l e = short (nat_le (length l) 70000) e
-      where
-        short : (t : Bool) → long_or n l t ≡ Err Quota → ⊥
-        short true e = cc
-        short false e = cc
-
-    go : (a : Bool) → has_line_feed (bytes_within r left) ≡ a
-        → due_on r (bytes_within r left) a (nat_le 67108864 (r.given + length left)) (nat_lt 0 (length (bytes_within r left))) ≡ Err Quota
-        → has_line_feed (bytes_within r left) ≡ false
-    go true has e = absurd (no-quota _ _ e)
-    go false has e = has
-
 -- where there is no line, no bytes are to come
 pub answer-none : (r : Reading) (left : List ℕ) → answer_of r left ≡ Ok None → r.pending ++ left ≡ []
 unfolding answer_of
@@ -177,7 +158,7 @@ read-line r s (Some text) y z line h reads is =
     )
 
 -- the lines are all read
-pub read-end : (r s : Reading) (x y z : Option (List ℕ)) → HasRead r x y → ReadsLine r s y z (Ok None) → IfTold x AllLines
+pub read-end : (r s : Reading) (x y z : Option (List ℕ)) → HasRead r x y → ReadsLine r s y z (Ok None) → IfTold x (AllLines IsLine)
 read-end r s None y z h reads = tt
 read-end r s (Some text) y z h reads =
     let a = ahead-some r y (behind r.handed text) h.0 in
@@ -219,9 +200,9 @@ pub HasRead-start : (r : Reading) (x : Option (List ℕ)) → r ≡ nothing_read
 HasRead-start r None is = tt
 HasRead-start r (Some text) is = rw is (refl, λ i lt. absurd (omega arith))
 
--- where the limit is reached, no line ends before the bytes that are left
-pub read-limit : (r s : Reading) (y z : Option (List ℕ)) (many : ℕ) (text : List ℕ) → bytes_ahead r y ≡ Some (behind many text) → ReadsLine r s y z (Err Quota) → IfTold z (NoLineEnds many text)
-read-limit r s y z many text ahead reads = go z (told (λ left. Consumes (Some left) z reads.gives.bytes) y a.0 a.1 taken)
+-- where the reading is cut off, no line ends before the bytes that are left
+pub read-limit : (r s : Reading) (y z : Option (List ℕ)) (many : ℕ) (text : List ℕ) (fault : LineFault) → bytes_ahead r y ≡ Some (behind many text) → ReadsLine r s y z (Err fault) → IsCutOff (Err fault) → IfTold z (NoLineEnds many text)
+read-limit r s y z many text fault ahead reads cut = go z (told (λ left. Consumes (Some left) z reads.gives.bytes) y a.0 a.1 taken)
   where
     a : (left : List ℕ) × (y ≡ Some left) × (r.pending ++ left ≡ behind many text)
     a = ahead-some r y (behind many text) ahead
@@ -233,16 +214,23 @@ read-limit r s y z many text ahead reads = go z (told (λ left. Consumes (Some l
         told_of None h = tt
         told_of (Some left) h = h
 
-    within : (left : List ℕ) → a.0 ≡ reads.gives.bytes ++ left → bytes_within r a.0 ≡ r.pending ++ reads.gives.bytes
-    within left is =
-        let q = reads.quota refl in
-        let room : 67108864 - r.given ≡ length reads.gives.bytes = (let n = reads.gives.given in omega (arith, q, n)) in
-        rw (room, is) (ap (λ l. r.pending ++ l) (take-append_seam reads.gives.bytes left))
-
     go : (z : Option (List ℕ)) → Consumes (Some a.0) z reads.gives.bytes → IfTold z (NoLineEnds many text)
     go None h = tt
     go (Some left) h = record {
       front = r.pending ++ reads.gives.bytes;
       split = sym a.2 ∙ (ap (λ l. r.pending ++ l) h ∙ sym (append_assoc r.pending reads.gives.bytes left));
-      unended = rw (← within left h) (answer-quota r a.0 (told _ y a.0 a.1 reads.answer));
+      unended = reads.cut_off cut;
     }
+
+-- a source that is at its end has given all of its text
+all-given : (text bytes : List ℕ) (z : Option (List ℕ)) → Consumes (Some text) z bytes → IsAtEnd z → length bytes < 67108864 → length text < 67108864
+all-given text bytes None taken at_end few = absurd taken
+all-given text bytes (Some left) taken at_end few = omega (arith, ap length taken, length-append bytes left, ap length at_end, few)
+
+-- a text that was read to its end is below the limit
+pub read-fewer : (s t : Reading) (x y z : Option (List ℕ)) → Gives nothing_read s x y → ReadsLine s t y z (Ok None) → IfTold x (λ text. length text < 67108864)
+read-fewer s t None y z g reads = tt
+read-fewer s t (Some text) y z g reads =
+    let all = Gives-trans nothing_read s t (Some text) y z g reads.gives in
+    let end = reads.end refl in
+    all-given text all.bytes z all.taken end.1 (omega (arith, all.given, end.2))

@@ -1,5 +1,5 @@
 -- What a command writes: the answer to one line of its input after another, each line of the output ended by a line feed.
-use Rattle.std.specs.Prelude.{◌≡◌, ℕ, zero, suc, ◌+◌, ◌==◌, false, List, [], ◌∷◌, ◌++◌, take, codes, decimal, if◌then◌else◌, None, Some, ⊤}
+use Rattle.std.specs.Prelude.{◌≡◌, ℕ, zero, suc, ◌+◌, ◌==◌, ◌⊎◌, false, List, [], ◌∷◌, ◌++◌, take, codes, decimal, if◌then◌else◌, None, Some, ⊤}
 use Rattle.std.specs.declared.option.Option.{Option}
 use Rattle.std.specs.Io.KnownBytes.{Appends}
 use Rattle.xfs_base.specs.Causes.{IfTold, TookFront}
@@ -96,13 +96,13 @@ pub record NoLineEnds (many : ℕ) (text left : List ℕ) : Type 0 where
   pub split : behind many text ≡ front ++ left
   pub unended : has_line_feed front ≡ false
 
--- the sink took the answers to the lines before the end, and a front of the last line; the end is at status 4 a line that is none, and at status 10 that no line ends before the bytes that are left; Stops tells of the status, the line that it ends at and the state before that
+-- the sink took the answers to the lines before the end, and a front of the last line; the end is at status 4 a line that is none, and at status 3 and 10 that no line ends before the bytes that are left; Stops tells of the status, the line that it ends at and the state before that
 pub record WritesUntil {S : Type 0} (IsLine : List ℕ → Type 0) (Answers : S → List ℕ → List (List ℕ) → S → Type 0) (Stops : ℕ → List ℕ → S → Type 0) (start : S) (status : ℕ) (left before after : Option (List ℕ)) (text : List ℕ) : Type 0 where
   pub many : ℕ
   pub output : List (List ℕ)
   pub answers : AnswersFirst Answers (Stops status (first_line (behind many text))) start many text output
   pub none : status ≡ 4 → ¬ (IsLine (first_line (behind many text)))
-  pub limit : status ≡ 10 → IfTold left (NoLineEnds many text)
+  pub limit : (status ≡ 3) ⊎ (status ≡ 10) → IfTold left (NoLineEnds many text)
   pub at : ℕ
   pub front : ℕ
   pub written : Appends before after (lines_text output ++ take front (lines_text (last_line status many at)))

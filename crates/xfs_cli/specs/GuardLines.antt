@@ -15,6 +15,6 @@ abbrev pub behind : ℕ → List ℕ → List ℕ
 behind zero text = text
 behind (suc n) text = rest (behind n text)
 
--- the first n lines of a text are lines
-abbrev pub AreLines : ℕ → List ℕ → Type 0
-AreLines n text = (i : ℕ) → i < n → IsLine (first_line (behind i text))
+-- the first n lines of a text are lines of a command
+abbrev pub AreLines : (List ℕ → Type 0) → ℕ → List ℕ → Type 0
+AreLines IsLineOf n text = (i : ℕ) → i < n → IsLineOf (first_line (behind i text))

@@ -24,16 +24,16 @@ IsToken words = IsWord (codes "token") words
 abbrev pub IsCommand : List (String Global) → Type 0
 IsCommand words = IsGuard words ⊎ IsToken words
 
--- every line of the text is a line
-pub record AllLines (text : List ℕ) : Type 0 where
+-- every line of the text is a line of the command
+pub record AllLines (IsLineOf : List ℕ → Type 0) (text : List ℕ) : Type 0 where
   pub many : ℕ
-  pub lines : AreLines many text
+  pub lines : AreLines IsLineOf many text
   pub whole : behind many text ≡ []
 
 -- the text has a first line that is none, and before it lines alone
 pub record StopsAtLine (text : List ℕ) : Type 0 where
   pub many : ℕ
-  pub lines : AreLines many text
+  pub lines : AreLines IsLine many text
   pub none : ¬ (IsLine (first_line (behind many text)))
 
 -- the source gave as many bytes as there may be

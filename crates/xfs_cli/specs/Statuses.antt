@@ -5,7 +5,7 @@ use Rattle.xfs_journal.specs.declared.limits.Limits.{Limits}
 use Rattle.xfs_journal.specs.declared.record.Rec.{Rec}
 use Rattle.xfs_cli.specs.Boots.{BootPasses}
 use Rattle.xfs_script.specs.Lines.{first_line}
-use Rattle.xfs_cli.specs.GuardLines.{behind}
+use Rattle.xfs_cli.specs.GuardLines.{IsLine, behind}
 use Rattle.xfs_cli.specs.Run.{AllLines}
 use Rattle.xfs_cli.specs.Answers.{AnswersEach, first_lines}
 use Rattle.xfs_cli.specs.RestartAnswers.{HasNoRoom}
@@ -34,7 +34,7 @@ pub record HasFullRestart (IsStartOf Ends : Seen → Type 0) (text : List ℕ) :
 
 -- every line of the input is a line, the input is short enough, and the Boot passes no limit behind the records of the disk, nor does that of a restart which ends the run
 pub record IsUnhindered (IsStartOf Ends : Seen → Type 0) (text : List ℕ) (limits : Limits) (places : Places) (records : List Rec) : Type 0 where
-  pub lines : AllLines text
+  pub lines : AllLines IsLine text
   pub short : length text < 67108864
   pub boots : ¬ (BootPasses limits places records)
   pub restarts : ¬ (HasFullRestart IsStartOf Ends text)

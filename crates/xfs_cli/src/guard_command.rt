@@ -1,6 +1,6 @@
 //! The command `guard`.
 
-ghost use Rattle.std.specs.Prelude.{◌≡◌, ◌≢◌, ◌↔◌, ◌≤◌, ◌⊎◌, ℕ, List, Some, None, false, IsTrue, is_some, length};
+ghost use Rattle.std.specs.Prelude.{◌≡◌, ◌≢◌, ◌↔◌, ◌<◌, ◌≤◌, ◌⊎◌, ℕ, List, Some, None, false, IsTrue, is_some, length};
 ghost use Rattle.std.specs.Io.KnownBytes.{IsAtEnd};
 ghost use Rattle.xfs_base.specs.Causes.{Rose, IfTold};
 ghost use Rattle.xfs_disk.specs.Disk.{LeavesOnly, Only};
@@ -57,7 +57,8 @@ pub fn guard<S: Source, K: Sink, M: Mechanism, D: Disk>(
     ensures idle { result.status ≡ 2 → result.mech ≡ core.mech }
     ensures idle_disk { result.status ≡ 2 → result.disk ≡ core.disk }
     ensures whole { result.status ≡ 0 → IsAtEnd (S.left source.new) }
-    ensures lines { result.status ≡ 0 → IfTold (S.left source.old) AllLines }
+    ensures fewer { result.status ≡ 0 → IfTold (S.left source.old) (λ text. length text < 67108864) }
+    ensures lines { result.status ≡ 0 → IfTold (S.left source.old) (AllLines IsLine) }
     ensures not_a_line { result.status ≡ 4 → IfTold (S.left source.old) StopsAtLine }
     ensures quota { result.status ≡ 10 → GaveAll (S.left source.old) (S.left source.new) }
     ensures read { result.status ≡ 3 → Rose (S.faults source.old) (S.faults source.new) }
@@ -164,7 +165,8 @@ fn serve<S: Source, K: Sink, M: Mechanism, D: Disk>(
     ensures untold { result ≡ 7 → session.old.guard.state.disk_told ≡ false }
     ensures full { result ≡ 12 → IsFull session.new.guard.state }
     ensures whole { result ≡ 0 → IsAtEnd (S.left source.new) }
-    ensures lines { result ≡ 0 → IfTold (S.left source.old) AllLines }
+    ensures fewer { result ≡ 0 → IfTold (S.left source.old) (λ text. length text < 67108864) }
+    ensures lines { result ≡ 0 → IfTold (S.left source.old) (AllLines IsLine) }
     ensures not_a_line { result ≡ 4 → IfTold (S.left source.old) StopsAtLine }
     ensures quota { result ≡ 10 → GaveAll (S.left source.old) (S.left source.new) }
     ensures read { result ≡ 3 → Rose (S.faults source.old) (S.faults source.new) }

@@ -1,6 +1,6 @@
 //! The command `token`.
 
-ghost use Rattle.std.specs.Prelude.{◌≡◌, ◌≢◌, ◌↔◌, ◌≤◌, [], length};
+ghost use Rattle.std.specs.Prelude.{◌≡◌, ◌≢◌, ◌↔◌, ◌<◌, ◌≤◌, [], length};
 ghost use Rattle.std.specs.Io.KnownBytes.{IsAtEnd, Appends};
 ghost use Rattle.xfs_base.specs.Causes.{Rose, IfTold, TookFront};
 ghost use Rattle.xfs_cli.specs.Run.{IsToken, GaveAll};
@@ -38,6 +38,7 @@ pub fn token<S: Source, K: Sink, M: Mechanism, D: Disk>(
     ensures usage_written { result.status ≡ 2 → WritesUsage (K.held sink.old) (K.held sink.new) }
     ensures unbooted { (result.status ≢ 6) × (result.status ≢ 7) × (result.status ≢ 12) }
     ensures whole { result.status ≡ 0 → IsAtEnd (S.left source.new) }
+    ensures fewer { result.status ≡ 0 → IfTold (S.left source.old) (λ text. length text < 67108864) }
     ensures quota { result.status ≡ 10 → GaveAll (S.left source.old) (S.left source.new) }
     ensures read { result.status ≡ 3 → Rose (S.faults source.old) (S.faults source.new) }
     ensures write { result.status ≡ 5 → Rose (K.faults sink.old) (K.faults sink.new) }
@@ -69,6 +70,7 @@ fn serve<S: Source, K: Sink>(alloc: Global, key: &[u8; 32], source: &mut S, sink
     ensures usage { result ≢ 2 }
     ensures unbooted { (result ≢ 6) × (result ≢ 7) × (result ≢ 12) }
     ensures whole { result ≡ 0 → IsAtEnd (S.left source.new) }
+    ensures fewer { result ≡ 0 → IfTold (S.left source.old) (λ text. length text < 67108864) }
     ensures quota { result ≡ 10 → GaveAll (S.left source.old) (S.left source.new) }
     ensures read { result ≡ 3 → Rose (S.faults source.old) (S.faults source.new) }
     ensures write { result ≡ 5 → Rose (K.faults sink.old) (K.faults sink.new) }

@@ -1,6 +1,6 @@
 //! The top call.
 
-ghost use Rattle.std.specs.Prelude.{◌≡◌, ◌≢◌, ◌↔◌, ◌⊎◌, ℕ, List, None, is_some, length};
+ghost use Rattle.std.specs.Prelude.{◌≡◌, ◌≢◌, ◌↔◌, ◌<◌, ◌⊎◌, ℕ, List, None, is_some, length};
 ghost use Rattle.std.specs.Io.KnownBytes.{IsAtEnd};
 ghost use Rattle.xfs_base.specs.Causes.{Rose, IfTold};
 ghost use Rattle.xfs_disk.specs.Disk.{LeavesOnly, Only};
@@ -60,6 +60,7 @@ pub fn run<S: Source, K: Sink, M: Mechanism, D: Disk>(
     ensures idle { result.status ≡ 2 → result.mech ≡ core.mech }
     ensures idle_disk { result.status ≡ 2 → result.disk ≡ core.disk }
     ensures whole { result.status ≡ 0 → IsAtEnd (S.left source.new) }
+    ensures fewer { result.status ≡ 0 → IfTold (S.left source.old) (λ text. length text < 67108864) }
     ensures quota { result.status ≡ 10 → GaveAll (S.left source.old) (S.left source.new) }
     ensures read { result.status ≡ 3 → Rose (S.faults source.old) (S.faults source.new) }
     ensures write { result.status ≡ 5 → Rose (K.faults sink.old) (K.faults sink.new) }
@@ -75,7 +76,7 @@ pub fn run<S: Source, K: Sink, M: Mechanism, D: Disk>(
     ensures unmoved { IfTold (D.held core.disk) (λ bytes. IsNoJournal bytes → result.mech ≡ core.mech) }
 
     // The lines of `guard`, and what is written: their answers from the boot on, and at most one last line.
-    ensures lines { IsGuard words.now → result.status ≡ 0 → IfTold (S.left source.old) AllLines }
+    ensures lines { IsGuard words.now → result.status ≡ 0 → IfTold (S.left source.old) (AllLines IsLine) }
     ensures not_a_line { IsGuard words.now → result.status ≡ 4 → IfTold (S.left source.old) StopsAtLine }
     ensures guard_answers { IsGuard words.now → result.status ≡ 0 → IfTold (S.left source.old) (λ text. FromBoot (at_entry M.motions M.places M.faults D.held D.faults core)
         (λ start. WritesAll AnswersGuard (IsEnd (M.motions result.mech) (M.places result.mech) (M.faults result.mech) (D.faults result.disk) (D.held result.disk) (D.images result.disk)) start (K.held sink.old) (K.held sink.new) text)) }
@@ -93,6 +94,11 @@ pub fn run<S: Source, K: Sink, M: Mechanism, D: Disk>(
     ensures until { IsToken words.now → result.status ≢ 0 → result.status ≢ 5 → IfTold (S.left source.old) (WritesUntil IsLineOfToken AnswersToken AnyStop core.key result.status (S.left source.new) (K.held sink.old) (K.held sink.new)) }
     ensures same { IsToken words.now → result.mech ≡ core.mech }
     ensures same_disk { IsToken words.now → result.disk ≡ core.disk }
+
+    // A run of `token` boots nothing, and one that nothing hinders ends with its input.
+    ensures token_unbooted { IsToken words.now → (result.status ≢ 6) × (result.status ≢ 7) × (result.status ≢ 12) }
+    ensures token_finishes { IsToken words.now → ¬ (Rose (S.faults source.old) (S.faults source.new)) → ¬ (Rose (K.faults sink.old) (K.faults sink.new))
+        → IfTold (S.left source.old) (λ text. AllLines IsLineOfToken text → length text < 67108864 → IsFinished result.status) }
 
     // What the mechanism did in the run: its new numbers lie behind the journal's, and its notes add up.
     ensures newer { IfTold (D.held core.disk) (λ bytes. (J : List Rec) → Stands bytes J → IsNewer (length J) (M.motions core.mech) (M.motions result.mech)) }

@@ -1,5 +1,5 @@
 -- What one call of the reader shows, by how the line ended.
-use Rattle.std.proofs.Common.{◌≡◌, ℕ, ◌+◌, ◌-◌, ◌<◌, ◌≤◌, nat_le, true, false, List, [], ◌++◌, length, take, Ok, Err, OnOk, OnErr, None, Some, refl, ap, sym, subst, ◌∙◌, arith, length-append, inl, inr}
+use Rattle.std.proofs.Common.{◌≡◌, ℕ, ◌+◌, ◌-◌, ◌<◌, ◌≤◌, nat_le, true, false, List, [], ◌++◌, length, take, Ok, Err, OnOk, OnErr, None, Some, refl, ap, sym, subst, ◌∙◌, arith, length-append, append_assoc, inl, inr}
 use Rattle.std.specs.Prelude.{slice_index, ◌==◌}
 use Rattle.std.proofs.lemmas.Bool.{cond-true, cond-false, lt-leb, leb-true, cases_Bool}
 use Rattle.std.proofs.lemmas.List.{append-nil, take_all, length-take-le}
@@ -10,7 +10,7 @@ use Rattle.xfs_base.specs.Causes.{IfTold}
 use Rattle.xfs_script.specs.Lines.{line_end, has_line_feed, first_line, rest, without_return}
 use Rattle.xfs_script.specs.Reading.{Reading, Grows, Drops, Gives, line_off}
 use Rattle.xfs_script.specs.Found.{IsOpen, IsRefusal}
-use Rattle.xfs_script.specs.Answer.{answer_of, answer_on, bytes_within, bytes_ahead, line_answer, IsAnswer, HasNumber, ReadsLine}
+use Rattle.xfs_script.specs.Answer.{answer_of, answer_on, bytes_within, bytes_ahead, line_answer, IsAnswer, HasNumber, IsCutOff, ReadsLine}
 use Rattle.xfs_script.specs.declared.line.Line.{Line}
 use Rattle.xfs_script.specs.declared.line.LineFault.{LineFault}
 use Rattle.xfs_script.specs.declared.line.LineFault.TheVariants.{Read, Quota, TooLong, Memory}
@@ -52,6 +52,22 @@ line_long k m l h = elim (cases_Bool (nat_le (length l) 70000)) [
   | inr over ↦ (let e = line_over k l over in cc)
 ]
 
+-- the answer is none that cuts the reading off
+no_cut : (result : Result (Option Line) LineFault) (X : Type 0) → ¬ (result ≡ Err Read) → ¬ (result ≡ Err Quota) → IsCutOff result → X
+no_cut result X read quota (inl e) = absurd (read e)
+no_cut result X read quota (inr e) = absurd (quota e)
+
+-- where no line feed is kept, none is in what was kept and what the source gave
+open_grown : (r s : Reading) (x y : Option (List ℕ)) (g : Grows r s x y) → IsOpen s → has_line_feed (r.pending ++ g.bytes) ≡ false
+open_grown r s x y g none = ap has_line_feed (sym g.pending) ∙ no_feed [] s.pending refl none
+
+open_dropped : (r s u : Reading) (x y z : Option (List ℕ)) (g : Grows r s x y) (d : Drops s u y z) → IsOpen u → has_line_feed (r.pending ++ (g.bytes ++ (d.bytes ++ u.pending))) ≡ false
+open_dropped r s u x y z g d none =
+    let more : List ℕ = d.bytes ++ u.pending in
+    let all : r.pending ++ (g.bytes ++ more) ≡ (s.pending ++ d.bytes) ++ u.pending =
+    sym (append_assoc r.pending g.bytes more) ∙ (ap (λ t. t ++ more) (sym g.pending) ∙ sym (append_assoc s.pending d.bytes u.pending)) in
+    ap has_line_feed all ∙ no_feed (s.pending ++ d.bytes) u.pending d.no_end none
+
 gives_grown : (r s : Reading) (x y : Option (List ℕ)) → Grows r s x y → Gives r s x y
 gives_grown r s x y g = record { bytes = g.bytes; given = g.given; taken = g.taken }
 
@@ -74,6 +90,7 @@ handed_line r s t x y n (Ok (Some line)) g d is only ok err =
       handed = omega (arith, ap (λ k. k.handed) ok, g.handed);
       memory = λ h. absurd (let bad : ⊥ = cc in bad);
       quota = λ h. cc;
+      cut_off = no_cut _ _ (λ e. cc) (λ e. cc);
       end = λ h. absurd (let bad : ⊥ = cc in bad);
     }
 handed_line r s t x y n (Err Read) g d is only ok err = absurd (only refl)
@@ -85,6 +102,7 @@ handed_line r s t x y n (Err Memory) g d is only ok err = record {
   handed = omega (arith, ap (λ k. k.handed) err, g.handed);
   memory = λ h. told_map x _ (λ xs. bytes_ahead t y ≡ Some (r.pending ++ xs)) (λ xs due. ap (λ k. prepend_known k.pending y) err ∙ due) d.same;
   quota = λ h. cc;
+  cut_off = no_cut _ _ (λ e. cc) (λ e. cc);
   end = λ h. absurd (let bad : ⊥ = cc in bad);
 }
 handed_line r s t x y n (Err Quota) g d is only ok err = absurd (not_quota (s.handed + 1) (without_return (take n s.pending)) is)
@@ -98,6 +116,7 @@ handed_line r s t x y n (Err (TooLong m)) g d is only ok err =
       handed = omega (arith, ap (λ k. k.handed) err, g.handed);
       memory = λ h. absurd (let bad : ⊥ = cc in bad);
       quota = λ h. cc;
+      cut_off = no_cut _ _ (λ e. cc) (λ e. cc);
       end = λ h. absurd (let bad : ⊥ = cc in bad);
     }
 
@@ -142,6 +161,7 @@ none_read r s x y g few none at_end empty =
       handed = omega (arith, g.handed);
       memory = λ h. absurd (let bad : ⊥ = cc in bad);
       quota = λ h. cc;
+      cut_off = no_cut _ _ (λ e. cc) (λ e. cc);
       end = λ h. (empty, at_end, few);
     }
 
@@ -153,6 +173,7 @@ quota_told r s (Some xs) (Some ys) g none full =
 
 -- the limit is reached
 pub quota_read : (r s : Reading) (x y : Option (List ℕ)) → Grows r s x y → IsOpen s → s.given ≡ 67108864 → ReadsLine r s x y (Err Quota)
+unfolding gives_grown
 quota_read r s x y g none full = record {
   gives = gives_grown r s x y g;
   answer = quota_told r s x y g none full;
@@ -161,8 +182,28 @@ quota_read r s x y g none full = record {
   handed = omega (arith, g.handed);
   memory = λ h. absurd (let bad : ⊥ = cc in bad);
   quota = λ h. full;
+  cut_off = λ h. open_grown r s x y g none;
   end = λ h. absurd (let bad : ⊥ = cc in bad);
 }
+
+-- the source failed
+pub fault_read : (r s : Reading) (x y : Option (List ℕ)) → Grows r s x y → IsOpen s → ReadsLine r s x y (Err Read)
+unfolding gives_grown
+fault_read r s x y g none = record {
+  gives = gives_grown r s x y g;
+  answer = told_any x;
+  rest = tt;
+  number = tt;
+  handed = omega (arith, g.handed);
+  memory = λ h. absurd (let bad : ⊥ = cc in bad);
+  quota = λ h. cc;
+  cut_off = λ h. open_grown r s x y g none;
+  end = λ h. absurd (let bad : ⊥ = cc in bad);
+}
+  where
+    told_any : (x : Option (List ℕ)) → IfTold x (λ xs. IsAnswer (Err Read) (answer_of r xs))
+    told_any None = tt
+    told_any (Some xs) = tt
 
 without_return-le : (bs : List ℕ) → length bs - 1 ≤ length (without_return bs)
 without_return-le bs = elim (cases_Bool (slice_index bs (length bs - 1) == 13)) [
@@ -223,6 +264,12 @@ refused_quota handed u z fault is e =
     let P : LineFault → Type 0 = λ f. IsRefusal handed u z f in
     (subst P e is).1
 
+refused_open : (handed : ℕ) (u : Reading) (z : Option (List ℕ)) (fault : LineFault) → IsRefusal handed u z fault → IsCutOff (Err fault) → IsOpen u
+refused_open handed u z Read is cut = is
+refused_open handed u z Memory is cut = absurd is
+refused_open handed u z Quota is cut = is.0
+refused_open handed u z (TooLong n) is cut = no_cut (Err (TooLong n)) (IsOpen u) (λ e. cc) (λ e. cc) cut
+
 refused_memory : (handed : ℕ) (u : Reading) (z : Option (List ℕ)) (fault : LineFault) → IsRefusal handed u z fault → fault ≡ Memory → ⊥
 refused_memory handed u z fault is e =
     let P : LineFault → Type 0 = λ f. IsRefusal handed u z f in
@@ -242,5 +289,6 @@ refused_read r s u x y z g d low bound long fault is = record {
   handed = omega (arith, g.handed, d.handed);
   memory = λ h. absurd (refused_memory s.handed u z fault is (cc));
   quota = λ h. refused_quota s.handed u z fault is (cc);
+  cut_off = λ h. open_dropped r s u x y z g d (refused_open s.handed u z fault is h);
   end = λ h. absurd (let bad : ⊥ = cc in bad);
 }

@@ -1,5 +1,5 @@
 -- What a reader of lines answers: the first line of the bytes that it keeps and that the source has left, or why there is none.
-use Rattle.std.specs.Prelude.{◌≡◌, ℕ, ◌+◌, ◌-◌, ◌<◌, ◌≤◌, nat_le, nat_lt, if◌then◌else◌, List, [], ◌++◌, length, take, Ok, Err, Some, None, OnOk}
+use Rattle.std.specs.Prelude.{◌≡◌, ℕ, ◌+◌, ◌-◌, ◌<◌, ◌≤◌, ◌⊎◌, nat_le, nat_lt, if◌then◌else◌, List, [], ◌++◌, length, take, false, Ok, Err, Some, None, OnOk}
 use Rattle.std.specs.declared.result.Result.{Result}
 use Rattle.std.specs.declared.option.Option.{Option}
 use Rattle.std.specs.Io.KnownBytes.{prepend_known, IsAtEnd}
@@ -56,7 +56,11 @@ lines_in (Err fault) = 0
 abbrev pub bytes_ahead : Reading → Option (List ℕ) → Option (List ℕ)
 bytes_ahead r left = prepend_known r.pending left
 
--- a call took a line off the bytes to come, or says why not
+-- the reading is cut off by a fault of the source or by the limit
+abbrev pub IsCutOff : Result (Option Line) LineFault → Type 0
+IsCutOff result = (result ≡ Err Read) ⊎ (result ≡ Err Quota)
+
+-- a call took a line off the bytes to come, or says why not; where the reading is cut off, what was kept and what the source gave have no line feed
 pub record ReadsLine (old new : Reading) (before after : Option (List ℕ)) (result : Result (Option Line) LineFault) : Type 0 where
   pub gives : Gives old new before after
   pub answer : IfTold before (λ left. IsAnswer result (answer_of old left))
@@ -65,4 +69,5 @@ pub record ReadsLine (old new : Reading) (before after : Option (List ℕ)) (res
   pub handed : new.handed ≡ old.handed + lines_in result
   pub memory : result ≡ Err Memory → IfTold before (λ left. bytes_ahead new after ≡ Some (old.pending ++ left))
   pub quota : result ≡ Err Quota → new.given ≡ 67108864
+  pub cut_off : IsCutOff result → has_line_feed (old.pending ++ gives.bytes) ≡ false
   pub end : result ≡ Ok None → (new.pending ≡ []) × IsAtEnd after × (new.given < 67108864)

@@ -27,7 +27,7 @@ IsPassed r left false = IsOpen r × (r.given ≡ 67108864)
 
 -- why a line isn't handed out whose front was dropped
 abbrev pub IsRefusal : ℕ → Reading → Option (List ℕ) → LineFault → Type 0
-IsRefusal handed r left Fault.Read = Unit {0}
+IsRefusal handed r left Fault.Read = IsOpen r
 IsRefusal handed r left Fault.Quota = IsPassed r left false
 IsRefusal handed r left (Fault.TooLong n) = (n ≡ handed + 1) × IsPassed r left true
 IsRefusal handed r left Fault.Memory = ⊥

@@ -1,5 +1,5 @@
 -- The lines of the command `token`: the bytes that write each verb with its fields.
-use Rattle.std.specs.Prelude.{◌≡◌, ℕ, ◌≤◌, ◌⊎◌, IsTrue, List, [], ◌∷◌, ◌++◌, length, codes, Ok}
+use Rattle.std.specs.Prelude.{◌≡◌, ℕ, ◌⊎◌, IsTrue, List, [], ◌∷◌, ◌++◌, codes, Ok}
 use Rattle.hex.specs.Hex.{decode_of}
 use Rattle.xfs_token.specs.Token.{is_nonce}
 use Rattle.xfs_script.specs.Words.{IsSkipped}
@@ -14,9 +14,9 @@ pub record IsMake (text nonce : List ℕ) (amounts : List (List ℕ × ℕ)) : T
   pub valid : IsTrue (is_nonce nonce)
   pub spells : SpellsAmounts field amounts
 
--- `-` for no bytes, or two hexadecimal digits a byte, of either case
+-- two hexadecimal digits a byte, of either case; `-` stands for no bytes too
 abbrev pub IsHex : List ℕ → List ℕ → Type 0
-IsHex field bytes = ((field ≡ codes "-") × (bytes ≡ [])) ⊎ ((1 ≤ length field) × (decode_of field ≡ Ok bytes))
+IsHex field bytes = ((field ≡ codes "-") × (bytes ≡ [])) ⊎ (decode_of field ≡ Ok bytes)
 
 -- the fields are `mac` and those of these bytes
 pub record IsMac (text key message : List ℕ) : Type 0 where

@@ -96,6 +96,7 @@ impl Feed {
         ensures grown { Grows self.old self.new (S.left source.old) (S.left source.new) }
         ensures count { IfOk result (λ n. self.new.given ≡ self.old.given + n) }
         ensures end { result ≡ Ok 0 → IsAtEnd (S.left source.new) }
+        ensures err { OnErr result (self.new.given ≡ self.old.given) }
         ensures bound { self.new.given ≤ 67108864 }
         ensures cause { HasCause (S.faults source.old) (S.faults source.new) result }
     {
@@ -113,6 +114,7 @@ impl Feed {
     pub(crate) fn seek<S: Source>(&mut self, source: &mut S) -> Result<Found, Failed>
         ensures grown { Grows self.old self.new (S.left source.old) (S.left source.new) }
         ensures ok { IfOk result (IsFound self.new (S.left source.new)) }
+        ensures err { OnErr result (IsOpen self.new) }
         ensures bound { self.new.given ≤ 67108864 }
         ensures cause { HasCause (S.faults source.old) (S.faults source.new) result }
     {
@@ -140,6 +142,7 @@ impl Feed {
         requires { IsOpen self.old }
         ensures drops { Drops self.old self.new (S.left source.old) (S.left source.new) }
         ensures ok { IfOk result (IsPassed self.new (S.left source.new)) }
+        ensures err { OnErr result (IsOpen self.new) }
         ensures bound { self.new.given ≤ 67108864 }
         ensures cause { HasCause (S.faults source.old) (S.faults source.new) result }
     {

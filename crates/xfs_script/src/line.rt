@@ -11,7 +11,7 @@ pub struct Line {
 /// Why there is no further line.
 #[derive(Clone, Copy, Debug, PartialEq, Eq)]
 pub enum LineFault {
-    /// The source failed.
+    /// The source failed, and no line of what it gave is left that a line feed ends.
     Read,
     /// The source gave 67,108,864 bytes, and no line of them is left that a line feed ends.
     Quota,

@@ -36,7 +36,8 @@ impl Lines {
         Lines { alloc, feed: None }
     }
 
-    /// The next line. None exactly at the end of the input.
+    /// The next line. None exactly at the end of the input; a `Read` or a `Quota` only where no line
+    /// of what the source gave is left that a line feed ends.
     pub fn next<S: Source>(&mut self, source: &mut S) -> Result<Option<Line>, LineFault>
         ensures reads { ReadsLine self.old self.new (S.left source.old) (S.left source.new) result }
         ensures later { S.faults source.old ≤ S.faults source.new }

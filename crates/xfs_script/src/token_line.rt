@@ -92,9 +92,6 @@ fn read_hex(alloc: Global, field: &[u8]) -> Result<Bytes, ScriptFault>
     if is_word(field, b"-") {
         return Ok(Bytes::new(Vec::new(alloc)));
     }
-    if field.is_empty() {
-        return Err(ScriptFault::NotALine);
-    }
     match hex::decode(alloc, field) {
         Ok(bytes) => Ok(Bytes::new(bytes)),
         Err(FromHexError::OutOfMemory) => Err(ScriptFault::Memory),

@@ -1,6 +1,6 @@
 use Rattle.std.proofs.Common.{◌∙◌, ap, arith, refl, sym}
 use Rattle.xfs_guard.proofs.ContinueLaws.{Continues-same, Continues-trans}
-use Rattle.xfs_cli.proofs.LineLaws.{Gives-start, HasRead-start, Gives-trans, read-line, read-end, read-stop, read-fault, read-quota}
+use Rattle.xfs_cli.proofs.LineLaws.{Gives-start, HasRead-start, Gives-trans, read-line, read-end, read-stop, read-fault, read-fewer, read-quota}
 use Rattle.xfs_cli.specs.GuardLines.{IsLine}
 use Rattle.xfs_cli.specs.VerbAnswers.{AnswersGuard}
 use Rattle.xfs_cli.proofs.AnswerLaws.{answered-start, answered-line, answered-all, answered-front, answered-no_line, answered-memory, answered-fault, answered-unbooted}
@@ -80,6 +80,9 @@ returns-in-Unbooted-clause-full g c = λ twelve.
 
 pub returns-in-Unbooted-clause-statuses : goal.returns-in-Unbooted-clause-statuses
 returns-in-Unbooted-clause-statuses g c = rw c.unbooted.ensures.status (status-boot _)
+
+pub returns-in-Ok-None-clause-fewer : goal.returns-in-Ok-None-clause-fewer
+returns-in-Ok-None-clause-fewer g c = λ zero. read-fewer _ _ _ _ _ c.loop.invariant.gives (rw c.in-Ok-None.field-0-is at c.in-Ok-None.ensures.reads)
 
 pub returns-in-Ok-None-clause-lines : goal.returns-in-Ok-None-clause-lines
 returns-in-Ok-None-clause-lines g c = λ zero. read-end _ _ _ _ _ c.loop.invariant.read (rw c.in-Ok-None.field-0-is at c.in-Ok-None.ensures.reads)

@@ -1,12 +1,15 @@
 use Rattle.std.proofs.Common.{◌∙◌, ap, arith, refl, sym}
 use Rattle.xfs_cli.specs.Answers.{Unsaid, AnyStop}
 use Rattle.xfs_cli.specs.TokenAnswers.{AnswersToken, IsLineOfToken}
-use Rattle.xfs_cli.proofs.LineLaws.{Gives-trans, read-quota}
+use Rattle.xfs_cli.proofs.LineLaws.{Gives-trans, read-fewer, read-quota}
 use Rattle.xfs_cli.proofs.AnswerLaws.{answered-line, answered-all, answered-front, answered-no_line, answered-memory, answered-fault}
 use Rattle.xfs_cli.proofs.token_command.serve.Goals as goal
 
 pub returns-in-Ok-None-clause-answers : goal.returns-in-Ok-None-clause-answers
 returns-in-Ok-None-clause-answers g c = λ zero. answered-all AnswersToken Unsaid _ _ _ _ _ _ _ _ _ tt c.loop.invariant.answered (rw c.in-Ok-None.field-0-is at c.in-Ok-None.ensures.reads)
+
+pub returns-in-Ok-None-clause-fewer : goal.returns-in-Ok-None-clause-fewer
+returns-in-Ok-None-clause-fewer g c = λ zero. read-fewer _ _ _ _ _ c.loop.invariant.gives (rw c.in-Ok-None.field-0-is at c.in-Ok-None.ensures.reads)
 
 pub returns-in-NotALine-clause-until : goal.returns-in-NotALine-clause-until
 returns-in-NotALine-clause-until g c = λ not_zero not_five.

@@ -2,6 +2,7 @@ use Rattle.std.proofs.Common.{refl}
 use Rattle.xfs_cli.proofs.RunLaws.{upholds-same}
 use Rattle.xfs_cli.proofs.MomentLaws.{moments-same}
 use Rattle.xfs_cli.proofs.CompleteLaws.{complete}
+use Rattle.xfs_cli.proofs.TokenEndLaws.{token-finishes}
 use Rattle.xfs_cli.proofs.top.run.Goals as goal
 
 pub returns-then-is_word-2-clause-upholds : goal.returns-then-is_word-2-clause-upholds
@@ -15,6 +16,11 @@ returns-then-is_word-2-clause-any_moment g c = moments-same g.D.Disk.held g.D.Di
 
 pub returns-clause-any_moment : goal.returns-clause-any_moment
 returns-clause-any_moment g c = moments-same g.D.Disk.held g.D.Disk.images g.D.Disk.moment g.D.Disk.images_since g.met.D.Disk.as_read _ _ _ g.met.D.Disk.only_now c.requires.at_rest refl
+
+pub returns-then-is_word-2-clause-token_finishes : goal.returns-then-is_word-2-clause-token_finishes
+returns-then-is_word-2-clause-token_finishes g c = λ words.
+    let end = c.token.ensures in
+    token-finishes _ _ _ _ _ _ _ _ end.statuses (λ two. end.usage.0 two words) end.unbooted end.read end.write end.quota (λ not_zero. end.until not_zero (λ two. end.usage.0 two words))
 
 pub returns-then-is_word-2-clause-complete : goal.returns-then-is_word-2-clause-complete
 returns-then-is_word-2-clause-complete g c = complete

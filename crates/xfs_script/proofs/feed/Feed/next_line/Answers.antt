@@ -1,7 +1,7 @@
 use Rattle.std.proofs.Common.{◌≡◌, ℕ, length, arith, sym, subst}
 use Rattle.std.proofs.lemmas.List.{nil_from_length}
 use Rattle.xfs_script.proofs.Due.{Due, due_feed, due_end}
-use Rattle.xfs_script.proofs.Cases.{handed_line, none_read, quota_read, refused_read}
+use Rattle.xfs_script.proofs.Cases.{handed_line, none_read, quota_read, fault_read, refused_read}
 use Rattle.xfs_script.proofs.feed.Feed.next_line.Goals as goal
 
 pub returns-in-Ok-Feed-clause-reads : goal.returns-in-Ok-Feed-clause-reads
@@ -42,3 +42,7 @@ returns-in-Ok-Long-clause-reads g c =
     let found = rw c.in-Ok-Long.field-0-is at c.in-Ok-Long.ensures.ok in
     refused_read c.args.self.now c.seek.new.self c.refuse_line.new.self (left c.args.source.now) (left c.seek.new.source) (left c.refuse_line.new.source) c.in-Ok-Long.ensures.grown
     c.refuse_line.ensures.drops c.in-Ok-Long.ensures.bound c.refuse_line.ensures.bound found.1 c.refuse_line.result c.refuse_line.ensures.is
+
+pub returns-in-Err-clause-reads : goal.returns-in-Err-clause-reads
+returns-in-Err-clause-reads g c =
+    fault_read c.args.self.now c.seek.new.self (g.S.Source.left c.args.source.now) (g.S.Source.left c.seek.new.source) c.in-Err.ensures.grown c.in-Err.ensures.err
