@@ -15,12 +15,11 @@ use std::process::ExitCode;
 use std::{env, io};
 use xfs_base::{Counts, Currency, NoteKind, Places, StdSink, StdSource, UnitTable};
 use xfs_cli::run;
+use xfs_cli::status::NO_MEMORY;
 use xfs_disk::MemDisk;
 use xfs_guard::Core;
 use xfs_journal::Limits;
 use xfs_mech::{Mechanism, SimMech, places_fit};
-
-const MEMORY: u8 = 8;
 
 // The limits of a journal.
 const LIMITS: Limits = Limits {
@@ -86,16 +85,17 @@ fn main(rt: HostRuntime) -> ExitCode {
     let alloc = rt.alloc();
     let words = match words_of(&rt) {
         Ok(words) => words,
-        Err(error) if error.kind() == ErrorKind::OutOfMemory => return ExitCode::from(MEMORY),
+        Err(error) if error.kind() == ErrorKind::OutOfMemory => return ExitCode::from(NO_MEMORY),
         // A word that is no text is of no table: no words give the same status.
         Err(_) => Vec::new(alloc),
     };
+    // Neither of these fails; every other status would claim a cause.
     let Some(units) = units() else {
-        return ExitCode::from(MEMORY);
+        return ExitCode::from(NO_MEMORY);
     };
     let places = places();
     if !places_fit(&units, &places) {
-        return ExitCode::from(MEMORY);
+        return ExitCode::from(NO_MEMORY);
     }
     let mech = SimMech::new(alloc, units.copied(), places, Vec::new(alloc));
     let core = core_on(alloc, mech, units);

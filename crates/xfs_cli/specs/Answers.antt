@@ -9,6 +9,7 @@ use Rattle.xfs_script.specs.declared.line.LineFault.TheVariants.{Read, Quota, To
 use Rattle.xfs_guard.specs.declared.fail.BootFault.TheVariants as Boot
 use Rattle.xfs_cli.specs.BootLines.{boot_line}
 use Rattle.xfs_cli.specs.GuardLines.{behind}
+use Rattle.xfs_cli.specs.declared.status.TheConstants.{DISK_FAULT, INPUT_TOO_LONG, JOURNAL_FULL, NOT_A_JOURNAL, NOT_A_LINE, READ_FAULT}
 
 -- the bytes of lines, a line feed behind each
 abbrev pub lines_text : List (List ℕ) → List ℕ
@@ -76,11 +77,11 @@ no_line_text number = codes "line " ++ decimal number ++ codes ": not a script l
 -- the last line of the output under a status, behind so many lines of the input; most statuses have none, and under status 7 it tells a place of the disk's bytes
 abbrev pub last_line : ℕ → ℕ → ℕ → List (List ℕ)
 last_line status many at =
-    if status == 4 then no_line_text (many + 1) ∷ []
-    else if status == 10 then codes "input: too long" ∷ []
-    else if status == 6 then boot_line Boot.Disk
-    else if status == 7 then boot_line (Boot.NotJournal at)
-    else if status == 12 then boot_line Boot.Full
+    if status == NOT_A_LINE then no_line_text (many + 1) ∷ []
+    else if status == INPUT_TOO_LONG then codes "input: too long" ∷ []
+    else if status == DISK_FAULT then boot_line Boot.Disk
+    else if status == NOT_A_JOURNAL then boot_line (Boot.NotJournal at)
+    else if status == JOURNAL_FULL then boot_line Boot.Full
     else []
 
 -- the last line where the input has a fault
@@ -101,8 +102,8 @@ pub record WritesUntil {S : Type 0} (IsLine : List ℕ → Type 0) (Answers : S 
   pub many : ℕ
   pub output : List (List ℕ)
   pub answers : AnswersFirst Answers (Stops status (first_line (behind many text))) start many text output
-  pub none : status ≡ 4 → ¬ (IsLine (first_line (behind many text)))
-  pub limit : (status ≡ 3) ⊎ (status ≡ 10) → IfTold left (NoLineEnds many text)
+  pub none : status ≡ NOT_A_LINE → ¬ (IsLine (first_line (behind many text)))
+  pub limit : (status ≡ READ_FAULT) ⊎ (status ≡ INPUT_TOO_LONG) → IfTold left (NoLineEnds many text)
   pub at : ℕ
   pub front : ℕ
   pub written : Appends before after (lines_text output ++ take front (lines_text (last_line status many at)))

@@ -2,13 +2,14 @@
 use Rattle.std.specs.Prelude.{ℕ, List, [], ◌∷◌, ◌++◌, codes, decimal}
 use Rattle.xfs_guard.specs.declared.fail.BootFault.{BootFault}
 use Rattle.xfs_guard.specs.declared.fail.BootFault.TheVariants.{NotJournal, Disk, Full, Memory}
+use Rattle.xfs_cli.specs.declared.status.TheConstants.{DISK_FAULT, JOURNAL_FULL, NOT_A_JOURNAL, NO_MEMORY}
 
 -- the status of a refused boot
 abbrev pub boot_status : BootFault → ℕ
-boot_status (NotJournal at) = 7
-boot_status Disk = 6
-boot_status Full = 12
-boot_status Memory = 8
+boot_status (NotJournal at) = NOT_A_JOURNAL
+boot_status Disk = DISK_FAULT
+boot_status Full = JOURNAL_FULL
+boot_status Memory = NO_MEMORY
 
 -- its last line; want of memory has none
 abbrev pub boot_line : BootFault → List (List ℕ)

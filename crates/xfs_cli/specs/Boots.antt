@@ -14,6 +14,7 @@ use Rattle.xfs_guard.specs.declared.fail.BootFault.{BootFault}
 use Rattle.xfs_guard.specs.declared.fail.BootFault.TheVariants.{NotJournal, Disk, Full}
 use Rattle.xfs_cli.specs.Answers.{lines_text}
 pub use Rattle.xfs_cli.specs.BootLines.{boot_status, boot_line}
+use Rattle.xfs_cli.specs.declared.status.TheConstants.{DISK_FAULT, NO_MEMORY}
 
 -- the sink took a front of the last line
 abbrev pub WritesBoot : BootFault → Option (List ℕ) → Option (List ℕ) → Type 0
@@ -47,7 +48,7 @@ pub record EndsFull (limits : Limits) (places : Places) (held before after : Opt
 
 -- the status is the one that is due, unless the disk failed or memory ran out before it was found
 abbrev pub IsDue : ℕ → ℕ → Type 0
-IsDue due status = (status ≡ due) ⊎ ((status ≡ 6) ⊎ (status ≡ 8))
+IsDue due status = (status ≡ due) ⊎ ((status ≡ DISK_FAULT) ⊎ (status ≡ NO_MEMORY))
 
 -- the disk reads as it did, and a crash leaves nothing new
 pub record IsUnwritten (held held' : Option (List ℕ)) (images images' : List ℕ → Type 0) : Type 0 where

@@ -19,6 +19,7 @@ use Rattle.xfs_cli.specs.Boots.{BootPasses, WritesBoot, boot_status}
 use Rattle.xfs_cli.specs.RestartAnswers.{HasNoRoom}
 use Rattle.xfs_cli.specs.Seen.{Seen, IsLater, IsStill}
 use Rattle.xfs_cli.specs.Statuses.{IsOneOf}
+use Rattle.xfs_cli.specs.declared.status.TheConstants.{DISK_FAULT, INPUT_TOO_LONG, JOURNAL_FULL, NOT_A_JOURNAL, NOT_A_LINE, READ_FAULT}
 
 -- what a command finds at its entry: the key, the seed, the table of the units, the journal's limits, what the mechanism tells, the disk's bytes where it tells them, and how often the disk failed
 pub record AtEntry : Type 0 where
@@ -90,7 +91,7 @@ pub record IsEnd (motions : Option (List Motion)) (places : Places) (mech_faults
 
 -- the statuses of a refused boot that has a last line
 abbrev pub IsOfBoot : ℕ → Type 0
-IsOfBoot status = (status ≡ 6) ⊎ ((status ≡ 7) ⊎ (status ≡ 12))
+IsOfBoot status = (status ≡ DISK_FAULT) ⊎ ((status ≡ NOT_A_JOURNAL) ⊎ (status ≡ JOURNAL_FULL))
 
 -- a run ended under this status at this line, behind the last state that was answered, in a state of which Ends tells: under a status of a boot the line is `restart`, and the disk failed, doesn't tell its bytes, or has no room
 pub record IsStop (Ends : Seen → Type 0) (status : ℕ) (line : List ℕ) (last : Seen) : Type 0 where
@@ -100,13 +101,13 @@ pub record IsStop (Ends : Seen → Type 0) (status : ℕ) (line : List ℕ) (las
   pub continues : Continues last.guard end.guard
   pub later : IsLater last end
   -- where the input ended the run, nothing came behind the last state
-  pub ended : IsOneOf (3 ∷ 4 ∷ 10 ∷ []) status → last ≡ end
+  pub ended : IsOneOf (READ_FAULT ∷ NOT_A_LINE ∷ INPUT_TOO_LONG ∷ []) status → last ≡ end
   -- a refused restart moves nothing
   pub still : IsOfBoot status → IsStill end.guard.motions end.guard.places end.guard.faults end.disk_faults last
   pub restart : IsOfBoot status → line ≡ codes "restart"
-  pub failed : status ≡ 6 → Rose last.disk_faults end.disk_faults
-  pub untold : status ≡ 7 → last.guard.disk_told ≡ false
-  pub full : status ≡ 12 → HasNoRoom last.guard
+  pub failed : status ≡ DISK_FAULT → Rose last.disk_faults end.disk_faults
+  pub untold : status ≡ NOT_A_JOURNAL → last.guard.disk_told ≡ false
+  pub full : status ≡ JOURNAL_FULL → HasNoRoom last.guard
 
 -- the disk reads as a list behind which a Boot of these places passes a limit
 pub record IsFullAtEnd (limits : Limits) (places : Places) (held : Option (List ℕ)) : Type 0 where

@@ -7,6 +7,7 @@ use Rattle.xfs_script.specs.Lines.{first_line}
 use Rattle.xfs_script.specs.declared.line.LineFault.{LineFault}
 use Rattle.xfs_script.specs.declared.line.LineFault.TheVariants.{Read, Quota, TooLong, Memory}
 use Rattle.xfs_cli.specs.GuardLines.{IsLine, behind, AreLines}
+use Rattle.xfs_cli.specs.declared.status.TheConstants.{INPUT_TOO_LONG, NOT_A_LINE, NO_MEMORY, READ_FAULT}
 
 -- the words are this one word
 abbrev pub IsWord : List ℕ → List (String Global) → Type 0
@@ -44,7 +45,7 @@ pub record GaveAll (before after : Option (List ℕ)) : Type 0 where
 
 -- the status of a fault of the input
 abbrev pub status_of : LineFault → ℕ
-status_of Read = 3
-status_of Quota = 10
-status_of (TooLong number) = 4
-status_of Memory = 8
+status_of Read = READ_FAULT
+status_of Quota = INPUT_TOO_LONG
+status_of (TooLong number) = NOT_A_LINE
+status_of Memory = NO_MEMORY

@@ -11,6 +11,7 @@ use Rattle.xfs_cli.specs.Answers.{AnswersEach, first_lines}
 use Rattle.xfs_cli.specs.RestartAnswers.{HasNoRoom}
 use Rattle.xfs_cli.specs.Seen.{Seen}
 use Rattle.xfs_cli.specs.VerbAnswers.{AnswersGuard}
+use Rattle.xfs_cli.specs.declared.status.TheConstants.{DISK_FAULT, INPUT_TOO_LONG, JOURNAL_FULL, NOT_A_JOURNAL, NOT_A_LINE, NO_MEMORY, READ_FAULT, READ_TO_END, USAGE, WRITE_FAULT}
 
 -- a number is one of these
 abbrev pub IsOneOf : List ℕ → ℕ → Type 0
@@ -18,7 +19,7 @@ IsOneOf [] n = ⊥
 IsOneOf (x ∷ xs) n = (n ≡ x) ⊎ IsOneOf xs n
 
 abbrev pub IsStatus : ℕ → Type 0
-IsStatus status = IsOneOf (0 ∷ 2 ∷ 3 ∷ 4 ∷ 5 ∷ 6 ∷ 7 ∷ 8 ∷ 10 ∷ 12 ∷ []) status
+IsStatus status = IsOneOf (READ_TO_END ∷ USAGE ∷ READ_FAULT ∷ NOT_A_LINE ∷ WRITE_FAULT ∷ DISK_FAULT ∷ NOT_A_JOURNAL ∷ NO_MEMORY ∷ INPUT_TOO_LONG ∷ JOURNAL_FULL ∷ []) status
 
 -- a line of the text is `restart`, and finds no room for its Boot behind the state that the lines before it left, answered from the start of the run on; Ends tells of that state
 pub record HasFullRestart (IsStartOf Ends : Seen → Type 0) (text : List ℕ) : Type 0 where
@@ -41,4 +42,4 @@ pub record IsUnhindered (IsStartOf Ends : Seen → Type 0) (text : List ℕ) (li
 
 -- the input was read to its end, or memory ran out
 abbrev pub IsFinished : ℕ → Type 0
-IsFinished status = (status ≡ 0) ⊎ (status ≡ 8)
+IsFinished status = (status ≡ READ_TO_END) ⊎ (status ≡ NO_MEMORY)

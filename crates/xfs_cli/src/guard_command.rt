@@ -29,6 +29,10 @@ use crate::answer::Turn;
 use crate::ended::Ended;
 use crate::last_line::{faulty, not_a_line, unbooted, usage};
 use crate::session::Session;
+use crate::status::{
+    DISK_FAULT, INPUT_TOO_LONG, JOURNAL_FULL, NO_MEMORY, NOT_A_JOURNAL, NOT_A_LINE, READ_FAULT,
+    READ_TO_END, USAGE, WRITE_FAULT,
+};
 use crate::words::is_word;
 use std::alloc::Global;
 use xfs_base::{Sink, Source};
@@ -52,34 +56,34 @@ pub fn guard<S: Source, K: Sink, M: Mechanism, D: Disk>(
     ensures upholds { IfTold (D.held core.disk) (λ bytes. (J : List Rec) → Stands bytes J → IfTold (D.held result.disk) (λ _. (c : List ℕ) → D.images result.disk c
         → Upholds core.key core.units J (M.motions core.mech) (M.places core.mech) c (M.motions result.mech) (M.places result.mech))) }
 
-    ensures usage { (result.status ≡ 2) ↔ ¬ (IsGuard words.now) }
-    ensures usage_written { result.status ≡ 2 → WritesUsage (K.held sink.old) (K.held sink.new) }
-    ensures idle { result.status ≡ 2 → result.mech ≡ core.mech }
-    ensures idle_disk { result.status ≡ 2 → result.disk ≡ core.disk }
-    ensures whole { result.status ≡ 0 → IsAtEnd (S.left source.new) }
-    ensures fewer { result.status ≡ 0 → IfTold (S.left source.old) (λ text. length text < 67108864) }
-    ensures lines { result.status ≡ 0 → IfTold (S.left source.old) (AllLines IsLine) }
-    ensures not_a_line { result.status ≡ 4 → IfTold (S.left source.old) StopsAtLine }
-    ensures quota { result.status ≡ 10 → GaveAll (S.left source.old) (S.left source.new) }
-    ensures read { result.status ≡ 3 → Rose (S.faults source.old) (S.faults source.new) }
-    ensures write { result.status ≡ 5 → Rose (K.faults sink.old) (K.faults sink.new) }
+    ensures usage { (result.status ≡ USAGE) ↔ ¬ (IsGuard words.now) }
+    ensures usage_written { result.status ≡ USAGE → WritesUsage (K.held sink.old) (K.held sink.new) }
+    ensures idle { result.status ≡ USAGE → result.mech ≡ core.mech }
+    ensures idle_disk { result.status ≡ USAGE → result.disk ≡ core.disk }
+    ensures whole { result.status ≡ READ_TO_END → IsAtEnd (S.left source.new) }
+    ensures fewer { result.status ≡ READ_TO_END → IfTold (S.left source.old) (λ text. length text < 67108864) }
+    ensures lines { result.status ≡ READ_TO_END → IfTold (S.left source.old) (AllLines IsLine) }
+    ensures not_a_line { result.status ≡ NOT_A_LINE → IfTold (S.left source.old) StopsAtLine }
+    ensures quota { result.status ≡ INPUT_TOO_LONG → GaveAll (S.left source.old) (S.left source.new) }
+    ensures read { result.status ≡ READ_FAULT → Rose (S.faults source.old) (S.faults source.new) }
+    ensures write { result.status ≡ WRITE_FAULT → Rose (K.faults sink.old) (K.faults sink.new) }
 
     // What is written: the answers of the lines, and at most one last line.
-    ensures answers { result.status ≡ 0 → IfTold (S.left source.old) (λ text. FromBoot (at_entry M.motions M.places M.faults D.held D.faults core)
+    ensures answers { result.status ≡ READ_TO_END → IfTold (S.left source.old) (λ text. FromBoot (at_entry M.motions M.places M.faults D.held D.faults core)
         (λ start. WritesAll AnswersGuard (IsEnd (M.motions result.mech) (M.places result.mech) (M.faults result.mech) (D.faults result.disk) (D.held result.disk) (D.images result.disk)) start (K.held sink.old) (K.held sink.new) text)) }
-    ensures front { result.status ≡ 5 → IfTold (S.left source.old) (λ text. FromBoot (at_entry M.motions M.places M.faults D.held D.faults core)
+    ensures front { result.status ≡ WRITE_FAULT → IfTold (S.left source.old) (λ text. FromBoot (at_entry M.motions M.places M.faults D.held D.faults core)
         (λ start. WritesFront AnswersGuard (IsEnd (M.motions result.mech) (M.places result.mech) (M.faults result.mech) (D.faults result.disk) (D.held result.disk) (D.images result.disk)) start (K.held sink.old) (K.held sink.new) text)) }
-    ensures until { result.status ≢ 0 → result.status ≢ 2 → result.status ≢ 5 → IfTold (S.left source.old) (λ text. IsUnbooted result.status (S.left source.old) (S.left source.new) (K.held sink.old) (K.held sink.new) ⊎ FromBoot (at_entry M.motions M.places M.faults D.held D.faults core)
+    ensures until { result.status ≢ READ_TO_END → result.status ≢ USAGE → result.status ≢ WRITE_FAULT → IfTold (S.left source.old) (λ text. IsUnbooted result.status (S.left source.old) (S.left source.new) (K.held sink.old) (K.held sink.new) ⊎ FromBoot (at_entry M.motions M.places M.faults D.held D.faults core)
         (λ start. WritesUntil IsLine AnswersGuard (IsStop (IsEnd (M.motions result.mech) (M.places result.mech) (M.faults result.mech) (D.faults result.disk) (D.held result.disk) (D.images result.disk))) start result.status (S.left source.new) (K.held sink.old) (K.held sink.new) text)) }
 
     // Of these answers: a dispense that its token covers, and a present behind it, are done in full where nothing fails.
     ensures complete { IsComplete }
 
-    ensures boot_disk { result.status ≡ 6 → EndsFailed (D.faults core.disk) (D.faults result.disk) (K.held sink.old) (K.held sink.new) ⊎ FromBoot (at_entry M.motions M.places M.faults D.held D.faults core) (λ _. Rose (D.faults core.disk) (D.faults result.disk)) }
-    ensures not_journal { result.status ≡ 7 → EndsUnread (D.held core.disk) (K.held sink.old) (K.held sink.new) ⊎ FromBoot (at_entry M.motions M.places M.faults D.held D.faults core) (λ _. D.held core.disk ≡ None) }
-    ensures full { result.status ≡ 12 → EndsFull core.limits (M.places core.mech) (D.held core.disk) (K.held sink.old) (K.held sink.new) ⊎ FromBoot (at_entry M.motions M.places M.faults D.held D.faults core) (λ _. IsFullAtEnd core.limits (M.places result.mech) (D.held result.disk)) }
-    ensures unread { IsGuard words.now → IfTold (D.held core.disk) (λ bytes. IsNoJournal bytes → IsDue 7 result.status) }
-    ensures overfull { IsGuard words.now → IfTold (D.held core.disk) (λ bytes. (J : List Rec) → Stands bytes J → BootPasses core.limits (M.places core.mech) J → IsDue 12 result.status) }
+    ensures boot_disk { result.status ≡ DISK_FAULT → EndsFailed (D.faults core.disk) (D.faults result.disk) (K.held sink.old) (K.held sink.new) ⊎ FromBoot (at_entry M.motions M.places M.faults D.held D.faults core) (λ _. Rose (D.faults core.disk) (D.faults result.disk)) }
+    ensures not_journal { result.status ≡ NOT_A_JOURNAL → EndsUnread (D.held core.disk) (K.held sink.old) (K.held sink.new) ⊎ FromBoot (at_entry M.motions M.places M.faults D.held D.faults core) (λ _. D.held core.disk ≡ None) }
+    ensures full { result.status ≡ JOURNAL_FULL → EndsFull core.limits (M.places core.mech) (D.held core.disk) (K.held sink.old) (K.held sink.new) ⊎ FromBoot (at_entry M.motions M.places M.faults D.held D.faults core) (λ _. IsFullAtEnd core.limits (M.places result.mech) (D.held result.disk)) }
+    ensures unread { IsGuard words.now → IfTold (D.held core.disk) (λ bytes. IsNoJournal bytes → IsDue NOT_A_JOURNAL result.status) }
+    ensures overfull { IsGuard words.now → IfTold (D.held core.disk) (λ bytes. (J : List Rec) → Stands bytes J → BootPasses core.limits (M.places core.mech) J → IsDue JOURNAL_FULL result.status) }
     ensures unwritten { IfTold (D.held core.disk) (λ bytes. IsNoJournal bytes → IsUnwritten (D.held core.disk) (D.held result.disk) (D.images core.disk) (D.images result.disk)) }
     ensures unmoved { IfTold (D.held core.disk) (λ bytes. IsNoJournal bytes → result.mech ≡ core.mech) }
 
@@ -103,7 +107,7 @@ pub fn guard<S: Source, K: Sink, M: Mechanism, D: Disk>(
     if !is_word(words, "guard") {
         usage(alloc, sink);
         return Ended {
-            status: 2,
+            status: USAGE,
             mech,
             disk,
         };
@@ -155,38 +159,38 @@ fn serve<S: Source, K: Sink, M: Mechanism, D: Disk>(
 ) -> u8
     requires none { session.old.guard.state.open_order ≡ No }
     requires key { session.old.key ≡ session.old.guard.state.key }
-    ensures answers { result ≡ 0 → IfTold (S.left source.old) (WritesAll AnswersGuard (λ last. last ≡ seen D.faults session.new.guard session.new.last) (seen D.faults session.old.guard session.old.last) (K.held sink.old) (K.held sink.new)) }
-    ensures front { result ≡ 5 → IfTold (S.left source.old) (WritesFront AnswersGuard (λ last. last ≡ seen D.faults session.new.guard session.new.last) (seen D.faults session.old.guard session.old.last) (K.held sink.old) (K.held sink.new)) }
-    ensures until { result ≢ 0 → result ≢ 5 → IfTold (S.left source.old) (WritesUntil IsLine AnswersGuard (IsStop (λ end. end ≡ seen D.faults session.new.guard session.new.last)) (seen D.faults session.old.guard session.old.last) result (S.left source.new) (K.held sink.old) (K.held sink.new)) }
+    ensures answers { result ≡ READ_TO_END → IfTold (S.left source.old) (WritesAll AnswersGuard (λ last. last ≡ seen D.faults session.new.guard session.new.last) (seen D.faults session.old.guard session.old.last) (K.held sink.old) (K.held sink.new)) }
+    ensures front { result ≡ WRITE_FAULT → IfTold (S.left source.old) (WritesFront AnswersGuard (λ last. last ≡ seen D.faults session.new.guard session.new.last) (seen D.faults session.old.guard session.old.last) (K.held sink.old) (K.held sink.new)) }
+    ensures until { result ≢ READ_TO_END → result ≢ WRITE_FAULT → IfTold (S.left source.old) (WritesUntil IsLine AnswersGuard (IsStop (λ end. end ≡ seen D.faults session.new.guard session.new.last)) (seen D.faults session.old.guard session.old.last) result (S.left source.new) (K.held sink.old) (K.held sink.new)) }
     ensures continues { Continues session.old.guard.state session.new.guard.state }
     ensures crashes { LeavesBehind D.held D.images D.moment D.images_since session.old.guard session.new.guard }
-    ensures usage { result ≢ 2 }
-    ensures failed { result ≡ 6 → Rose (D.faults session.old.guard.disk) (D.faults session.new.guard.disk) }
-    ensures untold { result ≡ 7 → session.old.guard.state.disk_told ≡ false }
-    ensures full { result ≡ 12 → IsFull session.new.guard.state }
-    ensures whole { result ≡ 0 → IsAtEnd (S.left source.new) }
-    ensures fewer { result ≡ 0 → IfTold (S.left source.old) (λ text. length text < 67108864) }
-    ensures lines { result ≡ 0 → IfTold (S.left source.old) (AllLines IsLine) }
-    ensures not_a_line { result ≡ 4 → IfTold (S.left source.old) StopsAtLine }
-    ensures quota { result ≡ 10 → GaveAll (S.left source.old) (S.left source.new) }
-    ensures read { result ≡ 3 → Rose (S.faults source.old) (S.faults source.new) }
-    ensures write { result ≡ 5 → Rose (K.faults sink.old) (K.faults sink.new) }
+    ensures usage { result ≢ USAGE }
+    ensures failed { result ≡ DISK_FAULT → Rose (D.faults session.old.guard.disk) (D.faults session.new.guard.disk) }
+    ensures untold { result ≡ NOT_A_JOURNAL → session.old.guard.state.disk_told ≡ false }
+    ensures full { result ≡ JOURNAL_FULL → IsFull session.new.guard.state }
+    ensures whole { result ≡ READ_TO_END → IsAtEnd (S.left source.new) }
+    ensures fewer { result ≡ READ_TO_END → IfTold (S.left source.old) (λ text. length text < 67108864) }
+    ensures lines { result ≡ READ_TO_END → IfTold (S.left source.old) (AllLines IsLine) }
+    ensures not_a_line { result ≡ NOT_A_LINE → IfTold (S.left source.old) StopsAtLine }
+    ensures quota { result ≡ INPUT_TOO_LONG → GaveAll (S.left source.old) (S.left source.new) }
+    ensures read { result ≡ READ_FAULT → Rose (S.faults source.old) (S.faults source.new) }
+    ensures write { result ≡ WRITE_FAULT → Rose (K.faults sink.old) (K.faults sink.new) }
     ensures statuses { IsStatus result }
 {
     let mut lines = Lines::new(session.alloc);
     for _ in 0..u64::MAX {
         match lines.next(source) {
-            Ok(None) => return 0,
+            Ok(None) => return READ_TO_END,
             Ok(Some(line)) => match session.line(&line, sink) {
                 Turn::More => {}
                 Turn::NotALine => return not_a_line(session.alloc, sink, line.number),
-                Turn::Write => return 5,
+                Turn::Write => return WRITE_FAULT,
                 Turn::Unbooted(fault) => return unbooted(session.alloc, sink, fault),
-                Turn::Memory => return 8,
+                Turn::Memory => return NO_MEMORY,
             },
             Err(fault) => return faulty(session.alloc, sink, fault),
         }
     }
     // No input has so many lines.
-    8
+    NO_MEMORY
 }

@@ -8,6 +8,9 @@ ghost use Rattle.xfs_cli.specs.Boots.{boot_status, boot_line, WritesBoot};
 ghost use Rattle.xfs_cli.specs.Answers.{lines_text, no_line_text, fault_line, WritesUsage};
 
 use crate::say::{say, say_line};
+use crate::status::{
+    DISK_FAULT, INPUT_TOO_LONG, JOURNAL_FULL, NO_MEMORY, NOT_A_JOURNAL, NOT_A_LINE, READ_FAULT,
+};
 use std::alloc::{AllocError, Global};
 use xfs_base::Sink;
 use xfs_guard::BootFault;
@@ -19,26 +22,26 @@ pub fn faulty<K: Sink>(alloc: Global, sink: &mut K, fault: LineFault) -> u8
     ensures written { TookFront (K.held sink.old) (K.held sink.new) (lines_text (fault_line fault)) }
 {
     match fault {
-        LineFault::Read => 3,
+        LineFault::Read => READ_FAULT,
         LineFault::Quota => {
             let _ = say(alloc, sink, b"input: too long", b"");
-            10
+            INPUT_TOO_LONG
         }
         LineFault::TooLong { number } => not_a_line(alloc, sink, number),
-        LineFault::Memory => 8,
+        LineFault::Memory => NO_MEMORY,
     }
 }
 
 /// The status of a line that is none, once that was written. A last line that can't be written
 /// leaves the status as it is.
 pub fn not_a_line<K: Sink>(alloc: Global, sink: &mut K, number: u64) -> u8
-    ensures status { result ≡ 4 }
+    ensures status { result ≡ NOT_A_LINE }
     ensures written { TookFront (K.held sink.old) (K.held sink.new) (lines_text (no_line_text number ∷ [])) }
 {
     if let Ok(line) = no_line(alloc, number) {
         let _ = say_line(sink, line);
     }
-    4
+    NOT_A_LINE
 }
 
 fn no_line(alloc: Global, number: u64) -> Result<Vec<u8>, AllocError>
@@ -58,17 +61,17 @@ pub fn unbooted<K: Sink>(alloc: Global, sink: &mut K, fault: BootFault) -> u8
             if let Ok(line) = no_journal(alloc, at) {
                 let _ = say_line(sink, line);
             }
-            7
+            NOT_A_JOURNAL
         }
         BootFault::Disk => {
             let _ = say(alloc, sink, b"boot: disk", b"");
-            6
+            DISK_FAULT
         }
         BootFault::Full => {
             let _ = say(alloc, sink, b"boot: journal full", b"");
-            12
+            JOURNAL_FULL
         }
-        BootFault::Memory => 8,
+        BootFault::Memory => NO_MEMORY,
     }
 }
 

@@ -8,6 +8,7 @@ mod last_line;
 mod refused;
 mod say;
 mod session;
+pub mod status;
 mod text;
 mod token_answer;
 mod token_command;

@@ -13,6 +13,10 @@ use crate::answer::Turn;
 use crate::ended::Ended;
 use crate::last_line::{faulty, not_a_line, usage};
 use crate::say::{SayFault, say_line};
+use crate::status::{
+    DISK_FAULT, INPUT_TOO_LONG, JOURNAL_FULL, NO_MEMORY, NOT_A_JOURNAL, READ_FAULT, READ_TO_END,
+    USAGE, WRITE_FAULT,
+};
 use crate::token_answer::answer;
 use crate::words::is_word;
 use std::alloc::Global;
@@ -34,18 +38,18 @@ pub fn token<S: Source, K: Sink, M: Mechanism, D: Disk>(
     ensures same { result.mech ≡ core.mech }
     ensures same_disk { result.disk ≡ core.disk }
 
-    ensures usage { (result.status ≡ 2) ↔ ¬ (IsToken words.now) }
-    ensures usage_written { result.status ≡ 2 → WritesUsage (K.held sink.old) (K.held sink.new) }
-    ensures unbooted { (result.status ≢ 6) × (result.status ≢ 7) × (result.status ≢ 12) }
-    ensures whole { result.status ≡ 0 → IsAtEnd (S.left source.new) }
-    ensures fewer { result.status ≡ 0 → IfTold (S.left source.old) (λ text. length text < 67108864) }
-    ensures quota { result.status ≡ 10 → GaveAll (S.left source.old) (S.left source.new) }
-    ensures read { result.status ≡ 3 → Rose (S.faults source.old) (S.faults source.new) }
-    ensures write { result.status ≡ 5 → Rose (K.faults sink.old) (K.faults sink.new) }
+    ensures usage { (result.status ≡ USAGE) ↔ ¬ (IsToken words.now) }
+    ensures usage_written { result.status ≡ USAGE → WritesUsage (K.held sink.old) (K.held sink.new) }
+    ensures unbooted { (result.status ≢ DISK_FAULT) × (result.status ≢ NOT_A_JOURNAL) × (result.status ≢ JOURNAL_FULL) }
+    ensures whole { result.status ≡ READ_TO_END → IsAtEnd (S.left source.new) }
+    ensures fewer { result.status ≡ READ_TO_END → IfTold (S.left source.old) (λ text. length text < 67108864) }
+    ensures quota { result.status ≡ INPUT_TOO_LONG → GaveAll (S.left source.old) (S.left source.new) }
+    ensures read { result.status ≡ READ_FAULT → Rose (S.faults source.old) (S.faults source.new) }
+    ensures write { result.status ≡ WRITE_FAULT → Rose (K.faults sink.old) (K.faults sink.new) }
 
-    ensures answers { result.status ≡ 0 → IfTold (S.left source.old) (WritesAll AnswersToken Unsaid core.key (K.held sink.old) (K.held sink.new)) }
-    ensures front { result.status ≡ 5 → IfTold (S.left source.old) (WritesFront AnswersToken Unsaid core.key (K.held sink.old) (K.held sink.new)) }
-    ensures until { result.status ≢ 0 → result.status ≢ 2 → result.status ≢ 5 → IfTold (S.left source.old) (WritesUntil IsLineOfToken AnswersToken AnyStop core.key result.status (S.left source.new) (K.held sink.old) (K.held sink.new)) }
+    ensures answers { result.status ≡ READ_TO_END → IfTold (S.left source.old) (WritesAll AnswersToken Unsaid core.key (K.held sink.old) (K.held sink.new)) }
+    ensures front { result.status ≡ WRITE_FAULT → IfTold (S.left source.old) (WritesFront AnswersToken Unsaid core.key (K.held sink.old) (K.held sink.new)) }
+    ensures until { result.status ≢ READ_TO_END → result.status ≢ USAGE → result.status ≢ WRITE_FAULT → IfTold (S.left source.old) (WritesUntil IsLineOfToken AnswersToken AnyStop core.key result.status (S.left source.new) (K.held sink.old) (K.held sink.new)) }
     ensures statuses { IsStatus result.status }
 {
     let Core {
@@ -60,41 +64,41 @@ pub fn token<S: Source, K: Sink, M: Mechanism, D: Disk>(
         serve(alloc, &key, source, sink)
     } else {
         usage(alloc, sink);
-        2
+        USAGE
     };
     Ended { status, mech, disk }
 }
 
 // Answers one line after another, until the input ends or something fails.
 fn serve<S: Source, K: Sink>(alloc: Global, key: &[u8; 32], source: &mut S, sink: &mut K) -> u8
-    ensures usage { result ≢ 2 }
-    ensures unbooted { (result ≢ 6) × (result ≢ 7) × (result ≢ 12) }
-    ensures whole { result ≡ 0 → IsAtEnd (S.left source.new) }
-    ensures fewer { result ≡ 0 → IfTold (S.left source.old) (λ text. length text < 67108864) }
-    ensures quota { result ≡ 10 → GaveAll (S.left source.old) (S.left source.new) }
-    ensures read { result ≡ 3 → Rose (S.faults source.old) (S.faults source.new) }
-    ensures write { result ≡ 5 → Rose (K.faults sink.old) (K.faults sink.new) }
-    ensures answers { result ≡ 0 → IfTold (S.left source.old) (WritesAll AnswersToken Unsaid key.now (K.held sink.old) (K.held sink.new)) }
-    ensures front { result ≡ 5 → IfTold (S.left source.old) (WritesFront AnswersToken Unsaid key.now (K.held sink.old) (K.held sink.new)) }
-    ensures until { result ≢ 0 → result ≢ 5 → IfTold (S.left source.old) (WritesUntil IsLineOfToken AnswersToken AnyStop key.now result (S.left source.new) (K.held sink.old) (K.held sink.new)) }
+    ensures usage { result ≢ USAGE }
+    ensures unbooted { (result ≢ DISK_FAULT) × (result ≢ NOT_A_JOURNAL) × (result ≢ JOURNAL_FULL) }
+    ensures whole { result ≡ READ_TO_END → IsAtEnd (S.left source.new) }
+    ensures fewer { result ≡ READ_TO_END → IfTold (S.left source.old) (λ text. length text < 67108864) }
+    ensures quota { result ≡ INPUT_TOO_LONG → GaveAll (S.left source.old) (S.left source.new) }
+    ensures read { result ≡ READ_FAULT → Rose (S.faults source.old) (S.faults source.new) }
+    ensures write { result ≡ WRITE_FAULT → Rose (K.faults sink.old) (K.faults sink.new) }
+    ensures answers { result ≡ READ_TO_END → IfTold (S.left source.old) (WritesAll AnswersToken Unsaid key.now (K.held sink.old) (K.held sink.new)) }
+    ensures front { result ≡ WRITE_FAULT → IfTold (S.left source.old) (WritesFront AnswersToken Unsaid key.now (K.held sink.old) (K.held sink.new)) }
+    ensures until { result ≢ READ_TO_END → result ≢ WRITE_FAULT → IfTold (S.left source.old) (WritesUntil IsLineOfToken AnswersToken AnyStop key.now result (S.left source.new) (K.held sink.old) (K.held sink.new)) }
     ensures statuses { IsStatus result }
 {
     let mut lines = Lines::new(alloc);
     for _ in 0..u64::MAX {
         match lines.next(source) {
-            Ok(None) => return 0,
+            Ok(None) => return READ_TO_END,
             Ok(Some(line)) => match answer_line(alloc, key, &line, sink) {
                 Turn::More => {}
                 Turn::NotALine => return not_a_line(alloc, sink, line.number),
-                Turn::Write => return 5,
+                Turn::Write => return WRITE_FAULT,
                 Turn::Unbooted(_) => unreachable!(),
-                Turn::Memory => return 8,
+                Turn::Memory => return NO_MEMORY,
             },
             Err(fault) => return faulty(alloc, sink, fault),
         }
     }
     // No input has so many lines.
-    8
+    NO_MEMORY
 }
 
 // Reads a line, and answers it.

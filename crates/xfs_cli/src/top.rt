@@ -24,6 +24,10 @@ ghost use Rattle.xfs_cli.specs.TokenAnswers.{AnswersToken, IsLineOfToken};
 use crate::ended::Ended;
 use crate::guard_command::guard;
 use crate::last_line::usage;
+use crate::status::{
+    DISK_FAULT, INPUT_TOO_LONG, JOURNAL_FULL, NOT_A_JOURNAL, NOT_A_LINE, READ_FAULT, READ_TO_END,
+    USAGE, WRITE_FAULT,
+};
 use crate::token_command::token;
 use crate::words::is_word;
 use std::alloc::Global;
@@ -55,48 +59,48 @@ pub fn run<S: Source, K: Sink, M: Mechanism, D: Disk>(
     ensures any_moment { IfTold (D.held core.disk) (λ bytes. (J : List Rec) → Stands bytes J → LeavesOnly D.moment D.images_since core.disk result.disk (WasOnTheWay J (D.held result.disk) (M.motions result.mech))) }
 
     // Each status has its cause.
-    ensures usage { (result.status ≡ 2) ↔ ¬ (IsCommand words.now) }
-    ensures usage_written { result.status ≡ 2 → WritesUsage (K.held sink.old) (K.held sink.new) }
-    ensures idle { result.status ≡ 2 → result.mech ≡ core.mech }
-    ensures idle_disk { result.status ≡ 2 → result.disk ≡ core.disk }
-    ensures whole { result.status ≡ 0 → IsAtEnd (S.left source.new) }
-    ensures fewer { result.status ≡ 0 → IfTold (S.left source.old) (λ text. length text < 67108864) }
-    ensures quota { result.status ≡ 10 → GaveAll (S.left source.old) (S.left source.new) }
-    ensures read { result.status ≡ 3 → Rose (S.faults source.old) (S.faults source.new) }
-    ensures write { result.status ≡ 5 → Rose (K.faults sink.old) (K.faults sink.new) }
+    ensures usage { (result.status ≡ USAGE) ↔ ¬ (IsCommand words.now) }
+    ensures usage_written { result.status ≡ USAGE → WritesUsage (K.held sink.old) (K.held sink.new) }
+    ensures idle { result.status ≡ USAGE → result.mech ≡ core.mech }
+    ensures idle_disk { result.status ≡ USAGE → result.disk ≡ core.disk }
+    ensures whole { result.status ≡ READ_TO_END → IsAtEnd (S.left source.new) }
+    ensures fewer { result.status ≡ READ_TO_END → IfTold (S.left source.old) (λ text. length text < 67108864) }
+    ensures quota { result.status ≡ INPUT_TOO_LONG → GaveAll (S.left source.old) (S.left source.new) }
+    ensures read { result.status ≡ READ_FAULT → Rose (S.faults source.old) (S.faults source.new) }
+    ensures write { result.status ≡ WRITE_FAULT → Rose (K.faults sink.old) (K.faults sink.new) }
 
-    ensures boot_disk { result.status ≡ 6 → EndsFailed (D.faults core.disk) (D.faults result.disk) (K.held sink.old) (K.held sink.new) ⊎ FromBoot (at_entry M.motions M.places M.faults D.held D.faults core) (λ _. Rose (D.faults core.disk) (D.faults result.disk)) }
-    ensures not_journal { result.status ≡ 7 → EndsUnread (D.held core.disk) (K.held sink.old) (K.held sink.new) ⊎ FromBoot (at_entry M.motions M.places M.faults D.held D.faults core) (λ _. D.held core.disk ≡ None) }
-    ensures full { result.status ≡ 12 → EndsFull core.limits (M.places core.mech) (D.held core.disk) (K.held sink.old) (K.held sink.new) ⊎ FromBoot (at_entry M.motions M.places M.faults D.held D.faults core) (λ _. IsFullAtEnd core.limits (M.places result.mech) (D.held result.disk)) }
-    ensures unread { IsGuard words.now → IfTold (D.held core.disk) (λ bytes. IsNoJournal bytes → IsDue 7 result.status) }
-    ensures overfull { IsGuard words.now → IfTold (D.held core.disk) (λ bytes. (J : List Rec) → Stands bytes J → BootPasses core.limits (M.places core.mech) J → IsDue 12 result.status) }
+    ensures boot_disk { result.status ≡ DISK_FAULT → EndsFailed (D.faults core.disk) (D.faults result.disk) (K.held sink.old) (K.held sink.new) ⊎ FromBoot (at_entry M.motions M.places M.faults D.held D.faults core) (λ _. Rose (D.faults core.disk) (D.faults result.disk)) }
+    ensures not_journal { result.status ≡ NOT_A_JOURNAL → EndsUnread (D.held core.disk) (K.held sink.old) (K.held sink.new) ⊎ FromBoot (at_entry M.motions M.places M.faults D.held D.faults core) (λ _. D.held core.disk ≡ None) }
+    ensures full { result.status ≡ JOURNAL_FULL → EndsFull core.limits (M.places core.mech) (D.held core.disk) (K.held sink.old) (K.held sink.new) ⊎ FromBoot (at_entry M.motions M.places M.faults D.held D.faults core) (λ _. IsFullAtEnd core.limits (M.places result.mech) (D.held result.disk)) }
+    ensures unread { IsGuard words.now → IfTold (D.held core.disk) (λ bytes. IsNoJournal bytes → IsDue NOT_A_JOURNAL result.status) }
+    ensures overfull { IsGuard words.now → IfTold (D.held core.disk) (λ bytes. (J : List Rec) → Stands bytes J → BootPasses core.limits (M.places core.mech) J → IsDue JOURNAL_FULL result.status) }
 
     // A disk that is no journal stays as it was, and so does the mechanism.
     ensures unwritten { IfTold (D.held core.disk) (λ bytes. IsNoJournal bytes → IsUnwritten (D.held core.disk) (D.held result.disk) (D.images core.disk) (D.images result.disk)) }
     ensures unmoved { IfTold (D.held core.disk) (λ bytes. IsNoJournal bytes → result.mech ≡ core.mech) }
 
     // The lines of `guard`, and what is written: their answers from the boot on, and at most one last line.
-    ensures lines { IsGuard words.now → result.status ≡ 0 → IfTold (S.left source.old) (AllLines IsLine) }
-    ensures not_a_line { IsGuard words.now → result.status ≡ 4 → IfTold (S.left source.old) StopsAtLine }
-    ensures guard_answers { IsGuard words.now → result.status ≡ 0 → IfTold (S.left source.old) (λ text. FromBoot (at_entry M.motions M.places M.faults D.held D.faults core)
+    ensures lines { IsGuard words.now → result.status ≡ READ_TO_END → IfTold (S.left source.old) (AllLines IsLine) }
+    ensures not_a_line { IsGuard words.now → result.status ≡ NOT_A_LINE → IfTold (S.left source.old) StopsAtLine }
+    ensures guard_answers { IsGuard words.now → result.status ≡ READ_TO_END → IfTold (S.left source.old) (λ text. FromBoot (at_entry M.motions M.places M.faults D.held D.faults core)
         (λ start. WritesAll AnswersGuard (IsEnd (M.motions result.mech) (M.places result.mech) (M.faults result.mech) (D.faults result.disk) (D.held result.disk) (D.images result.disk)) start (K.held sink.old) (K.held sink.new) text)) }
-    ensures guard_front { IsGuard words.now → result.status ≡ 5 → IfTold (S.left source.old) (λ text. FromBoot (at_entry M.motions M.places M.faults D.held D.faults core)
+    ensures guard_front { IsGuard words.now → result.status ≡ WRITE_FAULT → IfTold (S.left source.old) (λ text. FromBoot (at_entry M.motions M.places M.faults D.held D.faults core)
         (λ start. WritesFront AnswersGuard (IsEnd (M.motions result.mech) (M.places result.mech) (M.faults result.mech) (D.faults result.disk) (D.held result.disk) (D.images result.disk)) start (K.held sink.old) (K.held sink.new) text)) }
-    ensures guard_until { IsGuard words.now → result.status ≢ 0 → result.status ≢ 5 → IfTold (S.left source.old) (λ text. IsUnbooted result.status (S.left source.old) (S.left source.new) (K.held sink.old) (K.held sink.new) ⊎ FromBoot (at_entry M.motions M.places M.faults D.held D.faults core)
+    ensures guard_until { IsGuard words.now → result.status ≢ READ_TO_END → result.status ≢ WRITE_FAULT → IfTold (S.left source.old) (λ text. IsUnbooted result.status (S.left source.old) (S.left source.new) (K.held sink.old) (K.held sink.new) ⊎ FromBoot (at_entry M.motions M.places M.faults D.held D.faults core)
         (λ start. WritesUntil IsLine AnswersGuard (IsStop (IsEnd (M.motions result.mech) (M.places result.mech) (M.faults result.mech) (D.faults result.disk) (D.held result.disk) (D.images result.disk))) start result.status (S.left source.new) (K.held sink.old) (K.held sink.new) text)) }
 
     // Of the answers of `guard`: a dispense that its token covers, and a present behind it, are done in full where nothing fails.
     ensures complete { IsComplete }
 
     // The lines of `token`, and what is written: their answers, and at most one last line.
-    ensures answers { IsToken words.now → result.status ≡ 0 → IfTold (S.left source.old) (WritesAll AnswersToken Unsaid core.key (K.held sink.old) (K.held sink.new)) }
-    ensures front { IsToken words.now → result.status ≡ 5 → IfTold (S.left source.old) (WritesFront AnswersToken Unsaid core.key (K.held sink.old) (K.held sink.new)) }
-    ensures until { IsToken words.now → result.status ≢ 0 → result.status ≢ 5 → IfTold (S.left source.old) (WritesUntil IsLineOfToken AnswersToken AnyStop core.key result.status (S.left source.new) (K.held sink.old) (K.held sink.new)) }
+    ensures answers { IsToken words.now → result.status ≡ READ_TO_END → IfTold (S.left source.old) (WritesAll AnswersToken Unsaid core.key (K.held sink.old) (K.held sink.new)) }
+    ensures front { IsToken words.now → result.status ≡ WRITE_FAULT → IfTold (S.left source.old) (WritesFront AnswersToken Unsaid core.key (K.held sink.old) (K.held sink.new)) }
+    ensures until { IsToken words.now → result.status ≢ READ_TO_END → result.status ≢ WRITE_FAULT → IfTold (S.left source.old) (WritesUntil IsLineOfToken AnswersToken AnyStop core.key result.status (S.left source.new) (K.held sink.old) (K.held sink.new)) }
     ensures same { IsToken words.now → result.mech ≡ core.mech }
     ensures same_disk { IsToken words.now → result.disk ≡ core.disk }
 
     // A run of `token` boots nothing, and one that nothing hinders ends with its input.
-    ensures token_unbooted { IsToken words.now → (result.status ≢ 6) × (result.status ≢ 7) × (result.status ≢ 12) }
+    ensures token_unbooted { IsToken words.now → (result.status ≢ DISK_FAULT) × (result.status ≢ NOT_A_JOURNAL) × (result.status ≢ JOURNAL_FULL) }
     ensures token_finishes { IsToken words.now → ¬ (Rose (S.faults source.old) (S.faults source.new)) → ¬ (Rose (K.faults sink.old) (K.faults sink.new))
         → IfTold (S.left source.old) (λ text. AllLines IsLineOfToken text → length text < 67108864 → IsFinished result.status) }
 
@@ -119,7 +123,7 @@ pub fn run<S: Source, K: Sink, M: Mechanism, D: Disk>(
     }
     usage(alloc, sink);
     Ended {
-        status: 2,
+        status: USAGE,
         mech: core.mech,
         disk: core.disk,
     }
