@@ -60,7 +60,7 @@ fn core_on<M: Mechanism>(alloc: Global, mech: M, units: UnitTable) -> Core<M, Me
     requires fresh { IfTold (M.motions mech) (λ L. L ≡ []) }
     requires units { M.units mech ≡ units }
     ensures units { M.units result.mech ≡ result.units }
-    ensures starts { (c : List ℕ) → IsImage result.disk c → (J : List Rec) → Stands c J → IsRecorded result.key result.units J (M.motions result.mech) }
+    ensures starts { (image : List ℕ) → IsImage result.disk image → (records : List Rec) → Stands image records → IsRecorded result.key result.units records (M.motions result.mech) }
     ensures at_rest { Only (bytes_of result.disk) (IsImage result.disk) }
 {
     Core {

@@ -50,11 +50,11 @@ pub fn guard<S: Source, K: Sink, M: Mechanism, D: Disk>(
     core: Core<M, D>,
 ) -> Ended<M, D>
     requires units { M.units core.mech ≡ core.units }
-    requires starts { IfTold (D.held core.disk) (λ _. (c : List ℕ) → D.images core.disk c → (J : List Rec) → Stands c J → IsRecorded core.key core.units J (M.motions core.mech)) }
+    requires starts { IfTold (D.held core.disk) (λ _. (image : List ℕ) → D.images core.disk image → (records : List Rec) → Stands image records → IsRecorded core.key core.units records (M.motions core.mech)) }
     requires at_rest { IfTold (D.held core.disk) (λ bytes. Only bytes (D.images core.disk)) }
 
-    ensures upholds { IfTold (D.held core.disk) (λ bytes. (J : List Rec) → Stands bytes J → IfTold (D.held result.disk) (λ _. (c : List ℕ) → D.images result.disk c
-        → Upholds core.key core.units J (M.motions core.mech) (M.places core.mech) c (M.motions result.mech) (M.places result.mech))) }
+    ensures upholds { IfTold (D.held core.disk) (λ bytes. (records : List Rec) → Stands bytes records → IfTold (D.held result.disk) (λ _. (image : List ℕ) → D.images result.disk image
+        → Upholds core.key core.units records (M.motions core.mech) (M.places core.mech) image (M.motions result.mech) (M.places result.mech))) }
 
     ensures usage { (result.status ≡ USAGE) ↔ ¬ (IsGuard words.now) }
     ensures usage_written { result.status ≡ USAGE → WritesUsage (K.held sink.old) (K.held sink.new) }
@@ -83,18 +83,19 @@ pub fn guard<S: Source, K: Sink, M: Mechanism, D: Disk>(
     ensures not_journal { result.status ≡ NOT_A_JOURNAL → EndsUnread (D.held core.disk) (K.held sink.old) (K.held sink.new) ⊎ FromBoot (at_entry M.motions M.places M.faults D.held D.faults core) (λ _. D.held core.disk ≡ None) }
     ensures full { result.status ≡ JOURNAL_FULL → EndsFull core.limits (M.places core.mech) (D.held core.disk) (K.held sink.old) (K.held sink.new) ⊎ FromBoot (at_entry M.motions M.places M.faults D.held D.faults core) (λ _. IsFullAtEnd core.limits (M.places result.mech) (D.held result.disk)) }
     ensures unread { IsGuard words.now → IfTold (D.held core.disk) (λ bytes. IsNoJournal bytes → IsDue NOT_A_JOURNAL result.status) }
-    ensures overfull { IsGuard words.now → IfTold (D.held core.disk) (λ bytes. (J : List Rec) → Stands bytes J → BootPasses core.limits (M.places core.mech) J → IsDue JOURNAL_FULL result.status) }
+    ensures overfull { IsGuard words.now → IfTold (D.held core.disk) (λ bytes. (records : List Rec) → Stands bytes records → BootPasses core.limits (M.places core.mech) records → IsDue JOURNAL_FULL result.status) }
     ensures unwritten { IfTold (D.held core.disk) (λ bytes. IsNoJournal bytes → IsUnwritten (D.held core.disk) (D.held result.disk) (D.images core.disk) (D.images result.disk)) }
     ensures unmoved { IfTold (D.held core.disk) (λ bytes. IsNoJournal bytes → result.mech ≡ core.mech) }
 
-    ensures any_moment { IfTold (D.held core.disk) (λ bytes. (J : List Rec) → Stands bytes J → LeavesOnly D.moment D.images_since core.disk result.disk (WasOnTheWay J (D.held result.disk) (M.motions result.mech))) }
-    ensures newer { IfTold (D.held core.disk) (λ bytes. (J : List Rec) → Stands bytes J → IsNewer (length J) (M.motions core.mech) (M.motions result.mech)) }
+    ensures any_moment { IfTold (D.held core.disk) (λ bytes. (records : List Rec) → Stands bytes records → LeavesOnly D.moment D.images_since core.disk result.disk (WasOnTheWay records (D.held result.disk) (M.motions result.mech))) }
+    ensures newer { IfTold (D.held core.disk) (λ bytes. (records : List Rec) → Stands bytes records → IsNewer (length records) (M.motions core.mech) (M.motions result.mech)) }
     ensures adds { AddsUp (M.motions core.mech) (M.motions result.mech) (M.places core.mech) (M.places result.mech) }
+    ensures units { M.units result.mech ≡ core.units }
     ensures told { is_some (M.motions result.mech) ≡ is_some (M.motions core.mech) }
     ensures told_disk { is_some (D.held result.disk) ≡ is_some (D.held core.disk) }
     ensures statuses { IsStatus result.status }
     ensures finishes { IsGuard words.now → ¬ (Rose (S.faults source.old) (S.faults source.new)) → ¬ (Rose (K.faults sink.old) (K.faults sink.new)) → ¬ (Rose (D.faults core.disk) (D.faults result.disk))
-        → IfTold (S.left source.old) (λ text. IfTold (D.held core.disk) (λ bytes. (J : List Rec) → Stands bytes J → IsUnhindered (IsStart (at_entry M.motions M.places M.faults D.held D.faults core)) (IsStill (M.motions result.mech) (M.places result.mech) (M.faults result.mech) (D.faults result.disk)) text core.limits (M.places core.mech) J → IsFinished result.status)) }
+        → IfTold (S.left source.old) (λ text. IfTold (D.held core.disk) (λ bytes. (records : List Rec) → Stands bytes records → IsUnhindered (IsStart (at_entry M.motions M.places M.faults D.held D.faults core)) (IsStill (M.motions result.mech) (M.places result.mech) (M.faults result.mech) (D.faults result.disk)) text core.limits (M.places core.mech) records → IsFinished result.status)) }
 {
     let Core {
         mech,
@@ -134,11 +135,12 @@ pub fn guard<S: Source, K: Sink, M: Mechanism, D: Disk>(
 
 // The mechanism and the disk of a session that is over.
 fn ended<M: Mechanism, D: Disk>(session: Session<M, D>) -> (M, D)
-    ensures recorded { (J : List Rec) → MayLeave (D.held result.1) (D.images result.1) J → IsRecorded session.guard.state.key session.guard.state.units J session.guard.state.motions }
+    ensures recorded { (records : List Rec) → MayLeave (D.held result.1) (D.images result.1) records → IsRecorded session.guard.state.key session.guard.state.units records session.guard.state.motions }
     ensures stored { IsStored (D.held result.1) (D.images result.1) session.guard.state.records session.guard.state.in_doubt }
     ensures motions { M.motions result.0 ≡ session.guard.state.motions }
     ensures places { M.places result.0 ≡ session.guard.state.places }
     ensures faults { M.faults result.0 ≡ session.guard.state.faults }
+    ensures units { M.units result.0 ≡ session.guard.state.units }
     ensures told { is_some (D.held result.1) ≡ session.guard.state.disk_told }
     ensures disk { result.1 ≡ session.guard.disk }
 {

@@ -9,11 +9,14 @@ use xfs_base::{Memory, Places};
 use xfs_mech::Outcome;
 use xfs_script::counts_text;
 
-/// Two parts in one text.
+/// Two parts in one text, with room for its line feed.
 pub fn joined(alloc: Global, first: &[u8], second: &[u8]) -> Result<Vec<u8>, Memory>
     ensures { IfOk result (λ text. text.items ≡ first.now ++ second.now) }
 {
-    let mut text = Vec::with_capacity(alloc, first.len().saturating_add(second.len()))?;
+    let mut text = Vec::with_capacity(
+        alloc,
+        first.len().saturating_add(second.len()).saturating_add(1),
+    )?;
     text.extend_from_slice(first)?;
     text.extend_from_slice(second)?;
     Ok(text)

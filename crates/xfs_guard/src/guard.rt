@@ -81,12 +81,12 @@ impl<M: Mechanism, D: Disk> Guard<M, D> {
         limits: Limits,
     ) -> Result<Guard<M, D>, BootFail<M, D>>
         requires units { M.units mech ≡ units }
-        requires recorded { (J : List Rec) → MayLeave (D.held disk) (D.images disk) J → IsRecorded key units J (M.motions mech) }
-        ensures ok { IfOk result (λ g. (J : List Rec) × IfTold (D.held disk) (λ all. Stands all J) × (g.state ≡ record {
+        requires recorded { (records : List Rec) → MayLeave (D.held disk) (D.images disk) records → IsRecorded key units records (M.motions mech) }
+        ensures ok { IfOk result (λ g. (records : List Rec) × IfTold (D.held disk) (λ all. Stands all records) × (g.state ≡ record {
           key = key;
           seed = seed;
           units = units;
-          records = J ++ Boot (M.places mech) ∷ [];
+          records = records ++ Boot (M.places mech) ∷ [];
           bound = None;
           open_order = No;
           motions = M.motions mech;
@@ -99,16 +99,16 @@ impl<M: Mechanism, D: Disk> Guard<M, D> {
           disk_told = is_some (D.held disk);
         })) }
         ensures fits { IfOk result (λ g. passes limits g.state.records ≡ false) }
-        ensures continues { IfOk result (λ g. (J : List Rec) → g.state.records ≡ J ++ Boot (M.places mech) ∷ [] → Continues (record g.state { records = J }) g.state) }
+        ensures continues { IfOk result (λ g. (records : List Rec) → g.state.records ≡ records ++ Boot (M.places mech) ∷ [] → Continues (record g.state { records = records }) g.state) }
 
         ensures mech { IfErr result (λ f. f.mech ≡ mech) }
-        ensures not_journal { IfErr result (λ f. (at : ℕ) → f.why ≡ NotJournal at → IfTold (D.held disk) (λ all. CeasesAt all at × ((J : List Rec) → ¬ Stands all J))) }
+        ensures not_journal { IfErr result (λ f. (at : ℕ) → f.why ≡ NotJournal at → IfTold (D.held disk) (λ all. CeasesAt all at × ((records : List Rec) → ¬ Stands all records))) }
         ensures refused { IfErr result (λ f. (at : ℕ) → f.why ≡ NotJournal at → IsQuiet D.held D.images D.moment D.images_since D.faults disk f.disk) }
-        ensures full { IfErr result (λ f. f.why ≡ BootFull → (J : List Rec) × IfTold (D.held disk) (λ all. Stands all J) × (passes limits (J ++ Boot (M.places mech) ∷ []) ≡ true)) }
+        ensures full { IfErr result (λ f. f.why ≡ BootFull → (records : List Rec) × IfTold (D.held disk) (λ all. Stands all records) × (passes limits (records ++ Boot (M.places mech) ∷ []) ≡ true)) }
         ensures disk { IfErr result (λ f. f.why ≡ BootDisk → Rose (D.faults disk) (D.faults f.disk)) }
-        ensures left { IfErr result (λ f. (J : List Rec) → MayLeave (D.held f.disk) (D.images f.disk) J → IsRecorded key units J (M.motions mech)) }
-        ensures either { IfErr result (λ f. IfTold (D.held disk) (λ _. (J : List Rec) → ((c : List ℕ) → D.images disk c → Stands c J) → (c : List ℕ) → D.images f.disk c → StandsForEither J (Boot (M.places mech)) c)) }
-        ensures unlisted { IfErr result (λ f. IfTold (D.held disk) (λ all. ((J : List Rec) → ¬ Stands all J) → IsQuiet D.held D.images D.moment D.images_since D.faults disk f.disk)) }
+        ensures left { IfErr result (λ f. (records : List Rec) → MayLeave (D.held f.disk) (D.images f.disk) records → IsRecorded key units records (M.motions mech)) }
+        ensures either { IfErr result (λ f. IfTold (D.held disk) (λ _. (records : List Rec) → ((image : List ℕ) → D.images disk image → Stands image records) → (image : List ℕ) → D.images f.disk image → StandsForEither records (Boot (M.places mech)) image)) }
+        ensures unlisted { IfErr result (λ f. IfTold (D.held disk) (λ all. ((records : List Rec) → ¬ Stands all records) → IsQuiet D.held D.images D.moment D.images_since D.faults disk f.disk)) }
         ensures faults { MatchResult result (λ g. D.faults disk ≤ D.faults g.disk) (λ f. D.faults disk ≤ D.faults f.disk) }
         ensures told { IfErr result (λ f. is_some (D.held f.disk) ≡ is_some (D.held disk)) }
 
@@ -141,8 +141,8 @@ impl<M: Mechanism, D: Disk> Guard<M, D> {
     /// what the mechanism did: the kept one, or that one with the record in doubt.
     pub fn end(self) -> (M, D)
         ensures stored { IsStored (D.held result.1) (D.images result.1) self.state.records self.state.in_doubt }
-        ensures left { (J : List Rec) → MayLeave (D.held result.1) (D.images result.1) J → IsPossible self.state.records self.state.in_doubt J }
-        ensures recorded { (J : List Rec) → MayLeave (D.held result.1) (D.images result.1) J → IsRecorded self.state.key self.state.units J self.state.motions }
+        ensures left { (records : List Rec) → MayLeave (D.held result.1) (D.images result.1) records → IsPossible self.state.records self.state.in_doubt records }
+        ensures recorded { (records : List Rec) → MayLeave (D.held result.1) (D.images result.1) records → IsRecorded self.state.key self.state.units records self.state.motions }
         ensures clean { self.state.shut ≡ false → self.state.in_doubt ≡ None }
         ensures told { is_some (D.held result.1) ≡ self.state.disk_told }
         ensures disk { result.1 ≡ self.disk }

@@ -86,18 +86,18 @@ impl<D: Disk> Ledger<D> {
         units: UnitTable,
         places: Places,
     ) -> Result<Ledger<D>, Unbooted<D>>
-        ensures records { IfOk result (λ l. (J : List Rec) × IfTold (D.held disk) (λ all. Stands all J) × (l.records ≡ J ++ Boot places ∷ [])) }
+        ensures records { IfOk result (λ l. (records : List Rec) × IfTold (D.held disk) (λ all. Stands all records) × (l.records ≡ records ++ Boot places ∷ [])) }
         ensures fits { IfOk result (λ l. passes limits l.records ≡ false) }
         ensures opened { IfOk result (λ l. (l.shut ≡ false) × (l.in_doubt ≡ None) × (l.bound ≡ None) × (l.boot_missing ≡ false)) }
         ensures same { IfOk result (λ l. (l.limits ≡ limits) × (l.units ≡ units)) }
         ensures told { MatchResult result (λ l. is_some (D.held l.disk) ≡ is_some (D.held disk)) (λ f. is_some (D.held f.disk) ≡ is_some (D.held disk)) }
-        ensures not_journal { IfErr result (λ f. (at : ℕ) → f.why ≡ NotJournal at → IfTold (D.held disk) (λ all. CeasesAt all at × ((J : List Rec) → ¬ Stands all J))) }
+        ensures not_journal { IfErr result (λ f. (at : ℕ) → f.why ≡ NotJournal at → IfTold (D.held disk) (λ all. CeasesAt all at × ((records : List Rec) → ¬ Stands all records))) }
         ensures refused { IfErr result (λ f. (at : ℕ) → f.why ≡ NotJournal at → IsQuiet D.held D.images D.moment D.images_since D.faults disk f.disk) }
-        ensures full { IfErr result (λ f. f.why ≡ BootFull → (J : List Rec) × IfTold (D.held disk) (λ all. Stands all J) × (passes limits (J ++ Boot places ∷ []) ≡ true)) }
+        ensures full { IfErr result (λ f. f.why ≡ BootFull → (records : List Rec) × IfTold (D.held disk) (λ all. Stands all records) × (passes limits (records ++ Boot places ∷ []) ≡ true)) }
         ensures disk { IfErr result (λ f. f.why ≡ BootDisk → Rose (D.faults disk) (D.faults f.disk)) }
-        ensures left { IfErr result (λ f. (J : List Rec) → MayLeave (D.held f.disk) (D.images f.disk) J → WasLeft (D.held disk) (D.images disk) places J) }
-        ensures either { IfErr result (λ f. IfTold (D.held disk) (λ _. (J : List Rec) → ((c : List ℕ) → D.images disk c → Stands c J) → (c : List ℕ) → D.images f.disk c → StandsForEither J (Boot places) c)) }
-        ensures unlisted { IfErr result (λ f. IfTold (D.held disk) (λ all. ((J : List Rec) → ¬ Stands all J) → IsQuiet D.held D.images D.moment D.images_since D.faults disk f.disk)) }
+        ensures left { IfErr result (λ f. (records : List Rec) → MayLeave (D.held f.disk) (D.images f.disk) records → WasLeft (D.held disk) (D.images disk) places records) }
+        ensures either { IfErr result (λ f. IfTold (D.held disk) (λ _. (records : List Rec) → ((image : List ℕ) → D.images disk image → Stands image records) → (image : List ℕ) → D.images f.disk image → StandsForEither records (Boot places) image)) }
+        ensures unlisted { IfErr result (λ f. IfTold (D.held disk) (λ all. ((records : List Rec) → ¬ Stands all records) → IsQuiet D.held D.images D.moment D.images_since D.faults disk f.disk)) }
         ensures any_moment { IfTold (D.held disk) (λ all. MatchResult result
             (λ l. LeavesOnly D.moment D.images_since disk l.disk (IsOldOrBooted (D.images disk) all places))
             (λ f. LeavesOnly D.moment D.images_since disk f.disk (IsOldOrBooted (D.images disk) all places))) }
@@ -320,7 +320,7 @@ impl<D: Disk> Ledger<D> {
         requires fits { write_refusal self.old (Bind token) ≡ None }
         requires live { (p : ℕ) × (live_of self.old.records ≡ Some p) }
         requires free { bound_token self.old.records ≡ None }
-        requires fresh { (c : List ℕ) → presented_in self.old.units self.old.records c ≡ 0 }
+        requires fresh { (currency : List ℕ) → presented_in self.old.units self.old.records currency ≡ 0 }
         ensures wrote { Wrote result self.old self.new (Bind token) (Some amounts) }
         ensures err { IfErr result IsWriteFault }
         ensures cause { result ≡ Err Deny.Disk → Rose (D.faults self.old.disk) (D.faults self.new.disk) }
@@ -384,7 +384,7 @@ impl<D: Disk> Ledger<D> {
         requires fits { write_refusal self.old (Done moved diverted) ≡ None }
         requires room { 0 < self.old.room }
         requires ordered { (counts : Counts) × (record_at self.old.records (length self.old.records) ≡ Some (Order kind counts)) }
-        requires small { kind ≡ Kind.Present → (c : List ℕ) → presented_in self.old.units self.old.records c + value self.old.units moved c < 2 ^ 64 }
+        requires small { kind ≡ Kind.Present → (currency : List ℕ) → presented_in self.old.units self.old.records currency + value self.old.units moved currency < 2 ^ 64 }
         ensures wrote { Wrote result self.old self.new (Done moved diverted) self.old.bound }
         ensures err { IfErr result (λ e. e ≡ Deny.Disk) }
         ensures cause { result ≡ Err Deny.Disk → Rose (D.faults self.old.disk) (D.faults self.new.disk) }
@@ -400,8 +400,8 @@ impl<D: Disk> Ledger<D> {
 
     /// The journal is read again, and gets a Boot with these places.
     pub fn restore(&mut self, places: Places) -> Result<(), BootFault>
-        ensures ok { OnOk result ((J : List Rec) × IsPossible self.old.records self.old.in_doubt J × (self.new ≡ record self.old {
-          records = J ++ Boot places ∷ [];
+        ensures ok { OnOk result ((records : List Rec) × IsPossible self.old.records self.old.in_doubt records × (self.new ≡ record self.old {
+          records = records ++ Boot places ∷ [];
           bound = None;
           shut = false;
           boot_missing = false;
@@ -410,10 +410,10 @@ impl<D: Disk> Ledger<D> {
           disk = self.new.disk;
         })) }
         ensures fits { OnOk result (passes self.old.limits self.new.records ≡ false) }
-        ensures stands { OnOk result (IfTold (D.held self.old.disk) (λ all. (J : List Rec) × Stands all J × (self.new.records ≡ J ++ Boot places ∷ []))) }
+        ensures stands { OnOk result (IfTold (D.held self.old.disk) (λ all. (records : List Rec) × Stands all records × (self.new.records ≡ records ++ Boot places ∷ []))) }
         ensures memory { result ≡ Err BootMemory → self.new ≡ record self.old { disk = self.new.disk } }
-        ensures full { result ≡ Err BootFull → (J : List Rec) × IsPossible self.old.records self.old.in_doubt J × (passes self.old.limits (J ++ Boot places ∷ []) ≡ true) × (self.new ≡ record self.old {
-          records = J;
+        ensures full { result ≡ Err BootFull → (records : List Rec) × IsPossible self.old.records self.old.in_doubt records × (passes self.old.limits (records ++ Boot places ∷ []) ≡ true) × (self.new ≡ record self.old {
+          records = records;
           bound = None;
           shut = false;
           boot_missing = true;
@@ -422,8 +422,8 @@ impl<D: Disk> Ledger<D> {
           disk = self.new.disk;
         }) }
         ensures found { result ≡ Err BootFull → IfTold (D.held self.old.disk) (λ all. Stands all self.new.records) }
-        ensures disk { result ≡ Err BootDisk → (self.new ≡ record self.old { shut = true; disk = self.new.disk }) ⊎ ((J : List Rec) × IsPossible self.old.records self.old.in_doubt J × (self.new ≡ record self.old {
-          records = J;
+        ensures disk { result ≡ Err BootDisk → (self.new ≡ record self.old { shut = true; disk = self.new.disk }) ⊎ ((records : List Rec) × IsPossible self.old.records self.old.in_doubt records × (self.new ≡ record self.old {
+          records = records;
           bound = None;
           shut = true;
           in_doubt = Some (Boot places);
@@ -514,7 +514,7 @@ fn append_boot<D: Disk>(journal: &mut Journal<D>, places: Places) -> Result<u64,
     ensures fits { OnOk result (passes journal.old.limits journal.new.records ≡ false) }
     ensures full { result ≡ Err BootFull → passes journal.old.limits (journal.old.records ++ Boot places ∷ []) ≡ true }
     ensures disk { result ≡ Err BootDisk → Rose (D.faults journal.old.disk) (D.faults journal.new.disk) }
-    ensures images { IfTold (D.held journal.old.disk) (λ _. (c : List ℕ) → D.images journal.new.disk c → StandsForEither journal.old.records (Boot places) c) }
+    ensures images { IfTold (D.held journal.old.disk) (λ _. (image : List ℕ) → D.images journal.new.disk image → StandsForEither journal.old.records (Boot places) image) }
     ensures any_moment { IfTold (D.held journal.old.disk) (λ _. LeavesOnly D.moment D.images_since journal.old.disk journal.new.disk (StandsForEither journal.old.records (Boot places))) }
     ensures told { is_some (D.held journal.new.disk) ≡ is_some (D.held journal.old.disk) }
     ensures not_mounted { IfErr result (λ f. (at : ℕ) → f ≢ NotJournal at) }

@@ -25,20 +25,20 @@ impl<M: Mechanism, D: Disk> Guard<M, D> {
     /// as `NotJournal`.
     pub fn restore(&mut self) -> Result<(), BootFault>
         requires { self.old.state.open_order ≡ No }
-        ensures ok { OnOk result ((J : List Rec) × IsPossible self.old.state.records self.old.state.in_doubt J × (self.new.state ≡ restarted self.old.state J)) }
+        ensures ok { OnOk result ((records : List Rec) × IsPossible self.old.state.records self.old.state.in_doubt records × (self.new.state ≡ restarted self.old.state records)) }
         ensures fits { OnOk result (passes self.old.state.limits self.new.state.records ≡ false) }
-        ensures stands { OnOk result (IfTold (D.held self.old.disk) (λ all. (J : List Rec) × Stands all J × (self.new.state.records ≡ J ++ Boot self.old.state.places ∷ []))) }
+        ensures stands { OnOk result (IfTold (D.held self.old.disk) (λ all. (records : List Rec) × Stands all records × (self.new.state.records ≡ records ++ Boot self.old.state.places ∷ []))) }
         ensures memory { result ≡ Err BootMemory → self.new.state ≡ self.old.state }
-        ensures full { result ≡ Err BootFull → (J : List Rec) × IsPossible self.old.state.records self.old.state.in_doubt J × (passes self.old.state.limits (J ++ Boot self.old.state.places ∷ []) ≡ true) × (self.new.state ≡ record self.old.state {
-          records = J;
+        ensures full { result ≡ Err BootFull → (records : List Rec) × IsPossible self.old.state.records self.old.state.in_doubt records × (passes self.old.state.limits (records ++ Boot self.old.state.places ∷ []) ≡ true) × (self.new.state ≡ record self.old.state {
+          records = records;
           bound = None;
           shut = false;
           boot_missing = true;
           in_doubt = None;
         }) }
         ensures found { result ≡ Err BootFull → IfTold (D.held self.old.disk) (λ all. Stands all self.new.state.records) }
-        ensures disk { result ≡ Err BootDisk → (self.new.state ≡ record self.old.state { shut = true }) ⊎ ((J : List Rec) × IsPossible self.old.state.records self.old.state.in_doubt J × (self.new.state ≡ record self.old.state {
-          records = J;
+        ensures disk { result ≡ Err BootDisk → (self.new.state ≡ record self.old.state { shut = true }) ⊎ ((records : List Rec) × IsPossible self.old.state.records self.old.state.in_doubt records × (self.new.state ≡ record self.old.state {
+          records = records;
           bound = None;
           shut = true;
           in_doubt = Some (Boot self.old.state.places);

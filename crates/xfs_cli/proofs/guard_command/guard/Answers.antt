@@ -149,3 +149,7 @@ returns-in-Ok-clause-complete g c = complete
 
 pub returns-in-Err-clause-complete : goal.returns-in-Err-clause-complete
 returns-in-Err-clause-complete g c = complete
+
+pub returns-in-Ok-clause-units : goal.returns-in-Ok-clause-units
+returns-in-Ok-clause-units g c =
+    c.ended-mech.ensures.units ∙ (c.serve-status.ensures.continues.units ∙ ap (λ (v : View). v.units) c.in-Ok.ensures.ok.2)
