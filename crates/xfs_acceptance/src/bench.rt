@@ -51,6 +51,7 @@ pub const LIMITS: Limits = Limits {
 
 /// An empty disk.
 pub fn empty(alloc: Global) -> MemDisk
+    ensures empty { bytes_of result ≡ [] }
     ensures settled { steps_of result ≡ [] }
     ensures none { (J : List Rec) → ¬ IsImage (bytes_of result) J }
 {
@@ -103,6 +104,7 @@ pub fn failing_core<M: Mechanism>(
     requires units { M.units mech ≡ units }
     requires settled { steps_of disk ≡ [] }
     requires none { (J : List Rec) → ¬ IsImage (bytes_of disk) J }
+    ensures disk { failing_inner result.disk ≡ disk }
     ensures units { M.units result.mech ≡ result.units }
     ensures starts { (c : List ℕ) → MayBe (failing_inner result.disk) c → (J : List Rec) → Stands c J → IsRecorded result.key result.units J (M.motions result.mech) }
     ensures at_rest { Only (bytes_of (failing_inner result.disk)) (MayBe (failing_inner result.disk)) }
@@ -172,11 +174,11 @@ pub struct Written {
     pub bytes: Vec<u8>,
 }
 
-/// Runs the command `word` on a script; the calls of source and sink at these places fail.
+/// Runs the program with these words on a script; the calls of source and sink at these places fail.
 pub fn run_on(
     rt: &impl Abort,
     alloc: Global,
-    word: &str,
+    words: &[&str],
     script: &[u8],
     failing_reads: &[u64],
     failing_writes: &[u64],
@@ -188,7 +190,7 @@ pub fn run_on(
     let core = core_on(mech, units, empty(alloc), LIMITS);
     let ended = run(
         alloc,
-        words_of(alloc, word)?.as_slice(),
+        words_of(alloc, words)?.as_slice(),
         &mut source,
         &mut sink,
         core,
@@ -243,7 +245,7 @@ fn guard_with<M: Mechanism>(
     let core = core_on(mech, units, empty(alloc), limits);
     let ended = run(
         alloc,
-        words_of(alloc, "guard")?.as_slice(),
+        words_of(alloc, &["guard"])?.as_slice(),
         &mut source,
         &mut sink,
         core,
@@ -265,7 +267,7 @@ pub fn guard_failing(
     let core = failing_core(mech, units, empty(alloc), LIMITS, numbers(alloc, failing)?);
     let ended = run(
         alloc,
-        words_of(alloc, "guard")?.as_slice(),
+        words_of(alloc, &["guard"])?.as_slice(),
         &mut source,
         &mut sink,
         core,
@@ -282,7 +284,7 @@ pub fn guard_on_no_journal(rt: &impl Abort, alloc: Global, script: &[u8]) -> Res
     let core = core_on(mech, units, no_journal(alloc)?, LIMITS);
     let ended = run(
         alloc,
-        words_of(alloc, "guard")?.as_slice(),
+        words_of(alloc, &["guard"])?.as_slice(),
         &mut source,
         &mut sink,
         core,
@@ -300,10 +302,13 @@ pub fn sim_on(rt: &impl Abort, alloc: Global, units: &UnitTable, faults: Vec<Fau
     SimMech::new(alloc, units.copied(), places, faults)
 }
 
-fn words_of(alloc: Global, word: &str) -> Result<Vec<String>, Fail> {
-    let mut words = Vec::new(alloc);
-    words.push(String::from_str(alloc, word)?)?;
-    Ok(words)
+/// The words of a command line.
+pub fn words_of(alloc: Global, words: &[&str]) -> Result<Vec<String>, Fail> {
+    let mut list = Vec::new(alloc);
+    for word in words {
+        list.push(String::from_str(alloc, word)?)?;
+    }
+    Ok(list)
 }
 
 fn told(alloc: Global, status: u8, sink: &MemSink, disk: &MemDisk) -> Result<Written, Fail> {
@@ -314,7 +319,8 @@ fn told(alloc: Global, status: u8, sink: &MemSink, disk: &MemDisk) -> Result<Wri
     })
 }
 
-fn listed(alloc: Global, bytes: &[u8]) -> Result<Vec<u8>, Fail> {
+/// A list of these bytes.
+pub fn listed(alloc: Global, bytes: &[u8]) -> Result<Vec<u8>, Fail> {
     let mut list = Vec::new(alloc);
     list.extend_from_slice(bytes)?;
     Ok(list)

@@ -1,15 +1,9 @@
 //! The guard's calls over disks that fail, and its boot over files, which tell nothing.
 
-ghost use Rattle.std.specs.Prelude.{◌≡◌, ℕ, List, IfOk};
-ghost use Rattle.xfs_mech.specs.Sim.{units_of, motions_of};
-ghost use Rattle.xfs_disk.specs.MemDisk.{IsImage as MayBe};
-ghost use Rattle.xfs_disk.specs.Wrapped.{failing_inner};
-ghost use Rattle.xfs_journal.specs.Image.{Stands};
-ghost use Rattle.xfs_journal.specs.declared.record.Rec.{Rec};
-ghost use Rattle.xfs_guard.specs.Recorded.{IsRecorded};
+ghost use Rattle.std.specs.Prelude.{◌≡◌, IfOk};
 ghost use Rattle.xfs_guard.specs.declared.open.Open.TheVariants.{No};
 
-use crate::bench::{LIMITS, empty, failing_core, guard_on, sim_on, units};
+use crate::bench::{LIMITS, guard_failing_within, guard_on, sim_on, units};
 use crate::guard_calls::GENUINE;
 use std::alloc::Global;
 use std::fs::{self, File};
@@ -17,7 +11,7 @@ use std::process::Abort;
 use std::test::Fail;
 use xfs_base::Counts;
 use xfs_disk::{FailDisk, FileDisk};
-use xfs_guard::{Ask, BootFault, Core, Deny, Fit, Guard};
+use xfs_guard::{Ask, BootFault, Deny, Fit, Guard};
 use xfs_mech::{Mechanism, SimMech};
 
 // A call of a dispense.
@@ -29,38 +23,11 @@ enum Step {
     Settle,
 }
 
-// A guard over a core whose disk was written by nobody.
-fn booted(alloc: Global, core: Core<SimMech, FailDisk>) -> Result<Guard<SimMech, FailDisk>, Fail>
-    requires units { units_of core.mech ≡ core.units }
-    requires starts { (c : List ℕ) → MayBe (failing_inner core.disk) c → (J : List Rec) → Stands c J → IsRecorded core.key core.units J (Some (motions_of core.mech)) }
-    ensures { IfOk result (λ g. g.state.open_order ≡ No) }
-{
-    let Core {
-        mech,
-        disk,
-        key,
-        seed,
-        units,
-        limits,
-    } = core;
-    match Guard::boot(alloc, mech, disk, key, seed, units, limits) {
-        Ok(guard) => Ok(guard),
-        Err(fail) => Err(fail.why.into()),
-    }
-}
-
 // A guard with a nonce, over a disk whose call of this number fails, from 1.
 fn failing_at(rt: &impl Abort, alloc: Global, call: u64) -> Result<Guard<SimMech, FailDisk>, Fail>
     ensures { IfOk result (λ g. g.state.open_order ≡ No) }
 {
-    let units = units(rt);
-    let mech = sim_on(rt, alloc, &units, Vec::new(alloc));
-    let mut failing = Vec::new(alloc);
-    failing.push(call)?;
-    let mut guard = booted(
-        alloc,
-        failing_core(mech, units, empty(alloc), LIMITS, failing),
-    )?;
+    let mut guard = guard_failing_within(rt, alloc, LIMITS, &[call])?;
     guard.issue()?;
     Ok(guard)
 }

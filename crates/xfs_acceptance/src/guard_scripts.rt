@@ -1,6 +1,6 @@
 //! Scripts of the command `guard` over main's bench, with the answers that the rules give.
 
-use crate::bench::guard_over;
+use crate::bench::{guard_over, listed};
 use std::alloc::Global;
 use std::test::Fail;
 use xfs_mech::Fault;
@@ -231,6 +231,7 @@ fn a_mechanism_that_fails_moves_no_more_than_it_tells(rt: HostRuntime) -> Result
             let lines = lines_of(rt.alloc(), script.as_bytes())?;
             let written = guard_over(&rt, rt.alloc(), &lines, &faults, silent)?;
             let shown = shown(rt.alloc(), &written.text)?;
+            assert_eq!(rt; written.status, 0, "status of {script}");
             assert_eq!(rt; shown.as_slice(), answers.as_bytes(), "answers to {script}");
         }
     }
@@ -238,12 +239,15 @@ fn a_mechanism_that_fails_moves_no_more_than_it_tells(rt: HostRuntime) -> Result
 }
 
 // The token of 50.00EUR for the first nonce. Its HMAC is that of Python's hmac and hashlib under
-// the key of 32 bytes 0x0b, as is that of the token without amounts.
+// the key of 32 bytes 0x0b, as are those of the token without amounts and of the text whose key has no value.
 const FIFTY: &str =
     "NONCE=E56A5D4028BD86530000000000000001,TOKENFORMAT=1,TOKENLENGTH=0164,DISPENSE1=50.00EUR,HMACSHA256=3D5C9E3C4712EA6A5C3803CA4CB0E54958CB4C8778ACBBB26FEA1F6935956AC2";
 
 const NO_AMOUNTS: &str =
     "NONCE=E56A5D4028BD86530000000000000001,TOKENFORMAT=1,TOKENLENGTH=0149,X=1,HMACSHA256=6279EAA1D0544585C78F72484EA02972119CE58DFF80843F08113755574D27D1";
+
+const NO_VALUE: &str =
+    "NONCE=E56A5D4028BD86530000000000000001,TOKENFORMAT=1,TOKENLENGTH=0156,DISPENSE1=,HMACSHA256=08F9BE2181E69C772F28DDC74380DA54249C819BB169541D3C01E626C3605EAC";
 
 #[test]
 fn tokens_may_stand_in_the_line(rt: HostRuntime) -> Result<(), Fail> {
@@ -251,13 +255,18 @@ fn tokens_may_stand_in_the_line(rt: HostRuntime) -> Result<(), Fail> {
     let mut wrong = listed(rt.alloc(), front)?;
     wrong.push(b'3')?;
     let long = repeated(rt.alloc(), b'A', 1_025)?;
-    let rows: [(&str, &[u8], &str); 7] = [
+    let rows: [(&str, &[u8], &str); 8] = [
         ("issue/", FIFTY.as_bytes(), "N/moved unit3:1"),
         ("issue/", &wrong, "N/refused invalidTokenHMAC"),
         (
             "issue/",
             NO_AMOUNTS.as_bytes(),
             "N/refused invalidTokenFormat",
+        ),
+        (
+            "issue/",
+            NO_VALUE.as_bytes(),
+            "N/refused invalidTokenKeyNoValue",
         ),
         ("issue/", &long, "N/refused notEnoughSpace"),
         ("", FIFTY.as_bytes(), "refused noCommandNonce record 1"),
@@ -279,15 +288,10 @@ fn tokens_may_stand_in_the_line(rt: HostRuntime) -> Result<(), Fail> {
         script.extend_from_slice(b" unit3:1\n")?;
         let written = guard_over(&rt, rt.alloc(), &script, &[], false)?;
         let shown = shown(rt.alloc(), &written.text)?;
+        assert_eq!(rt; written.status, 0, "status with {answers}");
         assert_eq!(rt; shown.as_slice(), answers.as_bytes(), "answer {answers}");
     }
     Ok(())
-}
-
-fn listed(alloc: Global, bytes: &[u8]) -> Result<Vec<u8>, Fail> {
-    let mut list = Vec::new(alloc);
-    list.extend_from_slice(bytes)?;
-    Ok(list)
 }
 
 fn repeated(alloc: Global, byte: u8, count: usize) -> Result<Vec<u8>, Fail> {

@@ -75,6 +75,23 @@ fn a_boot_and_an_issue_have_225_bytes(rt: HostRuntime) -> Result<(), Fail> {
 }
 
 #[test]
+fn an_empty_script_makes_an_empty_disk_a_journal_of_one_boot(rt: HostRuntime) -> Result<(), Fail> {
+    let written = guard_over(&rt, rt.alloc(), b"", &[], false)?;
+    assert_eq!(rt; written.status, 0);
+    assert!(rt; written.text.is_empty());
+    assert_eq!(rt; written.bytes.len(), 205);
+    // The magic, an open gate, the length 193, a B, 100 notes in each of four units, no more notes in the 44 other
+    // counts of 4 bytes, and a closed gate.
+    let (front, rest) = written.bytes.split_at(28);
+    assert_eq!(rt;
+        front,
+        b"XFSJRNL1\x01\x00\xC1B\0\0\0\x64\0\0\0\x64\0\0\0\x64\0\0\0\x64".as_slice()
+    );
+    assert_eq!(rt; rest, [0; 177].as_slice());
+    Ok(())
+}
+
+#[test]
 fn a_disk_that_fails_or_is_no_journal_ends_the_boot(rt: HostRuntime) -> Result<(), Fail> {
     let written = guard_failing(&rt, rt.alloc(), b"issue\n", &[1])?;
     assert_eq!(rt; written.status, 6);

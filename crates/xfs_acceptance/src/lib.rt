@@ -23,3 +23,5 @@ mod restore_rows;
 mod teller;
 #[cfg(test)]
 mod token_rows;
+#[cfg(test)]
+mod withdrawal_rows;
