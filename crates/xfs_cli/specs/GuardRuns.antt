@@ -15,6 +15,7 @@ use Rattle.xfs_guard.specs.View.{View}
 use Rattle.xfs_guard.specs.declared.machine_core.Core.{Core}
 use Rattle.xfs_guard.specs.declared.fail.BootFault.{BootFault}
 use Rattle.xfs_guard.specs.declared.open.Open.TheVariants.{No}
+use Rattle.xfs_cli.specs.Begun.{IsBegun}
 use Rattle.xfs_cli.specs.Boots.{BootPasses, WritesBoot, boot_status}
 use Rattle.xfs_cli.specs.RestartAnswers.{HasNoRoom}
 use Rattle.xfs_cli.specs.Seen.{Seen, IsLater, IsStill}
@@ -96,11 +97,12 @@ IsOfBoot status = (status ≡ 6) ⊎ ((status ≡ 7) ⊎ (status ≡ 12))
 pub record IsStop (Ends : Seen → Type 0) (status : ℕ) (line : List ℕ) (last : Seen) : Type 0 where
   pub end : Seen
   pub ends : Ends end
-  -- want of memory may come behind some of a line's motions and records
   pub continues : Continues last.guard end.guard
   pub later : IsLater last end
   -- where the input ended the run, nothing came behind the last state
   pub ended : IsOneOf (3 ∷ 4 ∷ 10 ∷ []) status → last ≡ end
+  -- want of memory may come behind a part of the line, or before its answer is written
+  pub begun : status ≡ 8 → IsBegun last line end
   -- a refused restart moves nothing
   pub still : IsOfBoot status → IsStill end.guard.motions end.guard.places end.guard.faults end.disk_faults last
   pub restart : IsOfBoot status → line ≡ codes "restart"
