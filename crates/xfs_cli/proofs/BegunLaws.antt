@@ -86,10 +86,6 @@ begun-line s end text verb reads short (inl (inr told)) =
     let answer : AreAnswer s verb (told.0 ∷ []) end = told.1 in inr (inl (record { output = told.0 ∷ []; answered = record { verb = verb; reads = reads; short = short; answer = answer } }))
 begun-line s end text verb reads short (inr part) = inr (inr (record { verb = verb; reads = reads; short = short; part = part }))
 
--- a line that is answered is carried out
-pub begun-answered : (s end : Seen) (text : List ℕ) (verb : GuardLine) (output : List (List ℕ)) → IsGuardLine text verb → length text ≤ 70000 → AreAnswer s verb output end → IsBegun s text end
-begun-answered s end text verb output reads short answer = inr (inl (record { output = output; answered = record { verb = verb; reads = reads; short = short; answer = answer } }))
-
 -- a restart that wants memory
 pub begun-restart : (s end : Seen) (text : List ℕ) → text ≡ codes "restart" → Becomes s s.guard end → IsBegun s text end
 begun-restart s end text is becomes = inr (inr (record { verb = Restart; reads = is; short = rw is (omega arith); part = becomes }))
