@@ -156,6 +156,16 @@ answered-memory IsLine A E start state r None y z old new newer ends h same = tt
 answered-memory IsLine A E start state r (Some text) y z old new newer ends h same =
     until-status IsLine A E start state 8 0 r y z old new newer text (ends (first_line (behind r.handed text))) h (λ four. absurd (omega (arith, four))) (no-limit 8 _ (λ e. omega (arith, e)) (λ e. omega (arith, e))) (record { many = 0; taken = rw same (Appends-none new) })
 
+-- want of memory within a line
+pub answered-begun : {S : Type 0} (IsLine : List ℕ → Type 0) (A : S → List ℕ → List (List ℕ) → S → Type 0) (E : ℕ → List ℕ → S → Type 0) (start state : S) (r s : Reading) (x y z old new newer : Option (List ℕ)) (line : Line)
+    → E 8 line.text state → IfTold x (HasAnswered A start state r y old new) → ReadsLine r s y z (Ok (Some line)) → newer ≡ new → IfTold x (WritesUntil IsLine A E start 8 z old newer)
+answered-begun IsLine A E start state r s None y z old new newer line ends h reads same = tt
+answered-begun IsLine A E start state r s (Some text) y z old new newer line ends h reads same =
+    let a = ahead-some r y (behind r.handed text) h.ahead in
+    let first = answer-line r a.0 line (told _ y a.0 a.1 reads.answer) in
+    let here : E 8 (first_line (behind r.handed text)) state = rw (← a.2, ← first) ends in
+    until-status IsLine A E start state 8 0 r y z old new newer text here h (λ four. absurd (omega (arith, four))) (λ ten. absurd (omega (arith, ten))) (record { many = 0; taken = rw same (Appends-none new) })
+
 -- a fault of the input
 pub answered-fault : {S : Type 0} (IsLine : List ℕ → Type 0) (A : S → List ℕ → List (List ℕ) → S → Type 0) (E : ℕ → List ℕ → S → Type 0) (start state : S) (status : ℕ) (r s : Reading) (x y z old new newer : Option (List ℕ)) (fault : LineFault)
     → ((l : List ℕ) → IsLine l → length l ≤ 70000)

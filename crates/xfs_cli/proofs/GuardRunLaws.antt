@@ -26,7 +26,9 @@ use Rattle.xfs_guard.specs.declared.fail.BootFault.TheVariants.{NotJournal, Disk
 use Rattle.xfs_cli.specs.RestartAnswers.{HasNoRoom, IsFull, RestartCause, RestartFails}
 use Rattle.xfs_cli.specs.GuardRuns.{AtEntry, FromBoot, IsStart, opened, IsEnd, IsFullAtEnd, IsOfBoot, IsStop, IsUnbooted}
 use Rattle.xfs_cli.specs.VerbAnswers.{AnswersGuard}
-use Rattle.xfs_cli.specs.Seen.{Seen, IsLater, IsStill, seen}
+use Rattle.xfs_cli.specs.Begun.{IsBegun}
+use Rattle.xfs_cli.specs.Seen.{Seen, Becomes, IsLater, IsStill, seen}
+use Rattle.xfs_cli.proofs.BegunLaws.{begun-restart}
 use Rattle.xfs_cli.proofs.SeenLaws.{later-same}
 
 -- the last state is that of a guard which is over
@@ -50,6 +52,7 @@ stops-input status plain s end is (six, seven, twelve) same line = record {
   continues = rw same (Continues-same end.guard);
   later = rw same (later-same end);
   ended = λ one. same;
+  begun = λ eight. inl (sym same);
   still = λ boot. absurd (none boot);
   restart = λ boot. absurd (none boot);
   failed = λ e. absurd (six (sym is ∙ e));
@@ -63,13 +66,14 @@ stops-input status plain s end is (six, seven, twelve) same line = record {
     none (inr (inr e)) = twelve (sym is ∙ e)
 
 -- a run that ends within a line for want of memory
-pub stops-memory : (s end : Seen) → Continues s.guard end.guard → IsLater s end → (line : List ℕ) → IsStop (λ e. e ≡ end) 8 line s
-stops-memory s end continues later line = record {
+pub stops-memory : (s end : Seen) (line : List ℕ) → Continues s.guard end.guard → IsLater s end → IsBegun s line end → IsStop (λ e. e ≡ end) 8 line s
+stops-memory s end line continues later begun = record {
   end = end;
   ends = refl;
   continues = continues;
   later = later;
   ended = λ one. absurd (input one);
+  begun = λ eight. begun;
   still = λ boot. absurd (none boot);
   restart = λ boot. absurd (none boot);
   failed = λ e. absurd (omega (arith, e));
@@ -113,6 +117,12 @@ full-then status Disk s end is cause twelve = absurd (omega (arith, is, twelve))
 full-then status Full s end is cause twelve = cause
 full-then status BootMemory s end is cause twelve = absurd (omega (arith, is, twelve))
 
+pub wants-then : (status : ℕ) (why : BootFault) (s end : Seen) → status ≡ boot_status why → RestartCause s why end → status ≡ 8 → Becomes s s.guard end
+wants-then status (NotJournal at) s end is cause eight = absurd (omega (arith, is, eight))
+wants-then status Disk s end is cause eight = absurd (omega (arith, is, eight))
+wants-then status Full s end is cause eight = absurd (omega (arith, is, eight))
+wants-then status BootMemory s end is cause eight = cause
+
 -- a run that ends at a restart
 pub stops-restart : (status : ℕ) (why : BootFault) (line : List ℕ) (s end : Seen) → status ≡ boot_status why → Continues s.guard end.guard → IsLater s end
     → (line ≡ codes "restart") × RestartFails s why end → IsStop (λ e. e ≡ end) status line s
@@ -122,6 +132,7 @@ stops-restart status why line s end is continues later fails = record {
   continues = continues;
   later = later;
   ended = λ one. absurd (input why (rw is at one));
+  begun = λ eight. begun-restart s end line fails.0 (wants-then status why s end is fails.1.cause eight);
   still = λ boot. fails.1.still;
   restart = λ boot. fails.0;
   failed = failed-then status why s end is fails.1.cause;
@@ -161,6 +172,7 @@ stops-at E E' more status line s stop = record {
   continues = stop.continues;
   later = stop.later;
   ended = stop.ended;
+  begun = stop.begun;
   still = stop.still;
   restart = stop.restart;
   failed = stop.failed;

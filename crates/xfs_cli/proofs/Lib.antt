@@ -1,4 +1,5 @@
 pub mod AnswerLaws
+pub mod BegunLaws
 pub mod CompleteLaws
 pub mod CompleteOrders
 pub mod CompleteStacks

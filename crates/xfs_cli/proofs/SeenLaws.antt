@@ -236,7 +236,7 @@ stacks-err issue zero counts u all deny s middle some carried = absurd (some ref
 stacks-err issue (suc n) counts u all deny s middle some carried = record { one = Err deny; middle = middle; carried = carried; onward = (refl, refl) }
 
 -- a count that isn't 0 is one of the counts
-some-within : (counts : List ℕ) (u : ℕ) → slice_index counts u ≢ 0 → u < length counts
+pub some-within : (counts : List ℕ) (u : ℕ) → slice_index counts u ≢ 0 → u < length counts
 some-within counts u some = elim (cases_lt u (length counts)) [
   | inl within ↦ within
   | inr past ↦ absurd (some (get_or_past counts u 0 past))
@@ -342,21 +342,22 @@ restart-still faults old new last BootMemory later memory full disk none = still
 pub restart-fails : {D T : Type 0} (faults : D → ℕ) (old new : GuardView D) (last : Option (List ℕ)) (result : Result T AnswerFault) (why : BootFault)
     → IsErrAnd result (λ e. e ≡ Unbooted why) → IsStill new.state.motions new.state.places new.state.faults (faults new.disk) (seen faults old last)
     → ((at : ℕ) → why ≡ NotJournal at → old.state.disk_told ≡ false) → (IsFault why BootDisk → Rose (faults old.disk) (faults new.disk)) → (IsFault why BootFull → FindsFull old.state new.state)
+    → faults old.disk ≤ faults new.disk → (IsFault why BootMemory → new.state ≡ old.state)
     → (fault : BootFault) → result ≡ Err (Unbooted fault) → RestartFails (seen faults old last) fault (seen faults new last)
-restart-fails faults old new last (Ok x) why err still untold cause full fault is = absurd err
-restart-fails faults old new last (Err e) why err still untold cause full fault is =
+restart-fails faults old new last (Ok x) why err still untold cause full later memory fault is = absurd err
+restart-fails faults old new last (Err e) why err still untold cause full later memory fault is =
     let same : why ≡ fault = unbooted-same (sym err ∙ err-fault is) in
-    subst (λ f. RestartFails (seen faults old last) f (seen faults new last)) same (record { still = still; cause = by-fault why untold cause full })
+    subst (λ f. RestartFails (seen faults old last) f (seen faults new last)) same (record { still = still; cause = by-fault why untold cause full memory })
   where
-    by-fault : (why : BootFault) → ((at : ℕ) → why ≡ NotJournal at → old.state.disk_told ≡ false) → (IsFault why BootDisk → Rose (faults old.disk) (faults new.disk)) → (IsFault why BootFull → FindsFull old.state new.state)
+    by-fault : (why : BootFault) → ((at : ℕ) → why ≡ NotJournal at → old.state.disk_told ≡ false) → (IsFault why BootDisk → Rose (faults old.disk) (faults new.disk)) → (IsFault why BootFull → FindsFull old.state new.state) → (IsFault why BootMemory → new.state ≡ old.state)
         → RestartCause (seen faults old last) why (seen faults new last)
-    by-fault (NotJournal at) untold cause full = untold at refl
-    by-fault BootDisk untold cause full = cause refl
-    by-fault BootFull untold cause full =
+    by-fault (NotJournal at) untold cause full memory = untold at refl
+    by-fault BootDisk untold cause full memory = cause refl
+    by-fault BootFull untold cause full memory =
         let f = full refl in
         let none : IsFull new.state = rw f.3 (record { clear = refl; passes_limit = f.2 }) in
         (record { records = f.0; possible = f.1; passes_limit = f.2 }, none)
-    by-fault BootMemory untold cause full = tt
+    by-fault BootMemory untold cause full memory = record { guard_is = memory refl; later = later; last_is = refl }
 
 -- the line of a restart, with the fault that is told
 pub restart-line : {D : Type 0} (faults : D → ℕ) (old new : GuardView D) (last last' : Option (List ℕ)) (verb : GuardLine) (text : List ℕ) (why fault : BootFault) → verb ≡ Restart → IsGuardLine text verb

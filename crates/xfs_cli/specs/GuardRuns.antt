@@ -15,11 +15,12 @@ use Rattle.xfs_guard.specs.View.{View}
 use Rattle.xfs_guard.specs.declared.machine_core.Core.{Core}
 use Rattle.xfs_guard.specs.declared.fail.BootFault.{BootFault}
 use Rattle.xfs_guard.specs.declared.open.Open.TheVariants.{No}
+use Rattle.xfs_cli.specs.Begun.{IsBegun}
 use Rattle.xfs_cli.specs.Boots.{BootPasses, WritesBoot, boot_status}
 use Rattle.xfs_cli.specs.RestartAnswers.{HasNoRoom}
 use Rattle.xfs_cli.specs.Seen.{Seen, IsLater, IsStill}
 use Rattle.xfs_cli.specs.Statuses.{IsOneOf}
-use Rattle.xfs_cli.specs.declared.status.TheConstants.{DISK_FAULT, INPUT_TOO_LONG, JOURNAL_FULL, NOT_A_JOURNAL, NOT_A_LINE, READ_FAULT}
+use Rattle.xfs_cli.specs.declared.status.TheConstants.{DISK_FAULT, INPUT_TOO_LONG, JOURNAL_FULL, NOT_A_JOURNAL, NOT_A_LINE, NO_MEMORY, READ_FAULT}
 
 -- what a command finds at its entry: the key, the seed, the table of the units, the journal's limits, what the mechanism tells, the disk's bytes where it tells them, and how often the disk failed
 pub record AtEntry : Type 0 where
@@ -97,11 +98,12 @@ IsOfBoot status = (status ≡ DISK_FAULT) ⊎ ((status ≡ NOT_A_JOURNAL) ⊎ (s
 pub record IsStop (Ends : Seen → Type 0) (status : ℕ) (line : List ℕ) (last : Seen) : Type 0 where
   pub end : Seen
   pub ends : Ends end
-  -- want of memory may come behind some of a line's motions and records
   pub continues : Continues last.guard end.guard
   pub later : IsLater last end
   -- where the input ended the run, nothing came behind the last state
   pub ended : IsOneOf (READ_FAULT ∷ NOT_A_LINE ∷ INPUT_TOO_LONG ∷ []) status → last ≡ end
+  -- want of memory may come behind a part of the line, or before its answer is written
+  pub begun : status ≡ NO_MEMORY → IsBegun last line end
   -- a refused restart moves nothing
   pub still : IsOfBoot status → IsStill end.guard.motions end.guard.places end.guard.faults end.disk_faults last
   pub restart : IsOfBoot status → line ≡ codes "restart"

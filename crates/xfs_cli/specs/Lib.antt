@@ -1,4 +1,5 @@
 pub mod Answers
+pub mod Begun
 pub mod BootLines
 pub mod Boots
 pub mod Complete

@@ -1,5 +1,5 @@
 -- The line `restart`: the journal is read again and gets a Boot; or the run ends as a refused boot does.
-use Rattle.std.specs.Prelude.{◌≡◌, ℕ, false, List, [], ◌∷◌, ◌++◌, codes, None, ⊤}
+use Rattle.std.specs.Prelude.{◌≡◌, ℕ, false, List, [], ◌∷◌, ◌++◌, codes, None}
 use Rattle.xfs_base.specs.Causes.{Rose}
 use Rattle.xfs_journal.specs.JournalView.{IsPossible, passes}
 use Rattle.xfs_journal.specs.declared.record.Rec.{Rec}
@@ -29,12 +29,12 @@ pub record IsFull (v : View) : Type 0 where
   pub clear : v.in_doubt ≡ None
   pub passes_limit : BootPasses v.limits v.places v.records
 
--- why a restart ends the run: the disk's bytes are no journal, which is never so where it tells them; the disk fails; its Boot has no room, and none behind the list that was read; or memory runs out
+-- why a restart ends the run: the disk's bytes are no journal, which is never so where it tells them; the disk fails; its Boot has no room, and none behind the list that was read; or memory runs out, and the guard is as it was
 abbrev pub RestartCause : Seen → BootFault → Seen → Type 0
 RestartCause s (NotJournal at) next = s.guard.disk_told ≡ false
 RestartCause s Disk next = Rose s.disk_faults next.disk_faults
 RestartCause s Full next = HasNoRoom s.guard × IsFull next.guard
-RestartCause s Memory next = ⊤
+RestartCause s Memory next = Becomes s s.guard next
 
 -- a restart that ends the run has a cause, and moves nothing
 pub record RestartFails (s : Seen) (fault : BootFault) (next : Seen) : Type 0 where

@@ -6,6 +6,7 @@ ghost use Rattle.xfs_guard.specs.declared.open.Open.TheVariants.{No};
 ghost use Rattle.xfs_guard.specs.Continues.{Continues};
 ghost use Rattle.xfs_guard.specs.Crashed.{LeavesBehind};
 ghost use Rattle.xfs_cli.specs.Answers.{SaysAnswer, SaysFront};
+ghost use Rattle.xfs_cli.specs.Begun.{IsBegun};
 ghost use Rattle.xfs_cli.specs.GuardLines.{IsLine};
 ghost use Rattle.xfs_cli.specs.RestartAnswers.{RestartFails};
 ghost use Rattle.xfs_guard.specs.declared.fail.BootFault.{BootFault};
@@ -40,6 +41,7 @@ impl<M: Mechanism, D: Disk> Session<M, D> {
         requires short { length line.now.text ≤ 70000 }
         ensures more { result ≡ Turn.More → SaysAnswer AnswersGuard (seen D.faults self.old.guard self.old.last) line.now.text (seen D.faults self.new.guard self.new.last) (K.held sink.old) (K.held sink.new) }
         ensures write { result ≡ Turn.Write → SaysFront AnswersGuard (seen D.faults self.old.guard self.old.last) line.now.text (seen D.faults self.new.guard self.new.last) (K.held sink.old) (K.held sink.new) }
+        ensures memory { result ≡ Turn.Memory → IsBegun (seen D.faults self.old.guard self.old.last) line.now.text (seen D.faults self.new.guard self.new.last) }
         ensures line { result ≢ Turn.NotALine → result ≢ Turn.Memory → IsLine line.now.text }
         ensures no_line { result ≡ Turn.NotALine → ¬ (IsLine line.now.text) }
         ensures still { result ≡ Turn.NotALine → seen D.faults self.new.guard self.new.last ≡ seen D.faults self.old.guard self.old.last }

@@ -1,6 +1,6 @@
 //! What the guard answers to a verb.
 
-ghost use Rattle.std.specs.Prelude.{◌≡◌, ◌≢◌, ◌≤◌, Err, IfOk, IfErr, IsTrue, Some, None, drop, length};
+ghost use Rattle.std.specs.Prelude.{◌≡◌, ◌≢◌, ◌≤◌, ◌⊎◌, Err, OnErr, IfOk, IfErr, IsTrue, Some, None, drop, length};
 ghost use Rattle.std.specs.Option.{option_map, option_or};
 ghost use Rattle.xfs_guard.specs.declared.open.Open.TheVariants.{No};
 ghost use Rattle.xfs_guard.specs.Continues.{Continues};
@@ -12,6 +12,7 @@ ghost use Rattle.xfs_guard.specs.Refusals.{Answers, IsAsk, order_refusal};
 ghost use Rattle.xfs_guard.specs.declared.deny.Deny.TheVariants.{Memory as NoMemory};
 ghost use Rattle.xfs_mix.specs.Asked.{is_none};
 ghost use Rattle.xfs_cli.specs.Answers.{lines_in};
+ghost use Rattle.xfs_cli.specs.Begun.{AllOrNothing, IsPartDispensed, IsPartFilled, LeavesOfVerb, StacksFirst};
 ghost use Rattle.xfs_cli.specs.GuardAnswers.{show_text};
 ghost use Rattle.xfs_cli.specs.Seen.{IsLater, seen};
 ghost use Rattle.xfs_cli.specs.OrderAnswers.{Carries, Moves, Stacks, nothing_stacked};
@@ -78,6 +79,7 @@ impl<M: Mechanism, D: Disk> Session<M, D> {
         requires none { self.old.guard.state.open_order ≡ No }
         requires key { self.old.key ≡ self.old.guard.state.key }
         ensures answer { IfOk result (λ a. AreAnswer (seen D.faults self.old.guard self.old.last) verb.now (lines_in (option_map (λ v. v.items) a)) (seen D.faults self.new.guard self.new.last)) }
+        ensures memory { result ≡ Err AnswerFault.Memory → LeavesOfVerb (seen D.faults self.old.guard self.old.last) verb.now (seen D.faults self.new.guard self.new.last) }
         ensures unbooted { (fault : BootFault) → result ≡ Err (AnswerFault.Unbooted fault) → (verb.now ≡ Restart) × RestartFails (seen D.faults self.old.guard self.old.last) fault (seen D.faults self.new.guard self.new.last) }
         ensures later { IsLater (seen D.faults self.old.guard self.old.last) (seen D.faults self.new.guard self.new.last) }
         ensures continues { Continues self.old.guard.state self.new.guard.state }
@@ -104,6 +106,7 @@ impl<M: Mechanism, D: Disk> Session<M, D> {
     fn issue(&mut self) -> Result<Vec<u8>, Memory>
         requires { self.old.guard.state.open_order ≡ No }
         ensures answer { IfOk result (λ text. Issues (seen D.faults self.old.guard self.old.last) text.items (seen D.faults self.new.guard self.new.last)) }
+        ensures memory { OnErr result (AllOrNothing (Issues (seen D.faults self.old.guard self.old.last)) (seen D.faults self.old.guard self.old.last) (seen D.faults self.new.guard self.new.last)) }
         ensures later { IsLater (seen D.faults self.old.guard self.old.last) (seen D.faults self.new.guard self.new.last) }
         ensures continues { Continues self.old.guard.state self.new.guard.state }
         ensures crashes { LeavesBehind D.held D.images D.moment D.images_since self.old.guard self.new.guard }
@@ -119,6 +122,7 @@ impl<M: Mechanism, D: Disk> Session<M, D> {
     fn clear(&mut self) -> Result<Vec<u8>, Memory>
         requires { self.old.guard.state.open_order ≡ No }
         ensures answer { IfOk result (λ text. Clears (live_nonce self.old.guard.state.records) (seen D.faults self.old.guard self.old.last) text.items (seen D.faults self.new.guard self.new.last)) }
+        ensures memory { OnErr result (AllOrNothing (Clears (live_nonce self.old.guard.state.records) (seen D.faults self.old.guard self.old.last)) (seen D.faults self.old.guard self.old.last) (seen D.faults self.new.guard self.new.last)) }
         ensures later { IsLater (seen D.faults self.old.guard self.old.last) (seen D.faults self.new.guard self.new.last) }
         ensures continues { Continues self.old.guard.state self.new.guard.state }
         ensures crashes { LeavesBehind D.held D.images D.moment D.images_since self.old.guard self.new.guard }
@@ -136,6 +140,7 @@ impl<M: Mechanism, D: Disk> Session<M, D> {
     fn mint(&mut self, amounts: &Amounts) -> Result<Vec<u8>, Memory>
         requires key { self.old.key ≡ self.old.guard.state.key }
         ensures answer { IfOk result (λ text. Mints (live_in self.old.guard.state.boot_missing self.old.guard.state.records) (seen D.faults self.old.guard self.old.last) amounts.now text.items (seen D.faults self.new.guard self.new.last)) }
+        ensures memory { OnErr result (AllOrNothing (Mints (live_in self.old.guard.state.boot_missing self.old.guard.state.records) (seen D.faults self.old.guard self.old.last) amounts.now) (seen D.faults self.old.guard self.old.last) (seen D.faults self.new.guard self.new.last)) }
         ensures same { self.new.guard ≡ self.old.guard }
         ensures key { self.new.key ≡ self.old.key }
     {
@@ -156,6 +161,7 @@ impl<M: Mechanism, D: Disk> Session<M, D> {
     fn take(&mut self) -> Result<Vec<u8>, Memory>
         requires { self.old.guard.state.open_order ≡ No }
         ensures answer { IfOk result (λ text. Takes (seen D.faults self.old.guard self.old.last) text.items (seen D.faults self.new.guard self.new.last)) }
+        ensures memory { OnErr result (AllOrNothing (Takes (seen D.faults self.old.guard self.old.last)) (seen D.faults self.old.guard self.old.last) (seen D.faults self.new.guard self.new.last)) }
         ensures later { IsLater (seen D.faults self.old.guard self.old.last) (seen D.faults self.new.guard self.new.last) }
         ensures continues { Continues self.old.guard.state self.new.guard.state }
         ensures crashes { LeavesBehind D.held D.images D.moment D.images_since self.old.guard self.new.guard }
@@ -172,6 +178,7 @@ impl<M: Mechanism, D: Disk> Session<M, D> {
     fn fill(&mut self, unit: u8, count: u32) -> Result<Vec<u8>, Memory>
         requires { self.old.guard.state.open_order ≡ No }
         ensures answer { IfOk result (λ text. Fills (seen D.faults self.old.guard self.old.last) unit count text.items (seen D.faults self.new.guard self.new.last)) }
+        ensures memory { OnErr result (AllOrNothing (Fills (seen D.faults self.old.guard self.old.last) unit count) (seen D.faults self.old.guard self.old.last) (seen D.faults self.new.guard self.new.last) ⊎ IsPartFilled (seen D.faults self.old.guard self.old.last) unit count (seen D.faults self.new.guard self.new.last)) }
         ensures later { IsLater (seen D.faults self.old.guard self.old.last) (seen D.faults self.new.guard self.new.last) }
         ensures continues { Continues self.old.guard.state self.new.guard.state }
         ensures crashes { LeavesBehind D.held D.images D.moment D.images_since self.old.guard self.new.guard }
@@ -196,6 +203,7 @@ impl<M: Mechanism, D: Disk> Session<M, D> {
         requires fits { CanLoad self.old.guard.state.units self.old.guard.state.places unit count }
         requires fit { unfit self.old.guard.state ≡ None }
         ensures answer { IfOk result (λ text. IsLoaded (seen D.faults self.old.guard self.old.last) unit count text.items (seen D.faults self.new.guard self.new.last)) }
+        ensures memory { OnErr result (AllOrNothing (IsLoaded (seen D.faults self.old.guard self.old.last) unit count) (seen D.faults self.old.guard self.old.last) (seen D.faults self.new.guard self.new.last) ⊎ IsPartFilled (seen D.faults self.old.guard self.old.last) unit count (seen D.faults self.new.guard self.new.last)) }
         ensures later { IsLater (seen D.faults self.old.guard self.old.last) (seen D.faults self.new.guard self.new.last) }
         ensures continues { Continues self.old.guard.state self.new.guard.state }
         ensures crashes { LeavesBehind D.held D.images D.moment D.images_since self.old.guard self.new.guard }
@@ -216,6 +224,7 @@ impl<M: Mechanism, D: Disk> Session<M, D> {
     fn restart(&mut self) -> Result<Vec<u8>, AnswerFault>
         requires { self.old.guard.state.open_order ≡ No }
         ensures answer { IfOk result (λ text. Restarts (seen D.faults self.old.guard self.old.last) text.items (seen D.faults self.new.guard self.new.last)) }
+        ensures memory { result ≡ Err AnswerFault.Memory → AllOrNothing (Restarts (seen D.faults self.old.guard self.old.last)) (seen D.faults self.old.guard self.old.last) (seen D.faults self.new.guard self.new.last) }
         ensures unbooted { (fault : BootFault) → result ≡ Err (AnswerFault.Unbooted fault) → RestartFails (seen D.faults self.old.guard self.old.last) fault (seen D.faults self.new.guard self.new.last) }
         ensures later { IsLater (seen D.faults self.old.guard self.old.last) (seen D.faults self.new.guard self.new.last) }
         ensures continues { Continues self.old.guard.state self.new.guard.state }
@@ -239,6 +248,7 @@ impl<M: Mechanism, D: Disk> Session<M, D> {
         requires none { self.old.guard.state.open_order ≡ No }
         requires asked { IsAsk self.old.guard.state ask }
         ensures answer { IfOk result (λ text. Moves (seen D.faults self.old.guard self.old.last) ask text.items (seen D.faults self.new.guard self.new.last)) }
+        ensures memory { OnErr result (AllOrNothing (Moves (seen D.faults self.old.guard self.old.last) ask) (seen D.faults self.old.guard self.old.last) (seen D.faults self.new.guard self.new.last)) }
         ensures later { IsLater (seen D.faults self.old.guard self.old.last) (seen D.faults self.new.guard self.new.last) }
         ensures continues { Continues self.old.guard.state self.new.guard.state }
         ensures crashes { LeavesBehind D.held D.images D.moment D.images_since self.old.guard self.new.guard }
@@ -254,6 +264,7 @@ impl<M: Mechanism, D: Disk> Session<M, D> {
     fn dispense(&mut self, token: &Given, counts: &Counts) -> Result<Vec<u8>, Memory>
         requires { self.old.guard.state.open_order ≡ No }
         ensures answer { IfOk result (λ text. Dispenses (seen D.faults self.old.guard self.old.last) (named self.old.last token.now) counts.now text.items (seen D.faults self.new.guard self.new.last)) }
+        ensures memory { OnErr result (AllOrNothing (Dispenses (seen D.faults self.old.guard self.old.last) (named self.old.last token.now) counts.now) (seen D.faults self.old.guard self.old.last) (seen D.faults self.new.guard self.new.last) ⊎ IsPartDispensed (seen D.faults self.old.guard self.old.last) (named self.old.last token.now) counts.now (seen D.faults self.new.guard self.new.last)) }
         ensures later { IsLater (seen D.faults self.old.guard self.old.last) (seen D.faults self.new.guard self.new.last) }
         ensures continues { Continues self.old.guard.state self.new.guard.state }
         ensures crashes { LeavesBehind D.held D.images D.moment D.images_since self.old.guard self.new.guard }
@@ -279,7 +290,8 @@ impl<M: Mechanism, D: Disk> Session<M, D> {
         ensures continues { Continues self.old.guard.state self.new.guard.state }
         ensures crashes { LeavesBehind D.held D.images D.moment D.images_since self.old.guard self.new.guard }
         ensures none { self.new.guard.state.open_order ≡ No }
-        ensures same { IfErr result (λ r. r ≢ Denied Deny.Disk → self.new.guard.state ≡ self.old.guard.state) }
+        ensures same { IfErr result (λ r. r ≢ Denied Deny.Disk → self.new.guard ≡ self.old.guard) }
+        ensures last { self.new.last ≡ self.old.last }
         ensures key { self.new.key ≡ self.old.key }
     {
         if let Some(deny) = self.guard.unfit() {
@@ -299,11 +311,12 @@ impl<M: Mechanism, D: Disk> Session<M, D> {
         requires asked { IsAsk self.old.guard.state ask }
         ensures carried { result ≢ Err NoMemory → Carries (seen D.faults self.old.guard self.old.last) ask result (seen D.faults self.new.guard self.new.last) }
         ensures refused { Answers result (option_or (unfit self.old.guard.state) (order_refusal self.old.guard.state ask)) }
-        ensures same { IfErr result (λ e. e ≢ Deny.Disk → self.new.guard.state ≡ self.old.guard.state) }
+        ensures same { IfErr result (λ e. e ≢ Deny.Disk → self.new.guard ≡ self.old.guard) }
         ensures later { IsLater (seen D.faults self.old.guard self.old.last) (seen D.faults self.new.guard self.new.last) }
         ensures continues { Continues self.old.guard.state self.new.guard.state }
         ensures crashes { LeavesBehind D.held D.images D.moment D.images_since self.old.guard self.new.guard }
         ensures none { self.new.guard.state.open_order ≡ No }
+        ensures last { self.new.last ≡ self.old.last }
         ensures key { self.new.key ≡ self.old.key }
     {
         self.guard.order(ask)?;
@@ -317,6 +330,7 @@ impl<M: Mechanism, D: Disk> Session<M, D> {
         requires none { self.old.guard.state.open_order ≡ No }
         requires few { IsTrue (is_none (drop (length self.old.guard.state.units) counts.now.0)) }
         ensures stacked { result ≢ Err NoMemory → Stacks issue counts.now.0 0 nothing_stacked (seen D.faults self.old.guard self.old.last) result (seen D.faults self.new.guard self.new.last) }
+        ensures memory { result ≡ Err NoMemory → StacksFirst issue counts.now.0 (seen D.faults self.old.guard self.old.last) (seen D.faults self.new.guard self.new.last) }
         ensures later { IsLater (seen D.faults self.old.guard self.old.last) (seen D.faults self.new.guard self.new.last) }
         ensures continues { Continues self.old.guard.state self.new.guard.state }
         ensures crashes { LeavesBehind D.held D.images D.moment D.images_since self.old.guard self.new.guard }

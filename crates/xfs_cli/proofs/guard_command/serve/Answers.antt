@@ -3,7 +3,7 @@ use Rattle.xfs_guard.proofs.ContinueLaws.{Continues-same, Continues-trans}
 use Rattle.xfs_cli.proofs.LineLaws.{Gives-start, HasRead-start, Gives-trans, read-line, read-end, read-stop, read-fault, read-fewer, read-quota}
 use Rattle.xfs_cli.specs.GuardLines.{IsLine}
 use Rattle.xfs_cli.specs.VerbAnswers.{AnswersGuard}
-use Rattle.xfs_cli.proofs.AnswerLaws.{answered-start, answered-line, answered-all, answered-front, answered-no_line, answered-memory, answered-fault, answered-unbooted}
+use Rattle.xfs_cli.proofs.AnswerLaws.{answered-start, answered-line, answered-all, answered-front, answered-no_line, answered-memory, answered-begun, answered-fault, answered-unbooted}
 use Rattle.xfs_cli.specs.Run.{status_of}
 use Rattle.xfs_cli.specs.Seen.{seen}
 use Rattle.xfs_cli.proofs.GuardRunLaws.{stops-input, stops-memory, stops-restart, failed-then, untold-then, full-then, fault-plain, rose-later}
@@ -40,7 +40,8 @@ returns-in-Write-clause-front g c = λ five.
 
 pub returns-in-Memory-clause-until : goal.returns-in-Memory-clause-until
 returns-in-Memory-clause-until g c = λ not_zero not_five.
-    answered-memory IsLine AnswersGuard _ _ _ _ _ _ _ _ _ _ (stops-memory _ _ c.line.ensures.continues c.line.ensures.faults) c.loop.invariant.answered (ap g.K.Sink.held (c.in-Memory.ensures.same_memory refl))
+    answered-begun IsLine AnswersGuard _ _ _ _ _ _ _ _ _ _ _ c.in-Ok-Some.line (stops-memory _ _ c.in-Ok-Some.line.text c.line.ensures.continues c.line.ensures.faults (c.in-Memory.ensures.memory refl)) c.loop.invariant.answered
+    (rw c.in-Ok-Some.field-0-is at c.in-Ok-Some.ensures.reads) (ap g.K.Sink.held (c.in-Memory.ensures.same_memory refl))
 
 pub returns-in-Err-clause-until : goal.returns-in-Err-clause-until
 returns-in-Err-clause-until g c = λ not_zero not_five.

@@ -1,5 +1,6 @@
 use Rattle.xfs_guard.proofs.ContinueLaws.{Continues-same}
 use Rattle.xfs_cli.proofs.SeenLaws.{fault-through}
+use Rattle.xfs_cli.proofs.BegunLaws.{verb-leaves}
 use Rattle.xfs_cli.proofs.session.Session.answer.Goals as goal
 
 pub returns-in-Skip-clause-continues : goal.returns-in-Skip-clause-continues
@@ -19,3 +20,9 @@ returns-in_ok-show-in-Show-clause-continues g c = rw c.show.ensures.same (Contin
 
 pub returns-in_err-restart-in-Restart-clause-unbooted : goal.returns-in_err-restart-in-Restart-clause-unbooted
 returns-in_err-restart-in-Restart-clause-unbooted g c = λ fault is. (c.in-Restart.is, c.in_err-restart-in-Restart.ensures.unbooted fault (fault-through _ _ _ c.from_residual-in_err-restart-in-Restart.ensures.1 is))
+
+pub returns-in_err-dispense-in-Dispense-clause-memory : goal.returns-in_err-dispense-in-Dispense-clause-memory
+returns-in_err-dispense-in-Dispense-clause-memory g c = λ is. verb-leaves _ _ _ _ c.in-Dispense.is c.in_err-dispense-in-Dispense.ensures.memory
+
+pub returns-in_err-fill-in-Fill-clause-memory : goal.returns-in_err-fill-in-Fill-clause-memory
+returns-in_err-fill-in-Fill-clause-memory g c = λ is. verb-leaves _ _ _ _ c.in-Fill.is c.in_err-fill-in-Fill.ensures.memory

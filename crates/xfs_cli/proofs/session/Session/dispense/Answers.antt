@@ -1,9 +1,15 @@
-use Rattle.std.proofs.Common.{inl}
+use Rattle.std.proofs.Common.{Ok, Err, inl, inr, refl, ap}
+use Rattle.std.specs.Prelude.{codes}
 use Rattle.std.proofs.lemmas.Result.{IfOk-weaker}
 use Rattle.xfs_guard.proofs.ContinueLaws.{Continues-trans}
 use Rattle.xfs_cli.proofs.DispenseLaws.{few-permitted}
-use Rattle.xfs_cli.proofs.SeenLaws.{told-some}
+use Rattle.xfs_cli.proofs.SeenLaws.{err-same, told-some}
 use Rattle.xfs_guard.proofs.BehindLaws.{behind-trans}
+use Rattle.xfs_cli.specs.Seen.{seen}
+use Rattle.xfs_cli.specs.DispenseAnswers.{Dispenses, named}
+use Rattle.xfs_cli.specs.GuardAnswers.{outcome_text}
+use Rattle.xfs_cli.proofs.BegunLaws.{on-err, ordered-or-part, refused-or-nothing, seen-both, not-denied-disk}
+use Rattle.xfs_cli.specs.declared.refused.Refusal.TheVariants.{Deny as Denied}
 use Rattle.xfs_cli.proofs.session.Session.dispense.Goals as goal
 
 pub returns-in-Err-clause-answer : goal.returns-in-Err-clause-answer
@@ -26,3 +32,40 @@ returns-in-Err-stacked-clause-continues g c = Continues-trans _ _ _ c.permitted.
 pub returns-in-Err-stacked-clause-crashes : goal.returns-in-Err-stacked-clause-crashes
 returns-in-Err-stacked-clause-crashes g c =
     behind-trans g.D.Disk.held g.D.Disk.images g.D.Disk.moment g.D.Disk.images_since _ _ _ g.met.D.Disk.counts_now c.permitted.ensures.continues c.stacked.ensures.continues c.permitted.ensures.crashes c.stacked.ensures.crashes
+
+pub returns-in-Err-clause-memory : goal.returns-in-Err-clause-memory
+returns-in-Err-clause-memory g c =
+    let old = (seen g.D.Disk.faults c.args.self.now.guard c.args.self.now.last) in
+    let new = seen g.D.Disk.faults c.permitted.new.self.guard c.permitted.new.self.last in
+    on-err c.refusal_text.result _ (inl (refused-or-nothing (Dispenses old (named c.args.self.now.last c.args.token.now) c.args.counts.now) old new c.in-Err.refusal
+    (λ is. seen-both g.D.Disk.faults c.args.self.now.guard c.permitted.new.self.guard c.args.self.now.last c.permitted.new.self.last (c.in-Err.ensures.same (not-denied-disk c.in-Err.refusal is)) c.permitted.ensures.last)
+    (λ line told. inl (record { refusal = c.in-Err.refusal; forbidden = c.in-Err.ensures.refused (told-some c.in-Err.refusal line told); text = told }))))
+
+pub returns-in-Ok-stacked-clause-memory : goal.returns-in-Ok-stacked-clause-memory
+returns-in-Ok-stacked-clause-memory g c = on-err _ _ (inl (inr (
+  outcome_text (codes "moved") c.in-Ok-stacked.outcome,
+  inr (record {
+    issue = c.in-Ok.permit.issue;
+    bound = seen g.D.Disk.faults c.permitted.new.self.guard c.permitted.new.self.last;
+    permitted = c.in-Ok.ensures.ok;
+    result = Ok c.in-Ok-stacked.outcome;
+    stacked = c.in-Ok-stacked.ensures.stacked (λ e. cc);
+    told = refl;
+  }),
+)))
+
+pub returns-in-Err-stacked-clause-answer : goal.returns-in-Err-stacked-clause-answer
+returns-in-Err-stacked-clause-answer g c =
+    IfOk-weaker c.refusal_text-in-Err-stacked.result _ _ (λ text told. inr (record {
+      issue = c.in-Ok.permit.issue;
+      bound = seen g.D.Disk.faults c.permitted.new.self.guard c.permitted.new.self.last;
+      permitted = c.in-Ok.ensures.ok;
+      result = Err c.in-Err-stacked.deny;
+      stacked = c.in-Err-stacked.ensures.stacked (λ e. told-some (Denied c.in-Err-stacked.deny) text.items told (ap (λ d. Denied d) (err-same e)));
+      told = told;
+    })) c.refusal_text-in-Err-stacked.ensures
+
+pub returns-in-Err-stacked-clause-memory : goal.returns-in-Err-stacked-clause-memory
+returns-in-Err-stacked-clause-memory g c =
+    on-err _ _ (ordered-or-part (seen g.D.Disk.faults c.args.self.now.guard c.args.self.now.last) (seen g.D.Disk.faults c.permitted.new.self.guard c.permitted.new.self.last) (seen g.D.Disk.faults c.stacked.new.self.guard c.stacked.new.self.last) (named c.args.self.now.last c.args.token.now) c.args.counts.now c.in-Ok.permit.issue c.in-Err-stacked.deny
+    c.in-Ok.ensures.ok c.in-Err-stacked.ensures.memory c.in-Err-stacked.ensures.stacked)

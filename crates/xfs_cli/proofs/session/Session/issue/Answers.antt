@@ -1,6 +1,11 @@
 use Rattle.std.proofs.lemmas.Result.{IfOk-weaker}
 use Rattle.xfs_guard.specs.declared.nonce.Nonce.{Nonce}
 use Rattle.xfs_cli.proofs.SeenLaws.{issue-done, wrote-err, later-err}
+use Rattle.std.proofs.Common.{◌++◌, inr, refl}
+use Rattle.std.specs.Prelude.{codes}
+use Rattle.xfs_cli.specs.Seen.{seen}
+use Rattle.xfs_cli.specs.VerbAnswers.{Issues}
+use Rattle.xfs_cli.proofs.BegunLaws.{on-err, denied-or-nothing}
 use Rattle.xfs_cli.proofs.session.Session.issue.Goals as goal
 
 pub returns-in-Ok-clause-answer : goal.returns-in-Ok-clause-answer
@@ -16,3 +21,17 @@ returns-in-Err-clause-answer g c =
 pub returns-in-Err-clause-later : goal.returns-in-Err-clause-later
 returns-in-Err-clause-later g c =
     let e = c.in-Err.ensures in later-err Nonce g.D.Disk.faults c.args.self.now.guard c.issue.new.self _ _ _ c.in-Err.deny e.disk e.later e.same
+
+pub returns-in-Ok-clause-memory : goal.returns-in-Ok-clause-memory
+returns-in-Ok-clause-memory g c =
+    let e = c.in-Ok.ensures in
+    on-err c.joined.result _ (inr (
+      codes "nonce " ++ c.in-Ok.nonce.text,
+      issue-done g.D.Disk.faults c.args.self.now.guard c.issue.new.self c.args.self.now.last c.in-Ok.nonce (codes "nonce " ++ c.in-Ok.nonce.text) e.refused e.number e.live e.ok e.later refl,
+    ))
+
+pub returns-in-Err-clause-memory : goal.returns-in-Err-clause-memory
+returns-in-Err-clause-memory g c =
+    let e = c.in-Err.ensures in
+    on-err c.refusal_text.result _ (denied-or-nothing g.D.Disk.faults c.args.self.now.guard c.issue.new.self c.args.self.now.last (Issues (seen g.D.Disk.faults c.args.self.now.guard c.args.self.now.last)) c.in-Err.deny e.same
+    (λ line told. wrote-err Nonce g.D.Disk.faults c.args.self.now.guard c.issue.new.self c.args.self.now.last _ _ _ _ line c.in-Err.deny e.refused e.disk e.later e.cause e.same told))

@@ -5,6 +5,9 @@ use Rattle.xfs_guard.specs.View.{View}
 use Rattle.xfs_cli.specs.Seen.{seen}
 use Rattle.xfs_cli.proofs.SeenLaws.{wrote-kept, wrote-err, later-err, later-trans, none-err}
 use Rattle.xfs_guard.proofs.BehindLaws.{behind-trans}
+use Rattle.std.specs.Prelude.{codes}
+use Rattle.xfs_cli.specs.declared.refused.Refusal.TheVariants.{Deny as Denied}
+use Rattle.xfs_cli.proofs.BegunLaws.{on-err, has-text, denied-same, not-disk, part-filled}
 use Rattle.xfs_cli.proofs.session.Session.load.Goals as goal
 
 pub returns-then-outcome-clause-answer : goal.returns-then-outcome-clause-answer
@@ -77,3 +80,59 @@ returns-in-Err-clause-none g c =
     let w = c.in-Err.ensures in
     let kept = ap (λ (v : View). v.open_order) c.in_ok-outcome.ensures.ok.same in
     none-err (Unit {0}) c.load.new.self c.note_load.new.self _ c.in-Err.deny w.disk w.same (kept ∙ c.requires.none)
+
+pub returns-then-outcome-clause-memory : goal.returns-then-outcome-clause-memory
+returns-then-outcome-clause-memory g c =
+    let e = c.in_ok-outcome.ensures in
+    on-err c.joined.result _ (inl (inr (
+      codes "fault",
+      record {
+        can = c.requires.fits;
+        fit = c.requires.fit;
+        outcome = c.in_ok-outcome.outcome;
+        loaded = seen g.D.Disk.faults c.load.new.self c.args.self.now.last;
+        reported = e.ok;
+        called = record { later = e.later; cause = e.cause; disk_same = ap g.D.Disk.faults e.same; last_is = refl };
+        noted = inl (c.if-outcome.true, refl, refl);
+      },
+    )))
+
+pub returns-in-Ok-clause-memory : goal.returns-in-Ok-clause-memory
+returns-in-Ok-clause-memory g c =
+    let e = c.in_ok-outcome.ensures in
+    let w = c.in-Ok.ensures in
+    let loaded = seen g.D.Disk.faults c.load.new.self c.args.self.now.last in
+    let noted = seen g.D.Disk.faults c.note_load.new.self c.args.self.now.last in
+    on-err c.joined-in-Ok.result _ (inl (inr (
+      codes "filled",
+      record {
+        can = c.requires.fits;
+        fit = c.requires.fit;
+        outcome = c.in_ok-outcome.outcome;
+        loaded = loaded;
+        reported = e.ok;
+        called = record { later = e.later; cause = e.cause; disk_same = ap g.D.Disk.faults e.same; last_is = refl };
+        noted = inr (c.if-outcome.false, wrote-kept loaded noted _ _ _ _ (codes "filled") w.refused w.ok w.later refl refl);
+      },
+    )))
+
+pub returns-in-Err-clause-memory : goal.returns-in-Err-clause-memory
+returns-in-Err-clause-memory g c =
+    let e = c.in_ok-outcome.ensures in
+    let w = c.in-Err.ensures in
+    on-err c.refusal_text.result _ (elim (has-text (Denied c.in-Err.deny)) [
+      | inl is ↦ inr (part-filled g.D.Disk.faults c.args.self.now.guard c.load.new.self c.note_load.new.self c.args.self.now.last _ _ c.in_ok-outcome.outcome c.requires.fits c.requires.fit e.ok
+          (record { later = e.later; cause = e.cause; disk_same = ap g.D.Disk.faults e.same; last_is = refl }) c.if-outcome.false (w.same (not-disk c.in-Err.deny (denied-same is))))
+      | inr text ↦ inl (inr (
+        text.0,
+        record {
+          can = c.requires.fits;
+          fit = c.requires.fit;
+          outcome = c.in_ok-outcome.outcome;
+          loaded = seen g.D.Disk.faults c.load.new.self c.args.self.now.last;
+          reported = e.ok;
+          called = record { later = e.later; cause = e.cause; disk_same = ap g.D.Disk.faults e.same; last_is = refl };
+          noted = inr (c.if-outcome.false, wrote-err (Unit {0}) g.D.Disk.faults c.load.new.self c.note_load.new.self c.args.self.now.last _ _ _ _ text.0 c.in-Err.deny w.refused w.disk w.later w.cause w.same text.1);
+        },
+      ))
+    ])

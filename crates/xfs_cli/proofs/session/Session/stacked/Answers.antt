@@ -1,10 +1,12 @@
-use Rattle.std.proofs.Common.{◌≡◌, Ok, ap, arith, drop, length, refl, ◌∙◌}
+use Rattle.std.proofs.Common.{◌≡◌, Ok, ap, arith, drop, length, refl, sym, subst, ◌∙◌}
 use Rattle.std.specs.Prelude.{IsTrue}
 use Rattle.xfs_mix.specs.Asked.{is_none}
 use Rattle.xfs_guard.proofs.ContinueLaws.{Continues-same, Continues-trans}
 use Rattle.xfs_cli.specs.Seen.{seen}
 use Rattle.xfs_cli.proofs.SeenLaws.{later-same, later-trans, stacks-next, stacks-stop, stacks-none}
 use Rattle.xfs_guard.proofs.BehindLaws.{behind-trans, behind-still}
+use Rattle.xfs_cli.specs.Begun.{StacksFirst}
+use Rattle.xfs_cli.proofs.BegunLaws.{front-unit, front-first, seen-both, deny-memory, not-disk}
 use Rattle.xfs_cli.proofs.session.Session.stacked.Goals as goal
 
 pub loop-place-init : goal.loop-place-init
@@ -15,6 +17,7 @@ loop-place-init g c = record {
   later = later-same _;
   key = refl;
   fine = refl;
+  front = λ more result next h. h;
   onward = λ result last h. h;
 }
 
@@ -45,6 +48,7 @@ loop-place-preserved g c = record {
   later = later-trans _ _ _ c.loop-place.invariant.later c.carried.ensures.later;
   key = c.carried.ensures.key ∙ c.loop-place.invariant.key;
   fine = c.if-all.false;
+  front = front-unit _ _ _ _ _ c.in_ok-outcome.outcome _ _ _ c.from-at.ensures c.if-count-eq0.false (c.in_ok-outcome.ensures.carried (λ e. cc)) c.if-all.false c.loop-place.invariant.front;
   onward = λ result last h. c.loop-place.invariant.onward result last
       (stacks-next _ _ _ _ _ c.in_ok-outcome.outcome _ _ result last c.from-at.ensures c.if-count-eq0.false (c.in_ok-outcome.ensures.carried (λ e. cc)) c.if-all.false h);
 }
@@ -55,3 +59,13 @@ returns-clause-stacked g c = λ some.
     let none : IsTrue (is_none (drop c.loop-place.place c.args.counts.now.0)) = rw end c.requires.few in
     c.loop-place.invariant.onward (Ok c.loop-place.all) _
     (stacks-none c.args.issue (drop c.loop-place.place c.args.counts.now.0) c.loop-place.place c.loop-place.all (seen g.D.Disk.faults c.loop-place.self.guard c.loop-place.self.last) none)
+
+pub returns-in_err-outcome-clause-memory : goal.returns-in_err-outcome-clause-memory
+returns-in_err-outcome-clause-memory g c = λ memory.
+    let is = deny-memory c.from_residual.result c.in_err-outcome.field-0.0 c.from_residual.ensures.1 memory in
+    let start = seen g.D.Disk.faults c.args.self.now.guard c.args.self.now.last in
+    let here = seen g.D.Disk.faults c.loop-place.self.guard c.loop-place.self.last in
+    let end = seen g.D.Disk.faults c.carried.new.self.guard c.carried.new.self.last in
+    let same : end ≡ here = seen-both g.D.Disk.faults c.loop-place.self.guard c.carried.new.self.guard c.loop-place.self.last c.carried.new.self.last (c.in_err-outcome.ensures.same (not-disk c.in_err-outcome.field-0.0 is)) c.carried.ensures.last in
+    subst (λ s. StacksFirst c.args.issue c.args.counts.now.0 start s) (sym same)
+    (front-first c.args.issue c.args.counts.now.0 c.loop-place.place c.loop-place.all start here c.loop-place.invariant.fine c.loop-place.invariant.front)

@@ -1,0 +1,70 @@
+-- What want of memory leaves of a line of `guard`, whose answer is not written then.
+use Rattle.std.specs.Prelude.{◌≡◌, ◌≤◌, ◌⊎◌, ℕ, false, List, length, take, Ok, None}
+use Rattle.std.specs.declared.option.Option.{Option}
+use Rattle.xfs_base.specs.declared.counts.Counts.{Counts as CountsOf}
+use Rattle.xfs_mech.specs.Mechanism.{CanLoad}
+use Rattle.xfs_mech.specs.declared.motion.Motion.TheVariants.{Loaded}
+use Rattle.xfs_mech.specs.declared.motion.Outcome.{Outcome}
+use Rattle.xfs_guard.specs.Fits.{unfit}
+use Rattle.xfs_guard.specs.Reports.{HasReported}
+use Rattle.xfs_script.specs.Guard.{IsGuardLine}
+use Rattle.xfs_script.specs.declared.guard_line.GuardLine.{GuardLine}
+use Rattle.xfs_script.specs.declared.guard_line.GuardLine.TheVariants.{Dispense, Fill, Restart}
+use Rattle.xfs_cli.specs.Seen.{Seen, Becomes}
+use Rattle.xfs_cli.specs.OrderAnswers.{MechCalled, Stacks, nothing_stacked}
+use Rattle.xfs_cli.specs.DispenseAnswers.{IsPermitted, named}
+use Rattle.xfs_cli.specs.VerbAnswers.{AnswersGuard, IsAnswer}
+
+-- nothing was done; or all of it, and the line that answers it was not written
+abbrev pub AllOrNothing : (List ℕ → Seen → Type 0) → Seen → Seen → Type 0
+AllOrNothing Answer s end = (end ≡ s) ⊎ ((line : List ℕ) × Answer line end)
+
+-- the orders of the first units were carried out, and none of them failed
+pub record StacksFirst (issue : ℕ) (counts : List ℕ) (s end : Seen) : Type 0 where
+  pub units : ℕ
+  pub outcome : Outcome
+  pub stacked : Stacks issue (take units counts) 0 nothing_stacked s (Ok outcome) end
+  pub fine : outcome.failed ≡ false
+
+-- a dispense was permitted, and the orders of its first units were carried out
+pub record IsPartDispensed (s : Seen) (token : Option (List ℕ)) (counts : CountsOf) (end : Seen) : Type 0 where
+  pub issue : ℕ
+  pub bound : Seen
+  pub permitted : IsPermitted s token counts issue bound
+  pub first : StacksFirst issue counts.0 bound end
+
+-- the notes of a `fill` were loaded, and nothing was written down of it
+pub record IsPartFilled (s : Seen) (unit count : ℕ) (end : Seen) : Type 0 where
+  pub can : CanLoad s.guard.units s.guard.places unit count
+  pub fit : unfit s.guard ≡ None
+  pub outcome : Outcome
+  pub reported : HasReported s.guard end.guard (Loaded unit count) outcome.moved outcome.diverted outcome.failed
+  pub called : MechCalled s outcome.failed end
+  pub fine : outcome.failed ≡ false
+
+-- a part of a verb was done: of a dispense and of a `fill` as above; of a `restart` the disk was called, and the guard is as it was
+abbrev pub IsPartDone : Seen → GuardLine → Seen → Type 0
+IsPartDone s (Dispense token counts) end = IsPartDispensed s (named s.last token) counts end
+IsPartDone s (Fill unit count) end = IsPartFilled s unit count end
+IsPartDone s Restart end = Becomes s s.guard end
+IsPartDone s other end = ⊥
+
+-- what want of memory leaves of a verb
+abbrev pub LeavesOfVerb : Seen → GuardLine → Seen → Type 0
+LeavesOfVerb s verb end = AllOrNothing (IsAnswer s verb) s end ⊎ IsPartDone s verb end
+
+-- all was done that the line asks for
+pub record IsCarriedOut (s : Seen) (text : List ℕ) (end : Seen) : Type 0 where
+  pub output : List (List ℕ)
+  pub answered : AnswersGuard s text output end
+
+-- a part was done
+pub record IsBrokenOff (s : Seen) (text : List ℕ) (end : Seen) : Type 0 where
+  pub verb : GuardLine
+  pub reads : IsGuardLine text verb
+  pub short : length text ≤ 70000
+  pub part : IsPartDone s verb end
+
+-- what want of memory leaves of a line: nothing of it was done, or all of it, or a part
+abbrev pub IsBegun : Seen → List ℕ → Seen → Type 0
+IsBegun s text end = (end ≡ s) ⊎ (IsCarriedOut s text end ⊎ IsBrokenOff s text end)
