@@ -1,4 +1,4 @@
-use Rattle.std.proofs.Common.{◌≤◌, length, arith}
+use Rattle.std.proofs.Common.{arith}
 use Rattle.xfs_guard.proofs.ClaimLaws.{spelled-long}
 use Rattle.xfs_guard.proofs.guard.Guard.check.Goals as goal
 
