@@ -9,9 +9,13 @@ abbrev pub IfTold : {T : Type 0} → Option T → (T → Type 0) → Type 0
 IfTold None P = ⊤
 IfTold (Some held) P = P held
 
+-- a count of 64 bits after one more, which stands still at its last value
+abbrev pub next_count : ℕ → ℕ
+next_count count = min (count + 1) (2 ^ 64 - 1)
+
 -- a count of 64 bits rose, or stands at its last value
 abbrev pub Rose : ℕ → ℕ → Type 0
-Rose before now = min (before + 1) (2 ^ 64 - 1) ≤ now
+Rose before now = next_count before ≤ now
 
 -- the count didn't fall, and rose where the call failed
 pub record HasCause {T E : Type 0} (before now : ℕ) (result : Result T E) : Type 0 where

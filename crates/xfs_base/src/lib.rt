@@ -8,6 +8,7 @@ mod lists;
 mod memory_stream;
 mod moment;
 mod money;
+mod std_clock;
 mod std_stream;
 mod stream;
 
@@ -18,6 +19,7 @@ pub use lists::{Bytes, Numbers};
 pub use memory_stream::{MemSink, MemSource};
 pub use moment::{ClientId, Clock, FixedClock, Moment, Service};
 pub use money::{Milli, NoteKind, UnitTable};
+pub use std_clock::StdClock;
 pub use std_stream::{StdSink, StdSource};
 pub use stream::{Sink, Source, write_all};
 

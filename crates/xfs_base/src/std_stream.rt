@@ -1,3 +1,6 @@
+ghost use Rattle.std.specs.Prelude.{◌≡◌};
+ghost use Rattle.xfs_base.specs.Streams.{reader_faults, writer_faults};
+
 use crate::{Failed, Sink, Source};
 use std::io::{Read, Write};
 
@@ -9,8 +12,10 @@ pub struct StdSource<R: Read + Drop> {
 }
 
 impl<R: Read + Drop> StdSource<R> {
-    /// Over this reader. Its count of faults begins at 0.
-    pub fn new(inner: R) -> Self {
+    /// Over this reader.
+    pub fn new(inner: R) -> Self
+        ensures faults { reader_faults result ≡ 0 }
+    {
         StdSource { inner, faults: 0 }
     }
 }
@@ -39,8 +44,10 @@ pub struct StdSink<W: Write + Drop> {
 }
 
 impl<W: Write + Drop> StdSink<W> {
-    /// Over this writer. Its count of faults begins at 0.
-    pub fn new(inner: W) -> Self {
+    /// Over this writer.
+    pub fn new(inner: W) -> Self
+        ensures faults { writer_faults result ≡ 0 }
+    {
         StdSink { inner, faults: 0 }
     }
 }

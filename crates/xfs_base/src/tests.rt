@@ -1,6 +1,6 @@
 use crate::{
     Bytes, Clock, Counts, Currency, Failed, FixedClock, MemSink, MemSource, Moment, NoteKind,
-    Numbers, Sink, Source, StdSink, StdSource, UnitTable, WriteFault, write_all,
+    Numbers, Sink, Source, StdClock, StdSink, StdSource, UnitTable, WriteFault, write_all,
 };
 use std::process::Abort;
 use std::test::Fail;
@@ -105,4 +105,14 @@ fn lists_go_in_and_come_out(rt: HostRuntime) -> Result<(), Fail> {
     assert_eq!(rt; numbers.list(), [5].as_slice());
     assert_eq!(rt; numbers.into_list().len(), 1);
     Ok(())
+}
+
+#[test]
+fn the_systems_clock_goes_on(rt: HostRuntime) {
+    let clock = StdClock::new(&rt);
+    let begun = clock.now();
+    for _ in 0..3 {
+        clock.pause();
+    }
+    assert!(rt; clock.now() >= Moment(begun.0 + 3));
 }

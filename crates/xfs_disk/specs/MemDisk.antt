@@ -2,6 +2,7 @@
 use Rattle.std.specs.Prelude.{◌≡◌, ℕ, List, length, reverse}
 use Rattle.xfs_disk.specs.declared.memory.MemDisk.{MemDisk}
 use Rattle.xfs_disk.specs.declared.step.Step.{Step}
+use Rattle.xfs_disk.specs.Disk.{Elapses}
 use Rattle.xfs_disk.specs.Steps.{MayLeave, LeftSince}
 
 -- what a read gives
@@ -24,6 +25,10 @@ moment_of m = length m.steps.items
 abbrev pub WasImage : MemDisk → ℕ → List ℕ → Type 0
 WasImage m = LeftSince (bytes_of m) (steps_of m)
 
+-- time goes on from one state of it to a later one
+abbrev pub TimeGoesOn : MemDisk → MemDisk → Type 0
+TimeGoesOn old new = Elapses (moment_of old) (moment_of new) (WasImage old) (WasImage new) (IsImage new)
+
 -- how often a growth was refused
 abbrev pub faults_of : MemDisk → ℕ
 faults_of m = m.faults
@@ -40,3 +45,8 @@ widest_of m = m.widest
 pub record IsUnread (old new : MemDisk) : Type 0 where
   pub reads : reads_of new ≡ reads_of old
   pub widest : widest_of new ≡ widest_of old
+
+-- a call that keeps the bytes and the images
+pub record IsUndone (old new : MemDisk) : Type 0 where
+  pub bytes : bytes_of new ≡ bytes_of old
+  pub steps : steps_of new ≡ steps_of old

@@ -2,6 +2,7 @@
 ghost use Rattle.std.specs.Prelude.{◌≡◌, None, Ok, IfOk};
 ghost use Rattle.std.proofs.lemmas.Option.{none-some};
 ghost use Rattle.xfs_base.specs.Causes.{HasCause};
+ghost use Rattle.xfs_disk.specs.Wrapped.{file_faults};
 
 use crate::Disk;
 use std::fs::File;
@@ -17,8 +18,10 @@ pub struct FileDisk {
 }
 
 impl FileDisk {
-    /// Over this open file, whose bytes are the disk's. Its count of faults begins at 0.
-    pub fn new(file: File) -> FileDisk {
+    /// Over this open file, whose bytes are the disk's.
+    pub fn new(file: File) -> FileDisk
+        ensures faults { file_faults result ≡ 0 }
+    {
         FileDisk { file, faults: 0 }
     }
 

@@ -1,6 +1,6 @@
 //! A disk that stops after so many calls.
+ghost use Rattle.std.specs.Prelude.{◌≡◌, ◌+◌, ◌-◌, ◌<◌, Some, OnOk, OnErr};
 ghost use Rattle.xfs_base.specs.Causes.{HasCause};
-ghost use Rattle.std.specs.Prelude.{◌≡◌, ◌+◌, Some};
 ghost use Rattle.xfs_disk.specs.MemDisk.{bytes_of, steps_of, moment_of, faults_of, IsImage, WasImage};
 ghost use Rattle.xfs_disk.specs.Images.{as_read, counts_now, only_now};
 
@@ -17,11 +17,15 @@ pub struct FuseDisk {
 }
 
 impl FuseDisk {
-    ghost use Rattle.xfs_disk.specs.Wrapped.{fuse_inner};
+    ghost use Rattle.std.specs.Prelude.{◌≡◌};
+    ghost use Rattle.xfs_disk.specs.MemDisk.{faults_of};
+    ghost use Rattle.xfs_disk.specs.Wrapped.{fuse_inner, fuse_left, fuse_faults};
 
     /// Over this disk in memory. So many calls are passed on to it.
     pub fn new(inner: MemDisk, calls: u64) -> FuseDisk
         ensures inner { fuse_inner result ≡ inner }
+        ensures left { fuse_left result ≡ calls }
+        ensures faults { fuse_faults result ≡ faults_of inner }
     {
         FuseDisk {
             inner,
@@ -41,6 +45,9 @@ impl FuseDisk {
 // Passes a call, or fails it where none is left.
 fn spend(left: &mut u64, failed: &mut u64) -> Result<(), Failed>
     ensures cause { HasCause failed.old failed.new result }
+    ensures left { left.new ≡ left.old - 1 }
+    ensures ok { OnOk result ((0 < left.old) × (failed.new ≡ failed.old)) }
+    ensures err { OnErr result (left.old ≡ 0) }
 {
     if *left == 0 {
         *failed = failed.saturating_add(1);
@@ -51,6 +58,13 @@ fn spend(left: &mut u64, failed: &mut u64) -> Result<(), Failed>
 }
 
 impl Disk for FuseDisk {
+    ghost use Rattle.std.specs.Prelude.{◌≡◌, ◌≤◌, length, IfOk, OnOk};
+    ghost use Rattle.std.specs.Io.{ReadsAtMost};
+    ghost use Rattle.xfs_base.specs.Causes.{HasCause};
+    ghost use Rattle.xfs_disk.specs.Disk.{overlaid, resized, Gives, Torn, Cut, Follows, AddsNone, Only};
+    ghost use Rattle.xfs_disk.specs.MemDisk.{bytes_of, IsImage, TimeGoesOn};
+    ghost use Rattle.xfs_disk.specs.Wrapped.{fuse_inner, fuse_faults, FailsWhenSpent};
+
     ghost held = { λ f. Some (bytes_of f.inner) };
 
     ghost images = { λ f. IsImage f.inner };
@@ -67,27 +81,62 @@ impl Disk for FuseDisk {
 
     ghost only_now = { λ f c left. only_now (bytes_of f.inner) f.inner.steps.items c left };
 
-    fn len(&mut self) -> Result<u64, Failed> {
+    fn len(&mut self) -> Result<u64, Failed>
+        ensures value { IfOk result (λ n. n ≡ length (bytes_of (fuse_inner self.old))) }
+        ensures same { bytes_of (fuse_inner self.new) ≡ bytes_of (fuse_inner self.old) }
+        ensures crash { AddsNone (IsImage (fuse_inner self.old)) (IsImage (fuse_inner self.new)) }
+        ensures time { TimeGoesOn (fuse_inner self.old) (fuse_inner self.new) }
+        ensures cause { HasCause (fuse_faults self.old) (fuse_faults self.new) result }
+        ensures fails { FailsWhenSpent self.old self.new result }
+    {
         spend(&mut self.left, &mut self.failed)?;
         self.inner.len()
     }
 
-    fn read(&mut self, at: u64, into: &mut [u8]) -> Result<usize, Failed> {
+    fn read(&mut self, at: u64, into: &mut [u8]) -> Result<usize, Failed>
+        ensures bound { ReadsAtMost result into.new }
+        ensures bytes { IfOk result (λ n. Gives (bytes_of (fuse_inner self.old)) at n into.new) }
+        ensures same { bytes_of (fuse_inner self.new) ≡ bytes_of (fuse_inner self.old) }
+        ensures crash { AddsNone (IsImage (fuse_inner self.old)) (IsImage (fuse_inner self.new)) }
+        ensures time { TimeGoesOn (fuse_inner self.old) (fuse_inner self.new) }
+        ensures cause { HasCause (fuse_faults self.old) (fuse_faults self.new) result }
+        ensures fails { FailsWhenSpent self.old self.new result }
+    {
         spend(&mut self.left, &mut self.failed)?;
         self.inner.read(at, into)
     }
 
-    fn write_at(&mut self, at: u64, bytes: &[u8]) -> Result<(), Failed> {
+    fn write_at(&mut self, at: u64, bytes: &[u8]) -> Result<(), Failed>
+        requires within { at ≤ length (bytes_of (fuse_inner self.old)) }
+        ensures written { OnOk result (bytes_of (fuse_inner self.new) ≡ overlaid (bytes_of (fuse_inner self.old)) at bytes.now) }
+        ensures crash { Follows (Torn at (length bytes.now)) (IsImage (fuse_inner self.old)) (IsImage (fuse_inner self.new)) }
+        ensures time { TimeGoesOn (fuse_inner self.old) (fuse_inner self.new) }
+        ensures cause { HasCause (fuse_faults self.old) (fuse_faults self.new) result }
+        ensures fails { FailsWhenSpent self.old self.new result }
+    {
         spend(&mut self.left, &mut self.failed)?;
         self.inner.write_at(at, bytes)
     }
 
-    fn cut(&mut self, len: u64) -> Result<(), Failed> {
+    fn cut(&mut self, len: u64) -> Result<(), Failed>
+        ensures cut { OnOk result (bytes_of (fuse_inner self.new) ≡ resized (bytes_of (fuse_inner self.old)) len) }
+        ensures crash { Follows (Cut len) (IsImage (fuse_inner self.old)) (IsImage (fuse_inner self.new)) }
+        ensures time { TimeGoesOn (fuse_inner self.old) (fuse_inner self.new) }
+        ensures cause { HasCause (fuse_faults self.old) (fuse_faults self.new) result }
+        ensures fails { FailsWhenSpent self.old self.new result }
+    {
         spend(&mut self.left, &mut self.failed)?;
         self.inner.cut(len)
     }
 
-    fn sync(&mut self) -> Result<(), Failed> {
+    fn sync(&mut self) -> Result<(), Failed>
+        ensures durable { OnOk result (Only (bytes_of (fuse_inner self.old)) (IsImage (fuse_inner self.new))) }
+        ensures same { bytes_of (fuse_inner self.new) ≡ bytes_of (fuse_inner self.old) }
+        ensures crash { AddsNone (IsImage (fuse_inner self.old)) (IsImage (fuse_inner self.new)) }
+        ensures time { TimeGoesOn (fuse_inner self.old) (fuse_inner self.new) }
+        ensures cause { HasCause (fuse_faults self.old) (fuse_faults self.new) result }
+        ensures fails { FailsWhenSpent self.old self.new result }
+    {
         spend(&mut self.left, &mut self.failed)?;
         self.inner.sync()
     }

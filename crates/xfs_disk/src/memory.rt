@@ -27,13 +27,14 @@ pub struct MemDisk {
 impl MemDisk {
     ghost use Rattle.std.specs.Prelude.{◌≡◌, [], IsTrue};
     ghost use Rattle.xfs_disk.specs.Steps.{crashed};
-    ghost use Rattle.xfs_disk.specs.MemDisk.{bytes_of, steps_of, reads_of, widest_of, IsImage};
+    ghost use Rattle.xfs_disk.specs.MemDisk.{bytes_of, steps_of, reads_of, widest_of, faults_of, IsImage};
 
     /// A disk with these bytes, all of them synced.
     pub fn new(alloc: Global, bytes: Vec<u8>) -> MemDisk
         ensures bytes { bytes_of result ≡ bytes.items }
         ensures settled { steps_of result ≡ [] }
         ensures unread { (reads_of result ≡ 0) × (widest_of result ≡ 0) }
+        ensures faults { faults_of result ≡ 0 }
     {
         MemDisk {
             alloc,
@@ -78,11 +79,11 @@ impl MemDisk {
 }
 
 impl Disk for MemDisk {
-    ghost use Rattle.std.specs.Prelude.{◌≡◌, ◌+◌, ◌-◌, ◌^◌, ◌≤◌, min, max, Some, length, IfOk, OnOk};
+    ghost use Rattle.std.specs.Prelude.{◌≡◌, ◌+◌, ◌-◌, ◌^◌, ◌≤◌, min, max, Some, length, IfOk, OnOk, OnErr};
     ghost use Rattle.std.specs.Io.{ReadsAtMost};
     ghost use Rattle.xfs_base.specs.Causes.{HasCause};
-    ghost use Rattle.xfs_disk.specs.Disk.{overlaid, resized, Gives, Torn, Cut, Follows, AddsNone, Only, Elapses};
-    ghost use Rattle.xfs_disk.specs.MemDisk.{bytes_of, moment_of, reads_of, widest_of, faults_of, IsImage, WasImage, IsUnread};
+    ghost use Rattle.xfs_disk.specs.Disk.{overlaid, resized, Gives, Torn, Cut, Follows, AddsNone, Only};
+    ghost use Rattle.xfs_disk.specs.MemDisk.{bytes_of, reads_of, widest_of, faults_of, IsImage, TimeGoesOn, IsUnread, IsUndone};
 
     ghost held = { λ m. Some m.bytes.items };
 
@@ -104,9 +105,10 @@ impl Disk for MemDisk {
         ensures value { IfOk result (λ n. n ≡ length (bytes_of self.old)) }
         ensures same { bytes_of self.new ≡ bytes_of self.old }
         ensures crash { AddsNone (IsImage self.old) (IsImage self.new) }
-        ensures time { Elapses (moment_of self.old) (moment_of self.new) (WasImage self.old) (WasImage self.new) (IsImage self.new) }
+        ensures time { TimeGoesOn self.old self.new }
         ensures cause { HasCause (faults_of self.old) (faults_of self.new) result }
         ensures unread { IsUnread self.old self.new }
+        ensures passed { OnErr result ⊥ }
     {
         Ok(self.bytes.len() as u64)
     }
@@ -116,10 +118,11 @@ impl Disk for MemDisk {
         ensures bytes { IfOk result (λ n. Gives (bytes_of self.old) at n into.new) }
         ensures same { bytes_of self.new ≡ bytes_of self.old }
         ensures crash { AddsNone (IsImage self.old) (IsImage self.new) }
-        ensures time { Elapses (moment_of self.old) (moment_of self.new) (WasImage self.old) (WasImage self.new) (IsImage self.new) }
+        ensures time { TimeGoesOn self.old self.new }
         ensures cause { HasCause (faults_of self.old) (faults_of self.new) result }
         ensures counted { reads_of self.new ≡ min (reads_of self.old + 1) (2 ^ 64 - 1) }
         ensures widest { widest_of self.new ≡ max (widest_of self.old) (length into.old) }
+        ensures passed { OnErr result ⊥ }
     {
         self.reads = self.reads.saturating_add(1);
         self.widest = self.widest.max(into.len() as u64);
@@ -134,9 +137,10 @@ impl Disk for MemDisk {
         requires within { at ≤ length (bytes_of self.old) }
         ensures written { OnOk result (bytes_of self.new ≡ overlaid (bytes_of self.old) at bytes.now) }
         ensures crash { Follows (Torn at (length bytes.now)) (IsImage self.old) (IsImage self.new) }
-        ensures time { Elapses (moment_of self.old) (moment_of self.new) (WasImage self.old) (WasImage self.new) (IsImage self.new) }
+        ensures time { TimeGoesOn self.old self.new }
         ensures cause { HasCause (faults_of self.old) (faults_of self.new) result }
         ensures unread { IsUnread self.old self.new }
+        ensures refused { OnErr result (IsUndone self.old self.new) }
     {
         if overwrite(
             self.alloc,
@@ -155,9 +159,10 @@ impl Disk for MemDisk {
     fn cut(&mut self, len: u64) -> Result<(), Failed>
         ensures cut { OnOk result (bytes_of self.new ≡ resized (bytes_of self.old) len) }
         ensures crash { Follows (Cut len) (IsImage self.old) (IsImage self.new) }
-        ensures time { Elapses (moment_of self.old) (moment_of self.new) (WasImage self.old) (WasImage self.new) (IsImage self.new) }
+        ensures time { TimeGoesOn self.old self.new }
         ensures cause { HasCause (faults_of self.old) (faults_of self.new) result }
         ensures unread { IsUnread self.old self.new }
+        ensures refused { OnErr result (IsUndone self.old self.new) }
     {
         if resize(self.alloc, &mut self.bytes, &mut self.steps, len).is_err() {
             return Err(fault(&mut self.faults));
@@ -169,9 +174,10 @@ impl Disk for MemDisk {
         ensures durable { OnOk result (Only (bytes_of self.old) (IsImage self.new)) }
         ensures same { bytes_of self.new ≡ bytes_of self.old }
         ensures crash { AddsNone (IsImage self.old) (IsImage self.new) }
-        ensures time { Elapses (moment_of self.old) (moment_of self.new) (WasImage self.old) (WasImage self.new) (IsImage self.new) }
+        ensures time { TimeGoesOn self.old self.new }
         ensures cause { HasCause (faults_of self.old) (faults_of self.new) result }
         ensures unread { IsUnread self.old self.new }
+        ensures refused { OnErr result (IsUndone self.old self.new) }
     {
         if note(&mut self.steps).is_err() {
             return Err(fault(&mut self.faults));

@@ -5,8 +5,10 @@ ghost use Rattle.std.specs.Prelude.{◌≡◌};
 ghost use Rattle.xfs_hmac.specs.Hmac.{hmac};
 ghost use Rattle.hex.specs.Hex.{encode_upper};
 
+pub use key::Key;
 pub use pieces::Mac;
 
+mod key;
 mod pieces;
 #[cfg(test)]
 mod tests;

@@ -4,6 +4,7 @@ ghost use Rattle.std.specs.Prelude.{◌≡◌, ◌≤◌, ◌-◌, ℕ, List, []
 ghost use Rattle.xfs_hmac.specs.Hmac.{hmac, block_key, masked, HoldsMac};
 
 use sha2::{Digest, Sha256};
+use std::alloc::AllocError;
 
 /// An HMAC whose message comes in pieces, however they are cut.
 #[derive(Drop)]
@@ -23,6 +24,18 @@ impl Mac {
         let mut outer = Sha256::new();
         outer.update(masked_with(&block, 0x5c));
         Mac { inner, outer }
+    }
+
+    // Another one with the same key and message.
+    pub(crate) fn copy(&self) -> Mac
+        ensures { result ≡ self.now }
+    {
+        let inner: Result<Sha256, AllocError> = self.inner.clone();
+        let outer: Result<Sha256, AllocError> = self.outer.clone();
+        match (inner, outer) {
+            (Ok(inner), Ok(outer)) => Mac { inner, outer },
+            _ => unreachable!(),
+        }
     }
 
     /// Adds a piece to the message.

@@ -1,4 +1,4 @@
-use crate::{Mac, mac, upper};
+use crate::{Key, Mac, mac, upper};
 
 const COUNTED_KEY: [u8; 25] = [
     1, 2, 3, 4, 5, 6, 7, 8, 9, 10, 11, 12, 13, 14, 15, 16, 17, 18, 19, 20, 21, 22, 23, 24, 25,
@@ -51,6 +51,10 @@ fn the_cases_of_rfc_4231_whole_and_in_pieces(rt: HostRuntime) {
     ];
     for (key, message, digits) in cases {
         assert_eq!(rt; upper(&mac(key, message)), *digits);
+        let prepared = Key::new(key);
+        for _ in 0..2 {
+            assert_eq!(rt; upper(&prepared.mac(message)), *digits);
+        }
         for size in [1, 7, 64] {
             assert_eq!(rt;
                 digits_in_pieces(key, message, size),

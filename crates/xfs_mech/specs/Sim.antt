@@ -1,6 +1,7 @@
 -- A mechanism in memory: its list, its places, and the faults that it was made with.
-use Rattle.std.specs.Prelude.{◌≡◌, ℕ, ◌+◌, ◌-◌, ◌^◌, min, List, Bool, is_some, if◌then◌else◌}
+use Rattle.std.specs.Prelude.{◌≡◌, ℕ, List, Bool, is_some, if◌then◌else◌}
 use Rattle.std.specs.declared.option.Option.{Option}
+use Rattle.xfs_base.specs.Causes.{next_count}
 use Rattle.xfs_base.specs.declared.counts.Places.{Places}
 use Rattle.xfs_base.specs.declared.money.NoteKind.{NoteKind}
 use Rattle.xfs_mech.specs.declared.fault.Fault.{Fault}
@@ -33,19 +34,21 @@ calls_of m = m.calls
 abbrev pub failures_of : SimMech → ℕ
 failures_of m = m.failures
 
--- a count of 64 bits after one more, which stands still at its last value
-abbrev pub next : ℕ → ℕ
-next count = min (count + 1) (2 ^ 64 - 1)
-
 -- the fault that the next call meets
 abbrev pub due : SimMech → Option Fault
-due m = fault_at (faults_of m) (next (calls_of m))
+due m = fault_at (faults_of m) (next_count (calls_of m))
 
 -- one more call was made, and it failed exactly where a fault was due
 pub record Counted (old new : SimMech) (failed : Bool) : Type 0 where
   pub met : failed ≡ is_some (due old)
-  pub calls : calls_of new ≡ next (calls_of old)
-  pub failures : failures_of new ≡ (if failed then next (failures_of old) else failures_of old)
+  pub calls : calls_of new ≡ next_count (calls_of old)
+  pub failures : failures_of new ≡ (if failed then next_count (failures_of old) else failures_of old)
+  pub faults : faults_of new ≡ faults_of old
+
+-- nothing was counted
+pub record Uncounted (old new : SimMech) : Type 0 where
+  pub calls : calls_of new ≡ calls_of old
+  pub failures : failures_of new ≡ failures_of old
   pub faults : faults_of new ≡ faults_of old
 
 -- the mechanism that a silent one wraps

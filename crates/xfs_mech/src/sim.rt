@@ -27,7 +27,7 @@ pub struct SimMech {
 impl SimMech {
     ghost use Rattle.std.specs.Prelude.{◌≡◌, ◌≤◌, [], is_some};
     ghost use Rattle.xfs_mech.specs.Mechanism.{PlacesFit};
-    ghost use Rattle.xfs_mech.specs.Sim.{units_of, places_of, motions_of, room_of, faults_of, calls_of, failures_of, due, next, Counted};
+    ghost use Rattle.xfs_mech.specs.Sim.{units_of, places_of, motions_of, room_of, faults_of, calls_of, failures_of, due, Counted};
 
     /// A mechanism that has done nothing yet, with these faults to come.
     pub fn new(alloc: Global, units: UnitTable, places: Places, faults: Vec<Fault>) -> SimMech
@@ -100,7 +100,7 @@ impl SimMech {
 }
 
 impl Mechanism for SimMech {
-    ghost use Rattle.std.specs.Prelude.{◌≡◌, ℕ, ◌+◌, ◌<◌, ◌≤◌, [], ◌∷◌, ◌++◌, Some, true, false, IfSome};
+    ghost use Rattle.std.specs.Prelude.{◌≡◌, ℕ, ◌+◌, ◌<◌, ◌≤◌, [], ◌∷◌, ◌++◌, Some, true, false, IfSome, OnOk, OnErr};
     ghost use Rattle.xfs_base.specs.Causes.{Rose};
     ghost use Rattle.xfs_base.specs.Counts.{LiesIn};
     ghost use Rattle.xfs_mech.specs.declared.motion.Motion.TheVariants.{Moved, Taken, Loaded};
@@ -108,7 +108,7 @@ impl Mechanism for SimMech {
     ghost use Rattle.xfs_mech.specs.Motions.{PlacesOf};
     ghost use Rattle.xfs_mech.specs.Mechanism.{source_of, PlacesFit, Carries, Reports, CanLoad, Loads, Grows};
     ghost use Rattle.xfs_mech.specs.Faults.{StopsAt};
-    ghost use Rattle.xfs_mech.specs.Sim.{units_of, places_of, motions_of, room_of, failures_of, due, Counted};
+    ghost use Rattle.xfs_mech.specs.Sim.{units_of, places_of, motions_of, room_of, failures_of, due, Counted, Uncounted};
 
     ghost motions = { λ m. Some (motions_of m) };
 
@@ -120,7 +120,14 @@ impl Mechanism for SimMech {
 
     ghost faults = { failures_of };
 
-    fn ready(&mut self) -> Result<(), Memory> {
+    fn ready(&mut self) -> Result<(), Memory>
+        ensures room { OnOk result (room_of self.old < room_of self.new) }
+        ensures memory { OnErr result (room_of self.old ≤ room_of self.new) }
+        ensures motions { motions_of self.new ≡ motions_of self.old }
+        ensures places { places_of self.new ≡ places_of self.old }
+        ensures units { units_of self.new ≡ units_of self.old }
+        ensures uncounted { Uncounted self.old self.new }
+    {
         let room = self.room.checked_add(1).ok_or(Memory)?;
         self.motions.reserve(room)?;
         self.room = room;

@@ -34,7 +34,7 @@ impl Watch for SimWatch {
     ghost use Rattle.std.specs.Prelude.{◌≡◌, ◌≤◌, ◌↔◌, Some, Contains};
     ghost use Rattle.xfs_base.specs.Causes.{Rose};
     ghost use Rattle.xfs_mech.specs.declared.touch.News.TheVariants as News;
-    ghost use Rattle.xfs_mech.specs.Sim.{next};
+    ghost use Rattle.xfs_base.specs.Causes.{next_count};
     ghost use Rattle.xfs_mech.specs.SimWatch.{touches_of, failing_of, calls_of, failures_of};
     ghost use Rattle.xfs_mech.specs.Watches.{Tells};
 
@@ -46,8 +46,8 @@ impl Watch for SimWatch {
         ensures handed { Tells (touches_of self.old) result (touches_of self.new) }
         ensures later { failures_of self.old ≤ failures_of self.new }
         ensures cause { result ≡ News.Failed → Rose (failures_of self.old) (failures_of self.new) }
-        ensures failing { (result ≡ News.Failed) ↔ Contains (failing_of self.old) (next (calls_of self.old)) }
-        ensures calls { calls_of self.new ≡ next (calls_of self.old) }
+        ensures failing { (result ≡ News.Failed) ↔ Contains (failing_of self.old) (next_count (calls_of self.old)) }
+        ensures calls { calls_of self.new ≡ next_count (calls_of self.old) }
         ensures same { failing_of self.new ≡ failing_of self.old }
     {
         self.calls = self.calls.saturating_add(1);

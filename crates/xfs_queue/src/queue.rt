@@ -10,6 +10,7 @@ use crate::command::{Command, Ids, Line, OfferFault, Pending, Stage, Ticket};
 use crate::deadlines::{Deadlines, Entry};
 use std::alloc::{AllocError, Global};
 use std::marker::Model;
+use std::mem;
 use xfs_base::{ClientId, Moment, Numbers};
 
 /// The pending commands of a service, in order of arrival. Beside the list it keeps the deadlines of
@@ -41,7 +42,7 @@ impl<J> Queue<J> {
     ghost use Rattle.xfs_base.specs.declared.moment.TheConstants.{LAST_MOMENT};
     ghost use Rattle.xfs_queue.specs.Commands.{ticket_of, pending_of, is_at, is_waiting, is_running, is_ready, waits_on, is_due};
     ghost use Rattle.xfs_queue.specs.Lending.{LendsJob};
-    ghost use Rattle.xfs_queue.specs.Queue.{IsQueue, IsPending, IsWaiting, command_at, offered, offer_fault, with_stage, without, is_named, canceled, without_client, IsEarliest};
+    ghost use Rattle.xfs_queue.specs.Queue.{IsQueue, IsPending, IsWaiting, command_at, offered, offer_fault, with_stage, with_job, without, is_named, canceled, without_client, IsEarliest};
     ghost use Rattle.xfs_queue.specs.declared.command.OfferFault.TheVariants.{Memory};
     ghost use Rattle.xfs_queue.specs.declared.command.Stage.TheVariants.{Waiting, Running, Ready};
     ghost use Rattle.xfs_queue.specs.declared.command.Line.TheVariants.{Device};
@@ -230,6 +231,15 @@ impl<J> Queue<J> {
         let at = place(&self.commands, ticket);
         let command = &mut self.commands[at];
         &mut command.job
+    }
+
+    /// Puts another job at the command, and hands back the one that it had.
+    pub fn set_job(&mut self, ticket: Ticket, job: J) -> J
+        requires { IsPending self.old ticket }
+        ensures had { option_map (λ a. a.job) (command_at self.old ticket) ≡ Some result }
+        ensures has { self.new ≡ with_job self.old ticket job }
+    {
+        mem::replace(self.job(ticket), job)
     }
 
     /// Takes a command out.

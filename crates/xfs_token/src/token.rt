@@ -34,7 +34,7 @@ impl From<AllocError> for BuildFault {
 }
 
 /// A token's parts: its nonce, its pairs of key and value, and its HMAC. Its text is this project's
-/// profile (docs/FORMATS.md) of the end-to-end security token of CWA XFS4IoT.
+/// profile (docs/TOKEN.md) of the end-to-end security token of CWA XFS4IoT.
 #[derive(Drop)]
 pub struct Token {
     nonce: Vec<u8>,
