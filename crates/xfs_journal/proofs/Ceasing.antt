@@ -1,8 +1,8 @@
 -- Bytes that cease to be a journal are the image of no list.
-use Rattle.std.proofs.Common.{◌≡◌, ◌≢◌, inl, inr, ℕ, ◌+◌, ◌<◌, ◌≤◌, List, [], ◌∷◌, ◌++◌, length, take, refl, sym, ◌∙◌, ap, arith, append_assoc, length-append, take_at}
+use Rattle.std.proofs.Common.{◌≡◌, ◌≢◌, inl, inr, ℕ, ◌+◌, ◌<◌, ◌≤◌, List, [], ◌∷◌, ◌++◌, length, take, refl, sym, ◌∙◌, ap, arith, append_assoc, append-nil, length-append, take_at}
 use Rattle.std.specs.List.{AllByRecursion}
 use Rattle.xfs_journal.specs.Image.{IsImage, IsRecord, Stands, blocks, framed, front, magic}
-use Rattle.xfs_journal.specs.Paging.{IsBroken, CeasesAt}
+use Rattle.xfs_journal.specs.Paging.{IsBroken, CeasesAt, MayCease}
 use Rattle.xfs_journal.specs.declared.record.Rec.{Rec}
 use Rattle.xfs_journal.proofs.Unique.{one_block, second_part, head_of, tail_of}
 
@@ -41,3 +41,11 @@ pub short_empty : (c : List ℕ) (J : List Rec) → length c ≤ 9 → Stands c 
 short_empty c [] short stands = refl
 short_empty c (j ∷ J) short (inl image) = absurd (omega (arith, short, image_long c (j ∷ J) image))
 short_empty c (j ∷ J) short (inr (none, le, other)) = none
+
+-- no bytes cease at once
+pub ceases_at_start : MayCease 0
+ceases_at_start = ([], inl ((λ same. absurd (omega (arith, ap length same))), refl))
+
+-- bytes may cease behind any records
+pub ceases_behind : (J : List Rec) → AllByRecursion IsRecord J → MayCease (length (front J))
+ceases_behind J all = (front J, inr (J, [], all, sym (append-nil (front J)), inl refl, refl))

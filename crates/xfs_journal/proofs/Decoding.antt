@@ -12,7 +12,7 @@ use Rattle.xfs_base.specs.declared.counts.Places.{Places}
 use Rattle.xfs_journal.specs.Decode.{numbers, counts_in, kind_in, places_in, record_of}
 use Rattle.xfs_journal.specs.Image.{body, counts_bytes, places_bytes, kind_byte, AreCounts, IsRecord}
 use Rattle.xfs_journal.specs.declared.record.Rec.{Rec}
-use Rattle.xfs_journal.specs.declared.record.Rec.TheVariants.{Issue, Clear, Boot, Bind, Order, Done, Load}
+use Rattle.xfs_journal.specs.declared.record.Rec.TheVariants.{Issue, Clear, Expire, Boot, Bind, Order, Done, Load}
 
 numbers-back : (l rest : List ℕ) → All (λ n. n < 2 ^ 32) l → numbers (length l) (flat_map (to_be_bytes w32) l ++ rest) ≡ l
 numbers-back [] rest all = refl
@@ -82,6 +82,7 @@ places-back p au at ao ak ar aj =
 pub record-back : (r : Rec) → IsRecord r → record_of (body r) ≡ r
 record-back (Issue number word) is = ap₂ (λ n w. Issue n w) (from_be_bytes-to_be_bytes_8 number is.0) (from_be_bytes-to_be_bytes_8 word is.1)
 record-back Clear is = refl
+record-back Expire is = refl
 record-back (Boot p) is = ap (λ q. Boot q) (places-back p is.0 is.1 is.2 is.3 is.4 is.5)
 record-back (Bind token) is = refl
 record-back (Order kind counts) is = ap₂ (λ k c. Order k c) (kind-back kind) (counts-alone counts is)
@@ -112,6 +113,7 @@ places-size p is = omega (
 pub body-short : (r : Rec) → IsRecord r → length (body r) ≤ 1025
 body-short (Issue number word) is = omega arith
 body-short Clear is = omega arith
+body-short Expire is = omega arith
 body-short (Boot p) is = omega (arith, places-size p is)
 body-short (Bind token) is = omega (arith, is.1)
 body-short (Order kind counts) is = omega (arith, counts-size counts is)

@@ -9,7 +9,7 @@ use Rattle.std.proofs.lemmas.Option.{none-some, same_Some, slice_get_within, sli
 use Rattle.xfs_journal.specs.Image.{IsRecord, HasUnit, framed, front, blocks}
 use Rattle.xfs_journal.specs.JournalView.{IsPossible, DiffersAt, longest}
 use Rattle.xfs_journal.specs.declared.record.Rec.{Rec}
-use Rattle.xfs_journal.specs.declared.record.Rec.TheVariants.{Issue, Clear, Boot, Bind, Order, Done, Load}
+use Rattle.xfs_journal.specs.declared.record.Rec.TheVariants.{Issue, Clear, Expire, Boot, Bind, Order, Done, Load}
 use Rattle.xfs_journal.proofs.Appended.{front-push}
 use Rattle.xfs_journal.proofs.JournalLaws.{slice_get-push, slice_get-pushed}
 use Rattle.xfs_journal.proofs.Unique.{one_block}
@@ -17,6 +17,7 @@ use Rattle.xfs_journal.proofs.Unique.{one_block}
 pub has_unit : (r : Rec) → IsRecord r → HasUnit r
 has_unit (Issue number word) is = tt
 has_unit Clear is = tt
+has_unit Expire is = tt
 has_unit (Boot places) is = tt
 has_unit (Bind token) is = tt
 has_unit (Order kind counts) is = tt

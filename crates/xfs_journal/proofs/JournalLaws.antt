@@ -4,10 +4,12 @@ use Rattle.std.specs.Prelude.{slice_get, fold, ◌==◌, ◌≢◌, Bool, true, 
 use Rattle.std.proofs.lemmas.List.{take-append-le, take_all}
 use Rattle.std.proofs.lemmas.List.Sums.{fold_push}
 use Rattle.std.proofs.lemmas.Bool.{eq-eqb, ne_eqb}
-use Rattle.std.proofs.lemmas.Option.{slice_get_within}
+use Rattle.std.proofs.lemmas.Option.{none-some, same_Some, slice_get_within}
+use Rattle.std.specs.Option.{option_map}
+use Rattle.std.specs.declared.option.Option.{Option}
 use Rattle.xfs_journal.specs.declared.record.Rec.{Rec}
-use Rattle.xfs_journal.specs.Journal.{Reading, nothing_read, record_at, reading, reading_after, live_of, live_at, live_after, Finding, found_after, finding_after, is_place, token_of, Walk, Marking, mark_after, marking_after, last_mark, Binding, bound_after, binding_after, bind_of, next_number, next_issue}
-use Rattle.xfs_journal.specs.declared.record.Rec.TheVariants.{Issue, Clear, Boot, Bind, Order, Done, Load}
+use Rattle.xfs_journal.specs.Journal.{Reading, nothing_read, record_at, reading, reading_after, live_of, live_at, live_after, Finding, found_after, finding_after, is_place, Binding, binding_of, token_of, bind_of, Walk, Marking, mark_after, marking_after, last_mark, next_number, next_issue}
+use Rattle.xfs_journal.specs.declared.record.Rec.TheVariants.{Issue, Clear, Expire, Boot, Bind, Order, Done, Load}
 
 pub slice_get-push : {X : Type 0} (xs : List X) (x : X) (i : ℕ) → i < length xs → slice_get (xs ++ x ∷ []) i ≡ slice_get xs i
 slice_get-push [] x i lt = absurd (omega arith)
@@ -76,16 +78,25 @@ finding-read : (p : ℕ) (f : Finding) (J : List Rec) → (fold (finding_after p
 finding-read p f [] = refl
 finding-read p f (r ∷ rs) = finding-read p (finding_after p f r) rs
 
-pub token_of-push : (J : List Rec) (r : Rec) (p : ℕ) → token_of (J ++ r ∷ []) p ≡ found_after p (record { read = record { count = length J; live = live_of J }; token = token_of J p }) r
-token_of-push J r p =
-    let e = finding-read p (record { read = nothing_read; token = None }) J in
-    ap (λ (f : Finding). f.token) (fold_push (finding_after p) (record { read = nothing_read; token = None }) J r)
-    ∙ ap (λ (x : Reading). found_after p (record { read = x; token = token_of J p }) r) e
-    ∙ ap (λ (n : ℕ). found_after p (record { read = record { count = n; live = live_of J }; token = token_of J p }) r) (reading-count J)
+pub binding_of-push : (J : List Rec) (r : Rec) (p : ℕ) → binding_of (J ++ r ∷ []) p ≡ found_after p (record { read = record { count = length J; live = live_of J }; bind = binding_of J p }) r
+binding_of-push J r p =
+    let e = finding-read p (record { read = nothing_read; bind = None }) J in
+    ap (λ (f : Finding). f.bind) (fold_push (finding_after p) (record { read = nothing_read; bind = None }) J r)
+    ∙ ap (λ (x : Reading). found_after p (record { read = x; bind = binding_of J p }) r) e
+    ∙ ap (λ (n : ℕ). found_after p (record { read = record { count = n; live = live_of J }; bind = binding_of J p }) r) (reading-count J)
 
-found-kept : (p : ℕ) (f : Finding) (b : List ℕ) (r : Rec) → f.token ≡ Some b → p ≤ f.read.count → found_after p f r ≡ Some b
+pub token_of-push : (J : List Rec) (r : Rec) (p : ℕ)
+    → token_of (J ++ r ∷ []) p ≡ option_map (λ (b : Binding). b.token) (found_after p (record { read = record { count = length J; live = live_of J }; bind = binding_of J p }) r)
+token_of-push J r p = ap (option_map (λ (b : Binding). b.token)) (binding_of-push J r p)
+
+pub bind_of-push : (J : List Rec) (r : Rec) (p : ℕ)
+    → bind_of (J ++ r ∷ []) p ≡ option_map (λ (b : Binding). b.number) (found_after p (record { read = record { count = length J; live = live_of J }; bind = binding_of J p }) r)
+bind_of-push J r p = ap (option_map (λ (b : Binding). b.number)) (binding_of-push J r p)
+
+found-kept : (p : ℕ) (f : Finding) (b : Binding) (r : Rec) → f.bind ≡ Some b → p ≤ f.read.count → found_after p f r ≡ Some b
 found-kept p f b (Issue n w) e le = rw (eqb-no (f.read.count + 1) p (omega arith)) e
 found-kept p f b Clear e le = e
+found-kept p f b Expire e le = e
 found-kept p f b (Boot q) e le = e
 found-kept p f b (Bind t) e le = rw e (either (is_place p f.read.live))
   where
@@ -97,8 +108,21 @@ found-kept p f b (Done m d) e le = e
 found-kept p f b (Load u c) e le = e
 
 -- once bound, always bound
+pub binding_of-kept : (J : List Rec) (r : Rec) (p : ℕ) (b : Binding) → binding_of J p ≡ Some b → p ≤ length J → binding_of (J ++ r ∷ []) p ≡ Some b
+binding_of-kept J r p b e le = binding_of-push J r p ∙ found-kept p (record { read = record { count = length J; live = live_of J }; bind = binding_of J p }) b r e le
+
+-- a bound token is that of a binding
+pub binding_of-token : (J : List Rec) (p : ℕ) (t : List ℕ) → token_of J p ≡ Some t → (b : Binding) × (binding_of J p ≡ Some b) × (b.token ≡ t)
+binding_of-token J p t e = of (binding_of J p) e
+  where
+    of : (o : Option Binding) → option_map (λ (b : Binding). b.token) o ≡ Some t → (b : Binding) × (o ≡ Some b) × (b.token ≡ t)
+    of None h = absurd (none-some t h)
+    of (Some b) h = (b, refl, same_Some b.token t h)
+
 pub token_of-kept : (J : List Rec) (r : Rec) (p : ℕ) (b : List ℕ) → token_of J p ≡ Some b → p ≤ length J → token_of (J ++ r ∷ []) p ≡ Some b
-token_of-kept J r p b e le = token_of-push J r p ∙ found-kept p (record { read = record { count = length J; live = live_of J }; token = token_of J p }) b r e le
+token_of-kept J r p b e le =
+    let found = binding_of-token J p b e in
+    ap (option_map (λ (x : Binding). x.token)) (binding_of-kept J r p found.0 found.1 le) ∙ ap Some found.2
 
 pub Walk-push : {S : Type 0} (step : S → Rec → S) (Owes : S → Rec → Type 0) (s : S) (xs : List Rec) (r : Rec) → Walk step Owes s xs → Owes (fold step s xs) r → Walk step Owes s (xs ++ r ∷ [])
 Walk-push step Owes s [] r w o = (o, tt)
@@ -112,17 +136,6 @@ pub last_mark-push : (J : List Rec) (r : Rec) → last_mark (J ++ r ∷ []) ≡ 
 last_mark-push J r =
     let e : (fold marking_after (record { count = 0; mark = 0 }) J).count ≡ length J = (let c = marking-count_from (record { count = 0; mark = 0 }) J in omega (arith, c)) in
     ap (λ (m : Marking). m.mark) (fold_push marking_after (record { count = 0; mark = 0 }) J r) ∙ ap (λ (n : ℕ). mark_after n (last_mark J) r) e
-
-binding-read : (p : ℕ) (f : Binding) (J : List Rec) → (fold (binding_after p) f J).read ≡ fold reading_after f.read J
-binding-read p f [] = refl
-binding-read p f (r ∷ rs) = binding-read p (binding_after p f r) rs
-
-pub bind_of-push : (J : List Rec) (r : Rec) (p : ℕ) → bind_of (J ++ r ∷ []) p ≡ bound_after p (record { read = record { count = length J; live = live_of J }; place = bind_of J p }) r
-bind_of-push J r p =
-    let e = binding-read p (record { read = nothing_read; place = None }) J in
-    ap (λ (f : Binding). f.place) (fold_push (binding_after p) (record { read = nothing_read; place = None }) J r)
-    ∙ ap (λ (x : Reading). bound_after p (record { read = x; place = bind_of J p }) r) e
-    ∙ ap (λ (n : ℕ). bound_after p (record { read = record { count = n; live = live_of J }; place = bind_of J p }) r) (reading-count J)
 
 pub next_issue-push : (J : List Rec) (r : Rec) → next_issue (J ++ r ∷ []) ≡ next_number (next_issue J) r
 next_issue-push J r = fold_push next_number 1 J r

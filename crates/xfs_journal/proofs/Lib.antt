@@ -8,6 +8,7 @@ pub mod JournalLaws
 pub mod Emptying
 mod Listing
 pub mod Moments
+pub mod NonceLaws
 mod Opening
 mod Paged
 mod Pieces

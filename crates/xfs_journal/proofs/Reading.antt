@@ -8,7 +8,7 @@ use Rattle.xfs_journal.specs.Decode.{numbers, has_size, record_in, record_of, fi
 use Rattle.xfs_journal.specs.Paging.{IsNoBody}
 use Rattle.xfs_journal.specs.Image.{IsRecord, body, counts_bytes, places_bytes}
 use Rattle.xfs_journal.specs.declared.record.Rec.{Rec}
-use Rattle.xfs_journal.specs.declared.record.Rec.TheVariants.{Issue, Clear, Boot, Bind, Order, Done, Load}
+use Rattle.xfs_journal.specs.declared.record.Rec.TheVariants.{Issue, Clear, Expire, Boot, Bind, Order, Done, Load}
 
 abbrev n4 : List ℕ → ℕ
 n4 bs = from_be_bytes w32 bs
@@ -34,6 +34,7 @@ eight_numbers bs at =
 pub rest_fits : (r : Rec) → IsRecord r → has_size (first_byte (body r)) (length (drop 1 (body r))) ≡ true
 rest_fits (Issue number word) is = refl
 rest_fits Clear is = refl
+rest_fits Expire is = refl
 rest_fits (Boot p) is = eq-eqb (length (places_bytes p)) 192 (places-size p is)
 rest_fits (Bind token) is = ap₂ (λ a b. a && b) (le-leb 1 (length token) is.0) (le-leb (length token) 1024 is.1)
 rest_fits (Order kind counts) is = eq-eqb (suc (length (counts_bytes counts))) 33 (omega (arith, counts-size counts is))
@@ -43,6 +44,7 @@ rest_fits (Load unit count) is = refl
 pub not_empty : (r : Rec) → 1 ≤ length (body r)
 not_empty (Issue number word) = omega arith
 not_empty Clear = omega arith
+not_empty Expire = omega arith
 not_empty (Boot p) = omega arith
 not_empty (Bind token) = omega arith
 not_empty (Order kind counts) = omega arith

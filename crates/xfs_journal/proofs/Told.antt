@@ -1,6 +1,6 @@
 -- Facts of what an object holds, where it tells it.
 use Rattle.std.proofs.Common.{◌≡◌, ◌∙◌, None, Some, is_some, true≢false, refl, sym, ap, subst}
-use Rattle.std.specs.Prelude.{IfSome, IfOk, Ok, Err}
+use Rattle.std.specs.Prelude.{IfSome, IfOk, IfErr, IsErrAnd, Ok, Err}
 use Rattle.std.specs.declared.result.Result.{Result}
 use Rattle.std.specs.declared.option.Option.{Option}
 use Rattle.xfs_base.specs.Causes.{IfTold}
@@ -28,3 +28,8 @@ both_told (Some y) p told x is = (y, refl)
 
 pub untold : {T : Type 0} (o : Option T) (P : T → Type 0) → o ≡ None → IfTold o P
 untold {T} o P none = subst (λ (q : Option T). IfTold q P) (sym none) tt
+
+-- a failure that is handed on
+pub handed_on : {T E : Type 0} (r : Result T E) (f : E) (P : E → Type 0) → IsErrAnd r (λ e. e ≡ f) → P f → IfErr r P
+handed_on (Ok x) f P handed p = tt
+handed_on {E = E} (Err e) f P handed p = subst P (sym handed) p

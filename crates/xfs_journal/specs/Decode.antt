@@ -6,7 +6,7 @@ use Rattle.xfs_base.specs.declared.counts.Kind.{Kind}
 use Rattle.xfs_base.specs.declared.counts.Kind.TheVariants.{Stack, Present, Reject, Retract}
 use Rattle.xfs_base.specs.declared.counts.Places.{Places}
 use Rattle.xfs_journal.specs.declared.record.Rec.{Rec}
-use Rattle.xfs_journal.specs.declared.record.Rec.TheVariants.{Issue, Clear, Boot, Bind, Order, Done, Load}
+use Rattle.xfs_journal.specs.declared.record.Rec.TheVariants.{Issue, Clear, Expire, Boot, Bind, Order, Done, Load}
 
 -- so many numbers of 4 bytes
 abbrev pub numbers : ℕ → List ℕ → List ℕ
@@ -37,11 +37,12 @@ abbrev pub record_in : ℕ → List ℕ → Rec
 record_in letter bs =
     if letter == 0x49 then Issue (from_be_bytes w64 bs) (from_be_bytes w64 (drop 8 bs))
     else (if letter == 0x43 then Clear
+    else (if letter == 0x45 then Expire
     else (if letter == 0x42 then Boot (places_in bs)
     else (if letter == 0x54 then Bind bs
     else (if letter == 0x4F then Order (kind_in (first_byte bs)) (counts_in (drop 1 bs))
     else (if letter == 0x44 then Done (counts_in bs) (counts_in (drop 32 bs))
-    else Load (first_byte bs) (from_be_bytes w32 (drop 1 bs)))))))
+    else Load (first_byte bs) (from_be_bytes w32 (drop 1 bs))))))))
 
 abbrev pub record_of : List ℕ → Rec
 record_of [] = Clear
@@ -52,8 +53,9 @@ abbrev pub has_size : ℕ → ℕ → Bool
 has_size letter n =
     if letter == 0x49 then n == 16
     else (if letter == 0x43 then n == 0
+    else (if letter == 0x45 then n == 0
     else (if letter == 0x42 then n == 192
     else (if letter == 0x54 then nat_le 1 n && nat_le n 1024
     else (if letter == 0x4F then n == 33
     else (if letter == 0x44 then n == 64
-    else (if letter == 0x4C then n == 5 else false))))))
+    else (if letter == 0x4C then n == 5 else false)))))))

@@ -7,7 +7,7 @@ use Rattle.xfs_base.specs.declared.counts.Kind.{Kind}
 use Rattle.xfs_base.specs.declared.counts.Kind.TheVariants.{Stack, Present, Reject, Retract}
 use Rattle.xfs_base.specs.declared.counts.Places.{Places}
 use Rattle.xfs_journal.specs.declared.record.Rec.{Rec}
-use Rattle.xfs_journal.specs.declared.record.Rec.TheVariants.{Issue, Clear, Boot, Bind, Order, Done, Load}
+use Rattle.xfs_journal.specs.declared.record.Rec.TheVariants.{Issue, Clear, Expire, Boot, Bind, Order, Done, Load}
 
 -- eight counts of 4 bytes
 abbrev pub counts_bytes : Counts → List ℕ
@@ -26,6 +26,7 @@ kind_byte Retract = 4
 abbrev pub body : Rec → List ℕ
 body (Issue number word) = 0x49 ∷ to_be_bytes w64 number ++ to_be_bytes w64 word
 body Clear = 0x43 ∷ []
+body Expire = 0x45 ∷ []
 body (Boot places) = 0x42 ∷ places_bytes places
 body (Bind token) = 0x54 ∷ token
 body (Order kind counts) = 0x4F ∷ kind_byte kind ∷ counts_bytes counts
@@ -39,6 +40,7 @@ AreCounts counts = (length counts.0 ≡ 8) × All (λ n. n < 2 ^ 32) counts.0
 abbrev pub IsRecord : Rec → Type 0
 IsRecord (Issue number word) = (number < 2 ^ 64) × (word < 2 ^ 64)
 IsRecord Clear = ⊤
+IsRecord Expire = ⊤
 IsRecord (Boot p) = AreCounts p.units × AreCounts p.transport × AreCounts p.outlet × AreCounts p.taken × AreCounts p.retracted × AreCounts p.rejected
 IsRecord (Bind token) = (1 ≤ length token) × (length token ≤ 1024)
 IsRecord (Order kind counts) = AreCounts counts

@@ -1,28 +1,34 @@
 -- The journal: a list of records, the oldest first. A record's number is its place, from 1.
-use Rattle.std.specs.Prelude.{◌≡◌, ℕ, zero, suc, ◌+◌, ◌-◌, ◌==◌, Bool, false, List, [], ◌∷◌, ◌++◌, take, fold, Some, None, slice_get, if◌then◌else◌, ⊤}
+use Rattle.std.specs.Prelude.{◌≡◌, ℕ, zero, suc, ◌+◌, ◌-◌, ◌==◌, Bool, true, false, List, [], ◌∷◌, ◌++◌, take, fold, Some, None, slice_get, if◌then◌else◌, ⊤}
 use Rattle.std.specs.declared.option.Option.{Option}
+use Rattle.std.specs.Option.{option_map}
 use Rattle.hex.specs.Hex.{encode_upper}
 use Rattle.std.specs.Int.{to_be_bytes, w64}
 use Rattle.xfs_journal.specs.declared.record.Rec.{Rec}
-use Rattle.xfs_journal.specs.declared.record.Rec.TheVariants.{Issue, Clear, Boot, Bind}
+use Rattle.xfs_journal.specs.declared.record.Rec.TheVariants.{Issue, Clear, Expire, Boot, Bind}
 
 -- the record of a number
 abbrev pub record_at : List Rec → ℕ → Option Rec
 record_at records zero = None
 record_at records (suc i) = slice_get records i
 
--- How many records there are, and which issue lives after them: the last mark, where that's an issue.
--- Marks are issues, clears and boots.
+-- a mark ends what the issue before it allowed: an Issue, a Clear, an Expire or a Boot
+abbrev pub is_mark : Rec → Bool
+is_mark (Issue number word) = true
+is_mark Clear = true
+is_mark Expire = true
+is_mark (Boot places) = true
+is_mark r = false
+
+-- how many records there are, and which issue lives after them: the last mark, where that's an issue
 pub record Reading : Type 0 where
   pub count : ℕ
   pub live : Option ℕ
 
--- the live issue after one more record: an Issue lives from its place on, and a Clear or a Boot ends it
+-- the live issue after one more record: an Issue lives from its place on, and every other mark ends it
 abbrev pub live_after : ℕ → Option ℕ → Rec → Option ℕ
 live_after count live (Issue number word) = Some (count + 1)
-live_after count live Clear = None
-live_after count live (Boot places) = None
-live_after count live r = live
+live_after count live r = if is_mark r then None else live
 
 abbrev pub reading_after : Reading → Rec → Reading
 reading_after r rec = record { count = r.count + 1; live = live_after r.count r.live rec }
@@ -45,30 +51,39 @@ abbrev pub is_place : ℕ → Option ℕ → Bool
 is_place p None = false
 is_place p (Some q) = q == p
 
-abbrev pub first_token : Option (List ℕ) → List ℕ → Option (List ℕ)
-first_token None token = Some token
-first_token (Some t) token = Some t
+-- a Bind record: its number, and the token that it binds
+pub record Binding : Type 0 where
+  pub number : ℕ
+  pub token : List ℕ
 
-abbrev pub first_place : Option ℕ → ℕ → Option ℕ
-first_place None place = Some place
-first_place (Some q) place = Some q
+abbrev pub first_of : Option Binding → Binding → Option Binding
+first_of None b = Some b
+first_of (Some a) b = Some a
 
--- how far the records were read, and the token that was found
+-- how far the records were read, and the Bind that was found
 pub record Finding : Type 0 where
   pub read : Reading
-  pub token : Option (List ℕ)
+  pub bind : Option Binding
 
-abbrev pub found_after : ℕ → Finding → Rec → Option (List ℕ)
-found_after p f (Issue number word) = if f.read.count + 1 == p then None else f.token
-found_after p f (Bind token) = if is_place p f.read.live then first_token f.token token else f.token
-found_after p f r = f.token
+abbrev pub found_after : ℕ → Finding → Rec → Option Binding
+found_after p f (Issue number word) = if f.read.count + 1 == p then None else f.bind
+found_after p f (Bind token) = if is_place p f.read.live then first_of f.bind (record { number = f.read.count + 1; token = token }) else f.bind
+found_after p f r = f.bind
 
 abbrev pub finding_after : ℕ → Finding → Rec → Finding
-finding_after p f r = record { read = reading_after f.read r; token = found_after p f r }
+finding_after p f r = record { read = reading_after f.read r; bind = found_after p f r }
+
+-- the first Bind while the issue at p lived
+abbrev pub binding_of : List Rec → ℕ → Option Binding
+binding_of records p = (fold (finding_after p) (record { read = nothing_read; bind = None }) records).bind
 
 -- the token that was bound first while the issue at p lived
 abbrev pub token_of : List Rec → ℕ → Option (List ℕ)
-token_of records p = (fold (finding_after p) (record { read = nothing_read; token = None }) records).token
+token_of records p = option_map (λ (b : Binding). b.token) (binding_of records p)
+
+-- the number of the record that bound it
+abbrev pub bind_of : List Rec → ℕ → Option ℕ
+bind_of records p = option_map (λ (b : Binding). b.number) (binding_of records p)
 
 -- Walks along a list: what each record owes, given what came before it.
 abbrev pub Walk : {S : Type 0} → (S → Rec → S) → (S → Rec → Type 0) → S → List Rec → Type 0
@@ -102,31 +117,11 @@ pub record Marking : Type 0 where
   pub mark : ℕ
 
 abbrev pub mark_after : ℕ → ℕ → Rec → ℕ
-mark_after count mark (Issue number word) = count + 1
-mark_after count mark Clear = count + 1
-mark_after count mark (Boot places) = count + 1
-mark_after count mark r = mark
+mark_after count mark r = if is_mark r then count + 1 else mark
 
 abbrev pub marking_after : Marking → Rec → Marking
 marking_after m rec = record { count = m.count + 1; mark = mark_after m.count m.mark rec }
 
--- the number of the last mark, which is an issue, a clear or a boot; 0 where there is none
+-- the number of the last mark; 0 where there is none
 abbrev pub last_mark : List Rec → ℕ
 last_mark records = (fold marking_after (record { count = 0; mark = 0 }) records).mark
-
--- how far the records were read, and the number of the Bind that was found
-pub record Binding : Type 0 where
-  pub read : Reading
-  pub place : Option ℕ
-
-abbrev pub bound_after : ℕ → Binding → Rec → Option ℕ
-bound_after p f (Issue number word) = if f.read.count + 1 == p then None else f.place
-bound_after p f (Bind token) = if is_place p f.read.live then first_place f.place (f.read.count + 1) else f.place
-bound_after p f r = f.place
-
-abbrev pub binding_after : ℕ → Binding → Rec → Binding
-binding_after p f r = record { read = reading_after f.read r; place = bound_after p f r }
-
--- the number of the record that bound a token first while the issue at p lived
-abbrev pub bind_of : List Rec → ℕ → Option ℕ
-bind_of records p = (fold (binding_after p) (record { read = nothing_read; place = None }) records).place

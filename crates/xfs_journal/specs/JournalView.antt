@@ -5,6 +5,7 @@ use Rattle.std.specs.List.{AllByRecursion}
 use Rattle.xfs_base.specs.Causes.{IfTold}
 use Rattle.xfs_disk.specs.Disk.{Only}
 use Rattle.xfs_journal.specs.Image.{IsImage, IsRecord, Stands, front, size}
+use Rattle.xfs_journal.specs.Paging.{MayCease}
 use Rattle.xfs_journal.specs.declared.faults.AppendFault.{AppendFault}
 use Rattle.xfs_journal.specs.declared.faults.AppendFault.TheVariants.{Shut, Full}
 use Rattle.xfs_journal.specs.declared.limits.Limits.{Limits}
@@ -66,3 +67,7 @@ abbrev pub DiffersAt : List Rec → Option Rec → List Rec → ℕ → Type 0
 DiffersAt kept in_doubt records at = (n : ℕ)
     × (take n records ≡ take n (longest kept in_doubt)) × (slice_get records n ≢ slice_get (longest kept in_doubt) n)
     × (at ≡ length (front (take n records)))
+
+-- some list that was found is none of the possible ones and parts from them there, or some bytes cease to be a journal there
+abbrev pub MayPartAt : List Rec → Option Rec → ℕ → Type 0
+MayPartAt kept in_doubt at = ((found : List Rec) × ¬ IsPossible kept in_doubt found × DiffersAt kept in_doubt found at) ⊎ MayCease at

@@ -60,6 +60,10 @@ abbrev pub CeasesAt : List ℕ → ℕ → Type 0
 CeasesAt bytes at = ((take 8 bytes ≢ magic) × (at ≡ 0))
     ⊎ ((records : List Rec) × (rest : List ℕ) × AllByRecursion IsRecord records × (bytes ≡ front records ++ rest) × IsBroken rest × (at ≡ length (front records)))
 
+-- some bytes cease to be a journal there
+abbrev pub MayCease : ℕ → Type 0
+MayCease at = (bytes : List ℕ) × CeasesAt bytes at
+
 -- one of the images before, or at most 9 bytes where the file had no more
 abbrev pub IsOldOrShort : (List ℕ → Type 0) → List ℕ → List ℕ → Type 0
 IsOldOrShort images all c = images c ⊎ ((length all ≤ 9) × (length c ≤ 9))

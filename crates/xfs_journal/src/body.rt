@@ -97,9 +97,10 @@ pub(crate) fn put_body(out: &mut Vec<u8>, rec: &Rec)
             put_whole(out, *word);
         }
         Rec::Clear => put(out, &[0x43]),
+        Rec::Expire => put(out, &[0x45]),
         Rec::Boot { places } => {
             put(out, &[0x42]);
-            put_places(out, places);
+            put_places(out, places.places());
         }
         Rec::Bind { token } => {
             put(out, &[0x54]);

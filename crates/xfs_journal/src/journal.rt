@@ -3,7 +3,7 @@ ghost use Rattle.std.specs.Prelude.{MatchResult, ◌≡◌, ◌≢◌, ◌⊎◌
 ghost use Rattle.xfs_base.specs.Causes.{IfTold, Rose};
 ghost use Rattle.xfs_disk.specs.Disk.{LeavesOnly};
 ghost use Rattle.xfs_journal.specs.Image.{HasUnit, Stands, framed, front, size};
-ghost use Rattle.xfs_journal.specs.JournalView.{passes, refusal, IsPossible, HasPossible, StandsForEither};
+ghost use Rattle.xfs_journal.specs.JournalView.{passes, refusal, IsPossible, HasPossible, StandsForEither, MayPartAt};
 ghost use Rattle.xfs_journal.specs.declared.faults.AppendFault.TheVariants.{Disk as DiskFault, Memory as NoMemory};
 ghost use Rattle.xfs_journal.specs.Paging.{CeasesAt, IsOldOrShort, IsQuiet};
 ghost use Rattle.xfs_journal.specs.declared.faults.MountFault.TheVariants.{NotJournal, Disk as MountDisk, Memory as MountMemory};
@@ -68,7 +68,8 @@ impl<D: Disk> Journal<D> {
         ensures shut { IfOk result (λ j. j.shut ≡ false) }
         ensures limits { IfOk result (λ j. j.limits ≡ limits) }
         ensures in_doubt { IfOk result (λ j. j.in_doubt ≡ None) }
-        ensures refused { IfErr result (λ f. (at : ℕ) → f.why ≡ NotJournal at → IsQuiet D.held D.images D.moment D.images_since D.faults disk f.disk) }
+        // But after a fault of the disk nothing was written.
+        ensures unwritten { IfErr result (λ f. f.why ≢ MountDisk → IsQuiet D.held D.images D.moment D.images_since D.faults disk f.disk) }
         ensures long { IfTold (D.held disk) (λ all. 9 < length all → MatchResult result
             (λ j. IsQuiet D.held D.images D.moment D.images_since D.faults disk j.disk)
             (λ f. IsQuiet D.held D.images D.moment D.images_since D.faults disk f.disk)) }
@@ -173,6 +174,7 @@ impl<D: Disk> Journal<D> {
         ensures possible { IfTold (D.held self.old.disk) (λ _. (c : List ℕ) → D.images self.old.disk c → HasPossible self.old.records self.old.in_doubt c) }
         ensures stands { OnOk result (IfTold (D.held self.old.disk) (λ all. Stands all self.new.records)) }
         ensures not_journal { IfErr result (λ f. (at : ℕ) → f ≡ NotJournal at → D.held self.old.disk ≡ None) }
+        ensures place { IfErr result (λ f. (at : ℕ) → f ≡ NotJournal at → MayPartAt self.old.records self.old.in_doubt at) }
         ensures any_moment { IfTold (D.held self.old.disk) (λ _. IsQuiet D.held D.images D.moment D.images_since D.faults self.old.disk self.new.disk) }
         ensures acknowledged { OnOk result (IfTold (D.held self.new.disk) (λ _. (c : List ℕ) → D.images self.new.disk c → Stands c self.new.records)) }
     {

@@ -14,6 +14,7 @@ mod read;
 mod record;
 mod remount;
 mod scan;
+mod survey;
 mod text;
 
 pub use faults::{AppendFault, BodyFault, MountFault};
@@ -21,6 +22,7 @@ pub use journal::{Journal, MountFail};
 pub use limits::Limits;
 pub use read::read_body;
 pub use record::Rec;
+pub use survey::Survey;
 pub use text::Text;
 pub use xfs_base::Kind;
 

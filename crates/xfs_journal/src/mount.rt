@@ -1,11 +1,11 @@
 //! Reading a disk as a journal, and making an empty one.
-ghost use Rattle.std.specs.Prelude.{◌⊎◌, ◌∷◌, ◌++◌, ◌≡◌, ◌<◌, ◌≤◌, List, ℕ, [], length, false, is_some, vec_capacity, IfOk, IfErr, OnOk, OnErr};
+ghost use Rattle.std.specs.Prelude.{◌⊎◌, ◌∷◌, ◌++◌, ◌≡◌, ◌≢◌, ◌<◌, ◌≤◌, List, ℕ, [], length, false, is_some, vec_capacity, IfOk, IfErr, OnOk, OnErr};
 ghost use Rattle.std.specs.List.{AllByRecursion};
 ghost use Rattle.xfs_base.specs.Causes.{IfTold, Rose};
 ghost use Rattle.xfs_disk.specs.Disk.{LeavesOnly, Only};
 ghost use Rattle.xfs_journal.specs.Image.{IsImage, IsRecord, Stands, front};
 ghost use Rattle.xfs_journal.specs.JournalView.{IsKept};
-ghost use Rattle.xfs_journal.specs.Paging.{IsQuiet, IsOldOrShort, CeasesAt};
+ghost use Rattle.xfs_journal.specs.Paging.{IsQuiet, IsOldOrShort, CeasesAt, MayCease};
 ghost use Rattle.xfs_journal.specs.declared.faults.MountFault.TheVariants.{NotJournal, Disk as DiskFault, Memory as NoMemory};
 
 use crate::gate::write_synced;
@@ -34,6 +34,7 @@ pub(crate) fn read_all<D: Disk>(
     ensures place { IfOk result (λ l. (l.end ≡ length (front l.records.items)) × AllByRecursion IsRecord l.records.items) }
     ensures image { IfOk result (λ l. IfTold (D.held disk.old) (λ all. IsImage all l.records.items)) }
     ensures broken { IfErr result (λ f. (x : ℕ) → f ≡ NotJournal x → IfTold (D.held disk.old) (λ all. CeasesAt all x)) }
+    ensures ceases { IfErr result (λ f. (x : ℕ) → f ≡ NotJournal x → MayCease x) }
     ensures disk { IfErr result (λ f. f ≡ DiskFault → Rose (D.faults disk.old) (D.faults disk.new)) }
     ensures capacity { 1028 ≤ vec_capacity block.new }
     ensures quiet { IsQuiet D.held D.images D.moment D.images_since D.faults disk.old disk.new }
@@ -93,7 +94,7 @@ fn read_or_empty<D: Disk>(
     ensures kept { IfOk result (λ l. IsKept (D.held disk.new) (D.images disk.new) l.records.items false l.end) }
     ensures stands { IfOk result (λ l. IfTold (D.held disk.old) (λ all. Stands all l.records.items)) }
     ensures refused { IfErr result (λ f. (at : ℕ) → f ≡ NotJournal at → IfTold (D.held disk.old) (λ all. (9 < length all) × CeasesAt all at)) }
-    ensures unwritten { IfErr result (λ f. (at : ℕ) → f ≡ NotJournal at → IsQuiet D.held D.images D.moment D.images_since D.faults disk.old disk.new) }
+    ensures unwritten { IfErr result (λ f. f ≢ DiskFault → IsQuiet D.held D.images D.moment D.images_since D.faults disk.old disk.new) }
     ensures long { IfTold (D.held disk.old) (λ all. 9 < length all → IsQuiet D.held D.images D.moment D.images_since D.faults disk.old disk.new) }
     ensures disk { IfErr result (λ f. f ≡ DiskFault → Rose (D.faults disk.old) (D.faults disk.new)) }
     ensures any_moment { IfTold (D.held disk.old) (λ all. LeavesOnly D.moment D.images_since disk.old disk.new (IsOldOrShort (D.images disk.old) all)) }
@@ -117,7 +118,7 @@ pub(crate) fn load<D: Disk>(
     ensures kept { IfOk result (λ l. IsKept (D.held disk.new) (D.images disk.new) l.records.items false l.end) }
     ensures stands { IfOk result (λ l. IfTold (D.held disk.old) (λ all. Stands all l.records.items)) }
     ensures refused { IfErr result (λ f. (at : ℕ) → f ≡ NotJournal at → IfTold (D.held disk.old) (λ all. (9 < length all) × CeasesAt all at)) }
-    ensures unwritten { IfErr result (λ f. (at : ℕ) → f ≡ NotJournal at → IsQuiet D.held D.images D.moment D.images_since D.faults disk.old disk.new) }
+    ensures unwritten { IfErr result (λ f. f ≢ DiskFault → IsQuiet D.held D.images D.moment D.images_since D.faults disk.old disk.new) }
     ensures long { IfTold (D.held disk.old) (λ all. 9 < length all → IsQuiet D.held D.images D.moment D.images_since D.faults disk.old disk.new) }
     ensures disk { IfErr result (λ f. f ≡ DiskFault → Rose (D.faults disk.old) (D.faults disk.new)) }
     ensures any_moment { IfTold (D.held disk.old) (λ all. LeavesOnly D.moment D.images_since disk.old disk.new (IsOldOrShort (D.images disk.old) all)) }

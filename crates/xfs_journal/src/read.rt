@@ -8,7 +8,7 @@ ghost use Rattle.xfs_journal.specs.declared.record.Rec.{Rec};
 ghost use Rattle.xfs_journal.specs.declared.record.Rec.TheVariants.{Bind};
 
 use crate::body::put_body;
-use crate::{BodyFault, Rec, Text};
+use crate::{BodyFault, Rec, Survey, Text};
 use std::alloc::Global;
 use xfs_base::{Counts, Kind, Places};
 
@@ -75,7 +75,7 @@ fn fits(letter: u8, rest: usize) -> bool
 {
     match letter {
         0x49 => rest == 16,
-        0x43 => rest == 0,
+        0x43 | 0x45 => rest == 0,
         0x42 => rest == 192,
         0x54 => rest >= 1 && rest <= 1024,
         0x4F => rest == 33,
@@ -92,6 +92,17 @@ fn issue(rest: &[u8]) -> Rec
     Rec::Issue {
         number: whole_at(rest, 0),
         word: whole_at(rest, 8),
+    }
+}
+
+fn boot(alloc: Global, rest: &[u8]) -> Result<Rec, BodyFault>
+    requires within { 192 ≤ length rest.now }
+    ensures ok { IfOk result (λ r. r ≡ record_in 0x42 rest.now) }
+    ensures err { IfErr result (λ f. f ≡ Memory) }
+{
+    match Survey::new(alloc, places_of(rest)) {
+        Ok(places) => Ok(Rec::Boot { places }),
+        Err(_) => Err(BodyFault::Memory),
     }
 }
 
@@ -148,9 +159,8 @@ fn decoded(alloc: Global, letter: u8, rest: &[u8]) -> Result<Rec, BodyFault>
     match letter {
         0x49 => Ok(issue(rest)),
         0x43 => Ok(Rec::Clear),
-        0x42 => Ok(Rec::Boot {
-            places: places_of(rest),
-        }),
+        0x45 => Ok(Rec::Expire),
+        0x42 => boot(alloc, rest),
         0x54 => bind(alloc, rest),
         0x4F => Ok(order(rest)),
         0x44 => Ok(done(rest)),

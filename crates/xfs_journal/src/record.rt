@@ -1,5 +1,5 @@
-use crate::Text;
-use xfs_base::{Counts, Kind, Places};
+use crate::{Survey, Text};
+use xfs_base::{Counts, Kind};
 
 /// One record of the journal. A record's number is its place, from 1.
 #[derive(Debug, Drop)]
@@ -8,8 +8,10 @@ pub enum Rec {
     Issue { number: u64, word: u64 },
     /// The live nonce was cleared.
     Clear,
+    /// The life of the live nonce was over.
+    Expire,
     /// The machine started or was reset: where its notes lay then.
-    Boot { places: Places },
+    Boot { places: Survey },
     /// This token serves the live nonce from now on.
     Bind { token: Text },
     /// The mechanism may move these notes.

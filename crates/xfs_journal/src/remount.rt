@@ -4,8 +4,8 @@ ghost use Rattle.std.specs.List.{AllByRecursion};
 ghost use Rattle.xfs_base.specs.Causes.{IfTold, Rose};
 ghost use Rattle.xfs_disk.specs.Disk.{Only};
 ghost use Rattle.xfs_journal.specs.Image.{IsImage, IsRecord};
-ghost use Rattle.xfs_journal.specs.JournalView.{IsKept, IsPossible, HasPossible};
-ghost use Rattle.xfs_journal.specs.Paging.{IsQuiet};
+ghost use Rattle.xfs_journal.specs.JournalView.{IsKept, IsPossible, HasPossible, MayPartAt};
+ghost use Rattle.xfs_journal.specs.Paging.{IsQuiet, MayCease};
 ghost use Rattle.xfs_journal.specs.declared.faults.MountFault.TheVariants.{NotJournal, Disk as DiskFault};
 ghost use Rattle.xfs_journal.specs.declared.record.Rec.{Rec};
 
@@ -32,6 +32,7 @@ fn read_again<D: Disk>(
     ensures kept { IfOk result (λ l. IsKept (D.held disk.new) (D.images disk.new) l.records.items false l.end) }
     ensures image { IfOk result (λ l. IfTold (D.held disk.old) (λ all. IsImage all l.records.items)) }
     ensures silent { IfErr result (λ f. (at : ℕ) → f ≡ NotJournal at → D.held disk.old ≡ None) }
+    ensures ceases { IfErr result (λ f. (at : ℕ) → f ≡ NotJournal at → MayCease at) }
     ensures quiet { IfTold (D.held disk.old) (λ _. IsQuiet D.held D.images D.moment D.images_since D.faults disk.old disk.new) }
     ensures disk { IfErr result (λ f. f ≡ DiskFault → Rose (D.faults disk.old) (D.faults disk.new)) }
     ensures told { is_some (D.held disk.new) ≡ is_some (D.held disk.old) }
@@ -63,6 +64,7 @@ pub(crate) fn reload<D: Disk>(
     ensures reserved { IfOk result (λ l. vec_len l.records + 1 ≤ vec_capacity l.records) }
     ensures image { IfOk result (λ l. IfTold (D.held disk.old) (λ all. IsImage all l.records.items)) }
     ensures silent { IfErr result (λ f. (at : ℕ) → f ≡ NotJournal at → D.held disk.old ≡ None) }
+    ensures place { IfErr result (λ f. (at : ℕ) → f ≡ NotJournal at → MayPartAt kept.now in_doubt.now at) }
     ensures quiet { IfTold (D.held disk.old) (λ _. IsQuiet D.held D.images D.moment D.images_since D.faults disk.old disk.new) }
     ensures disk { IfErr result (λ f. f ≡ DiskFault → Rose (D.faults disk.old) (D.faults disk.new)) }
     ensures told { is_some (D.held disk.new) ≡ is_some (D.held disk.old) }

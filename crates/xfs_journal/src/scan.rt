@@ -3,7 +3,7 @@ ghost use Rattle.std.specs.Prelude.{◌≡◌, ◌≢◌, ◌+◌, ◌<◌, ◌�
 ghost use Rattle.std.specs.List.{AllByRecursion};
 ghost use Rattle.xfs_base.specs.Causes.{IfTold, Rose};
 ghost use Rattle.xfs_journal.specs.Image.{IsImage, IsRecord, front, magic};
-ghost use Rattle.xfs_journal.specs.Paging.{Shows, IsQuiet, CeasesAt};
+ghost use Rattle.xfs_journal.specs.Paging.{Shows, IsQuiet, CeasesAt, MayCease};
 ghost use Rattle.xfs_journal.specs.declared.faults.MountFault.TheVariants.{NotJournal, Disk as DiskFault, Memory as NoMemory};
 
 use crate::block::{need, read_block};
@@ -23,6 +23,7 @@ fn read_magic<D: Disk>(disk: &mut D, page: &mut Page, block: &mut Vec<u8>) -> Re
     ensures at { OnOk result (page.new.at ≡ 8) }
     ensures magic { OnOk result (IfTold (D.held disk.old) (λ all. (all ≡ magic ++ drop 8 all) × Shows all page.new)) }
     ensures broken { IfErr result (λ f. (x : ℕ) → f ≡ NotJournal x → IfTold (D.held disk.old) (λ all. CeasesAt all x)) }
+    ensures ceases { IfErr result (λ f. (x : ℕ) → f ≡ NotJournal x → MayCease x) }
     ensures disk { IfErr result (λ f. f ≡ DiskFault → Rose (D.faults disk.old) (D.faults disk.new)) }
     ensures capacity { vec_capacity block.old ≤ vec_capacity block.new }
     ensures quiet { IsQuiet D.held D.images D.moment D.images_since D.faults disk.old disk.new }
@@ -51,6 +52,7 @@ pub(crate) fn read_records<D: Disk>(
     ensures of_table { IfOk result (λ records. AllByRecursion IsRecord records.items) }
     ensures image { IfOk result (λ records. IfTold (D.held disk.old) (λ all. IsImage all records.items)) }
     ensures broken { IfErr result (λ f. (x : ℕ) → f ≡ NotJournal x → IfTold (D.held disk.old) (λ all. CeasesAt all x)) }
+    ensures ceases { IfErr result (λ f. (x : ℕ) → f ≡ NotJournal x → MayCease x) }
     ensures disk { IfErr result (λ f. f ≡ DiskFault → Rose (D.faults disk.old) (D.faults disk.new)) }
     ensures capacity { 1028 ≤ vec_capacity block.new }
     ensures quiet { IsQuiet D.held D.images D.moment D.images_since D.faults disk.old disk.new }

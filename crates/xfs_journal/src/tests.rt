@@ -1,6 +1,7 @@
+ghost use Rattle.std.specs.Prelude.{IfOk};
 ghost use Rattle.xfs_journal.specs.Image.{HasUnit};
 
-use crate::{AppendFault, BodyFault, Journal, Limits, MountFault, Rec, Text, read_body};
+use crate::{AppendFault, BodyFault, Journal, Limits, MountFault, Rec, Survey, Text, read_body};
 use std::alloc::Global;
 use std::fs::{self, File};
 use std::test::Fail;
@@ -26,19 +27,19 @@ fn mounted<D: Disk>(alloc: Global, disk: D) -> Result<Journal<D>, Fail> {
 }
 
 // 100 notes in each of four units, and none elsewhere.
-fn boot() -> Rec
-    ensures { HasUnit result }
+fn boot(alloc: Global) -> Result<Rec, Fail>
+    ensures { IfOk result HasUnit }
 {
-    Rec::Boot {
-        places: Places {
-            units: Counts([100, 100, 100, 100, 0, 0, 0, 0]),
-            transport: NONE,
-            outlet: NONE,
-            taken: NONE,
-            retracted: NONE,
-            rejected: NONE,
-        },
-    }
+    let places = Places {
+        units: Counts([100, 100, 100, 100, 0, 0, 0, 0]),
+        transport: NONE,
+        outlet: NONE,
+        taken: NONE,
+        retracted: NONE,
+        rejected: NONE,
+    };
+    let places = Survey::new(alloc, places)?;
+    Ok(Rec::Boot { places })
 }
 
 fn issue() -> Rec
@@ -77,7 +78,7 @@ fn a_boot_and_an_issue_are_205_and_225_bytes(rt: HostRuntime) -> Result<(), Fail
     let alloc = rt.alloc();
     let mut journal = mounted(alloc, disk(alloc, &[])?)?;
     assert!(rt; journal.reserve(2).is_ok());
-    assert!(rt; journal.append(boot()) == Ok(1));
+    assert!(rt; journal.append(boot(alloc)?) == Ok(1));
     assert!(rt;
         journal.left()
             == Limits {
@@ -92,6 +93,26 @@ fn a_boot_and_an_issue_are_205_and_225_bytes(rt: HostRuntime) -> Result<(), Fail
     assert!(rt; !again.shut());
     assert_eq!(rt; again.records().len(), 2);
     assert_eq!(rt; again.end().bytes(), short_file(alloc)?.as_slice());
+    Ok(())
+}
+
+#[test]
+fn an_expire_is_one_letter(rt: HostRuntime) -> Result<(), Fail> {
+    let alloc = rt.alloc();
+    let mut journal = mounted(alloc, MemDisk::new(alloc, short_file(alloc)?))?;
+    assert!(rt; journal.append(Rec::Expire) == Ok(3));
+    let mut bytes = short_file(alloc)?;
+    bytes.truncate(224);
+    bytes.extend_from_slice(&[1, 0, 1, 0x45, 0])?;
+    let file = journal.end();
+    assert_eq!(rt; file.bytes(), bytes.as_slice());
+    let again = mounted(alloc, file)?;
+    assert!(rt;
+        matches!(
+            again.records(),
+            [Rec::Boot { .. }, Rec::Issue { .. }, Rec::Expire]
+        )
+    );
     Ok(())
 }
 
@@ -326,7 +347,7 @@ fn remounted(alloc: Global, call: u64) -> Result<(usize, usize), Fail> {
     let failing = FailDisk::new(disk(alloc, &boot_file(alloc)?)?, [call].to_vec(alloc)?);
     let mut journal = mounted(alloc, failing)?;
     let refused = journal.append(issue()) == Err(AppendFault::Disk);
-    if !refused || !journal.shut() || journal.append(boot()) != Err(AppendFault::Shut) {
+    if !refused || !journal.shut() || journal.append(boot(alloc)?) != Err(AppendFault::Shut) {
         Err("the append is not refused")?
     }
     journal.remount()?;
@@ -400,7 +421,7 @@ fn at_most_9_bytes_are_made_an_empty_journal_again(rt: HostRuntime) -> Result<()
     let mut journal = mounted(alloc, FileDisk::new(file))?;
     fs::write(&rt, "xfs_journal_short.test", b"short")?;
     assert!(rt; journal.remount() == Ok(()));
-    assert!(rt; journal.append(boot()) == Ok(1));
+    assert!(rt; journal.append(boot(alloc)?) == Ok(1));
     let bytes = fs::read(&rt, "xfs_journal_short.test")?;
     assert_eq!(rt; bytes.as_slice(), boot_file(alloc)?.as_slice());
     fs::remove_file(&rt, "xfs_journal_short.test")?;

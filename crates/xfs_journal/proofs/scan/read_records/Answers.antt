@@ -1,11 +1,13 @@
-use Rattle.std.proofs.Common.{◌≡◌, ◌++◌, ◌∷◌, List, ℕ, drop, subst, rules}
+use Rattle.std.proofs.Common.{◌≡◌, ◌++◌, ◌∷◌, List, ℕ, drop, subst, sym, ◌∙◌, rules}
 use Rattle.std.specs.declared.option.Option.{Option}
 use Rattle.xfs_base.specs.Causes.{IfTold}
 use Rattle.xfs_journal.specs.Image.{framed}
-use Rattle.xfs_journal.specs.Paging.{Shows}
+use Rattle.xfs_journal.specs.Paging.{Shows, MayCease}
+use Rattle.xfs_journal.specs.declared.faults.MountFault.TheVariants.{NotJournal}
+use Rattle.xfs_journal.proofs.Ceasing.{ceases_behind}
 use Rattle.xfs_journal.proofs.Listing.{one_more}
 use Rattle.xfs_journal.proofs.Moments.{quiet_then}
-use Rattle.xfs_journal.proofs.Told.{from_some}
+use Rattle.xfs_journal.proofs.Told.{from_some, handed_on}
 use Rattle.xfs_journal.proofs.scan.read_records.Goals as goal
 
 pub loop-records-preserved : goal.loop-records-preserved
@@ -25,3 +27,9 @@ loop-records-preserved g c =
       c.read_block.ensures.capacity.1,
       quiet_then g.D.Disk.held g.D.Disk.images g.D.Disk.moment g.D.Disk.images_since g.D.Disk.faults _ _ _ inv.5 c.read_block.ensures.quiet,
     )
+
+pub returns-in_err-rec-clause-ceases : goal.returns-in_err-rec-clause-ceases
+returns-in_err-rec-clause-ceases g c =
+    let inv = c.loop-records.invariant in
+    handed_on c.from_residual-in_err-rec.result c.in_err-rec.field-0.0 (λ f. (x : ℕ) → f ≡ NotJournal x → MayCease x) c.from_residual-in_err-rec.ensures.1
+    (λ x e. subst MayCease (sym ((c.in_err-rec.ensures.broken x e).0 ∙ inv.0)) (ceases_behind c.loop-records.records.items inv.1))
