@@ -6,6 +6,7 @@ use Rattle.xfs_base.specs.Causes.{IfTold}
 use Rattle.xfs_base.specs.declared.money.NoteKind.{NoteKind}
 use Rattle.xfs_base.specs.declared.counts.Places.{Places}
 use Rattle.xfs_mech.specs.declared.motion.Motion.{Motion}
+use Rattle.xfs_disk.specs.declared.disk.Disk.{Ghosts}
 use Rattle.xfs_journal.specs.declared.record.Rec.{Rec}
 use Rattle.xfs_journal.specs.declared.record.Rec.TheVariants.{Boot}
 use Rattle.xfs_journal.specs.Journal.{live_of, next_number, CarriesNumber}
@@ -22,6 +23,7 @@ use Rattle.xfs_guard.proofs.AgreesLaws.{Agrees-record, numbers_within}
 use Rattle.xfs_guard.proofs.WithinLaws.{Within-record}
 use Rattle.xfs_guard.proofs.RecordLaws.{last-pushed}
 use Rattle.xfs_guard.proofs.KeptLaws.{IsKept-open}
+use Rattle.xfs_guard.proofs.MarkLaws.{marked-boot}
 
 agrees-boot : (J : List Rec) (p : Places) (m : Option (List Motion)) → IfTold m (Agrees J) → IfTold m (Agrees (J ++ Boot p ∷ []))
 agrees-boot J p None a = tt
@@ -71,10 +73,10 @@ IsSound-boot v J p recorded = record {
 pub IsKept-boot : (v : View) (J : List Rec) (p : Places) (spare left : ℕ) (kinds : List NoteKind) → (v.disk_told ≡ true → IsRecorded v.key v.units J v.motions) → kinds ≡ v.units
     → IsKept (record v { records = J ++ Boot p ∷ []; bound = None; open_order = No; shut = false; boot_missing = false; in_doubt = None }) spare left kinds
 IsKept-boot v J p spare left kinds recorded units =
-    IsKept-open (record v { records = J ++ Boot p ∷ []; bound = None; open_order = No; boot_missing = false }) spare left kinds (IsSound-boot (record v { boot_missing = false }) J p recorded) refl tt tt units
+    IsKept-open (record v { records = J ++ Boot p ∷ []; bound = None; open_order = No; boot_missing = false }) spare left kinds (IsSound-boot (record v { boot_missing = false }) J p recorded) (marked-boot J p) refl tt tt units
 
 -- a list that was left is recorded, and stays so with the Boot
-pub WasLeft-recorded : (key : List ℕ) (u : List NoteKind) (m : Option (List Motion)) (held : Option (List ℕ)) (images : List ℕ → Type 0) (p : Places)
-    → ((J : List Rec) → MayLeave held images J → IsRecorded key u J m) → (J : List Rec) → WasLeft held images p J → IsRecorded key u J m
-WasLeft-recorded key u m held images p all J was =
+pub WasLeft-recorded : {D : Type 0} (key : List ℕ) (u : List NoteKind) (m : Option (List Motion)) (g : Ghosts D) (d : D) (p : Places)
+    → ((J : List Rec) → MayLeave g d J → IsRecorded key u J m) → (J : List Rec) → WasLeft g d p J → IsRecorded key u J m
+WasLeft-recorded key u m g d p all J was =
     ⊎_elim (λ same. rw same (all was.list was.before)) (λ more. rw more (IsRecorded-boot key u was.list p m (all was.list was.before))) was.grown

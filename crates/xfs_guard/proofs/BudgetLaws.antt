@@ -13,7 +13,7 @@ use Rattle.xfs_base.specs.declared.money.NoteKind.{NoteKind}
 use Rattle.xfs_token.specs.Token.{Parts}
 use Rattle.xfs_token.specs.Amounts.{amount, amounts_of, amount_in, has_currency}
 use Rattle.xfs_journal.specs.declared.record.Rec.{Rec}
-use Rattle.xfs_journal.specs.declared.record.Rec.TheVariants.{Issue, Clear, Boot, Bind, Order, Done, Load}
+use Rattle.xfs_journal.specs.declared.record.Rec.TheVariants.{Issue, Clear, Expire, Boot, Bind, Order, Done, Load}
 use Rattle.xfs_guard.specs.Presented.{Paid, paid_after, worth_after, done_worth, presented_in}
 use Rattle.xfs_guard.specs.Passed.{spent, is_over, first_currency, earlier, passed_in}
 
@@ -44,6 +44,7 @@ done-none : (test : List ℕ → Bool) (u : List NoteKind) (c : List ℕ) (last 
 done-none test u c None m holds e = refl
 done-none test u c (Some (Issue n w)) m holds e = refl
 done-none test u c (Some Clear) m holds e = refl
+done-none test u c (Some Expire) m holds e = refl
 done-none test u c (Some (Boot p)) m holds e = refl
 done-none test u c (Some (Bind t)) m holds e = refl
 done-none test u c (Some (Order Present n)) m holds e = value-none test u 0 m.0 c holds e
@@ -56,6 +57,7 @@ done-none test u c (Some (Load i n)) m holds e = refl
 worth-none : (test : List ℕ → Bool) (u : List NoteKind) (c : List ℕ) (s : Paid) (r : Rec) → test c ≡ true → first_currency test u ≡ None → s.worth ≡ 0 → worth_after u c s r ≡ 0
 worth-none test u c s (Issue n w) holds e z = refl
 worth-none test u c s Clear holds e z = refl
+worth-none test u c s Expire holds e z = refl
 worth-none test u c s (Boot p) holds e z = refl
 worth-none test u c s (Bind t) holds e z = z
 worth-none test u c s (Order k n) holds e z = z

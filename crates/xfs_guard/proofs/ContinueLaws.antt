@@ -1,5 +1,5 @@
 -- What happened from one state of a guard to a later one.
-use Rattle.std.proofs.Common.{◌≡◌, ◌⊎◌, inl, inr, ℕ, ◌+◌, ◌≤◌, Bool, true, false, List, [], ◌∷◌, ◌++◌, length, None, Some, refl, sym, ◌∙◌, arith}
+use Rattle.std.proofs.Common.{◌≡◌, ◌⊎◌, inl, inr, ℕ, ◌+◌, ◌≤◌, Bool, true, false, List, [], ◌∷◌, ◌++◌, length, None, Some, refl, sym, ◌∙◌, ap, arith, length-append}
 use Rattle.std.proofs.lemmas.List.{append-nil}
 use Rattle.std.specs.declared.option.Option.{Option}
 use Rattle.xfs_base.specs.declared.counts.Counts.{Counts}
@@ -17,12 +17,12 @@ use Rattle.xfs_guard.specs.Crashed.{IsLeftAt, is_closed}
 use Rattle.xfs_guard.specs.Lives.{BeginsWith}
 use Rattle.xfs_guard.proofs.CrashedLaws.{begins-same, begins-trans, begins-push, left-push, left-doubt}
 use Rattle.xfs_guard.specs.View.{View}
-use Rattle.xfs_guard.specs.Continues.{IsKnown, Led, Comes, Leads, Continues}
+use Rattle.xfs_guard.specs.Continues.{Led, Comes, Leads, Continues}
 use Rattle.xfs_journal.proofs.JournalLaws.{record_at-within}
 use Rattle.xfs_guard.proofs.FollowsLaws.{Follows-same, Follows-record, Follows-trans}
 use Rattle.xfs_mech.proofs.MotionLaws.{all-append, all-numbers}
 use Rattle.xfs_mech.proofs.MoveLaws.{Moves-same, Moves-trans, Moves-entry}
-use Rattle.xfs_guard.proofs.RecordLaws.{longer, length-pushed}
+use Rattle.xfs_guard.proofs.RecordLaws.{longer}
 use Rattle.xfs_guard.proofs.SoundLaws.{acted_view}
 
 -- where no record is in doubt, the journal's list is the one possible list
@@ -42,20 +42,19 @@ doubted-possible J K r (inr (x, doubt, is)) = inr (rw (same doubt) is)
     same e = cc
 
 -- nothing happened
-pub Led-same : (J : List Rec) (L : List Motion) (P : Places) → IsKnown J L → Led J L P J L P
-Led-same J L P known = record { follows = Follows-same J L P; known = known }
+pub Led-same : (J : List Rec) (L : List Motion) (P : Places) → Led J L P J L P
+unfolding Follows-same
+Led-same J L P = record { follows = Follows-same J L P; known = tt }
 
 -- one more record, which has the places where it is a Boot
-pub Led-record : (J : List Rec) (r : Rec) (L : List Motion) (P : Places) → ((p : Places) → r ≡ Boot p → P ≡ p) → IsKnown J L → Led J L P (J ++ r ∷ []) L P
-Led-record J r L P boots known = record {
-  follows = Follows-record J r L P boots;
-  known = rw length-pushed (all-numbers (λ n. n ≤ length J) (λ n. n ≤ length J + 1) L (λ n le. omega arith) known);
-}
+pub Led-record : (J : List Rec) (r : Rec) (L : List Motion) (P : Places) → ((p : Places) → r ≡ Boot p → P ≡ p) → Led J L P (J ++ r ∷ []) L P
+unfolding Follows-record
+Led-record J r L P boots = record { follows = Follows-record J r L P boots; known = tt }
 
 -- one more motion, which has a number of the journal's or none
-pub Led-motion : (J : List Rec) (L : List Motion) (m : Motion) (P Q : Places) → NumberIs (λ n. n ≤ length J) m → NumberIs (λ n. length J ≤ n) m → PlacesOf P (m ∷ []) Q → IsKnown J L
+Led-motion : (J : List Rec) (L : List Motion) (m : Motion) (P Q : Places) → NumberIs (λ n. n ≤ length J) m → NumberIs (λ n. length J ≤ n) m → PlacesOf P (m ∷ []) Q
     → Led J L P J (L ++ m ∷ []) Q
-Led-motion J L m P Q small late places known = record {
+Led-motion J L m P Q small late places = record {
   follows = record {
     recs = [];
     moves = m ∷ [];
@@ -65,33 +64,57 @@ Led-motion J L m P Q small late places known = record {
     later = (late, tt);
     boots = λ n p lt e. let w = record_at-within J n (Boot p) e in absurd (omega arith);
   };
-  known = all-append (NumberIs (λ n. n ≤ length J)) L (m ∷ []) known (small, tt);
+  known = (small, tt);
 }
 
-pub Led-trans : (J0 J1 J2 : List Rec) (L0 L1 L2 : List Motion) (P0 P1 P2 : Places) → Led J0 L0 P0 J1 L1 P1 → Led J1 L1 P1 J2 L2 P2 → Led J0 L0 P0 J2 L2 P2
-Led-trans J0 J1 J2 L0 L1 L2 P0 P1 P2 one two = record { follows = Follows-trans J0 J1 J2 L0 L1 L2 P0 P1 P2 one.known one.follows two.follows; known = two.known }
+Led-trans : (J0 J1 J2 : List Rec) (L0 L1 L2 : List Motion) (P0 P1 P2 : Places) → Led J0 L0 P0 J1 L1 P1 → Led J1 L1 P1 J2 L2 P2 → Led J0 L0 P0 J2 L2 P2
+unfolding Follows-trans
+Led-trans J0 J1 J2 L0 L1 L2 P0 P1 P2 one two = record {
+  follows = Follows-trans J0 J1 J2 L0 L1 L2 P0 P1 P2 one.follows one.known two.follows;
+  known = all-append (NumberIs (λ n. n ≤ length J2)) one.follows.moves two.follows.moves (all-numbers (λ n. n ≤ length J1) (λ n. n ≤ length J2) one.follows.moves (λ n le. omega (arith, longer)) one.known) two.known;
+}
+  where
+    longer : length J1 ≤ length J2
+    longer = omega (arith, ap length two.follows.grew, length-append J1 two.follows.recs)
+
+-- the same where the mechanism may tell no list
+pub leads-same : (m : Option (List Motion)) (J : List Rec) (P : Places) → Leads J m P J m P
+leads-same None J P = begins-same J
+leads-same (Some L) J P = Led-same J L P
+
+pub leads-record : (m : Option (List Motion)) (J : List Rec) (r : Rec) (P : Places) → ((p : Places) → r ≡ Boot p → P ≡ p) → Leads J m P (J ++ r ∷ []) m P
+leads-record None J r P boots = record { more = r ∷ []; is = refl }
+leads-record (Some L) J r P boots = Led-record J r L P boots
+
+pub leads-motion : (was now : Option (List Motion)) (J : List Rec) (m : Motion) (P Q : Places) → Grows was m now → NumberIs (λ n. n ≤ length J) m → NumberIs (λ n. length J ≤ n) m → PlacesOf P (m ∷ []) Q
+    → Leads J was P J now Q
+leads-motion None now J m P Q g small late places = rw g (begins-same J)
+leads-motion (Some L) now J m P Q g small late places = rw g (Led-motion J L m P Q small late places)
+
+pub leads-trans : (x y z : Option (List Motion)) (J0 J1 J2 : List Rec) (P0 P1 P2 : Places) → Leads J0 x P0 J1 y P1 → Leads J1 y P1 J2 z P2 → Leads J0 x P0 J2 z P2
+leads-trans None None None J0 J1 J2 P0 P1 P2 p q = begins-trans J0 J1 J2 p q
+leads-trans None None (Some z) J0 J1 J2 P0 P1 P2 p q = q
+leads-trans None (Some y) z J0 J1 J2 P0 P1 P2 p q = absurd p
+leads-trans (Some x) None z J0 J1 J2 P0 P1 P2 p q = absurd p
+leads-trans (Some x) (Some y) None J0 J1 J2 P0 P1 P2 p q = absurd q
+leads-trans (Some x) (Some y) (Some z) J0 J1 J2 P0 P1 P2 p q = Led-trans J0 J1 J2 x y z P0 P1 P2 p q
 
 pub Continues-trans : (a b c : View) → Continues a b → Continues b c → Continues a c
-Continues-trans a b c p q = record { leads = go a.motions b.motions c.motions p.leads q.leads; key = q.key ∙ p.key; seed = q.seed ∙ p.seed; units = q.units ∙ p.units; moves = Moves-trans a.motions b.motions c.motions a.places b.places c.places p.moves q.moves; disk_told = q.disk_told ∙ p.disk_told; limits = q.limits ∙ p.limits; grew = begins-trans a.records b.records c.records p.grew q.grew; left = λ J was. q.left J (p.left J was) }
+Continues-trans a b c p q = record { leads = comes; key = q.key ∙ p.key; seed = q.seed ∙ p.seed; units = q.units ∙ p.units; moves = Moves-trans a.motions b.motions c.motions a.places b.places c.places p.moves q.moves; disk_told = q.disk_told ∙ p.disk_told; limits = q.limits ∙ p.limits; grew = begins-trans a.records b.records c.records p.grew q.grew; left = λ J was. q.left J (p.left J was) }
   where
-    go : (x y z : Option (List Motion)) → Leads a b x y → Leads b c y z → Leads a c x z
-    go None None None p q = tt
-    go None None (Some z) p q = q
-    go None (Some y) z p q = absurd p
-    go (Some x) None z p q = absurd p
-    go (Some x) (Some y) None p q = absurd q
-    go (Some x) (Some y) (Some z) p q = λ J possible. let late = q J possible in let early = p late.from late.possible in record {
+    comes : (J : List Rec) → IsPossible c.records c.in_doubt J → Comes a c J
+    comes J possible = let late = q.leads J possible in let early = p.leads late.from late.possible in record {
       from = early.from;
       possible = early.possible;
-      led = λ known. let one = early.led known in Led-trans early.from late.from J x y z a.places b.places c.places one (late.led one.known);
+      led = leads-trans a.motions b.motions c.motions early.from late.from J a.places b.places c.places early.led late.led;
     }
 
 -- what led to each possible list of the earlier state leads to each of the later one
-pub Leads-on : (old new : View) (J : List Rec) (L before now : List Motion) (P : Places) → Leads old new (Some before) (Some now)
-    → ((K : List Rec) → IsPossible old.records old.in_doubt K → Led J L P K before old.places)
-    → (K : List Rec) → IsPossible new.records new.in_doubt K → Led J L P K now new.places
-Leads-on old new J L before now P leads each K possible =
-    let c = leads K possible in let one = each c.from c.possible in Led-trans J c.from K L before now P old.places new.places one (c.led one.known)
+pub leads-on : (old new : View) (J : List Rec) (m : Option (List Motion)) (P : Places) → Continues old new
+    → ((K : List Rec) → IsPossible old.records old.in_doubt K → Leads J m P K old.motions old.places)
+    → (K : List Rec) → IsPossible new.records new.in_doubt K → Leads J m P K new.motions new.places
+leads-on old new J m P continues each K possible =
+    let c = continues.leads K possible in leads-trans m old.motions new.motions J c.from K P old.places new.places (each c.from c.possible) c.led
 
 -- a list is a possible one, or a possible one with this record behind it
 abbrev pub MayGrow : View → Rec → List Rec → Type 0
@@ -100,22 +123,14 @@ MayGrow v r J = IsPossible v.records v.in_doubt J ⊎ ((K : List Rec) × IsPossi
 -- at most this record came behind the possible lists; a Boot has the places
 pub Continues-grown : (v w : View) (r : Rec) → ((p : Places) → r ≡ Boot p → v.places ≡ p) → w.motions ≡ v.motions → w.places ≡ v.places → w.key ≡ v.key → w.seed ≡ v.seed → w.units ≡ v.units → w.disk_told ≡ v.disk_told → w.limits ≡ v.limits
     → ((J : List Rec) → IsPossible w.records w.in_doubt J → MayGrow v r J) → BeginsWith w.records v.records → ((J : List Rec) → IsLeftAt v J → IsLeftAt w J) → Continues v w
-Continues-grown v w r boots motions places key seed units disk limits grown longer left = record { leads = told v.motions w.motions motions; key = key; seed = seed; units = units; moves = rw (motions, places) (Moves-same v.motions v.places); disk_told = disk; limits = limits; grew = longer; left = left }
+Continues-grown v w r boots motions places key seed units disk limits grown longer left = record { leads = λ J possible. comes J (grown J possible); key = key; seed = seed; units = units; moves = rw (motions, places) (Moves-same v.motions v.places); disk_told = disk; limits = limits; grew = longer; left = left }
   where
-    comes : (L : List Motion) (J : List Rec) → MayGrow v r J → Comes v w L L J
-    comes L J (inl old) = record { from = J; possible = old; led = λ known. rw places (Led-same J L v.places known) }
-    comes L J (inr (K, old, is)) = record { from = K; possible = old; led = λ known. rw (is, places) (Led-record K r L v.places boots known) }
-
-    told : (m n : Option (List Motion)) → n ≡ m → Leads v w m n
-    told None n e = rw e tt
-    told (Some L) n e = rw e (λ J possible. comes L J (grown J possible))
+    comes : (J : List Rec) → MayGrow v r J → Comes v w J
+    comes J (inl old) = record { from = J; possible = old; led = rw (motions, places) (leads-same v.motions J v.places) }
+    comes J (inr (K, old, is)) = record { from = K; possible = old; led = rw (is, motions, places) (leads-record v.motions K r v.places boots) }
 
 pub Continues-same : (v : View) → Continues v v
-Continues-same v = record { leads = told v.motions; key = refl; seed = refl; units = refl; moves = Moves-same v.motions v.places; disk_told = refl; limits = refl; grew = begins-same v.records; left = λ J was. was }
-  where
-    told : (m : Option (List Motion)) → Leads v v m m
-    told None = tt
-    told (Some L) = λ J possible. record { from = J; possible = possible; led = Led-same J L v.places }
+Continues-same v = record { leads = λ J possible. record { from = J; possible = possible; led = leads-same v.motions J v.places }; key = refl; seed = refl; units = refl; moves = Moves-same v.motions v.places; disk_told = refl; limits = refl; grew = begins-same v.records; left = λ J was. was }
 
 -- one more record was written
 pub Continues-written : (v : View) (r : Rec) (w : Option (List (List ℕ × ℕ))) (o : Open) → v.in_doubt ≡ None → v.shut ≡ false → v.boot_missing ≡ false → ((p : Places) → r ≡ Boot p → v.places ≡ p) → Continues v (record (longer v r w o) { shut = false; in_doubt = None })
@@ -135,13 +150,18 @@ Continues-doubted v r o none open_still booted boots =
 pub Continues-act : (v : View) (k : Kind) (m d : Counts) (failed : Bool) (now : Option (List Motion)) (Q : Places) (f : ℕ) → v.in_doubt ≡ None
     → Grows v.motions (Moved (length v.records) k m d) now → PlacesOf v.places (Moved (length v.records) k m d ∷ []) Q
     → Continues v (acted_view v k m d failed now Q f)
-Continues-act v k m d failed now Q f none grows places = record { leads = told v.motions grows; key = refl; seed = refl; units = refl; moves = Moves-entry _ v.motions now v.places Q grows places; disk_told = refl; limits = refl; grew = begins-same v.records; left = λ J was. was }
-  where
-    told : (was : Option (List Motion)) → Grows was (Moved (length v.records) k m d) now → Leads v (acted_view v k m d failed now Q f) was now
-    told None g = rw g tt
-    told (Some L) g = rw g (λ J possible. record {
-      from = v.records;
-      possible = inl refl;
-      led = λ known. rw (only-possible v.records J v.in_doubt none possible)
-          (Led-motion v.records L (Moved (length v.records) k m d) v.places Q (omega arith) (omega arith) places known);
-    })
+Continues-act v k m d failed now Q f none grows places = record {
+  leads = λ J possible. record {
+    from = v.records;
+    possible = inl refl;
+    led = rw (only-possible v.records J v.in_doubt none possible) (leads-motion v.motions now v.records (Moved (length v.records) k m d) v.places Q grows (omega arith) (omega arith) places);
+  };
+  key = refl;
+  seed = refl;
+  units = refl;
+  moves = Moves-entry _ v.motions now v.places Q grows places;
+  disk_told = refl;
+  limits = refl;
+  grew = begins-same v.records;
+  left = λ J was. was;
+}

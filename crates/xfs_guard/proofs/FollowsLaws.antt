@@ -10,11 +10,11 @@ use Rattle.xfs_journal.specs.declared.record.Rec.TheVariants.{Boot}
 use Rattle.xfs_journal.specs.Journal.{record_at}
 use Rattle.xfs_guard.specs.Follows.{BootFits, Follows}
 use Rattle.xfs_mech.specs.Motions.{NumberIs}
-use Rattle.xfs_mech.proofs.MotionLaws.{all-append, all-numbers, all-right, PlacesOf-same, PlacesOf-append}
+use Rattle.xfs_mech.proofs.MotionLaws.{all-append, all-numbers, PlacesOf-same, PlacesOf-append}
 use Rattle.xfs_journal.proofs.JournalLaws.{record_at-append, record_at-cases, record_at-within}
 
 -- nothing happened
-pub Follows-same : (J : List Rec) (L : List Motion) (P : Places) → Follows J L P J L P
+unfoldable pub Follows-same : (J : List Rec) (L : List Motion) (P : Places) → Follows J L P J L P
 Follows-same J L P = record {
   recs = [];
   moves = [];
@@ -26,7 +26,7 @@ Follows-same J L P = record {
 }
 
 -- one more record, which has the places where it is a Boot
-pub Follows-record : (J : List Rec) (r : Rec) (L : List Motion) (P : Places) → ((p : Places) → r ≡ Boot p → P ≡ p) → Follows J L P (J ++ r ∷ []) L P
+unfoldable pub Follows-record : (J : List Rec) (r : Rec) (L : List Motion) (P : Places) → ((p : Places) → r ≡ Boot p → P ≡ p) → Follows J L P (J ++ r ∷ []) L P
 Follows-record J r L P boots = record {
   recs = r ∷ [];
   moves = [];
@@ -40,11 +40,11 @@ Follows-record J r L P boots = record {
     fits : (n : ℕ) (p : Places) → length J < n → record_at (J ++ r ∷ []) n ≡ Some (Boot p) → BootFits P [] n p
     fits n p lt e = ⊎_elim (λ h. let le : n ≤ length J = h.0 in absurd (omega arith)) (λ h. record { front = []; back = []; split = refl; reached = rw (boots p h.1) (PlacesOf-same p); before = tt; after = tt }) (record_at-cases J r n (Boot p) e)
 
--- the mechanism's numbers are places of the journal, and the rest composes
-pub Follows-trans : (J0 J1 J2 : List Rec) (L0 L1 L2 : List Motion) (P0 P1 P2 : Places)
-    → AllByRecursion (NumberIs (λ n. n ≤ length J1)) L1
-    → Follows J0 L0 P0 J1 L1 P1 → Follows J1 L1 P1 J2 L2 P2 → Follows J0 L0 P0 J2 L2 P2
-Follows-trans J0 J1 J2 L0 L1 L2 P0 P1 P2 small a b = record {
+-- the numbers of the entries in between are no greater than the list's length, and the rest composes
+unfoldable pub Follows-trans : (J0 J1 J2 : List Rec) (L0 L1 L2 : List Motion) (P0 P1 P2 : Places)
+    → (a : Follows J0 L0 P0 J1 L1 P1) → AllByRecursion (NumberIs (λ n. n ≤ length J1)) a.moves
+    → Follows J1 L1 P1 J2 L2 P2 → Follows J0 L0 P0 J2 L2 P2
+Follows-trans J0 J1 J2 L0 L1 L2 P0 P1 P2 a small b = record {
   recs = a.recs ++ b.recs;
   moves = a.moves ++ b.moves;
   grew = rw (b.grew, a.grew) (append_assoc J0 a.recs b.recs);
@@ -76,7 +76,7 @@ Follows-trans J0 J1 J2 L0 L1 L2 P0 P1 P2 small a b = record {
           back = f.back;
           split = ap (λ (l : List Motion). a.moves ++ l) f.split ∙ sym (append_assoc a.moves f.front f.back);
           reached = PlacesOf-append P0 P1 p a.moves f.front a.reached f.reached;
-          before = all-append (NumberIs (λ k. k ≤ n)) a.moves f.front (all-numbers (λ k. k ≤ length J1) (λ k. k ≤ n) a.moves (λ k h. omega arith) (all-right (NumberIs (λ k. k ≤ length J1)) L0 a.moves (rw a.moved at small))) f.before;
+          before = all-append (NumberIs (λ k. k ≤ n)) a.moves f.front (all-numbers (λ k. k ≤ length J1) (λ k. k ≤ n) a.moves (λ k h. omega arith) small) f.before;
           after = f.after;
         }
 

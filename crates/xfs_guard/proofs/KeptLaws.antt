@@ -1,6 +1,6 @@
 -- What a guard is after a record was written, and after the disk failed.
 use Rattle.std.specs.Prelude.{◌||◌}
-use Rattle.std.proofs.Common.{◌≡◌, ⊎_elim, inl, inr, ℕ, Bool, true, false, List, [], ◌∷◌, None, Some, Err, length, refl, sym, ◌∙◌, true≢false}
+use Rattle.std.proofs.Common.{◌≡◌, ⊎_elim, inl, inr, ℕ, ◌<◌, Bool, true, false, List, [], ◌∷◌, None, Some, Err, length, refl, sym, ◌∙◌, true≢false}
 use Rattle.std.specs.declared.option.Option.{Option}
 use Rattle.xfs_base.specs.Causes.{IfTold}
 use Rattle.xfs_base.specs.declared.money.NoteKind.{NoteKind}
@@ -13,7 +13,7 @@ use Rattle.xfs_mech.specs.declared.motion.Motion.{Motion}
 use Rattle.xfs_mech.specs.declared.motion.Motion.TheVariants.{Moved}
 use Rattle.xfs_journal.specs.declared.record.Rec.{Rec}
 use Rattle.xfs_journal.specs.declared.record.Rec.TheVariants.{Boot}
-use Rattle.xfs_journal.specs.Journal.{Numbered}
+use Rattle.xfs_journal.specs.Journal.{Numbered, last_mark}
 use Rattle.xfs_guard.specs.declared.open.Open.{Open}
 use Rattle.xfs_guard.specs.declared.open.Open.TheVariants.{No, Written, Acted}
 pub use Rattle.xfs_guard.specs.View.{over}
@@ -71,11 +71,12 @@ IsSound-stored v s d h = record {
     go (Some L) t = record { agrees = t.agrees; within = t.within; counted = t.counted; acted = t.acted }
 
 -- a guard whose journal is open
-pub IsKept-open : (v : View) (spare left : ℕ) (kinds : List NoteKind) → IsSound v → v.boot_missing ≡ false → HasRoom v.open_order spare left → HasLimits v.open_order v → kinds ≡ v.units
+pub IsKept-open : (v : View) (spare left : ℕ) (kinds : List NoteKind) → IsSound v → 0 < last_mark v.records → v.boot_missing ≡ false → HasRoom v.open_order spare left → HasLimits v.open_order v → kinds ≡ v.units
     → IsKept (record v { shut = false; in_doubt = None }) spare left kinds
-IsKept-open v spare left kinds s booted room limits units = record {
+IsKept-open v spare left kinds s marked booted room limits units = record {
   sound = λ e m. IsSound-stored v false None s;
   clean = λ e. refl;
+  marked = marked;
   closed = λ e. absurd (true≢false (sym e));
   missing = λ e. absurd (true≢false (sym e ∙ booted));
   recorded = λ told J p. ⊎_elim (λ same. rw same (recorded-sound v s told)) (λ doubt. absurd (none doubt.0 doubt.1)) p;
@@ -93,11 +94,12 @@ IsKept-open v spare left kinds s booted room limits units = record {
     has (Acted k m d failed) h = h
 
 -- a guard whose disk failed at a record
-pub IsKept-doubted : (v : View) (r : Rec) (w : Option (List (List ℕ × ℕ))) (o : Open) (spare left : ℕ) (kinds : List NoteKind) → IsSound v → IsSound (longer v r w o) → kinds ≡ v.units
+pub IsKept-doubted : (v : View) (r : Rec) (w : Option (List (List ℕ × ℕ))) (o : Open) (spare left : ℕ) (kinds : List NoteKind) → IsSound v → 0 < last_mark v.records → IsSound (longer v r w o) → kinds ≡ v.units
     → IsKept (record v { shut = true; in_doubt = Some r; open_order = No }) spare left kinds
-IsKept-doubted v r w o spare left kinds s t units = record {
+IsKept-doubted v r w o spare left kinds s marked t units = record {
   sound = λ e m. absurd (true≢false e);
   clean = λ e. absurd (true≢false e);
+  marked = marked;
   closed = λ e. refl;
   missing = λ e. refl;
   recorded = λ told J p. ⊎_elim (λ same. rw same (recorded-sound v s told)) (λ doubt. rw (doubt.2, ← (some doubt.0 doubt.1)) (recorded-sound (longer v r w o) t told)) p;
@@ -121,6 +123,7 @@ IsKept-refused T e key seed o motions places faults old new r w was told spare r
         rw (s.records, s.units, s.bound, s.limits, s.shut, s.boot_missing, s.in_doubt, same) (record {
           sound = kept.sound;
           clean = kept.clean;
+          marked = kept.marked;
           closed = kept.closed;
           missing = kept.missing;
           recorded = kept.recorded;
@@ -132,7 +135,7 @@ IsKept-refused T e key seed o motions places faults old new r w was told spare r
     disk : e ≡ Disk → IsKept (over key seed o motions places faults new told) spare left kinds
     disk is = let s = rw is at wrote in
         rw (s.records, s.units, s.bound, s.limits, s.shut, s.boot_missing, s.in_doubt, same, none)
-        (IsKept-doubted (over key seed o motions places faults old was) r w No spare left kinds (kept.sound open_still booted) sound kept.units)
+        (IsKept-doubted (over key seed o motions places faults old was) r w No spare left kinds (kept.sound open_still booted) kept.marked sound kept.units)
 
 -- what follows then
 pub Continues-refused : (T : Type 0) {D : Type 0} (e : Deny) (key seed : List ℕ) (o : Open) (motions : Option (List Motion)) (places : Places) (faults : ℕ) (old new : LedgerView D) (r : Rec)
@@ -163,6 +166,7 @@ pub IsKept-acted : (v : View) (k : Kind) (c m d : Counts) (failed : Bool) (now :
 IsKept-acted v k c m d failed now Q f spare was left kinds before kept written may grows places units = record {
   sound = λ e m. sound;
   clean = kept.clean;
+  marked = kept.marked;
   closed = λ e. absurd (true≢false (sym e ∙ still));
   missing = λ e. absurd (true≢false (sym e ∙ booted));
   recorded = λ told J p. ⊎_elim (λ same. rw same (recorded-sound (acted_view v k m d failed now Q f) sound told)) (λ doubt. absurd (none doubt.0 (sym (kept.clean still) ∙ doubt.1))) p;

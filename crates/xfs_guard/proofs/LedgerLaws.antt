@@ -5,9 +5,9 @@ use Rattle.std.specs.declared.option.Option.{Option}
 use Rattle.std.specs.Option.{option_map}
 use Rattle.xfs_base.specs.declared.money.NoteKind.{NoteKind}
 use Rattle.xfs_journal.specs.declared.record.Rec.{Rec}
-use Rattle.xfs_journal.specs.declared.record.Rec.TheVariants.{Issue, Clear, Boot, Bind, Order, Done, Load}
-use Rattle.xfs_journal.specs.Journal.{record_at, live_of, last_mark, next_issue, nonce_text, next_number, live_after, mark_after, Finding, found_after, Binding, bound_after}
-use Rattle.xfs_journal.proofs.JournalLaws.{live_of-push, token_of-push, bind_of-push, last_mark-push, next_issue-push, record_at-push, record_at-pushed, record_at-within, eqb-same}
+use Rattle.xfs_journal.specs.declared.record.Rec.TheVariants.{Issue, Clear, Expire, Boot, Bind, Order, Done, Load}
+use Rattle.xfs_journal.specs.Journal.{record_at, live_of, last_mark, next_issue, nonce_text, next_number, live_after, mark_after, Finding, found_after, Binding}
+use Rattle.xfs_journal.proofs.JournalLaws.{live_of-push, binding_of-push, last_mark-push, next_issue-push, record_at-push, record_at-pushed, record_at-within, eqb-same}
 use Rattle.std.proofs.lemmas.Bool.{cases_lt}
 use Rattle.std.proofs.lemmas.List.{take_all, take_more, length-take-le}
 use Rattle.std.proofs.lemmas.Option.{slice_get_past, slice_get_within, get_or_from_slice_get}
@@ -48,16 +48,16 @@ nonce-open m J n booted is = rw booted at is
 
 pub bound_token-none : (u : List NoteKind) (J : List Rec) (l : Option Live) → IsLive J l → IsBound u J l None → bound_token J ≡ None
 bound_token-none u J None h b = rw h refl
-bound_token-none u J (Some l) h b = rw (h.0, b.0) refl
+bound_token-none u J (Some l) h b = rw (h.0, b) refl
 
 pub bound_place-none : (u : List NoteKind) (J : List Rec) (l : Option Live) → IsLive J l → IsBound u J l None → bound_place J ≡ None
 bound_place-none u J None h b = rw h refl
-bound_place-none u J (Some l) h b = rw (h.0, b.1) refl
+bound_place-none u J (Some l) h b = rw (h.0, b) refl
 
 pub bound_token-some : (u : List NoteKind) (J : List Rec) (l : Option Live) (b : Bound) → IsLive J l → IsBound u J l (Some b)
     → (t : List ℕ) × (bound_token J ≡ Some t) × (record_at J b.place ≡ Some (Bind t)) × (bound_place J ≡ Some b.place)
 bound_token-some u J None b h k = absurd k
-bound_token-some u J (Some l) b h k = (k.token, rw (h.0, k.bound) refl, k.written, rw (h.0, k.place) refl)
+bound_token-some u J (Some l) b h k = (k.token, rw (h.0, k.found) refl, k.written, rw (h.0, k.found) refl)
 
 -- an issue is written
 pub IsRead-issue : (J : List Rec) (u : List NoteKind) (i m : ℕ) (l : Option Live) (b : Option Bound) (n w : ℕ) (nonce : Nonce)
@@ -68,7 +68,7 @@ IsRead-issue J u i m l b n w nonce h is text number = record {
   few = let e = length-append J (Issue n w ∷ []) in let f = h.few in let g = h.issued in omega (arith, e, f, g, is);
   marked = sym (last_mark-push J (Issue n w));
   lives = (live_of-push J (Issue n w), rw (record_at-pushed J (Issue n w)) (ap Some (same nonce text number)));
-  binds = (token_of-push J (Issue n w) (length J + 1) ∙ rw (eqb-same (length J + 1)) refl, bind_of-push J (Issue n w) (length J + 1) ∙ rw (eqb-same (length J + 1)) refl);
+  binds = binding_of-push J (Issue n w) (length J + 1) ∙ rw (eqb-same (length J + 1)) refl;
 }
   where
     same : (x : Nonce) → x.text ≡ nonce_text n w → x.number ≡ n → record { text = nonce_text n w; number = n } ≡ x
@@ -113,19 +113,18 @@ lives-plain J r (Some l) h keeps = (
 
 -- a record that is neither a mark nor a bind leaves the bind, where the sums are those of the longer list
 binds-plain : (u : List NoteKind) (J : List Rec) (r : Rec) (l : Option Live) (b c : Option Bound) → IsLive J l → IsBound u J l b → SameBind b c
-    → ((p : ℕ) (f : Finding) → found_after p f r ≡ f.token) → ((p : ℕ) (f : Binding) → bound_after p f r ≡ f.place)
+    → ((p : ℕ) (f : Finding) → found_after p f r ≡ f.bind)
     → SumsOf u (J ++ r ∷ []) c → IsBound u (J ++ r ∷ []) l c
-binds-plain u J r None None None h k s token place sums = tt
-binds-plain u J r None (Some b) c h k s token place sums = absurd k
-binds-plain u J r None None (Some c) h k s token place sums = absurd s
-binds-plain u J r (Some l) None None h k s token place sums =
-    (token_of-push J r l.place ∙ (token l.place _ ∙ k.0), bind_of-push J r l.place ∙ (place l.place _ ∙ k.1))
-binds-plain u J r (Some l) None (Some c) h k s token place sums = absurd s
-binds-plain u J r (Some l) (Some b) None h k s token place sums = absurd s
-binds-plain u J r (Some l) (Some b) (Some c) h k s token place sums = record {
+binds-plain u J r None None None h k s bind sums = tt
+binds-plain u J r None (Some b) c h k s bind sums = absurd k
+binds-plain u J r None None (Some c) h k s bind sums = absurd s
+binds-plain u J r (Some l) None None h k s bind sums =
+    binding_of-push J r l.place ∙ (bind l.place _ ∙ k)
+binds-plain u J r (Some l) None (Some c) h k s bind sums = absurd s
+binds-plain u J r (Some l) (Some b) None h k s bind sums = absurd s
+binds-plain u J r (Some l) (Some b) (Some c) h k s bind sums = record {
   token = k.token;
-  bound = token_of-push J r l.place ∙ (token l.place _ ∙ k.bound);
-  place = bind_of-push J r l.place ∙ (place l.place _ ∙ (k.place ∙ ap Some (sym s)));
+  found = binding_of-push J r l.place ∙ (bind l.place _ ∙ (k.found ∙ rw s refl));
   written = rw s (record_at-push J r b.place (record_at-within J b.place (Bind k.token) k.written).1 ∙ k.written);
   sums = sums;
 }
@@ -144,14 +143,14 @@ same-bind (Some b) = refl
 -- a record is written that no reading of the journal looks at
 IsRead-plain : (J : List Rec) (u : List NoteKind) (i m : ℕ) (l : Option Live) (b : Option Bound) (r : Rec) → IsRead J u i m l b
     → ((k : ℕ) → next_number k r ≡ k) → ((k : ℕ) (x : Option ℕ) → live_after k x r ≡ x) → ((k x : ℕ) → mark_after k x r ≡ x)
-    → ((p : ℕ) (f : Finding) → found_after p f r ≡ f.token) → ((p : ℕ) (f : Binding) → bound_after p f r ≡ f.place)
+    → ((p : ℕ) (f : Finding) → found_after p f r ≡ f.bind)
     → ((c : List ℕ) → presented_in u (J ++ r ∷ []) c ≡ presented_in u J c) → IsRead (J ++ r ∷ []) u i m l b
-IsRead-plain J u i m l b r h numbers lives marks token place worth = record {
+IsRead-plain J u i m l b r h numbers lives marks bind worth = record {
   issued = rw (next_issue-push J r, numbers (next_issue J)) h.issued;
   few = let e = length-append J (r ∷ []) in let f = h.few in omega (arith, e, f);
   marked = h.marked ∙ sym (last_mark-push J r ∙ marks (length J) (last_mark J));
   lives = lives-plain J r l h.lives lives;
-  binds = binds-plain u J r l b b h.lives h.binds (same-bind b) token place (more b (sums-of u J l b h.binds));
+  binds = binds-plain u J r l b b h.lives h.binds (same-bind b) bind (more b (sums-of u J l b h.binds));
 }
   where
     more : (b : Option Bound) → SumsOf u J b → SumsOf u (J ++ r ∷ []) b
@@ -160,11 +159,11 @@ IsRead-plain J u i m l b r h numbers lives marks token place worth = record {
 
 -- an order is written
 pub IsRead-order : (J : List Rec) (u : List NoteKind) (i m : ℕ) (l : Option Live) (b : Option Bound) (k : Kind) (c : Counts) → IsRead J u i m l b → IsRead (J ++ Order k c ∷ []) u i m l b
-IsRead-order J u i m l b k c h = IsRead-plain J u i m l b (Order k c) h (λ n. refl) (λ n x. refl) (λ n x. refl) (λ p f. refl) (λ p f. refl) (λ cur. presented_in-push u J (Order k c) cur)
+IsRead-order J u i m l b k c h = IsRead-plain J u i m l b (Order k c) h (λ n. refl) (λ n x. refl) (λ n x. refl) (λ p f. refl) (λ cur. presented_in-push u J (Order k c) cur)
 
 -- a loading is written
 pub IsRead-load : (J : List Rec) (u : List NoteKind) (i m : ℕ) (l : Option Live) (b : Option Bound) (unit count : ℕ) → IsRead J u i m l b → IsRead (J ++ Load unit count ∷ []) u i m l b
-IsRead-load J u i m l b unit count h = IsRead-plain J u i m l b (Load unit count) h (λ n. refl) (λ n x. refl) (λ n x. refl) (λ p f. refl) (λ p f. refl) (λ cur. presented_in-push u J (Load unit count) cur)
+IsRead-load J u i m l b unit count h = IsRead-plain J u i m l b (Load unit count) h (λ n. refl) (λ n x. refl) (λ n x. refl) (λ p f. refl) (λ cur. presented_in-push u J (Load unit count) cur)
 
 -- what an order did is written
 pub IsRead-done : (J : List Rec) (u : List NoteKind) (i m : ℕ) (l : Option Live) (b c : Option Bound) (n d : Counts) → IsRead J u i m l b → SameBind b c → SumsOf u (J ++ Done n d ∷ []) c
@@ -174,7 +173,7 @@ IsRead-done J u i m l b c n d h same sums = record {
   few = let e = length-append J (Done n d ∷ []) in let f = h.few in omega (arith, e, f);
   marked = h.marked ∙ sym (last_mark-push J (Done n d));
   lives = lives-plain J (Done n d) l h.lives (λ n x. refl);
-  binds = binds-plain u J (Done n d) l b c h.lives h.binds same (λ p f. refl) (λ p f. refl) sums;
+  binds = binds-plain u J (Done n d) l b c h.lives h.binds same (λ p f. refl) sums;
 }
 
 -- a token is bound
@@ -191,11 +190,10 @@ IsRead-bind J u i m l b t c h live free fresh zeros place = record {
   where
     bind : (l : Option Live) (b : Option Bound) → IsLive J l → IsBound u J l b → IsBound u (J ++ Bind t ∷ []) l (Some c)
     bind None b h k = let none : Some live.0 ≡ None = sym live.1 ∙ h in cc
-    bind (Some l) (Some b) h k = let none : Some k.token ≡ None = (let e = rw h.0 at free in sym k.bound ∙ e) in cc
+    bind (Some l) (Some b) h k = let none : Some k.token ≡ None = (let e = rw (h.0, k.found) at free in e) in cc
     bind (Some l) None h k = record {
       token = t;
-      bound = token_of-push J (Bind t) l.place ∙ rw (h.0, k.0, eqb-same l.place) refl;
-      place = bind_of-push J (Bind t) l.place ∙ rw (h.0, k.1, eqb-same l.place) (ap Some (sym place));
+      found = binding_of-push J (Bind t) l.place ∙ rw (h.0, k, eqb-same l.place, place) refl;
       written = rw place (record_at-pushed J (Bind t));
       sums = λ j a e. zeros j ∙ sym (presented_in-push u J (Bind t) a.0 ∙ fresh a.0);
     }
@@ -334,19 +332,20 @@ kept-issue K n number word r d at is doubts none =
 
 -- another record than a mark was found, and leaves the live issue
 pub found-plain : (K : List Rec) (n : ℕ) (r : Rec) (l : Option Live) → slice_get K n ≡ Some r → length K ≤ n + 1
-    → ((number word : ℕ) → r ≡ Issue number word → ⊥) → (r ≡ Clear → ⊥) → ((p : Places) → r ≡ Boot p → ⊥) → IsLive (take n K) l → IsLive K l
-found-plain K n r l at le issue clear boot lives =
+    → ((number word : ℕ) → r ≡ Issue number word → ⊥) → (r ≡ Clear → ⊥) → (r ≡ Expire → ⊥) → ((p : Places) → r ≡ Boot p → ⊥) → IsLive (take n K) l → IsLive K l
+found-plain K n r l at le issue clear expire boot lives =
     let front = front-record K n r at le in
-    rw front.0 (lives-plain (take n K) r l lives (λ k o. keeps r issue clear boot k o))
+    rw front.0 (lives-plain (take n K) r l lives (λ k o. keeps r issue clear expire boot k o))
   where
-    keeps : (r : Rec) → ((number word : ℕ) → r ≡ Issue number word → ⊥) → (r ≡ Clear → ⊥) → ((p : Places) → r ≡ Boot p → ⊥) → (k : ℕ) (o : Option ℕ) → live_after k o r ≡ o
-    keeps (Issue number word) issue clear boot k o = absurd (issue number word refl)
-    keeps Clear issue clear boot k o = absurd (clear refl)
-    keeps (Boot p) issue clear boot k o = absurd (boot p refl)
-    keeps (Bind t) issue clear boot k o = refl
-    keeps (Order kind c) issue clear boot k o = refl
-    keeps (Done m d) issue clear boot k o = refl
-    keeps (Load u c) issue clear boot k o = refl
+    keeps : (r : Rec) → ((number word : ℕ) → r ≡ Issue number word → ⊥) → (r ≡ Clear → ⊥) → (r ≡ Expire → ⊥) → ((p : Places) → r ≡ Boot p → ⊥) → (k : ℕ) (o : Option ℕ) → live_after k o r ≡ o
+    keeps (Issue number word) issue clear expire boot k o = absurd (issue number word refl)
+    keeps Clear issue clear expire boot k o = absurd (clear refl)
+    keeps Expire issue clear expire boot k o = absurd (expire refl)
+    keeps (Boot p) issue clear expire boot k o = absurd (boot p refl)
+    keeps (Bind t) issue clear expire boot k o = refl
+    keeps (Order kind c) issue clear expire boot k o = refl
+    keeps (Done m d) issue clear expire boot k o = refl
+    keeps (Load u c) issue clear expire boot k o = refl
 
 -- what a call asks of a ledger holds of what stands for it
 pub fresh-at : {D : Type 0} (a b : LedgerView D) → a ≡ b → ((c : List ℕ) → presented_in b.units b.records c ≡ 0) → (c : List ℕ) → presented_in a.units a.records c ≡ 0

@@ -4,12 +4,15 @@ pub mod BootLaws
 pub mod BudgetLaws
 pub mod ClaimLaws
 pub mod ContinueLaws
+pub mod CoveredLaws
 pub mod CrashedLaws
 pub mod FollowsLaws
+pub mod KeepsLaws
 pub mod KeptLaws
 pub mod LedgerLaws
 pub mod LeftLaws
 pub mod LifeLaws
+pub mod MarkLaws
 pub mod OrderLaws
 pub mod PresentedLaws
 pub mod RecordLaws
@@ -20,4 +23,5 @@ pub mod RestoreLaws
 pub mod SizeLaws
 pub mod SoundLaws
 pub mod StoredLaws
+pub mod UpheldLaws
 pub mod WithinLaws

@@ -5,7 +5,7 @@ use Rattle.std.specs.List.{Contains}
 use Rattle.std.proofs.lemmas.List.{append-nil}
 use Rattle.std.proofs.lemmas.List.Elements.{All-append, All-map, All-nil, All-weaker, All-contains}
 use Rattle.xfs_journal.specs.declared.record.Rec.{Rec}
-use Rattle.xfs_journal.specs.declared.record.Rec.TheVariants.{Issue, Clear, Boot, Bind, Order, Done, Load}
+use Rattle.xfs_journal.specs.declared.record.Rec.TheVariants.{Issue, Clear, Expire, Boot, Bind, Order, Done, Load}
 use Rattle.xfs_journal.specs.Journal.{Walk, next_number, next_issue, CarriesNumber, Numbered}
 use Rattle.xfs_guard.specs.Lives.{Answered, Run, BeginsWith, IsKeptIn, IsLife, answered_in}
 
@@ -25,6 +25,7 @@ rises : (n : ℕ) (J : List Rec) → n ≤ fold next_number n J
 rises n [] = omega arith
 rises n (Issue number word ∷ rs) = let le = rises (n + 1) rs in omega (arith, le)
 rises n (Clear ∷ rs) = rises n rs
+rises n (Expire ∷ rs) = rises n rs
 rises n (Boot places ∷ rs) = rises n rs
 rises n (Bind token ∷ rs) = rises n rs
 rises n (Order kind counts ∷ rs) = rises n rs

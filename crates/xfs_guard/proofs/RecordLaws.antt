@@ -1,11 +1,13 @@
 -- What a guard keeps when a record is appended.
-use Rattle.std.proofs.Common.{◌≡◌, ℕ, suc, ◌+◌, ◌-◌, ◌<◌, ◌≤◌, Bool, false, List, [], ◌∷◌, ◌++◌, length, None, Some, refl, sym, ◌∙◌, ap, take, zero-add, add-zero, arith, length-append}
+use Rattle.std.proofs.Common.{◌≡◌, inl, inr, ℕ, suc, ◌+◌, ◌-◌, ◌<◌, ◌≤◌, Bool, false, List, [], ◌∷◌, ◌++◌, length, None, Some, refl, sym, ◌∙◌, ap, take, zero-add, add-zero, arith, length-append}
 use Rattle.std.proofs.lemmas.List.{length-take}
 use Rattle.std.specs.Prelude.{fold, ⊤}
 use Rattle.std.specs.declared.option.Option.{Option}
+use Rattle.std.specs.Option.{option_map}
 use Rattle.std.specs.List.{Contains}
 use Rattle.std.proofs.lemmas.List.Sums.{sum_by-cons}
 use Rattle.xfs_base.specs.declared.counts.Counts.{Counts}
+use Rattle.xfs_base.specs.declared.counts.Places.{Places}
 use Rattle.xfs_base.specs.declared.money.NoteKind.{NoteKind}
 use Rattle.xfs_base.specs.declared.counts.Kind.{Kind}
 use Rattle.xfs_base.specs.declared.counts.Kind.TheVariants.{Stack, Present, Reject, Retract}
@@ -18,12 +20,14 @@ use Rattle.xfs_mech.specs.declared.motion.Motion.{Motion}
 use Rattle.xfs_mech.specs.declared.motion.Motion.TheVariants.{Moved, Taken, Loaded}
 use Rattle.xfs_mech.specs.Mechanism.{source_of}
 use Rattle.xfs_mech.proofs.MotionLaws.{all-numbers}
+use Rattle.xfs_journal.specs.Image.{HasUnit, body}
 use Rattle.xfs_journal.specs.declared.record.Rec.{Rec}
-use Rattle.xfs_journal.specs.declared.record.Rec.TheVariants.{Issue, Clear, Boot, Bind, Order, Done, Load}
-use Rattle.xfs_journal.specs.Journal.{record_at, live_at, live_of, live_after, token_of, next_number, next_issue, CarriesNumber, Reading, reading_after, nothing_read, is_place}
+use Rattle.xfs_journal.specs.declared.record.Rec.TheVariants.{Issue, Clear, Expire, Boot, Bind, Order, Done, Load}
+use Rattle.xfs_journal.specs.Journal.{record_at, live_at, live_of, live_after, mark_after, Binding, binding_of, token_of, next_number, next_issue, CarriesNumber, Reading, reading_after, nothing_read, is_place}
 use Rattle.xfs_journal.proofs.JournalLaws.{live_of-push, live_at-pushed, token_of-push, record_at-pushed, Walk-push, eqb-same, eqb-no}
 use Rattle.xfs_guard.specs.declared.open.Open.{Open}
 use Rattle.xfs_guard.specs.declared.open.Open.TheVariants.{No, Written, Acted}
+use Rattle.xfs_guard.specs.Nonce.{Ends, live_nonce}
 use Rattle.xfs_guard.specs.View.{View}
 use Rattle.xfs_guard.specs.Agrees.{MayFollow, IsOrder, IsNoOrder}
 use Rattle.xfs_guard.specs.Within.{Carries, shown, shown_by}
@@ -177,6 +181,7 @@ lives-later count (Some p) h = omega arith
 lives-step : (count : ℕ) (l : Option ℕ) (r : Rec) → LivesWithin count l → LivesWithin (count + 1) (live_after count l r)
 lives-step count l (Issue n w) h = omega arith
 lives-step count l Clear h = tt
+lives-step count l Expire h = tt
 lives-step count l (Boot p) h = tt
 lives-step count l (Bind t) h = lives-later count l h
 lives-step count l (Order k c) h = lives-later count l h
@@ -242,11 +247,12 @@ IsSound-issue v number word s none is = record {
         let w = presented_in-push v.units v.records (Issue number word) cur in omega (arith, z, w))
         tt
 
--- the live nonce is cleared
-pub IsSound-clear : (v : View) → IsSound v → v.open_order ≡ No → IsSound (longer v Clear None No)
-IsSound-clear v s none = record {
-  numbered = λ told. Walk-push next_number CarriesNumber 1 v.records Clear (s.numbered told) tt;
-  stands = rw last-pushed tt;
+-- a mark is written behind which no nonce lives
+sound-end : (v : View) (r : Rec) → IsSound v → v.open_order ≡ No → ((n : ℕ) → CarriesNumber n r) → ((n : ℕ) (l : Option ℕ) → live_after n l r ≡ None) → IsNoOrder (Some r)
+    → ((last : Option Rec) → IsNoOrder last → MayFollow last r) → ((m d : Counts) → r ≡ Done m d → ⊥) → IsSound (longer v r None No)
+sound-end v r s none numbers dies plain may other = record {
+  numbered = λ told. Walk-push next_number CarriesNumber 1 v.records r (s.numbered told) (numbers _);
+  stands = rw last-pushed plain;
   budget = record {
     funded = λ p b lives bound. absurd (gone p lives);
     unbound = λ p lives free. absurd (gone p lives);
@@ -255,15 +261,56 @@ IsSound-clear v s none = record {
   told = ties (where_told v.disk_told v.motions) s.told;
 }
   where
-    gone : (p : ℕ) → live_of (v.records ++ Clear ∷ []) ≡ Some p → ⊥
-    gone p lives = let e : None ≡ Some p = sym (live_of-push v.records Clear) ∙ lives in cc
+    gone : (p : ℕ) → live_of (v.records ++ r ∷ []) ≡ Some p → ⊥
+    gone p lives = let e : None ≡ Some p = sym (live_of-push v.records r ∙ dies (length v.records) (live_of v.records)) ∙ lives in cc
 
     before : IsNoOrder (record_at v.records (length v.records))
     before = rw none at s.stands
 
-    ties : (told : Option (List Motion)) → IfTold told (Ties v) → IfTold told (Ties (longer v Clear None No))
+    ties : (told : Option (List Motion)) → IfTold told (Ties v) → IfTold told (Ties (longer v r None No))
     ties None t = tt
-    ties (Some L) t = Ties-record v Clear None No L t before (λ k' c' m' d' o e. cc) (λ p cur lives. absurd (gone p lives)) tt
+    ties (Some L) t = Ties-record v r None No L t (may _ before) (λ k' c' m' d' o e. absurd (other m' d' e)) (λ p cur lives. absurd (gone p lives)) tt
+
+-- the live nonce is cleared, or its life is over
+pub IsSound-end : (v : View) (r : Rec) → Ends r → IsSound v → v.open_order ≡ No → IsSound (longer v r None No)
+IsSound-end v r (inl is) s none = rw is (sound-end v Clear s none (λ n. tt) (λ n l. refl) tt (λ last h. h) (λ m d e. cc))
+IsSound-end v r (inr is) s none = rw is (sound-end v Expire s none (λ n. tt) (λ n l. refl) tt (λ last h. h) (λ m d e. cc))
+
+-- what ends a nonce is short, has no unit and is no Boot, and no nonce lives behind it
+pub ends-short : (r : Rec) → Ends r → length (body r) ≤ 1025
+ends-short r (inl is) = rw is (omega arith)
+ends-short r (inr is) = rw is (omega arith)
+
+pub ends-unit : (r : Rec) → Ends r → HasUnit r
+ends-unit r (inl is) = rw is tt
+ends-unit r (inr is) = rw is tt
+
+pub ends-plain : (r : Rec) (p : Places) → Ends r → r ≡ Boot p → ⊥
+ends-plain r p (inl is) e = let no : Clear ≡ Boot p = sym is ∙ e in cc
+ends-plain r p (inr is) e = let no : Expire ≡ Boot p = sym is ∙ e in cc
+
+pub ends-live : (r : Rec) → Ends r → (k : ℕ) (x : Option ℕ) → live_after k x r ≡ None
+ends-live r (inl is) k x = rw is refl
+ends-live r (inr is) k x = rw is refl
+
+pub ends-mark : (r : Rec) → Ends r → (k x : ℕ) → mark_after k x r ≡ k + 1
+ends-mark r (inl is) k x = rw is refl
+ends-mark r (inr is) k x = rw is refl
+
+pub ends-number : (r : Rec) → Ends r → (k : ℕ) → next_number k r ≡ k
+ends-number r (inl is) k = rw is refl
+ends-number r (inr is) k = rw is refl
+
+pub ends-dead : (J : List Rec) (r : Rec) → Ends r → live_nonce (J ++ r ∷ []) ≡ None
+ends-dead J r ends = rw (live_of-push, ends-live r ends (length J) (live_of J)) refl
+
+-- where no token is bound there is no Bind
+no-binding : (J : List Rec) (p : ℕ) → token_of J p ≡ None → binding_of J p ≡ None
+no-binding J p e = of (binding_of J p) e
+  where
+    of : (o : Option Binding) → option_map (λ (b : Binding). b.token) o ≡ None → o ≡ None
+    of None h = refl
+    of (Some b) h = cc
 
 -- a token is bound to the live nonce, which had none
 pub IsSound-bind : (v : View) (p : ℕ) (b : List ℕ) (t : Parts) (amounts : List (List ℕ × ℕ)) → IsSound v → v.open_order ≡ No → live_of v.records ≡ Some p → token_of v.records p ≡ None
@@ -284,7 +331,7 @@ IsSound-bind v p b t amounts s none lives unbound carries are enough = record {
     live q l = sym (live_of-push v.records (Bind b)) ∙ l
 
     token : token_of (v.records ++ Bind b ∷ []) p ≡ Some b
-    token = token_of-push v.records (Bind b) p ∙ rw (lives, unbound, eqb-same p) refl
+    token = token_of-push v.records (Bind b) p ∙ rw (lives, no-binding v.records p unbound, eqb-same p) refl
 
     taken : (q : ℕ) → live_of v.records ≡ Some q → token_of (v.records ++ Bind b ∷ []) q ≡ None → ⊥
     taken q l free =

@@ -13,7 +13,7 @@ use Rattle.xfs_mech.specs.declared.motion.Motion.TheVariants.{Moved, Taken, Load
 use Rattle.xfs_mech.specs.Motions.{NumberIs}
 use Rattle.xfs_mech.proofs.MotionLaws.{all-append, all-numbers}
 use Rattle.xfs_journal.specs.declared.record.Rec.{Rec}
-use Rattle.xfs_journal.specs.declared.record.Rec.TheVariants.{Issue, Clear, Boot, Bind, Order, Done, Load}
+use Rattle.xfs_journal.specs.declared.record.Rec.TheVariants.{Issue, Clear, Expire, Boot, Bind, Order, Done, Load}
 use Rattle.xfs_journal.specs.Journal.{record_at, Walk}
 use Rattle.xfs_journal.proofs.JournalLaws.{record_at-within, record_at-append, record_at-pushed}
 use Rattle.xfs_guard.specs.Agrees.{RisesFrom, IsOrdered, IsAsked, IsOrder, MayFollow, keep_last, Agrees}
@@ -141,6 +141,7 @@ step-done J s m d (Some (Order k c)) e i o w =
     rw (kind, i.count, split) (Replays-done J (s.motions ++ taken_before k s.outlet) k c m d (Replays-before J s.motions k s.outlet i.motions) e w)
 step-done J s m d (Some (Issue n x)) e i o w = absurd o
 step-done J s m d (Some Clear) e i o w = absurd o
+step-done J s m d (Some Expire) e i o w = absurd o
 step-done J s m d (Some (Boot p)) e i o w = absurd o
 step-done J s m d (Some (Bind t)) e i o w = absurd o
 step-done J s m d (Some (Done x y)) e i o w = absurd o
@@ -152,6 +153,7 @@ step-motions J s (Done m d) i may w = step-done J s m d (record_at J (length J))
 step-motions J s (Load u c) i may w = Replays-record J (Load u c) (s.motions ++ Loaded u c ∷ []) (Replays-quiet J s.motions (Loaded u c) tt i.motions) may (λ k x m d o e. cc)
 step-motions J s (Issue n x) i may w = Replays-record J (Issue n x) s.motions i.motions may (λ k c m d o e. cc)
 step-motions J s Clear i may w = Replays-record J Clear s.motions i.motions may (λ k c m d o e. cc)
+step-motions J s Expire i may w = Replays-record J Expire s.motions i.motions may (λ k c m d o e. cc)
 step-motions J s (Boot p) i may w = Replays-record J (Boot p) s.motions i.motions may (λ k c m d o e. cc)
 step-motions J s (Bind t) i may w = Replays-record J (Bind t) s.motions i.motions may (λ k c m d o e. cc)
 step-motions J s (Order k c) i may w = Replays-record J (Order k c) s.motions i.motions may (λ k' c' m d o e. cc)
@@ -198,6 +200,7 @@ keeps-within J L a P rs (Done m d) e (Some (Order k c)) is =
     rw (← counts) asked.within
 keeps-within J L a P rs (Issue n w) e (Some (Order k c)) is = tt
 keeps-within J L a P rs Clear e (Some (Order k c)) is = tt
+keeps-within J L a P rs Expire e (Some (Order k c)) is = tt
 keeps-within J L a P rs (Boot p) e (Some (Order k c)) is = tt
 keeps-within J L a P rs (Bind t) e (Some (Order k c)) is = tt
 keeps-within J L a P rs (Order k' c') e (Some (Order k c)) is = tt
@@ -205,6 +208,7 @@ keeps-within J L a P rs (Load u n) e (Some (Order k c)) is = tt
 keeps-within J L a P rs r e None is = tt
 keeps-within J L a P rs r e (Some (Issue n w)) is = tt
 keeps-within J L a P rs r e (Some Clear) is = tt
+keeps-within J L a P rs r e (Some Expire) is = tt
 keeps-within J L a P rs r e (Some (Boot p)) is = tt
 keeps-within J L a P rs r e (Some (Bind t)) is = tt
 keeps-within J L a P rs r e (Some (Done m d)) is = tt

@@ -27,10 +27,10 @@ use Rattle.xfs_guard.specs.Recorded.{IsRecorded}
 use Rattle.xfs_guard.specs.Orders.{kind_unacted}
 use Rattle.xfs_guard.specs.Kept.{HasRoom, HasLimits}
 use Rattle.xfs_guard.specs.Sound.{Stands, HasActed, Ties, where_told, IsSound}
-use Rattle.xfs_guard.specs.Continues.{Leads, Continues}
+use Rattle.xfs_guard.specs.Continues.{Continues}
 use Rattle.xfs_guard.proofs.CrashedLaws.{begins-same}
 use Rattle.xfs_mech.proofs.MoveLaws.{Moves-same, Moves-entry}
-use Rattle.xfs_guard.proofs.ContinueLaws.{Led-same, Led-motion}
+use Rattle.xfs_guard.proofs.ContinueLaws.{leads-same, leads-motion}
 use Rattle.xfs_guard.proofs.SoundLaws.{grows-told}
 use Rattle.xfs_guard.proofs.WithinLaws.{Within-quiet, shown-motion}
 
@@ -181,20 +181,22 @@ HasRoom-report o e m d failed was now P Q before spare left room h more r = go o
 -- what follows after a report, also behind a record in doubt
 pub Continues-report : (v : View) (e : Motion) (m d : Counts) (failed : Bool) (now : Option (List Motion)) (Q : Places) (f spare left : ℕ) → IsReport e
     → Reports e m d failed v.motions now v.places Q spare left → Continues v (reported_view v now Q f)
-Continues-report v e m d true now Q f spare left is r = let none = r.nothing refl in rw (none.0, none.1) (record { leads = same v.motions; key = refl; seed = refl; units = refl; moves = Moves-same v.motions v.places; disk_told = refl; limits = refl; grew = begins-same v.records; left = λ J was. was })
-  where
-    same : (told : Option (List Motion)) → Leads v (reported_view v v.motions v.places f) told told
-    same None = tt
-    same (Some L) = λ J possible. record { from = J; possible = possible; led = Led-same J L v.places }
-Continues-report v e m d false now Q f spare left is r = record { leads = told v.motions (r.grown refl); key = refl; seed = refl; units = refl; moves = Moves-entry e v.motions now v.places Q (r.grown refl) (r.places refl); disk_told = refl; limits = refl; grew = begins-same v.records; left = λ J was. was }
-  where
-    told : (was : Option (List Motion)) → Grows was e now → Leads v (reported_view v now Q f) was now
-    told None g = rw g tt
-    told (Some L) g = rw g (λ J possible. record {
-      from = J;
-      possible = possible;
-      led = Led-motion J L e v.places Q (number-report (λ n. n ≤ length J) e is) (number-report (λ n. length J ≤ n) e is) (r.places refl);
-    })
+Continues-report v e m d true now Q f spare left is r = let none = r.nothing refl in rw (none.0, none.1) (record { leads = λ J possible. record { from = J; possible = possible; led = leads-same v.motions J v.places }; key = refl; seed = refl; units = refl; moves = Moves-same v.motions v.places; disk_told = refl; limits = refl; grew = begins-same v.records; left = λ J was. was })
+Continues-report v e m d false now Q f spare left is r = record {
+  leads = λ J possible. record {
+    from = J;
+    possible = possible;
+    led = leads-motion v.motions now J e v.places Q (r.grown refl) (number-report (λ n. n ≤ length J) e is) (number-report (λ n. length J ≤ n) e is) (r.places refl);
+  };
+  key = refl;
+  seed = refl;
+  units = refl;
+  moves = Moves-entry e v.motions now v.places Q (r.grown refl) (r.places refl);
+  disk_told = refl;
+  limits = refl;
+  grew = begins-same v.records;
+  left = λ J was. was;
+}
 
 -- a taking leaves what an order takes, where that is no retract
 pub taken-leaves : (o : Open) (c : Counts) (P Q : Places) → kind_unacted o ≢ Some Retract → PlacesOf P (Taken c ∷ []) Q → LeavesSource o P Q

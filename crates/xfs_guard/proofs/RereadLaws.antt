@@ -5,6 +5,7 @@ use Rattle.std.specs.declared.option.Option.{Option}
 use Rattle.xfs_base.specs.Causes.{IfTold}
 use Rattle.xfs_base.specs.declared.counts.Places.{Places}
 use Rattle.xfs_disk.specs.Disk.{LeavesOnly}
+use Rattle.xfs_disk.specs.declared.disk.Disk.{Ghosts}
 use Rattle.xfs_journal.specs.JournalView.{IsPossible, HasPossible, StandsForEither}
 use Rattle.xfs_journal.specs.Paging.{IsQuiet}
 use Rattle.xfs_journal.specs.declared.record.Rec.{Rec}
@@ -21,35 +22,35 @@ use Rattle.xfs_guard.proofs.CrashedLaws.{begins-trans, begins-possible}
 use Rattle.xfs_guard.proofs.LeftLaws.{recorded-possible, recorded-either}
 use Rattle.xfs_guard.proofs.StoredLaws.{tells}
 
-module _ {D : Type 0} (held : D → Option (List ℕ)) (images : D → List ℕ → Type 0) (moment : D → ℕ) (since : D → ℕ → List ℕ → Type 0) where
+module _ {D : Type 0} (g : Ghosts D) where
   -- the disk was read, and nothing else
-  pub reread-quiet : (faults : D → ℕ) (old new : D) (P : List ℕ → Type 0) → IfTold (held old) (λ _. IsQuiet held images moment since faults old new)
-      → IfTold (held old) (λ _. LeavesOnly moment since old new (λ bytes. images old bytes ⊎ P bytes))
-  reread-quiet faults old new P quiet = on_told (held old) (λ _. LeavesOnly moment since old new (λ bytes. images old bytes ⊎ P bytes)) (λ all told.
-      weaken moment since old new (images old) (λ bytes. images old bytes ⊎ P bytes) (λ bytes was. inl was)
-      (from_told (held old) (λ _. IsQuiet held images moment since faults old new) quiet all told).moments)
+  pub reread-quiet : (old new : D) (P : List ℕ → Type 0) → IfTold (g.held old) (λ _. IsQuiet g.held g.images g.moment g.images_since g.faults old new)
+      → IfTold (g.held old) (λ _. LeavesOnly g.moment g.images_since old new (λ bytes. g.images old bytes ⊎ P bytes))
+  reread-quiet old new P quiet = on_told (g.held old) (λ _. LeavesOnly g.moment g.images_since old new (λ bytes. g.images old bytes ⊎ P bytes)) (λ all told.
+      weaken g.moment g.images_since old new (g.images old) (λ bytes. g.images old bytes ⊎ P bytes) (λ bytes was. inl was)
+      (from_told (g.held old) (λ _. IsQuiet g.held g.images g.moment g.images_since g.faults old new) quiet all told).moments)
 
   -- it was read, and a record was appended, or may have been
-  pub reread-append : (faults : D → ℕ) (old mid new : D) (J : List Rec) (r : Rec) (P : List ℕ → Type 0) → is_some (held mid) ≡ is_some (held old)
-      → IfTold (held old) (λ _. IsQuiet held images moment since faults old mid) → IfTold (held mid) (λ _. LeavesOnly moment since mid new (StandsForEither J r))
-      → ((bytes : List ℕ) → StandsForEither J r bytes → P bytes) → IfTold (held old) (λ _. LeavesOnly moment since old new (λ bytes. images old bytes ⊎ P bytes))
-  reread-append faults old mid new J r P same quiet appended implies = on_told (held old) (λ _. LeavesOnly moment since old new (λ bytes. images old bytes ⊎ P bytes)) (λ all told.
-      let still = tells (held mid) (same ∙ ap is_some told) in
-      weaken moment since old new (λ bytes. images old bytes ⊎ StandsForEither J r bytes) (λ bytes. images old bytes ⊎ P bytes) (λ bytes e. ⊎_elim (λ was. inl was) (λ is. inr (implies bytes is)) e)
-      (joins moment since old mid new (images old) (StandsForEither J r)
-      (from_told (held old) (λ _. IsQuiet held images moment since faults old mid) quiet all told).moments
-      (from_told (held mid) (λ _. LeavesOnly moment since mid new (StandsForEither J r)) appended still.0 still.1)))
+  pub reread-append : (old mid new : D) (J : List Rec) (r : Rec) (P : List ℕ → Type 0) → is_some (g.held mid) ≡ is_some (g.held old)
+      → IfTold (g.held old) (λ _. IsQuiet g.held g.images g.moment g.images_since g.faults old mid) → IfTold (g.held mid) (λ _. LeavesOnly g.moment g.images_since mid new (StandsForEither J r))
+      → ((bytes : List ℕ) → StandsForEither J r bytes → P bytes) → IfTold (g.held old) (λ _. LeavesOnly g.moment g.images_since old new (λ bytes. g.images old bytes ⊎ P bytes))
+  reread-append old mid new J r P same quiet appended implies = on_told (g.held old) (λ _. LeavesOnly g.moment g.images_since old new (λ bytes. g.images old bytes ⊎ P bytes)) (λ all told.
+      let still = tells (g.held mid) (same ∙ ap is_some told) in
+      weaken g.moment g.images_since old new (λ bytes. g.images old bytes ⊎ StandsForEither J r bytes) (λ bytes. g.images old bytes ⊎ P bytes) (λ bytes e. ⊎_elim (λ was. inl was) (λ is. inr (implies bytes is)) e)
+      (joins g.moment g.images_since old mid new (g.images old) (StandsForEither J r)
+      (from_told (g.held old) (λ _. IsQuiet g.held g.images g.moment g.images_since g.faults old mid) quiet all told).moments
+      (from_told (g.held mid) (λ _. LeavesOnly g.moment g.images_since mid new (StandsForEither J r)) appended still.0 still.1)))
 
   -- what was left goes on from the records before
-  pub behind-reread : (old new : GuardView D) (p : Places) → is_some (held new.disk) ≡ is_some (held old.disk)
-      → IfTold (held old.disk) (λ _. LeavesOnly moment since old.disk new.disk (λ bytes. images old.disk bytes ⊎ StandsReread old.state.records old.state.in_doubt p (IsLeftAt new.state) bytes))
-      → LeavesBehind held images moment since old new
+  pub behind-reread : (old new : GuardView D) (p : Places) → is_some (g.held new.disk) ≡ is_some (g.held old.disk)
+      → IfTold (g.held old.disk) (λ _. LeavesOnly g.moment g.images_since old.disk new.disk (λ bytes. g.images old.disk bytes ⊎ StandsReread old.state.records old.state.in_doubt p (IsLeftAt new.state) bytes))
+      → LeavesBehind g old new
   behind-reread old new p told leaves = record {
     told = told;
-    moments = on_told (held old.disk) (λ _. LeavesOnly moment since old.disk new.disk (λ bytes. images old.disk bytes ⊎ StandsLeft old.state new.state bytes)) (λ all is.
-        weaken moment since old.disk new.disk (λ bytes. images old.disk bytes ⊎ StandsReread old.state.records old.state.in_doubt p (IsLeftAt new.state) bytes)
-        (λ bytes. images old.disk bytes ⊎ StandsLeft old.state new.state bytes) (λ bytes e. ⊎_elim (λ was. inl was) (λ read. inr (from bytes read read.either)) e)
-        (from_told (held old.disk) (λ _. LeavesOnly moment since old.disk new.disk (λ bytes. images old.disk bytes ⊎ StandsReread old.state.records old.state.in_doubt p (IsLeftAt new.state) bytes)) leaves all is));
+    moments = on_told (g.held old.disk) (λ _. LeavesOnly g.moment g.images_since old.disk new.disk (λ bytes. g.images old.disk bytes ⊎ StandsLeft old.state new.state bytes)) (λ all is.
+        weaken g.moment g.images_since old.disk new.disk (λ bytes. g.images old.disk bytes ⊎ StandsReread old.state.records old.state.in_doubt p (IsLeftAt new.state) bytes)
+        (λ bytes. g.images old.disk bytes ⊎ StandsLeft old.state new.state bytes) (λ bytes e. ⊎_elim (λ was. inl was) (λ read. inr (from bytes read read.either)) e)
+        (from_told (g.held old.disk) (λ _. LeavesOnly g.moment g.images_since old.disk new.disk (λ bytes. g.images old.disk bytes ⊎ StandsReread old.state.records old.state.in_doubt p (IsLeftAt new.state) bytes)) leaves all is));
   }
     where
       from : (bytes : List ℕ) (read : StandsReread old.state.records old.state.in_doubt p (IsLeftAt new.state) bytes) → StandsForEither read.list (Boot p) bytes → StandsLeft old.state new.state bytes
@@ -62,15 +63,15 @@ module _ {D : Type 0} (held : D → Option (List ℕ)) (images : D → List ℕ 
       }
 
   -- and is recorded
-  pub recorded-reread : (old new : D) (v : View) (p : Places) (IsLeftNow : List Rec → Type 0) → IsStored (held old) (images old) v.records v.in_doubt
-      → (is_some (held old) ≡ true → (J : List Rec) → IsPossible v.records v.in_doubt J → IsRecorded v.key v.units J v.motions)
-      → IfTold (held old) (λ _. LeavesOnly moment since old new (λ bytes. images old bytes ⊎ StandsReread v.records v.in_doubt p IsLeftNow bytes))
-      → IfTold (held old) (λ _. LeavesOnly moment since old new (StandsRecorded v.key v.units v.motions))
-  recorded-reread old new v p IsLeftNow stored recorded leaves = on_told (held old) (λ _. LeavesOnly moment since old new (StandsRecorded v.key v.units v.motions)) (λ all told.
+  pub recorded-reread : (old new : D) (v : View) (p : Places) (IsLeftNow : List Rec → Type 0) → IsStored g old v.records v.in_doubt
+      → (is_some (g.held old) ≡ true → (J : List Rec) → IsPossible v.records v.in_doubt J → IsRecorded v.key v.units J v.motions)
+      → IfTold (g.held old) (λ _. LeavesOnly g.moment g.images_since old new (λ bytes. g.images old bytes ⊎ StandsReread v.records v.in_doubt p IsLeftNow bytes))
+      → IfTold (g.held old) (λ _. LeavesOnly g.moment g.images_since old new (StandsRecorded v.key v.units v.motions))
+  recorded-reread old new v p IsLeftNow stored recorded leaves = on_told (g.held old) (λ _. LeavesOnly g.moment g.images_since old new (StandsRecorded v.key v.units v.motions)) (λ all told.
       let each = recorded (ap is_some told) in
-      weaken moment since old new (λ bytes. images old bytes ⊎ StandsReread v.records v.in_doubt p IsLeftNow bytes) (StandsRecorded v.key v.units v.motions)
+      weaken g.moment g.images_since old new (λ bytes. g.images old bytes ⊎ StandsReread v.records v.in_doubt p IsLeftNow bytes) (StandsRecorded v.key v.units v.motions)
       (λ bytes e. ⊎_elim
-      (λ was. recorded-possible v.key v.units v.motions v.records v.in_doubt bytes each (from_told (held old) (λ _. (c : List ℕ) → images old c → HasPossible v.records v.in_doubt c) stored all told bytes was))
+      (λ was. recorded-possible v.key v.units v.motions v.records v.in_doubt bytes each (from_told (g.held old) (λ _. (c : List ℕ) → g.images old c → HasPossible v.records v.in_doubt c) stored all told bytes was))
       (λ read. recorded-either v.key v.units v.motions read.list (Boot p) bytes (each read.list read.possible) (IsRecorded-boot v.key v.units read.list p v.motions (each read.list read.possible)) read.either)
       e)
-      (from_told (held old) (λ _. LeavesOnly moment since old new (λ bytes. images old bytes ⊎ StandsReread v.records v.in_doubt p IsLeftNow bytes)) leaves all told))
+      (from_told (g.held old) (λ _. LeavesOnly g.moment g.images_since old new (λ bytes. g.images old bytes ⊎ StandsReread v.records v.in_doubt p IsLeftNow bytes)) leaves all told))

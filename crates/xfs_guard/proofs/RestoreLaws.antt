@@ -1,5 +1,5 @@
 -- What a guard is after a restore, and what follows then.
-use Rattle.std.proofs.Common.{◌≡◌, ◌⊎◌, inl, inr, ⊎_elim, ℕ, Bool, true, false, true≢false, List, [], ◌∷◌, ◌++◌, None, Some, Ok, Err, refl}
+use Rattle.std.proofs.Common.{◌≡◌, ◌≢◌, ◌⊎◌, inl, inr, ⊎_elim, ℕ, Bool, true, false, true≢false, List, [], ◌∷◌, ◌++◌, None, Some, Ok, Err, refl}
 use Rattle.std.specs.Prelude.{OnOk, IfErr, ◌||◌, is_some}
 use Rattle.std.specs.declared.option.Option.{Option}
 use Rattle.std.specs.declared.result.Result.{Result}
@@ -13,7 +13,7 @@ use Rattle.xfs_guard.specs.declared.fail.BootFault.{BootFault}
 use Rattle.xfs_guard.specs.declared.fail.BootFault.TheVariants.{NotJournal, Disk, Full, Memory}
 use Rattle.xfs_guard.specs.declared.open.Open.{Open}
 use Rattle.xfs_guard.specs.declared.open.Open.TheVariants.{No}
-use Rattle.xfs_guard.specs.View.{View}
+use Rattle.xfs_guard.specs.View.{View, unread, reread}
 use Rattle.xfs_guard.specs.Recorded.{IsRecorded}
 use Rattle.xfs_guard.specs.Kept.{IsKept}
 use Rattle.xfs_guard.specs.LedgerView.{LedgerView}
@@ -22,6 +22,7 @@ use Rattle.xfs_guard.proofs.BootLaws.{IsKept-boot, IsRecorded-boot}
 use Rattle.xfs_guard.proofs.ContinueLaws.{Continues-grown, only-possible, doubted-possible}
 use Rattle.xfs_guard.proofs.CrashedLaws.{begins-same, begins-push, begins-possible, left-close, left-mount, left-boot, left-boot_doubt}
 use Rattle.xfs_guard.proofs.KeptLaws.{over}
+use Rattle.xfs_guard.proofs.MarkLaws.{marked-possible}
 
 -- as before, but for the disk
 abbrev pub untouched : {D : Type 0} → LedgerView D → LedgerView D → LedgerView D
@@ -47,106 +48,113 @@ doubted_now old new p J = record old { records = J; bound = None; shut = true; i
 abbrev pub IsReread : {D : Type 0} → LedgerView D → LedgerView D → Places → List Rec → Type 0
 IsReread old new p J = (new ≡ booted_now old new p J) ⊎ ((new ≡ missing_now old new J) ⊎ (new ≡ doubted_now old new p J))
 
--- what a restore may leave
+-- what a restore may leave that doesn't want memory
 abbrev pub MayRestore : {D : Type 0} → LedgerView D → LedgerView D → Places → Type 0
-MayRestore old new p = (new ≡ untouched old new) ⊎ ((new ≡ shut_now old new) ⊎ ((J : List Rec) × IsPossible old.records old.in_doubt J × IsReread old new p J))
+MayRestore old new p = (new ≡ shut_now old new) ⊎ ((J : List Rec) × IsPossible old.records old.in_doubt J × IsReread old new p J)
 
-pub restored : {T D : Type 0} (res : Result T BootFault) (old new : LedgerView D) (p : Places) (told : Type 0)
+pub restored : {T D : Type 0} (res : Result T BootFault) (old new : LedgerView D) (p : Places) (told : Type 0) → res ≢ Err Memory
+    → OnOk res ((J : List Rec) × IsPossible old.records old.in_doubt J × (new ≡ booted_now old new p J))
+    → (res ≡ Err Full → (J : List Rec) × IsPossible old.records old.in_doubt J × (passes old.limits (J ++ Boot p ∷ []) ≡ true) × (new ≡ missing_now old new J))
+    → (res ≡ Err Disk → (new ≡ shut_now old new) ⊎ ((J : List Rec) × IsPossible old.records old.in_doubt J × (new ≡ doubted_now old new p J)))
+    → IfErr res (λ f. (at : ℕ) → f ≡ NotJournal at → told × (new ≡ shut_now old new))
+    → MayRestore old new p
+restored (Ok x) old new p told other ok full disk silent = inr (ok.0, ok.1, inl ok.2)
+restored (Err Memory) old new p told other ok full disk silent = absurd (other refl)
+restored (Err Full) old new p told other ok full disk silent = let f = full refl in inr (f.0, f.1, inr (inl f.3))
+restored (Err Disk) old new p told other ok full disk silent = elim (disk refl) [
+  | inl shut ↦ inl shut
+  | inr read ↦ inr (read.0, read.1, inr (inr read.2))
+]
+restored (Err (NotJournal at)) old new p told other ok full disk silent = inl (silent at refl).1
+
+pub may-restore : {T D : Type 0} (res : Result T BootFault) (old new : LedgerView D) (p : Places) (told : Type 0)
     → OnOk res ((J : List Rec) × IsPossible old.records old.in_doubt J × (new ≡ booted_now old new p J))
     → (res ≡ Err Memory → new ≡ untouched old new)
     → (res ≡ Err Full → (J : List Rec) × IsPossible old.records old.in_doubt J × (passes old.limits (J ++ Boot p ∷ []) ≡ true) × (new ≡ missing_now old new J))
     → (res ≡ Err Disk → (new ≡ shut_now old new) ⊎ ((J : List Rec) × IsPossible old.records old.in_doubt J × (new ≡ doubted_now old new p J)))
     → IfErr res (λ f. (at : ℕ) → f ≡ NotJournal at → told × (new ≡ shut_now old new))
-    → MayRestore old new p
-restored (Ok x) old new p told ok memory full disk silent = inr (inr (ok.0, ok.1, inl ok.2))
-restored (Err Memory) old new p told ok memory full disk silent = inl (memory refl)
-restored (Err Full) old new p told ok memory full disk silent = let f = full refl in inr (inr (f.0, f.1, inr (inl f.3)))
-restored (Err Disk) old new p told ok memory full disk silent = elim (disk refl) [
-  | inl shut ↦ inr (inl shut)
-  | inr read ↦ inr (inr (read.0, read.1, inr (inr read.2)))
-]
-restored (Err (NotJournal at)) old new p told ok memory full disk silent = inr (inl (silent at refl).1)
+    → (new ≡ untouched old new) ⊎ MayRestore old new p
+may-restore (Err Memory) old new p told ok memory full disk silent = inl (memory refl)
+may-restore (Ok x) old new p told ok memory full disk silent = inr (restored (Ok x) old new p told (λ e. cc) ok full disk silent)
+may-restore (Err Full) old new p told ok memory full disk silent = inr (restored {T = Unit {0}} (Err Full) old new p told (λ e. cc) tt (λ e. full refl) (λ e. cc) (λ at e. cc))
+may-restore (Err Disk) old new p told ok memory full disk silent = inr (restored {T = Unit {0}} (Err Disk) old new p told (λ e. cc) tt (λ e. cc) (λ e. disk refl) (λ at e. cc))
+may-restore (Err (NotJournal at)) old new p told ok memory full disk silent = inr (restored {T = Unit {0}} (Err (NotJournal at)) old new p told (λ e. cc) tt (λ e. cc) (λ e. cc) silent)
 
--- the journal is shut, or as before, and no order is open
-pub IsKept-shut : (v : View) (s : Bool) (spare was left : ℕ) (kinds : List NoteKind) → (s ≡ v.shut) ⊎ (s ≡ true) → v.open_order ≡ No → IsKept v spare was kinds → IsKept (record v { shut = s }) spare left kinds
-IsKept-shut v s spare was left kinds (inl same) none kept = rw same (record {
-  sound = kept.sound;
-  clean = kept.clean;
-  closed = kept.closed;
-  missing = kept.missing;
-  recorded = kept.recorded;
-  room = rw none tt;
-  limits = rw none tt;
-  units = kept.units;
-})
-IsKept-shut v s spare was left kinds (inr shut) none kept = rw shut (record {
+-- a restore that wants memory leaves what a guard is
+pub IsKept-untouched : {D : Type 0} (key seed : List ℕ) (o : Open) (motions : Option (List Motion)) (places : Places) (faults : ℕ) (old new : LedgerView D) (was told : Bool) (spare : ℕ) (kinds : List NoteKind)
+    → new ≡ untouched old new → told ≡ was → IsKept (over key seed o motions places faults old was) spare old.room kinds → IsKept (over key seed o motions places faults new told) spare new.room kinds
+IsKept-untouched key seed o motions places faults old new was told spare kinds is same kept = rw (is, same) kept
+
+-- the journal is shut, and the order that was open is never carried out
+pub IsKept-unread : (v : View) (spare was left : ℕ) (kinds : List NoteKind) → IsKept v spare was kinds → IsKept (unread v) spare left kinds
+IsKept-unread v spare was left kinds kept = record {
   sound = λ e m. absurd (true≢false e);
   clean = λ e. absurd (true≢false e);
-  closed = λ e. none;
-  missing = λ e. none;
+  marked = kept.marked;
+  closed = λ e. refl;
+  missing = λ e. refl;
   recorded = kept.recorded;
-  room = rw none tt;
-  limits = rw none tt;
+  room = tt;
+  limits = tt;
   units = kept.units;
-})
+}
 
 -- the journal was read again, and its Boot is missing
-pub IsKept-missing : (v : View) (J : List Rec) (spare left : ℕ) (kinds : List NoteKind) → (v.disk_told ≡ true → IsRecorded v.key v.units J v.motions) → v.open_order ≡ No → kinds ≡ v.units
-    → IsKept (record v { records = J; bound = None; shut = false; boot_missing = true; in_doubt = None }) spare left kinds
-IsKept-missing v J spare left kinds recorded none units = record {
+pub IsKept-reread : (v : View) (J : List Rec) (spare was left : ℕ) (kinds : List NoteKind) → IsPossible v.records v.in_doubt J → IsKept v spare was kinds → IsKept (reread v J) spare left kinds
+IsKept-reread v J spare was left kinds possible kept = record {
   sound = λ e m. absurd (true≢false m);
   clean = λ e. refl;
-  closed = λ e. none;
-  missing = λ e. none;
-  recorded = λ told K possible. rw (only-possible J K None refl possible) (recorded told);
-  room = rw none tt;
-  limits = rw none tt;
-  units = units;
+  marked = marked-possible v.records v.in_doubt J possible kept.marked;
+  closed = λ e. refl;
+  missing = λ e. refl;
+  recorded = λ told K only. rw (only-possible J K None refl only) (kept.recorded told J possible);
+  room = tt;
+  limits = tt;
+  units = kept.units;
 }
 
 -- the journal was read again, and its Boot is in doubt
-pub IsKept-unbooted : (v : View) (J : List Rec) (p : Places) (spare left : ℕ) (kinds : List NoteKind) → (v.disk_told ≡ true → IsRecorded v.key v.units J v.motions) → v.open_order ≡ No → kinds ≡ v.units
-    → IsKept (record v { records = J; bound = None; shut = true; in_doubt = Some (Boot p) }) spare left kinds
-IsKept-unbooted v J p spare left kinds recorded none units = record {
+pub IsKept-unbooted : (v : View) (J : List Rec) (p : Places) (spare was left : ℕ) (kinds : List NoteKind) → IsPossible v.records v.in_doubt J → IsKept v spare was kinds
+    → IsKept (record (reread v J) { shut = true; boot_missing = v.boot_missing; in_doubt = Some (Boot p) }) spare left kinds
+IsKept-unbooted v J p spare was left kinds possible kept = record {
   sound = λ e m. absurd (true≢false e);
   clean = λ e. absurd (true≢false e);
-  closed = λ e. none;
-  missing = λ e. none;
-  recorded = λ told K possible. ⊎_elim (λ same. rw same (recorded told)) (λ more. rw more (IsRecorded-boot v.key v.units J p v.motions (recorded told))) (doubted-possible J K (Boot p) possible);
-  room = rw none tt;
-  limits = rw none tt;
-  units = units;
+  marked = marked-possible v.records v.in_doubt J possible kept.marked;
+  closed = λ e. refl;
+  missing = λ e. refl;
+  recorded = λ told K either. ⊎_elim (λ same. rw same (kept.recorded told J possible)) (λ more. rw more (IsRecorded-boot v.key v.units J p v.motions (kept.recorded told J possible))) (doubted-possible J K (Boot p) either);
+  room = tt;
+  limits = tt;
+  units = kept.units;
 }
 
--- what a guard is after a restore
+-- what a guard is after a restore that doesn't want memory
 pub IsKept-restored : {D : Type 0} (key seed : List ℕ) (o : Open) (motions : Option (List Motion)) (places : Places) (faults : ℕ) (old new : LedgerView D) (p : Places) (was told : Bool) (spare room left : ℕ) (kinds : List NoteKind)
-    → MayRestore old new p → told ≡ was → o ≡ No → IsKept (over key seed o motions places faults old was) spare room kinds → IsKept (over key seed o motions places faults new told) spare left kinds
-IsKept-restored key seed o motions places faults old new p was told spare room left kinds (inl is) same none kept =
-    rw (is, same) (IsKept-shut (over key seed o motions places faults old was) old.shut spare room left kinds (inl refl) none kept)
-IsKept-restored key seed o motions places faults old new p was told spare room left kinds (inr (inl is)) same none kept =
-    rw (is, same) (IsKept-shut (over key seed o motions places faults old was) true spare room left kinds (inr refl) none kept)
-IsKept-restored key seed o motions places faults old new p was told spare room left kinds (inr (inr (J, possible, inl is))) same none kept =
-    rw (is, same, none) (IsKept-boot (over key seed o motions places faults old was) J p spare left kinds (λ t. kept.recorded t J possible) kept.units)
-IsKept-restored key seed o motions places faults old new p was told spare room left kinds (inr (inr (J, possible, inr (inl is)))) same none kept =
-    rw (is, same) (IsKept-missing (over key seed o motions places faults old was) J spare left kinds (λ t. kept.recorded t J possible) none kept.units)
-IsKept-restored key seed o motions places faults old new p was told spare room left kinds (inr (inr (J, possible, inr (inr is)))) same none kept =
-    rw (is, same) (IsKept-unbooted (over key seed o motions places faults old was) J p spare left kinds (λ t. kept.recorded t J possible) none kept.units)
+    → MayRestore old new p → told ≡ was → IsKept (over key seed o motions places faults old was) spare room kinds → IsKept (over key seed No motions places faults new told) spare left kinds
+IsKept-restored key seed o motions places faults old new p was told spare room left kinds (inl is) same kept =
+    rw (is, same) (IsKept-unread (over key seed o motions places faults old was) spare room left kinds kept)
+IsKept-restored key seed o motions places faults old new p was told spare room left kinds (inr (J, possible, inl is)) same kept =
+    rw (is, same) (IsKept-boot (over key seed o motions places faults old was) J p spare left kinds (λ t. kept.recorded t J possible) kept.units)
+IsKept-restored key seed o motions places faults old new p was told spare room left kinds (inr (J, possible, inr (inl is))) same kept =
+    rw (is, same) (IsKept-reread (over key seed o motions places faults old was) J spare room left kinds possible kept)
+IsKept-restored key seed o motions places faults old new p was told spare room left kinds (inr (J, possible, inr (inr is))) same kept =
+    rw (is, same) (IsKept-unbooted (over key seed o motions places faults old was) J p spare room left kinds possible kept)
 
 -- what follows then: the Boot, which has the places, comes behind a possible list, or nothing does
-pub Continues-restored : {D : Type 0} (key seed : List ℕ) (o : Open) (motions : Option (List Motion)) (places : Places) (faults : ℕ) (old new : LedgerView D) (was told : Bool)
-    → told ≡ was → MayRestore old new places → Continues (over key seed o motions places faults old was) (over key seed o motions places faults new told)
-Continues-restored key seed o motions places faults old new was told same (inl is) =
+pub Continues-restored : {D : Type 0} (key seed : List ℕ) (o o' : Open) (motions : Option (List Motion)) (places : Places) (faults : ℕ) (old new : LedgerView D) (was told : Bool)
+    → told ≡ was → (new ≡ untouched old new) ⊎ MayRestore old new places → Continues (over key seed o motions places faults old was) (over key seed o' motions places faults new told)
+Continues-restored key seed o o' motions places faults old new was told same (inl is) =
     rw is (Continues-grown _ _ (Boot places) (λ q e. cc) refl refl refl refl refl same refl (λ K possible. inl possible) (begins-same old.records) (λ X left. left))
-Continues-restored key seed o motions places faults old new was told same (inr (inl is)) =
+Continues-restored key seed o o' motions places faults old new was told same (inr (inl is)) =
     rw is (Continues-grown _ _ (Boot places) (λ q e. cc) refl refl refl refl refl same refl (λ K possible. inl possible) (begins-same old.records) (λ X left. left-close old.records old.in_doubt (old.shut || old.boot_missing) X left))
-Continues-restored key seed o motions places faults old new was told same (inr (inr (J, found, inl is))) =
+Continues-restored key seed o o' motions places faults old new was told same (inr (inr (J, found, inl is))) =
     rw is (Continues-grown _ _ (Boot places) (λ q e. cc) refl refl refl refl refl same refl (λ K possible. inr (J, found, only-possible (J ++ Boot places ∷ []) K None refl possible))
     (begins-push old.records J (Boot places) (begins-possible old.records old.in_doubt J found))
     (λ X left. left-boot J places false X (left-mount old.records old.in_doubt (old.shut || old.boot_missing) J X found left)))
-Continues-restored key seed o motions places faults old new was told same (inr (inr (J, found, inr (inl is)))) =
+Continues-restored key seed o o' motions places faults old new was told same (inr (inr (J, found, inr (inl is)))) =
     rw is (Continues-grown _ _ (Boot places) (λ q e. cc) refl refl refl refl refl same refl (λ K possible. inl (rw (only-possible J K None refl possible) found))
     (begins-possible old.records old.in_doubt J found) (λ X left. left-mount old.records old.in_doubt (old.shut || old.boot_missing) J X found left))
-Continues-restored key seed o motions places faults old new was told same (inr (inr (J, found, inr (inr is)))) =
+Continues-restored key seed o o' motions places faults old new was told same (inr (inr (J, found, inr (inr is)))) =
     rw is (Continues-grown _ _ (Boot places) (λ q e. cc) refl refl refl refl refl same refl (λ K possible. ⊎_elim (λ same. inl (rw same found)) (λ more. inr (J, found, more)) (doubted-possible J K (Boot places) possible))
     (begins-possible old.records old.in_doubt J found) (λ X left. left-boot_doubt J places X (left-mount old.records old.in_doubt (old.shut || old.boot_missing) J X found left)))
 

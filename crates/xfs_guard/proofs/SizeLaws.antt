@@ -27,7 +27,7 @@ blocks-longer (x ∷ xs) r = omega (arith, length-append (framed x) (blocks (xs 
 pub size-longer : (J : List Rec) (r : Rec) → size (J ++ r ∷ []) ≡ size J + (3 + length (body r))
 size-longer J r = omega (arith, length-append magic (blocks (J ++ r ∷ [])), length-append magic (blocks J), blocks-longer J r)
 
-neither : (a b : Bool) → (a || b) ≡ false → (a ≡ false) × (b ≡ false)
+pub neither : (a b : Bool) → (a || b) ≡ false → (a ≡ false) × (b ≡ false)
 neither false false e = (refl, refl)
 neither false true e = (refl, e)
 neither true b e = absurd (no e)

@@ -6,6 +6,7 @@ use Rattle.std.specs.declared.option.Option.{Option}
 use Rattle.xfs_base.specs.Causes.{IfTold}
 use Rattle.xfs_base.specs.declared.counts.Places.{Places}
 use Rattle.xfs_disk.specs.Disk.{LeavesOnly}
+use Rattle.xfs_disk.specs.declared.disk.Disk.{Ghosts}
 use Rattle.xfs_journal.specs.Image.{Stands}
 use Rattle.xfs_journal.specs.JournalView.{IsPossible, HasPossible, StandsForEither}
 use Rattle.xfs_journal.specs.Paging.{IsOldOrShort, IsQuiet}
@@ -33,93 +34,93 @@ one_of_either kept r c J (inl before) stands = inl (stands_for_one c J kept stan
 one_of_either kept r c J (inr after) stands = inr (stands_for_one c J (kept ++ r ∷ []) stands after)
 
 -- what a disk that tells has now is a list that it may leave
-pub MayLeave-held : {D : Type 0} (held : D → Option (List ℕ)) (images : D → List ℕ → Type 0) (d : D) (J : List Rec) → ((d : D) (all : List ℕ) → held d ≡ Some all → images d all)
-    → is_some (held d) ≡ true → IfTold (held d) (λ all. Stands all J) → MayLeave (held d) (images d) J
-MayLeave-held held images d J as_read told stands =
-    let known = tells (held d) told in
-    record { told = told; bytes = known.0; left = as_read d known.0 known.1; stands = at_told (held d) (λ all. Stands all J) known.0 known.1 stands }
+pub MayLeave-held : {D : Type 0} (g : Ghosts D) (d : D) (J : List Rec) → ((d : D) (all : List ℕ) → g.held d ≡ Some all → g.images d all)
+    → is_some (g.held d) ≡ true → IfTold (g.held d) (λ all. Stands all J) → MayLeave g d J
+MayLeave-held g d J as_read told stands =
+    let known = tells (g.held d) told in
+    record { told = told; bytes = known.0; left = as_read d known.0 known.1; stands = at_told (g.held d) (λ all. Stands all J) known.0 known.1 stands }
 
 -- the disk was not mounted: a crash leaves what it left before
-pub WasLeft-mount : {D : Type 0} (held : D → Option (List ℕ)) (images : D → List ℕ → Type 0) (moment : D → ℕ) (since : D → ℕ → List ℕ → Type 0) (old new : D) (places : Places)
-    → ((d : D) (all : List ℕ) → held d ≡ Some all → images d all) → ((d : D) (t : ℕ) (c : List ℕ) → t ≤ moment d → images d c → since d t c)
-    → is_some (held new) ≡ is_some (held old) → IfTold (held old) (λ all. LeavesOnly moment since old new (IsOldOrShort (images old) all))
-    → (J : List Rec) → MayLeave (held new) (images new) J → WasLeft (held old) (images old) places J
-WasLeft-mount held images moment since old new places as_read counts_now same moments J may =
-    let told : is_some (held old) ≡ true = sym same ∙ may.told in
-    let known = tells (held old) told in
-    let leaves = at_told (held old) (λ all. LeavesOnly moment since old new (IsOldOrShort (images old) all)) known.0 known.1 moments in
-    from told known.0 (as_read old known.0 known.1) (leaves.each may.bytes (counts_now new (moment old) may.bytes leaves.later may.left))
+pub WasLeft-mount : {D : Type 0} (g : Ghosts D) (old new : D) (places : Places)
+    → ((d : D) (all : List ℕ) → g.held d ≡ Some all → g.images d all) → ((d : D) (t : ℕ) (c : List ℕ) → t ≤ g.moment d → g.images d c → g.images_since d t c)
+    → is_some (g.held new) ≡ is_some (g.held old) → IfTold (g.held old) (λ all. LeavesOnly g.moment g.images_since old new (IsOldOrShort (g.images old) all))
+    → (J : List Rec) → MayLeave g new J → WasLeft g old places J
+WasLeft-mount g old new places as_read counts_now same moments J may =
+    let told : is_some (g.held old) ≡ true = sym same ∙ may.told in
+    let known = tells (g.held old) told in
+    let leaves = at_told (g.held old) (λ all. LeavesOnly g.moment g.images_since old new (IsOldOrShort (g.images old) all)) known.0 known.1 moments in
+    from told known.0 (as_read old known.0 known.1) (leaves.each may.bytes (counts_now new (g.moment old) may.bytes leaves.later may.left))
   where
-    from : is_some (held old) ≡ true → (all : List ℕ) → images old all → IsOldOrShort (images old) all may.bytes → WasLeft (held old) (images old) places J
+    from : is_some (g.held old) ≡ true → (all : List ℕ) → g.images old all → IsOldOrShort (g.images old) all may.bytes → WasLeft g old places J
     from told all here (inl was) = record { list = J; before = record { told = told; bytes = may.bytes; left = was; stands = may.stands }; grown = inl refl }
     from told all here (inr (short, few)) = record { list = []; before = record { told = told; bytes = all; left = here; stands = short_stands all short }; grown = inl (short_empty may.bytes J few may.stands) }
 
 -- the Boot was not written, or it is not known whether it was
-pub WasLeft-append : {D : Type 0} (held : D → Option (List ℕ)) (images : D → List ℕ → Type 0) (old mid new end : D) (places : Places) (kept : List Rec)
-    → ((d : D) (all : List ℕ) → held d ≡ Some all → images d all) → is_some (held mid) ≡ is_some (held old) → is_some (held new) ≡ is_some (held mid) → end ≡ new
-    → IfTold (held old) (λ all. Stands all kept) → IfTold (held mid) (λ _. (c : List ℕ) → images new c → StandsForEither kept (Boot places) c)
-    → (J : List Rec) → MayLeave (held end) (images end) J → WasLeft (held old) (images old) places J
-WasLeft-append held images old mid new end places kept as_read mounted appended ended stands either J may =
-    let after : is_some (held new) ≡ true = rw ended at may.told in
-    let now : images new may.bytes = rw ended at may.left in
-    let between : is_some (held mid) ≡ true = sym appended ∙ after in
-    let told : is_some (held old) ≡ true = sym mounted ∙ between in
-    let then = tells (held mid) between in
-    let each = at_told (held mid) (λ _. (c : List ℕ) → images new c → StandsForEither kept (Boot places) c) then.0 then.1 either in record {
+pub WasLeft-append : {D : Type 0} (g : Ghosts D) (old mid new end : D) (places : Places) (kept : List Rec)
+    → ((d : D) (all : List ℕ) → g.held d ≡ Some all → g.images d all) → is_some (g.held mid) ≡ is_some (g.held old) → is_some (g.held new) ≡ is_some (g.held mid) → end ≡ new
+    → IfTold (g.held old) (λ all. Stands all kept) → IfTold (g.held mid) (λ _. (c : List ℕ) → g.images new c → StandsForEither kept (Boot places) c)
+    → (J : List Rec) → MayLeave g end J → WasLeft g old places J
+WasLeft-append g old mid new end places kept as_read mounted appended ended stands either J may =
+    let after : is_some (g.held new) ≡ true = rw ended at may.told in
+    let now : g.images new may.bytes = rw ended at may.left in
+    let between : is_some (g.held mid) ≡ true = sym appended ∙ after in
+    let told : is_some (g.held old) ≡ true = sym mounted ∙ between in
+    let then = tells (g.held mid) between in
+    let each = at_told (g.held mid) (λ _. (c : List ℕ) → g.images new c → StandsForEither kept (Boot places) c) then.0 then.1 either in record {
       list = kept;
-      before = MayLeave-held held images old kept as_read told stands;
+      before = MayLeave-held g old kept as_read told stands;
       grown = one_of_either kept (Boot places) may.bytes J (each may.bytes now) may.stands;
     }
 
 -- a list that a crash may leave is a possible one
-pub left-possible : (held : Option (List ℕ)) (images : List ℕ → Type 0) (kept : List Rec) (in_doubt : Option Rec) → IsStored held images kept in_doubt
-    → (J : List Rec) → MayLeave held images J → IsPossible kept in_doubt J
-left-possible held images kept in_doubt stored J may =
-    let known = tells held may.told in
-    let has = at_told held (λ _. (c : List ℕ) → images c → HasPossible kept in_doubt c) known.0 known.1 stored may.bytes may.left in
+pub left-possible : {D : Type 0} (g : Ghosts D) (d : D) (kept : List Rec) (in_doubt : Option Rec) → IsStored g d kept in_doubt
+    → (J : List Rec) → MayLeave g d J → IsPossible kept in_doubt J
+left-possible g d kept in_doubt stored J may =
+    let known = tells (g.held d) may.told in
+    let has = at_told (g.held d) (λ _. (c : List ℕ) → g.images d c → HasPossible kept in_doubt c) known.0 known.1 stored may.bytes may.left in
     subst (λ (K : List Rec). IsPossible kept in_doubt K) (stands_for_one may.bytes has.0 J (inl has.2) may.stands) has.1
 
 -- a refused mount leaves the list that every image stood for
-pub stays-mount : {D : Type 0} (held : D → Option (List ℕ)) (images : D → List ℕ → Type 0) (moment : D → ℕ) (since : D → ℕ → List ℕ → Type 0) (old new : D) (places : Places)
-    → ((d : D) (all : List ℕ) → held d ≡ Some all → images d all) → ((d : D) (t : ℕ) (c : List ℕ) → t ≤ moment d → images d c → since d t c)
-    → IfTold (held old) (λ all. LeavesOnly moment since old new (IsOldOrShort (images old) all))
-    → IfTold (held old) (λ _. (J : List Rec) → ((c : List ℕ) → images old c → Stands c J) → (c : List ℕ) → images new c → StandsForEither J (Boot places) c)
-stays-mount held images moment since old new places as_read counts_now moments = go (held old) refl moments
+pub stays-mount : {D : Type 0} (g : Ghosts D) (old new : D) (places : Places)
+    → ((d : D) (all : List ℕ) → g.held d ≡ Some all → g.images d all) → ((d : D) (t : ℕ) (c : List ℕ) → t ≤ g.moment d → g.images d c → g.images_since d t c)
+    → IfTold (g.held old) (λ all. LeavesOnly g.moment g.images_since old new (IsOldOrShort (g.images old) all))
+    → IfTold (g.held old) (λ _. (J : List Rec) → ((c : List ℕ) → g.images old c → Stands c J) → (c : List ℕ) → g.images new c → StandsForEither J (Boot places) c)
+stays-mount g old new places as_read counts_now moments = go (g.held old) refl moments
   where
-    go : (h : Option (List ℕ)) → held old ≡ h → IfTold h (λ all. LeavesOnly moment since old new (IsOldOrShort (images old) all))
-        → IfTold h (λ _. (J : List Rec) → ((c : List ℕ) → images old c → Stands c J) → (c : List ℕ) → images new c → StandsForEither J (Boot places) c)
+    go : (h : Option (List ℕ)) → g.held old ≡ h → IfTold h (λ all. LeavesOnly g.moment g.images_since old new (IsOldOrShort (g.images old) all))
+        → IfTold h (λ _. (J : List Rec) → ((c : List ℕ) → g.images old c → Stands c J) → (c : List ℕ) → g.images new c → StandsForEither J (Boot places) c)
     go None is m = tt
-    go (Some all) is m = λ J each c now. inl (settles (images old) all J (as_read old all is) each c (m.each c (counts_now new (moment old) c m.later now)))
+    go (Some all) is m = λ J each c now. inl (settles (g.images old) all J (as_read old all is) each c (m.each c (counts_now new (g.moment old) c m.later now)))
 
 -- a Boot that is refused leaves it with the Boot or without
-pub stays-append : {D : Type 0} (held : D → Option (List ℕ)) (images : D → List ℕ → Type 0) (old mid new end : D) (places : Places) (kept : List Rec)
-    → ((d : D) (all : List ℕ) → held d ≡ Some all → images d all) → is_some (held mid) ≡ is_some (held old) → end ≡ new
-    → IfTold (held old) (λ all. Stands all kept) → IfTold (held mid) (λ _. (c : List ℕ) → images new c → StandsForEither kept (Boot places) c)
-    → IfTold (held old) (λ _. (J : List Rec) → ((c : List ℕ) → images old c → Stands c J) → (c : List ℕ) → images end c → StandsForEither J (Boot places) c)
-stays-append held images old mid new end places kept as_read mounted ended stands either = go (held old) refl stands
+pub stays-append : {D : Type 0} (g : Ghosts D) (old mid new end : D) (places : Places) (kept : List Rec)
+    → ((d : D) (all : List ℕ) → g.held d ≡ Some all → g.images d all) → is_some (g.held mid) ≡ is_some (g.held old) → end ≡ new
+    → IfTold (g.held old) (λ all. Stands all kept) → IfTold (g.held mid) (λ _. (c : List ℕ) → g.images new c → StandsForEither kept (Boot places) c)
+    → IfTold (g.held old) (λ _. (J : List Rec) → ((c : List ℕ) → g.images old c → Stands c J) → (c : List ℕ) → g.images end c → StandsForEither J (Boot places) c)
+stays-append g old mid new end places kept as_read mounted ended stands either = go (g.held old) refl stands
   where
-    go : (h : Option (List ℕ)) → held old ≡ h → IfTold h (λ all. Stands all kept)
-        → IfTold h (λ _. (J : List Rec) → ((c : List ℕ) → images old c → Stands c J) → (c : List ℕ) → images end c → StandsForEither J (Boot places) c)
+    go : (h : Option (List ℕ)) → g.held old ≡ h → IfTold h (λ all. Stands all kept)
+        → IfTold h (λ _. (J : List Rec) → ((c : List ℕ) → g.images old c → Stands c J) → (c : List ℕ) → g.images end c → StandsForEither J (Boot places) c)
     go None is s = tt
     go (Some all) is s = λ J each c now.
         let same : kept ≡ J = stands_for_one all kept J s (each all (as_read old all is)) in
-        let told : is_some (held mid) ≡ true = mounted ∙ ap is_some is in
-        let then = tells (held mid) told in
+        let told : is_some (g.held mid) ≡ true = mounted ∙ ap is_some is in
+        let then = tells (g.held mid) told in
         subst (λ (K : List Rec). StandsForEither K (Boot places) c) same
-        (at_told (held mid) (λ _. (c : List ℕ) → images new c → StandsForEither kept (Boot places) c) then.0 then.1 either c (rw ended at now))
+        (at_told (g.held mid) (λ _. (c : List ℕ) → g.images new c → StandsForEither kept (Boot places) c) then.0 then.1 either c (rw ended at now))
 
 -- a refused mount leaves a disk that stands for no list as it was
-pub unlisted-mount : {D : Type 0} (held : D → Option (List ℕ)) (images : D → List ℕ → Type 0) (moment : D → ℕ) (since : D → ℕ → List ℕ → Type 0) (faults : D → ℕ) (old new : D)
-    → IfTold (held old) (λ all. 9 < length all → IsQuiet held images moment since faults old new)
-    → IfTold (held old) (λ all. ((J : List Rec) → ¬ Stands all J) → IsQuiet held images moment since faults old new)
-unlisted-mount held images moment since faults old new long = go (held old) long
+pub unlisted-mount : {D : Type 0} (g : Ghosts D) (old new : D)
+    → IfTold (g.held old) (λ all. 9 < length all → IsQuiet g.held g.images g.moment g.images_since g.faults old new)
+    → IfTold (g.held old) (λ all. ((J : List Rec) → ¬ Stands all J) → IsQuiet g.held g.images g.moment g.images_since g.faults old new)
+unlisted-mount g old new long = go (g.held old) long
   where
-    go : (h : Option (List ℕ)) → IfTold h (λ all. 9 < length all → IsQuiet held images moment since faults old new)
-        → IfTold h (λ all. ((J : List Rec) → ¬ Stands all J) → IsQuiet held images moment since faults old new)
+    go : (h : Option (List ℕ)) → IfTold h (λ all. 9 < length all → IsQuiet g.held g.images g.moment g.images_since g.faults old new)
+        → IfTold h (λ all. ((J : List Rec) → ¬ Stands all J) → IsQuiet g.held g.images g.moment g.images_since g.faults old new)
     go None l = tt
     go (Some all) l = λ none. by_length none (nat_lt 9 (length all)) refl
       where
-        by_length : ((J : List Rec) → ¬ Stands all J) → (b : Bool) → nat_lt 9 (length all) ≡ b → IsQuiet held images moment since faults old new
+        by_length : ((J : List Rec) → ¬ Stands all J) → (b : Bool) → nat_lt 9 (length all) ≡ b → IsQuiet g.held g.images g.moment g.images_since g.faults old new
         by_length none true is = l (ltb-true 9 (length all) is)
         by_length none false is = absurd (none [] (short_stands all (ltb-false 9 (length all) is)))
 

@@ -1,5 +1,5 @@
 -- What happened from one state of a guard to a later one. The possible lists of a guard are its journal's list and, where the journal keeps a record in doubt, that list with this record: each of the later ones comes from one of the earlier ones.
-use Rattle.std.specs.Prelude.{◌≡◌, ◌≤◌, List, length, Some, None, ⊤}
+use Rattle.std.specs.Prelude.{◌≡◌, ◌≤◌, List, length, Some, None}
 use Rattle.std.specs.List.{AllByRecursion}
 use Rattle.std.specs.declared.option.Option.{Option}
 use Rattle.xfs_base.specs.declared.counts.Places.{Places}
@@ -13,31 +13,27 @@ use Rattle.xfs_guard.specs.Lives.{BeginsWith}
 use Rattle.xfs_guard.specs.View.{View}
 use Rattle.xfs_guard.specs.Follows.{Follows}
 
--- the mechanism's numbers are places of the journal
-abbrev pub IsKnown : List Rec → List Motion → Type 0
-IsKnown records motions = AllByRecursion (NumberIs (λ n. n ≤ length records)) motions
-
--- earlier lists and places led to these
+-- earlier lists and places led to these; no new entry has a number above the new list's length
 pub record Led (records : List Rec) (motions : List Motion) (places : Places) (records' : List Rec) (motions' : List Motion) (places' : Places) : Type 0 where
   pub follows : Follows records motions places records' motions' places'
-  pub known : IsKnown records' motions'
+  pub known : AllByRecursion (NumberIs (λ n. n ≤ length records')) follows.moves
+
+-- the same of a mechanism that tells its list in both states; one that tells it in neither leads to a list that begins with the earlier one
+abbrev pub Leads : List Rec → Option (List Motion) → Places → List Rec → Option (List Motion) → Places → Type 0
+Leads from None was records None is = BeginsWith records from
+Leads from None was records (Some now) is = ⊥
+Leads from (Some before) was records None is = ⊥
+Leads from (Some before) was records (Some now) is = Led from before was records now is
 
 -- a possible list of the later state comes from one of the earlier state
-pub record Comes (old new : View) (before now : List Motion) (records : List Rec) : Type 0 where
+pub record Comes (old new : View) (records : List Rec) : Type 0 where
   pub from : List Rec
   pub possible : IsPossible old.records old.in_doubt from
-  pub led : IsKnown from before → Led from before old.places records now new.places
-
--- each possible list now comes from one of before; a list of motions is told in both states or in neither
-abbrev pub Leads : View → View → Option (List Motion) → Option (List Motion) → Type 0
-Leads old new None None = ⊤
-Leads old new None (Some now) = ⊥
-Leads old new (Some before) None = ⊥
-Leads old new (Some before) (Some now) = (J : List Rec) → IsPossible new.records new.in_doubt J → Comes old new before now J
+  pub led : Leads from old.motions old.places records new.motions new.places
 
 -- what happened from one state of a guard to another
 pub record Continues (old new : View) : Type 0 where
-  pub leads : Leads old new old.motions new.motions
+  pub leads : (J : List Rec) → IsPossible new.records new.in_doubt J → Comes old new J
   pub key : new.key ≡ old.key
   pub seed : new.seed ≡ old.seed
   pub units : new.units ≡ old.units

@@ -2,6 +2,7 @@
 use Rattle.std.specs.Prelude.{◌≡◌, ℕ, ◌+◌, ◌<◌, ◌≤◌, true, false, List, None, length, ⊤}
 use Rattle.xfs_base.specs.declared.money.NoteKind.{NoteKind}
 use Rattle.xfs_journal.specs.Image.{size}
+use Rattle.xfs_journal.specs.Journal.{last_mark}
 use Rattle.xfs_journal.specs.JournalView.{IsPossible}
 use Rattle.xfs_journal.specs.declared.record.Rec.{Rec}
 use Rattle.xfs_guard.specs.declared.open.Open.{Open}
@@ -26,6 +27,7 @@ HasLimits (Acted kind moved diverted failed) v = (length v.records + 1 ≤ v.lim
 pub record IsKept (v : View) (spare left : ℕ) (kinds : List NoteKind) : Type 0 where
   pub sound : v.shut ≡ false → v.boot_missing ≡ false → IsSound v
   pub clean : v.shut ≡ false → v.in_doubt ≡ None
+  pub marked : 0 < last_mark v.records
   pub closed : v.shut ≡ true → v.open_order ≡ No
   pub missing : v.boot_missing ≡ true → v.open_order ≡ No
   pub recorded : v.disk_told ≡ true → (J : List Rec) → IsPossible v.records v.in_doubt J → IsRecorded v.key v.units J v.motions

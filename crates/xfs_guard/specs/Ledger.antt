@@ -5,7 +5,7 @@ use Rattle.std.specs.Option.{option_map}
 use Rattle.xfs_base.specs.declared.money.NoteKind.{NoteKind}
 use Rattle.xfs_journal.specs.declared.record.Rec.{Rec}
 use Rattle.xfs_journal.specs.declared.record.Rec.TheVariants.{Bind}
-use Rattle.xfs_journal.specs.Journal.{record_at, live_of, token_of, bind_of, last_mark, next_issue}
+use Rattle.xfs_journal.specs.Journal.{record_at, live_of, Binding, binding_of, last_mark, next_issue}
 use Rattle.xfs_guard.specs.declared.bound.Live.{Live}
 use Rattle.xfs_guard.specs.declared.nonce.Nonce.{Nonce}
 use Rattle.xfs_guard.specs.declared.bound.Bound.{Bound}
@@ -24,8 +24,7 @@ AreSums units records amounts presented = (i : ℕ) (a : List ℕ × ℕ) → sl
 -- the bind of the issue at p is that of the records
 pub record IsBind (units : List NoteKind) (records : List Rec) (p : ℕ) (b : Bound) : Type 0 where
   pub token : List ℕ
-  pub bound : token_of records p ≡ Some token
-  pub place : bind_of records p ≡ Some b.place
+  pub found : binding_of records p ≡ Some (record { number = b.place; token = token })
   pub written : record_at records b.place ≡ Some (Bind token)
   pub sums : AreSums units records b.amounts b.presented
 
@@ -33,7 +32,7 @@ pub record IsBind (units : List NoteKind) (records : List Rec) (p : ℕ) (b : Bo
 abbrev pub IsBound : List NoteKind → List Rec → Option Live → Option Bound → Type 0
 IsBound units records None None = ⊤
 IsBound units records None (Some b) = ⊥
-IsBound units records (Some live) None = (token_of records live.place ≡ None) × (bind_of records live.place ≡ None)
+IsBound units records (Some live) None = binding_of records live.place ≡ None
 IsBound units records (Some live) (Some b) = IsBind units records live.place b
 
 abbrev pub amounts_kept : Option Bound → Option (List (List ℕ × ℕ))

@@ -16,12 +16,12 @@ use Rattle.xfs_journal.specs.declared.record.Rec.{Rec}
 use Rattle.xfs_journal.specs.declared.record.Rec.TheVariants.{Boot}
 use Rattle.xfs_guard.specs.declared.open.Open.TheVariants.{Written}
 use Rattle.xfs_guard.specs.Recorded.{IsRecorded}
-use Rattle.xfs_disk.specs.Disk.{LeavesOnly}
-use Rattle.xfs_guard.specs.View.{View, GuardView}
+use Rattle.xfs_disk.specs.declared.disk.Disk.{Ghosts}
+use Rattle.xfs_guard.specs.View.{View}
 
 -- where the disk tells, a crash leaves this list
-abbrev pub Leaves : Option (List ℕ) → (List ℕ → Type 0) → List Rec → Type 0
-Leaves held images records = IfTold held (λ _. (c : List ℕ) → images c → Stands c records)
+abbrev pub Leaves : {D : Type 0} → Ghosts D → D → List Rec → Type 0
+Leaves g disk records = IfTold (g.held disk) (λ _. (c : List ℕ) → g.images disk c → Stands c records)
 
 -- each image stands for some list
 abbrev pub EachStands : (List ℕ → Type 0) → Type 0
@@ -39,15 +39,6 @@ pub record StandsThrough (v : View) (MayAdd : Motion → Type 0) (bytes : List �
   pub stands : Stands bytes records
   pub before : IsRecorded v.key v.units records v.motions
   pub after : (entry : Motion) (now : Option (List Motion)) → MayAdd entry → Grows v.motions entry now → IsRecorded v.key v.units records now
-
--- where the disk tells, each image of each moment of a call stands for a list that is recorded with the mechanism's list before it
-abbrev pub StaysRecorded : {D : Type 0} → (D → Option (List ℕ)) → (D → ℕ) → (D → ℕ → List ℕ → Type 0) → GuardView D → GuardView D → Type 0
-StaysRecorded held moment since old new =
-    IfTold (held old.disk) (λ _. LeavesOnly moment since old.disk new.disk (StandsRecorded old.state.key old.state.units old.state.motions))
-
--- and, in a call of the mechanism, with that list and one such entry more
-abbrev pub StaysThrough : {D : Type 0} → (D → Option (List ℕ)) → (D → ℕ) → (D → ℕ → List ℕ → Type 0) → GuardView D → GuardView D → (Motion → Type 0) → Type 0
-StaysThrough held moment since old new MayAdd = IfTold (held old.disk) (λ _. LeavesOnly moment since old.disk new.disk (StandsThrough old.state MayAdd))
 
 -- an entry that the mechanism may add when it carries out the written order
 pub record MayMove (v : View) (entry : Motion) : Type 0 where

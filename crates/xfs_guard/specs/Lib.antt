@@ -3,9 +3,11 @@ pub mod BootFaults
 pub mod Budget
 pub mod Claims
 pub mod Continues
+pub mod Covered
 pub mod Crashed
 pub mod Fits
 pub mod Follows
+pub mod Keeps
 pub mod Kept
 pub mod Ledger
 pub mod LedgerView
@@ -23,6 +25,7 @@ pub mod Reports
 pub mod Sound
 pub mod Stored
 pub mod TokenDeny
+pub mod Upheld
 pub mod View
 pub mod Within
 pub mod Word

@@ -1,9 +1,9 @@
 -- The nonce of the live Issue.
-use Rattle.std.specs.Prelude.{Bool, List, Some, None, if◌then◌else◌}
+use Rattle.std.specs.Prelude.{◌≡◌, ◌⊎◌, Bool, List, Some, None, if◌then◌else◌}
 use Rattle.std.specs.Option.{option_and_then}
 use Rattle.std.specs.declared.option.Option.{Option}
 use Rattle.xfs_journal.specs.declared.record.Rec.{Rec}
-use Rattle.xfs_journal.specs.declared.record.Rec.TheVariants.{Issue}
+use Rattle.xfs_journal.specs.declared.record.Rec.TheVariants.{Issue, Clear, Expire}
 use Rattle.xfs_journal.specs.Journal.{record_at, live_of, nonce_text}
 use Rattle.xfs_guard.specs.declared.nonce.Nonce.{Nonce}
 
@@ -11,6 +11,10 @@ use Rattle.xfs_guard.specs.declared.nonce.Nonce.{Nonce}
 abbrev pub nonce_of : Option Rec → Option Nonce
 nonce_of (Some (Issue number word)) = Some (record { text = nonce_text number word; number = number })
 nonce_of _ = None
+
+-- a record that ends the live nonce and is no Boot: it was cleared, or its life is over
+abbrev pub Ends : Rec → Type 0
+Ends r = (r ≡ Clear) ⊎ (r ≡ Expire)
 
 -- the nonce of the live Issue
 abbrev pub live_nonce : List Rec → Option Nonce

@@ -3,24 +3,25 @@ use Rattle.std.specs.Prelude.{◌≡◌, ◌⊎◌, true, is_some, ℕ, List, []
 use Rattle.std.specs.declared.option.Option.{Option}
 use Rattle.xfs_base.specs.Causes.{IfTold}
 use Rattle.xfs_base.specs.declared.counts.Places.{Places}
+use Rattle.xfs_disk.specs.declared.disk.Disk.{Ghosts}
 use Rattle.xfs_journal.specs.Image.{Stands}
 use Rattle.xfs_journal.specs.JournalView.{HasPossible}
 use Rattle.xfs_journal.specs.declared.record.Rec.{Rec}
 use Rattle.xfs_journal.specs.declared.record.Rec.TheVariants.{Boot}
 
 -- each image of a disk that tells is that of the kept list, or of that list with the record in doubt
-abbrev pub IsStored : Option (List ℕ) → (List ℕ → Type 0) → List Rec → Option Rec → Type 0
-IsStored held images records in_doubt = IfTold held (λ _. (c : List ℕ) → images c → HasPossible records in_doubt c)
+abbrev pub IsStored : {D : Type 0} → Ghosts D → D → List Rec → Option Rec → Type 0
+IsStored g disk records in_doubt = IfTold (g.held disk) (λ _. (c : List ℕ) → g.images disk c → HasPossible records in_doubt c)
 
 -- the disk tells, and a crash may leave bytes that stand for this list
-pub record MayLeave (held : Option (List ℕ)) (images : List ℕ → Type 0) (records : List Rec) : Type 0 where
-  pub told : is_some held ≡ true
+pub record MayLeave {D : Type 0} (g : Ghosts D) (disk : D) (records : List Rec) : Type 0 where
+  pub told : is_some (g.held disk) ≡ true
   pub bytes : List ℕ
-  pub left : images bytes
+  pub left : g.images disk bytes
   pub stands : Stands bytes records
 
 -- a crash may have left this list before, or this list without its Boot
-pub record WasLeft (held : Option (List ℕ)) (images : List ℕ → Type 0) (places : Places) (records : List Rec) : Type 0 where
+pub record WasLeft {D : Type 0} (g : Ghosts D) (disk : D) (places : Places) (records : List Rec) : Type 0 where
   pub list : List Rec
-  pub before : MayLeave held images list
+  pub before : MayLeave g disk list
   pub grown : (records ≡ list) ⊎ (records ≡ list ++ Boot places ∷ [])

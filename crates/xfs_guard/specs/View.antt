@@ -9,6 +9,7 @@ use Rattle.xfs_journal.specs.declared.record.Rec.TheVariants.{Boot}
 use Rattle.xfs_journal.specs.declared.limits.Limits.{Limits}
 use Rattle.xfs_guard.specs.LedgerView.{LedgerView}
 use Rattle.xfs_guard.specs.declared.open.Open.{Open}
+use Rattle.xfs_guard.specs.declared.open.Open.TheVariants.{No}
 
 -- a guard: its key, seed and units, its journal, the amounts of the token that is bound to the live nonce, the open order, what its mechanism tells, the journal's limits, whether the journal is shut, whether a restore found no room for its Boot since the last Boot was appended, the record whose append last answered that the disk failed, and whether the disk tells its bytes
 pub record View : Type 0 where
@@ -50,9 +51,21 @@ over key seed open_order motions places faults l told = record {
 abbrev pub shut_at : Rec → View → View
 shut_at r v = record v { shut = true; in_doubt = Some r }
 
--- the journal was read again, as this list, and has a Boot of the mechanism's places behind it
+-- a restore was refused before it read the journal again: the journal is shut, and the order that was open is never carried out
+abbrev pub unread : View → View
+unread v = record v { open_order = No; shut = true }
+
+-- the journal was read again, as this list, and has no Boot behind it
+abbrev pub reread : View → List Rec → View
+reread v records = record v { records = records; bound = None; open_order = No; shut = false; boot_missing = true; in_doubt = None }
+
+-- and has a Boot of the mechanism's places behind it
 abbrev pub restarted : View → List Rec → View
-restarted v records = record v { records = records ++ Boot v.places ∷ []; bound = None; shut = false; boot_missing = false; in_doubt = None }
+restarted v records = record (reread v (records ++ Boot v.places ∷ [])) { boot_missing = false }
+
+-- and the disk failed at that Boot; whether an earlier one is missing stays
+abbrev pub unbooted : View → List Rec → View
+unbooted v records = record (reread v records) { shut = true; boot_missing = v.boot_missing; in_doubt = Some (Boot v.places) }
 
 -- the same, and the disk of the journal
 pub record GuardView (D : Type 0) : Type 0 where

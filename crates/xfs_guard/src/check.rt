@@ -8,21 +8,20 @@ ghost use Rattle.xfs_token.specs.Amounts.{amounts_of};
 ghost use Rattle.xfs_journal.specs.declared.record.Rec.TheVariants.{Bind};
 ghost use Rattle.xfs_guard.specs.declared.open.Open.TheVariants.{No};
 ghost use Rattle.xfs_guard.specs.Nonce.{live_nonce};
-ghost use Rattle.xfs_guard.specs.Continues.{Continues};
-ghost use Rattle.xfs_guard.specs.Crashed.{LeavesBehind};
 ghost use Rattle.xfs_base.specs.Causes.{Rose};
-ghost use Rattle.xfs_guard.specs.Left.{Leaves, StaysRecorded};
+ghost use Rattle.xfs_guard.specs.Keeps.{Keeps, NoEntry};
+ghost use Rattle.xfs_guard.specs.Left.{Leaves};
 ghost use Rattle.xfs_guard.specs.View.{shut_at};
 ghost use Rattle.xfs_guard.specs.Fits.{unfit};
 ghost use Rattle.xfs_guard.specs.LedgerView.{IsWriteFault};
 ghost use Rattle.xfs_guard.specs.Refusals.{Answers, Passes, TokenRefused, Binds, claim_refusal, bind_refusal, bound_token, over_budget};
 
 use crate::budget::passed;
+use crate::signer::Signer;
 use crate::{Claim, Deny, Guard, Permit};
 use std::alloc::{AllocError, Global};
 use xfs_base::Counts;
 use xfs_disk::Disk;
-use xfs_hmac::mac;
 use xfs_journal::Text;
 use xfs_mech::Mechanism;
 use xfs_token::{Amounts, Token, amounts, read};
@@ -114,19 +113,16 @@ impl<M: Mechanism, D: Disk> Guard<M, D> {
         ensures again { bound_token self.old.state.records ≢ None → self.new ≡ self.old }
         ensures unbound { IfErr result (λ e. IsWriteFault e → bound_token self.old.state.records ≡ None) }
         ensures disk { result ≡ Err Deny.Disk → self.new.state ≡ shut_at (Bind claim.token) self.old.state }
-        ensures later { D.faults self.old.disk ≤ D.faults self.new.disk }
         ensures cause { result ≡ Err Deny.Disk → Rose (D.faults self.old.disk) (D.faults self.new.disk) }
         ensures same { IfErr result (λ e. e ≢ Deny.Disk → self.new ≡ self.old) }
-        ensures continues { Continues self.old.state self.new.state }
-        ensures crashes { LeavesBehind D.held D.images D.moment D.images_since self.old self.new }
-        ensures any_moment { StaysRecorded D.held D.moment D.images_since self.old self.new }
-        ensures kept { OnOk result (Leaves (D.held self.new.disk) (D.images self.new.disk) self.new.state.records) }
+        ensures keeps { Keeps D.Disk NoEntry self.old self.new }
+        ensures kept { OnOk result (Leaves D.Disk self.new.disk self.new.state.records) }
     {
         let Some(nonce) = self.ledger.live() else {
             unreachable!()
         };
-        // Its clause tells what a crash may leave now.
-        let _possible = self.ledger.shut();
+        // Its clause tells what stands now.
+        let _upheld = self.unfit();
         let transport = self.mech.survey().transport;
         if let Some(deny) = passed(&self.ledger, &transport, &claim.amounts, counts) {
             return Err(deny);
@@ -147,16 +143,13 @@ impl<M: Mechanism, D: Disk> Guard<M, D> {
         ensures again { bound_token self.old.state.records ≢ None → self.new ≡ self.old }
         ensures unbound { OnErr result (bound_token self.old.state.records ≡ None) }
         ensures disk { result ≡ Err Deny.Disk → self.new.state ≡ shut_at (Bind claim.token) self.old.state }
-        ensures later { D.faults self.old.disk ≤ D.faults self.new.disk }
         ensures cause { result ≡ Err Deny.Disk → Rose (D.faults self.old.disk) (D.faults self.new.disk) }
         ensures same { IfErr result (λ e. e ≢ Deny.Disk → self.new ≡ self.old) }
-        ensures continues { Continues self.old.state self.new.state }
-        ensures crashes { LeavesBehind D.held D.images D.moment D.images_since self.old self.new }
-        ensures any_moment { StaysRecorded D.held D.moment D.images_since self.old self.new }
-        ensures kept { OnOk result (Leaves (D.held self.new.disk) (D.images self.new.disk) self.new.state.records) }
+        ensures keeps { Keeps D.Disk NoEntry self.old self.new }
+        ensures kept { OnOk result (Leaves D.Disk self.new.disk self.new.state.records) }
     {
-        // Its clause tells what a crash may leave now.
-        let _possible = self.ledger.shut();
+        // Its clause tells what stands now.
+        let _upheld = self.unfit();
         if self.ledger.token().is_some() {
             return Ok(());
         }
@@ -182,10 +175,10 @@ fn text_of(alloc: Global, bytes: &[u8]) -> Result<Text, AllocError>
 }
 
 // The HMAC that is due: that of all but the last 76 bytes of the token's text.
-fn due(key: &[u8; 32], bytes: &[u8]) -> [u8; 32]
+fn due(key: &Signer, bytes: &[u8]) -> [u8; 32]
     requires { 76 ≤ length bytes.now }
     ensures { result ≡ hmac key.now (take (length bytes.now - 76) bytes.now) }
 {
     let (front, _) = bytes.split_at(bytes.len() - 76);
-    mac(key, front)
+    key.mac(front)
 }

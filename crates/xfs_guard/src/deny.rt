@@ -4,8 +4,8 @@ use std::alloc::{AllocError, AllocFailed};
 use xfs_base::{Currency, Memory, Milli};
 use xfs_token::TokenFault;
 
-/// Why the guard refuses. `since` is the number of the last Issue, Clear or Boot record; in `OtherBound` it
-/// is that of the Bind.
+/// Why the guard refuses. `since` is the number of the last Issue, Clear, Expire or Boot record; in
+/// `OtherBound` it is that of the Bind.
 #[derive(Clone, Copy, Debug, PartialEq, Eq)]
 pub enum Deny {
     /// The disk failed in an earlier call, and the journal wasn't read again since.

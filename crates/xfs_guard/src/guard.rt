@@ -2,14 +2,17 @@ ghost use Rattle.std.specs.Prelude.{MatchResult, ◌≡◌, ◌≢◌, ◌↔◌
 ghost use Rattle.std.specs.List.{Contains};
 ghost use Rattle.std.specs.Option.{option_or};
 ghost use Rattle.xfs_base.specs.Causes.{IfTold, Rose};
-ghost use Rattle.xfs_journal.specs.declared.record.Rec.TheVariants.{Issue, Clear, Boot, Bind, Order, Done};
+ghost use Rattle.xfs_journal.specs.declared.record.Rec.TheVariants.{Issue, Clear, Expire, Boot, Bind, Order, Done};
 ghost use Rattle.xfs_journal.specs.Journal.{next_issue};
 ghost use Rattle.xfs_guard.specs.declared.open.Open.TheVariants.{No, Written};
-ghost use Rattle.xfs_guard.specs.Nonce.{live_in, live_nonce};
+ghost use Rattle.xfs_guard.specs.Nonce.{Ends, live_in, live_nonce};
 ghost use Rattle.xfs_guard.specs.View.{shut_at};
+ghost use Rattle.xfs_guard.specs.Upheld.{IsUpheld};
 ghost use Rattle.xfs_guard.specs.Word.{issue_word};
 ghost use Rattle.xfs_guard.specs.Fits.{fit_of, unfit};
-ghost use Rattle.xfs_guard.specs.Left.{EachStands, IsOldOrBooted, Leaves, MayMove, StandsRecorded, StaysRecorded, StaysThrough};
+ghost use Rattle.xfs_guard.specs.Left.{EachStands, IsOldOrBooted, Leaves, MayMove, StandsRecorded};
+ghost use Rattle.xfs_guard.specs.Keeps.{Keeps, NoEntry};
+ghost use Rattle.xfs_guard.specs.LedgerView.{IsWriteFault};
 ghost use Rattle.xfs_guard.specs.Lives.{Run, IsLife, answered_in};
 ghost use Rattle.xfs_guard.specs.Stored.{IsStored, MayLeave};
 ghost use Rattle.xfs_guard.specs.Recorded.{IsRecorded};
@@ -17,10 +20,9 @@ ghost use Rattle.xfs_guard.specs.declared.fail.BootFault.TheVariants.{NotJournal
 ghost use Rattle.xfs_journal.specs.Image.{Stands};
 ghost use Rattle.xfs_journal.specs.JournalView.{IsPossible, StandsForEither, passes};
 ghost use Rattle.xfs_disk.specs.Disk.{LeavesOnly};
-ghost use Rattle.xfs_journal.specs.Paging.{CeasesAt, IsQuiet};
+ghost use Rattle.xfs_journal.specs.Paging.{CeasesAt, IsOldOrShort, IsQuiet};
 ghost use Rattle.xfs_journal.specs.declared.record.Rec.{Rec};
 ghost use Rattle.xfs_guard.specs.Continues.{Continues};
-ghost use Rattle.xfs_guard.specs.Crashed.{LeavesBehind};
 ghost use Rattle.xfs_guard.specs.Orders.{IsWritten, IsActed, Acts, Settles, Unsettles, kind_unacted};
 ghost use Rattle.xfs_guard.specs.Refusals.{Answers, IsAsk, order_refusal, nothing_refusal, notes_of, asked_kind, asked_counts};
 ghost use Rattle.xfs_guard.specs.declared.ask.Ask.TheVariants.{Stack as AskStack, Present as AskPresent};
@@ -28,12 +30,13 @@ ghost use Rattle.xfs_guard.specs.declared.ask.Ask.TheVariants.{Stack as AskStack
 use crate::budget::passed;
 use crate::ledger::{Ledger, Unbooted};
 use crate::nonce::word_of;
-use crate::{Ask, BootFail, Deny, Fit, Nonce, Open};
+use crate::signer::Signer;
+use crate::{Ask, BootFail, BootFault, Deny, Fit, Nonce, Open};
 use std::alloc::Global;
 use std::marker::Model;
 use xfs_base::{Counts, Kind, Places, UnitTable};
 use xfs_disk::Disk;
-use xfs_journal::{Limits, Rec};
+use xfs_journal::{Limits, Rec, Survey};
 use xfs_mech::{Mechanism, Order as MechOrder, Outcome};
 
 /// The guard: it alone hands orders to the mechanism. Each call appends at most one record or makes
@@ -47,9 +50,9 @@ pub struct Guard<M: Mechanism, D: Disk> {
     pub(crate) alloc: Global,
     pub(crate) mech: M,
     pub(crate) ledger: Ledger<D>,
-    pub(crate) key: [u8; 32],
+    pub(crate) key: Signer,
     seed: [u8; 32],
-    open_order: Open,
+    pub(crate) open_order: Open,
 }
 
 impl<M: Mechanism, D: Disk> Model for Guard<M, D> {
@@ -70,7 +73,8 @@ impl<M: Mechanism, D: Disk> Model for Guard<M, D> {
 
 impl<M: Mechanism, D: Disk> Guard<M, D> {
     /// A guard over this mechanism and the journal of this disk, which gets a Boot. The key is that of
-    /// the tokens' HMAC, the seed that of the nonces. A refused boot hands both back.
+    /// the tokens' HMAC, the seed that of the nonces. A refused boot hands both back; but for `Disk` it has
+    /// written nothing, except that a file of at most 9 bytes may be an empty journal.
     pub fn boot(
         alloc: Global,
         mech: M,
@@ -81,7 +85,7 @@ impl<M: Mechanism, D: Disk> Guard<M, D> {
         limits: Limits,
     ) -> Result<Guard<M, D>, BootFail<M, D>>
         requires units { M.units mech ≡ units }
-        requires recorded { (records : List Rec) → MayLeave (D.held disk) (D.images disk) records → IsRecorded key units records (M.motions mech) }
+        requires recorded { (records : List Rec) → MayLeave D.Disk disk records → IsRecorded key units records (M.motions mech) }
         ensures ok { IfOk result (λ g. (records : List Rec) × IfTold (D.held disk) (λ all. Stands all records) × (g.state ≡ record {
           key = key;
           seed = seed;
@@ -106,9 +110,10 @@ impl<M: Mechanism, D: Disk> Guard<M, D> {
         ensures refused { IfErr result (λ f. (at : ℕ) → f.why ≡ NotJournal at → IsQuiet D.held D.images D.moment D.images_since D.faults disk f.disk) }
         ensures full { IfErr result (λ f. f.why ≡ BootFull → (records : List Rec) × IfTold (D.held disk) (λ all. Stands all records) × (passes limits (records ++ Boot (M.places mech) ∷ []) ≡ true)) }
         ensures disk { IfErr result (λ f. f.why ≡ BootDisk → Rose (D.faults disk) (D.faults f.disk)) }
-        ensures left { IfErr result (λ f. (records : List Rec) → MayLeave (D.held f.disk) (D.images f.disk) records → IsRecorded key units records (M.motions mech)) }
+        ensures left { IfErr result (λ f. (records : List Rec) → MayLeave D.Disk f.disk records → IsRecorded key units records (M.motions mech)) }
         ensures either { IfErr result (λ f. IfTold (D.held disk) (λ _. (records : List Rec) → ((image : List ℕ) → D.images disk image → Stands image records) → (image : List ℕ) → D.images f.disk image → StandsForEither records (Boot (M.places mech)) image)) }
         ensures unlisted { IfErr result (λ f. IfTold (D.held disk) (λ all. ((records : List Rec) → ¬ Stands all records) → IsQuiet D.held D.images D.moment D.images_since D.faults disk f.disk)) }
+        ensures unwritten { IfErr result (λ f. f.why ≢ BootDisk → IfTold (D.held disk) (λ all. LeavesOnly D.moment D.images_since disk f.disk (IsOldOrShort (D.images disk) all))) }
         ensures faults { MatchResult result (λ g. D.faults disk ≤ D.faults g.disk) (λ f. D.faults disk ≤ D.faults f.disk) }
         ensures told { IfErr result (λ f. is_some (D.held f.disk) ≡ is_some (D.held disk)) }
 
@@ -124,12 +129,20 @@ impl<M: Mechanism, D: Disk> Guard<M, D> {
             (λ f. LeavesOnly D.moment D.images_since disk f.disk (IsOldOrBooted (D.images disk) all (M.places mech)))) }
     {
         let places = mech.survey();
-        match Ledger::boot(alloc, disk, limits, units, places) {
+        // The memory of the Boot is had before the journal is read.
+        let Ok(survey) = Survey::new(alloc, places) else {
+            return Err(BootFail {
+                why: BootFault::Memory,
+                mech,
+                disk,
+            });
+        };
+        match Ledger::boot(alloc, disk, limits, units, survey) {
             Ok(ledger) => Ok(Guard {
                 alloc,
                 mech,
                 ledger,
-                key,
+                key: Signer::new(key),
                 seed,
                 open_order: Open::No,
             }),
@@ -140,9 +153,9 @@ impl<M: Mechanism, D: Disk> Guard<M, D> {
     /// The mechanism and the disk. Each image of the disk is that of a list of records that agrees with
     /// what the mechanism did: the kept one, or that one with the record in doubt.
     pub fn end(self) -> (M, D)
-        ensures stored { IsStored (D.held result.1) (D.images result.1) self.state.records self.state.in_doubt }
-        ensures left { (records : List Rec) → MayLeave (D.held result.1) (D.images result.1) records → IsPossible self.state.records self.state.in_doubt records }
-        ensures recorded { (records : List Rec) → MayLeave (D.held result.1) (D.images result.1) records → IsRecorded self.state.key self.state.units records self.state.motions }
+        ensures stored { IsStored D.Disk result.1 self.state.records self.state.in_doubt }
+        ensures left { (records : List Rec) → MayLeave D.Disk result.1 records → IsPossible self.state.records self.state.in_doubt records }
+        ensures recorded { (records : List Rec) → MayLeave D.Disk result.1 records → IsRecorded self.state.key self.state.units records self.state.motions }
         ensures clean { self.state.shut ≡ false → self.state.in_doubt ≡ None }
         ensures told { is_some (D.held result.1) ≡ self.state.disk_told }
         ensures disk { result.1 ≡ self.disk }
@@ -162,10 +175,10 @@ impl<M: Mechanism, D: Disk> Guard<M, D> {
         (mech, ledger.end())
     }
 
-    /// Whether the journal takes more records.
+    /// Whether the journal takes more records. Its clause `upheld` tells what stands between calls.
     pub fn fit(&self) -> Fit
         ensures fit { result ≡ fit_of self.now.state }
-        ensures possible { IsStored (D.held self.now.disk) (D.images self.now.disk) self.now.state.records self.now.state.in_doubt }
+        ensures upheld { IsUpheld D.Disk self.now }
     {
         if self.ledger.shut() {
             return Fit::Shut;
@@ -180,7 +193,7 @@ impl<M: Mechanism, D: Disk> Guard<M, D> {
     /// What each call that writes is refused for first: `Shut` or `Full`, by the fit.
     pub fn unfit(&self) -> Option<Deny>
         ensures first { result ≡ unfit self.now.state }
-        ensures possible { IsStored (D.held self.now.disk) (D.images self.now.disk) self.now.state.records self.now.state.in_doubt }
+        ensures upheld { IsUpheld D.Disk self.now }
     {
         match self.fit() {
             Fit::Ready => None,
@@ -247,13 +260,10 @@ impl<M: Mechanism, D: Disk> Guard<M, D> {
           bound = None;
         }) }
         ensures disk { result ≡ Err Deny.Disk → self.new.state ≡ shut_at (Issue (next_issue self.old.state.records) (issue_word self.old.state.seed (next_issue self.old.state.records))) self.old.state }
-        ensures later { D.faults self.old.disk ≤ D.faults self.new.disk }
         ensures cause { result ≡ Err Deny.Disk → Rose (D.faults self.old.disk) (D.faults self.new.disk) }
         ensures same { IfErr result (λ e. e ≢ Deny.Disk → self.new ≡ self.old) }
-        ensures continues { Continues self.old.state self.new.state }
-        ensures crashes { LeavesBehind D.held D.images D.moment D.images_since self.old self.new }
-        ensures any_moment { StaysRecorded D.held D.moment D.images_since self.old self.new }
-        ensures kept { OnOk result (Leaves (D.held self.new.disk) (D.images self.new.disk) self.new.state.records) }
+        ensures keeps { Keeps D.Disk NoEntry self.old self.new }
+        ensures kept { OnOk result (Leaves D.Disk self.new.disk self.new.state.records) }
         ensures never_twice { IfOk result (λ n. self.old.state.disk_told ≡ true → (first : List Rec) (runs : List Run) → IsLife first runs self.old.state.records → ¬ Contains (answered_in runs) n.number) }
     {
         if let Some(deny) = self.unfit() {
@@ -272,13 +282,10 @@ impl<M: Mechanism, D: Disk> Guard<M, D> {
         ensures cleared { result ≡ Ok true → self.new.state ≡ record self.old.state { records = self.old.state.records ++ Clear ∷ []; bound = None } }
         ensures unwritten { result ≡ Err Deny.Disk → live_nonce self.old.state.records ≢ None }
         ensures disk { result ≡ Err Deny.Disk → self.new.state ≡ shut_at Clear self.old.state }
-        ensures later { D.faults self.old.disk ≤ D.faults self.new.disk }
         ensures cause { result ≡ Err Deny.Disk → Rose (D.faults self.old.disk) (D.faults self.new.disk) }
         ensures same { result ≢ Ok true → result ≢ Err Deny.Disk → self.new ≡ self.old }
-        ensures continues { Continues self.old.state self.new.state }
-        ensures crashes { LeavesBehind D.held D.images D.moment D.images_since self.old self.new }
-        ensures any_moment { StaysRecorded D.held D.moment D.images_since self.old self.new }
-        ensures kept { OnOk result (Leaves (D.held self.new.disk) (D.images self.new.disk) self.new.state.records) }
+        ensures keeps { Keeps D.Disk NoEntry self.old self.new }
+        ensures kept { OnOk result (Leaves D.Disk self.new.disk self.new.state.records) }
     {
         if let Some(deny) = self.unfit() {
             return Err(deny);
@@ -286,8 +293,45 @@ impl<M: Mechanism, D: Disk> Guard<M, D> {
         if self.ledger.live().is_none() {
             return Ok(false);
         }
-        self.ledger.clear()?;
+        self.end_nonce(Rec::Clear)?;
         Ok(true)
+    }
+
+    /// Ends the live nonce, whose life is over. After `Disk` the journal is shut.
+    pub fn expire(&mut self) -> Result<(), Deny>
+        requires none { self.old.state.open_order ≡ No }
+        requires live { live_in self.old.state.boot_missing self.old.state.records ≢ None }
+        ensures refused { Answers result (unfit self.old.state) }
+        ensures expired { OnOk result (self.new.state ≡ record self.old.state { records = self.old.state.records ++ Expire ∷ []; bound = None }) }
+        ensures dead { OnOk result (live_nonce self.new.state.records ≡ None) }
+        ensures disk { result ≡ Err Deny.Disk → self.new.state ≡ shut_at Expire self.old.state }
+        ensures cause { result ≡ Err Deny.Disk → Rose (D.faults self.old.disk) (D.faults self.new.disk) }
+        ensures same { IfErr result (λ e. e ≢ Deny.Disk → self.new ≡ self.old) }
+        ensures keeps { Keeps D.Disk NoEntry self.old self.new }
+        ensures kept { OnOk result (Leaves D.Disk self.new.disk self.new.state.records) }
+    {
+        if let Some(deny) = self.unfit() {
+            return Err(deny);
+        }
+        self.end_nonce(Rec::Expire)
+    }
+
+    // Writes the record that ends the live nonce.
+    fn end_nonce(&mut self, rec: Rec) -> Result<(), Deny>
+        requires none { self.old.state.open_order ≡ No }
+        requires fit { unfit self.old.state ≡ None }
+        requires ends { Ends rec }
+        ensures ok { OnOk result (self.new.state ≡ record self.old.state { records = self.old.state.records ++ rec ∷ []; bound = None }) }
+        ensures dead { OnOk result (live_nonce self.new.state.records ≡ None) }
+        ensures err { IfErr result IsWriteFault }
+        ensures disk { result ≡ Err Deny.Disk → self.new.state ≡ shut_at rec self.old.state }
+        ensures cause { result ≡ Err Deny.Disk → Rose (D.faults self.old.disk) (D.faults self.new.disk) }
+        ensures same { IfErr result (λ e. e ≢ Deny.Disk → self.new ≡ self.old) }
+        ensures keeps { Keeps D.Disk NoEntry self.old self.new }
+        ensures kept { OnOk result (Leaves D.Disk self.new.disk self.new.state.records) }
+    {
+        self.ledger.end_nonce(rec)?;
+        Ok(())
     }
 
     /// Writes an order, with room for all that it still adds. It moves nothing. After `Disk` the journal
@@ -301,13 +345,10 @@ impl<M: Mechanism, D: Disk> Guard<M, D> {
           open_order = Written (asked_kind ask) (asked_counts self.old.state ask);
         }) }
         ensures disk { result ≡ Err Deny.Disk → self.new.state ≡ shut_at (Order (asked_kind ask) (asked_counts self.old.state ask)) self.old.state }
-        ensures later { D.faults self.old.disk ≤ D.faults self.new.disk }
         ensures cause { result ≡ Err Deny.Disk → Rose (D.faults self.old.disk) (D.faults self.new.disk) }
         ensures same { IfErr result (λ e. e ≢ Deny.Disk → self.new ≡ self.old) }
-        ensures continues { Continues self.old.state self.new.state }
-        ensures crashes { LeavesBehind D.held D.images D.moment D.images_since self.old self.new }
-        ensures any_moment { StaysRecorded D.held D.moment D.images_since self.old self.new }
-        ensures kept { OnOk result (Leaves (D.held self.new.disk) (D.images self.new.disk) self.new.state.records) }
+        ensures keeps { Keeps D.Disk NoEntry self.old self.new }
+        ensures kept { OnOk result (Leaves D.Disk self.new.disk self.new.state.records) }
     {
         if let Some(deny) = self.unfit() {
             return Err(deny);
@@ -390,12 +431,9 @@ impl<M: Mechanism, D: Disk> Guard<M, D> {
     pub fn act(&mut self) -> Outcome
         requires { IsWritten self.old.state.open_order }
         ensures acted { Acts self.old.state self.new.state result.moved result.diverted result.failed }
-        ensures later { self.old.state.faults ≤ self.new.state.faults }
         ensures cause { result.failed ≡ true → Rose self.old.state.faults self.new.state.faults }
         ensures same { self.new.disk ≡ self.old.disk }
-        ensures continues { Continues self.old.state self.new.state }
-        ensures crashes { LeavesBehind D.held D.images D.moment D.images_since self.old self.new }
-        ensures inside { StaysThrough D.held D.moment D.images_since self.old self.new (MayMove self.old.state) }
+        ensures keeps { Keeps D.Disk (MayMove self.old.state) self.old self.new }
     {
         let Open::Written { kind, counts } = self.open_order else {
             unreachable!()
@@ -422,12 +460,9 @@ impl<M: Mechanism, D: Disk> Guard<M, D> {
         ensures settled { OnOk result (Settles self.old.state self.new.state) }
         ensures err { IfErr result (λ e. e ≡ Deny.Disk) }
         ensures disk { OnErr result (Unsettles self.old.state self.new.state) }
-        ensures later { D.faults self.old.disk ≤ D.faults self.new.disk }
         ensures cause { OnErr result (Rose (D.faults self.old.disk) (D.faults self.new.disk)) }
-        ensures continues { Continues self.old.state self.new.state }
-        ensures crashes { LeavesBehind D.held D.images D.moment D.images_since self.old self.new }
-        ensures any_moment { StaysRecorded D.held D.moment D.images_since self.old self.new }
-        ensures kept { OnOk result (Leaves (D.held self.new.disk) (D.images self.new.disk) self.new.state.records) }
+        ensures keeps { Keeps D.Disk NoEntry self.old self.new }
+        ensures kept { OnOk result (Leaves D.Disk self.new.disk self.new.state.records) }
     {
         let Open::Acted {
             kind,

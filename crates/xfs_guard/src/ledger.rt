@@ -7,14 +7,14 @@ ghost use Rattle.xfs_base.specs.Money.{value};
 ghost use Rattle.xfs_base.specs.declared.counts.Counts.{Counts};
 ghost use Rattle.xfs_base.specs.declared.counts.Kind.TheVariants.{Present};
 ghost use Rattle.xfs_journal.specs.Image.{HasUnit, Stands, size};
-ghost use Rattle.xfs_journal.specs.Paging.{CeasesAt, IsQuiet};
+ghost use Rattle.xfs_journal.specs.Paging.{CeasesAt, IsOldOrShort, IsQuiet};
 ghost use Rattle.xfs_journal.specs.declared.record.Rec.{Rec};
 ghost use Rattle.xfs_guard.specs.declared.fail.BootFault.TheVariants.{NotJournal, Disk as BootDisk, Full as BootFull, Memory as BootMemory};
 ghost use Rattle.xfs_journal.specs.JournalView.{passes, refusal, IsPossible, StandsForEither};
 ghost use Rattle.xfs_disk.specs.Disk.{LeavesOnly};
 ghost use Rattle.xfs_journal.specs.declared.record.Rec.TheVariants.{Issue, Clear, Boot, Bind, Order, Done, Load};
 ghost use Rattle.xfs_journal.specs.Journal.{record_at, live_of, token_of, last_mark, next_issue, nonce_text};
-ghost use Rattle.xfs_guard.specs.Nonce.{live_in, nonce_of};
+ghost use Rattle.xfs_guard.specs.Nonce.{Ends, live_in, nonce_of};
 ghost use Rattle.xfs_guard.specs.Refusals.{bound_token, bound_place};
 ghost use Rattle.xfs_guard.specs.Presented.{presented_in};
 ghost use Rattle.xfs_guard.specs.LedgerView.{IsOpen, IsWriteFault, Wrote, IsSame, IsTold, write_refusal};
@@ -28,9 +28,9 @@ use crate::bound::{Bound, Live};
 use crate::{BootFault, Deny, Nonce};
 use std::alloc::Global;
 use std::marker::Model;
-use xfs_base::{Counts, Currency, Kind, Memory, Places, UnitTable};
+use xfs_base::{Counts, Currency, Kind, Memory, UnitTable};
 use xfs_disk::Disk;
-use xfs_journal::{AppendFault, Journal, Limits, MountFail, Rec, Text};
+use xfs_journal::{AppendFault, Journal, Limits, MountFail, Rec, Survey, Text};
 use xfs_token::Amounts;
 
 /// The journal, and beside it what of its records would else be looked for at each call: the number of issues,
@@ -84,7 +84,7 @@ impl<D: Disk> Ledger<D> {
         disk: D,
         limits: Limits,
         units: UnitTable,
-        places: Places,
+        places: Survey,
     ) -> Result<Ledger<D>, Unbooted<D>>
         ensures records { IfOk result (λ l. (records : List Rec) × IfTold (D.held disk) (λ all. Stands all records) × (l.records ≡ records ++ Boot places ∷ [])) }
         ensures fits { IfOk result (λ l. passes limits l.records ≡ false) }
@@ -95,9 +95,10 @@ impl<D: Disk> Ledger<D> {
         ensures refused { IfErr result (λ f. (at : ℕ) → f.why ≡ NotJournal at → IsQuiet D.held D.images D.moment D.images_since D.faults disk f.disk) }
         ensures full { IfErr result (λ f. f.why ≡ BootFull → (records : List Rec) × IfTold (D.held disk) (λ all. Stands all records) × (passes limits (records ++ Boot places ∷ []) ≡ true)) }
         ensures disk { IfErr result (λ f. f.why ≡ BootDisk → Rose (D.faults disk) (D.faults f.disk)) }
-        ensures left { IfErr result (λ f. (records : List Rec) → MayLeave (D.held f.disk) (D.images f.disk) records → WasLeft (D.held disk) (D.images disk) places records) }
+        ensures left { IfErr result (λ f. (records : List Rec) → MayLeave D.Disk f.disk records → WasLeft D.Disk disk places records) }
         ensures either { IfErr result (λ f. IfTold (D.held disk) (λ _. (records : List Rec) → ((image : List ℕ) → D.images disk image → Stands image records) → (image : List ℕ) → D.images f.disk image → StandsForEither records (Boot places) image)) }
         ensures unlisted { IfErr result (λ f. IfTold (D.held disk) (λ all. ((records : List Rec) → ¬ Stands all records) → IsQuiet D.held D.images D.moment D.images_since D.faults disk f.disk)) }
+        ensures unwritten { IfErr result (λ f. f.why ≢ BootDisk → IfTold (D.held disk) (λ all. LeavesOnly D.moment D.images_since disk f.disk (IsOldOrShort (D.images disk) all))) }
         ensures any_moment { IfTold (D.held disk) (λ all. MatchResult result
             (λ l. LeavesOnly D.moment D.images_since disk l.disk (IsOldOrBooted (D.images disk) all places))
             (λ f. LeavesOnly D.moment D.images_since disk f.disk (IsOldOrBooted (D.images disk) all places))) }
@@ -142,7 +143,7 @@ impl<D: Disk> Ledger<D> {
     /// The journal's disk.
     pub fn end(self) -> D
         ensures disk { result ≡ self.disk }
-        ensures stored { IsStored (D.held result) (D.images result) self.records self.in_doubt }
+        ensures stored { IsStored D.Disk result self.records self.in_doubt }
     {
         let Ledger {
             alloc: _,
@@ -161,7 +162,7 @@ impl<D: Disk> Ledger<D> {
     /// Whether the disk failed and the journal wasn't read again since.
     pub fn shut(&self) -> bool
         ensures shut { result ≡ self.now.shut }
-        ensures possible { IsStored (D.held self.now.disk) (D.images self.now.disk) self.now.records self.now.in_doubt }
+        ensures possible { IsStored D.Disk self.now.disk self.now.records self.now.in_doubt }
     {
         self.journal.shut()
     }
@@ -276,7 +277,7 @@ impl<D: Disk> Ledger<D> {
         ensures faults { D.faults self.old.disk ≤ D.faults self.new.disk }
         ensures told { is_some (D.held self.new.disk) ≡ is_some (D.held self.old.disk) }
         ensures any_moment { IfTold (D.held self.old.disk) (λ _. LeavesOnly D.moment D.images_since self.old.disk self.new.disk (StandsForEither self.old.records (Issue (next_issue self.old.records) word))) }
-        ensures kept { OnOk result (Leaves (D.held self.new.disk) (D.images self.new.disk) self.new.records) }
+        ensures kept { OnOk result (Leaves D.Disk self.new.disk self.new.records) }
     {
         let number = self.next_issue();
         // Its clause tells what a crash may leave now.
@@ -298,18 +299,19 @@ impl<D: Disk> Ledger<D> {
         Ok(nonce)
     }
 
-    /// The live nonce is cleared.
-    pub fn clear(&mut self) -> Result<(), Deny>
-        requires fits { write_refusal self.old Clear ≡ None }
-        ensures wrote { Wrote result self.old self.new Clear None }
+    /// The live nonce ends, by this record.
+    pub fn end_nonce(&mut self, rec: Rec) -> Result<(), Deny>
+        requires fits { write_refusal self.old rec ≡ None }
+        requires ends { Ends rec }
+        ensures wrote { Wrote result self.old self.new rec None }
         ensures err { IfErr result IsWriteFault }
         ensures cause { result ≡ Err Deny.Disk → Rose (D.faults self.old.disk) (D.faults self.new.disk) }
         ensures faults { D.faults self.old.disk ≤ D.faults self.new.disk }
         ensures told { is_some (D.held self.new.disk) ≡ is_some (D.held self.old.disk) }
-        ensures any_moment { IfTold (D.held self.old.disk) (λ _. LeavesOnly D.moment D.images_since self.old.disk self.new.disk (StandsForEither self.old.records Clear)) }
-        ensures kept { OnOk result (Leaves (D.held self.new.disk) (D.images self.new.disk) self.new.records) }
+        ensures any_moment { IfTold (D.held self.old.disk) (λ _. LeavesOnly D.moment D.images_since self.old.disk self.new.disk (StandsForEither self.old.records rec)) }
+        ensures kept { OnOk result (Leaves D.Disk self.new.disk self.new.records) }
     {
-        self.mark = append(&mut self.journal, Rec::Clear)?;
+        self.mark = append(&mut self.journal, rec)?;
         self.live = None;
         self.bound = None;
         Ok(())
@@ -327,7 +329,7 @@ impl<D: Disk> Ledger<D> {
         ensures faults { D.faults self.old.disk ≤ D.faults self.new.disk }
         ensures told { is_some (D.held self.new.disk) ≡ is_some (D.held self.old.disk) }
         ensures any_moment { IfTold (D.held self.old.disk) (λ _. LeavesOnly D.moment D.images_since self.old.disk self.new.disk (StandsForEither self.old.records (Bind token))) }
-        ensures kept { OnOk result (Leaves (D.held self.new.disk) (D.images self.new.disk) self.new.records) }
+        ensures kept { OnOk result (Leaves D.Disk self.new.disk self.new.records) }
     {
         let place = append(&mut self.journal, Rec::Bind { token })?;
         self.bound = Some(Bound {
@@ -348,7 +350,7 @@ impl<D: Disk> Ledger<D> {
         ensures faults { D.faults self.old.disk ≤ D.faults self.new.disk }
         ensures told { is_some (D.held self.new.disk) ≡ is_some (D.held self.old.disk) }
         ensures any_moment { IfTold (D.held self.old.disk) (λ _. LeavesOnly D.moment D.images_since self.old.disk self.new.disk (StandsForEither self.old.records (Load unit count))) }
-        ensures kept { OnOk result (Leaves (D.held self.new.disk) (D.images self.new.disk) self.new.records) }
+        ensures kept { OnOk result (Leaves D.Disk self.new.disk self.new.records) }
     {
         append(&mut self.journal, Rec::Load { unit, count })?;
         Ok(())
@@ -373,7 +375,7 @@ impl<D: Disk> Ledger<D> {
         ensures faults { D.faults self.old.disk ≤ D.faults self.new.disk }
         ensures told { is_some (D.held self.new.disk) ≡ is_some (D.held self.old.disk) }
         ensures any_moment { IfTold (D.held self.old.disk) (λ _. LeavesOnly D.moment D.images_since self.old.disk self.new.disk (StandsForEither self.old.records (Order kind counts))) }
-        ensures kept { OnOk result (Leaves (D.held self.new.disk) (D.images self.new.disk) self.new.records) }
+        ensures kept { OnOk result (Leaves D.Disk self.new.disk self.new.records) }
     {
         append(&mut self.journal, Rec::Order { kind, counts })?;
         Ok(())
@@ -391,7 +393,7 @@ impl<D: Disk> Ledger<D> {
         ensures faults { D.faults self.old.disk ≤ D.faults self.new.disk }
         ensures told { is_some (D.held self.new.disk) ≡ is_some (D.held self.old.disk) }
         ensures any_moment { IfTold (D.held self.old.disk) (λ _. LeavesOnly D.moment D.images_since self.old.disk self.new.disk (StandsForEither self.old.records (Done moved diverted))) }
-        ensures kept { OnOk result (Leaves (D.held self.new.disk) (D.images self.new.disk) self.new.records) }
+        ensures kept { OnOk result (Leaves D.Disk self.new.disk self.new.records) }
     {
         append(&mut self.journal, Rec::Done { moved, diverted })?;
         self.bound = paid(self.bound.take(), kind, &moved, &self.units);
@@ -399,7 +401,7 @@ impl<D: Disk> Ledger<D> {
     }
 
     /// The journal is read again, and gets a Boot with these places.
-    pub fn restore(&mut self, places: Places) -> Result<(), BootFault>
+    pub fn restore(&mut self, places: Survey) -> Result<(), BootFault>
         ensures ok { OnOk result ((records : List Rec) × IsPossible self.old.records self.old.in_doubt records × (self.new ≡ record self.old {
           records = records ++ Boot places ∷ [];
           bound = None;
@@ -434,7 +436,7 @@ impl<D: Disk> Ledger<D> {
         ensures cause { result ≡ Err BootDisk → Rose (D.faults self.old.disk) (D.faults self.new.disk) }
         ensures faults { D.faults self.old.disk ≤ D.faults self.new.disk }
         ensures told { is_some (D.held self.new.disk) ≡ is_some (D.held self.old.disk) }
-        ensures possible { IsStored (D.held self.old.disk) (D.images self.old.disk) self.old.records self.old.in_doubt }
+        ensures possible { IsStored D.Disk self.old.disk self.old.records self.old.in_doubt }
         ensures any_moment { IfTold (D.held self.old.disk) (λ _. LeavesOnly D.moment D.images_since self.old.disk self.new.disk
             (λ bytes. D.images self.old.disk bytes ⊎ StandsReread self.old.records self.old.in_doubt places (IsLeft self.new.records self.new.in_doubt (self.new.shut || self.new.boot_missing)) bytes)) }
     {
@@ -501,13 +503,13 @@ fn live_found(
             }),
             None => None,
         },
-        Rec::Clear | Rec::Boot { .. } => None,
+        Rec::Clear | Rec::Expire | Rec::Boot { .. } => None,
         _ => live,
     }
 }
 
 // Appends the Boot of a journal that was just mounted.
-fn append_boot<D: Disk>(journal: &mut Journal<D>, places: Places) -> Result<u64, BootFault>
+fn append_boot<D: Disk>(journal: &mut Journal<D>, places: Survey) -> Result<u64, BootFault>
     requires { journal.old.shut ≡ false }
     ensures number { IfOk result (λ n. n ≡ length journal.old.records + 1) }
     ensures ok { OnOk result ((journal.new.records ≡ journal.old.records ++ Boot places ∷ []) × (journal.new.shut ≡ false) × (journal.new.in_doubt ≡ None)) }
@@ -517,6 +519,7 @@ fn append_boot<D: Disk>(journal: &mut Journal<D>, places: Places) -> Result<u64,
     ensures images { IfTold (D.held journal.old.disk) (λ _. (image : List ℕ) → D.images journal.new.disk image → StandsForEither journal.old.records (Boot places) image) }
     ensures any_moment { IfTold (D.held journal.old.disk) (λ _. LeavesOnly D.moment D.images_since journal.old.disk journal.new.disk (StandsForEither journal.old.records (Boot places))) }
     ensures told { is_some (D.held journal.new.disk) ≡ is_some (D.held journal.old.disk) }
+    ensures unwritten { IfErr result (λ f. f ≢ BootDisk → journal.new.disk ≡ journal.old.disk) }
     ensures not_mounted { IfErr result (λ f. (at : ℕ) → f ≢ NotJournal at) }
     ensures reserved { 1 ≤ journal.old.room → result ≢ Err BootMemory }
     ensures same { OnErr result (journal.new.records ≡ journal.old.records) }
@@ -550,7 +553,7 @@ fn append<D: Disk>(journal: &mut Journal<D>, rec: Rec) -> Result<u64, Deny>
     ensures faults { D.faults journal.old.disk ≤ D.faults journal.new.disk }
     ensures told { is_some (D.held journal.new.disk) ≡ is_some (D.held journal.old.disk) }
     ensures any_moment { IfTold (D.held journal.old.disk) (λ _. LeavesOnly D.moment D.images_since journal.old.disk journal.new.disk (StandsForEither journal.old.records rec)) }
-    ensures kept { OnOk result (Leaves (D.held journal.new.disk) (D.images journal.new.disk) journal.new.records) }
+    ensures kept { OnOk result (Leaves D.Disk journal.new.disk journal.new.records) }
 {
     match journal.append(rec) {
         Ok(number) => Ok(number),

@@ -18,6 +18,7 @@ mod open;
 mod replayed;
 mod reports;
 mod restore;
+mod signer;
 
 pub use ask::Ask;
 pub use claim::{Claim, Permit};

@@ -66,7 +66,7 @@ impl Replay {
         ensures ok { OnOk result (self.new ≡ replay_after self.old entry.now) }
     {
         match entry {
-            Rec::Boot { places } => self.outlet = places.outlet,
+            Rec::Boot { places } => self.outlet = places.places().outlet,
             Rec::Done { moved, diverted } => self.done(moved, diverted)?,
             Rec::Load { unit, count } => self.motions.push(Motion::Loaded {
                 unit: *unit,

@@ -13,9 +13,8 @@ ghost use Rattle.xfs_guard.specs.View.{shut_at};
 ghost use Rattle.xfs_guard.specs.Fits.{unfit};
 ghost use Rattle.xfs_guard.specs.Refusals.{Answers};
 ghost use Rattle.xfs_guard.specs.Reports.{HasReported};
-ghost use Rattle.xfs_guard.specs.Left.{Leaves, MayTake, StaysRecorded, StaysThrough};
-ghost use Rattle.xfs_guard.specs.Continues.{Continues};
-ghost use Rattle.xfs_guard.specs.Crashed.{LeavesBehind};
+ghost use Rattle.xfs_guard.specs.Keeps.{Keeps, NoEntry};
+ghost use Rattle.xfs_guard.specs.Left.{Leaves, MayTake};
 
 use crate::{Deny, Guard};
 use xfs_base::Memory;
@@ -37,13 +36,10 @@ impl<M: Mechanism, D: Disk> Guard<M, D> {
         requires no_retract { kind_unacted self.old.state.open_order ≢ Some Retract }
         ensures lie { IfOk result (λ o. LiesIn o.moved self.old.state.places.outlet) }
         ensures ok { IfOk result (λ o. HasReported self.old.state self.new.state (Taken o.moved) o.moved o.diverted o.failed) }
-        ensures later { self.old.state.faults ≤ self.new.state.faults }
         ensures cause { IfOk result (λ o. o.failed ≡ true → Rose self.old.state.faults self.new.state.faults) }
         ensures err { OnErr result (self.new.state ≡ self.old.state) }
         ensures same { self.new.disk ≡ self.old.disk }
-        ensures continues { Continues self.old.state self.new.state }
-        ensures crashes { LeavesBehind D.held D.images D.moment D.images_since self.old self.new }
-        ensures inside { StaysThrough D.held D.moment D.images_since self.old self.new (MayTake self.old.state) }
+        ensures keeps { Keeps D.Disk (MayTake self.old.state) self.old self.new }
     {
         // Its clause tells what a crash may leave now.
         let _possible = self.ledger.shut();
@@ -57,13 +53,10 @@ impl<M: Mechanism, D: Disk> Guard<M, D> {
         requires fits { CanLoad self.old.state.units self.old.state.places unit count }
         ensures loaded { IfOk result (λ o. Loads unit count o.moved o.failed) }
         ensures ok { IfOk result (λ o. HasReported self.old.state self.new.state (Loaded unit count) o.moved o.diverted o.failed) }
-        ensures later { self.old.state.faults ≤ self.new.state.faults }
         ensures cause { IfOk result (λ o. o.failed ≡ true → Rose self.old.state.faults self.new.state.faults) }
         ensures err { OnErr result (self.new.state ≡ self.old.state) }
         ensures same { self.new.disk ≡ self.old.disk }
-        ensures continues { Continues self.old.state self.new.state }
-        ensures crashes { LeavesBehind D.held D.images D.moment D.images_since self.old self.new }
-        ensures inside { StaysThrough D.held D.moment D.images_since self.old self.new (λ entry. entry ≡ Loaded unit count) }
+        ensures keeps { Keeps D.Disk (λ entry. entry ≡ Loaded unit count) self.old self.new }
     {
         // Its clause tells what a crash may leave now.
         let _possible = self.ledger.shut();
@@ -80,13 +73,10 @@ impl<M: Mechanism, D: Disk> Guard<M, D> {
         ensures refused { Answers result (unfit self.old.state) }
         ensures ok { OnOk result (self.new.state ≡ record self.old.state { records = self.old.state.records ++ Load unit count ∷ [] }) }
         ensures disk { result ≡ Err Deny.Disk → self.new.state ≡ shut_at (Load unit count) self.old.state }
-        ensures later { D.faults self.old.disk ≤ D.faults self.new.disk }
         ensures cause { result ≡ Err Deny.Disk → Rose (D.faults self.old.disk) (D.faults self.new.disk) }
         ensures same { IfErr result (λ e. e ≢ Deny.Disk → self.new ≡ self.old) }
-        ensures continues { Continues self.old.state self.new.state }
-        ensures crashes { LeavesBehind D.held D.images D.moment D.images_since self.old self.new }
-        ensures any_moment { StaysRecorded D.held D.moment D.images_since self.old self.new }
-        ensures kept { OnOk result (Leaves (D.held self.new.disk) (D.images self.new.disk) self.new.state.records) }
+        ensures keeps { Keeps D.Disk NoEntry self.old self.new }
+        ensures kept { OnOk result (Leaves D.Disk self.new.disk self.new.state.records) }
     {
         if let Some(deny) = self.unfit() {
             return Err(deny);

@@ -7,51 +7,46 @@ ghost use Rattle.xfs_journal.specs.JournalView.{IsPossible, passes};
 ghost use Rattle.xfs_journal.specs.declared.record.Rec.{Rec};
 ghost use Rattle.xfs_journal.specs.declared.record.Rec.TheVariants.{Boot};
 ghost use Rattle.xfs_guard.specs.declared.fail.BootFault.TheVariants.{NotJournal, Disk as BootDisk, Full as BootFull, Memory as BootMemory};
-ghost use Rattle.xfs_guard.specs.declared.open.Open.TheVariants.{No};
-ghost use Rattle.xfs_guard.specs.Continues.{Continues};
-ghost use Rattle.xfs_guard.specs.Crashed.{LeavesBehind};
-ghost use Rattle.xfs_guard.specs.Left.{StaysRecorded};
-ghost use Rattle.xfs_guard.specs.View.{restarted};
+ghost use Rattle.xfs_guard.specs.Keeps.{Keeps, NoEntry};
+ghost use Rattle.xfs_guard.specs.View.{reread, restarted, unbooted, unread};
 
-use crate::{BootFault, Guard};
+use crate::{BootFault, Guard, Open};
 use xfs_disk::Disk;
+use xfs_journal::Survey;
 use xfs_mech::Mechanism;
 
 impl<M: Mechanism, D: Disk> Guard<M, D> {
     /// Reads the journal again, which then gets a Boot with the mechanism's places: no nonce lives after it. The list
-    /// that is read is the kept one, or that one with the record in doubt. After `Memory` the guard is as before;
-    /// after `Disk` and `NotJournal` the journal is shut. After `Full` it is open and its Boot is missing: no nonce
+    /// that is read is the kept one, or that one with the record in doubt. After `Memory` the guard is as before, its open
+    /// order too; after every other answer none is open, and the Order stays in the journal and is never carried out.
+    /// After `Disk` and `NotJournal` the journal is shut. After `Full` it is open and its Boot is missing: no nonce
     /// lives, and nothing is written, until a later restore appends one. A disk that tells its bytes is never refused
     /// as `NotJournal`.
     pub fn restore(&mut self) -> Result<(), BootFault>
-        requires { self.old.state.open_order ≡ No }
         ensures ok { OnOk result ((records : List Rec) × IsPossible self.old.state.records self.old.state.in_doubt records × (self.new.state ≡ restarted self.old.state records)) }
         ensures fits { OnOk result (passes self.old.state.limits self.new.state.records ≡ false) }
         ensures stands { OnOk result (IfTold (D.held self.old.disk) (λ all. (records : List Rec) × Stands all records × (self.new.state.records ≡ records ++ Boot self.old.state.places ∷ []))) }
         ensures memory { result ≡ Err BootMemory → self.new.state ≡ self.old.state }
-        ensures full { result ≡ Err BootFull → (records : List Rec) × IsPossible self.old.state.records self.old.state.in_doubt records × (passes self.old.state.limits (records ++ Boot self.old.state.places ∷ []) ≡ true) × (self.new.state ≡ record self.old.state {
-          records = records;
-          bound = None;
-          shut = false;
-          boot_missing = true;
-          in_doubt = None;
-        }) }
+        ensures full { result ≡ Err BootFull → (records : List Rec) × IsPossible self.old.state.records self.old.state.in_doubt records × (passes self.old.state.limits (records ++ Boot self.old.state.places ∷ []) ≡ true) × (self.new.state ≡ reread self.old.state records) }
         ensures found { result ≡ Err BootFull → IfTold (D.held self.old.disk) (λ all. Stands all self.new.state.records) }
-        ensures disk { result ≡ Err BootDisk → (self.new.state ≡ record self.old.state { shut = true }) ⊎ ((records : List Rec) × IsPossible self.old.state.records self.old.state.in_doubt records × (self.new.state ≡ record self.old.state {
-          records = records;
-          bound = None;
-          shut = true;
-          in_doubt = Some (Boot self.old.state.places);
-        })) }
-        ensures not_journal { IfErr result (λ f. (at : ℕ) → f ≡ NotJournal at → (D.held self.old.disk ≡ None) × (self.new.state ≡ record self.old.state { shut = true })) }
+        ensures disk { result ≡ Err BootDisk → (self.new.state ≡ unread self.old.state) ⊎ ((records : List Rec) × IsPossible self.old.state.records self.old.state.in_doubt records × (self.new.state ≡ unbooted self.old.state records)) }
+        ensures not_journal { IfErr result (λ f. (at : ℕ) → f ≡ NotJournal at → (D.held self.old.disk ≡ None) × (self.new.state ≡ unread self.old.state)) }
         ensures untold { IfErr result (λ f. (at : ℕ) → f ≡ NotJournal at → self.old.state.disk_told ≡ false) }
-        ensures later { D.faults self.old.disk ≤ D.faults self.new.disk }
         ensures cause { result ≡ Err BootDisk → Rose (D.faults self.old.disk) (D.faults self.new.disk) }
-        ensures continues { Continues self.old.state self.new.state }
-        ensures crashes { LeavesBehind D.held D.images D.moment D.images_since self.old self.new }
-        ensures any_moment { StaysRecorded D.held D.moment D.images_since self.old self.new }
+        ensures keeps { Keeps D.Disk NoEntry self.old self.new }
     {
+        // Its clause tells what stands now.
+        let _upheld = self.unfit();
         let places = self.mech.survey();
-        self.ledger.restore(places)
+        // The memory of the Boot is had before the journal is read.
+        let Ok(survey) = Survey::new(self.alloc, places) else {
+            return Err(BootFault::Memory);
+        };
+        let read = self.ledger.restore(survey);
+        if read == Err(BootFault::Memory) {
+            return read;
+        }
+        self.open_order = Open::No;
+        read
     }
 }

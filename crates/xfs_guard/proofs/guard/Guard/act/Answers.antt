@@ -1,7 +1,8 @@
-use Rattle.std.proofs.Common.{◌≡◌, ◌∙◌, length, ap}
+use Rattle.std.proofs.Common.{refl, ◌≡◌, ◌∙◌, length, ap, arith}
 use Rattle.xfs_guard.proofs.ContinueLaws.{Continues-act}
 use Rattle.xfs_guard.proofs.KeptLaws.{IsKept-acted, still-open}
 use Rattle.xfs_guard.specs.Left.{MayMove}
+use Rattle.xfs_guard.proofs.KeepsLaws.{Keeps-moved}
 use Rattle.xfs_guard.proofs.LeftLaws.{left-through, one-possible, recorded-moved}
 use Rattle.xfs_guard.proofs.guard.Guard.act.Goals as goal
 
@@ -15,21 +16,20 @@ invariant_of-self g c =
     (g.M.Mechanism.motions c.execute-outcome.new.self) (g.M.Mechanism.places c.execute-outcome.new.self) (g.M.Mechanism.faults c.execute-outcome.new.self)
     _ _ _ _ _ c.self.invariant c.in-Written.is e.carried motions places (e.units ∙ c.self.invariant.units)
 
-pub returns-clause-continues : goal.returns-clause-continues
-returns-clause-continues g c =
-    let number : length c.records.result.now ≡ length c.self.inside.ledger.records = ap length c.records.ensures in
+pub returns-clause-keeps : goal.returns-clause-keeps
+returns-clause-keeps g c =
+    Keeps-moved g.D.Disk _ _ _ g.met.D.Disk.only_now (rw (← c.self.view_is) refl)
+    (let number : length c.records.result.now ≡ length c.self.inside.ledger.records = ap length c.records.ensures in
     let e = rw (c.new.ensures.number, c.new.ensures.kind, c.new.ensures.counts) at c.execute-outcome.ensures in
     let motions = rw number at e.motions in
     let places = rw number at e.places in
     let still = still-open _ _ _ _ c.self.invariant.closed c.in-Written.is in
     rw (← c.self.view_is) (Continues-act _ c.in-Written.kind c.execute-outcome.result.moved c.execute-outcome.result.diverted c.execute-outcome.result.failed
-    (g.M.Mechanism.motions c.execute-outcome.new.self) (g.M.Mechanism.places c.execute-outcome.new.self) (g.M.Mechanism.faults c.execute-outcome.new.self) (c.self.invariant.clean still) motions places)
-
-pub returns-clause-inside : goal.returns-clause-inside
-returns-clause-inside g c =
-    let still = still-open _ _ _ _ c.self.invariant.closed c.in-Written.is in
+    (g.M.Mechanism.motions c.execute-outcome.new.self) (g.M.Mechanism.places c.execute-outcome.new.self) (g.M.Mechanism.faults c.execute-outcome.new.self) (c.self.invariant.clean still) motions places))
+    (rw (← c.self.view_is) c.execute-outcome.ensures.later)
+    (let still = still-open _ _ _ _ c.self.invariant.closed c.in-Written.is in
     let booted = still-open _ _ _ _ c.self.invariant.missing c.in-Written.is in
     let none = c.self.invariant.clean still in
-    rw (← c.self.view_is) (left-through g.D.Disk.held g.D.Disk.images g.D.Disk.moment g.D.Disk.images_since c.self.inside.ledger.disk _ (MayMove _) (g.met.D.Disk.only_now c.self.inside.ledger.disk) c.shut-possible.ensures.possible
+    rw (← c.self.view_is) (left-through g.D.Disk c.self.inside.ledger.disk _ (MayMove _) (g.met.D.Disk.only_now c.self.inside.ledger.disk) c.shut-possible.ensures.possible
     c.self.invariant.recorded
-    (λ told J p entry now may grows. rw (one-possible _ _ J none p) (recorded-moved _ entry now (c.self.invariant.sound still booted) told may grows)))
+    (λ told J p entry now may grows. rw (one-possible _ _ J none p) (recorded-moved _ entry now (c.self.invariant.sound still booted) told may grows))))

@@ -1,5 +1,5 @@
 use Rattle.std.proofs.Common.{sym}
-use Rattle.xfs_guard.proofs.ContinueLaws.{Continues-same}
+use Rattle.xfs_guard.proofs.KeepsLaws.{Keeps-same}
 use Rattle.xfs_guard.proofs.LedgerLaws.{nonce-open}
 use Rattle.xfs_guard.proofs.OrderLaws.{live-place, told-live}
 use Rattle.xfs_guard.proofs.SizeLaws.{fit-at}
@@ -11,5 +11,5 @@ passed-requires g c =
     let live = live-place c.self.inside.ledger.records c.in-Some.nonce (nonce-open c.self.inside.ledger.boot_missing c.self.inside.ledger.records c.in-Some.nonce fit.2 (sym c.in-Some.ensures)) in
     record { open_still = (fit.0, fit.2); told = told-live _ live.0 (c.self.invariant.sound fit.0 fit.2) live.1 }
 
-pub returns-in-Some-passed-clause-continues : goal.returns-in-Some-passed-clause-continues
-returns-in-Some-passed-clause-continues g c = Continues-same _
+pub returns-in-Some-passed-clause-keeps : goal.returns-in-Some-passed-clause-keeps
+returns-in-Some-passed-clause-keeps g c = Keeps-same g.D.Disk _ g.met.D.Disk.only_now c.unfit-upheld.ensures.upheld

@@ -4,8 +4,10 @@ use Rattle.xfs_journal.specs.declared.record.Rec.TheVariants.{Bind}
 use Rattle.xfs_guard.specs.declared.open.Open.TheVariants.{No}
 use Rattle.xfs_guard.specs.Refusals.{bound_token}
 use Rattle.xfs_guard.proofs.ClaimLaws.{IsSound-claim, kept-claim, copied-none, copied-some}
-use Rattle.xfs_guard.proofs.ContinueLaws.{Continues-written, Continues-same}
+use Rattle.xfs_guard.proofs.ContinueLaws.{Continues-written}
+use Rattle.xfs_guard.proofs.KeepsLaws.{Keeps-same, Keeps-wrote}
 use Rattle.xfs_guard.proofs.KeptLaws.{IsKept-open, IsKept-refused, Continues-refused}
+use Rattle.xfs_guard.proofs.MarkLaws.{marked-push}
 use Rattle.xfs_guard.proofs.SizeLaws.{fit-at, takes-one, may-write}
 use Rattle.xfs_guard.proofs.LeftLaws.{left-written}
 use Rattle.xfs_guard.proofs.BehindLaws.{behind-refused, behind-written}
@@ -22,9 +24,6 @@ returns-then-is_some-clause-ok g c =
       again = λ some. refl;
     })
 
-pub returns-then-is_some-clause-continues : goal.returns-then-is_some-clause-continues
-returns-then-is_some-clause-continues g c = Continues-same _
-
 pub bind-requires-clause-fits : goal.bind-requires-clause-fits
 bind-requires-clause-fits g c =
     let fit = fit-at _ _ c.self.view_is c.requires.passes.fit in
@@ -40,11 +39,6 @@ invariant_of-self g c =
     IsKept-refused Unit c.in_err-bind.field-0.0 _ _ _ _ _ _ c.self.inside.ledger c.bind.new.self _ (Some c.claim.inside.amounts) _ _ _ _ _ _ c.in_err-bind.ensures.wrote c.in_err-bind.ensures.err c.bind.ensures.told none c.self.invariant fit.0 fit.2
     (IsSound-claim _ c.claim.inside.token c.claim.inside.amounts (c.self.invariant.sound fit.0 fit.2) none passes free)
 
-pub returns-in_err-bind-clause-continues : goal.returns-in_err-bind-clause-continues
-returns-in_err-bind-clause-continues g c =
-    let fit = fit-at _ _ c.self.view_is c.requires.passes.fit in
-    rw (← c.self.view_is) (Continues-refused Unit c.in_err-bind.field-0.0 _ _ _ _ _ _ c.self.inside.ledger c.bind.new.self _ (Some c.claim.inside.amounts) _ _ c.in_err-bind.ensures.wrote c.in_err-bind.ensures.err c.bind.ensures.told (c.self.invariant.clean fit.0) fit.0 fit.2 (λ p e. cc))
-
 pub invariant_of-self-2 : goal.invariant_of-self-2
 invariant_of-self-2 g c =
     let none : c.self.inside.open_order ≡ No = rw (← c.self.view_is) at c.requires.none in
@@ -53,37 +47,37 @@ invariant_of-self-2 g c =
     let free : bound_token c.self.inside.ledger.records ≡ None = copied-none c.token.result _ c.token.ensures (sym c.is_some.ensures ∙ c.if-is_some.false) in
     let w = c.in_ok-bind.ensures.wrote in
     rw (w.records, w.units, w.bound_is, w.limits, w.open_still, w.boot_missing, w.in_doubt, c.bind.ensures.told, none)
-    (IsKept-open _ _ _ _ (IsSound-claim _ c.claim.inside.token c.claim.inside.amounts (c.self.invariant.sound fit.0 fit.2) none passes free) fit.2 tt tt c.self.invariant.units)
+    (IsKept-open _ _ _ _ (IsSound-claim _ c.claim.inside.token c.claim.inside.amounts (c.self.invariant.sound fit.0 fit.2) none passes free) (marked-push c.self.inside.ledger.records (Bind c.claim.inside.token) c.self.invariant.marked) fit.2 tt tt c.self.invariant.units)
 
-pub returns-clause-continues : goal.returns-clause-continues
-returns-clause-continues g c =
+pub returns-in_err-bind-clause-keeps : goal.returns-in_err-bind-clause-keeps
+returns-in_err-bind-clause-keeps g c =
+    Keeps-wrote g.D.Disk _ _
+    (let fit = fit-at _ _ c.self.view_is c.requires.passes.fit in
+    rw (← c.self.view_is) (Continues-refused Unit c.in_err-bind.field-0.0 _ _ _ _ _ _ c.self.inside.ledger c.bind.new.self _ (Some c.claim.inside.amounts) _ _ c.in_err-bind.ensures.wrote c.in_err-bind.ensures.err c.bind.ensures.told (c.self.invariant.clean fit.0) fit.0 fit.2 (λ p e. cc)))
+    (rw (← c.self.view_is) c.bind.ensures.faults) (rw (← c.self.view_is) (omega arith))
+    (rw (← c.self.view_is) (behind-refused Unit g.D.Disk c.in_err-bind.field-0.0 _ _ _ _ _ _ c.self.inside.ledger c.bind.new.self _ (Some c.claim.inside.amounts) _ _ g.met.D.Disk.only_now c.in_err-bind.ensures.wrote c.in_err-bind.ensures.err c.bind.ensures.told c.bind.ensures.any_moment))
+    (let none : c.self.inside.open_order ≡ No = rw (← c.self.view_is) at c.requires.none in
+    let passes = rw (← c.self.view_is, ← c.claim.view_is) at c.requires.passes in
     let fit = fit-at _ _ c.self.view_is c.requires.passes.fit in
+    let free : bound_token c.self.inside.ledger.records ≡ None = copied-none c.token.result _ c.token.ensures (sym c.is_some.ensures ∙ c.if-is_some.false) in
+    let sound = c.self.invariant.sound fit.0 fit.2 in
+    rw (← c.self.view_is) (left-written g.D.Disk c.self.inside.ledger.disk c.bind.new.self.disk _ (Bind c.claim.inside.token) (Some c.claim.inside.amounts) No refl sound (IsSound-claim _ c.claim.inside.token c.claim.inside.amounts sound none passes free) c.bind.ensures.any_moment))
+
+pub returns-clause-keeps : goal.returns-clause-keeps
+returns-clause-keeps g c =
+    Keeps-wrote g.D.Disk _ _
+    (let fit = fit-at _ _ c.self.view_is c.requires.passes.fit in
     let w = c.in_ok-bind.ensures.wrote in
     rw (← c.self.view_is, w.records, w.units, w.bound_is, w.limits, w.open_still, w.boot_missing, w.in_doubt, c.bind.ensures.told)
-    (Continues-written _ (Bind c.claim.inside.token) (Some c.claim.inside.amounts) c.self.inside.open_order (c.self.invariant.clean fit.0) fit.0 fit.2 (λ p e. cc))
-
-pub returns-in_err-bind-clause-any_moment : goal.returns-in_err-bind-clause-any_moment
-returns-in_err-bind-clause-any_moment g c =
-    let none : c.self.inside.open_order ≡ No = rw (← c.self.view_is) at c.requires.none in
+    (Continues-written _ (Bind c.claim.inside.token) (Some c.claim.inside.amounts) c.self.inside.open_order (c.self.invariant.clean fit.0) fit.0 fit.2 (λ p e. cc)))
+    (rw (← c.self.view_is) c.bind.ensures.faults) (rw (← c.self.view_is) (omega arith))
+    (rw (← c.self.view_is) (behind-written g.D.Disk _ _ (Bind c.claim.inside.token) c.bind.ensures.told c.bind.ensures.any_moment c.in_ok-bind.ensures.wrote.records))
+    (let none : c.self.inside.open_order ≡ No = rw (← c.self.view_is) at c.requires.none in
     let passes = rw (← c.self.view_is, ← c.claim.view_is) at c.requires.passes in
     let fit = fit-at _ _ c.self.view_is c.requires.passes.fit in
     let free : bound_token c.self.inside.ledger.records ≡ None = copied-none c.token.result _ c.token.ensures (sym c.is_some.ensures ∙ c.if-is_some.false) in
     let sound = c.self.invariant.sound fit.0 fit.2 in
-    rw (← c.self.view_is) (left-written g.D.Disk.held g.D.Disk.images g.D.Disk.moment g.D.Disk.images_since c.self.inside.ledger.disk c.bind.new.self.disk _ (Bind c.claim.inside.token) (Some c.claim.inside.amounts) No refl sound (IsSound-claim _ c.claim.inside.token c.claim.inside.amounts sound none passes free) c.bind.ensures.any_moment)
+    rw (← c.self.view_is) (left-written g.D.Disk c.self.inside.ledger.disk c.bind.new.self.disk _ (Bind c.claim.inside.token) (Some c.claim.inside.amounts) No refl sound (IsSound-claim _ c.claim.inside.token c.claim.inside.amounts sound none passes free) c.bind.ensures.any_moment))
 
-pub returns-clause-any_moment : goal.returns-clause-any_moment
-returns-clause-any_moment g c =
-    let none : c.self.inside.open_order ≡ No = rw (← c.self.view_is) at c.requires.none in
-    let passes = rw (← c.self.view_is, ← c.claim.view_is) at c.requires.passes in
-    let fit = fit-at _ _ c.self.view_is c.requires.passes.fit in
-    let free : bound_token c.self.inside.ledger.records ≡ None = copied-none c.token.result _ c.token.ensures (sym c.is_some.ensures ∙ c.if-is_some.false) in
-    let sound = c.self.invariant.sound fit.0 fit.2 in
-    rw (← c.self.view_is) (left-written g.D.Disk.held g.D.Disk.images g.D.Disk.moment g.D.Disk.images_since c.self.inside.ledger.disk c.bind.new.self.disk _ (Bind c.claim.inside.token) (Some c.claim.inside.amounts) No refl sound (IsSound-claim _ c.claim.inside.token c.claim.inside.amounts sound none passes free) c.bind.ensures.any_moment)
-
-pub returns-in_err-bind-clause-crashes : goal.returns-in_err-bind-clause-crashes
-returns-in_err-bind-clause-crashes g c =
-    rw (← c.self.view_is) (behind-refused Unit g.D.Disk.held g.D.Disk.images g.D.Disk.moment g.D.Disk.images_since c.in_err-bind.field-0.0 _ _ _ _ _ _ c.self.inside.ledger c.bind.new.self _ (Some c.claim.inside.amounts) _ _ g.met.D.Disk.only_now c.in_err-bind.ensures.wrote c.in_err-bind.ensures.err c.bind.ensures.told c.bind.ensures.any_moment)
-
-pub returns-clause-crashes : goal.returns-clause-crashes
-returns-clause-crashes g c =
-    rw (← c.self.view_is) (behind-written g.D.Disk.held g.D.Disk.images g.D.Disk.moment g.D.Disk.images_since _ _ (Bind c.claim.inside.token) c.bind.ensures.told c.bind.ensures.any_moment c.in_ok-bind.ensures.wrote.records)
+pub returns-then-is_some-clause-keeps : goal.returns-then-is_some-clause-keeps
+returns-then-is_some-clause-keeps g c = Keeps-same g.D.Disk _ g.met.D.Disk.only_now c.unfit-upheld.ensures.upheld

@@ -11,29 +11,29 @@ use Rattle.xfs_guard.proofs.guard.Guard.boot.Goals as goal
 
 pub invariant_of-result : goal.invariant_of-result
 invariant_of-result g c =
-    let e = c.in-Ok.ensures in
-    let v = over c.args.key c.args.seed No (g.M.Mechanism.motions c.args.mech) (g.M.Mechanism.places c.args.mech) (g.M.Mechanism.faults c.args.mech) c.in-Ok.ledger (is_some (g.D.Disk.held c.in-Ok.ledger.disk)) in
+    let e = c.in-Ok-boot.ensures in
+    let v = over c.new-in-Ok-boot.result c.args.seed No (g.M.Mechanism.motions c.args.mech) (g.M.Mechanism.places c.args.mech) (g.M.Mechanism.faults c.args.mech) c.in-Ok-boot.ledger (is_some (g.D.Disk.held c.in-Ok-boot.ledger.disk)) in
     rw (e.records.2, e.opened.0, e.opened.1, e.opened.2, e.opened.3)
-    (IsKept-boot v e.records.0 c.survey-places.result _ _ _
-    (λ told. rw e.same.1 (c.requires.recorded e.records.0 (MayLeave-held g.D.Disk.held g.D.Disk.images c.args.disk e.records.0 g.met.D.Disk.as_read (sym e.told ∙ told) e.records.1)))
+    (IsKept-boot v e.records.0 c.in-Ok.survey _ _ _
+    (λ told. rw (e.same.1, c.new-in-Ok-boot.ensures) (c.requires.recorded e.records.0 (MayLeave-held g.D.Disk c.args.disk e.records.0 g.met.D.Disk.as_read (sym e.told ∙ told) e.records.1)))
     (c.requires.units ∙ sym e.same.1))
 
-pub returns-in-Ok-clause-continues : goal.returns-in-Ok-clause-continues
-returns-in-Ok-clause-continues g c = λ J is.
-    let v = over c.args.key c.args.seed No (g.M.Mechanism.motions c.args.mech) (g.M.Mechanism.places c.args.mech) (g.M.Mechanism.faults c.args.mech) c.in-Ok.ledger (is_some (g.D.Disk.held c.in-Ok.ledger.disk)) in
-    rw (is, c.in-Ok.ensures.opened.0, c.in-Ok.ensures.opened.1, c.in-Ok.ensures.opened.3) (Continues-written (record v { records = J; shut = false; boot_missing = false; in_doubt = None }) (Boot (g.M.Mechanism.places c.args.mech)) c.in-Ok.ledger.bound No refl refl refl (λ p same. cc))
+pub returns-in-Ok-boot-clause-continues : goal.returns-in-Ok-boot-clause-continues
+returns-in-Ok-boot-clause-continues g c = λ J is.
+    let v = over c.new-in-Ok-boot.result c.args.seed No (g.M.Mechanism.motions c.args.mech) (g.M.Mechanism.places c.args.mech) (g.M.Mechanism.faults c.args.mech) c.in-Ok-boot.ledger (is_some (g.D.Disk.held c.in-Ok-boot.ledger.disk)) in
+    rw (is, c.in-Ok-boot.ensures.opened.0, c.in-Ok-boot.ensures.opened.1, c.in-Ok-boot.ensures.opened.3) (Continues-written (record v { records = J; shut = false; boot_missing = false; in_doubt = None }) (Boot (g.M.Mechanism.places c.args.mech)) c.in-Ok-boot.ledger.bound No refl refl refl (λ p same. cc))
 
 pub returns-in-Err-clause-left : goal.returns-in-Err-clause-left
 returns-in-Err-clause-left g c = λ J may.
-    WasLeft-recorded c.args.key c.args.units (g.M.Mechanism.motions c.args.mech) (g.D.Disk.held c.args.disk) (g.D.Disk.images c.args.disk) c.survey-places.result c.requires.recorded J (c.in-Err.ensures.left J may)
+    WasLeft-recorded c.args.key c.args.units (g.M.Mechanism.motions c.args.mech) g.D.Disk c.args.disk c.in-Ok.survey c.requires.recorded J (c.in-Err.ensures.left J may)
 
 pub returns-in-Err-clause-either : goal.returns-in-Err-clause-either
-returns-in-Err-clause-either g c = rw c.survey-places.ensures at c.in-Err.ensures.either
+returns-in-Err-clause-either g c = rw (c.in-Ok.ensures, c.survey-places.ensures) at c.in-Err.ensures.either
 
-pub returns-in-Ok-clause-any_moment : goal.returns-in-Ok-clause-any_moment
-returns-in-Ok-clause-any_moment g c =
-    left-boot g.D.Disk.held g.D.Disk.images g.D.Disk.moment g.D.Disk.images_since c.args.disk c.in-Ok.ledger.disk c.args.key c.args.units (g.M.Mechanism.motions c.args.mech) c.survey-places.result g.met.D.Disk.as_read c.requires.recorded c.in-Ok.ensures.any_moment
+pub returns-in-Ok-boot-clause-any_moment : goal.returns-in-Ok-boot-clause-any_moment
+returns-in-Ok-boot-clause-any_moment g c =
+    left-boot g.D.Disk c.args.disk c.in-Ok-boot.ledger.disk c.args.key c.args.units (g.M.Mechanism.motions c.args.mech) c.in-Ok.survey g.met.D.Disk.as_read c.requires.recorded c.in-Ok-boot.ensures.any_moment
 
 pub returns-in-Err-clause-any_moment : goal.returns-in-Err-clause-any_moment
 returns-in-Err-clause-any_moment g c =
-    left-boot g.D.Disk.held g.D.Disk.images g.D.Disk.moment g.D.Disk.images_since c.args.disk c.in-Err.field-0.disk c.args.key c.args.units (g.M.Mechanism.motions c.args.mech) c.survey-places.result g.met.D.Disk.as_read c.requires.recorded c.in-Err.ensures.any_moment
+    left-boot g.D.Disk c.args.disk c.in-Err.field-0.disk c.args.key c.args.units (g.M.Mechanism.motions c.args.mech) c.in-Ok.survey g.met.D.Disk.as_read c.requires.recorded c.in-Err.ensures.any_moment

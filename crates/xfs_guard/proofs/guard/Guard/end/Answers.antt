@@ -5,9 +5,9 @@ use Rattle.xfs_guard.proofs.guard.Guard.end.Goals as goal
 
 pub returns-clause-left : goal.returns-clause-left
 returns-clause-left g c =
-    rw (← c.self.view_is) (left-possible (g.D.Disk.held c.end.result) (g.D.Disk.images c.end.result) c.self.inside.ledger.records c.self.inside.ledger.in_doubt c.end.ensures.stored)
+    rw (← c.self.view_is) (left-possible g.D.Disk c.end.result c.self.inside.ledger.records c.self.inside.ledger.in_doubt c.end.ensures.stored)
 
 pub returns-clause-recorded : goal.returns-clause-recorded
 returns-clause-recorded g c = rw (← c.self.view_is) (λ J may.
     let told : is_some (g.D.Disk.held c.self.inside.ledger.disk) ≡ true = rw (← c.end.ensures.disk) may.told in
-    c.self.invariant.recorded told J (left-possible (g.D.Disk.held c.end.result) (g.D.Disk.images c.end.result) c.self.inside.ledger.records c.self.inside.ledger.in_doubt c.end.ensures.stored J may))
+    c.self.invariant.recorded told J (left-possible g.D.Disk c.end.result c.self.inside.ledger.records c.self.inside.ledger.in_doubt c.end.ensures.stored J may))

@@ -5,17 +5,16 @@ use Rattle.xfs_guard.specs.declared.nonce.Nonce.{Nonce}
 use Rattle.xfs_guard.specs.declared.open.Open.TheVariants.{No}
 use Rattle.xfs_journal.specs.declared.record.Rec.TheVariants.{Issue}
 use Rattle.xfs_guard.proofs.LedgerLaws.{live-issued}
-use Rattle.xfs_guard.proofs.ContinueLaws.{Continues-same, Continues-written}
+use Rattle.xfs_guard.proofs.ContinueLaws.{Continues-written}
+use Rattle.xfs_guard.proofs.KeepsLaws.{Keeps-same, Keeps-wrote}
 use Rattle.xfs_guard.proofs.KeptLaws.{IsKept-open, IsKept-refused, Continues-refused}
+use Rattle.xfs_guard.proofs.MarkLaws.{marked-push}
 use Rattle.xfs_guard.proofs.SizeLaws.{fit-at, takes-one, may-write}
 use Rattle.xfs_guard.proofs.RecordLaws.{IsSound-issue}
 use Rattle.xfs_guard.proofs.LeftLaws.{left-written}
 use Rattle.xfs_guard.proofs.LifeLaws.{next-fresh}
 use Rattle.xfs_guard.proofs.BehindLaws.{behind-refused, behind-written}
 use Rattle.xfs_guard.proofs.guard.Guard.issue.Goals as goal
-
-pub returns-in-Some-clause-continues : goal.returns-in-Some-clause-continues
-returns-in-Some-clause-continues g c = Continues-same _
 
 pub issue-requires : goal.issue-requires
 issue-requires g c =
@@ -31,43 +30,17 @@ invariant_of-self g c =
     IsKept-refused Nonce c.in_err-issue.field-0.0 _ _ _ _ _ _ c.self.inside.ledger c.issue.new.self _ None _ _ _ _ _ _ c.in_err-issue.ensures.wrote c.in_err-issue.ensures.err c.issue.ensures.told none c.self.invariant fit.0 fit.2
     (IsSound-issue _ _ c.word_of-word.result (c.self.invariant.sound fit.0 fit.2) none refl)
 
-pub returns-in_err-issue-clause-continues : goal.returns-in_err-issue-clause-continues
-returns-in_err-issue-clause-continues g c =
-    let fit = fit-at _ _ c.self.view_is (sym c.unfit.ensures.first ∙ c.in_default.is) in
-    rw (← c.self.view_is) (Continues-refused Nonce c.in_err-issue.field-0.0 _ _ _ _ _ _ c.self.inside.ledger c.issue.new.self _ None _ _ c.in_err-issue.ensures.wrote c.in_err-issue.ensures.err c.issue.ensures.told (c.self.invariant.clean fit.0) fit.0 fit.2 (λ p e. cc))
-
 pub invariant_of-self-2 : goal.invariant_of-self-2
 invariant_of-self-2 g c =
     let none : c.self.inside.open_order ≡ No = rw (← c.self.view_is) at c.requires in
     let fit = fit-at _ _ c.self.view_is (sym c.unfit.ensures.first ∙ c.in_default.is) in
     let w = c.in_ok-issue.ensures.wrote in
     rw (w.records, w.units, w.bound_is, w.limits, w.open_still, w.boot_missing, w.in_doubt, c.issue.ensures.told, none)
-    (IsKept-open _ _ _ _ (IsSound-issue _ _ c.word_of-word.result (c.self.invariant.sound fit.0 fit.2) none refl) fit.2 tt tt c.self.invariant.units)
+    (IsKept-open _ _ _ _ (IsSound-issue _ _ c.word_of-word.result (c.self.invariant.sound fit.0 fit.2) none refl) (marked-push c.self.inside.ledger.records (Issue (next_issue c.self.inside.ledger.records) c.word_of-word.result) c.self.invariant.marked) fit.2 tt tt c.self.invariant.units)
 
 pub returns-clause-live : goal.returns-clause-live
 returns-clause-live g c =
     rw c.in_ok-issue.ensures.wrote.records (live-issued c.self.inside.ledger.records _ c.word_of-word.result c.in_ok-issue.field-0 (rw c.in_ok-issue.ensures.number at c.in_ok-issue.ensures.text) c.in_ok-issue.ensures.number)
-
-pub returns-clause-continues : goal.returns-clause-continues
-returns-clause-continues g c =
-    let fit = fit-at _ _ c.self.view_is (sym c.unfit.ensures.first ∙ c.in_default.is) in
-    let w = c.in_ok-issue.ensures.wrote in
-    rw (← c.self.view_is, w.records, w.units, w.bound_is, w.limits, w.open_still, w.boot_missing, w.in_doubt, c.issue.ensures.told)
-    (Continues-written _ (Issue _ c.word_of-word.result) None c.self.inside.open_order (c.self.invariant.clean fit.0) fit.0 fit.2 (λ p e. cc))
-
-pub returns-in_err-issue-clause-any_moment : goal.returns-in_err-issue-clause-any_moment
-returns-in_err-issue-clause-any_moment g c =
-    let none : c.self.inside.open_order ≡ No = rw (← c.self.view_is) at c.requires in
-    let fit = fit-at _ _ c.self.view_is (sym c.unfit.ensures.first ∙ c.in_default.is) in
-    let sound = c.self.invariant.sound fit.0 fit.2 in
-    rw (← c.self.view_is) (left-written g.D.Disk.held g.D.Disk.images g.D.Disk.moment g.D.Disk.images_since c.self.inside.ledger.disk c.issue.new.self.disk _ (Issue (next_issue c.self.inside.ledger.records) c.word_of-word.result) None No refl sound (IsSound-issue _ _ c.word_of-word.result sound none refl) c.issue.ensures.any_moment)
-
-pub returns-clause-any_moment : goal.returns-clause-any_moment
-returns-clause-any_moment g c =
-    let none : c.self.inside.open_order ≡ No = rw (← c.self.view_is) at c.requires in
-    let fit = fit-at _ _ c.self.view_is (sym c.unfit.ensures.first ∙ c.in_default.is) in
-    let sound = c.self.invariant.sound fit.0 fit.2 in
-    rw (← c.self.view_is) (left-written g.D.Disk.held g.D.Disk.images g.D.Disk.moment g.D.Disk.images_since c.self.inside.ledger.disk c.issue.new.self.disk _ (Issue (next_issue c.self.inside.ledger.records) c.word_of-word.result) None No refl sound (IsSound-issue _ _ c.word_of-word.result sound none refl) c.issue.ensures.any_moment)
 
 pub returns-clause-never_twice : goal.returns-clause-never_twice
 returns-clause-never_twice g c =
@@ -75,10 +48,31 @@ returns-clause-never_twice g c =
     rw (← c.self.view_is) (λ told first runs life.
     rw c.in_ok-issue.ensures.number (next-fresh first runs c.self.inside.ledger.records life ((c.self.invariant.sound fit.0 fit.2).numbered told)))
 
-pub returns-in_err-issue-clause-crashes : goal.returns-in_err-issue-clause-crashes
-returns-in_err-issue-clause-crashes g c =
-    rw (← c.self.view_is) (behind-refused Nonce g.D.Disk.held g.D.Disk.images g.D.Disk.moment g.D.Disk.images_since c.in_err-issue.field-0.0 _ _ _ _ _ _ c.self.inside.ledger c.issue.new.self _ None _ _ g.met.D.Disk.only_now c.in_err-issue.ensures.wrote c.in_err-issue.ensures.err c.issue.ensures.told c.issue.ensures.any_moment)
+pub returns-in-Some-clause-keeps : goal.returns-in-Some-clause-keeps
+returns-in-Some-clause-keeps g c = Keeps-same g.D.Disk _ g.met.D.Disk.only_now c.unfit.ensures.upheld
 
-pub returns-clause-crashes : goal.returns-clause-crashes
-returns-clause-crashes g c =
-    rw (← c.self.view_is) (behind-written g.D.Disk.held g.D.Disk.images g.D.Disk.moment g.D.Disk.images_since _ _ (Issue _ c.word_of-word.result) c.issue.ensures.told c.issue.ensures.any_moment c.in_ok-issue.ensures.wrote.records)
+pub returns-in_err-issue-clause-keeps : goal.returns-in_err-issue-clause-keeps
+returns-in_err-issue-clause-keeps g c =
+    Keeps-wrote g.D.Disk _ _
+    (let fit = fit-at _ _ c.self.view_is (sym c.unfit.ensures.first ∙ c.in_default.is) in
+    rw (← c.self.view_is) (Continues-refused Nonce c.in_err-issue.field-0.0 _ _ _ _ _ _ c.self.inside.ledger c.issue.new.self _ None _ _ c.in_err-issue.ensures.wrote c.in_err-issue.ensures.err c.issue.ensures.told (c.self.invariant.clean fit.0) fit.0 fit.2 (λ p e. cc)))
+    (rw (← c.self.view_is) c.issue.ensures.faults) (rw (← c.self.view_is) (omega arith))
+    (rw (← c.self.view_is) (behind-refused Nonce g.D.Disk c.in_err-issue.field-0.0 _ _ _ _ _ _ c.self.inside.ledger c.issue.new.self _ None _ _ g.met.D.Disk.only_now c.in_err-issue.ensures.wrote c.in_err-issue.ensures.err c.issue.ensures.told c.issue.ensures.any_moment))
+    (let none : c.self.inside.open_order ≡ No = rw (← c.self.view_is) at c.requires in
+    let fit = fit-at _ _ c.self.view_is (sym c.unfit.ensures.first ∙ c.in_default.is) in
+    let sound = c.self.invariant.sound fit.0 fit.2 in
+    rw (← c.self.view_is) (left-written g.D.Disk c.self.inside.ledger.disk c.issue.new.self.disk _ (Issue (next_issue c.self.inside.ledger.records) c.word_of-word.result) None No refl sound (IsSound-issue _ _ c.word_of-word.result sound none refl) c.issue.ensures.any_moment))
+
+pub returns-clause-keeps : goal.returns-clause-keeps
+returns-clause-keeps g c =
+    Keeps-wrote g.D.Disk _ _
+    (let fit = fit-at _ _ c.self.view_is (sym c.unfit.ensures.first ∙ c.in_default.is) in
+    let w = c.in_ok-issue.ensures.wrote in
+    rw (← c.self.view_is, w.records, w.units, w.bound_is, w.limits, w.open_still, w.boot_missing, w.in_doubt, c.issue.ensures.told)
+    (Continues-written _ (Issue _ c.word_of-word.result) None c.self.inside.open_order (c.self.invariant.clean fit.0) fit.0 fit.2 (λ p e. cc)))
+    (rw (← c.self.view_is) c.issue.ensures.faults) (rw (← c.self.view_is) (omega arith))
+    (rw (← c.self.view_is) (behind-written g.D.Disk _ _ (Issue _ c.word_of-word.result) c.issue.ensures.told c.issue.ensures.any_moment c.in_ok-issue.ensures.wrote.records))
+    (let none : c.self.inside.open_order ≡ No = rw (← c.self.view_is) at c.requires in
+    let fit = fit-at _ _ c.self.view_is (sym c.unfit.ensures.first ∙ c.in_default.is) in
+    let sound = c.self.invariant.sound fit.0 fit.2 in
+    rw (← c.self.view_is) (left-written g.D.Disk c.self.inside.ledger.disk c.issue.new.self.disk _ (Issue (next_issue c.self.inside.ledger.records) c.word_of-word.result) None No refl sound (IsSound-issue _ _ c.word_of-word.result sound none refl) c.issue.ensures.any_moment))

@@ -2,16 +2,15 @@ use Rattle.std.proofs.Common.{◌≡◌, ◌≤◌, ◌∙◌, sym, length, arit
 use Rattle.xfs_guard.specs.declared.open.Open.TheVariants.{No}
 use Rattle.xfs_journal.specs.Image.{body}
 use Rattle.xfs_journal.specs.declared.record.Rec.TheVariants.{Load}
-use Rattle.xfs_guard.proofs.ContinueLaws.{Continues-same, Continues-written}
+use Rattle.xfs_guard.proofs.ContinueLaws.{Continues-written}
+use Rattle.xfs_guard.proofs.KeepsLaws.{Keeps-same, Keeps-wrote}
 use Rattle.xfs_guard.proofs.KeptLaws.{IsKept-open, IsKept-refused, Continues-refused}
+use Rattle.xfs_guard.proofs.MarkLaws.{marked-push}
 use Rattle.xfs_guard.proofs.SizeLaws.{fit-at, takes-one, may-write}
 use Rattle.xfs_guard.proofs.RecordLaws.{IsSound-load}
 use Rattle.xfs_guard.proofs.LeftLaws.{left-written}
 use Rattle.xfs_guard.proofs.BehindLaws.{behind-refused, behind-written}
 use Rattle.xfs_guard.proofs.guard.Guard.note_load.Goals as goal
-
-pub returns-in-Some-clause-continues : goal.returns-in-Some-clause-continues
-returns-in-Some-clause-continues g c = Continues-same _
 
 pub load-requires-clause-fits : goal.load-requires-clause-fits
 load-requires-clause-fits g c =
@@ -26,44 +25,39 @@ invariant_of-self g c =
     IsKept-refused Unit c.in_err-load.field-0.0 _ _ _ _ _ _ c.self.inside.ledger c.load.new.self _ c.self.inside.ledger.bound _ _ _ _ _ _ c.in_err-load.ensures.wrote c.in_err-load.ensures.err c.load.ensures.told none c.self.invariant fit.0 fit.2
     (IsSound-load _ c.args.unit c.args.count (c.self.invariant.sound fit.0 fit.2) none)
 
-pub returns-in_err-load-clause-continues : goal.returns-in_err-load-clause-continues
-returns-in_err-load-clause-continues g c =
-    let fit = fit-at _ _ c.self.view_is (sym c.unfit.ensures.first ∙ c.in_default.is) in
-    rw (← c.self.view_is) (Continues-refused Unit c.in_err-load.field-0.0 _ _ _ _ _ _ c.self.inside.ledger c.load.new.self _ c.self.inside.ledger.bound _ _ c.in_err-load.ensures.wrote c.in_err-load.ensures.err c.load.ensures.told (c.self.invariant.clean fit.0) fit.0 fit.2 (λ p e. cc))
-
 pub invariant_of-self-2 : goal.invariant_of-self-2
 invariant_of-self-2 g c =
     let none : c.self.inside.open_order ≡ No = rw (← c.self.view_is) at c.requires.none in
     let fit = fit-at _ _ c.self.view_is (sym c.unfit.ensures.first ∙ c.in_default.is) in
     let w = c.in_ok-load.ensures.wrote in
     rw (w.records, w.units, w.bound_is, w.limits, w.open_still, w.boot_missing, w.in_doubt, c.load.ensures.told, none)
-    (IsKept-open _ _ _ _ (IsSound-load _ c.args.unit c.args.count (c.self.invariant.sound fit.0 fit.2) none) fit.2 tt tt c.self.invariant.units)
+    (IsKept-open _ _ _ _ (IsSound-load _ c.args.unit c.args.count (c.self.invariant.sound fit.0 fit.2) none) (marked-push c.self.inside.ledger.records (Load c.args.unit c.args.count) c.self.invariant.marked) fit.2 tt tt c.self.invariant.units)
 
-pub returns-clause-continues : goal.returns-clause-continues
-returns-clause-continues g c =
+pub returns-in-Some-clause-keeps : goal.returns-in-Some-clause-keeps
+returns-in-Some-clause-keeps g c = Keeps-same g.D.Disk _ g.met.D.Disk.only_now c.unfit.ensures.upheld
+
+pub returns-in_err-load-clause-keeps : goal.returns-in_err-load-clause-keeps
+returns-in_err-load-clause-keeps g c =
+    Keeps-wrote g.D.Disk _ _
+    (let fit = fit-at _ _ c.self.view_is (sym c.unfit.ensures.first ∙ c.in_default.is) in
+    rw (← c.self.view_is) (Continues-refused Unit c.in_err-load.field-0.0 _ _ _ _ _ _ c.self.inside.ledger c.load.new.self _ c.self.inside.ledger.bound _ _ c.in_err-load.ensures.wrote c.in_err-load.ensures.err c.load.ensures.told (c.self.invariant.clean fit.0) fit.0 fit.2 (λ p e. cc)))
+    (rw (← c.self.view_is) c.load.ensures.faults) (rw (← c.self.view_is) (omega arith))
+    (rw (← c.self.view_is) (behind-refused Unit g.D.Disk c.in_err-load.field-0.0 _ _ _ _ _ _ c.self.inside.ledger c.load.new.self _ c.self.inside.ledger.bound _ _ g.met.D.Disk.only_now c.in_err-load.ensures.wrote c.in_err-load.ensures.err c.load.ensures.told c.load.ensures.any_moment))
+    (let none : c.self.inside.open_order ≡ No = rw (← c.self.view_is) at c.requires.none in
     let fit = fit-at _ _ c.self.view_is (sym c.unfit.ensures.first ∙ c.in_default.is) in
+    let sound = c.self.invariant.sound fit.0 fit.2 in
+    rw (← c.self.view_is) (left-written g.D.Disk c.self.inside.ledger.disk c.load.new.self.disk _ (Load c.args.unit c.args.count) c.self.inside.ledger.bound No refl sound (IsSound-load _ c.args.unit c.args.count sound none) c.load.ensures.any_moment))
+
+pub returns-clause-keeps : goal.returns-clause-keeps
+returns-clause-keeps g c =
+    Keeps-wrote g.D.Disk _ _
+    (let fit = fit-at _ _ c.self.view_is (sym c.unfit.ensures.first ∙ c.in_default.is) in
     let w = c.in_ok-load.ensures.wrote in
     rw (← c.self.view_is, w.records, w.units, w.bound_is, w.limits, w.open_still, w.boot_missing, w.in_doubt, c.load.ensures.told)
-    (Continues-written _ (Load c.args.unit c.args.count) c.self.inside.ledger.bound c.self.inside.open_order (c.self.invariant.clean fit.0) fit.0 fit.2 (λ p e. cc))
-
-pub returns-in_err-load-clause-any_moment : goal.returns-in_err-load-clause-any_moment
-returns-in_err-load-clause-any_moment g c =
-    let none : c.self.inside.open_order ≡ No = rw (← c.self.view_is) at c.requires.none in
+    (Continues-written _ (Load c.args.unit c.args.count) c.self.inside.ledger.bound c.self.inside.open_order (c.self.invariant.clean fit.0) fit.0 fit.2 (λ p e. cc)))
+    (rw (← c.self.view_is) c.load.ensures.faults) (rw (← c.self.view_is) (omega arith))
+    (rw (← c.self.view_is) (behind-written g.D.Disk _ _ (Load c.args.unit c.args.count) c.load.ensures.told c.load.ensures.any_moment c.in_ok-load.ensures.wrote.records))
+    (let none : c.self.inside.open_order ≡ No = rw (← c.self.view_is) at c.requires.none in
     let fit = fit-at _ _ c.self.view_is (sym c.unfit.ensures.first ∙ c.in_default.is) in
     let sound = c.self.invariant.sound fit.0 fit.2 in
-    rw (← c.self.view_is) (left-written g.D.Disk.held g.D.Disk.images g.D.Disk.moment g.D.Disk.images_since c.self.inside.ledger.disk c.load.new.self.disk _ (Load c.args.unit c.args.count) c.self.inside.ledger.bound No refl sound (IsSound-load _ c.args.unit c.args.count sound none) c.load.ensures.any_moment)
-
-pub returns-clause-any_moment : goal.returns-clause-any_moment
-returns-clause-any_moment g c =
-    let none : c.self.inside.open_order ≡ No = rw (← c.self.view_is) at c.requires.none in
-    let fit = fit-at _ _ c.self.view_is (sym c.unfit.ensures.first ∙ c.in_default.is) in
-    let sound = c.self.invariant.sound fit.0 fit.2 in
-    rw (← c.self.view_is) (left-written g.D.Disk.held g.D.Disk.images g.D.Disk.moment g.D.Disk.images_since c.self.inside.ledger.disk c.load.new.self.disk _ (Load c.args.unit c.args.count) c.self.inside.ledger.bound No refl sound (IsSound-load _ c.args.unit c.args.count sound none) c.load.ensures.any_moment)
-
-pub returns-in_err-load-clause-crashes : goal.returns-in_err-load-clause-crashes
-returns-in_err-load-clause-crashes g c =
-    rw (← c.self.view_is) (behind-refused Unit g.D.Disk.held g.D.Disk.images g.D.Disk.moment g.D.Disk.images_since c.in_err-load.field-0.0 _ _ _ _ _ _ c.self.inside.ledger c.load.new.self _ c.self.inside.ledger.bound _ _ g.met.D.Disk.only_now c.in_err-load.ensures.wrote c.in_err-load.ensures.err c.load.ensures.told c.load.ensures.any_moment)
-
-pub returns-clause-crashes : goal.returns-clause-crashes
-returns-clause-crashes g c =
-    rw (← c.self.view_is) (behind-written g.D.Disk.held g.D.Disk.images g.D.Disk.moment g.D.Disk.images_since _ _ (Load c.args.unit c.args.count) c.load.ensures.told c.load.ensures.any_moment c.in_ok-load.ensures.wrote.records)
+    rw (← c.self.view_is) (left-written g.D.Disk c.self.inside.ledger.disk c.load.new.self.disk _ (Load c.args.unit c.args.count) c.self.inside.ledger.bound No refl sound (IsSound-load _ c.args.unit c.args.count sound none) c.load.ensures.any_moment))

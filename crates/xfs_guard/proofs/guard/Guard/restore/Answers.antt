@@ -1,32 +1,44 @@
-use Rattle.std.proofs.Common.{◌≡◌, None}
-use Rattle.xfs_guard.specs.declared.open.Open.TheVariants.{No}
-use Rattle.xfs_guard.proofs.RestoreLaws.{restored, untold-refused, IsKept-restored, Continues-restored}
+use Rattle.std.proofs.Common.{◌≡◌, ◌≢◌, ◌∙◌, sym, Err, None, true≢false, refl, arith}
 use Rattle.std.specs.Prelude.{is_some}
+use Rattle.xfs_guard.specs.declared.fail.BootFault.TheVariants.{Memory}
+use Rattle.xfs_guard.proofs.KeepsLaws.{Keeps-same, Keeps-wrote}
 use Rattle.xfs_guard.proofs.KeptLaws.{over}
+use Rattle.xfs_guard.proofs.RestoreLaws.{restored, may-restore, IsKept-restored, Continues-restored}
 use Rattle.xfs_guard.proofs.RereadLaws.{behind-reread, recorded-reread}
 use Rattle.xfs_guard.proofs.guard.Guard.restore.Goals as goal
 
-pub invariant_of-self : goal.invariant_of-self
-invariant_of-self g c =
-    let none : c.self.inside.open_order ≡ No = rw (← c.self.view_is) at c.requires in
-    let e = c.restore.ensures in
-    IsKept-restored _ _ _ _ _ _ c.self.inside.ledger c.restore.new.self c.survey-places.result _ _ _ _ _ _
-    (restored c.restore.result c.self.inside.ledger c.restore.new.self c.survey-places.result (g.D.Disk.held c.self.inside.ledger.disk ≡ None) e.ok e.memory e.full e.disk e.not_journal) e.told none c.self.invariant
+pub invariant_of-self-2 : goal.invariant_of-self-2
+invariant_of-self-2 g c =
+    let e = c.restore-read.ensures in
+    let other : c.restore-read.result ≢ Err Memory = λ is. true≢false (rw is at (sym c.eq.ensures ∙ c.if-eq.false)) in
+    IsKept-restored _ _ _ _ _ _ c.self.inside.ledger c.restore-read.new.self c.in-Ok.survey _ _ _ _ _ _
+    (restored c.restore-read.result c.self.inside.ledger c.restore-read.new.self c.in-Ok.survey (g.D.Disk.held c.self.inside.ledger.disk ≡ None) other e.ok e.full e.disk e.not_journal) e.told c.self.invariant
 
-pub returns-clause-continues : goal.returns-clause-continues
-returns-clause-continues g c =
-    let e = rw c.survey-places.ensures at c.restore.ensures in
-    rw (← c.self.view_is) (Continues-restored _ _ _ _ _ _ c.self.inside.ledger c.restore.new.self _ _ e.told
-    (restored c.restore.result c.self.inside.ledger c.restore.new.self (g.M.Mechanism.places c.self.inside.mech) (g.D.Disk.held c.self.inside.ledger.disk ≡ None) e.ok e.memory e.full e.disk e.not_journal))
-
-pub returns-clause-crashes : goal.returns-clause-crashes
-returns-clause-crashes g c = rw (← c.self.view_is) (behind-reread g.D.Disk.held g.D.Disk.images g.D.Disk.moment g.D.Disk.images_since _ _ c.survey-places.result c.restore.ensures.told c.restore.ensures.any_moment)
-
-pub returns-clause-any_moment : goal.returns-clause-any_moment
-returns-clause-any_moment g c =
-    rw (← c.self.view_is) (recorded-reread g.D.Disk.held g.D.Disk.images g.D.Disk.moment g.D.Disk.images_since c.self.inside.ledger.disk c.restore.new.self.disk
+pub returns-then-eq-clause-keeps : goal.returns-then-eq-clause-keeps
+returns-then-eq-clause-keeps g c =
+    let e = c.restore-read.ensures in
+    Keeps-wrote g.D.Disk _ _
+    (let e = rw (c.in-Ok.ensures, c.survey-places.ensures) at c.restore-read.ensures in
+    rw (← c.self.view_is) (Continues-restored _ _ _ _ _ _ _ c.self.inside.ledger c.restore-read.new.self _ _ e.told
+    (may-restore c.restore-read.result c.self.inside.ledger c.restore-read.new.self (g.M.Mechanism.places c.self.inside.mech) (g.D.Disk.held c.self.inside.ledger.disk ≡ None) e.ok e.memory e.full e.disk e.not_journal)))
+    (rw (← c.self.view_is) e.faults) (rw (← c.self.view_is) (omega arith))
+    (rw (← c.self.view_is) (behind-reread g.D.Disk _ _ c.in-Ok.survey e.told e.any_moment))
+    (rw (← c.self.view_is) (recorded-reread g.D.Disk c.self.inside.ledger.disk c.restore-read.new.self.disk
     (over c.self.inside.key c.self.inside.seed c.self.inside.open_order (g.M.Mechanism.motions c.self.inside.mech) (g.M.Mechanism.places c.self.inside.mech) (g.M.Mechanism.faults c.self.inside.mech) c.self.inside.ledger (is_some (g.D.Disk.held c.self.inside.ledger.disk)))
-    c.survey-places.result _ c.restore.ensures.possible c.self.invariant.recorded c.restore.ensures.any_moment)
+    c.in-Ok.survey _ e.possible c.self.invariant.recorded e.any_moment))
 
-pub returns-clause-untold : goal.returns-clause-untold
-returns-clause-untold g c = rw (← c.self.view_is) (untold-refused _ c.restore.result (g.D.Disk.held c.self.inside.ledger.disk) c.restore.ensures.not_journal)
+pub returns-clause-keeps : goal.returns-clause-keeps
+returns-clause-keeps g c =
+    let e = c.restore-read.ensures in
+    Keeps-wrote g.D.Disk _ _
+    (let e = rw (c.in-Ok.ensures, c.survey-places.ensures) at c.restore-read.ensures in
+    rw (← c.self.view_is) (Continues-restored _ _ _ _ _ _ _ c.self.inside.ledger c.restore-read.new.self _ _ e.told
+    (may-restore c.restore-read.result c.self.inside.ledger c.restore-read.new.self (g.M.Mechanism.places c.self.inside.mech) (g.D.Disk.held c.self.inside.ledger.disk ≡ None) e.ok e.memory e.full e.disk e.not_journal)))
+    (rw (← c.self.view_is) e.faults) (rw (← c.self.view_is) (omega arith))
+    (rw (← c.self.view_is) (behind-reread g.D.Disk _ _ c.in-Ok.survey e.told e.any_moment))
+    (rw (← c.self.view_is) (recorded-reread g.D.Disk c.self.inside.ledger.disk c.restore-read.new.self.disk
+    (over c.self.inside.key c.self.inside.seed c.self.inside.open_order (g.M.Mechanism.motions c.self.inside.mech) (g.M.Mechanism.places c.self.inside.mech) (g.M.Mechanism.faults c.self.inside.mech) c.self.inside.ledger (is_some (g.D.Disk.held c.self.inside.ledger.disk)))
+    c.in-Ok.survey _ e.possible c.self.invariant.recorded e.any_moment))
+
+pub returns-in_default-clause-keeps : goal.returns-in_default-clause-keeps
+returns-in_default-clause-keeps g c = Keeps-same g.D.Disk _ g.met.D.Disk.only_now c.unfit-upheld.ensures.upheld

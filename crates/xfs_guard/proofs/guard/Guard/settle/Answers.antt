@@ -1,8 +1,10 @@
-use Rattle.std.proofs.Common.{refl}
+use Rattle.std.proofs.Common.{refl, arith}
 use Rattle.xfs_guard.specs.declared.open.Open.TheVariants.{No}
 use Rattle.xfs_journal.specs.declared.record.Rec.TheVariants.{Done}
 use Rattle.xfs_guard.proofs.ContinueLaws.{Continues-written, Continues-doubted}
+use Rattle.xfs_guard.proofs.KeepsLaws.{Keeps-same, Keeps-wrote}
 use Rattle.xfs_guard.proofs.KeptLaws.{IsKept-open, IsKept-doubted, still-acted}
+use Rattle.xfs_guard.proofs.MarkLaws.{marked-push}
 use Rattle.xfs_guard.proofs.SizeLaws.{may-write, takes-done}
 use Rattle.xfs_guard.proofs.RecordLaws.{IsSound-done}
 use Rattle.xfs_guard.proofs.OrderLaws.{small-done}
@@ -30,16 +32,8 @@ invariant_of-self g c =
     let booted = still-acted _ _ _ _ _ _ c.self.invariant.missing c.in-Acted.is in
     let s = rw c.in_err-done.ensures.err at c.in_err-done.ensures.wrote in
     rw (s.records, s.units, s.bound, s.limits, s.shut, s.boot_missing, s.in_doubt, c.done.ensures.told)
-    (IsKept-doubted _ (Done c.in-Acted.moved c.in-Acted.diverted) c.self.inside.ledger.bound No _ _ _ (c.self.invariant.sound still booted)
+    (IsKept-doubted _ (Done c.in-Acted.moved c.in-Acted.diverted) c.self.inside.ledger.bound No _ _ _ (c.self.invariant.sound still booted) c.self.invariant.marked
     (IsSound-done _ c.in-Acted.kind c.in-Acted.moved c.in-Acted.diverted c.in-Acted.failed (c.self.invariant.sound still booted) c.in-Acted.is) c.self.invariant.units)
-
-pub returns-in_err-done-clause-continues : goal.returns-in_err-done-clause-continues
-returns-in_err-done-clause-continues g c =
-    let still = still-acted _ _ _ _ _ _ c.self.invariant.closed c.in-Acted.is in
-    let booted = still-acted _ _ _ _ _ _ c.self.invariant.missing c.in-Acted.is in
-    let s = rw c.in_err-done.ensures.err at c.in_err-done.ensures.wrote in
-    rw (← c.self.view_is, s.records, s.units, s.bound, s.limits, s.shut, s.boot_missing, s.in_doubt, c.done.ensures.told)
-    (Continues-doubted _ (Done c.in-Acted.moved c.in-Acted.diverted) No (c.self.invariant.clean still) still booted (λ p e. cc))
 
 pub invariant_of-self-2 : goal.invariant_of-self-2
 invariant_of-self-2 g c =
@@ -47,35 +41,35 @@ invariant_of-self-2 g c =
     let booted = still-acted _ _ _ _ _ _ c.self.invariant.missing c.in-Acted.is in
     let w = c.in_ok-done.ensures.wrote in
     rw (w.records, w.units, w.bound_is, w.limits, w.open_still, w.boot_missing, w.in_doubt, c.done.ensures.told)
-    (IsKept-open _ _ _ _ (IsSound-done _ c.in-Acted.kind c.in-Acted.moved c.in-Acted.diverted c.in-Acted.failed (c.self.invariant.sound still booted) c.in-Acted.is) booted tt tt c.self.invariant.units)
+    (IsKept-open _ _ _ _ (IsSound-done _ c.in-Acted.kind c.in-Acted.moved c.in-Acted.diverted c.in-Acted.failed (c.self.invariant.sound still booted) c.in-Acted.is) (marked-push c.self.inside.ledger.records (Done c.in-Acted.moved c.in-Acted.diverted) c.self.invariant.marked) booted tt tt c.self.invariant.units)
 
-pub returns-clause-continues : goal.returns-clause-continues
-returns-clause-continues g c =
-    let still = still-acted _ _ _ _ _ _ c.self.invariant.closed c.in-Acted.is in
+pub returns-in_err-done-clause-keeps : goal.returns-in_err-done-clause-keeps
+returns-in_err-done-clause-keeps g c =
+    Keeps-wrote g.D.Disk _ _
+    (let still = still-acted _ _ _ _ _ _ c.self.invariant.closed c.in-Acted.is in
+    let booted = still-acted _ _ _ _ _ _ c.self.invariant.missing c.in-Acted.is in
+    let s = rw c.in_err-done.ensures.err at c.in_err-done.ensures.wrote in
+    rw (← c.self.view_is, s.records, s.units, s.bound, s.limits, s.shut, s.boot_missing, s.in_doubt, c.done.ensures.told)
+    (Continues-doubted _ (Done c.in-Acted.moved c.in-Acted.diverted) No (c.self.invariant.clean still) still booted (λ p e. cc)))
+    (rw (← c.self.view_is) c.done.ensures.faults) (rw (← c.self.view_is) (omega arith))
+    (let s = rw c.in_err-done.ensures.err at c.in_err-done.ensures.wrote in
+    rw (← c.self.view_is) (behind-doubted g.D.Disk _ _ (Done c.in-Acted.moved c.in-Acted.diverted) c.done.ensures.told c.done.ensures.any_moment s.records s.shut s.in_doubt))
+    (let still = still-acted _ _ _ _ _ _ c.self.invariant.closed c.in-Acted.is in
+    let booted = still-acted _ _ _ _ _ _ c.self.invariant.missing c.in-Acted.is in
+    let sound = c.self.invariant.sound still booted in
+    rw (← c.self.view_is) (left-written g.D.Disk c.self.inside.ledger.disk c.done.new.self.disk _ (Done c.in-Acted.moved c.in-Acted.diverted) c.self.inside.ledger.bound No refl sound (IsSound-done _ c.in-Acted.kind c.in-Acted.moved c.in-Acted.diverted c.in-Acted.failed sound c.in-Acted.is) c.done.ensures.any_moment))
+
+pub returns-clause-keeps : goal.returns-clause-keeps
+returns-clause-keeps g c =
+    Keeps-wrote g.D.Disk _ _
+    (let still = still-acted _ _ _ _ _ _ c.self.invariant.closed c.in-Acted.is in
     let booted = still-acted _ _ _ _ _ _ c.self.invariant.missing c.in-Acted.is in
     let w = c.in_ok-done.ensures.wrote in
     rw (← c.self.view_is, w.records, w.units, w.bound_is, w.limits, w.open_still, w.boot_missing, w.in_doubt, c.done.ensures.told)
-    (Continues-written _ (Done c.in-Acted.moved c.in-Acted.diverted) c.self.inside.ledger.bound No (c.self.invariant.clean still) still booted (λ p e. cc))
-
-pub returns-in_err-done-clause-any_moment : goal.returns-in_err-done-clause-any_moment
-returns-in_err-done-clause-any_moment g c =
-    let still = still-acted _ _ _ _ _ _ c.self.invariant.closed c.in-Acted.is in
+    (Continues-written _ (Done c.in-Acted.moved c.in-Acted.diverted) c.self.inside.ledger.bound No (c.self.invariant.clean still) still booted (λ p e. cc)))
+    (rw (← c.self.view_is) c.done.ensures.faults) (rw (← c.self.view_is) (omega arith))
+    (rw (← c.self.view_is) (behind-written g.D.Disk _ _ (Done c.in-Acted.moved c.in-Acted.diverted) c.done.ensures.told c.done.ensures.any_moment c.in_ok-done.ensures.wrote.records))
+    (let still = still-acted _ _ _ _ _ _ c.self.invariant.closed c.in-Acted.is in
     let booted = still-acted _ _ _ _ _ _ c.self.invariant.missing c.in-Acted.is in
     let sound = c.self.invariant.sound still booted in
-    rw (← c.self.view_is) (left-written g.D.Disk.held g.D.Disk.images g.D.Disk.moment g.D.Disk.images_since c.self.inside.ledger.disk c.done.new.self.disk _ (Done c.in-Acted.moved c.in-Acted.diverted) c.self.inside.ledger.bound No refl sound (IsSound-done _ c.in-Acted.kind c.in-Acted.moved c.in-Acted.diverted c.in-Acted.failed sound c.in-Acted.is) c.done.ensures.any_moment)
-
-pub returns-clause-any_moment : goal.returns-clause-any_moment
-returns-clause-any_moment g c =
-    let still = still-acted _ _ _ _ _ _ c.self.invariant.closed c.in-Acted.is in
-    let booted = still-acted _ _ _ _ _ _ c.self.invariant.missing c.in-Acted.is in
-    let sound = c.self.invariant.sound still booted in
-    rw (← c.self.view_is) (left-written g.D.Disk.held g.D.Disk.images g.D.Disk.moment g.D.Disk.images_since c.self.inside.ledger.disk c.done.new.self.disk _ (Done c.in-Acted.moved c.in-Acted.diverted) c.self.inside.ledger.bound No refl sound (IsSound-done _ c.in-Acted.kind c.in-Acted.moved c.in-Acted.diverted c.in-Acted.failed sound c.in-Acted.is) c.done.ensures.any_moment)
-
-pub returns-in_err-done-clause-crashes : goal.returns-in_err-done-clause-crashes
-returns-in_err-done-clause-crashes g c =
-    let s = rw c.in_err-done.ensures.err at c.in_err-done.ensures.wrote in
-    rw (← c.self.view_is) (behind-doubted g.D.Disk.held g.D.Disk.images g.D.Disk.moment g.D.Disk.images_since _ _ (Done c.in-Acted.moved c.in-Acted.diverted) c.done.ensures.told c.done.ensures.any_moment s.records s.shut s.in_doubt)
-
-pub returns-clause-crashes : goal.returns-clause-crashes
-returns-clause-crashes g c =
-    rw (← c.self.view_is) (behind-written g.D.Disk.held g.D.Disk.images g.D.Disk.moment g.D.Disk.images_since _ _ (Done c.in-Acted.moved c.in-Acted.diverted) c.done.ensures.told c.done.ensures.any_moment c.in_ok-done.ensures.wrote.records)
+    rw (← c.self.view_is) (left-written g.D.Disk c.self.inside.ledger.disk c.done.new.self.disk _ (Done c.in-Acted.moved c.in-Acted.diverted) c.self.inside.ledger.bound No refl sound (IsSound-done _ c.in-Acted.kind c.in-Acted.moved c.in-Acted.diverted c.in-Acted.failed sound c.in-Acted.is) c.done.ensures.any_moment))

@@ -12,36 +12,36 @@ invariant_of-result g c =
     (IsRead-mark _ _ _ (Boot c.args.places) (rw c.records.ensures at c.issues_of-issues.ensures.issues) (rw c.records.ensures at c.issues_of-issues.ensures.few) (λ k. refl) (λ k x. refl) (λ k x. refl)) w.ok.2)
 
 pub returns-in-Err-clause-left : goal.returns-in-Err-clause-left
-returns-in-Err-clause-left g c = WasLeft-mount g.D.Disk.held g.D.Disk.images g.D.Disk.moment g.D.Disk.images_since c.args.disk c.in-Err.field-0.disk c.args.places
+returns-in-Err-clause-left g c = WasLeft-mount g.D.Disk c.args.disk c.in-Err.field-0.disk c.args.places
     g.met.D.Disk.as_read g.met.D.Disk.counts_now c.in-Err.ensures.told c.in-Err.ensures.any_moment
 
 pub returns-in-Err-append_boot-clause-left : goal.returns-in-Err-append_boot-clause-left
-returns-in-Err-append_boot-clause-left g c = WasLeft-append g.D.Disk.held g.D.Disk.images c.args.disk c.in-Ok.journal.disk c.append_boot.new.journal.disk c.end.result c.args.places c.in-Ok.journal.records
+returns-in-Err-append_boot-clause-left g c = WasLeft-append g.D.Disk c.args.disk c.in-Ok.journal.disk c.append_boot.new.journal.disk c.end.result c.args.places c.in-Ok.journal.records
     g.met.D.Disk.as_read c.in-Ok.ensures.told c.append_boot.ensures.told c.end.ensures.disk c.in-Ok.ensures.ok c.append_boot.ensures.images
 
 pub returns-in-Err-clause-either : goal.returns-in-Err-clause-either
-returns-in-Err-clause-either g c = stays-mount g.D.Disk.held g.D.Disk.images g.D.Disk.moment g.D.Disk.images_since c.args.disk c.in-Err.field-0.disk c.args.places
+returns-in-Err-clause-either g c = stays-mount g.D.Disk c.args.disk c.in-Err.field-0.disk c.args.places
     g.met.D.Disk.as_read g.met.D.Disk.counts_now c.in-Err.ensures.any_moment
 
 pub returns-in-Err-append_boot-clause-either : goal.returns-in-Err-append_boot-clause-either
-returns-in-Err-append_boot-clause-either g c = stays-append g.D.Disk.held g.D.Disk.images c.args.disk c.in-Ok.journal.disk c.append_boot.new.journal.disk c.end.result c.args.places c.in-Ok.journal.records
+returns-in-Err-append_boot-clause-either g c = stays-append g.D.Disk c.args.disk c.in-Ok.journal.disk c.append_boot.new.journal.disk c.end.result c.args.places c.in-Ok.journal.records
     g.met.D.Disk.as_read c.in-Ok.ensures.told c.end.ensures.disk c.in-Ok.ensures.ok c.append_boot.ensures.images
 
 pub returns-in-Err-clause-unlisted : goal.returns-in-Err-clause-unlisted
-returns-in-Err-clause-unlisted g c = unlisted-mount g.D.Disk.held g.D.Disk.images g.D.Disk.moment g.D.Disk.images_since g.D.Disk.faults c.args.disk c.in-Err.field-0.disk c.in-Err.ensures.long
+returns-in-Err-clause-unlisted g c = unlisted-mount g.D.Disk c.args.disk c.in-Err.field-0.disk c.in-Err.ensures.long
 
 pub returns-in-Err-append_boot-clause-unlisted : goal.returns-in-Err-append_boot-clause-unlisted
 returns-in-Err-append_boot-clause-unlisted g c = unlisted-booted (g.D.Disk.held c.args.disk) c.in-Ok.journal.records _ c.in-Ok.ensures.ok
 
 pub returns-in-Err-clause-any_moment : goal.returns-in-Err-clause-any_moment
-returns-in-Err-clause-any_moment g c = left-mounted g.D.Disk.held g.D.Disk.images g.D.Disk.moment g.D.Disk.images_since c.args.disk c.in-Err.field-0.disk c.args.places c.in-Err.ensures.any_moment
+returns-in-Err-clause-any_moment g c = left-mounted g.D.Disk c.args.disk c.in-Err.field-0.disk c.args.places c.in-Err.ensures.any_moment
 
 pub returns-in-Ok-append_boot-clause-any_moment : goal.returns-in-Ok-append_boot-clause-any_moment
 returns-in-Ok-append_boot-clause-any_moment g c =
-    left-booted g.D.Disk.held g.D.Disk.images g.D.Disk.moment g.D.Disk.images_since c.args.disk c.in-Ok.journal.disk c.args.places c.in-Ok.ensures.any_moment
+    left-booted g.D.Disk c.args.disk c.in-Ok.journal.disk c.args.places c.in-Ok.ensures.any_moment
     c.append_boot.new.journal.disk c.in-Ok.journal.records c.in-Ok.ensures.told c.in-Ok.ensures.ok c.append_boot.ensures.any_moment
 
 pub returns-in-Err-append_boot-clause-any_moment : goal.returns-in-Err-append_boot-clause-any_moment
 returns-in-Err-append_boot-clause-any_moment g c = rw c.end.ensures.disk
-    (left-booted g.D.Disk.held g.D.Disk.images g.D.Disk.moment g.D.Disk.images_since c.args.disk c.in-Ok.journal.disk c.args.places c.in-Ok.ensures.any_moment
+    (left-booted g.D.Disk c.args.disk c.in-Ok.journal.disk c.args.places c.in-Ok.ensures.any_moment
     c.append_boot.new.journal.disk c.in-Ok.journal.records c.in-Ok.ensures.told c.in-Ok.ensures.ok c.append_boot.ensures.any_moment)

@@ -1,0 +1,64 @@
+use Rattle.std.proofs.Common.{◌≡◌, ◌≤◌, ◌∙◌, sym, length, None, arith, refl}
+use Rattle.xfs_guard.specs.declared.open.Open.TheVariants.{No}
+use Rattle.xfs_journal.specs.Image.{body}
+use Rattle.xfs_guard.proofs.ContinueLaws.{Continues-written}
+use Rattle.xfs_guard.proofs.KeepsLaws.{Keeps-wrote}
+use Rattle.xfs_guard.proofs.KeptLaws.{IsKept-open, IsKept-refused, Continues-refused}
+use Rattle.xfs_guard.proofs.MarkLaws.{marked-push}
+use Rattle.xfs_guard.proofs.SizeLaws.{fit-at, takes-one, may-write}
+use Rattle.xfs_guard.proofs.RecordLaws.{IsSound-end, ends-short, ends-plain, ends-dead}
+use Rattle.xfs_guard.proofs.LeftLaws.{left-written}
+use Rattle.xfs_guard.proofs.BehindLaws.{behind-refused, behind-written}
+use Rattle.xfs_guard.proofs.guard.Guard.end_nonce.Goals as goal
+
+pub end_nonce-requires : goal.end_nonce-requires
+end_nonce-requires g c =
+    let fit = fit-at _ _ c.self.view_is c.requires.fit in
+    let short : length (body c.args.rec) ≤ 1025 = ends-short c.args.rec c.requires.ends in record {
+      fits = may-write c.self.inside.ledger c.args.rec fit.0 fit.2 (takes-one c.self.inside.ledger.limits c.self.inside.ledger.records c.args.rec fit.1 short);
+      ends = c.requires.ends;
+    }
+
+pub invariant_of-self : goal.invariant_of-self
+invariant_of-self g c =
+    let none : c.self.inside.open_order ≡ No = rw (← c.self.view_is) at c.requires.none in
+    let fit = fit-at _ _ c.self.view_is c.requires.fit in
+    IsKept-refused Unit c.in_err-end_nonce.field-0.0 _ _ _ _ _ _ c.self.inside.ledger c.end_nonce.new.self _ None _ _ _ _ _ _ c.in_err-end_nonce.ensures.wrote c.in_err-end_nonce.ensures.err c.end_nonce.ensures.told none c.self.invariant fit.0 fit.2
+    (IsSound-end _ c.args.rec c.requires.ends (c.self.invariant.sound fit.0 fit.2) none)
+
+pub invariant_of-self-2 : goal.invariant_of-self-2
+invariant_of-self-2 g c =
+    let none : c.self.inside.open_order ≡ No = rw (← c.self.view_is) at c.requires.none in
+    let fit = fit-at _ _ c.self.view_is c.requires.fit in
+    let w = c.in_ok-end_nonce.ensures.wrote in
+    rw (w.records, w.units, w.bound_is, w.limits, w.open_still, w.boot_missing, w.in_doubt, c.end_nonce.ensures.told, none)
+    (IsKept-open _ _ _ _ (IsSound-end _ c.args.rec c.requires.ends (c.self.invariant.sound fit.0 fit.2) none) (marked-push c.self.inside.ledger.records c.args.rec c.self.invariant.marked) fit.2 tt tt c.self.invariant.units)
+
+pub returns-in_err-end_nonce-clause-keeps : goal.returns-in_err-end_nonce-clause-keeps
+returns-in_err-end_nonce-clause-keeps g c =
+    Keeps-wrote g.D.Disk _ _
+    (let fit = fit-at _ _ c.self.view_is c.requires.fit in
+    rw (← c.self.view_is) (Continues-refused Unit c.in_err-end_nonce.field-0.0 _ _ _ _ _ _ c.self.inside.ledger c.end_nonce.new.self _ None _ _ c.in_err-end_nonce.ensures.wrote c.in_err-end_nonce.ensures.err c.end_nonce.ensures.told (c.self.invariant.clean fit.0) fit.0 fit.2 (λ p e. absurd (ends-plain c.args.rec p c.requires.ends e))))
+    (rw (← c.self.view_is) c.end_nonce.ensures.faults) (rw (← c.self.view_is) (omega arith))
+    (rw (← c.self.view_is) (behind-refused Unit g.D.Disk c.in_err-end_nonce.field-0.0 _ _ _ _ _ _ c.self.inside.ledger c.end_nonce.new.self _ None _ _ g.met.D.Disk.only_now c.in_err-end_nonce.ensures.wrote c.in_err-end_nonce.ensures.err c.end_nonce.ensures.told c.end_nonce.ensures.any_moment))
+    (let none : c.self.inside.open_order ≡ No = rw (← c.self.view_is) at c.requires.none in
+    let fit = fit-at _ _ c.self.view_is c.requires.fit in
+    let sound = c.self.invariant.sound fit.0 fit.2 in
+    rw (← c.self.view_is) (left-written g.D.Disk c.self.inside.ledger.disk c.end_nonce.new.self.disk _ c.args.rec None No refl sound (IsSound-end _ c.args.rec c.requires.ends sound none) c.end_nonce.ensures.any_moment))
+
+pub returns-clause-keeps : goal.returns-clause-keeps
+returns-clause-keeps g c =
+    Keeps-wrote g.D.Disk _ _
+    (let fit = fit-at _ _ c.self.view_is c.requires.fit in
+    let w = c.in_ok-end_nonce.ensures.wrote in
+    rw (← c.self.view_is, w.records, w.units, w.bound_is, w.limits, w.open_still, w.boot_missing, w.in_doubt, c.end_nonce.ensures.told)
+    (Continues-written _ c.args.rec None c.self.inside.open_order (c.self.invariant.clean fit.0) fit.0 fit.2 (λ p e. absurd (ends-plain c.args.rec p c.requires.ends e))))
+    (rw (← c.self.view_is) c.end_nonce.ensures.faults) (rw (← c.self.view_is) (omega arith))
+    (rw (← c.self.view_is) (behind-written g.D.Disk _ _ c.args.rec c.end_nonce.ensures.told c.end_nonce.ensures.any_moment c.in_ok-end_nonce.ensures.wrote.records))
+    (let none : c.self.inside.open_order ≡ No = rw (← c.self.view_is) at c.requires.none in
+    let fit = fit-at _ _ c.self.view_is c.requires.fit in
+    let sound = c.self.invariant.sound fit.0 fit.2 in
+    rw (← c.self.view_is) (left-written g.D.Disk c.self.inside.ledger.disk c.end_nonce.new.self.disk _ c.args.rec None No refl sound (IsSound-end _ c.args.rec c.requires.ends sound none) c.end_nonce.ensures.any_moment))
+
+pub returns-clause-dead : goal.returns-clause-dead
+returns-clause-dead g c = rw c.in_ok-end_nonce.ensures.wrote.records (ends-dead c.self.inside.ledger.records c.args.rec c.requires.ends)

@@ -1,0 +1,5 @@
+use Rattle.xfs_guard.proofs.KeepsLaws.{Keeps-same}
+use Rattle.xfs_guard.proofs.guard.Guard.expire.Goals as goal
+
+pub returns-in-Some-clause-keeps : goal.returns-in-Some-clause-keeps
+returns-in-Some-clause-keeps g c = Keeps-same g.D.Disk _ g.met.D.Disk.only_now c.unfit.ensures.upheld

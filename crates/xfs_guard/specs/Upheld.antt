@@ -1,0 +1,50 @@
+-- What stands of a guard between its calls.
+use Rattle.std.specs.Prelude.{◌≡◌, ℕ, ◌+◌, true, false, List, Some, None, ⊤}
+use Rattle.std.specs.declared.option.Option.{Option}
+use Rattle.xfs_base.specs.Causes.{IfTold}
+use Rattle.xfs_disk.specs.declared.disk.Disk.{Ghosts}
+use Rattle.xfs_journal.specs.Journal.{record_at, is_mark, live_of, last_mark}
+use Rattle.xfs_journal.specs.declared.record.Rec.{Rec}
+use Rattle.xfs_journal.specs.declared.record.Rec.TheVariants.{Issue, Bind}
+use Rattle.xfs_guard.specs.declared.nonce.Nonce.{Nonce}
+use Rattle.xfs_guard.specs.declared.open.Open.TheVariants.{No}
+use Rattle.xfs_guard.specs.Budget.{Budget}
+use Rattle.xfs_guard.specs.Crashed.{is_closed}
+use Rattle.xfs_guard.specs.Left.{StandsRecorded}
+use Rattle.xfs_guard.specs.Nonce.{live_in, nonce_of}
+use Rattle.xfs_guard.specs.Presented.{presented_in, unsettled}
+use Rattle.xfs_guard.specs.Refusals.{bound_place, bound_token}
+use Rattle.xfs_guard.specs.Sound.{Stands, where_told}
+use Rattle.xfs_guard.specs.Stored.{IsStored}
+use Rattle.xfs_guard.specs.View.{View, GuardView}
+use Rattle.xfs_guard.specs.Within.{shown}
+
+-- a record of the list is the Issue of this nonce, and has its text
+abbrev pub HasIssue : List Rec → Nonce → Type 0
+HasIssue records n = (place : ℕ) × (live_of records ≡ Some place) × (nonce_of (record_at records place) ≡ Some n)
+
+-- the record of this number is a mark
+abbrev pub IsMarkAt : List Rec → ℕ → Type 0
+IsMarkAt records n = (r : Rec) × (record_at records n ≡ Some r) × (is_mark r ≡ true)
+
+-- the record of this number binds the token that is bound to the live nonce
+abbrev pub IsBindAt : List Rec → ℕ → Type 0
+IsBindAt records n = (token : List ℕ) × (record_at records n ≡ Some (Bind token)) × (bound_token records ≡ Some token)
+
+-- what the mechanism's list shows of the live nonce is what the Done records say, and what an acted order to present put out
+abbrev pub IsCounted : View → Type 0
+IsCounted v = IfTold (where_told v.disk_told v.motions) (λ motions.
+    (p : ℕ) (c : List ℕ) → live_of v.records ≡ Some p → shown v.units v.records motions p c ≡ presented_in v.units v.records c + unsettled v.units v.open_order c)
+
+-- The list is stored, and each image of the disk stands for a list that is recorded. While the journal is open and has its Boot, the open order is its newest record, and the budget holds; else no order is open. A live nonce has its Issue, the last mark is one, and the bound token has its Bind.
+pub record IsUpheld {D : Type 0} (g : Ghosts D) (now : GuardView D) : Type 0 where
+  pub stored : IsStored g now.disk now.state.records now.state.in_doubt
+  pub recorded : IfTold (g.held now.disk) (λ _. (bytes : List ℕ) → g.images now.disk bytes → StandsRecorded now.state.key now.state.units now.state.motions bytes)
+  pub clean : now.state.shut ≡ false → now.state.in_doubt ≡ None
+  pub closed : is_closed now.state ≡ true → now.state.open_order ≡ No
+  pub order : is_closed now.state ≡ false → Stands now.state.open_order now.state.records now.state.places
+  pub budget : is_closed now.state ≡ false → Budget now.state
+  pub counted : is_closed now.state ≡ false → IsCounted now.state
+  pub issue : (n : Nonce) → live_in now.state.boot_missing now.state.records ≡ Some n → HasIssue now.state.records n
+  pub mark : IsMarkAt now.state.records (last_mark now.state.records)
+  pub bind : (n : ℕ) → bound_place now.state.records ≡ Some n → IsBindAt now.state.records n
