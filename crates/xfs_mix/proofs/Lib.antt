@@ -1,3 +1,4 @@
 pub mod Best
 pub mod First
 pub mod Raised
+pub mod StepLaws

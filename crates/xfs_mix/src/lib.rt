@@ -5,6 +5,7 @@ mod asked;
 mod mix;
 #[cfg(test)]
 mod search;
+mod steps;
 #[cfg(test)]
 mod tests;
 

@@ -6,6 +6,7 @@ ghost use Rattle.xfs_mix.specs.declared.mix.MixFault.TheVariants.{Nothing, TooMa
 ghost use Rattle.xfs_base.specs.Values.{IsNoteValue};
 ghost use Rattle.std.specs.Str.{bytes_eq};
 
+use crate::steps::{in_steps, step_of};
 use std::alloc::{AllocError, Global};
 use thiserror::Error;
 use xfs_base::{Counts, Currency, NoteKind, UnitTable};
@@ -37,10 +38,11 @@ impl From<AllocError> for MixFault {
 /// The fewest notes of a currency, of those that are there, for an amount in its whole units. Among
 /// several the choice is free.
 ///
-/// The cost: where a unit has c notes, they are allowed in about log2 c steps, and each step goes
-/// once over the amounts up to the asked one. So with a notes' worth of 1,000,000 and eight units of
-/// 10,000 notes there are 112 passes over a table of 1,000,001 entries, which takes 36 MB. An
-/// amount past all that is there is refused before.
+/// The cost: amounts are counted in steps of the greatest common divisor of the currency's values.
+/// Where a unit has c notes, they are allowed in about log2 c passes, and each pass goes once over
+/// the steps up to the asked amount. So an amount of 1,000,000 in notes of 10, 20 and 50 has a table
+/// of 100,001 entries, which takes 3.6 MB; it has 36 MB where the divisor is 1. An amount past all
+/// that is there, or between two steps, is refused before.
 #[tactic(auto, using(crate::proofs::First::no_mix_past))]
 pub fn least(
     alloc: Global,
@@ -69,6 +71,28 @@ pub fn least(
 
 // The best counts for the amount, however many notes they have.
 fn best(
+    alloc: Global,
+    kinds: &[NoteKind],
+    have: &Counts,
+    currency: Currency,
+    amount: u32,
+) -> Result<Option<Counts>, MixFault>
+    requires few { length kinds.now ≤ 8 }
+    requires values { All (λ k. IsNoteValue k.value) kinds.now }
+    requires amount { (1 ≤ amount) × (amount ≤ 1000000) }
+    ensures ok { IfOk result (IsBestMix kinds.now have.now currency amount) }
+    ensures err { IfErr result (λ e. e ≡ Memory) }
+{
+    let step = step_of(kinds, currency);
+    if step == 0 || amount % step != 0 {
+        return Ok(None);
+    }
+    let kinds = in_steps(alloc, kinds, currency, step)?;
+    best_in_steps(alloc, &kinds, have, currency, amount / step)
+}
+
+// The same, by a table of all amounts up to the asked one.
+fn best_in_steps(
     alloc: Global,
     kinds: &[NoteKind],
     have: &Counts,

@@ -53,7 +53,8 @@ fn search(values: [u32; 3], have: [u32; 3], amount: u32) -> Option<u32> {
 fn as_few_notes_as_a_plain_search_finds(rt: HostRuntime) {
     let eur = currency(&rt, b"EUR");
     for i in 0..30u32 {
-        let values = [1 + i % 5, 2 + i % 7, 4 + i % 11];
+        let scale = 1 + i % 3;
+        let values = [1 + i % 5, 2 + i % 7, 4 + i % 11].map(|value| value.wrapping_mul(scale));
         let have = [i % 8, i / 2 % 8, 7 - i % 6];
         let units = table(&rt, values);
         let [a, b, c] = have;
