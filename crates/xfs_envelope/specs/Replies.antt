@@ -15,12 +15,14 @@ pub data Reply : Type 0 where
   completion : ℕ → List ℕ → Code → Data → Reply
   unsolicited : List ℕ → Data → Reply
 
-abbrev pub acknowledge_of : Data → Option Reply
-acknowledge_of h =
+-- the payload says nothing here, and still is absent, null or an object
+abbrev pub acknowledge_of : Data → Data → Option Reply
+acknowledge_of h d =
     option_and_then (λ id.
     option_and_then (λ name.
-    option_map (λ status. acknowledge id name status) (optional (status_at h)))
-    (optional (name_at h))) (optional (id_at h))
+    option_and_then (λ status.
+    option_map (λ _. acknowledge id name status) (optional (payload_at d)))
+    (optional (status_at h))) (optional (name_at h))) (optional (id_at h))
 
 abbrev pub event_of : Data → Data → Option Reply
 event_of h d =
@@ -46,7 +48,7 @@ unsolicited_of h d =
 -- the answer of a header and the value that it stands in
 abbrev pub reply_of : Data → Data → Option Reply
 reply_of d h =
-    if is_of_type (codes "acknowledge") h then acknowledge_of h
+    if is_of_type (codes "acknowledge") h then acknowledge_of h d
     else (if is_of_type (codes "event") h then event_of h d
     else (if is_of_type (codes "completion") h then completion_of h d
     else (if is_of_type (codes "unsolicited") h then unsolicited_of h d

@@ -4,7 +4,9 @@ ghost use Rattle.xfs_envelope.specs.Fields.{header_of, name_at, id_at, needed};
 ghost use Rattle.xfs_envelope.specs.Replies.{reply_in, acknowledge_of, event_of, completion_of, unsolicited_of, reply_of_value, told};
 ghost use Rattle.xfs_envelope.specs.declared.answer.AnswerFault.TheVariants as AnswerFault;
 
-use crate::fields::{code_at, header_of, id_at, is_of_type, name_at, status_at, take_payload};
+use crate::fields::{
+    code_at, has_right_payload, header_of, id_at, is_of_type, name_at, status_at, take_payload,
+};
 use crate::{Code, Name, NameFault, Status};
 use std::alloc::Global;
 use xfs_json::{JsonFault, Value, parse};
@@ -45,7 +47,8 @@ pub enum AnswerFault {
     Memory,
 }
 
-/// Reads a message of a service. The fields of its type are looked at and no others.
+/// Reads a message of a service. The fields of its type are looked at and no others; the payload
+/// is absent, null or an object in every type, also where nothing is done with it.
 pub fn read_answer(alloc: Global, text: &[u8]) -> Result<Answer, AnswerFault>
     ensures ok { IfOk result (λ a. reply_in text.now ≡ Some (told a)) }
     ensures shape { result ≡ Err AnswerFault.Shape → reply_in text.now ≡ None }
@@ -65,7 +68,7 @@ fn answer_of(alloc: Global, value: Value) -> Result<Answer, AnswerFault>
         return Err(AnswerFault::Shape);
     };
     if is_of_type(header, "acknowledge") {
-        acknowledge_of(alloc, header)
+        acknowledge_of(alloc, header, &value)
     } else if is_of_type(header, "event") {
         event_of(alloc, value)
     } else if is_of_type(header, "completion") {
@@ -77,9 +80,9 @@ fn answer_of(alloc: Global, value: Value) -> Result<Answer, AnswerFault>
     }
 }
 
-fn acknowledge_of(alloc: Global, header: &Value) -> Result<Answer, AnswerFault>
-    ensures ok { IfOk result (λ a. acknowledge_of (view header.now) ≡ Some (told a)) }
-    ensures shape { result ≡ Err AnswerFault.Shape → acknowledge_of (view header.now) ≡ None }
+fn acknowledge_of(alloc: Global, header: &Value, value: &Value) -> Result<Answer, AnswerFault>
+    ensures ok { IfOk result (λ a. acknowledge_of (view header.now) (view value.now) ≡ Some (told a)) }
+    ensures shape { result ≡ Err AnswerFault.Shape → acknowledge_of (view header.now) (view value.now) ≡ None }
 {
     let Ok(id) = id_at(header) else {
         return Err(AnswerFault::Shape);
@@ -92,6 +95,9 @@ fn acknowledge_of(alloc: Global, header: &Value) -> Result<Answer, AnswerFault>
     let Ok(status) = status_at(header) else {
         return Err(AnswerFault::Shape);
     };
+    if !has_right_payload(value) {
+        return Err(AnswerFault::Shape);
+    }
     Ok(Answer::Acknowledge { id, name, status })
 }
 

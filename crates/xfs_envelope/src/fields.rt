@@ -7,7 +7,7 @@ ghost use Rattle.xfs_envelope.specs.declared.name.NameFault.TheVariants.{Form};
 use crate::name::is_version;
 use crate::{Code, Name, NameFault, Status};
 use std::alloc::Global;
-use xfs_json::{Map, Shape, Value, whole, words};
+use xfs_json::{Map, Shape, Value, object, whole, words};
 
 pub(crate) fn header_of(value: &Value) -> Option<&Value>
     ensures { option_map (λ h. view h.now) result ≡ header_of (view value.now) }
@@ -100,6 +100,12 @@ pub(crate) fn code_at(header: &Value) -> Result<Option<Code>, Shape>
         Ok(None) => Ok(None),
         Err(Shape) => Err(Shape),
     }
+}
+
+pub(crate) fn has_right_payload(value: &Value) -> bool
+    ensures { result ≡ is_some (optional (payload_at (view value.now))) }
+{
+    object(value, "payload").is_ok()
 }
 
 // The payload is moved out of the message, and not copied.

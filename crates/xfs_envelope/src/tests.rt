@@ -277,6 +277,17 @@ fn unsolicited_messages(rt: HostRuntime) -> Result<(), Fail> {
 }
 
 #[test]
+fn an_acknowledge_may_have_a_payload(rt: HostRuntime) {
+    for text in [
+        "{\"header\":{\"type\":\"acknowledge\"},\"payload\":null}",
+        "{\"header\":{\"type\":\"acknowledge\"},\"payload\":{\"a\":[]}}",
+    ] {
+        let read = read_answer(rt.alloc(), text.as_bytes());
+        assert!(rt; matches!(read, Ok(Answer::Acknowledge { .. })), "{text}");
+    }
+}
+
+#[test]
 fn other_texts_are_no_answers(rt: HostRuntime) {
     for text in [
         "{}",
@@ -284,6 +295,9 @@ fn other_texts_are_no_answers(rt: HostRuntime) {
         STATUS,
         "{\"header\":{\"type\":\"acknowledge\",\"status\":\"fine\"}}",
         "{\"header\":{\"type\":\"acknowledge\",\"requestId\":1.0}}",
+        "{\"header\":{\"type\":\"acknowledge\",\"requestId\":1},\"payload\":[]}",
+        "{\"header\":{\"type\":\"acknowledge\",\"requestId\":1},\"payload\":\"\"}",
+        "{\"header\":{\"type\":\"event\",\"name\":\"A.B\",\"requestId\":1},\"payload\":0}",
         "{\"header\":{\"type\":\"event\",\"name\":\"A.B\"}}",
         "{\"header\":{\"type\":\"unsolicited\",\"name\":\"A.B\"},\"payload\":[]}",
         "{\"header\":{\"type\":\"completion\",\"name\":\"A.B\",\"requestId\":1}}",

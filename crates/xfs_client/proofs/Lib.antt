@@ -1,0 +1,6 @@
+mod DeskLaws
+mod Histories
+mod Numbers
+mod Openings
+mod Outcomes
+mod TokenTexts

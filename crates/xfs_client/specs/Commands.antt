@@ -1,0 +1,21 @@
+-- The text of a command: a header of name, request id and type, and the payload, as compact JSON.
+use Rattle.std.specs.Prelude.{◌≡◌, ℕ, ◌≤◌, List, length, codes, IsSome, Ok}
+use Rattle.serde_json.specs.Data.{Data, string, object, member, no_members}
+use Rattle.serde_json.specs.Find.{as_object}
+use Rattle.serde_json.specs.Written.{compact_text}
+use Rattle.xfs_envelope.specs.Commands.{command_in}
+use Rattle.xfs_envelope.specs.Messages.{framed, numbered}
+
+abbrev pub command_header : List ℕ → ℕ → Data
+command_header name id =
+    object (member (codes "name") (string name)
+    (member (codes "requestId") (numbered id)
+    (member (codes "type") (string (codes "command")) no_members)))
+
+abbrev pub command_text : List ℕ → ℕ → Data → List ℕ
+command_text name id payload = compact_text (framed (command_header name id) payload)
+
+-- a service reads this command in the text, where the payload is an object and the text isn't too long
+abbrev pub ReadsAs : List ℕ → List ℕ → ℕ → Data → Type 0
+ReadsAs text name id payload = IsSome (as_object payload) → length text ≤ 65536
+    → command_in text ≡ Ok record { name = name; id = id; timeout = 0; payload = payload }

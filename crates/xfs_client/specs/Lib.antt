@@ -1,0 +1,4 @@
+pub mod Commands
+pub mod Desks
+pub mod History
+pub mod Withdrawals

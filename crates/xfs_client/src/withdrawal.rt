@@ -1,0 +1,205 @@
+ghost use Rattle.std.specs.Prelude.{◌≡◌, ◌≢◌, ◌≤◌, ◌++◌, ◌∷◌, [], List, ℕ, codes, true, None, MatchOption, IfOk, IfErr, OnOk, OnErr, Err};
+ghost use Rattle.std.specs.Str.{IsUtf8};
+ghost use Rattle.serde_json.specs.View.{view};
+ghost use Rattle.xfs_envelope.specs.Fields.{empty};
+ghost use Rattle.xfs_client.specs.Commands.{command_text};
+ghost use Rattle.xfs_client.specs.Desks.{Keeps, IsOpenTo, IsEndOf};
+ghost use Rattle.xfs_client.specs.History as history;
+ghost use Rattle.xfs_client.specs.History.{Entry, Told, is_open, told};
+ghost use Rattle.xfs_client.specs.Withdrawals.{HasHeard, IsDispense, IsMove, after_completion, after_success, conversation, dispense_payload, goes_on, is_success, nonce_of, step_in, step_of};
+ghost use Rattle.xfs_client.specs.declared.heard.HearFault.TheVariants as HearFault;
+
+use crate::dispense::{payload_for, token_for};
+use crate::{Desk, HearFault, Heard};
+use std::alloc::Global;
+use std::marker::Model;
+use xfs_base::{Bytes, Currency, Memory};
+use xfs_envelope::{Code, Status};
+use xfs_json::{Map, Value, words};
+
+/// What a withdrawal does next.
+#[derive(Drop)]
+pub enum Move {
+    /// This text is to be sent.
+    Ask(Bytes),
+    /// Nothing, until more is heard.
+    Wait,
+    /// The notes were presented.
+    Done,
+    /// A command ended with this code, which is not `success`; the withdrawal is over.
+    Ended(Code),
+    /// A command was refused; the withdrawal is over.
+    Refused(Status),
+}
+
+/// One withdrawal of an amount, in whole units of a currency: a nonce is asked for, then notes are
+/// dispensed by a token for that nonce under the device's key, then they are presented.
+#[derive(Drop)]
+pub struct Withdrawal {
+    desk: Desk,
+    currency: Currency,
+    amount: u32,
+    key: [u8; 32],
+    alloc: Global,
+}
+
+impl Model for Withdrawal {
+    ghost use Rattle.std.specs.Prelude.{◌≤◌};
+    ghost use Rattle.xfs_client.specs.Withdrawals.{Withdrawing};
+
+    ghost Value = { Withdrawing };
+
+    ghost view = { λ w. record { terms = record { currency = w.currency; amount = w.amount; key = w.key }; desk = w.desk } };
+
+    ghost invariant = { λ w. w.amount ≤ 1000000 };
+}
+
+impl Withdrawal {
+    /// A withdrawal that is to be started.
+    pub fn new(alloc: Global, currency: Currency, amount: u32, key: [u8; 32]) -> Withdrawal
+        requires low { 1 ≤ amount }
+        requires high { amount ≤ 1000000 }
+        ensures terms { result.terms ≡ record { currency = currency; amount = amount; key = key } }
+        ensures fresh { Keeps result.desk [] }
+    {
+        Withdrawal {
+            desk: Desk::new(alloc),
+            currency,
+            amount,
+            key,
+            alloc,
+        }
+    }
+
+    /// The text that is to be sent first: it asks for a nonce. Where memory runs out it may be
+    /// tried again.
+    pub fn start(&mut self) -> Result<Vec<u8>, Memory>
+        requires fresh { Keeps self.old.desk [] }
+        ensures text { IfOk result (λ t. t.items ≡ command_text (codes "Common.GetCommandNonce") 1 empty) }
+        ensures heard { OnOk result (HasHeard self.new []) }
+        ensures terms { self.new.terms ≡ self.old.terms }
+        ensures same { OnErr result (self.new ≡ self.old) }
+    {
+        let payload = Value::Object(Map::new(self.alloc));
+        self.desk.ask_next("Common.GetCommandNonce", &payload)
+    }
+
+    /// Takes a message of the service, and says what follows. A nonce that is no nonce of a token's
+    /// grammar is `Shape`.
+    pub fn next(&mut self, bytes: &[u8]) -> Result<Move, HearFault>
+        ensures moved { IfOk result (λ m. (texts : List (List ℕ)) → HasHeard self.old texts
+            → IsMove self.old.terms (step_in (conversation texts) bytes.now) m) }
+        ensures refused { IfErr result (λ e. e ≢ HearFault.Memory → (texts : List (List ℕ)) → HasHeard self.old texts
+            → step_in (conversation texts) bytes.now ≡ Err e) }
+        ensures heard { OnOk result ((texts : List (List ℕ)) → HasHeard self.old texts → HasHeard self.new (texts ++ bytes.now ∷ [])) }
+        ensures terms { self.new.terms ≡ self.old.terms }
+        ensures same { OnErr result (self.new ≡ self.old) }
+    {
+        let heard = self.desk.listen(bytes)?;
+        self.answer(&heard)
+    }
+
+    fn answer(&mut self, heard: &Heard) -> Result<Move, HearFault>
+        ensures moved { IfOk result (IsMove self.old.terms (step_of self.old.desk.asked (told heard.now))) }
+        ensures refused { IfErr result (λ e. e ≢ HearFault.Memory → step_of self.old.desk.asked (told heard.now) ≡ Err e) }
+        ensures grown { OnOk result ((h : List Entry) → Keeps self.old.desk h → IsOpenTo h (told heard.now)
+            → Keeps self.new.desk (goes_on h (told heard.now) (step_of self.old.desk.asked (told heard.now)))) }
+        ensures terms { self.new.terms ≡ self.old.terms }
+        ensures same { OnErr result (self.new ≡ self.old) }
+    {
+        match heard {
+            Heard::Completed { id, code, payload } => self.completed(*id, *code, payload),
+            Heard::Refused { id, status } => {
+                self.desk.close(*id);
+                Ok(Move::Refused(*status))
+            }
+            other => {
+                self.desk.note(other)?;
+                Ok(Move::Wait)
+            }
+        }
+    }
+
+    fn completed(&mut self, id: u64, code: Code, payload: &Value) -> Result<Move, HearFault>
+        ensures moved { IfOk result (IsMove self.old.terms (after_completion self.old.desk.asked code (view payload.now))) }
+        ensures refused { IfErr result (λ e. e ≢ HearFault.Memory → after_completion self.old.desk.asked code (view payload.now) ≡ Err e) }
+        ensures grown { OnOk result ((h : List Entry) (t : Told) → Keeps self.old.desk h → is_open h id ≡ true → IsEndOf id t
+            → Keeps self.new.desk (goes_on h t (after_completion self.old.desk.asked code (view payload.now)))) }
+        ensures terms { self.new.terms ≡ self.old.terms }
+        ensures same { OnErr result (self.new ≡ self.old) }
+    {
+        if is_success(code) {
+            self.succeeded(id, payload)
+        } else {
+            self.desk.close(id);
+            Ok(Move::Ended(code))
+        }
+    }
+
+    // The ask that follows is made before the one that succeeded is over, since it may want memory.
+    fn succeeded(&mut self, id: u64, payload: &Value) -> Result<Move, HearFault>
+        ensures moved { IfOk result (IsMove self.old.terms (after_success self.old.desk.asked (view payload.now))) }
+        ensures refused { IfErr result (λ e. e ≢ HearFault.Memory → after_success self.old.desk.asked (view payload.now) ≡ Err e) }
+        ensures grown { OnOk result ((h : List Entry) (t : Told) → Keeps self.old.desk h → is_open h id ≡ true → IsEndOf id t
+            → Keeps self.new.desk (goes_on h t (after_success self.old.desk.asked (view payload.now)))) }
+        ensures terms { self.new.terms ≡ self.old.terms }
+        ensures same { OnErr result (self.new ≡ self.old) }
+    {
+        let asked = self.desk.asked();
+        let next = if asked == 1 {
+            Move::Ask(Bytes::new(self.ask_dispense(payload)?))
+        } else if asked == 2 {
+            Move::Ask(Bytes::new(self.ask_present()?))
+        } else {
+            Move::Done
+        };
+        self.desk.close(id);
+        Ok(next)
+    }
+
+    fn ask_dispense(&mut self, payload: &Value) -> Result<Vec<u8>, HearFault>
+        requires { self.old.desk.asked ≡ 1 }
+        ensures text { IfOk result (λ t. MatchOption (nonce_of (view payload.now)) ⊥ (λ nonce. IsDispense self.old.terms nonce t.items)) }
+        ensures refused { IfErr result (λ e. e ≢ HearFault.Memory → (e ≡ HearFault.Shape) × (nonce_of (view payload.now) ≡ None)) }
+        ensures grown { OnOk result ((h : List Entry) → Keeps self.old.desk h → Keeps self.new.desk (h ++ history.ask ∷ [])) }
+        ensures terms { self.new.terms ≡ self.old.terms }
+        ensures same { OnErr result (self.new ≡ self.old) }
+    {
+        let Ok(Some(nonce)) = words(payload, "commandNonce") else {
+            return Err(HearFault::Shape);
+        };
+        let token = token_for(
+            self.alloc,
+            &self.key,
+            nonce.as_bytes(),
+            self.currency,
+            self.amount,
+        )?;
+        let payload = self.payload(&token)?;
+        Ok(self.desk.ask_next("CashDispenser.Dispense", &payload)?)
+    }
+
+    fn payload(&self, token: &[u8]) -> Result<Value, Memory>
+        requires { IsUtf8 token.now }
+        ensures { IfOk result (λ v. view v ≡ dispense_payload self.now.terms.currency self.now.terms.amount token.now) }
+    {
+        payload_for(self.alloc, self.currency, self.amount, token)
+    }
+
+    fn ask_present(&mut self) -> Result<Vec<u8>, Memory>
+        requires { self.old.desk.asked ≡ 2 }
+        ensures text { IfOk result (λ t. t.items ≡ command_text (codes "CashDispenser.Present") 3 empty) }
+        ensures grown { OnOk result ((h : List Entry) → Keeps self.old.desk h → Keeps self.new.desk (h ++ history.ask ∷ [])) }
+        ensures terms { self.new.terms ≡ self.old.terms }
+        ensures same { OnErr result (self.new ≡ self.old) }
+    {
+        let payload = Value::Object(Map::new(self.alloc));
+        self.desk.ask_next("CashDispenser.Present", &payload)
+    }
+}
+
+fn is_success(code: Code) -> bool
+    ensures { result ≡ is_success code }
+{
+    matches!(code, Code::Success)
+}
