@@ -1,0 +1,4 @@
+pub mod Asks
+pub mod Slot
+pub mod Table
+pub mod Tracks

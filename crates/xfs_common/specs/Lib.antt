@@ -1,0 +1,3 @@
+pub mod Cancel
+pub mod Errors
+pub mod Payloads

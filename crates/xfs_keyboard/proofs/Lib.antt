@@ -1,0 +1,2 @@
+pub mod KeyListLaws
+pub mod PinLaws

@@ -1,0 +1,12 @@
+use Rattle.std.proofs.Common.{◌≡◌, ℕ, ◌<◌, false, length, slice_index_or}
+use Rattle.serde_json.specs.View.{view}
+use Rattle.xfs_mech.specs.declared.key.KeyName.TheVariants.{Zero}
+use Rattle.xfs_keyboard.specs.Asks.{is_active}
+use Rattle.xfs_keyboard.specs.Keys.{key_list}
+use Rattle.xfs_keyboard.proofs.ask.active_in.Given as goal
+
+abbrev pub invariant-loop-i : goal.invariant-loop-i
+invariant-loop-i l = record {
+  long : length l.active ≡ 14;
+  done : (u : ℕ) → u < l.i → slice_index_or l.active u false ≡ is_active (slice_index_or key_list u Zero) (view l.keys);
+}

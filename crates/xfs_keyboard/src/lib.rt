@@ -1,0 +1,15 @@
+//! The keyboard: what a DataEntry asks for, and the small machine of an entry, key by key.
+#![tactic(auto)]
+
+mod ask;
+mod entry;
+mod keys;
+mod payload;
+mod state;
+
+pub use ask::{EntryAsk, read_entry};
+pub use keys::KeySet;
+pub use state::{KeyEffect, KeyEvent, KeyState, step};
+
+#[cfg(test)]
+mod tests;
