@@ -1,0 +1,3 @@
+mod CurrencyLaws
+mod StorageLaws
+mod UnitLaws
