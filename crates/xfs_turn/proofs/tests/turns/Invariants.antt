@@ -1,0 +1,6 @@
+use Rattle.std.proofs.Common.{◌≡◌}
+use Rattle.xfs_turn.proofs.tests.turns.Given as goal
+
+-- the seat is of this lock
+abbrev pub invariant-loop-number : goal.invariant-loop-number
+invariant-loop-number g l = l.seat.lock ≡ l.turn

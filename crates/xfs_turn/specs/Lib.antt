@@ -1,0 +1,4 @@
+pub mod Turns
+pub mod Steps
+pub mod Seats
+pub mod Lending
