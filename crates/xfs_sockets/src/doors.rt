@@ -1,0 +1,195 @@
+ghost use Rattle.std.specs.Prelude.{IfOk};
+ghost use Rattle.xfs_server.specs.Links.{IsFresh};
+
+use crate::SocketLink;
+use crate::dialling::dialled;
+use crate::entrance::{Entrance, Port};
+use crate::socket::Socket;
+use std::alloc::Global;
+use std::io;
+use std::net::{Net, TcpListener, TcpStream};
+use std::random::RandomSource;
+use xfs_base::{Clock, Service};
+use xfs_server::{DialFault, Door, Doors};
+
+/// A port for each service.
+#[derive(Clone, Copy, Debug, PartialEq, Eq)]
+pub struct Ports {
+    pub publisher: u16,
+    pub card: u16,
+    pub keys: u16,
+    pub cash: u16,
+}
+
+impl Ports {
+    /// The port of a service.
+    pub fn of(&self, service: Service) -> u16 {
+        match service {
+            Service::Publisher => self.publisher,
+            Service::Card => self.card,
+            Service::Keys => self.keys,
+            Service::Cash => self.cash,
+        }
+    }
+}
+
+/// Why the doors weren't opened.
+#[derive(Clone, Copy, Debug, PartialEq, Eq)]
+pub enum OpenFault {
+    /// A port can't be listened on.
+    Failed,
+    /// Memory ran out.
+    Memory,
+}
+
+/// Doors on 127.0.0.1. At most 64 handshakes are under way, and each has 2 seconds. `next` never waits.
+#[derive(Drop)]
+pub struct TcpDoors<
+    'a,
+    R: Net<Listener = TcpListener, Stream = TcpStream> + RandomSource,
+    C: Clock,
+> {
+    rt: &'a R,
+    alloc: Global,
+    clock: &'a C,
+    ports: Ports,
+    entrance: Entrance,
+    came: u64,
+    dials: u64,
+    quiets: u64,
+    faults: u64,
+}
+
+impl<'a, R: Net<Listener = TcpListener, Stream = TcpStream> + RandomSource, C: Clock> TcpDoors<
+    'a,
+    R,
+    C,
+> {
+    /// Listens on these ports. Where one is 0 the system chooses it.
+    pub fn open(
+        rt: &'a R,
+        alloc: Global,
+        clock: &'a C,
+        ports: Ports,
+    ) -> Result<TcpDoors<'a, R, C>, OpenFault> {
+        let mut opened = ports;
+        let mut listeners = Vec::new(alloc);
+        opened.publisher = listen(rt, &mut listeners, Service::Publisher, ports.publisher)?;
+        opened.card = listen(rt, &mut listeners, Service::Card, ports.card)?;
+        opened.keys = listen(rt, &mut listeners, Service::Keys, ports.keys)?;
+        opened.cash = listen(rt, &mut listeners, Service::Cash, ports.cash)?;
+        TcpDoors::over(rt, alloc, clock, opened, listeners)
+    }
+
+    /// Doors at which nobody comes in, which dial these ports.
+    pub fn outward(
+        rt: &'a R,
+        alloc: Global,
+        clock: &'a C,
+        ports: Ports,
+    ) -> Result<TcpDoors<'a, R, C>, OpenFault> {
+        TcpDoors::over(rt, alloc, clock, ports, Vec::new(alloc))
+    }
+
+    /// The ports that are listened on, or dialled.
+    pub fn ports(&self) -> Ports {
+        self.ports
+    }
+
+    fn over(
+        rt: &'a R,
+        alloc: Global,
+        clock: &'a C,
+        ports: Ports,
+        listeners: Vec<Port>,
+    ) -> Result<TcpDoors<'a, R, C>, OpenFault> {
+        let Ok(entrance) = Entrance::new(alloc, listeners) else {
+            return Err(OpenFault::Memory);
+        };
+        Ok(TcpDoors {
+            rt,
+            alloc,
+            clock,
+            ports,
+            entrance,
+            came: 0,
+            dials: 0,
+            quiets: 0,
+            faults: 0,
+        })
+    }
+
+    fn connected(&self, service: Service) -> Result<SocketLink<&'a R>, DialFault>
+        ensures { IfOk result (λ link. IsFresh link) }
+    {
+        let port = self.ports.of(service);
+        let Ok(stream) = TcpStream::connect(self.rt, ("127.0.0.1", port)) else {
+            return Err(DialFault::Failed);
+        };
+        let socket = dialled(self.alloc, self.rt, self.clock, service, port, stream)?;
+        Ok(SocketLink::new(self.alloc, Socket::Client(socket), true))
+    }
+}
+
+impl<'a, R: Net<Listener = TcpListener, Stream = TcpStream> + RandomSource + Sync, C: Clock> Doors
+    for TcpDoors<'a, R, C> {
+    type Link = SocketLink<&'a R>;
+
+    ghost log = { λ d. record { came = d.came; dials = d.dials; quiets = d.quiets; faults = d.faults } };
+
+    fn next(&mut self) -> Door<SocketLink<&'a R>> {
+        match self.entrance.next(self.alloc, self.clock.now()) {
+            Door::Came(service, socket) => {
+                self.came = self.came.saturating_add(1);
+                Door::Came(
+                    service,
+                    SocketLink::new(self.alloc, Socket::Server(socket), false),
+                )
+            }
+            Door::Quiet => {
+                self.quiets = self.quiets.saturating_add(1);
+                Door::Quiet
+            }
+            Door::Failed => {
+                self.faults = self.faults.saturating_add(1);
+                Door::Failed
+            }
+            Door::Memory => Door::Memory,
+        }
+    }
+
+    fn dial(&mut self, service: Service) -> Result<SocketLink<&'a R>, DialFault> {
+        self.dials = self.dials.saturating_add(1);
+        let dialled = self.connected(service);
+        if matches!(dialled, Err(DialFault::Failed)) {
+            self.faults = self.faults.saturating_add(1);
+        }
+        dialled
+    }
+}
+
+// Listens on a port, and tells which it is.
+fn listen<R: Net<Listener = TcpListener, Stream = TcpStream>>(
+    rt: &R,
+    listeners: &mut Vec<Port>,
+    service: Service,
+    port: u16,
+) -> Result<u16, OpenFault> {
+    let Ok((listener, port)) = listening(rt, port) else {
+        return Err(OpenFault::Failed);
+    };
+    match listeners.push(Port { service, listener }) {
+        Ok(()) => Ok(port),
+        Err(_) => Err(OpenFault::Memory),
+    }
+}
+
+fn listening<R: Net<Listener = TcpListener, Stream = TcpStream>>(
+    rt: &R,
+    port: u16,
+) -> io::Result<(TcpListener, u16)> {
+    let listener = TcpListener::bind(rt, ("127.0.0.1", port))?;
+    listener.set_nonblocking(true)?;
+    let port = listener.local_addr()?.port();
+    Ok((listener, port))
+}

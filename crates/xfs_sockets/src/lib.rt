@@ -1,0 +1,16 @@
+//! Connections over TCP and WebSocket (RFC 6455): a link over a socket, and doors that listen on
+//! 127.0.0.1.
+#![tactic(auto)]
+
+mod dialling;
+mod doors;
+mod entrance;
+mod link;
+mod socket;
+mod wire;
+
+pub use doors::{OpenFault, Ports, TcpDoors};
+pub use link::SocketLink;
+
+#[cfg(test)]
+mod tests;

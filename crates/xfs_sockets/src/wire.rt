@@ -1,0 +1,154 @@
+//! What a socket's reads and writes find, and when a read waits.
+
+use crate::socket::Socket;
+use std::alloc::Global;
+use std::io;
+use std::io::ErrorKind;
+use std::random::RandomSource;
+use tungstenite::{Error, Message};
+use xfs_base::Bytes;
+use xfs_server::{GiveFault, Taking};
+
+// How many reads come back at once before one waits, while an answer is owed.
+const LOOKS: u32 = 16;
+
+// How many frames answer a text: its acknowledge and its completion.
+const ANSWERS: u32 = 2;
+
+/// A socket, and how its reads wait. While an answer is owed the reads come back at once for a while, so
+/// that the board is turned for it; where none is owed a read waits for the peer.
+#[derive(Drop)]
+pub struct Wire<R: RandomSource + Drop> {
+    socket: Socket<R>,
+    waits: bool,
+    owed: u32,
+    looks: u32,
+}
+
+/// What a read found.
+#[derive(Drop)]
+enum Heard {
+    Text(Bytes),
+    Nothing,
+    Close,
+    Ended,
+    Failed,
+    Memory,
+}
+
+impl<R: RandomSource + Drop> Wire<R> {
+    /// Over a socket whose stream's reads wait, or come back at once.
+    pub fn new(socket: Socket<R>, waits: bool) -> Wire<R> {
+        Wire {
+            socket,
+            waits,
+            owed: 0,
+            looks: 0,
+        }
+    }
+
+    pub fn take(&mut self, alloc: Global) -> Taking {
+        if self
+            .set_waits(self.owed == 0 || self.looks >= LOOKS)
+            .is_err()
+        {
+            return Taking::Failed;
+        }
+        let answer = self.socket.read();
+        match found(alloc, answer) {
+            Heard::Text(text) => {
+                self.owed = self.owed.saturating_add(ANSWERS);
+                self.looks = 0;
+                Taking::Text(text)
+            }
+            Heard::Nothing => {
+                self.looks = self.looks.saturating_add(1);
+                Taking::Quiet
+            }
+            Heard::Close => self.answer_close(),
+            Heard::Ended => Taking::Closed,
+            Heard::Failed => Taking::Failed,
+            Heard::Memory => Taking::Memory,
+        }
+    }
+
+    pub fn give(&mut self, alloc: Global, text: &[u8]) -> Result<(), GiveFault> {
+        let Ok(text) = std::str::from_utf8(text) else {
+            return Err(GiveFault::Failed);
+        };
+        let Ok(message) = Message::text(alloc, text) else {
+            return Err(GiveFault::Memory);
+        };
+        if self.set_waits(true).is_err() {
+            return Err(GiveFault::Failed);
+        }
+        let sent = self.socket.send(message);
+        given(sent)?;
+        self.owed = self.owed.saturating_sub(1);
+        self.looks = 0;
+        Ok(())
+    }
+
+    // The peer has closed: the reply goes out before anything else.
+    fn answer_close(&mut self) -> Taking {
+        if self.set_waits(true).is_err() {
+            return Taking::Failed;
+        }
+        let replied = self.socket.flush();
+        match given(replied) {
+            Ok(()) => Taking::Closed,
+            Err(_) => Taking::Failed,
+        }
+    }
+
+    // Whether reads and writes wait. It asks the system only where that changes.
+    fn set_waits(&mut self, waits: bool) -> io::Result<()> {
+        if self.waits != waits {
+            self.socket.stream().set_nonblocking(!waits)?;
+            self.waits = waits;
+        }
+        Ok(())
+    }
+}
+
+fn found(alloc: Global, answer: Result<Message, Error>) -> Heard {
+    match answer {
+        Ok(Message::Text(text)) => copied(alloc, text.as_str().as_bytes()),
+        Ok(Message::Binary(bytes)) => copied(alloc, bytes.as_slice()),
+        Ok(Message::Close(_)) => Heard::Close,
+        Ok(_) => Heard::Nothing,
+        Err(Error::ConnectionClosed) => Heard::Ended,
+        Err(Error::OutOfMemory) => Heard::Memory,
+        Err(Error::Io(error)) => {
+            if is_waiting(&error) {
+                Heard::Nothing
+            } else {
+                Heard::Failed
+            }
+        }
+        Err(_) => Heard::Failed,
+    }
+}
+
+fn copied(alloc: Global, bytes: &[u8]) -> Heard {
+    match Vec::from_slice(alloc, bytes) {
+        Ok(text) => Heard::Text(Bytes::new(text)),
+        Err(_) => Heard::Memory,
+    }
+}
+
+fn is_waiting(error: &io::Error) -> bool {
+    matches!(
+        error.kind(),
+        ErrorKind::WouldBlock | ErrorKind::TimedOut | ErrorKind::Interrupted
+    )
+}
+
+// A write that waited its time is a fault like every other.
+fn given(sent: Result<(), Error>) -> Result<(), GiveFault> {
+    match sent {
+        Ok(()) => Ok(()),
+        Err(Error::OutOfMemory) => Err(GiveFault::Memory),
+        Err(_) => Err(GiveFault::Failed),
+    }
+}
