@@ -45,7 +45,8 @@ use Rattle.xfs_cli.specs.Complete.{CanDispense, CanPresent, IsBindable, IsCalm, 
 use Rattle.xfs_cli.specs.declared.refused.Refusal.{Refusal}
 use Rattle.xfs_cli.specs.declared.refused.Refusal.TheVariants.{Deny as Denied}
 use Rattle.xfs_cli.proofs.CompleteOrders.{carries-full, present-places, calm-rest, IsGrown}
-use Rattle.xfs_cli.proofs.CompleteStacks.{IsAhead, IsOpenFor, budget-none, nonce-push, stacks-full, unfit-none}
+use Rattle.xfs_cli.proofs.CompleteStacks.{stacks-full}
+use Rattle.xfs_guard.proofs.CoveredLaws.{IsAhead, IsOpenFor, budget-none, nonce-push, claim-none, same-amounts, can-fit, present-free}
 
 -- a list of counts is 0 everywhere where its sum is, and then alone
 zero-at : (xs : List ℕ) (w : ℕ) → is_none xs ≡ true → get_or xs w 0 ≡ 0
@@ -101,25 +102,6 @@ fault-none v amounts counts c =
         → (if a then Some Empty else if not b then Some Empty else if c then Some TooMany else option_map (λ at. ShortCount (at + 1)) (if d then Some n else None)) ≡ None
     go a b c d n e f g h = rw (e, f, g, h) refl
 
-same-bytes : (a b : List ℕ) → a ≡ b → bytes_eq a b ≡ true
-same-bytes a b e = (bytes_eq-Decides a b).1 e
-
-bind-none : (v : View) (bytes : List ℕ) → IsBindable v bytes → bind_refusal v bytes (bound_token v.records) ≡ None
-bind-none v bytes (inl b) = rw (b, same-bytes bytes bytes refl) refl
-bind-none v bytes (inr f) = rw (f.none, eq-eqb (sum v.places.transport.0) 0 f.empty) refl
-
--- a good token is not refused
-claim-none : (v : View) (bytes : List ℕ) (amounts : List (List ℕ × ℕ)) (g : IsGood v bytes amounts) → IsBindable v bytes → claim_refusal v bytes g.token ≡ None
-claim-none v bytes amounts g b =
-    rw (g.lives, same-bytes g.token.nonce g.nonce.text g.carried, same-bytes g.token.mac (hmac v.key (take (length bytes - 76) bytes)) g.genuine.mac, g.amounts_are) (bind-none v bytes b)
-
--- a token that passes has the amounts of the good one
-same-amounts : (v : View) (bytes : List ℕ) (amounts other : List (List ℕ × ℕ)) → IsGood v bytes amounts → Passes v bytes other → other ≡ amounts
-same-amounts v bytes amounts other g p =
-    let one = one_token p.token g.token bytes p.spelled g.genuine.spelled in
-    let e : Some other ≡ Some amounts = sym p.amounts_are ∙ (ap amounts_of one ∙ g.amounts_are) in
-    cc
-
 no-memory : (f : TokenFault) (deny : Deny) (line : List ℕ) → f ≡ TokenFault.Memory → deny ≡ deny_of f → refusal_text (Denied deny) ≡ Some line → ⊥
 no-memory f deny line e d told = let none = rw (d, e) at told in cc
 
@@ -137,9 +119,6 @@ named-same token a b e f = (let g : Some a ≡ Some b = sym e ∙ f in cc)
 
 counts-none : (v : View) (amounts : List (List ℕ × ℕ)) (counts : CountsOf) → IsCoveredBy v amounts counts → counts_refusal v amounts counts ≡ None
 counts-none v amounts counts c = rw (fault-none v amounts counts c, budget-none v amounts counts c.enough) refl
-
-can-fit : (v : View) (bytes : List ℕ) (counts : CountsOf) → CanDispense v bytes counts → unfit v ≡ None
-can-fit v bytes counts c = unfit-none v c.room.open_still c.room.booted (let e = c.room.records in omega (arith, e)) (let e = c.room.bytes in omega (arith, e))
 
 unmoved-no : (v : View) (token : Option (List ℕ)) (bytes line : List ℕ) (counts : CountsOf) (refusal : Refusal) → token ≡ Some bytes → CanDispense v bytes counts
     → refusal_text refusal ≡ Some line → IsUnmoved v token counts refusal → ⊥
@@ -254,13 +233,6 @@ dispenses-full s next token bytes line counts eight is c calm (inl r) = absurd (
     never : IsForbidden s token counts r.refusal next → ⊥
     never (inl (u, same)) = unmoved-no s.guard token bytes line counts r.refusal is c r.text u
     never (inr (e, u)) = calm.disk u.fails.cause
-
-present-free : (v : View) → CanPresent v → refusal_of v AskPresent ≡ None
-present-free v c = both (unfit v) (order_refusal v AskPresent) (unfit-none v c.room.open_still c.room.booted c.room.records c.room.bytes)
-    (rw (c.lives, c.kept, ne_eqb (sum v.places.transport.0) 0 (λ e. let l = c.low in omega (arith, e, l)), eq-eqb (sum v.places.outlet.0) 0 c.empty) refl)
-  where
-    both : (a b : Option Deny) → a ≡ None → b ≡ None → option_or a b ≡ None
-    both a b e f = rw (e, f) refl
 
 presents-full : (s next : Seen) (line : List ℕ) → CanPresent s.guard → IsCalm s next → Moves s AskPresent line next → IsPresented s (line ∷ []) next
 presents-full s next line c calm m =

@@ -39,140 +39,11 @@ use Rattle.xfs_cli.specs.Seen.{Seen}
 use Rattle.xfs_cli.specs.OrderAnswers.{Stacks, GoesOn, refusal_of, with_stacked}
 use Rattle.xfs_cli.specs.Complete.{IsCalm}
 use Rattle.xfs_cli.proofs.CompleteOrders.{IsFull, carries-full, carries-grown, follows-grown, stacks-grown, stack-places, calm-first, calm-rest}
-
--- counts from the unit u on, behind units without notes
-abbrev pub ahead : ℕ → List ℕ → List ℕ
-ahead zero counts = counts
-ahead (suc u) counts = 0 ∷ ahead u counts
+use Rattle.xfs_guard.proofs.CoveredLaws.{eight, ahead, ahead-zero, ahead-none, ahead-split, notes-here, IsAhead, IsOpenFor, nonce-push, free-order, done-short, presented-after}
 
 abbrev pub zeros : ℕ → List ℕ
 zeros zero = []
 zeros (suc n) = 0 ∷ zeros n
-
-ahead-zero : (u : ℕ) (rest : List ℕ) → ahead u (0 ∷ rest) ≡ ahead (suc u) rest
-ahead-zero zero rest = refl
-ahead-zero (suc u) rest = ap (λ l. 0 ∷ l) (ahead-zero u rest)
-
-ahead-here : (u n : ℕ) (rest : List ℕ) → get_or (ahead u (n ∷ rest)) u 0 ≡ n
-ahead-here zero n rest = refl
-ahead-here (suc u) n rest = ahead-here u n rest
-
-ahead-behind : (u : ℕ) (rest : List ℕ) → get_or (ahead (suc u) rest) u 0 ≡ 0
-ahead-behind zero rest = refl
-ahead-behind (suc u) rest = ahead-behind u rest
-
-ahead-other : (u n w : ℕ) (rest : List ℕ) → w ≢ u → get_or (ahead u (n ∷ rest)) w 0 ≡ get_or (ahead (suc u) rest) w 0
-ahead-other zero n zero rest other = absurd (other refl)
-ahead-other zero n (suc w) rest other = refl
-ahead-other (suc u) n zero rest other = refl
-ahead-other (suc u) n (suc w) rest other = ahead-other u n w rest (λ e. other (ap suc e))
-
-pub ahead-none : (u w : ℕ) → get_or (ahead u []) w 0 ≡ 0
-ahead-none zero w = refl
-ahead-none (suc u) zero = refl
-ahead-none (suc u) (suc w) = ahead-none u w
-
-abbrev eight : List ℕ
-eight = 0 ∷ 0 ∷ 0 ∷ 0 ∷ 0 ∷ 0 ∷ 0 ∷ 0 ∷ []
-
-nothing : (w : ℕ) → get_or eight w 0 ≡ 0
-nothing zero = refl
-nothing (suc zero) = refl
-nothing (suc (suc zero)) = refl
-nothing (suc (suc (suc zero))) = refl
-nothing (suc (suc (suc (suc zero)))) = refl
-nothing (suc (suc (suc (suc (suc zero))))) = refl
-nothing (suc (suc (suc (suc (suc (suc zero)))))) = refl
-nothing (suc (suc (suc (suc (suc (suc (suc zero))))))) = refl
-nothing (suc (suc (suc (suc (suc (suc (suc (suc w)))))))) = refl
-
-notes-here : (u n : ℕ) → u < 8 → at (notes_of (u + 1) n) u ≡ n
-notes-here u n low = get_or-set_at eight (u + 1 - 1) u n 0 (omega arith) (omega (arith, low))
-
-notes-other : (u n w : ℕ) → w ≢ u → at (notes_of (u + 1) n) w ≡ 0
-notes-other u n w other = get_or-set_other eight (u + 1 - 1) w n 0 (λ e. other (omega (arith, e))) ∙ nothing w
-
--- the first unit's notes, and those of the next units
-ahead-split : (u n w : ℕ) (rest : List ℕ) → u < 8 → slice_index (ahead u (n ∷ rest)) w ≡ at (notes_of (u + 1) n) w + slice_index (ahead (suc u) rest) w
-ahead-split u n w rest low = elim (cases_eq w u) [
-  | inl same ↦ (
-      let a : get_or (ahead u (n ∷ rest)) w 0 ≡ n = rw same (ahead-here u n rest) in
-      let b : at (notes_of (u + 1) n) w ≡ n = rw same (notes-here u n low) in
-      let c : get_or (ahead (suc u) rest) w 0 ≡ 0 = rw same (ahead-behind u rest) in
-      omega (arith, a, b, c)
-      )
-  | inr other ↦ (let a = ahead-other u n w rest other in let b = notes-other u n w other in omega (arith, a, b))
-]
-
--- the live nonce stays where a record is no mark
-pub nonce-push : (J : List Rec) (r : Rec) → ((count : ℕ) (live : Option ℕ) → live_after count live r ≡ live) → live_nonce (J ++ r ∷ []) ≡ live_nonce J
-nonce-push J r plain = ap (λ l. option_and_then (λ p. nonce_of (record_at (J ++ r ∷ []) p)) l) (live_of-push J r ∙ plain (length J) (live_of J)) ∙ go (live_of J) refl
-  where
-    go : (l : Option ℕ) → live_of J ≡ l → option_and_then (λ p. nonce_of (record_at (J ++ r ∷ []) p)) l ≡ option_and_then (λ p. nonce_of (record_at J p)) l
-    go None e = refl
-    go (Some p) e = ap nonce_of (record_at-push J r p (rw e at (lives-within J)))
-
--- the journal is open, and takes so many orders with their Dones; the nonce of this issue lives, and these amounts are kept
-pub record IsOpenFor (v : View) (issue : ℕ) (kept : List (List ℕ × ℕ)) (orders : ℕ) : Type 0 where
-  pub open_still : v.shut ≡ false
-  pub booted : v.boot_missing ≡ false
-  pub records : length v.records + (2 * orders + 3) ≤ v.limits.records
-  pub bytes : size v.records + (105 * orders + 2048) ≤ v.limits.bytes
-  pub lives : option_map (λ (n : Nonce). n.number) (live_nonce v.records) ≡ Some issue
-  pub bound : v.bound ≡ Some kept
-
--- these counts lie in the units, and are within the amounts
-pub record IsAhead (v : View) (amounts : List (List ℕ × ℕ)) (counts : List ℕ) : Type 0 where
-  pub lie : (w : ℕ) → slice_index counts w ≤ at v.places.units w
-  pub enough : (c : List ℕ) → presented_in v.units v.records c + value v.units v.places.transport c + value_from v.units 0 counts c ≤ amount_in amounts c
-
-pub unfit-none : (v : View) → v.shut ≡ false → v.boot_missing ≡ false → length v.records + 3 ≤ v.limits.records → size v.records + 2048 ≤ v.limits.bytes → unfit v ≡ None
-unfit-none v shut booted many long =
-    go v.shut v.boot_missing (nat_lt (v.limits.records - length v.records) 3) (nat_lt (v.limits.bytes - size v.records) 2048) shut booted
-    (le-ltb (v.limits.records - length v.records) 3 (omega (arith, many))) (le-ltb (v.limits.bytes - size v.records) 2048 (omega (arith, long)))
-  where
-    go : (s m a b : Bool) → s ≡ false → m ≡ false → a ≡ false → b ≡ false → (if s then Some Shut else if m || (a || b) then Some Full else None) ≡ None
-    go s m a b e f g h = rw (e, f, g, h) refl
-
-first-no : (test : List ℕ → Bool) (ks : List NoteKind) → ((c : List ℕ) → test c ≡ false) → first_currency test ks ≡ None
-first-no test [] never = refl
-first-no test (k ∷ ks) never = rw (never k.currency) (first-no test ks never)
-
--- counts that are covered pass in no currency
-pub budget-none : (v : View) (amounts : List (List ℕ × ℕ)) (counts : Counts)
-    → ((c : List ℕ) → presented_in v.units v.records c + value v.units v.places.transport c + value v.units counts c ≤ amount_in amounts c) → over_budget v amounts counts ≡ None
-budget-none v amounts counts enough =
-    rw (first-no (is_over v.units v.records v.places.transport amounts counts) v.units (λ c. le-ltb (amount_in amounts c) (presented_in v.units v.records c + value v.units v.places.transport c + value v.units counts c) (enough c))) refl
-
--- the order of the next unit isn't refused
-free-order : (v : View) (issue u n : ℕ) (amounts : List (List ℕ × ℕ)) (rest : List ℕ) → u < 8 → IsOpenFor v issue amounts (suc (length rest)) → IsAhead v amounts (ahead u (n ∷ rest))
-    → refusal_of v (AskStack issue (u + 1) n) ≡ None
-free-order v issue u n amounts rest low o h =
-    both (unfit v) (order_refusal v (AskStack issue (u + 1) n)) (unfit-none v o.open_still o.booted (omega (arith, o.records)) (omega (arith, o.bytes))) (live (live_nonce v.records) o.lives)
-  where
-    both : (a b : Option Deny) → a ≡ None → b ≡ None → option_or a b ≡ None
-    both a b e f = rw (e, f) refl
-
-    few : (w : ℕ) → at (notes_of (u + 1) n) w ≤ slice_index (ahead u (n ∷ rest)) w
-    few w = let e = ahead-split u n w rest low in omega (arith, e)
-
-    covered : over_budget v amounts (notes_of (u + 1) n) ≡ None
-    covered = budget-none v amounts (notes_of (u + 1) n) (λ c.
-        let e = value_from-le v.units 0 (notes_of (u + 1) n).0 (ahead u (n ∷ rest)) c few in
-        let f = h.enough c in
-        omega (arith, e, f))
-
-    held : nat_lt (at v.places.units (u + 1 - 1)) n ≡ false
-    held =
-        let e : u + 1 - 1 ≡ u = omega arith in
-        le-ltb (at v.places.units (u + 1 - 1)) n (rw e (let a = ahead-here u n rest in let b = h.lie u in omega (arith, a, b)))
-
-    live : (l : Option Nonce) → option_map (λ (n : Nonce). n.number) l ≡ Some issue → order_refusal_at v (AskStack issue (u + 1) n) l ≡ None
-    live None e = cc
-    live (Some nonce) e = (let is : nonce.number ≡ issue = cc in rw (is, eqb-same issue, o.bound, covered, held) refl)
-
-done-short : (m d : Counts) → length m.0 ≡ 8 → length d.0 ≡ 8 → length (body (Done m d)) ≡ 65
-done-short m d e f = omega (arith, length-append (counts_bytes m) (counts_bytes d), length-numbers m.0, length-numbers d.0, e, f)
 
 -- behind an order that was carried out in full
 open-after : (s middle : Seen) (issue u n : ℕ) (amounts : List (List ℕ × ℕ)) (orders : ℕ) (result : Result Outcome Deny)
@@ -193,15 +64,6 @@ open-after s middle issue u n amounts orders result f o =
       lives = ap (λ l. option_map (λ (n : Nonce). n.number) l) live ∙ o.lives;
       bound = f.bound ∙ o.bound;
     }
-
--- what an order of a unit presents, which is nothing
-presented-after : (units : List NoteKind) (J : List Rec) (m n d : Counts) (c : List ℕ) → presented_in units ((J ++ Order Stack m ∷ []) ++ Done n d ∷ []) c ≡ presented_in units J c
-presented-after units J m n d c =
-    let K = J ++ Order Stack m ∷ [] in
-    let a : presented_in units (K ++ Done n d ∷ []) c ≡ presented_in units K c + done_worth units c (record_at K (length K)) n = presented_in-push units K (Done n d) c in
-    let b : presented_in units K c ≡ presented_in units J c = presented_in-push units J (Order Stack m) c in
-    let e : done_worth units c (record_at K (length K)) n ≡ 0 = ap (λ r. done_worth units c r n) (last-pushed J (Order Stack m)) in
-    omega (arith, a, b, e)
 
 ahead-after : (s middle : Seen) (issue u n : ℕ) (amounts : List (List ℕ × ℕ)) (rest : List ℕ) (result : Result Outcome Deny) → u < 8
     → IsFull s (AskStack issue (u + 1) n) result middle → IsAhead s.guard amounts (ahead u (n ∷ rest)) → IsAhead middle.guard amounts (ahead (suc u) rest)

@@ -5,11 +5,11 @@ use Rattle.std.specs.declared.option.Option.{Option}
 use Rattle.xfs_base.specs.Causes.{IfTold, Rose}
 use Rattle.xfs_base.specs.declared.counts.Places.{Places}
 use Rattle.xfs_mech.specs.declared.motion.Motion.{Motion}
+use Rattle.xfs_journal.specs.JournalView.{HasPossible}
 use Rattle.xfs_journal.specs.Image.{Stands}
 use Rattle.xfs_journal.specs.declared.record.Rec.{Rec}
 use Rattle.xfs_journal.specs.declared.record.Rec.TheVariants.{Boot}
 use Rattle.xfs_guard.specs.Continues.{Continues}
-use Rattle.xfs_guard.specs.Stored.{IsStored}
 use Rattle.xfs_guard.specs.View.{View, GuardView}
 use Rattle.xfs_guard.proofs.ContinueLaws.{Continues-same, only-possible}
 use Rattle.xfs_script.specs.Lines.{first_line}
@@ -33,7 +33,7 @@ use Rattle.xfs_cli.proofs.SeenLaws.{later-same}
 
 -- the last state is that of a guard which is over
 pub ends-at : {D : Type 0} (faults : D → ℕ) (g : GuardView D) (last : Option (List ℕ)) (motions : Option (List Motion)) (places : Places) (mech : ℕ) (disk : D) (held : Option (List ℕ)) (images : List ℕ → Type 0)
-    → motions ≡ g.state.motions → places ≡ g.state.places → mech ≡ g.state.faults → disk ≡ g.disk → IsStored held images g.state.records g.state.in_doubt
+    → motions ≡ g.state.motions → places ≡ g.state.places → mech ≡ g.state.faults → disk ≡ g.disk → IfTold held (λ _. (bytes : List ℕ) → images bytes → HasPossible g.state.records g.state.in_doubt bytes)
     → (s : Seen) → s ≡ seen faults g last → IsEnd motions places mech (faults disk) held images s
 ends-at faults g last motions places mech disk held images m p f d stored s is =
     rw is (record { motions_are = sym m; places_are = sym p; mech_is = sym f; disk_is = ap faults (sym d); stored = stored })
@@ -154,10 +154,10 @@ stops-restart status why line s end is continues later fails = record {
 
 -- a guard whose Boot has no room leaves a disk that reads as its list
 pub full-end : (v : View) (limits : Limits) (places : Places) (held : Option (List ℕ)) (images : List ℕ → Type 0) → v.limits ≡ limits → places ≡ v.places
-    → ((bytes : List ℕ) → held ≡ Some bytes → images bytes) → IsStored held images v.records v.in_doubt → IsFull v → IsFullAtEnd limits places held
+    → ((bytes : List ℕ) → held ≡ Some bytes → images bytes) → IfTold held (λ _. (bytes : List ℕ) → images bytes → HasPossible v.records v.in_doubt bytes) → IsFull v → IsFullAtEnd limits places held
 full-end v limits places held images l p read stored full = record { records = v.records; stands = go held read stored; passes_limit = rw (← l, p) full.passes_limit }
   where
-    go : (held : Option (List ℕ)) → ((bytes : List ℕ) → held ≡ Some bytes → images bytes) → IsStored held images v.records v.in_doubt → IfTold held (λ bytes. Stands bytes v.records)
+    go : (held : Option (List ℕ)) → ((bytes : List ℕ) → held ≡ Some bytes → images bytes) → IfTold held (λ _. (bytes : List ℕ) → images bytes → HasPossible v.records v.in_doubt bytes) → IfTold held (λ bytes. Stands bytes v.records)
     go None read stored = tt
     go (Some bytes) read stored =
         let kept = stored bytes (read bytes refl) in

@@ -12,10 +12,10 @@ use Rattle.xfs_journal.specs.declared.record.Rec.{Rec}
 use Rattle.xfs_journal.specs.declared.record.Rec.TheVariants.{Boot}
 use Rattle.xfs_journal.proofs.Unique.{stands_for_one}
 use Rattle.xfs_guard.specs.Agrees.{Agrees}
-use Rattle.xfs_guard.specs.Continues.{Continues, Leads, Led, IsKnown}
+use Rattle.xfs_guard.specs.Continues.{Continues, Leads, Led}
 use Rattle.xfs_guard.specs.View.{View}
 use Rattle.xfs_guard.proofs.AgreesLaws.{numbers_within}
-use Rattle.xfs_guard.proofs.ContinueLaws.{Led-record, only-possible}
+use Rattle.xfs_guard.proofs.ContinueLaws.{only-possible}
 use Rattle.xfs_guard.proofs.RecordLaws.{length-pushed}
 use Rattle.xfs_cli.proofs.RunLaws.{Starts}
 
@@ -27,16 +27,11 @@ newer-led J K b n P Q R led = record {
   newer = all-numbers (λ k. length (J ++ Boot P ∷ []) ≤ k) (λ k. length J < k) led.follows.moves (λ k le. let more = length-pushed J (Boot P) in omega (arith, le, more)) led.follows.later;
 }
 
-newer-leads : (first last : View) (J0 : List Rec) (before now : Option (List Motion)) → first.records ≡ J0 ++ Boot first.places ∷ [] → first.in_doubt ≡ None → IfTold before (Agrees J0)
-    → Leads first last before now → IsNewer (length J0) before now
-newer-leads first last J0 None None booted clean agrees leads = IsNewer-same (length J0) None
-newer-leads first last J0 None (Some n) booted clean agrees leads = absurd leads
-newer-leads first last J0 (Some b) None booted clean agrees leads = absurd leads
-newer-leads first last J0 (Some b) (Some n) booted clean agrees leads =
-    let comes = leads last.records (inl refl) in
-    let from : comes.from ≡ J0 ++ Boot first.places ∷ [] = only-possible first.records comes.from first.in_doubt clean comes.possible ∙ booted in
-    let known : IsKnown (J0 ++ Boot first.places ∷ []) b = (Led-record J0 (Boot first.places) b first.places (λ p e. cc) (numbers_within J0 b agrees)).known in
-    newer-led J0 last.records b n first.places first.places last.places (rw from at (comes.led (rw from known)))
+newer-leads : (J K : List Rec) (before now : Option (List Motion)) (P Q R : Places) → Leads (J ++ Boot P ∷ []) before Q K now R → IsNewer (length J) before now
+newer-leads J K None None P Q R leads = IsNewer-same (length J) None
+newer-leads J K None (Some n) P Q R leads = absurd leads
+newer-leads J K (Some b) None P Q R leads = absurd leads
+newer-leads J K (Some b) (Some n) P Q R leads = newer-led J K b n P Q R leads
 
 pub newer-run : (first last : View) (J0 : List Rec) (held : Option (List ℕ)) (images : List ℕ → Type 0) (told : Option (List Motion))
     → first.records ≡ J0 ++ Boot first.places ∷ [] → first.in_doubt ≡ None → IfTold held (λ bytes. Stands bytes J0)
@@ -46,7 +41,9 @@ pub newer-run : (first last : View) (J0 : List Rec) (held : Option (List ℕ)) (
 newer-run first last J0 None images told booted clean stood starts read c told_is = tt
 newer-run first last J0 (Some bytes) images told booted clean stood starts read c told_is = λ J stands.
     let same : J ≡ J0 = stands_for_one bytes J J0 stands stood in
-    rw (same, told_is) (newer-leads first last J0 first.motions last.motions booted clean (starts bytes (read bytes refl) J0 stood).agrees c.leads)
+    let comes = c.leads last.records (inl refl) in
+    let from : comes.from ≡ J0 ++ Boot first.places ∷ [] = only-possible first.records comes.from first.in_doubt clean comes.possible ∙ booted in
+    rw (same, told_is) (newer-leads J0 last.records first.motions last.motions first.places first.places last.places (rw from at comes.led))
 
 -- a mechanism that did nothing
 pub newer-same : (held : Option (List ℕ)) (list : Option (List Motion)) → IfTold held (λ bytes. (J : List Rec) → Stands bytes J → IsNewer (length J) list list)

@@ -1,26 +1,27 @@
 -- The headline of a run: from what the disk's bytes stood for at entry, and from what its guard kept.
 use Rattle.std.proofs.Common.{◌≡◌, inl, inr, ℕ, true, false, List, [], ◌∷◌, ◌++◌, None, Some, refl, sym, ◌∙◌, arith}
+use Rattle.std.specs.Prelude.{is_some}
 use Rattle.std.specs.declared.option.Option.{Option}
 use Rattle.xfs_base.specs.Causes.{IfTold}
 use Rattle.xfs_base.specs.declared.counts.Places.{Places}
 use Rattle.xfs_base.specs.declared.money.NoteKind.{NoteKind}
 use Rattle.xfs_disk.specs.Disk.{Only}
+use Rattle.xfs_disk.specs.declared.disk.Disk.{Ghosts}
 use Rattle.xfs_mech.specs.declared.motion.Motion.{Motion}
 use Rattle.xfs_journal.specs.Image.{Stands}
-use Rattle.xfs_journal.specs.JournalView.{IsPossible, StandsForEither, passes}
+use Rattle.xfs_journal.specs.JournalView.{IsPossible, HasPossible, StandsForEither, passes}
 use Rattle.xfs_journal.specs.Paging.{CeasesAt}
 use Rattle.xfs_journal.specs.declared.limits.Limits.{Limits}
 use Rattle.xfs_journal.specs.declared.record.Rec.{Rec}
 use Rattle.xfs_journal.specs.declared.record.Rec.TheVariants.{Boot}
 use Rattle.xfs_journal.proofs.Unique.{stands_for_one}
-use Rattle.xfs_guard.specs.Agrees.{Agrees}
 use Rattle.xfs_guard.specs.Continues.{Continues, Leads}
 use Rattle.xfs_guard.specs.Recorded.{IsRecorded}
-use Rattle.xfs_guard.specs.Stored.{IsStored, MayLeave}
+use Rattle.xfs_guard.specs.Stored.{MayLeave}
 use Rattle.xfs_guard.specs.View.{View}
-use Rattle.xfs_guard.proofs.AgreesLaws.{numbers_within}
 use Rattle.xfs_guard.proofs.BootLaws.{IsRecorded-boot}
-use Rattle.xfs_guard.proofs.ContinueLaws.{Led-record, Leads-on, only-possible}
+use Rattle.xfs_guard.proofs.ContinueLaws.{leads-record, leads-on, only-possible}
+use Rattle.xfs_guard.proofs.StoredLaws.{tells, at_told}
 use Rattle.xfs_guard.proofs.FollowsLaws.{Follows-same, Follows-record}
 use Rattle.xfs_guard.specs.declared.fail.BootFault.{BootFault}
 use Rattle.xfs_guard.specs.declared.fail.BootFault.TheVariants.{NotJournal, Disk, Full, Memory}
@@ -43,10 +44,11 @@ abbrev pub AtRest : Option (List ℕ) → (List ℕ → Type 0) → Type 0
 AtRest held images = IfTold held (λ bytes. Only bytes images)
 
 -- each list that the disk may leave is recorded then
-pub recorded-start : (held : Option (List ℕ)) (images : List ℕ → Type 0) (key : List ℕ) (units : List NoteKind) (L : Option (List Motion)) → Starts held images key units L
-    → (J : List Rec) → MayLeave held images J → IsRecorded key units J L
-recorded-start None images key units L starts J may = let e = may.told in cc
-recorded-start (Some bytes) images key units L starts J may = starts may.bytes may.left J may.stands
+pub recorded-start : {D : Type 0} (g : Ghosts D) (d : D) (key : List ℕ) (units : List NoteKind) (L : Option (List Motion)) → Starts (g.held d) (g.images d) key units L
+    → (J : List Rec) → MayLeave g d J → IsRecorded key units J L
+recorded-start g d key units L starts J may =
+    let known = tells (g.held d) may.told in
+    at_told (g.held d) (λ _. (c : List ℕ) → g.images d c → (K : List Rec) → Stands c K → IsRecorded key units K L) known.0 known.1 starts may.bytes may.left J may.stands
 
 -- the headline, from the condition at entry to what is there at the end
 abbrev pub UpholdsAll : Option (List ℕ) → Option (List ℕ) → (List ℕ → Type 0) → List ℕ → List NoteKind → Option (List Motion) → Places → Option (List Motion) → Places → Type 0
@@ -79,20 +81,23 @@ upholds-refused (Some bytes) (Some now) images images' key units L P starts rest
     ]
 
 -- from the boot to the end
-follows-run : (first last : View) (J0 J : List Rec) (before now : Option (List Motion)) → first.records ≡ J0 ++ Boot first.places ∷ [] → first.in_doubt ≡ None → IfTold before (Agrees J0)
-    → Leads first last before now → IsPossible last.records last.in_doubt J → FollowsWhereTold J0 before first.places J now last.places
-follows-run first last J0 J None now booted clean agrees leads possible = tt
-follows-run first last J0 J (Some b) None booted clean agrees leads possible = tt
-follows-run first last J0 J (Some b) (Some n) booted clean agrees leads possible =
-    (Leads-on first last J0 b b n first.places leads (λ K is. rw (only-possible first.records K first.in_doubt clean is, booted)
-    (Led-record J0 (Boot first.places) b first.places (λ p e. cc) (numbers_within J0 b agrees))) J possible).follows
+follows-run : (first last : View) (J0 J : List Rec) → first.records ≡ J0 ++ Boot first.places ∷ [] → first.in_doubt ≡ None
+    → Continues first last → IsPossible last.records last.in_doubt J → FollowsWhereTold J0 first.motions first.places J last.motions last.places
+follows-run first last J0 J booted clean continues possible =
+    where_told first.motions last.motions (leads-on first last J0 first.motions first.places continues (λ K is. rw (only-possible first.records K first.in_doubt clean is, booted)
+    (leads-record first.motions J0 (Boot first.places) first.places (λ p e. cc))) J possible)
+  where
+    where_told : (before now : Option (List Motion)) → Leads J0 before first.places J now last.places → FollowsWhereTold J0 before first.places J now last.places
+    where_told None now leads = tt
+    where_told (Some b) None leads = tt
+    where_told (Some b) (Some n) leads = leads.follows
 
 -- the headline of a run whose boot was not refused
 pub upholds-run : (first last : View) (J0 : List Rec) (held held' : Option (List ℕ)) (images images' : List ℕ → Type 0) (told : Option (List Motion)) (places : Places)
     → first.records ≡ J0 ++ Boot first.places ∷ [] → first.in_doubt ≡ None → IfTold held (λ bytes. Stands bytes J0)
     → Starts held images first.key first.units first.motions → ((bytes : List ℕ) → held ≡ Some bytes → images bytes)
-    → Continues first last → IsStored held' images' last.records last.in_doubt
-    → ((J : List Rec) → MayLeave held' images' J → IsRecorded last.key last.units J last.motions)
+    → Continues first last → IfTold held' (λ _. (c : List ℕ) → images' c → HasPossible last.records last.in_doubt c)
+    → (is_some held' ≡ true → (c : List ℕ) → images' c → (J : List Rec) → Stands c J → IsRecorded last.key last.units J last.motions)
     → told ≡ last.motions → places ≡ last.places
     → UpholdsAll held held' images' first.key first.units first.motions first.places told places
 upholds-run first last J0 None held' images images' told places booted clean stood starts read c stored recorded told_is places_is = tt
@@ -104,8 +109,8 @@ upholds-run first last J0 (Some bytes) (Some now) images images' told places boo
     rw (same, told_is, places_is) (record {
       records = kept.0;
       stands = inl kept.2;
-      recorded = rw (c.key, c.units) at (recorded kept.0 (record { told = refl; bytes = d; left = image; stands = inl kept.2 }));
-      follows = follows-run first last J0 kept.0 first.motions last.motions booted clean old.agrees c.leads kept.1;
+      recorded = rw (c.key, c.units) at (recorded refl d image kept.0 (inl kept.2));
+      follows = follows-run first last J0 kept.0 booted clean c kept.1;
     })
 
 -- a Boot that was written passed no limit

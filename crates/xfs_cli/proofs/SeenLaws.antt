@@ -19,7 +19,9 @@ use Rattle.xfs_guard.specs.declared.ask.Ask.TheVariants.{Stack}
 use Rattle.xfs_journal.specs.Journal.{next_issue, nonce_text}
 use Rattle.xfs_journal.specs.declared.record.Rec.{Rec}
 use Rattle.xfs_journal.specs.declared.record.Rec.TheVariants.{Issue, Clear, Boot}
-use Rattle.xfs_guard.specs.View.{View, GuardView}
+use Rattle.xfs_disk.specs.declared.disk.Disk.{Ghosts}
+use Rattle.xfs_guard.specs.Keeps.{Proceeds}
+use Rattle.xfs_guard.specs.View.{View, GuardView, reread, unbooted, unread}
 use Rattle.xfs_guard.specs.Fits.{unfit}
 use Rattle.xfs_guard.specs.Nonce.{live_nonce}
 use Rattle.xfs_guard.specs.Refusals.{Answers}
@@ -117,14 +119,6 @@ wrote-err T faults old new last refusal r kept text line deny answers disk later
   | inr other ↦ wrote-refused (seen faults old last) (seen faults new last) refusal deny r kept text line (due T deny refusal line answers other told) (seen-same faults old new last (same other)) told
 ]
 
--- no count has fallen
-pub later-err : (T : Type 0) {D : Type 0} (faults : D → ℕ) (old new : GuardView D) (last last' : Option (List ℕ)) (r : Rec) (deny : Deny)
-    → (IsDiskFault T deny → new.state ≡ shut_at r old.state) → faults old.disk ≤ faults new.disk → (deny ≢ Disk → new ≡ old) → IsLater (seen faults old last) (seen faults new last')
-later-err T faults old new last last' r deny disk later same = elim (is_disk deny) [
-  | inl is ↦ record { mech = rw (disk (ap (λ e. Err e) is)) (omega arith); disk = later }
-  | inr other ↦ record { mech = rw (same other) (omega arith); disk = later }
-]
-
 -- no order is open then either
 pub none-err : (T : Type 0) {D : Type 0} (old new : GuardView D) (r : Rec) (deny : Deny)
     → (IsDiskFault T deny → new.state ≡ shut_at r old.state) → (deny ≢ Disk → new ≡ old) → old.state.open_order ≡ No → new.state.open_order ≡ No
@@ -133,14 +127,12 @@ none-err T old new r deny disk same none = elim (is_disk deny) [
   | inr other ↦ rw (same other) none
 ]
 
-pub later-ok : {D : Type 0} (faults : D → ℕ) (old new : GuardView D) (last last' : Option (List ℕ)) → new.state.faults ≡ old.state.faults → faults old.disk ≤ faults new.disk → IsLater (seen faults old last) (seen faults new last')
-later-ok faults old new last last' e later = record { mech = omega (arith, e); disk = later }
+-- nor has one where a guard proceeded
+pub later-seen : {D : Type 0} (g : Ghosts D) (old new : GuardView D) (last last' : Option (List ℕ)) → Proceeds g old new → IsLater (seen g.faults old last) (seen g.faults new last')
+later-seen g old new last last' p = record { mech = p.mech_faults; disk = p.disk_faults }
 
 pub later-same : (s : Seen) → IsLater s s
 later-same s = record { mech = omega arith; disk = omega arith }
-
-pub later-trans : (r s t : Seen) → IsLater r s → IsLater s t → IsLater r t
-later-trans r s t a b = record { mech = omega (arith, a.mech, b.mech); disk = omega (arith, a.disk, b.disk) }
 
 -- the text of the nonce that lives after its record
 issued-text : (J : List Rec) (number word : ℕ) (n : Nonce) → live_nonce (J ++ Issue number word ∷ []) ≡ Some n → n.text ≡ nonce_text number word
@@ -312,7 +304,7 @@ IsFault why fault = ◌≡◌ {A = Result (Unit {0}) BootFault} (Err why) (Err f
 -- a restart found no room for its Boot
 abbrev FindsFull : View → View → Type 0
 FindsFull old new = (J : List Rec) × IsPossible old.records old.in_doubt J × (passes old.limits (J ++ Boot old.places ∷ []) ≡ true)
-    × (new ≡ record old { records = J; bound = None; shut = false; boot_missing = true; in_doubt = None })
+    × (new ≡ reread old J)
 
 -- a call that changes nothing of the mechanism
 still-of : {D : Type 0} (faults : D → ℕ) (old new : GuardView D) (last : Option (List ℕ)) (now : View) → faults old.disk ≤ faults new.disk → new.state ≡ now
@@ -322,13 +314,8 @@ still-of faults old new last now later is m p f = rw is (record { motions_are = 
 -- a restart that is refused moves nothing
 pub restart-still : {D P : Type 0} (faults : D → ℕ) (old new : GuardView D) (last : Option (List ℕ)) (why : BootFault) → faults old.disk ≤ faults new.disk
     → (IsFault why BootMemory → new.state ≡ old.state) → (IsFault why BootFull → FindsFull old.state new.state)
-    → (IsFault why BootDisk → (new.state ≡ record old.state { shut = true }) ⊎ ((J : List Rec) × IsPossible old.state.records old.state.in_doubt J × (new.state ≡ record old.state {
-      records = J;
-      bound = None;
-      shut = true;
-      in_doubt = Some (Boot old.state.places);
-    })))
-    → ((at : ℕ) → why ≡ NotJournal at → P × (new.state ≡ record old.state { shut = true }))
+    → (IsFault why BootDisk → (new.state ≡ unread old.state) ⊎ ((J : List Rec) × IsPossible old.state.records old.state.in_doubt J × (new.state ≡ unbooted old.state J)))
+    → ((at : ℕ) → why ≡ NotJournal at → P × (new.state ≡ unread old.state))
     → IsStill new.state.motions new.state.places new.state.faults (faults new.disk) (seen faults old last)
 restart-still faults old new last (NotJournal at) later memory full disk none = still-of faults old new last _ later (none at refl).1 refl refl refl
 restart-still faults old new last BootDisk later memory full disk none = elim (disk refl) [

@@ -5,12 +5,12 @@ use Rattle.xfs_base.specs.Causes.{IfTold, Rose}
 use Rattle.xfs_base.specs.declared.counts.Places.{Places}
 use Rattle.xfs_base.specs.declared.money.NoteKind.{NoteKind}
 use Rattle.xfs_mech.specs.declared.motion.Motion.{Motion}
+use Rattle.xfs_journal.specs.JournalView.{HasPossible}
 use Rattle.xfs_journal.specs.Image.{Stands}
 use Rattle.xfs_journal.specs.declared.limits.Limits.{Limits}
 use Rattle.xfs_journal.specs.declared.record.Rec.{Rec}
 use Rattle.xfs_journal.specs.declared.record.Rec.TheVariants.{Boot}
 use Rattle.xfs_guard.specs.Continues.{Continues}
-use Rattle.xfs_guard.specs.Stored.{IsStored}
 use Rattle.xfs_guard.specs.View.{View}
 use Rattle.xfs_guard.specs.declared.machine_core.Core.{Core}
 use Rattle.xfs_guard.specs.declared.fail.BootFault.{BootFault}
@@ -88,7 +88,7 @@ pub record IsEnd (motions : Option (List Motion)) (places : Places) (mech_faults
   pub mech_is : last.guard.faults ≡ mech_faults
   pub disk_is : last.disk_faults ≡ disk_faults
   -- each image of the disk is that of the last state's list, or of that list with its record in doubt
-  pub stored : IsStored held images last.guard.records last.guard.in_doubt
+  pub stored : IfTold held (λ _. (bytes : List ℕ) → images bytes → HasPossible last.guard.records last.guard.in_doubt bytes)
 
 -- the statuses of a refused boot that has a last line
 abbrev pub IsOfBoot : ℕ → Type 0

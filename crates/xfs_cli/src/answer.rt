@@ -3,14 +3,13 @@
 ghost use Rattle.std.specs.Prelude.{◌≡◌, ◌≢◌, ◌≤◌, codes, length};
 ghost use Rattle.xfs_base.specs.Causes.{Rose};
 ghost use Rattle.xfs_guard.specs.declared.open.Open.TheVariants.{No};
-ghost use Rattle.xfs_guard.specs.Continues.{Continues};
-ghost use Rattle.xfs_guard.specs.Crashed.{LeavesBehind};
+ghost use Rattle.xfs_guard.specs.Keeps.{Proceeds};
 ghost use Rattle.xfs_cli.specs.Answers.{SaysAnswer, SaysFront};
 ghost use Rattle.xfs_cli.specs.Begun.{IsBegun};
 ghost use Rattle.xfs_cli.specs.GuardLines.{IsLine};
 ghost use Rattle.xfs_cli.specs.RestartAnswers.{RestartFails};
 ghost use Rattle.xfs_guard.specs.declared.fail.BootFault.{BootFault};
-ghost use Rattle.xfs_cli.specs.Seen.{IsLater, seen};
+ghost use Rattle.xfs_cli.specs.Seen.{seen};
 ghost use Rattle.xfs_cli.specs.VerbAnswers.{AnswersGuard};
 ghost use Rattle.xfs_cli.specs.declared.answer.Turn.TheVariants.{More};
 
@@ -49,10 +48,8 @@ impl<M: Mechanism, D: Disk> Session<M, D> {
         ensures same_unbooted { (fault : BootFault) → result ≡ Turn.Unbooted fault → sink.new ≡ sink.old }
         ensures same_no_line { result ≡ Turn.NotALine → sink.new ≡ sink.old }
         ensures same_memory { result ≡ Turn.Memory → sink.new ≡ sink.old }
-        ensures faults { IsLater (seen D.faults self.old.guard self.old.last) (seen D.faults self.new.guard self.new.last) }
         ensures key { self.new.key ≡ self.new.guard.state.key }
-        ensures continues { Continues self.old.guard.state self.new.guard.state }
-        ensures crashes { LeavesBehind D.held D.images D.moment D.images_since self.old.guard self.new.guard }
+        ensures proceeds { Proceeds D.Disk self.old.guard self.new.guard }
         ensures none { self.new.guard.state.open_order ≡ No }
         ensures later { K.faults sink.old ≤ K.faults sink.new }
         ensures cause { result ≡ Turn.Write → Rose (K.faults sink.old) (K.faults sink.new) }

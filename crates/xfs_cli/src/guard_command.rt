@@ -8,8 +8,7 @@ ghost use Rattle.xfs_cli.specs.Moments.{WasOnTheWay};
 ghost use Rattle.xfs_journal.specs.Image.{Stands};
 ghost use Rattle.xfs_journal.specs.declared.record.Rec.{Rec};
 ghost use Rattle.xfs_guard.specs.declared.open.Open.TheVariants.{No};
-ghost use Rattle.xfs_guard.specs.Continues.{Continues};
-ghost use Rattle.xfs_guard.specs.Crashed.{LeavesBehind};
+ghost use Rattle.xfs_guard.specs.Keeps.{Proceeds};
 ghost use Rattle.xfs_guard.specs.Recorded.{IsRecorded};
 ghost use Rattle.xfs_guard.specs.Stored.{IsStored, MayLeave};
 ghost use Rattle.xfs_cli.specs.Run.{IsGuard, AllLines, StopsAtLine, GaveAll};
@@ -135,8 +134,8 @@ pub fn guard<S: Source, K: Sink, M: Mechanism, D: Disk>(
 
 // The mechanism and the disk of a session that is over.
 fn ended<M: Mechanism, D: Disk>(session: Session<M, D>) -> (M, D)
-    ensures recorded { (records : List Rec) → MayLeave (D.held result.1) (D.images result.1) records → IsRecorded session.guard.state.key session.guard.state.units records session.guard.state.motions }
-    ensures stored { IsStored (D.held result.1) (D.images result.1) session.guard.state.records session.guard.state.in_doubt }
+    ensures recorded { (records : List Rec) → MayLeave D.Disk result.1 records → IsRecorded session.guard.state.key session.guard.state.units records session.guard.state.motions }
+    ensures stored { IsStored D.Disk result.1 session.guard.state.records session.guard.state.in_doubt }
     ensures motions { M.motions result.0 ≡ session.guard.state.motions }
     ensures places { M.places result.0 ≡ session.guard.state.places }
     ensures faults { M.faults result.0 ≡ session.guard.state.faults }
@@ -164,8 +163,7 @@ fn serve<S: Source, K: Sink, M: Mechanism, D: Disk>(
     ensures answers { result ≡ READ_TO_END → IfTold (S.left source.old) (WritesAll AnswersGuard (λ last. last ≡ seen D.faults session.new.guard session.new.last) (seen D.faults session.old.guard session.old.last) (K.held sink.old) (K.held sink.new)) }
     ensures front { result ≡ WRITE_FAULT → IfTold (S.left source.old) (WritesFront AnswersGuard (λ last. last ≡ seen D.faults session.new.guard session.new.last) (seen D.faults session.old.guard session.old.last) (K.held sink.old) (K.held sink.new)) }
     ensures until { result ≢ READ_TO_END → result ≢ WRITE_FAULT → IfTold (S.left source.old) (WritesUntil IsLine AnswersGuard (IsStop (λ end. end ≡ seen D.faults session.new.guard session.new.last)) (seen D.faults session.old.guard session.old.last) result (S.left source.new) (K.held sink.old) (K.held sink.new)) }
-    ensures continues { Continues session.old.guard.state session.new.guard.state }
-    ensures crashes { LeavesBehind D.held D.images D.moment D.images_since session.old.guard session.new.guard }
+    ensures proceeds { Proceeds D.Disk session.old.guard session.new.guard }
     ensures usage { result ≢ USAGE }
     ensures failed { result ≡ DISK_FAULT → Rose (D.faults session.old.guard.disk) (D.faults session.new.guard.disk) }
     ensures untold { result ≡ NOT_A_JOURNAL → session.old.guard.state.disk_told ≡ false }

@@ -3,8 +3,7 @@
 ghost use Rattle.std.specs.Prelude.{◌≡◌, ◌≢◌, ◌≤◌, ◌⊎◌, Err, OnErr, IfOk, IfErr, IsTrue, Some, None, drop, length};
 ghost use Rattle.std.specs.Option.{option_map, option_or};
 ghost use Rattle.xfs_guard.specs.declared.open.Open.TheVariants.{No};
-ghost use Rattle.xfs_guard.specs.Continues.{Continues};
-ghost use Rattle.xfs_guard.specs.Crashed.{LeavesBehind};
+ghost use Rattle.xfs_guard.specs.Keeps.{Proceeds};
 ghost use Rattle.xfs_mech.specs.Mechanism.{CanLoad};
 ghost use Rattle.xfs_guard.specs.Fits.{unfit};
 ghost use Rattle.xfs_guard.specs.Nonce.{live_nonce, live_in};
@@ -14,7 +13,7 @@ ghost use Rattle.xfs_mix.specs.Asked.{is_none};
 ghost use Rattle.xfs_cli.specs.Answers.{lines_in};
 ghost use Rattle.xfs_cli.specs.Begun.{AllOrNothing, IsPartDispensed, IsPartFilled, LeavesOfVerb, StacksFirst};
 ghost use Rattle.xfs_cli.specs.GuardAnswers.{show_text};
-ghost use Rattle.xfs_cli.specs.Seen.{IsLater, seen};
+ghost use Rattle.xfs_cli.specs.Seen.{seen};
 ghost use Rattle.xfs_cli.specs.OrderAnswers.{Carries, Moves, Stacks, nothing_stacked};
 ghost use Rattle.xfs_cli.specs.DispenseAnswers.{Dispenses, IsForbidden, IsPermitted, named};
 ghost use Rattle.xfs_cli.specs.VerbAnswers.{AreAnswer, Clears, Fills, IsLoaded, Issues, Mints, Takes};
@@ -81,9 +80,7 @@ impl<M: Mechanism, D: Disk> Session<M, D> {
         ensures answer { IfOk result (λ a. AreAnswer (seen D.faults self.old.guard self.old.last) verb.now (lines_in (option_map (λ v. v.items) a)) (seen D.faults self.new.guard self.new.last)) }
         ensures memory { result ≡ Err AnswerFault.Memory → LeavesOfVerb (seen D.faults self.old.guard self.old.last) verb.now (seen D.faults self.new.guard self.new.last) }
         ensures unbooted { (fault : BootFault) → result ≡ Err (AnswerFault.Unbooted fault) → (verb.now ≡ Restart) × RestartFails (seen D.faults self.old.guard self.old.last) fault (seen D.faults self.new.guard self.new.last) }
-        ensures later { IsLater (seen D.faults self.old.guard self.old.last) (seen D.faults self.new.guard self.new.last) }
-        ensures continues { Continues self.old.guard.state self.new.guard.state }
-        ensures crashes { LeavesBehind D.held D.images D.moment D.images_since self.old.guard self.new.guard }
+        ensures proceeds { Proceeds D.Disk self.old.guard self.new.guard }
         ensures none { self.new.guard.state.open_order ≡ No }
         ensures key { self.new.key ≡ self.new.guard.state.key }
     {
@@ -107,9 +104,7 @@ impl<M: Mechanism, D: Disk> Session<M, D> {
         requires { self.old.guard.state.open_order ≡ No }
         ensures answer { IfOk result (λ text. Issues (seen D.faults self.old.guard self.old.last) text.items (seen D.faults self.new.guard self.new.last)) }
         ensures memory { OnErr result (AllOrNothing (Issues (seen D.faults self.old.guard self.old.last)) (seen D.faults self.old.guard self.old.last) (seen D.faults self.new.guard self.new.last)) }
-        ensures later { IsLater (seen D.faults self.old.guard self.old.last) (seen D.faults self.new.guard self.new.last) }
-        ensures continues { Continues self.old.guard.state self.new.guard.state }
-        ensures crashes { LeavesBehind D.held D.images D.moment D.images_since self.old.guard self.new.guard }
+        ensures proceeds { Proceeds D.Disk self.old.guard self.new.guard }
         ensures none { self.new.guard.state.open_order ≡ No }
         ensures key { self.new.key ≡ self.old.key }
     {
@@ -123,9 +118,7 @@ impl<M: Mechanism, D: Disk> Session<M, D> {
         requires { self.old.guard.state.open_order ≡ No }
         ensures answer { IfOk result (λ text. Clears (live_nonce self.old.guard.state.records) (seen D.faults self.old.guard self.old.last) text.items (seen D.faults self.new.guard self.new.last)) }
         ensures memory { OnErr result (AllOrNothing (Clears (live_nonce self.old.guard.state.records) (seen D.faults self.old.guard self.old.last)) (seen D.faults self.old.guard self.old.last) (seen D.faults self.new.guard self.new.last)) }
-        ensures later { IsLater (seen D.faults self.old.guard self.old.last) (seen D.faults self.new.guard self.new.last) }
-        ensures continues { Continues self.old.guard.state self.new.guard.state }
-        ensures crashes { LeavesBehind D.held D.images D.moment D.images_since self.old.guard self.new.guard }
+        ensures proceeds { Proceeds D.Disk self.old.guard self.new.guard }
         ensures none { self.new.guard.state.open_order ≡ No }
         ensures key { self.new.key ≡ self.old.key }
     {
@@ -162,9 +155,7 @@ impl<M: Mechanism, D: Disk> Session<M, D> {
         requires { self.old.guard.state.open_order ≡ No }
         ensures answer { IfOk result (λ text. Takes (seen D.faults self.old.guard self.old.last) text.items (seen D.faults self.new.guard self.new.last)) }
         ensures memory { OnErr result (AllOrNothing (Takes (seen D.faults self.old.guard self.old.last)) (seen D.faults self.old.guard self.old.last) (seen D.faults self.new.guard self.new.last)) }
-        ensures later { IsLater (seen D.faults self.old.guard self.old.last) (seen D.faults self.new.guard self.new.last) }
-        ensures continues { Continues self.old.guard.state self.new.guard.state }
-        ensures crashes { LeavesBehind D.held D.images D.moment D.images_since self.old.guard self.new.guard }
+        ensures proceeds { Proceeds D.Disk self.old.guard self.new.guard }
         ensures none { self.new.guard.state.open_order ≡ No }
         ensures key { self.new.key ≡ self.old.key }
     {
@@ -179,9 +170,7 @@ impl<M: Mechanism, D: Disk> Session<M, D> {
         requires { self.old.guard.state.open_order ≡ No }
         ensures answer { IfOk result (λ text. Fills (seen D.faults self.old.guard self.old.last) unit count text.items (seen D.faults self.new.guard self.new.last)) }
         ensures memory { OnErr result (AllOrNothing (Fills (seen D.faults self.old.guard self.old.last) unit count) (seen D.faults self.old.guard self.old.last) (seen D.faults self.new.guard self.new.last) ⊎ IsPartFilled (seen D.faults self.old.guard self.old.last) unit count (seen D.faults self.new.guard self.new.last)) }
-        ensures later { IsLater (seen D.faults self.old.guard self.old.last) (seen D.faults self.new.guard self.new.last) }
-        ensures continues { Continues self.old.guard.state self.new.guard.state }
-        ensures crashes { LeavesBehind D.held D.images D.moment D.images_since self.old.guard self.new.guard }
+        ensures proceeds { Proceeds D.Disk self.old.guard self.new.guard }
         ensures none { self.new.guard.state.open_order ≡ No }
         ensures key { self.new.key ≡ self.old.key }
     {
@@ -204,9 +193,7 @@ impl<M: Mechanism, D: Disk> Session<M, D> {
         requires fit { unfit self.old.guard.state ≡ None }
         ensures answer { IfOk result (λ text. IsLoaded (seen D.faults self.old.guard self.old.last) unit count text.items (seen D.faults self.new.guard self.new.last)) }
         ensures memory { OnErr result (AllOrNothing (IsLoaded (seen D.faults self.old.guard self.old.last) unit count) (seen D.faults self.old.guard self.old.last) (seen D.faults self.new.guard self.new.last) ⊎ IsPartFilled (seen D.faults self.old.guard self.old.last) unit count (seen D.faults self.new.guard self.new.last)) }
-        ensures later { IsLater (seen D.faults self.old.guard self.old.last) (seen D.faults self.new.guard self.new.last) }
-        ensures continues { Continues self.old.guard.state self.new.guard.state }
-        ensures crashes { LeavesBehind D.held D.images D.moment D.images_since self.old.guard self.new.guard }
+        ensures proceeds { Proceeds D.Disk self.old.guard self.new.guard }
         ensures none { self.new.guard.state.open_order ≡ No }
         ensures key { self.new.key ≡ self.old.key }
     {
@@ -226,9 +213,7 @@ impl<M: Mechanism, D: Disk> Session<M, D> {
         ensures answer { IfOk result (λ text. Restarts (seen D.faults self.old.guard self.old.last) text.items (seen D.faults self.new.guard self.new.last)) }
         ensures memory { result ≡ Err AnswerFault.Memory → AllOrNothing (Restarts (seen D.faults self.old.guard self.old.last)) (seen D.faults self.old.guard self.old.last) (seen D.faults self.new.guard self.new.last) }
         ensures unbooted { (fault : BootFault) → result ≡ Err (AnswerFault.Unbooted fault) → RestartFails (seen D.faults self.old.guard self.old.last) fault (seen D.faults self.new.guard self.new.last) }
-        ensures later { IsLater (seen D.faults self.old.guard self.old.last) (seen D.faults self.new.guard self.new.last) }
-        ensures continues { Continues self.old.guard.state self.new.guard.state }
-        ensures crashes { LeavesBehind D.held D.images D.moment D.images_since self.old.guard self.new.guard }
+        ensures proceeds { Proceeds D.Disk self.old.guard self.new.guard }
         ensures none { self.new.guard.state.open_order ≡ No }
         ensures key { self.new.key ≡ self.old.key }
     {
@@ -249,9 +234,7 @@ impl<M: Mechanism, D: Disk> Session<M, D> {
         requires asked { IsAsk self.old.guard.state ask }
         ensures answer { IfOk result (λ text. Moves (seen D.faults self.old.guard self.old.last) ask text.items (seen D.faults self.new.guard self.new.last)) }
         ensures memory { OnErr result (AllOrNothing (Moves (seen D.faults self.old.guard self.old.last) ask) (seen D.faults self.old.guard self.old.last) (seen D.faults self.new.guard self.new.last)) }
-        ensures later { IsLater (seen D.faults self.old.guard self.old.last) (seen D.faults self.new.guard self.new.last) }
-        ensures continues { Continues self.old.guard.state self.new.guard.state }
-        ensures crashes { LeavesBehind D.held D.images D.moment D.images_since self.old.guard self.new.guard }
+        ensures proceeds { Proceeds D.Disk self.old.guard self.new.guard }
         ensures none { self.new.guard.state.open_order ≡ No }
         ensures key { self.new.key ≡ self.old.key }
     {
@@ -265,9 +248,7 @@ impl<M: Mechanism, D: Disk> Session<M, D> {
         requires { self.old.guard.state.open_order ≡ No }
         ensures answer { IfOk result (λ text. Dispenses (seen D.faults self.old.guard self.old.last) (named self.old.last token.now) counts.now text.items (seen D.faults self.new.guard self.new.last)) }
         ensures memory { OnErr result (AllOrNothing (Dispenses (seen D.faults self.old.guard self.old.last) (named self.old.last token.now) counts.now) (seen D.faults self.old.guard self.old.last) (seen D.faults self.new.guard self.new.last) ⊎ IsPartDispensed (seen D.faults self.old.guard self.old.last) (named self.old.last token.now) counts.now (seen D.faults self.new.guard self.new.last)) }
-        ensures later { IsLater (seen D.faults self.old.guard self.old.last) (seen D.faults self.new.guard self.new.last) }
-        ensures continues { Continues self.old.guard.state self.new.guard.state }
-        ensures crashes { LeavesBehind D.held D.images D.moment D.images_since self.old.guard self.new.guard }
+        ensures proceeds { Proceeds D.Disk self.old.guard self.new.guard }
         ensures none { self.new.guard.state.open_order ≡ No }
         ensures key { self.new.key ≡ self.old.key }
     {
@@ -286,9 +267,7 @@ impl<M: Mechanism, D: Disk> Session<M, D> {
         requires { self.old.guard.state.open_order ≡ No }
         ensures ok { IfOk result (λ p. IsPermitted (seen D.faults self.old.guard self.old.last) (named self.old.last token.now) counts.now p.issue (seen D.faults self.new.guard self.new.last)) }
         ensures refused { IfErr result (λ r. r ≢ Denied NoMemory → IsForbidden (seen D.faults self.old.guard self.old.last) (named self.old.last token.now) counts.now r (seen D.faults self.new.guard self.new.last)) }
-        ensures later { IsLater (seen D.faults self.old.guard self.old.last) (seen D.faults self.new.guard self.new.last) }
-        ensures continues { Continues self.old.guard.state self.new.guard.state }
-        ensures crashes { LeavesBehind D.held D.images D.moment D.images_since self.old.guard self.new.guard }
+        ensures proceeds { Proceeds D.Disk self.old.guard self.new.guard }
         ensures none { self.new.guard.state.open_order ≡ No }
         ensures same { IfErr result (λ r. r ≢ Denied Deny.Disk → self.new.guard ≡ self.old.guard) }
         ensures last { self.new.last ≡ self.old.last }
@@ -312,9 +291,7 @@ impl<M: Mechanism, D: Disk> Session<M, D> {
         ensures carried { result ≢ Err NoMemory → Carries (seen D.faults self.old.guard self.old.last) ask result (seen D.faults self.new.guard self.new.last) }
         ensures refused { Answers result (option_or (unfit self.old.guard.state) (order_refusal self.old.guard.state ask)) }
         ensures same { IfErr result (λ e. e ≢ Deny.Disk → self.new.guard ≡ self.old.guard) }
-        ensures later { IsLater (seen D.faults self.old.guard self.old.last) (seen D.faults self.new.guard self.new.last) }
-        ensures continues { Continues self.old.guard.state self.new.guard.state }
-        ensures crashes { LeavesBehind D.held D.images D.moment D.images_since self.old.guard self.new.guard }
+        ensures proceeds { Proceeds D.Disk self.old.guard self.new.guard }
         ensures none { self.new.guard.state.open_order ≡ No }
         ensures last { self.new.last ≡ self.old.last }
         ensures key { self.new.key ≡ self.old.key }
@@ -331,9 +308,7 @@ impl<M: Mechanism, D: Disk> Session<M, D> {
         requires few { IsTrue (is_none (drop (length self.old.guard.state.units) counts.now.0)) }
         ensures stacked { result ≢ Err NoMemory → Stacks issue counts.now.0 0 nothing_stacked (seen D.faults self.old.guard self.old.last) result (seen D.faults self.new.guard self.new.last) }
         ensures memory { result ≡ Err NoMemory → StacksFirst issue counts.now.0 (seen D.faults self.old.guard self.old.last) (seen D.faults self.new.guard self.new.last) }
-        ensures later { IsLater (seen D.faults self.old.guard self.old.last) (seen D.faults self.new.guard self.new.last) }
-        ensures continues { Continues self.old.guard.state self.new.guard.state }
-        ensures crashes { LeavesBehind D.held D.images D.moment D.images_since self.old.guard self.new.guard }
+        ensures proceeds { Proceeds D.Disk self.old.guard self.new.guard }
         ensures none { self.new.guard.state.open_order ≡ No }
         ensures key { self.new.key ≡ self.old.key }
     {

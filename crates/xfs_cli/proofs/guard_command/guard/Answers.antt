@@ -19,9 +19,9 @@ returns-then-not-is_word-clause-upholds g c = upholds-same _ _ _ _ _ _ c.require
 pub returns-in-Ok-clause-upholds : goal.returns-in-Ok-clause-upholds
 returns-in-Ok-clause-upholds g c =
     let ok = c.in-Ok.ensures.ok in
-    let continues = rw ok.2 at c.serve-status.ensures.continues in
+    let continues = rw ok.2 at c.serve-status.ensures.proceeds.continues in
     upholds-run _ _ ok.0 _ _ _ _ _ _ refl refl ok.1 c.requires.starts (g.met.D.Disk.as_read c.args.core.disk) continues c.ended-mech.ensures.stored
-    c.ended-mech.ensures.recorded c.ended-mech.ensures.motions c.ended-mech.ensures.places
+    (λ told bytes image J stands. c.ended-mech.ensures.recorded J (record { told = told; bytes = bytes; left = image; stands = stands })) c.ended-mech.ensures.motions c.ended-mech.ensures.places
 
 pub returns-in-Err-clause-upholds : goal.returns-in-Err-clause-upholds
 returns-in-Err-clause-upholds g c =
@@ -50,7 +50,7 @@ pub returns-in-Ok-clause-full : goal.returns-in-Ok-clause-full
 returns-in-Ok-clause-full g c = λ twelve.
     let ok = c.in-Ok.ensures.ok in
     let e = c.ended-mech.ensures in
-    let limits = c.serve-status.ensures.continues.limits ∙ ap (λ (v : View). v.limits) ok.2 in
+    let limits = c.serve-status.ensures.proceeds.continues.limits ∙ ap (λ (v : View). v.limits) ok.2 in
     inr (from-boot g.D.Disk.faults c.in-Ok.guard _ ok.0 (λ s. IsFullAtEnd c.args.core.limits (g.M.Mechanism.places c.ended-mech.result.0) (g.D.Disk.held c.ended-mech.result.1)) ok.1 ok.2 c.in-Ok.ensures.faults
     (full-end c.serve-status.new.session.guard.state _ _ _ _ limits e.places (g.met.D.Disk.as_read c.ended-mech.result.1) e.stored (c.serve-status.ensures.full twelve)))
 
@@ -103,7 +103,7 @@ returns-in-Ok-clause-unmoved g c = journal-run c.in-Ok.ensures.ok.0 _ _ c.in-Ok.
 pub returns-in-Ok-clause-newer : goal.returns-in-Ok-clause-newer
 returns-in-Ok-clause-newer g c =
     let ok = c.in-Ok.ensures.ok in
-    let continues = rw ok.2 at c.serve-status.ensures.continues in
+    let continues = rw ok.2 at c.serve-status.ensures.proceeds.continues in
     newer-run _ _ ok.0 _ _ _ refl refl ok.1 c.requires.starts (g.met.D.Disk.as_read c.args.core.disk) continues c.ended-mech.ensures.motions
 
 pub returns-in-Ok-clause-finishes : goal.returns-in-Ok-clause-finishes
@@ -123,10 +123,10 @@ returns-in-Err-clause-finishes g c =
     λ guard. finishes _ _ _ _ None _ _ _ _ _ _ (causes-refused _ _ _ _ _ _ _ _ _ _ _ _ c.unbooted.ensures.status why.not_journal why.disk why.full)
 
 pub returns-in-Err-clause-unwritten : goal.returns-in-Err-clause-unwritten
-returns-in-Err-clause-unwritten g c = unwritten-quiet g.D.Disk.held g.D.Disk.images g.D.Disk.moment g.D.Disk.images_since g.D.Disk.faults c.args.core.disk c.in-Err.field-0.disk c.in-Err.ensures.unlisted
+returns-in-Err-clause-unwritten g c = unwritten-quiet g.D.Disk c.args.core.disk c.in-Err.field-0.disk c.in-Err.ensures.unlisted
 
 pub returns-then-not-is_word-clause-any_moment : goal.returns-then-not-is_word-clause-any_moment
-returns-then-not-is_word-clause-any_moment g c = moments-same g.D.Disk.held g.D.Disk.images g.D.Disk.moment g.D.Disk.images_since g.met.D.Disk.as_read _ _ _ g.met.D.Disk.only_now c.requires.at_rest refl
+returns-then-not-is_word-clause-any_moment g c = moments-same g.D.Disk g.met.D.Disk.as_read _ _ _ g.met.D.Disk.only_now c.requires.at_rest refl
 
 pub returns-in-Ok-clause-any_moment : goal.returns-in-Ok-clause-any_moment
 returns-in-Ok-clause-any_moment g c =
@@ -134,12 +134,12 @@ returns-in-Ok-clause-any_moment g c =
     let e = c.ended-mech.ensures in
     let s = c.serve-status.ensures in
     let told = ap (λ (v : View). v.disk_told) ok.2 in
-    rw e.disk (moments-run g.D.Disk.held g.D.Disk.images g.D.Disk.moment g.D.Disk.images_since g.met.D.Disk.as_read _ c.in-Ok.guard c.serve-status.new.session.guard ok.0 _ _ g.met.D.Disk.counts_now c.requires.at_rest (ap (λ (v : View). v.records) ok.2) ok.1 (sym s.crashes.told ∙ (rw e.disk at e.told) ∙ s.continues.disk_told ∙ told)
-    c.in-Ok.ensures.crashes s.continues s.crashes (rw e.disk at e.stored) (rw e.disk at e.recorded) e.motions)
+    rw e.disk (moments-run g.D.Disk g.met.D.Disk.as_read _ c.in-Ok.guard c.serve-status.new.session.guard ok.0 _ _ g.met.D.Disk.counts_now c.requires.at_rest (ap (λ (v : View). v.records) ok.2) ok.1 (sym s.proceeds.crashes.told ∙ (rw e.disk at e.told) ∙ s.proceeds.continues.disk_told ∙ told)
+    c.in-Ok.ensures.crashes s.proceeds.continues s.proceeds.crashes (rw e.disk at e.stored) (rw e.disk at e.recorded) e.motions)
 
 pub returns-in-Err-clause-any_moment : goal.returns-in-Err-clause-any_moment
 returns-in-Err-clause-any_moment g c =
-    rw c.in-Err.ensures.mech (moments-refused g.D.Disk.held g.D.Disk.images g.D.Disk.moment g.D.Disk.images_since g.met.D.Disk.as_read _ _ _ _ _ _ c.requires.starts c.requires.at_rest c.in-Err.ensures.crashes c.in-Err.ensures.either)
+    rw c.in-Err.ensures.mech (moments-refused g.D.Disk g.met.D.Disk.as_read _ _ _ _ _ _ c.requires.starts c.requires.at_rest c.in-Err.ensures.crashes c.in-Err.ensures.either)
 
 pub returns-then-not-is_word-clause-complete : goal.returns-then-not-is_word-clause-complete
 returns-then-not-is_word-clause-complete g c = complete
@@ -152,4 +152,4 @@ returns-in-Err-clause-complete g c = complete
 
 pub returns-in-Ok-clause-units : goal.returns-in-Ok-clause-units
 returns-in-Ok-clause-units g c =
-    c.ended-mech.ensures.units ∙ (c.serve-status.ensures.continues.units ∙ ap (λ (v : View). v.units) c.in-Ok.ensures.ok.2)
+    c.ended-mech.ensures.units ∙ (c.serve-status.ensures.proceeds.continues.units ∙ ap (λ (v : View). v.units) c.in-Ok.ensures.ok.2)

@@ -1,5 +1,5 @@
 use Rattle.std.proofs.Common.{◌∙◌, ap, arith, refl, sym}
-use Rattle.xfs_guard.proofs.ContinueLaws.{Continues-same, Continues-trans}
+use Rattle.xfs_guard.proofs.KeepsLaws.{Proceeds-same, Proceeds-trans}
 use Rattle.xfs_cli.proofs.LineLaws.{Gives-start, HasRead-start, Gives-trans, read-line, read-end, read-stop, read-fault, read-fewer, read-quota}
 use Rattle.xfs_cli.specs.GuardLines.{IsLine}
 use Rattle.xfs_cli.specs.VerbAnswers.{AnswersGuard}
@@ -7,18 +7,15 @@ use Rattle.xfs_cli.proofs.AnswerLaws.{answered-start, answered-line, answered-al
 use Rattle.xfs_cli.specs.Run.{status_of}
 use Rattle.xfs_cli.specs.Seen.{seen}
 use Rattle.xfs_cli.proofs.GuardRunLaws.{stops-input, stops-memory, stops-restart, failed-then, untold-then, full-then, fault-plain, rose-later}
-use Rattle.xfs_cli.proofs.SeenLaws.{later-same, later-trans}
+use Rattle.xfs_cli.proofs.SeenLaws.{later-seen}
 use Rattle.xfs_cli.proofs.EndLaws.{status-boot}
-use Rattle.xfs_guard.proofs.BehindLaws.{behind-trans, behind-still}
 use Rattle.xfs_cli.proofs.guard_command.serve.Goals as goal
 
 pub loop-init : goal.loop-init
 loop-init g c = record {
-  continues = Continues-same _;
-  crashes = behind-still g.D.Disk.held g.D.Disk.images g.D.Disk.moment g.D.Disk.images_since _ _ g.met.D.Disk.only_now refl;
+  proceeds = Proceeds-same g.D.Disk _ g.met.D.Disk.only_now;
   key = c.requires.key;
   answered = answered-start AnswersGuard _ _ _ _ c.new-lines.ensures;
-  faults = later-same _;
   none = c.requires.none;
   source_later = omega arith;
   sink_later = omega arith;
@@ -40,7 +37,7 @@ returns-in-Write-clause-front g c = λ five.
 
 pub returns-in-Memory-clause-until : goal.returns-in-Memory-clause-until
 returns-in-Memory-clause-until g c = λ not_zero not_five.
-    answered-begun IsLine AnswersGuard _ _ _ _ _ _ _ _ _ _ _ c.in-Ok-Some.line (stops-memory _ _ c.in-Ok-Some.line.text c.line.ensures.continues c.line.ensures.faults (c.in-Memory.ensures.memory refl)) c.loop.invariant.answered
+    answered-begun IsLine AnswersGuard _ _ _ _ _ _ _ _ _ _ _ c.in-Ok-Some.line (stops-memory _ _ c.in-Ok-Some.line.text c.line.ensures.proceeds.continues (later-seen g.D.Disk _ _ _ _ c.line.ensures.proceeds) (c.in-Memory.ensures.memory refl)) c.loop.invariant.answered
     (rw c.in-Ok-Some.field-0-is at c.in-Ok-Some.ensures.reads) (ap g.K.Sink.held (c.in-Memory.ensures.same_memory refl))
 
 pub returns-in-Err-clause-until : goal.returns-in-Err-clause-until
@@ -51,27 +48,23 @@ returns-in-Err-clause-until g c = λ not_zero not_five.
 pub returns-in-Unbooted-clause-until : goal.returns-in-Unbooted-clause-until
 returns-in-Unbooted-clause-until g c = λ not_zero not_five.
     answered-unbooted IsLine AnswersGuard _ _ _ _ _ _ _ _ _ _ _ _ c.in-Ok-Some.line _
-    (stops-restart _ _ c.in-Ok-Some.line.text _ _ c.unbooted.ensures.status c.line.ensures.continues c.line.ensures.faults (c.in-Unbooted.ensures.unbooted _ refl))
+    (stops-restart _ _ c.in-Ok-Some.line.text _ _ c.unbooted.ensures.status c.line.ensures.proceeds.continues (later-seen g.D.Disk _ _ _ _ c.line.ensures.proceeds) (c.in-Unbooted.ensures.unbooted _ refl))
     c.loop.invariant.answered (rw c.in-Ok-Some.field-0-is at c.in-Ok-Some.ensures.reads) c.unbooted.ensures.status (rw (c.in-Unbooted.ensures.same_unbooted _ refl) at c.unbooted.ensures.written)
 
-pub returns-in-Unbooted-clause-continues : goal.returns-in-Unbooted-clause-continues
-returns-in-Unbooted-clause-continues g c = Continues-trans _ _ _ c.loop.invariant.continues c.line.ensures.continues
-
-pub returns-in-Unbooted-clause-crashes : goal.returns-in-Unbooted-clause-crashes
-returns-in-Unbooted-clause-crashes g c =
-    behind-trans g.D.Disk.held g.D.Disk.images g.D.Disk.moment g.D.Disk.images_since _ _ _ g.met.D.Disk.counts_now c.loop.invariant.continues c.line.ensures.continues c.loop.invariant.crashes c.line.ensures.crashes
+pub returns-in-Unbooted-clause-proceeds : goal.returns-in-Unbooted-clause-proceeds
+returns-in-Unbooted-clause-proceeds g c = Proceeds-trans g.D.Disk _ _ _ g.met.D.Disk.counts_now c.loop.invariant.proceeds c.line.ensures.proceeds
 
 pub returns-in-Unbooted-clause-failed : goal.returns-in-Unbooted-clause-failed
 returns-in-Unbooted-clause-failed g c = λ six.
     let old = seen g.D.Disk.faults c.loop.session.guard c.loop.session.last in
     let new = seen g.D.Disk.faults c.line.new.self.guard c.line.new.self.last in
-    rose-later _ _ _ c.loop.invariant.faults.disk (failed-then _ _ old new c.unbooted.ensures.status (c.in-Unbooted.ensures.unbooted _ refl).1.cause six)
+    rose-later _ _ _ c.loop.invariant.proceeds.disk_faults (failed-then _ _ old new c.unbooted.ensures.status (c.in-Unbooted.ensures.unbooted _ refl).1.cause six)
 
 pub returns-in-Unbooted-clause-untold : goal.returns-in-Unbooted-clause-untold
 returns-in-Unbooted-clause-untold g c = λ seven.
     let old = seen g.D.Disk.faults c.loop.session.guard c.loop.session.last in
     let new = seen g.D.Disk.faults c.line.new.self.guard c.line.new.self.last in
-    sym c.loop.invariant.continues.disk_told ∙ untold-then _ _ old new c.unbooted.ensures.status (c.in-Unbooted.ensures.unbooted _ refl).1.cause seven
+    sym c.loop.invariant.proceeds.continues.disk_told ∙ untold-then _ _ old new c.unbooted.ensures.status (c.in-Unbooted.ensures.unbooted _ refl).1.cause seven
 
 pub returns-in-Unbooted-clause-full : goal.returns-in-Unbooted-clause-full
 returns-in-Unbooted-clause-full g c = λ twelve.
@@ -88,29 +81,17 @@ returns-in-Ok-None-clause-fewer g c = λ zero. read-fewer _ _ _ _ _ c.loop.invar
 pub returns-in-Ok-None-clause-lines : goal.returns-in-Ok-None-clause-lines
 returns-in-Ok-None-clause-lines g c = λ zero. read-end _ _ _ _ _ c.loop.invariant.read (rw c.in-Ok-None.field-0-is at c.in-Ok-None.ensures.reads)
 
-pub returns-in-NotALine-clause-continues : goal.returns-in-NotALine-clause-continues
-returns-in-NotALine-clause-continues g c = Continues-trans _ _ _ c.loop.invariant.continues c.line.ensures.continues
-
-pub returns-in-NotALine-clause-crashes : goal.returns-in-NotALine-clause-crashes
-returns-in-NotALine-clause-crashes g c =
-    behind-trans g.D.Disk.held g.D.Disk.images g.D.Disk.moment g.D.Disk.images_since _ _ _ g.met.D.Disk.counts_now c.loop.invariant.continues c.line.ensures.continues c.loop.invariant.crashes c.line.ensures.crashes
+pub returns-in-NotALine-clause-proceeds : goal.returns-in-NotALine-clause-proceeds
+returns-in-NotALine-clause-proceeds g c = Proceeds-trans g.D.Disk _ _ _ g.met.D.Disk.counts_now c.loop.invariant.proceeds c.line.ensures.proceeds
 
 pub returns-in-NotALine-clause-not_a_line : goal.returns-in-NotALine-clause-not_a_line
 returns-in-NotALine-clause-not_a_line g c = λ four. read-stop _ _ _ _ _ c.in-Ok-Some.line c.loop.invariant.read (rw c.in-Ok-Some.field-0-is at c.in-Ok-Some.ensures.reads) (c.in-NotALine.ensures.no_line refl)
 
-pub returns-in-Write-clause-continues : goal.returns-in-Write-clause-continues
-returns-in-Write-clause-continues g c = Continues-trans _ _ _ c.loop.invariant.continues c.line.ensures.continues
+pub returns-in-Write-clause-proceeds : goal.returns-in-Write-clause-proceeds
+returns-in-Write-clause-proceeds g c = Proceeds-trans g.D.Disk _ _ _ g.met.D.Disk.counts_now c.loop.invariant.proceeds c.line.ensures.proceeds
 
-pub returns-in-Write-clause-crashes : goal.returns-in-Write-clause-crashes
-returns-in-Write-clause-crashes g c =
-    behind-trans g.D.Disk.held g.D.Disk.images g.D.Disk.moment g.D.Disk.images_since _ _ _ g.met.D.Disk.counts_now c.loop.invariant.continues c.line.ensures.continues c.loop.invariant.crashes c.line.ensures.crashes
-
-pub returns-in-Memory-clause-continues : goal.returns-in-Memory-clause-continues
-returns-in-Memory-clause-continues g c = Continues-trans _ _ _ c.loop.invariant.continues c.line.ensures.continues
-
-pub returns-in-Memory-clause-crashes : goal.returns-in-Memory-clause-crashes
-returns-in-Memory-clause-crashes g c =
-    behind-trans g.D.Disk.held g.D.Disk.images g.D.Disk.moment g.D.Disk.images_since _ _ _ g.met.D.Disk.counts_now c.loop.invariant.continues c.line.ensures.continues c.loop.invariant.crashes c.line.ensures.crashes
+pub returns-in-Memory-clause-proceeds : goal.returns-in-Memory-clause-proceeds
+returns-in-Memory-clause-proceeds g c = Proceeds-trans g.D.Disk _ _ _ g.met.D.Disk.counts_now c.loop.invariant.proceeds c.line.ensures.proceeds
 
 pub returns-in-Err-clause-not_a_line : goal.returns-in-Err-clause-not_a_line
 returns-in-Err-clause-not_a_line g c = λ four. read-fault _ _ _ _ _ c.in-Err.fault c.loop.invariant.read c.in-Err.ensures.reads (sym c.faulty.ensures.status ∙ four)
@@ -120,11 +101,9 @@ returns-in-Err-clause-quota g c = λ ten. read-quota _ _ _ _ _ c.in-Err.fault c.
 
 pub loop-preserved : goal.loop-preserved
 loop-preserved g c = record {
-  continues = Continues-trans _ _ _ c.loop.invariant.continues c.line.ensures.continues;
-  crashes = behind-trans g.D.Disk.held g.D.Disk.images g.D.Disk.moment g.D.Disk.images_since _ _ _ g.met.D.Disk.counts_now c.loop.invariant.continues c.line.ensures.continues c.loop.invariant.crashes c.line.ensures.crashes;
+  proceeds = Proceeds-trans g.D.Disk _ _ _ g.met.D.Disk.counts_now c.loop.invariant.proceeds c.line.ensures.proceeds;
   key = c.line.ensures.key;
   answered = answered-line AnswersGuard _ _ _ _ _ _ _ _ _ _ _ c.in-Ok-Some.line c.loop.invariant.answered (rw c.in-Ok-Some.field-0-is at c.in-Ok-Some.ensures.reads) (c.in-More.ensures.more refl);
-  faults = later-trans _ _ _ c.loop.invariant.faults c.line.ensures.faults;
   none = c.line.ensures.none;
   source_later = omega (arith, c.loop.invariant.source_later, c.next.ensures.later);
   sink_later = omega (arith, c.loop.invariant.sink_later, c.line.ensures.later);

@@ -12,10 +12,10 @@ pub returns-clause-upholds : goal.returns-clause-upholds
 returns-clause-upholds g c = upholds-same _ _ _ _ _ _ c.requires.starts c.requires.at_rest
 
 pub returns-then-is_word-2-clause-any_moment : goal.returns-then-is_word-2-clause-any_moment
-returns-then-is_word-2-clause-any_moment g c = moments-same g.D.Disk.held g.D.Disk.images g.D.Disk.moment g.D.Disk.images_since g.met.D.Disk.as_read _ _ _ g.met.D.Disk.only_now c.requires.at_rest c.token.ensures.same_disk
+returns-then-is_word-2-clause-any_moment g c = moments-same g.D.Disk g.met.D.Disk.as_read _ _ _ g.met.D.Disk.only_now c.requires.at_rest c.token.ensures.same_disk
 
 pub returns-clause-any_moment : goal.returns-clause-any_moment
-returns-clause-any_moment g c = moments-same g.D.Disk.held g.D.Disk.images g.D.Disk.moment g.D.Disk.images_since g.met.D.Disk.as_read _ _ _ g.met.D.Disk.only_now c.requires.at_rest refl
+returns-clause-any_moment g c = moments-same g.D.Disk g.met.D.Disk.as_read _ _ _ g.met.D.Disk.only_now c.requires.at_rest refl
 
 pub returns-then-is_word-2-clause-token_finishes : goal.returns-then-is_word-2-clause-token_finishes
 returns-then-is_word-2-clause-token_finishes g c = λ words.

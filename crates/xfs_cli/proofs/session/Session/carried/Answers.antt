@@ -1,15 +1,14 @@
 use Rattle.std.proofs.Common.{inr, refl, ap}
-use Rattle.xfs_guard.proofs.ContinueLaws.{Continues-trans}
+use Rattle.xfs_guard.proofs.KeepsLaws.{Proceeds-same, Proceeds-trans}
 use Rattle.xfs_cli.specs.Seen.{seen}
 use Rattle.xfs_cli.proofs.SeenLaws.{carried-err, stopped-order}
-use Rattle.xfs_guard.proofs.BehindLaws.{behind-trans}
 use Rattle.xfs_cli.proofs.session.Session.carried.Goals as goal
 
 pub returns-in_err-order-clause-carried : goal.returns-in_err-order-clause-carried
 returns-in_err-order-clause-carried g c = λ some.
     let e = c.in_err-order.ensures in
     carried-err _ _ c.from_residual.result c.in_err-order.field-0.0 _ c.from_residual.ensures.1 some
-    (stopped-order g.D.Disk.faults c.args.self.now.guard c.order.new.self c.args.self.now.last c.args.ask c.in_err-order.field-0.0 e.refused e.disk e.later e.cause e.same)
+    (stopped-order g.D.Disk.faults c.args.self.now.guard c.order.new.self c.args.self.now.last c.args.ask c.in_err-order.field-0.0 e.refused e.disk e.keeps.proceeds.disk_faults e.cause e.same)
 
 pub returns-in_err-settle-clause-carried : goal.returns-in_err-settle-clause-carried
 returns-in_err-settle-clause-carried g c = λ some.
@@ -24,25 +23,20 @@ returns-in_err-settle-clause-carried g c = λ some.
         acted = seen g.D.Disk.faults c.act-outcome.new.self c.args.self.now.last;
         first = record {
           written = seen g.D.Disk.faults c.order.new.self c.args.self.now.last;
-          order = record { guard_is = e.ok; later = e.later; last_is = refl };
+          order = record { guard_is = e.ok; later = e.keeps.proceeds.disk_faults; last_is = refl };
           acts = a.acted;
-          called = record { later = a.later; cause = a.cause; disk_same = ap g.D.Disk.faults a.same; last_is = refl };
+          called = record { later = a.keeps.proceeds.mech_faults; cause = a.cause; disk_same = ap g.D.Disk.faults a.same; last_is = refl };
         };
         unsettles = s.disk;
-        later = s.later;
+        later = s.keeps.proceeds.disk_faults;
         cause = s.cause;
         last_is = refl;
       }),
     ))
 
-pub returns-in_err-settle-clause-continues : goal.returns-in_err-settle-clause-continues
-returns-in_err-settle-clause-continues g c =
-    Continues-trans _ _ _ c.in_ok-order.ensures.continues (Continues-trans _ _ _ c.act-outcome.ensures.continues c.in_err-settle.ensures.continues)
-
-pub returns-in_err-settle-clause-crashes : goal.returns-in_err-settle-clause-crashes
-returns-in_err-settle-clause-crashes g c =
-    behind-trans g.D.Disk.held g.D.Disk.images g.D.Disk.moment g.D.Disk.images_since _ _ _ g.met.D.Disk.counts_now c.in_ok-order.ensures.continues (Continues-trans _ _ _ c.act-outcome.ensures.continues c.in_err-settle.ensures.continues) c.in_ok-order.ensures.crashes
-    (behind-trans g.D.Disk.held g.D.Disk.images g.D.Disk.moment g.D.Disk.images_since _ _ _ g.met.D.Disk.counts_now c.act-outcome.ensures.continues c.in_err-settle.ensures.continues c.act-outcome.ensures.crashes c.in_err-settle.ensures.crashes)
+pub returns-in_err-settle-clause-proceeds : goal.returns-in_err-settle-clause-proceeds
+returns-in_err-settle-clause-proceeds g c =
+    Proceeds-trans g.D.Disk _ _ _ g.met.D.Disk.counts_now c.in_ok-order.ensures.keeps.proceeds (Proceeds-trans g.D.Disk _ _ _ g.met.D.Disk.counts_now c.act-outcome.ensures.keeps.proceeds c.in_err-settle.ensures.keeps.proceeds)
 
 pub returns-clause-carried : goal.returns-clause-carried
 returns-clause-carried g c = λ some.
@@ -54,21 +48,16 @@ returns-clause-carried g c = λ some.
         acted = seen g.D.Disk.faults c.act-outcome.new.self c.args.self.now.last;
         first = record {
           written = seen g.D.Disk.faults c.order.new.self c.args.self.now.last;
-          order = record { guard_is = e.ok; later = e.later; last_is = refl };
+          order = record { guard_is = e.ok; later = e.keeps.proceeds.disk_faults; last_is = refl };
           acts = a.acted;
-          called = record { later = a.later; cause = a.cause; disk_same = ap g.D.Disk.faults a.same; last_is = refl };
+          called = record { later = a.keeps.proceeds.mech_faults; cause = a.cause; disk_same = ap g.D.Disk.faults a.same; last_is = refl };
         };
         settles = s.settled;
-        later = s.later;
+        later = s.keeps.proceeds.disk_faults;
         last_is = refl;
       },
     )
 
-pub returns-clause-continues : goal.returns-clause-continues
-returns-clause-continues g c =
-    Continues-trans _ _ _ c.in_ok-order.ensures.continues (Continues-trans _ _ _ c.act-outcome.ensures.continues c.in_ok-settle.ensures.continues)
-
-pub returns-clause-crashes : goal.returns-clause-crashes
-returns-clause-crashes g c =
-    behind-trans g.D.Disk.held g.D.Disk.images g.D.Disk.moment g.D.Disk.images_since _ _ _ g.met.D.Disk.counts_now c.in_ok-order.ensures.continues (Continues-trans _ _ _ c.act-outcome.ensures.continues c.in_ok-settle.ensures.continues) c.in_ok-order.ensures.crashes
-    (behind-trans g.D.Disk.held g.D.Disk.images g.D.Disk.moment g.D.Disk.images_since _ _ _ g.met.D.Disk.counts_now c.act-outcome.ensures.continues c.in_ok-settle.ensures.continues c.act-outcome.ensures.crashes c.in_ok-settle.ensures.crashes)
+pub returns-clause-proceeds : goal.returns-clause-proceeds
+returns-clause-proceeds g c =
+    Proceeds-trans g.D.Disk _ _ _ g.met.D.Disk.counts_now c.in_ok-order.ensures.keeps.proceeds (Proceeds-trans g.D.Disk _ _ _ g.met.D.Disk.counts_now c.act-outcome.ensures.keeps.proceeds c.in_ok-settle.ensures.keeps.proceeds)

@@ -1,10 +1,9 @@
 use Rattle.std.proofs.Common.{Ok, Err, inl, inr, refl, ap}
 use Rattle.std.specs.Prelude.{codes}
 use Rattle.std.proofs.lemmas.Result.{IfOk-weaker}
-use Rattle.xfs_guard.proofs.ContinueLaws.{Continues-trans}
+use Rattle.xfs_guard.proofs.KeepsLaws.{Proceeds-same, Proceeds-trans}
 use Rattle.xfs_cli.proofs.DispenseLaws.{few-permitted}
 use Rattle.xfs_cli.proofs.SeenLaws.{err-same, told-some}
-use Rattle.xfs_guard.proofs.BehindLaws.{behind-trans}
 use Rattle.xfs_cli.specs.Seen.{seen}
 use Rattle.xfs_cli.specs.DispenseAnswers.{Dispenses, named}
 use Rattle.xfs_cli.specs.GuardAnswers.{outcome_text}
@@ -17,21 +16,13 @@ returns-in-Err-clause-answer g c =
     IfOk-weaker c.refusal_text.result _ _ (λ text told. inl (record { refusal = c.in-Err.refusal; forbidden = c.in-Err.ensures.refused (told-some c.in-Err.refusal text.items told); text = told })) c.refusal_text.ensures
 
 pub stacked-requires-clause-few : goal.stacked-requires-clause-few
-stacked-requires-clause-few g c = rw c.permitted.ensures.continues.units (few-permitted _ _ c.args.counts.now _ _ c.in-Ok.ensures.ok)
+stacked-requires-clause-few g c = rw c.permitted.ensures.proceeds.continues.units (few-permitted _ _ c.args.counts.now _ _ c.in-Ok.ensures.ok)
 
-pub returns-in-Ok-stacked-clause-continues : goal.returns-in-Ok-stacked-clause-continues
-returns-in-Ok-stacked-clause-continues g c = Continues-trans _ _ _ c.permitted.ensures.continues c.stacked.ensures.continues
+pub returns-in-Ok-stacked-clause-proceeds : goal.returns-in-Ok-stacked-clause-proceeds
+returns-in-Ok-stacked-clause-proceeds g c = Proceeds-trans g.D.Disk _ _ _ g.met.D.Disk.counts_now c.permitted.ensures.proceeds c.stacked.ensures.proceeds
 
-pub returns-in-Ok-stacked-clause-crashes : goal.returns-in-Ok-stacked-clause-crashes
-returns-in-Ok-stacked-clause-crashes g c =
-    behind-trans g.D.Disk.held g.D.Disk.images g.D.Disk.moment g.D.Disk.images_since _ _ _ g.met.D.Disk.counts_now c.permitted.ensures.continues c.stacked.ensures.continues c.permitted.ensures.crashes c.stacked.ensures.crashes
-
-pub returns-in-Err-stacked-clause-continues : goal.returns-in-Err-stacked-clause-continues
-returns-in-Err-stacked-clause-continues g c = Continues-trans _ _ _ c.permitted.ensures.continues c.stacked.ensures.continues
-
-pub returns-in-Err-stacked-clause-crashes : goal.returns-in-Err-stacked-clause-crashes
-returns-in-Err-stacked-clause-crashes g c =
-    behind-trans g.D.Disk.held g.D.Disk.images g.D.Disk.moment g.D.Disk.images_since _ _ _ g.met.D.Disk.counts_now c.permitted.ensures.continues c.stacked.ensures.continues c.permitted.ensures.crashes c.stacked.ensures.crashes
+pub returns-in-Err-stacked-clause-proceeds : goal.returns-in-Err-stacked-clause-proceeds
+returns-in-Err-stacked-clause-proceeds g c = Proceeds-trans g.D.Disk _ _ _ g.met.D.Disk.counts_now c.permitted.ensures.proceeds c.stacked.ensures.proceeds
 
 pub returns-in-Err-clause-memory : goal.returns-in-Err-clause-memory
 returns-in-Err-clause-memory g c =

@@ -1,6 +1,6 @@
 use Rattle.std.proofs.Common.{◌≡◌, ◌∙◌, Err, subst, ap}
 use Rattle.xfs_guard.specs.declared.fail.BootFault.{BootFault}
-use Rattle.xfs_guard.proofs.ContinueLaws.{Continues-same}
+use Rattle.xfs_guard.proofs.KeepsLaws.{Proceeds-same, Proceeds-trans}
 use Rattle.xfs_script.specs.Guard.{IsGuardLine}
 use Rattle.xfs_cli.specs.declared.answer.Turn.TheVariants.{Unbooted}
 use Rattle.xfs_cli.proofs.SeenLaws.{restart-line}
@@ -11,11 +11,11 @@ use Rattle.xfs_cli.proofs.session.Session.line.Goals as goal
 turn-same : {a b : BootFault} → Unbooted a ≡ Unbooted b → a ≡ b
 turn-same e = cc
 
-pub returns-in-Err-NotALine-clause-continues : goal.returns-in-Err-NotALine-clause-continues
-returns-in-Err-NotALine-clause-continues g c = Continues-same _
+pub returns-in-Err-NotALine-clause-proceeds : goal.returns-in-Err-NotALine-clause-proceeds
+returns-in-Err-NotALine-clause-proceeds g c = Proceeds-same g.D.Disk _ g.met.D.Disk.only_now
 
-pub returns-in-Err-Memory-clause-continues : goal.returns-in-Err-Memory-clause-continues
-returns-in-Err-Memory-clause-continues g c = Continues-same _
+pub returns-in-Err-Memory-clause-proceeds : goal.returns-in-Err-Memory-clause-proceeds
+returns-in-Err-Memory-clause-proceeds g c = Proceeds-same g.D.Disk _ g.met.D.Disk.only_now
 
 pub returns-in-Err-Unbooted-clause-unbooted : goal.returns-in-Err-Unbooted-clause-unbooted
 returns-in-Err-Unbooted-clause-unbooted g c = λ fault is.

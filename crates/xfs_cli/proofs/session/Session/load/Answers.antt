@@ -1,10 +1,9 @@
 use Rattle.std.proofs.Common.{◌≡◌, ◌∙◌, inl, inr, refl, ap, arith}
 use Rattle.std.proofs.lemmas.Result.{IfOk-weaker}
-use Rattle.xfs_guard.proofs.ContinueLaws.{Continues-trans}
+use Rattle.xfs_guard.proofs.KeepsLaws.{Proceeds-same, Proceeds-trans}
 use Rattle.xfs_guard.specs.View.{View}
 use Rattle.xfs_cli.specs.Seen.{seen}
-use Rattle.xfs_cli.proofs.SeenLaws.{wrote-kept, wrote-err, later-err, later-trans, none-err}
-use Rattle.xfs_guard.proofs.BehindLaws.{behind-trans}
+use Rattle.xfs_cli.proofs.SeenLaws.{wrote-kept, wrote-err, none-err}
 use Rattle.std.specs.Prelude.{codes}
 use Rattle.xfs_cli.specs.declared.refused.Refusal.TheVariants.{Deny as Denied}
 use Rattle.xfs_cli.proofs.BegunLaws.{on-err, has-text, denied-same, not-disk, part-filled}
@@ -19,7 +18,7 @@ returns-then-outcome-clause-answer g c =
       outcome = c.in_ok-outcome.outcome;
       loaded = seen g.D.Disk.faults c.load.new.self c.args.self.now.last;
       reported = e.ok;
-      called = record { later = e.later; cause = e.cause; disk_same = ap g.D.Disk.faults e.same; last_is = refl };
+      called = record { later = e.keeps.proceeds.mech_faults; cause = e.cause; disk_same = ap g.D.Disk.faults e.same; last_is = refl };
       noted = inl (c.if-outcome.true, told, refl);
     }) c.joined.ensures
 
@@ -35,16 +34,12 @@ returns-in-Ok-clause-answer g c =
       outcome = c.in_ok-outcome.outcome;
       loaded = loaded;
       reported = e.ok;
-      called = record { later = e.later; cause = e.cause; disk_same = ap g.D.Disk.faults e.same; last_is = refl };
-      noted = inr (c.if-outcome.false, wrote-kept loaded noted _ _ _ _ text.items w.refused w.ok w.later refl told);
+      called = record { later = e.keeps.proceeds.mech_faults; cause = e.cause; disk_same = ap g.D.Disk.faults e.same; last_is = refl };
+      noted = inr (c.if-outcome.false, wrote-kept loaded noted _ _ _ _ text.items w.refused w.ok w.keeps.proceeds.disk_faults refl told);
     }) c.joined-in-Ok.ensures
 
-pub returns-in-Ok-clause-continues : goal.returns-in-Ok-clause-continues
-returns-in-Ok-clause-continues g c = Continues-trans _ _ _ c.in_ok-outcome.ensures.continues c.note_load.ensures.continues
-
-pub returns-in-Ok-clause-crashes : goal.returns-in-Ok-clause-crashes
-returns-in-Ok-clause-crashes g c =
-    behind-trans g.D.Disk.held g.D.Disk.images g.D.Disk.moment g.D.Disk.images_since _ _ _ g.met.D.Disk.counts_now c.in_ok-outcome.ensures.continues c.note_load.ensures.continues c.in_ok-outcome.ensures.crashes c.note_load.ensures.crashes
+pub returns-in-Ok-clause-proceeds : goal.returns-in-Ok-clause-proceeds
+returns-in-Ok-clause-proceeds g c = Proceeds-trans g.D.Disk _ _ _ g.met.D.Disk.counts_now c.in_ok-outcome.ensures.keeps.proceeds c.note_load.ensures.keeps.proceeds
 
 pub returns-in-Err-clause-answer : goal.returns-in-Err-clause-answer
 returns-in-Err-clause-answer g c =
@@ -56,24 +51,12 @@ returns-in-Err-clause-answer g c =
       outcome = c.in_ok-outcome.outcome;
       loaded = seen g.D.Disk.faults c.load.new.self c.args.self.now.last;
       reported = e.ok;
-      called = record { later = e.later; cause = e.cause; disk_same = ap g.D.Disk.faults e.same; last_is = refl };
-      noted = inr (c.if-outcome.false, wrote-err (Unit {0}) g.D.Disk.faults c.load.new.self c.note_load.new.self c.args.self.now.last _ _ _ _ text.items c.in-Err.deny w.refused w.disk w.later w.cause w.same told);
+      called = record { later = e.keeps.proceeds.mech_faults; cause = e.cause; disk_same = ap g.D.Disk.faults e.same; last_is = refl };
+      noted = inr (c.if-outcome.false, wrote-err (Unit {0}) g.D.Disk.faults c.load.new.self c.note_load.new.self c.args.self.now.last _ _ _ _ text.items c.in-Err.deny w.refused w.disk w.keeps.proceeds.disk_faults w.cause w.same told);
     }) c.refusal_text.ensures
 
-pub returns-in-Err-clause-continues : goal.returns-in-Err-clause-continues
-returns-in-Err-clause-continues g c = Continues-trans _ _ _ c.in_ok-outcome.ensures.continues c.note_load.ensures.continues
-
-pub returns-in-Err-clause-crashes : goal.returns-in-Err-clause-crashes
-returns-in-Err-clause-crashes g c =
-    behind-trans g.D.Disk.held g.D.Disk.images g.D.Disk.moment g.D.Disk.images_since _ _ _ g.met.D.Disk.counts_now c.in_ok-outcome.ensures.continues c.note_load.ensures.continues c.in_ok-outcome.ensures.crashes c.note_load.ensures.crashes
-
-pub returns-in-Err-clause-later : goal.returns-in-Err-clause-later
-returns-in-Err-clause-later g c =
-    let e = c.in_ok-outcome.ensures in
-    let w = c.in-Err.ensures in
-    let same : g.D.Disk.faults c.load.new.self.disk ≡ g.D.Disk.faults c.args.self.now.guard.disk = ap g.D.Disk.faults e.same in
-    later-trans (seen g.D.Disk.faults c.args.self.now.guard c.args.self.now.last) (seen g.D.Disk.faults c.load.new.self c.args.self.now.last) _ (record { mech = e.later; disk = omega (arith, same) })
-    (later-err (Unit {0}) g.D.Disk.faults c.load.new.self c.note_load.new.self _ _ _ c.in-Err.deny w.disk w.later w.same)
+pub returns-in-Err-clause-proceeds : goal.returns-in-Err-clause-proceeds
+returns-in-Err-clause-proceeds g c = Proceeds-trans g.D.Disk _ _ _ g.met.D.Disk.counts_now c.in_ok-outcome.ensures.keeps.proceeds c.note_load.ensures.keeps.proceeds
 
 pub returns-in-Err-clause-none : goal.returns-in-Err-clause-none
 returns-in-Err-clause-none g c =
@@ -92,7 +75,7 @@ returns-then-outcome-clause-memory g c =
         outcome = c.in_ok-outcome.outcome;
         loaded = seen g.D.Disk.faults c.load.new.self c.args.self.now.last;
         reported = e.ok;
-        called = record { later = e.later; cause = e.cause; disk_same = ap g.D.Disk.faults e.same; last_is = refl };
+        called = record { later = e.keeps.proceeds.mech_faults; cause = e.cause; disk_same = ap g.D.Disk.faults e.same; last_is = refl };
         noted = inl (c.if-outcome.true, refl, refl);
       },
     )))
@@ -111,8 +94,8 @@ returns-in-Ok-clause-memory g c =
         outcome = c.in_ok-outcome.outcome;
         loaded = loaded;
         reported = e.ok;
-        called = record { later = e.later; cause = e.cause; disk_same = ap g.D.Disk.faults e.same; last_is = refl };
-        noted = inr (c.if-outcome.false, wrote-kept loaded noted _ _ _ _ (codes "filled") w.refused w.ok w.later refl refl);
+        called = record { later = e.keeps.proceeds.mech_faults; cause = e.cause; disk_same = ap g.D.Disk.faults e.same; last_is = refl };
+        noted = inr (c.if-outcome.false, wrote-kept loaded noted _ _ _ _ (codes "filled") w.refused w.ok w.keeps.proceeds.disk_faults refl refl);
       },
     )))
 
@@ -122,7 +105,7 @@ returns-in-Err-clause-memory g c =
     let w = c.in-Err.ensures in
     on-err c.refusal_text.result _ (elim (has-text (Denied c.in-Err.deny)) [
       | inl is ↦ inr (part-filled g.D.Disk.faults c.args.self.now.guard c.load.new.self c.note_load.new.self c.args.self.now.last _ _ c.in_ok-outcome.outcome c.requires.fits c.requires.fit e.ok
-          (record { later = e.later; cause = e.cause; disk_same = ap g.D.Disk.faults e.same; last_is = refl }) c.if-outcome.false (w.same (not-disk c.in-Err.deny (denied-same is))))
+          (record { later = e.keeps.proceeds.mech_faults; cause = e.cause; disk_same = ap g.D.Disk.faults e.same; last_is = refl }) c.if-outcome.false (w.same (not-disk c.in-Err.deny (denied-same is))))
       | inr text ↦ inl (inr (
         text.0,
         record {
@@ -131,8 +114,8 @@ returns-in-Err-clause-memory g c =
           outcome = c.in_ok-outcome.outcome;
           loaded = seen g.D.Disk.faults c.load.new.self c.args.self.now.last;
           reported = e.ok;
-          called = record { later = e.later; cause = e.cause; disk_same = ap g.D.Disk.faults e.same; last_is = refl };
-          noted = inr (c.if-outcome.false, wrote-err (Unit {0}) g.D.Disk.faults c.load.new.self c.note_load.new.self c.args.self.now.last _ _ _ _ text.0 c.in-Err.deny w.refused w.disk w.later w.cause w.same text.1);
+          called = record { later = e.keeps.proceeds.mech_faults; cause = e.cause; disk_same = ap g.D.Disk.faults e.same; last_is = refl };
+          noted = inr (c.if-outcome.false, wrote-err (Unit {0}) g.D.Disk.faults c.load.new.self c.note_load.new.self c.args.self.now.last _ _ _ _ text.0 c.in-Err.deny w.refused w.disk w.keeps.proceeds.disk_faults w.cause w.same text.1);
         },
       ))
     ])

@@ -1,20 +1,17 @@
 use Rattle.std.proofs.Common.{◌≡◌, Ok, ap, arith, drop, length, refl, sym, subst, ◌∙◌}
 use Rattle.std.specs.Prelude.{IsTrue}
 use Rattle.xfs_mix.specs.Asked.{is_none}
-use Rattle.xfs_guard.proofs.ContinueLaws.{Continues-same, Continues-trans}
+use Rattle.xfs_guard.proofs.KeepsLaws.{Proceeds-same, Proceeds-trans}
 use Rattle.xfs_cli.specs.Seen.{seen}
-use Rattle.xfs_cli.proofs.SeenLaws.{later-same, later-trans, stacks-next, stacks-stop, stacks-none}
-use Rattle.xfs_guard.proofs.BehindLaws.{behind-trans, behind-still}
+use Rattle.xfs_cli.proofs.SeenLaws.{stacks-next, stacks-stop, stacks-none}
 use Rattle.xfs_cli.specs.Begun.{StacksFirst}
 use Rattle.xfs_cli.proofs.BegunLaws.{front-unit, front-first, seen-both, deny-memory, not-disk}
 use Rattle.xfs_cli.proofs.session.Session.stacked.Goals as goal
 
 pub loop-place-init : goal.loop-place-init
 loop-place-init g c = record {
-  continues = Continues-same _;
-  crashes = behind-still g.D.Disk.held g.D.Disk.images g.D.Disk.moment g.D.Disk.images_since _ _ g.met.D.Disk.only_now refl;
+  proceeds = Proceeds-same g.D.Disk _ g.met.D.Disk.only_now;
   none = c.requires.none;
-  later = later-same _;
   key = refl;
   fine = refl;
   front = λ more result next h. h;
@@ -26,26 +23,16 @@ returns-in_err-outcome-clause-stacked g c = λ some.
     c.loop-place.invariant.onward c.from_residual.result _
     (stacks-stop _ _ _ _ _ _ _ c.carried.result c.from_residual.result c.in_err-outcome.field-0.0 c.from-at.ensures c.if-count-eq0.false c.in_err-outcome.was c.from_residual.ensures.1 some c.carried.ensures.carried)
 
-pub returns-in_err-outcome-clause-continues : goal.returns-in_err-outcome-clause-continues
-returns-in_err-outcome-clause-continues g c = Continues-trans _ _ _ c.loop-place.invariant.continues c.carried.ensures.continues
+pub returns-in_err-outcome-clause-proceeds : goal.returns-in_err-outcome-clause-proceeds
+returns-in_err-outcome-clause-proceeds g c = Proceeds-trans g.D.Disk _ _ _ g.met.D.Disk.counts_now c.loop-place.invariant.proceeds c.carried.ensures.proceeds
 
-pub returns-in_err-outcome-clause-crashes : goal.returns-in_err-outcome-clause-crashes
-returns-in_err-outcome-clause-crashes g c =
-    behind-trans g.D.Disk.held g.D.Disk.images g.D.Disk.moment g.D.Disk.images_since _ _ _ g.met.D.Disk.counts_now c.loop-place.invariant.continues c.carried.ensures.continues c.loop-place.invariant.crashes c.carried.ensures.crashes
-
-pub returns-then-all-clause-continues : goal.returns-then-all-clause-continues
-returns-then-all-clause-continues g c = Continues-trans _ _ _ c.loop-place.invariant.continues c.carried.ensures.continues
-
-pub returns-then-all-clause-crashes : goal.returns-then-all-clause-crashes
-returns-then-all-clause-crashes g c =
-    behind-trans g.D.Disk.held g.D.Disk.images g.D.Disk.moment g.D.Disk.images_since _ _ _ g.met.D.Disk.counts_now c.loop-place.invariant.continues c.carried.ensures.continues c.loop-place.invariant.crashes c.carried.ensures.crashes
+pub returns-then-all-clause-proceeds : goal.returns-then-all-clause-proceeds
+returns-then-all-clause-proceeds g c = Proceeds-trans g.D.Disk _ _ _ g.met.D.Disk.counts_now c.loop-place.invariant.proceeds c.carried.ensures.proceeds
 
 pub loop-place-preserved : goal.loop-place-preserved
 loop-place-preserved g c = record {
-  continues = Continues-trans _ _ _ c.loop-place.invariant.continues c.carried.ensures.continues;
-  crashes = behind-trans g.D.Disk.held g.D.Disk.images g.D.Disk.moment g.D.Disk.images_since _ _ _ g.met.D.Disk.counts_now c.loop-place.invariant.continues c.carried.ensures.continues c.loop-place.invariant.crashes c.carried.ensures.crashes;
+  proceeds = Proceeds-trans g.D.Disk _ _ _ g.met.D.Disk.counts_now c.loop-place.invariant.proceeds c.carried.ensures.proceeds;
   none = c.carried.ensures.none;
-  later = later-trans _ _ _ c.loop-place.invariant.later c.carried.ensures.later;
   key = c.carried.ensures.key ∙ c.loop-place.invariant.key;
   fine = c.if-all.false;
   front = front-unit _ _ _ _ _ c.in_ok-outcome.outcome _ _ _ c.from-at.ensures c.if-count-eq0.false (c.in_ok-outcome.ensures.carried (λ e. cc)) c.if-all.false c.loop-place.invariant.front;
