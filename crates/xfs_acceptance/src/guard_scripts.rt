@@ -1,9 +1,9 @@
 //! Scripts of the command `guard` over main's bench, with the answers that the rules give.
 
-use crate::bench::{guard_over, listed};
 use std::alloc::Global;
 use std::test::Fail;
 use xfs_mech::Fault;
+use xfs_testbench::{guard_over, lines_of, listed, shown};
 
 // A script and its answers, a stroke between two lines. N stands for the first nonce, N2 for the second, and T for
 // the answer to a `mint` that gave a token.
@@ -149,7 +149,7 @@ fn scripts_are_answered_over_mechanisms_that_tell_and_that_do_not(
     for (script, answers) in SCRIPTS {
         for silent in [false, true] {
             let lines = lines_of(rt.alloc(), script.as_bytes())?;
-            let written = guard_over(&rt, rt.alloc(), &lines, &[], silent)?;
+            let written = guard_over(rt.alloc(), &lines, &[], silent)?;
             let shown = shown(rt.alloc(), &written.text)?;
             assert_eq!(rt; written.status, 0, "status of {script}");
             assert_eq!(rt; shown.as_slice(), answers.as_bytes(), "answers to {script}");
@@ -229,7 +229,7 @@ fn a_mechanism_that_fails_moves_no_more_than_it_tells(rt: HostRuntime) -> Result
         }];
         for silent in [false, true] {
             let lines = lines_of(rt.alloc(), script.as_bytes())?;
-            let written = guard_over(&rt, rt.alloc(), &lines, &faults, silent)?;
+            let written = guard_over(rt.alloc(), &lines, &faults, silent)?;
             let shown = shown(rt.alloc(), &written.text)?;
             assert_eq!(rt; written.status, 0, "status of {script}");
             assert_eq!(rt; shown.as_slice(), answers.as_bytes(), "answers to {script}");
@@ -286,7 +286,7 @@ fn tokens_may_stand_in_the_line(rt: HostRuntime) -> Result<(), Fail> {
         script.extend_from_slice(b"dispense ")?;
         script.extend_from_slice(token)?;
         script.extend_from_slice(b" unit3:1\n")?;
-        let written = guard_over(&rt, rt.alloc(), &script, &[], false)?;
+        let written = guard_over(rt.alloc(), &script, &[], false)?;
         let shown = shown(rt.alloc(), &written.text)?;
         assert_eq!(rt; written.status, 0, "status with {answers}");
         assert_eq!(rt; shown.as_slice(), answers.as_bytes(), "answer {answers}");
@@ -300,40 +300,4 @@ fn repeated(alloc: Global, byte: u8, count: usize) -> Result<Vec<u8>, Fail> {
         list.push(byte)?;
     }
     Ok(list)
-}
-
-/// The lines of a script between its strokes.
-pub fn lines_of(alloc: Global, script: &[u8]) -> Result<Vec<u8>, Fail> {
-    let mut lines = Vec::new(alloc);
-    for byte in script {
-        lines.push(if *byte == b'/' { b'\n' } else { *byte })?;
-    }
-    Ok(lines)
-}
-
-/// The answers with strokes between them, T for a token, N for the nonce of number 1, and for another N with its
-/// number's last digit.
-pub fn shown(alloc: Global, text: &[u8]) -> Result<Vec<u8>, Fail> {
-    let mut shown = Vec::new(alloc);
-    let lines = match text.split_last() {
-        Some((b'\n', lines)) => lines,
-        _ => text,
-    };
-    for line in lines.split(|byte| *byte == b'\n') {
-        if !shown.is_empty() {
-            shown.push(b'/')?;
-        }
-        if line.starts_with(b"nonce ") {
-            shown.push(b'N')?;
-            match line.last() {
-                Some(digit) if !line.ends_with(b"0000000000000001") => shown.push(*digit)?,
-                _ => {}
-            }
-        } else if line.starts_with(b"token NONCE=") {
-            shown.push(b'T')?;
-        } else {
-            shown.extend_from_slice(line)?;
-        }
-    }
-    Ok(shown)
 }

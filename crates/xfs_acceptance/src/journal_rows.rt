@@ -1,9 +1,10 @@
 //! The journal under the command `guard`: its limits, its bytes, and disks that fail.
 
-use crate::bench::{guard_failing, guard_on_no_journal, guard_over, guard_within};
-use crate::guard_scripts::{lines_of, shown};
 use std::test::Fail;
 use xfs_journal::Limits;
+use xfs_testbench::{
+    guard_failing, guard_on_no_journal, guard_over, guard_within, lines_of, shown,
+};
 
 const DISPENSE: &str = "issue/mint 50.00EUR/dispense @ unit3:1/fill unit1 1/present/clear";
 
@@ -52,7 +53,7 @@ fn a_journal_takes_records_up_to_its_limits(rt: HostRuntime) -> Result<(), Fail>
     ];
     for (records, bytes, script, status, answers) in rows {
         let lines = lines_of(rt.alloc(), script.as_bytes())?;
-        let written = guard_within(&rt, rt.alloc(), &lines, Limits { records, bytes })?;
+        let written = guard_within(rt.alloc(), &lines, Limits { records, bytes })?;
         let shown = shown(rt.alloc(), &written.text)?;
         assert_eq!(rt; shown.as_slice(), answers.as_bytes(), "answers to {script}");
         assert_eq!(rt; written.status, status, "status of {script}");
@@ -62,7 +63,7 @@ fn a_journal_takes_records_up_to_its_limits(rt: HostRuntime) -> Result<(), Fail>
 
 #[test]
 fn a_boot_and_an_issue_have_225_bytes(rt: HostRuntime) -> Result<(), Fail> {
-    let written = guard_over(&rt, rt.alloc(), b"issue\n", &[], false)?;
+    let written = guard_over(rt.alloc(), b"issue\n", &[], false)?;
     assert_eq!(rt; written.bytes.len(), 225);
     // Behind the magic and the Boot of 196 bytes stands the Issue: an open gate, the length 17, an I, the
     // number 1, the word of the seed of zeros, and a closed gate.
@@ -76,7 +77,7 @@ fn a_boot_and_an_issue_have_225_bytes(rt: HostRuntime) -> Result<(), Fail> {
 
 #[test]
 fn an_empty_script_makes_an_empty_disk_a_journal_of_one_boot(rt: HostRuntime) -> Result<(), Fail> {
-    let written = guard_over(&rt, rt.alloc(), b"", &[], false)?;
+    let written = guard_over(rt.alloc(), b"", &[], false)?;
     assert_eq!(rt; written.status, 0);
     assert!(rt; written.text.is_empty());
     assert_eq!(rt; written.bytes.len(), 205);
@@ -93,10 +94,10 @@ fn an_empty_script_makes_an_empty_disk_a_journal_of_one_boot(rt: HostRuntime) ->
 
 #[test]
 fn a_disk_that_fails_or_is_no_journal_ends_the_boot(rt: HostRuntime) -> Result<(), Fail> {
-    let written = guard_failing(&rt, rt.alloc(), b"issue\n", &[1])?;
+    let written = guard_failing(rt.alloc(), b"issue\n", &[1])?;
     assert_eq!(rt; written.status, 6);
     assert_eq!(rt; written.text.as_slice(), b"boot: disk\n".as_slice());
-    let written = guard_on_no_journal(&rt, rt.alloc(), b"issue\n")?;
+    let written = guard_on_no_journal(rt.alloc(), b"issue\n")?;
     assert_eq!(rt; written.status, 7);
     assert_eq!(rt;
         written.text.as_slice(),
@@ -146,7 +147,7 @@ fn a_disk_that_fails_in_a_dispense_is_not_ready_from_then_on(rt: HostRuntime) ->
     let lines = lines_of(rt.alloc(), DISPENSE.as_bytes())?;
     for (first, last, status, answers) in rows {
         for call in first..=last {
-            let written = guard_failing(&rt, rt.alloc(), &lines, &[call])?;
+            let written = guard_failing(rt.alloc(), &lines, &[call])?;
             let shown = shown(rt.alloc(), &written.text)?;
             assert_eq!(rt; shown.as_slice(), answers.as_bytes(), "call {call}");
             assert_eq!(rt; written.status, status, "call {call}");
@@ -191,7 +192,7 @@ fn a_disk_that_failed_in_a_call_serves_again_from_the_restart_on(
             "{before}/{refused}/{places}/restarted/{places}/{nonce}"
         )?;
         for call in first..=last {
-            let written = guard_failing(&rt, rt.alloc(), &lines, &[call])?;
+            let written = guard_failing(rt.alloc(), &lines, &[call])?;
             let shown = shown(rt.alloc(), &written.text)?;
             assert_eq!(rt; shown.as_slice(), answers.as_bytes(), "call {call}");
             assert_eq!(rt; written.status, 0, "call {call}");
@@ -218,7 +219,7 @@ fn a_disk_that_fails_in_a_restart_ends_the_run_behind_the_earlier_answers(
                 (&[12, call], "refused deviceNotReady"),
             ];
             for (failing, before) in rows {
-                let written = guard_failing(&rt, rt.alloc(), &lines, failing)?;
+                let written = guard_failing(rt.alloc(), &lines, failing)?;
                 let shown = shown(rt.alloc(), &written.text)?;
                 let answers = format!(in rt.alloc(); "{before}/{behind}")?;
                 assert_eq!(rt; shown.as_slice(), answers.as_bytes(), "{failing:?} fail");

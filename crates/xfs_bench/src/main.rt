@@ -2,12 +2,14 @@
 //! prints how often the answer was the right one. The scripts under `bench` time it.
 #![tactic(auto)]
 
+mod macs;
 mod messages;
 mod mixes;
 mod mounting;
 mod tokens;
 mod work;
 
+use crate::macs::{KeyedMac, TokenMac};
 use crate::messages::Dispense;
 use crate::mixes::MixSearch;
 use crate::mounting::mounted;
@@ -17,13 +19,23 @@ use std::alloc::Global;
 use std::process::ExitCode;
 use std::{env, io};
 
-const WORKS: [&str; 5] = ["tokens", "messages", "mixes", "worst_mixes", "mount"];
+const WORKS: [&str; 7] = [
+    "tokens",
+    "macs",
+    "keyed_macs",
+    "messages",
+    "mixes",
+    "worst_mixes",
+    "mount",
+];
 
 // How often a work's answer was right. None for a name of no work, and where memory ran out before
 // the first round.
 fn right(alloc: Global, work: &str, count: u64) -> Option<u64> {
     match work {
         "tokens" => Some(right_rounds(alloc, &TokenCheck::new(alloc)?, count)),
+        "macs" => Some(right_rounds(alloc, &TokenMac, count)),
+        "keyed_macs" => Some(right_rounds(alloc, &KeyedMac::new(), count)),
         "messages" => Some(right_rounds(alloc, &Dispense, count)),
         "mixes" => Some(right_rounds(alloc, &MixSearch::of_main()?, count)),
         "worst_mixes" => Some(right_rounds(alloc, &MixSearch::of_eight()?, count)),

@@ -1,6 +1,0 @@
-use Rattle.std.proofs.Common.{arith}
-use Rattle.xfs_cli.proofs.StartLaws.{short-no_image}
-use Rattle.xfs_acceptance.proofs.bench.empty.Goals as goal
-
-pub returns-clause-none : goal.returns-clause-none
-returns-clause-none c = short-no_image _ (rw c.new-2.ensures.bytes (omega arith))

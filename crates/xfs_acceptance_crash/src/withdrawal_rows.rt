@@ -1,0 +1,248 @@
+//! A withdrawal by the command `guard` over a disk that fails from one of its calls on, and a second run over what
+//! came back.
+
+ghost use Rattle.std.specs.Prelude.{◌≡◌, ℕ, List, Some, IfOk};
+ghost use Rattle.xfs_mech.specs.Sim.{units_of, motions_of};
+ghost use Rattle.xfs_disk.specs.Disk.{Only};
+ghost use Rattle.xfs_disk.specs.MemDisk.{IsImage as MayBe, bytes_of};
+ghost use Rattle.xfs_journal.specs.Image.{Stands};
+ghost use Rattle.xfs_journal.specs.declared.record.Rec.{Rec};
+ghost use Rattle.xfs_guard.specs.Recorded.{IsRecorded};
+
+use std::alloc::Global;
+use std::process::Abort;
+use std::test::Fail;
+use xfs_base::{Counts, Currency, Kind, MemSink, MemSource};
+use xfs_cli::run;
+use xfs_disk::MemDisk;
+use xfs_guard::Core;
+use xfs_mech::{Mechanism, Motion, SimMech, places_fit};
+use xfs_simulated::{LIMITS, empty};
+use xfs_testbench::{GENUINE, failing_core, lines_of, listed, shown, sim_on, units, words_of};
+
+const NONE: Counts = Counts([0; 8]);
+
+const FIFTY: Counts = Counts([0, 0, 1, 0, 0, 0, 0, 0]);
+
+// The script pay.txt of the examples.
+const PAY: &str =
+    "issue/mint 50.00EUR/dispense @ unit3:1/present/dispense @ unit1:1/clear/dispense @ unit1:1";
+
+// What a run came to: its status, its answers, and what the mechanism has done.
+#[derive(Drop)]
+struct Run {
+    status: u8,
+    answers: Vec<u8>,
+    motions: Vec<Motion>,
+}
+
+// Runs `guard` on a script over an empty disk whose calls at these places fail. Then the power is cut: the machine
+// that comes back has the image of its disk that this picks.
+fn run_cut(
+    rt: &impl Abort,
+    alloc: Global,
+    script: &[u8],
+    failing: Vec<u64>,
+    pick: u64,
+) -> Result<(Run, Core<SimMech, MemDisk>), Fail>
+    ensures units { IfOk result (λ r. units_of r.1.mech ≡ r.1.units) }
+    ensures starts { IfOk result (λ r. (c : List ℕ) → MayBe r.1.disk c → (J : List Rec) → Stands c J → IsRecorded r.1.key r.1.units J (Some (motions_of r.1.mech))) }
+    ensures at_rest { IfOk result (λ r. Only (bytes_of r.1.disk) (MayBe r.1.disk)) }
+{
+    let units = units()?;
+    let mech = sim_on(alloc, &units, Vec::new(alloc))?;
+    let core = failing_core(mech, units, empty(alloc), LIMITS, failing);
+    let (key, seed, units) = (core.key, core.seed, core.units.copied());
+    let mut source = MemSource::new(listed(alloc, script)?, Vec::new(alloc));
+    let mut sink = MemSink::new(alloc, Vec::new(alloc));
+    let words = words_of(alloc, &["guard"])?;
+    let ended = run(alloc, words.as_slice(), &mut source, &mut sink, core);
+    let places = ended.mech.survey();
+    assert!(rt; places_fit(&units, &places));
+    let motions = copied(alloc, ended.mech.motions())?;
+    let told = told(alloc, ended.status, &sink, &ended.mech)?;
+    let core = Core {
+        mech: SimMech::resume(alloc, units.copied(), places, motions),
+        disk: ended.disk.inner().crash(pick),
+        key,
+        seed,
+        units,
+        limits: LIMITS,
+    };
+    Ok((told, core))
+}
+
+// Runs `guard` on a script over a machine that came back.
+fn run_again(alloc: Global, script: &[u8], core: Core<SimMech, MemDisk>) -> Result<Run, Fail>
+    requires units { units_of core.mech ≡ core.units }
+    requires starts { (c : List ℕ) → MayBe core.disk c → (J : List Rec) → Stands c J → IsRecorded core.key core.units J (Some (motions_of core.mech)) }
+    requires at_rest { Only (bytes_of core.disk) (MayBe core.disk) }
+{
+    let mut source = MemSource::new(listed(alloc, script)?, Vec::new(alloc));
+    let mut sink = MemSink::new(alloc, Vec::new(alloc));
+    let words = words_of(alloc, &["guard"])?;
+    let ended = run(alloc, words.as_slice(), &mut source, &mut sink, core);
+    told(alloc, ended.status, &sink, &ended.mech)
+}
+
+fn told(alloc: Global, status: u8, sink: &MemSink, mech: &SimMech) -> Result<Run, Fail> {
+    Ok(Run {
+        status,
+        answers: shown(alloc, sink.bytes())?,
+        motions: copied(alloc, mech.motions())?,
+    })
+}
+
+fn copied(alloc: Global, motions: &[Motion]) -> Result<Vec<Motion>, Fail>
+    ensures { IfOk result (λ list. list.items ≡ motions.now) }
+{
+    let mut list = Vec::new(alloc);
+    list.extend_from_slice(motions)?;
+    Ok(list)
+}
+
+// The places of the calls from this on. A withdrawal makes fewer than 50.
+fn from_on(alloc: Global, call: u64) -> Result<Vec<u64>, Fail> {
+    let mut failing = Vec::new(alloc);
+    for place in call..50 {
+        failing.push(place)?;
+    }
+    Ok(failing)
+}
+
+// The number of the Boot that a second run writes, where a first one failed from this call on. The first four calls
+// make an empty disk an empty journal, and a record makes four more each; the last of them syncs its open gate, which
+// stays open in the image of pick 1.
+fn boot_after(call: u64, pick: u64) -> u64 {
+    if call <= 4 {
+        return 1;
+    }
+    let before = (call - 5) / 4;
+    if call % 4 == 0 && pick == 1 {
+        before + 2
+    } else {
+        before + 1
+    }
+}
+
+// What the order to stack a note of EUR 50 moved, and what the order to present it did.
+fn paid_out() -> [Motion; 2] {
+    [(4, Kind::Stack), (6, Kind::Present)].map(|(number, kind)| Motion::Moved {
+        number,
+        kind,
+        moved: FIFTY,
+        diverted: NONE,
+    })
+}
+
+// Behind the boot's 8 calls, the Issue, the Bind, the Order and the Done of the dispense, those of the present, and
+// the Clear make 4 each. In the last row nothing fails.
+#[test]
+fn a_withdrawal_whose_disk_fails_puts_out_no_more_and_is_over_at_the_next_run(
+    rt: HostRuntime,
+) -> Result<(), Fail> {
+    let rows: [(u64, u64, u8, &str, usize); 8] = [
+        (1, 8, 6, "boot: disk", 0),
+        (
+            9,
+            12,
+            0,
+            "refused deviceNotReady/token none/refused deviceNotReady/refused deviceNotReady/refused deviceNotReady/refused deviceNotReady/refused deviceNotReady",
+            0,
+        ),
+        (
+            13,
+            20,
+            0,
+            "N/T/refused deviceNotReady/refused deviceNotReady/refused deviceNotReady/refused deviceNotReady/refused deviceNotReady",
+            0,
+        ),
+        (
+            21,
+            24,
+            0,
+            "N/T/refused deviceNotReady/refused deviceNotReady/refused deviceNotReady/refused deviceNotReady/refused deviceNotReady",
+            1,
+        ),
+        (
+            25,
+            28,
+            0,
+            "N/T/moved unit3:1/refused deviceNotReady/refused deviceNotReady/refused deviceNotReady/refused deviceNotReady",
+            1,
+        ),
+        (
+            29,
+            32,
+            0,
+            "N/T/moved unit3:1/refused deviceNotReady/refused deviceNotReady/refused deviceNotReady/refused deviceNotReady",
+            2,
+        ),
+        (
+            33,
+            36,
+            0,
+            "N/T/moved unit3:1/moved unit3:1/refused invalidToken left 0/refused deviceNotReady/refused deviceNotReady",
+            2,
+        ),
+        (
+            37,
+            37,
+            0,
+            "N/T/moved unit3:1/moved unit3:1/refused invalidToken left 0/cleared/refused noCommandNonce record 8",
+            2,
+        ),
+    ];
+    for (first, last, status, answers, motions) in rows {
+        for call in first..=last {
+            for pick in [0, 1] {
+                let told = withdrawn(&rt, rt.alloc(), call, pick, motions)?;
+                assert_eq!(rt; told.0, status, "status from call {call} on");
+                assert_eq!(rt;
+                    told.1.as_slice(),
+                    answers.as_bytes(),
+                    "from call {call} on"
+                );
+            }
+        }
+    }
+    // What is put out at most is worth the token's EUR 50.
+    assert_eq!(rt;
+        FIFTY.value(&units()?, Currency::new(b"EUR").ok_or("letters")?),
+        50_000
+    );
+    Ok(())
+}
+
+// The status and the answers of a withdrawal whose disk fails from this call on. The mechanism makes so many of its
+// motions. Then no nonce lives: the token serves no more, and nothing is put out.
+fn withdrawn(
+    rt: &impl Abort,
+    alloc: Global,
+    call: u64,
+    pick: u64,
+    motions: usize,
+) -> Result<(u8, Vec<u8>), Fail> {
+    let lines = lines_of(alloc, PAY.as_bytes())?;
+    let (first, core) = run_cut(rt, alloc, &lines, from_on(alloc, call)?, pick)?;
+    let moved = paid_out();
+    let moved = moved.get(..motions).ok_or("more motions")?;
+    assert!(rt; first.motions.as_slice() == moved, "from call {call} on");
+    let script = format!(in alloc; "dispense {GENUINE} unit3:1\nmint 50EUR\npresent\n")?;
+    let again = run_again(alloc, script.as_bytes(), core)?;
+    let boot = boot_after(call, pick);
+    let answers = format!(in alloc;
+        "refused noCommandNonce record {boot}/token none/refused noCommandNonce record {boot}"
+    )?;
+    assert_eq!(rt; again.status, 0, "status after call {call}, pick {pick}");
+    assert_eq!(rt;
+        again.answers.as_slice(),
+        answers.as_bytes(),
+        "after call {call}, pick {pick}"
+    );
+    assert!(rt;
+        again.motions.as_slice() == moved,
+        "after call {call}, pick {pick}"
+    );
+    Ok((first.status, first.answers))
+}

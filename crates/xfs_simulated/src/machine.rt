@@ -1,0 +1,114 @@
+ghost use Rattle.std.specs.Prelude.{◌≡◌, ℕ, List, [], replicate, IfSome};
+ghost use Rattle.xfs_base.specs.Causes.{IfTold};
+ghost use Rattle.xfs_disk.specs.Disk.{Only};
+ghost use Rattle.xfs_disk.specs.MemDisk.{IsImage as MayBe, bytes_of, steps_of};
+ghost use Rattle.xfs_guard.specs.Recorded.{IsRecorded};
+ghost use Rattle.xfs_journal.specs.Image.{IsImage, Stands};
+ghost use Rattle.xfs_journal.specs.declared.record.Rec.{Rec};
+ghost use Rattle.xfs_mech.specs.Sim.{units_of, places_of, motions_of, faults_of, failures_of};
+ghost use Rattle.xfs_simulated.specs.Simulated.{four_units, filled};
+
+use std::alloc::Global;
+use xfs_base::{Counts, Currency, NoteKind, Places, UnitTable};
+use xfs_disk::MemDisk;
+use xfs_guard::Core;
+use xfs_journal::Limits;
+use xfs_mech::{Fault, Mechanism, SimMech, places_fit};
+
+/// The key of the tokens' HMAC: 32 bytes 0x0b.
+pub const KEY: [u8; 32] = [0x0b; 32];
+
+/// The seed of the nonces: 32 bytes 0.
+pub const SEED: [u8; 32] = [0; 32];
+
+/// The full limits of a journal.
+pub const LIMITS: Limits = Limits {
+    records: 1_000_000,
+    bytes: 268_435_456,
+};
+
+fn kind(letters: &[u8], value: u32) -> Option<NoteKind>
+    ensures { IfSome result (λ k. k ≡ record { currency = letters.now; value = value }) }
+{
+    let currency = Currency::new(letters)?;
+    Some(NoteKind { currency, value })
+}
+
+/// EUR 10, EUR 20, EUR 50 and USD 20. It is never None.
+pub fn units() -> Option<UnitTable>
+    ensures { IfSome result (λ units. units ≡ four_units) }
+{
+    UnitTable::new(&[
+        kind(b"EUR", 10)?,
+        kind(b"EUR", 20)?,
+        kind(b"EUR", 50)?,
+        kind(b"USD", 20)?,
+    ])
+}
+
+/// 100 notes in each of the four units, and none elsewhere.
+pub fn places() -> Places
+    ensures { result ≡ filled }
+{
+    let none = Counts([0; 8]);
+    Places {
+        units: Counts([100, 100, 100, 100, 0, 0, 0, 0]),
+        transport: none,
+        outlet: none,
+        taken: none,
+        retracted: none,
+        rejected: none,
+    }
+}
+
+/// A mechanism that did nothing yet, with these faults to come. None where its notes pass the limits of the units,
+/// which those of `units` never do.
+pub fn mechanism(alloc: Global, units: &UnitTable, faults: Vec<Fault>) -> Option<SimMech>
+    ensures units { IfSome result (λ mech. units_of mech ≡ units.now) }
+    ensures places { IfSome result (λ mech. places_of mech ≡ filled) }
+    ensures motions { IfSome result (λ mech. motions_of mech ≡ []) }
+    ensures faults { IfSome result (λ mech. (faults_of mech ≡ faults.items) × (failures_of mech ≡ 0)) }
+{
+    let places = places();
+    if places_fit(units, &places) {
+        Some(SimMech::new(alloc, units.copied(), places, faults))
+    } else {
+        None
+    }
+}
+
+/// A disk in memory to which nothing was written.
+pub fn empty(alloc: Global) -> MemDisk
+    ensures empty { bytes_of result ≡ [] }
+    ensures settled { steps_of result ≡ [] }
+    ensures none { (records : List Rec) → ¬ IsImage (bytes_of result) records }
+{
+    MemDisk::new(alloc, Vec::new(alloc))
+}
+
+/// What the top call is handed, over a mechanism that did nothing yet and a disk that has no journal.
+pub fn core_on<M: Mechanism>(
+    mech: M,
+    units: UnitTable,
+    disk: MemDisk,
+    limits: Limits,
+) -> Core<M, MemDisk>
+    requires fresh { IfTold (M.motions mech) (λ motions. motions ≡ []) }
+    requires units { M.units mech ≡ units }
+    requires settled { steps_of disk ≡ [] }
+    requires none { (records : List Rec) → ¬ IsImage (bytes_of disk) records }
+    ensures handed { (result.mech ≡ mech) × (result.disk ≡ disk) × (result.units ≡ units) × (result.limits ≡ limits) }
+    ensures secrets { (result.key ≡ replicate 32 0x0b) × (result.seed ≡ replicate 32 0) }
+    ensures units { M.units result.mech ≡ result.units }
+    ensures starts { (image : List ℕ) → MayBe result.disk image → (records : List Rec) → Stands image records → IsRecorded result.key result.units records (M.motions result.mech) }
+    ensures at_rest { Only (bytes_of result.disk) (MayBe result.disk) }
+{
+    Core {
+        mech,
+        disk,
+        key: KEY,
+        seed: SEED,
+        units,
+        limits,
+    }
+}
