@@ -3,8 +3,7 @@ use Rattle.std.proofs.Common.{◌≡◌, ℕ, zero, suc, ◌+◌, ◌≤◌, Lis
 use Rattle.std.specs.Prelude.{option_map}
 use Rattle.std.specs.declared.option.Option.{Option}
 use Rattle.std.proofs.lemmas.List.{append-nil}
-use Rattle.xfs_base.specs.Causes.{IfTold}
-use Rattle.xfs_mech.specs.Sim.{next}
+use Rattle.xfs_base.specs.Causes.{IfTold, next_count}
 use Rattle.xfs_server.specs.Counted.{counted, grown}
 
 pub grown-grown : {T : Type 0} (xs ys : List T) (told : Option (List T)) → grown ys (grown xs told) ≡ grown (xs ++ ys) told
@@ -17,7 +16,7 @@ grown-nil (Some list) = ap Some (append-nil list)
 
 pub counted-counted : (m n count : ℕ) → counted m (counted n count) ≡ counted (n + m) count
 counted-counted zero n count = let e : n + 0 ≡ n = omega arith in rw e refl
-counted-counted (suc m) n count = let e : n + suc m ≡ suc (n + m) = omega arith in rw e (ap next (counted-counted m n count))
+counted-counted (suc m) n count = let e : n + suc m ≡ suc (n + m) = omega arith in rw e (ap next_count (counted-counted m n count))
 
 -- the texts to come begin with the one that was taken
 pub first_to_come : (coming : Option (List (List ℕ))) (text : List ℕ) → IfTold coming (λ texts. slice_get texts 0 ≡ Some text)
@@ -53,7 +52,7 @@ pub counted-told : (m n : ℕ) (told : Option ℕ) → option_map (counted m) (o
 counted-told m n None = refl
 counted-told m n (Some count) = ap Some (counted-counted m n count)
 
-next-le : (a b : ℕ) → a ≤ b → next a ≤ next b
+next-le : (a b : ℕ) → a ≤ b → next_count a ≤ next_count b
 next-le a b le = omega (arith, le)
 
 pub counted-le : (n a b : ℕ) → a ≤ b → counted n a ≤ counted n b

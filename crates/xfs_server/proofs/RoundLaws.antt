@@ -3,9 +3,8 @@ use Rattle.std.proofs.Common.{◌≡◌, ℕ, ◌+◌, ◌≤◌, List, [], ◌+
 use Rattle.std.specs.Prelude.{option_map}
 use Rattle.std.specs.declared.option.Option.{Option}
 use Rattle.std.proofs.lemmas.List.{append-nil, length-append}
-use Rattle.xfs_base.specs.Causes.{Rose}
+use Rattle.xfs_base.specs.Causes.{Rose, next_count}
 use Rattle.xfs_base.specs.declared.faults.Memory.{Memory}
-use Rattle.xfs_mech.specs.Sim.{next}
 use Rattle.xfs_mech.specs.Watches.{Hands}
 use Rattle.xfs_mech.specs.declared.touch.News.{News}
 use Rattle.xfs_mech.specs.declared.touch.Touch.{Touch}
@@ -153,7 +152,7 @@ round_whole c k f g b d e h is s work = rw work record {
   stayed = ap (λ l. l.stays) s.board_is ∙ ap (λ l. l.stays) is;
   closing = ap (λ l. l.closing) s.board_is ∙ ap (λ l. l.closing) is;
   counts = rw (append-nil s.touched) (ap (λ l. l.touches) s.board_is ∙ ap (λ l. counted (length s.touched + s.raised) l.touches) is);
-  turned = ap (λ l. next l.turns) s.board_is ∙ ap (λ l. next l.turns) is;
+  turned = ap (λ l. next_count l.turns) s.board_is ∙ ap (λ l. next_count l.turns) is;
 }
 
 pub halts_work : (c k : Option (List Touch)) (f g : ℕ) (b d e h : TendedLog) → d ≡ after_closing b false → Sensed c k f g d e → h ≡ after_work e → Halts 0 Over2.Memory c k f g b h

@@ -1,7 +1,7 @@
 -- What doors tell, and what each call does to it.
 use Rattle.std.specs.Prelude.{ℕ, Ok, Err}
 use Rattle.std.specs.declared.result.Result.{Result}
-use Rattle.xfs_mech.specs.Sim.{next}
+use Rattle.xfs_base.specs.Causes.{next_count}
 use Rattle.xfs_server.specs.declared.doors.Door.{Door}
 use Rattle.xfs_server.specs.declared.doors.DialFault.{DialFault}
 
@@ -14,13 +14,13 @@ pub record DoorLog : Type 0 where
 
 -- what they tell after a call of next that answered this
 abbrev pub after_next : {L : Type 0} → DoorLog → Door L → DoorLog
-after_next d (Door.Came service link) = record d { came = next d.came }
-after_next d Door.Quiet = record d { quiets = next d.quiets }
-after_next d Door.Failed = record d { faults = next d.faults }
+after_next d (Door.Came service link) = record d { came = next_count d.came }
+after_next d Door.Quiet = record d { quiets = next_count d.quiets }
+after_next d Door.Failed = record d { faults = next_count d.faults }
 after_next d Door.Memory = d
 
 -- what they tell after a call of dial that answered this: each counts, whatever it answers
 abbrev pub after_dial : {L : Type 0} → DoorLog → Result L DialFault → DoorLog
-after_dial d (Ok link) = record d { dials = next d.dials }
-after_dial d (Err DialFault.Failed) = record d { dials = next d.dials; faults = next d.faults }
-after_dial d (Err DialFault.Memory) = record d { dials = next d.dials }
+after_dial d (Ok link) = record d { dials = next_count d.dials }
+after_dial d (Err DialFault.Failed) = record d { dials = next_count d.dials; faults = next_count d.faults }
+after_dial d (Err DialFault.Memory) = record d { dials = next_count d.dials }

@@ -2,8 +2,7 @@
 use Rattle.std.specs.Prelude.{◌≡◌, ℕ, List, [], ◌∷◌, drop, slice_get, Some, Bool, true, false, option_map, ⊤, Ok, Err}
 use Rattle.std.specs.declared.option.Option.{Option}
 use Rattle.std.specs.declared.result.Result.{Result}
-use Rattle.xfs_base.specs.Causes.{IfTold}
-use Rattle.xfs_mech.specs.Sim.{next}
+use Rattle.xfs_base.specs.Causes.{IfTold, next_count}
 use Rattle.xfs_server.specs.Counted.{grown}
 use Rattle.xfs_server.specs.declared.link.Taking.{Taking}
 use Rattle.xfs_server.specs.declared.link.GiveFault.{GiveFault}
@@ -20,9 +19,9 @@ pub record LinkLog : Type 0 where
 -- what it tells after a call of take that answered this
 abbrev pub after_take : LinkLog → Taking → LinkLog
 after_take l (Taking.Text text) = record l { coming = option_map (drop 1) l.coming; taken = grown (text ∷ []) l.taken }
-after_take l Taking.Quiet = record l { quiets = next l.quiets }
+after_take l Taking.Quiet = record l { quiets = next_count l.quiets }
 after_take l Taking.Closed = record l { closed = true }
-after_take l Taking.Failed = record l { faults = next l.faults }
+after_take l Taking.Failed = record l { faults = next_count l.faults }
 after_take l Taking.Memory = l
 
 -- a text that was taken is the first of those to come, and Closed comes only where none is
@@ -36,7 +35,7 @@ IsNextOf texts Taking.Memory = ⊤
 -- what it tells after a call of give for this text
 abbrev pub after_give : LinkLog → List ℕ → Result Unit GiveFault → LinkLog
 after_give l text (Ok _) = record l { sent = grown (text ∷ []) l.sent }
-after_give l text (Err GiveFault.Failed) = record l { faults = next l.faults }
+after_give l text (Err GiveFault.Failed) = record l { faults = next_count l.faults }
 after_give l text (Err GiveFault.Memory) = l
 
 -- a list that is told is empty

@@ -69,7 +69,7 @@ impl MemDoors {
 
 impl Doors for MemDoors {
     ghost use Rattle.std.specs.Prelude.{◌≡◌, ◌↔◌, Contains, IfOk, Ok, Err};
-    ghost use Rattle.xfs_mech.specs.Sim.{next};
+    ghost use Rattle.xfs_base.specs.Causes.{next_count};
     ghost use Rattle.xfs_server.specs.Doors.{after_next, after_dial};
     ghost use Rattle.xfs_server.specs.Links.{IsFresh};
     ghost use Rattle.xfs_server.specs.Memories.{HandsOver, left_after, Dials, undialled};
@@ -82,8 +82,8 @@ impl Doors for MemDoors {
     fn next(&mut self) -> Door<MemLink>
         ensures log { self.new.log ≡ after_next self.old.log result }
         ensures answer { HandsOver self.old.coming result }
-        ensures failing { (result ≡ Door.Failed) ↔ Contains self.old.failing (next self.old.calls) }
-        ensures same { self.new ≡ record self.old { log = self.new.log; coming = left_after self.old.coming result; calls = next self.old.calls } }
+        ensures failing { (result ≡ Door.Failed) ↔ Contains self.old.failing (next_count self.old.calls) }
+        ensures same { self.new ≡ record self.old { log = self.new.log; coming = left_after self.old.coming result; calls = next_count self.old.calls } }
     {
         self.calls = self.calls.saturating_add(1);
         if self.failing.contains(&self.calls) {
@@ -105,9 +105,9 @@ impl Doors for MemDoors {
     fn dial(&mut self, _service: Service) -> Result<MemLink, DialFault>
         ensures log { self.new.log ≡ after_dial self.old.log result }
         ensures fresh { IfOk result (λ link. IsFresh link.log) }
-        ensures failing { Contains self.old.failing (next self.old.calls) → result ≡ Err DialFault.Failed }
-        ensures answer { (Contains self.old.failing (next self.old.calls) → ⊥) → Dials self.old.dialled result }
-        ensures same { self.new ≡ record self.old { log = self.new.log; dialled = undialled self.old.dialled result; calls = next self.old.calls } }
+        ensures failing { Contains self.old.failing (next_count self.old.calls) → result ≡ Err DialFault.Failed }
+        ensures answer { (Contains self.old.failing (next_count self.old.calls) → ⊥) → Dials self.old.dialled result }
+        ensures same { self.new ≡ record self.old { log = self.new.log; dialled = undialled self.old.dialled result; calls = next_count self.old.calls } }
     {
         self.calls = self.calls.saturating_add(1);
         self.dials = self.dials.saturating_add(1);

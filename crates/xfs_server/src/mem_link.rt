@@ -1,5 +1,5 @@
 ghost use Rattle.std.specs.Prelude.{◌≡◌, ◌↔◌, IsTrue, Contains, Some, IfOk, Err};
-ghost use Rattle.xfs_mech.specs.Sim.{next};
+ghost use Rattle.xfs_base.specs.Causes.{next_count};
 ghost use Rattle.xfs_server.specs.Links.{after_take, after_give, IsFresh};
 ghost use Rattle.xfs_server.specs.Memories.{begun_link, Takes};
 
@@ -87,8 +87,7 @@ impl MemLink {
 
 impl Link for MemLink {
     ghost use Rattle.std.specs.Prelude.{◌≡◌, ◌↔◌, Contains};
-    ghost use Rattle.xfs_base.specs.Causes.{IfTold};
-    ghost use Rattle.xfs_mech.specs.Sim.{next};
+    ghost use Rattle.xfs_base.specs.Causes.{IfTold, next_count};
     ghost use Rattle.xfs_server.specs.Links.{after_take, after_give, IsNextOf};
     ghost use Rattle.xfs_server.specs.Memories.{Takes};
     ghost use Rattle.xfs_server.specs.declared.link.Taking.TheVariants as Taking;
@@ -100,8 +99,8 @@ impl Link for MemLink {
         ensures log { self.new.log ≡ after_take self.old.log result }
         ensures next { IfTold self.old.log.coming (λ texts. IsNextOf texts result) }
         ensures answer { IfTold self.old.log.coming (λ texts. Takes texts self.old.plan.closes result) }
-        ensures failing { (result ≡ Taking.Failed) ↔ Contains self.old.plan.failing_takes (next self.old.plan.takes) }
-        ensures plan { self.new.plan ≡ record self.old.plan { takes = next self.old.plan.takes } }
+        ensures failing { (result ≡ Taking.Failed) ↔ Contains self.old.plan.failing_takes (next_count self.old.plan.takes) }
+        ensures plan { self.new.plan ≡ record self.old.plan { takes = next_count self.old.plan.takes } }
     {
         self.takes = self.takes.saturating_add(1);
         if self.failing_takes.contains(&self.takes) {
@@ -125,8 +124,8 @@ impl Link for MemLink {
 
     fn give(&mut self, text: &[u8]) -> Result<(), GiveFault>
         ensures log { self.new.log ≡ after_give self.old.log text.now result }
-        ensures failing { (result ≡ Err GiveFault.Failed) ↔ Contains self.old.plan.failing_gives (next self.old.plan.gives) }
-        ensures plan { self.new.plan ≡ record self.old.plan { gives = next self.old.plan.gives } }
+        ensures failing { (result ≡ Err GiveFault.Failed) ↔ Contains self.old.plan.failing_gives (next_count self.old.plan.gives) }
+        ensures plan { self.new.plan ≡ record self.old.plan { gives = next_count self.old.plan.gives } }
     {
         self.gives = self.gives.saturating_add(1);
         if self.failing_gives.contains(&self.gives) {

@@ -1,5 +1,5 @@
 ghost use Rattle.std.specs.Prelude.{◌≡◌, ◌≤◌, ℕ};
-ghost use Rattle.xfs_mech.specs.Sim.{next};
+ghost use Rattle.xfs_base.specs.Causes.{next_count};
 ghost use Rattle.xfs_server.specs.Tendeds.{TendedLog, after_closing, after_wants, after_touch, after_work, CountsFault};
 
 use crate::Work2;
