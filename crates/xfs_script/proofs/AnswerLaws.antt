@@ -5,7 +5,7 @@ use Rattle.std.specs.Io.KnownBytes.{Appends}
 use Rattle.std.proofs.lemmas.List.{append-nil}
 use Rattle.std.proofs.lemmas.Bool.{cases_lt}
 use Rattle.xfs_base.specs.Causes.{IfTold}
-use Rattle.xfs_script.specs.Lines.{behind, first_line, first_lines, AreLines}
+use Rattle.xfs_script.specs.Lines.{behind, first_line, first_lines, AllLines, AreLines, StopsAtLine}
 use Rattle.xfs_script.specs.Reading.{Reading, nothing_read}
 use Rattle.xfs_script.specs.Answer.{bytes_ahead, ReadsLine}
 use Rattle.xfs_script.specs.Answered.{lines_text, AnswersEach}
@@ -186,3 +186,19 @@ pub answered-memory : {S E : Type 0} (c : Command S E) (start state : S) (r : Re
 answered-memory c start state r None y z old new same h = tt
 answered-memory c start state r (Some text) y z old new same h =
     ends-behind c End.Memory start state state r y z old new new text [] h (Appends-none new) (same state (first_line (behind r.handed text)), refl)
+
+-- a text that was answered to its end is of lines alone
+pub all-lines : {S E : Type 0} (c : Command S E) (is_line : (s next : S) (line : List ℕ) (output : List (List ℕ)) → c.Answers s line output next → c.IsLine line) (ending : Ending E) (start end : S) (x left before after : Option (List ℕ))
+    → ending ≡ End.AtEnd → IfTold x (AnswersInput c ending start end left before after) → IfTold x (AllLines c.IsLine)
+all-lines c is_line ending start end None left before after is h = tt
+all-lines c is_line ending start end (Some text) left before after is h =
+    let a : AnswersInput c End.AtEnd start end left before after text = rw is at h in
+    record { many = a.many; lines = lines-answered c.Answers c.IsLine is_line start a.last a.many text a.output a.each; whole = a.ends.0 }
+
+-- a text whose answers end at a line that is none has lines alone before it
+pub stops-at_line : {S E : Type 0} (c : Command S E) (is_line : (s next : S) (line : List ℕ) (output : List (List ℕ)) → c.Answers s line output next → c.IsLine line) (ending : Ending E) (number : ℕ) (start end : S) (x left before after : Option (List ℕ))
+    → ending ≡ End.NotALine number → IfTold x (AnswersInput c ending start end left before after) → IfTold x (StopsAtLine c.IsLine)
+stops-at_line c is_line ending number start end None left before after is h = tt
+stops-at_line c is_line ending number start end (Some text) left before after is h =
+    let a : AnswersInput c (End.NotALine number) start end left before after text = rw is at h in
+    record { many = a.many; lines = lines-answered c.Answers c.IsLine is_line start a.last a.many text a.output a.each; none = a.ends.1 }

@@ -1,5 +1,5 @@
 -- How a run over the lines of an input ends: which lines were answered, what the sink took, and what stands then.
-use Rattle.std.specs.Prelude.{◌≡◌, ◌≢◌, ℕ, ◌+◌, List, [], ◌++◌, take}
+use Rattle.std.specs.Prelude.{◌≡◌, ℕ, ◌+◌, List, [], ◌++◌, take}
 use Rattle.std.specs.declared.option.Option.{Option}
 use Rattle.std.specs.Io.KnownBytes.{Appends}
 use Rattle.xfs_base.specs.Causes.{IfTold}
@@ -9,12 +9,12 @@ use Rattle.xfs_script.specs.Commands.{Command}
 use Rattle.xfs_script.specs.declared.answerer.Ending.{Ending}
 use Rattle.xfs_script.specs.declared.answerer.Ending.TheVariants.{AtEnd, Read, Quota, NotALine, Write, Memory, Ended}
 
--- a line is answered, and the sink took these bytes, which are a front of the answer
+-- a line is answered, and the sink took these bytes, which are a prefix of the answer
 pub record IsBroken {S : Type 0} (AreAnswer : List (List ℕ) → S → Type 0) (taken : List ℕ) (next : S) : Type 0 where
   pub output : List (List ℕ)
   pub answer : AreAnswer output next
-  pub front : ℕ
-  pub taken_is : taken ≡ take front (lines_text output)
+  pub many : ℕ
+  pub taken_is : taken ≡ take many (lines_text output)
 
 -- nothing is done behind the lines that are answered
 pub record IsUntouched {S : Type 0} (last end : S) (taken : List ℕ) : Type 0 where

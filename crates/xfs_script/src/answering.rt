@@ -1,6 +1,7 @@
 ghost use Rattle.std.specs.Prelude.{◌≡◌, ◌<◌, ◌≤◌, List, ℕ, length, OnOk, IfErr};
 ghost use Rattle.std.specs.Io.KnownBytes.{IsAtEnd};
 ghost use Rattle.xfs_base.specs.Causes.{IfTold, Rose};
+ghost use Rattle.xfs_script.specs.Lines.{AllLines, StopsAtLine};
 ghost use Rattle.xfs_script.specs.Reading.{GaveAll};
 ghost use Rattle.xfs_script.specs.Endings.{AnswersInput, BreaksAtLine, EndsAfter, WritesAnswer};
 ghost use Rattle.xfs_script.specs.declared.answerer.Ending.TheVariants as Ending;
@@ -23,6 +24,8 @@ pub fn answer_lines<S: Source, K: Sink, A: Answerer>(
     ensures ready { A.IsReady answerer.new }
     ensures keeps { A.Keeps answerer.old answerer.new }
     ensures answers { IfTold (S.left source.old) (AnswersInput A.command result (A.state answerer.old) (A.state answerer.new) (S.left source.new) (K.held sink.old) (K.held sink.new)) }
+    ensures lines { result ≡ Ending.AtEnd → IfTold (S.left source.old) (AllLines A.command.IsLine) }
+    ensures not_a_line { (number : ℕ) → result ≡ Ending.NotALine number → IfTold (S.left source.old) (StopsAtLine A.command.IsLine) }
     ensures ended { (why : A.End) → result ≡ Ending.Ended why → EndsAfter A.Keeps A.state A.command answerer.old why (A.state answerer.new) }
     ensures whole { result ≡ Ending.AtEnd → IsAtEnd (S.left source.new) }
     ensures fewer { result ≡ Ending.AtEnd → IfTold (S.left source.old) (λ text. length text < 67108864) }
