@@ -3,7 +3,7 @@ ghost use Rattle.xfs_script.specs.Answered.{Tells, IsUnanswered};
 ghost use Rattle.xfs_script.specs.Commands.{Command};
 
 /// Why a line has no answer.
-#[derive(Debug, Drop)]
+#[derive(Debug, Drop, PartialEq, Eq)]
 pub enum Unanswered<E> {
     /// The line is none of the command's, and nothing was done.
     NotALine,
@@ -14,7 +14,7 @@ pub enum Unanswered<E> {
 }
 
 /// Why no further line is answered.
-#[derive(Debug, Drop)]
+#[derive(Debug, Drop, PartialEq, Eq)]
 pub enum Ending<E> {
     /// The input was read to its end.
     AtEnd,

@@ -4,6 +4,8 @@
 mod amounts;
 mod answerer;
 mod answering;
+#[cfg(test)]
+mod answering_tests;
 mod counts;
 mod counts_field;
 mod dispense;
