@@ -22,6 +22,7 @@ use Rattle.xfs_guard.specs.declared.deny.Deny.{Deny}
 use Rattle.xfs_guard.specs.declared.deny.Deny.TheVariants.{NoNonce, WrongNonce, WrongMac, NoAmounts, OtherBound, NotEmpty, Unbound, Nothing, OutletFull, Short, Disk, Memory}
 use Rattle.xfs_guard.specs.declared.ask.Ask.{Ask}
 use Rattle.xfs_guard.specs.declared.ask.Ask.TheVariants.{Stack as AskStack, Present as AskPresent, Reject as AskReject, Retract as AskRetract}
+use Rattle.xfs_guard.specs.Balance.{no_notes}
 use Rattle.xfs_guard.specs.View.{View}
 use Rattle.xfs_guard.specs.Nonce.{live_nonce}
 use Rattle.xfs_guard.specs.OverBudget.{over_budget_in}
@@ -89,7 +90,7 @@ pub record Binds (old new : View) (bytes : List ℕ) (amounts : List (List ℕ �
 
 -- so many notes of one unit, which counts from 1
 abbrev pub notes_of : ℕ → ℕ → Counts
-notes_of unit count = record { 0 = slice_set (0 ∷ 0 ∷ 0 ∷ 0 ∷ 0 ∷ 0 ∷ 0 ∷ 0 ∷ []) (unit - 1) count }
+notes_of unit count = record { 0 = slice_set no_notes.0 (unit - 1) count }
 
 -- what an ask moves, and how
 abbrev pub asked_kind : Ask → Kind

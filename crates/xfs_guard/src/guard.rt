@@ -5,6 +5,7 @@ ghost use Rattle.xfs_base.specs.Causes.{IfTold, Rose};
 ghost use Rattle.xfs_journal.specs.declared.record.Rec.TheVariants.{Issue, Clear, Expire, Boot, Bind, Order, Done};
 ghost use Rattle.xfs_journal.specs.Journal.{next_issue};
 ghost use Rattle.xfs_guard.specs.declared.open.Open.TheVariants.{No, Written};
+ghost use Rattle.xfs_guard.specs.Balance.{no_notes};
 ghost use Rattle.xfs_guard.specs.Nonce.{Ends, live_in, live_nonce};
 ghost use Rattle.xfs_guard.specs.View.{shut_at};
 ghost use Rattle.xfs_guard.specs.Upheld.{IsUpheld};
@@ -95,6 +96,8 @@ impl<M: Mechanism, D: Disk> Guard<M, D> {
           open_order = No;
           motions = M.motions mech;
           places = M.places mech;
+          booted = M.places mech;
+          loaded = no_notes;
           faults = M.faults mech;
           limits = limits;
           shut = false;
@@ -239,6 +242,20 @@ impl<M: Mechanism, D: Disk> Guard<M, D> {
         ensures { result ≡ self.now.state.places }
     {
         self.mech.survey()
+    }
+
+    /// The places of the last Boot that this guard appended.
+    pub fn booted(&self) -> &Places
+        ensures { result.now ≡ self.now.state.booted }
+    {
+        self.ledger.booted()
+    }
+
+    /// How many notes of each unit were loaded since that Boot: over the six places the unit has so many more.
+    pub fn loaded(&self) -> &Counts
+        ensures { result.now ≡ self.now.state.loaded }
+    {
+        self.ledger.loaded()
     }
 
     /// The journal. A record's number is its place, from 1.

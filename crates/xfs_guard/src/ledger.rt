@@ -3,6 +3,7 @@
 ghost use Rattle.std.specs.Prelude.{MatchResult, ◌≡◌, ◌≢◌, ◌⊎◌, ℕ, List, ◌+◌, ◌-◌, ◌<◌, ◌≤◌, ◌^◌, [], ◌∷◌, ◌++◌, true, false, is_some, length, slice_get, slice_index, take, OnErr, IfErr, IfOk, OnOk, Some, None, Err, ◌||◌};
 ghost use Rattle.std.specs.Option.{option_copied, option_map};
 ghost use Rattle.xfs_base.specs.Causes.{IfTold, Rose};
+ghost use Rattle.xfs_base.specs.Counts.{at};
 ghost use Rattle.xfs_base.specs.Money.{value};
 ghost use Rattle.xfs_base.specs.declared.counts.Counts.{Counts};
 ghost use Rattle.xfs_base.specs.declared.counts.Kind.TheVariants.{Present};
@@ -18,6 +19,7 @@ ghost use Rattle.xfs_guard.specs.Nonce.{Ends, live_in, nonce_of};
 ghost use Rattle.xfs_guard.specs.Refusals.{bound_token, bound_place};
 ghost use Rattle.xfs_guard.specs.Presented.{presented_in};
 ghost use Rattle.xfs_guard.specs.LedgerView.{IsOpen, IsWriteFault, Wrote, IsSame, IsPresentedBound, write_refusal};
+ghost use Rattle.xfs_guard.specs.Balance.{no_notes, with_notes};
 ghost use Rattle.xfs_guard.specs.Ledger.{IsLive, IsDoubted};
 ghost use Rattle.xfs_guard.specs.CrashOutcomes.{IsOldOrBooted, Leaves};
 ghost use Rattle.xfs_guard.specs.Crashed.{IsCrashOutcome, StandsReread};
@@ -28,7 +30,7 @@ use crate::bound::{Bound, Live};
 use crate::{BootFault, Deny, Nonce};
 use std::alloc::Global;
 use std::marker::Model;
-use xfs_base::{Counts, Currency, Kind, Memory, UnitTable};
+use xfs_base::{Counts, Currency, Kind, Memory, Places, UnitTable};
 use xfs_disk::Disk;
 use xfs_journal::{AppendFault, Journal, Limits, MountFail, Rec, Survey, Text};
 use xfs_token::Amounts;
@@ -44,6 +46,9 @@ pub struct Ledger<D: Disk> {
     mark: u64,
     live: Option<Live>,
     bound: Option<Bound>,
+    // The places of the last Boot that was appended, and the notes that were loaded since.
+    booted: Places,
+    loaded: Counts,
     boot_missing: bool,
     // The nonce that may live where the record in doubt is an Issue.
     doubted: Option<Nonce>,
@@ -59,6 +64,8 @@ impl<D: Disk> Model for Ledger<D> {
       records = l.journal.records;
       units = l.units;
       bound = amounts_kept l.bound;
+      booted = l.booted;
+      loaded = l.loaded;
       room = l.journal.room;
       limits = l.journal.limits;
       shut = l.journal.shut;
@@ -90,6 +97,7 @@ impl<D: Disk> Ledger<D> {
         ensures fits { IfOk result (λ l. exceeds limits l.records ≡ false) }
         ensures opened { IfOk result (λ l. (l.shut ≡ false) × (l.in_doubt ≡ None) × (l.bound ≡ None) × (l.boot_missing ≡ false)) }
         ensures same { IfOk result (λ l. (l.limits ≡ limits) × (l.units ≡ units)) }
+        ensures unloaded { IfOk result (λ l. (l.booted ≡ places) × (l.loaded ≡ no_notes)) }
         ensures told { MatchResult result (λ l. is_some (D.held l.disk) ≡ is_some (D.held disk)) (λ f. is_some (D.held f.disk) ≡ is_some (D.held disk)) }
         ensures not_journal { IfErr result (λ f. (at : ℕ) → f.why ≡ NotJournal at → IfTold (D.held disk) (λ all. CeasesAt all at × ((records : List Rec) → ¬ StandsFor all records))) }
         ensures refused { IfErr result (λ f. (at : ℕ) → f.why ≡ NotJournal at → IsQuiet D.held D.images D.moment D.images_since D.faults disk f.disk) }
@@ -114,6 +122,7 @@ impl<D: Disk> Ledger<D> {
             }
         };
         let issues = issues_of(journal.records());
+        let booted = *places.places();
         match append_boot(&mut journal, places) {
             Ok(mark) => Ok(Ledger {
                 alloc,
@@ -123,6 +132,8 @@ impl<D: Disk> Ledger<D> {
                 mark,
                 live: None,
                 bound: None,
+                booted,
+                loaded: Counts([0; 8]),
                 boot_missing: false,
                 doubted: None,
             }),
@@ -153,6 +164,8 @@ impl<D: Disk> Ledger<D> {
             mark: _,
             live: _,
             bound: _,
+            booted: _,
+            loaded: _,
             boot_missing: _,
             doubted: _,
         } = self;
@@ -256,6 +269,31 @@ impl<D: Disk> Ledger<D> {
             Some(bound) => sum_of(&bound.amounts, &bound.presented, currency),
             None => 0,
         }
+    }
+
+    /// The places of the last Boot that was appended.
+    pub fn booted(&self) -> &Places
+        ensures { result.now ≡ self.now.booted }
+    {
+        &self.booted
+    }
+
+    /// The notes that were loaded since that Boot.
+    pub fn loaded(&self) -> &Counts
+        ensures { result.now ≡ self.now.loaded }
+    {
+        &self.loaded
+    }
+
+    /// So many notes of a unit, which counts from 1, were loaded. The journal has nothing of it.
+    pub fn count_load(&mut self, unit: u8, count: u32)
+        requires low { 1 ≤ unit }
+        requires high { unit ≤ length self.old.units }
+        requires small { at self.old.loaded (unit - 1) + count < 2 ^ 32 }
+        ensures { self.new ≡ record self.old { loaded = with_notes self.old.loaded unit count } }
+    {
+        let _few = self.units.len();
+        self.loaded.0[usize::from(unit) - 1] += count;
     }
 
     /// Each limit less what the journal has of it.
@@ -405,6 +443,8 @@ impl<D: Disk> Ledger<D> {
         ensures ok { OnOk result ((records : List Rec) × IsPossible self.old.records self.old.in_doubt records × (self.new ≡ record self.old {
           records = records ++ Boot places ∷ [];
           bound = None;
+          booted = places;
+          loaded = no_notes;
           shut = false;
           boot_missing = false;
           in_doubt = None;
@@ -447,11 +487,14 @@ impl<D: Disk> Ledger<D> {
         self.bound = None;
         self.live = live_found(self.live, self.doubted, self.journal.records(), before);
         let issues = issues_of(self.journal.records());
+        let booted = *places.places();
         match append_boot(&mut self.journal, places) {
             Ok(mark) => {
                 self.issues = issues;
                 self.mark = mark;
                 self.live = None;
+                self.booted = booted;
+                self.loaded = Counts([0; 8]);
                 self.boot_missing = false;
                 Ok(())
             }

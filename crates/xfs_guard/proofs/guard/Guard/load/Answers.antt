@@ -14,7 +14,7 @@ invariant_of-self-2 g c =
           (g.M.Mechanism.motions c.load.new.self) (g.M.Mechanism.places c.load.new.self) (g.M.Mechanism.faults c.load.new.self)
           (g.M.Mechanism.room c.ready.new.self) (g.M.Mechanism.room c.load.new.self) (c.self.invariant.sound still booted) tt reported (loaded-leaves c.self.inside.open_order c.args.unit c.args.count _ _);
       clean = c.self.invariant.clean;
-      marked = c.self.invariant.marked;
+      marked = c.self.invariant.balanced;
       closed = c.self.invariant.closed;
       missing = c.self.invariant.missing;
       recorded = λ told J p. IsRecorded-report _ _ J (Loaded c.args.unit c.args.count) c.load.result.moved c.load.result.diverted c.load.result.failed _ _ _ _ _ _ tt reported (c.self.invariant.recorded told J p);

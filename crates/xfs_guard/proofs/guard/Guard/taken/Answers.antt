@@ -1,5 +1,6 @@
 use Rattle.std.proofs.Common.{◌∙◌, refl, arith}
 use Rattle.xfs_mech.specs.declared.motion.Motion.TheVariants.{Taken}
+use Rattle.xfs_guard.proofs.BalanceLaws.{balanced-taking}
 use Rattle.xfs_guard.proofs.ReportLaws.{IsSound-report, IsRecorded-entry, IsRecorded-report, HasRoom-report, HasLimits-report, Continues-report, taken-leaves}
 use Rattle.xfs_guard.proofs.ContinueLaws.{Continues-same}
 use Rattle.xfs_guard.specs.CrashOutcomes.{MayTake}
@@ -16,7 +17,7 @@ invariant_of-self-2 g c =
           (g.M.Mechanism.motions c.taken.new.self) (g.M.Mechanism.places c.taken.new.self) (g.M.Mechanism.faults c.taken.new.self)
           (g.M.Mechanism.room c.ready.new.self) (g.M.Mechanism.room c.taken.new.self) (c.self.invariant.sound still booted) tt reported (taken-leaves c.self.inside.open_order c.taken.result.moved _ _ other);
       clean = c.self.invariant.clean;
-      marked = c.self.invariant.marked;
+      balanced = balanced-taking _ _ _ _ _ c.taken.result.moved c.taken.result.moved c.taken.result.diverted c.taken.result.failed _ _ _ _ reported c.self.invariant.balanced;
       closed = c.self.invariant.closed;
       missing = c.self.invariant.missing;
       recorded = λ told J p. IsRecorded-report _ _ J (Taken c.taken.result.moved) c.taken.result.moved c.taken.result.diverted c.taken.result.failed _ _ _ _ _ _ tt reported (c.self.invariant.recorded told J p);
