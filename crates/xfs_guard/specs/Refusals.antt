@@ -12,6 +12,7 @@ use Rattle.xfs_hmac.specs.Hmac.{hmac}
 use Rattle.xfs_token.specs.Token.{Parts, Spells}
 use Rattle.xfs_token.specs.Amounts.{amounts_of}
 use Rattle.xfs_token.specs.Fault.{IsFault}
+use Rattle.xfs_token.specs.declared.text.TheConstants.{MAC_FIELD}
 use Rattle.xfs_token.specs.declared.faults.TokenFault.{TokenFault}
 use Rattle.xfs_journal.specs.declared.record.Rec.TheVariants.{Bind}
 use Rattle.xfs_guard.specs.TokenDeny.{deny_of}
@@ -48,7 +49,7 @@ bind_refusal v bytes None = if sum v.places.transport.0 == 0 then None else Some
 abbrev pub claim_refusal_at : View → List ℕ → Parts → Option Nonce → Option Deny
 claim_refusal_at v bytes t None = Some (NoNonce (last_mark v.records))
 claim_refusal_at v bytes t (Some nonce) =
-    let due = hmac v.key (take (length bytes - 76) bytes) in
+    let due = hmac v.key (take (length bytes - MAC_FIELD) bytes) in
     if not (bytes_eq t.nonce nonce.text) then Some (WrongNonce (last_mark v.records))
     else if not (bytes_eq t.mac due) then Some (WrongMac due)
     else if is_none (amounts_of t) then Some NoAmounts

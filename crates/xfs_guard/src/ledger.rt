@@ -12,7 +12,7 @@ ghost use Rattle.xfs_journal.specs.Paging.{CeasesAt, IsOldOrShort, IsQuiet};
 ghost use Rattle.xfs_journal.specs.declared.record.Rec.{Rec};
 ghost use Rattle.xfs_guard.specs.declared.fail.BootFault.TheVariants.{NotJournal, Disk as BootDisk, Full as BootFull, Memory as BootMemory};
 ghost use Rattle.xfs_journal.specs.JournalView.{exceeds, refusal, IsPossible, StandsForEither};
-ghost use Rattle.xfs_disk.specs.Disk.{LeavesOnly};
+ghost use Rattle.xfs_disk.specs.Moments.{LeavesOnly};
 ghost use Rattle.xfs_journal.specs.declared.record.Rec.TheVariants.{Issue, Clear, Boot, Bind, Order, Done, Load};
 ghost use Rattle.xfs_journal.specs.Journal.{record_at, live_of, token_of, last_mark, next_issue, nonce_text};
 ghost use Rattle.xfs_guard.specs.Nonce.{Ends, live_in, nonce_of};
@@ -100,16 +100,16 @@ impl<D: Disk> Ledger<D> {
         ensures unloaded { IfOk result (λ l. (l.booted ≡ places) × (l.loaded ≡ no_notes)) }
         ensures told { MatchResult result (λ l. is_some (D.held l.disk) ≡ is_some (D.held disk)) (λ f. is_some (D.held f.disk) ≡ is_some (D.held disk)) }
         ensures not_journal { IfErr result (λ f. (at : ℕ) → f.why ≡ NotJournal at → IfTold (D.held disk) (λ all. CeasesAt all at × ((records : List Rec) → ¬ StandsFor all records))) }
-        ensures refused { IfErr result (λ f. (at : ℕ) → f.why ≡ NotJournal at → IsQuiet D.held D.images D.moment D.images_since D.faults disk f.disk) }
+        ensures refused { IfErr result (λ f. (at : ℕ) → f.why ≡ NotJournal at → IsQuiet D.Disk disk f.disk) }
         ensures full { IfErr result (λ f. f.why ≡ BootFull → (records : List Rec) × IfTold (D.held disk) (λ all. StandsFor all records) × (exceeds limits (records ++ Boot places ∷ []) ≡ true)) }
         ensures disk { IfErr result (λ f. f.why ≡ BootDisk → Rose (D.faults disk) (D.faults f.disk)) }
         ensures left { IfErr result (λ f. (records : List Rec) → MayLeave D.Disk f.disk records → WasLeft D.Disk disk places records) }
         ensures either { IfErr result (λ f. IfTold (D.held disk) (λ _. (records : List Rec) → ((image : List ℕ) → D.images disk image → StandsFor image records) → (image : List ℕ) → D.images f.disk image → StandsForEither records (Boot places) image)) }
-        ensures unlisted { IfErr result (λ f. IfTold (D.held disk) (λ all. ((records : List Rec) → ¬ StandsFor all records) → IsQuiet D.held D.images D.moment D.images_since D.faults disk f.disk)) }
-        ensures unwritten { IfErr result (λ f. f.why ≢ BootDisk → IfTold (D.held disk) (λ all. LeavesOnly D.moment D.images_since disk f.disk (IsOldOrShort (D.images disk) all))) }
+        ensures unlisted { IfErr result (λ f. IfTold (D.held disk) (λ all. ((records : List Rec) → ¬ StandsFor all records) → IsQuiet D.Disk disk f.disk)) }
+        ensures unwritten { IfErr result (λ f. f.why ≢ BootDisk → IfTold (D.held disk) (λ all. LeavesOnly D.Disk disk f.disk (IsOldOrShort (D.images disk) all))) }
         ensures any_moment { IfTold (D.held disk) (λ all. MatchResult result
-            (λ l. LeavesOnly D.moment D.images_since disk l.disk (IsOldOrBooted (D.images disk) all places))
-            (λ f. LeavesOnly D.moment D.images_since disk f.disk (IsOldOrBooted (D.images disk) all places))) }
+            (λ l. LeavesOnly D.Disk disk l.disk (IsOldOrBooted (D.images disk) all places))
+            (λ f. LeavesOnly D.Disk disk f.disk (IsOldOrBooted (D.images disk) all places))) }
         ensures faults { MatchResult result (λ l. D.faults disk ≤ D.faults l.disk) (λ f. D.faults disk ≤ D.faults f.disk) }
     {
         let mut journal = match Journal::mount(alloc, disk, limits) {
@@ -314,7 +314,7 @@ impl<D: Disk> Ledger<D> {
         ensures cause { result ≡ Err Deny.Disk → Rose (D.faults self.old.disk) (D.faults self.new.disk) }
         ensures faults { D.faults self.old.disk ≤ D.faults self.new.disk }
         ensures told { is_some (D.held self.new.disk) ≡ is_some (D.held self.old.disk) }
-        ensures any_moment { IfTold (D.held self.old.disk) (λ _. LeavesOnly D.moment D.images_since self.old.disk self.new.disk (StandsForEither self.old.records (Issue (next_issue self.old.records) word))) }
+        ensures any_moment { IfTold (D.held self.old.disk) (λ _. LeavesOnly D.Disk self.old.disk self.new.disk (StandsForEither self.old.records (Issue (next_issue self.old.records) word))) }
         ensures kept { OnOk result (Leaves D.Disk self.new.disk self.new.records) }
     {
         let number = self.next_issue();
@@ -346,7 +346,7 @@ impl<D: Disk> Ledger<D> {
         ensures cause { result ≡ Err Deny.Disk → Rose (D.faults self.old.disk) (D.faults self.new.disk) }
         ensures faults { D.faults self.old.disk ≤ D.faults self.new.disk }
         ensures told { is_some (D.held self.new.disk) ≡ is_some (D.held self.old.disk) }
-        ensures any_moment { IfTold (D.held self.old.disk) (λ _. LeavesOnly D.moment D.images_since self.old.disk self.new.disk (StandsForEither self.old.records rec)) }
+        ensures any_moment { IfTold (D.held self.old.disk) (λ _. LeavesOnly D.Disk self.old.disk self.new.disk (StandsForEither self.old.records rec)) }
         ensures kept { OnOk result (Leaves D.Disk self.new.disk self.new.records) }
     {
         self.mark = append(&mut self.journal, rec)?;
@@ -366,7 +366,7 @@ impl<D: Disk> Ledger<D> {
         ensures cause { result ≡ Err Deny.Disk → Rose (D.faults self.old.disk) (D.faults self.new.disk) }
         ensures faults { D.faults self.old.disk ≤ D.faults self.new.disk }
         ensures told { is_some (D.held self.new.disk) ≡ is_some (D.held self.old.disk) }
-        ensures any_moment { IfTold (D.held self.old.disk) (λ _. LeavesOnly D.moment D.images_since self.old.disk self.new.disk (StandsForEither self.old.records (Bind token))) }
+        ensures any_moment { IfTold (D.held self.old.disk) (λ _. LeavesOnly D.Disk self.old.disk self.new.disk (StandsForEither self.old.records (Bind token))) }
         ensures kept { OnOk result (Leaves D.Disk self.new.disk self.new.records) }
     {
         let place = append(&mut self.journal, Rec::Bind { token })?;
@@ -387,7 +387,7 @@ impl<D: Disk> Ledger<D> {
         ensures cause { result ≡ Err Deny.Disk → Rose (D.faults self.old.disk) (D.faults self.new.disk) }
         ensures faults { D.faults self.old.disk ≤ D.faults self.new.disk }
         ensures told { is_some (D.held self.new.disk) ≡ is_some (D.held self.old.disk) }
-        ensures any_moment { IfTold (D.held self.old.disk) (λ _. LeavesOnly D.moment D.images_since self.old.disk self.new.disk (StandsForEither self.old.records (Load unit count))) }
+        ensures any_moment { IfTold (D.held self.old.disk) (λ _. LeavesOnly D.Disk self.old.disk self.new.disk (StandsForEither self.old.records (Load unit count))) }
         ensures kept { OnOk result (Leaves D.Disk self.new.disk self.new.records) }
     {
         append(&mut self.journal, Rec::Load { unit, count })?;
@@ -412,7 +412,7 @@ impl<D: Disk> Ledger<D> {
         ensures cause { result ≡ Err Deny.Disk → Rose (D.faults self.old.disk) (D.faults self.new.disk) }
         ensures faults { D.faults self.old.disk ≤ D.faults self.new.disk }
         ensures told { is_some (D.held self.new.disk) ≡ is_some (D.held self.old.disk) }
-        ensures any_moment { IfTold (D.held self.old.disk) (λ _. LeavesOnly D.moment D.images_since self.old.disk self.new.disk (StandsForEither self.old.records (Order kind counts))) }
+        ensures any_moment { IfTold (D.held self.old.disk) (λ _. LeavesOnly D.Disk self.old.disk self.new.disk (StandsForEither self.old.records (Order kind counts))) }
         ensures kept { OnOk result (Leaves D.Disk self.new.disk self.new.records) }
     {
         append(&mut self.journal, Rec::Order { kind, counts })?;
@@ -430,7 +430,7 @@ impl<D: Disk> Ledger<D> {
         ensures cause { result ≡ Err Deny.Disk → Rose (D.faults self.old.disk) (D.faults self.new.disk) }
         ensures faults { D.faults self.old.disk ≤ D.faults self.new.disk }
         ensures told { is_some (D.held self.new.disk) ≡ is_some (D.held self.old.disk) }
-        ensures any_moment { IfTold (D.held self.old.disk) (λ _. LeavesOnly D.moment D.images_since self.old.disk self.new.disk (StandsForEither self.old.records (Done moved diverted))) }
+        ensures any_moment { IfTold (D.held self.old.disk) (λ _. LeavesOnly D.Disk self.old.disk self.new.disk (StandsForEither self.old.records (Done moved diverted))) }
         ensures kept { OnOk result (Leaves D.Disk self.new.disk self.new.records) }
     {
         append(&mut self.journal, Rec::Done { moved, diverted })?;
@@ -477,7 +477,7 @@ impl<D: Disk> Ledger<D> {
         ensures faults { D.faults self.old.disk ≤ D.faults self.new.disk }
         ensures told { is_some (D.held self.new.disk) ≡ is_some (D.held self.old.disk) }
         ensures possible { IsStored D.Disk self.old.disk self.old.records self.old.in_doubt }
-        ensures any_moment { IfTold (D.held self.old.disk) (λ _. LeavesOnly D.moment D.images_since self.old.disk self.new.disk
+        ensures any_moment { IfTold (D.held self.old.disk) (λ _. LeavesOnly D.Disk self.old.disk self.new.disk
             (λ bytes. D.images self.old.disk bytes ⊎ StandsReread self.old.records self.old.in_doubt places (IsCrashOutcome self.new.records self.new.in_doubt (self.new.shut || self.new.boot_missing)) bytes)) }
     {
         let before = self.journal.records().len();
@@ -560,7 +560,7 @@ fn append_boot<D: Disk>(journal: &mut Journal<D>, places: Survey) -> Result<u64,
     ensures full { result ≡ Err BootFull → exceeds journal.old.limits (journal.old.records ++ Boot places ∷ []) ≡ true }
     ensures disk { result ≡ Err BootDisk → Rose (D.faults journal.old.disk) (D.faults journal.new.disk) }
     ensures images { IfTold (D.held journal.old.disk) (λ _. (image : List ℕ) → D.images journal.new.disk image → StandsForEither journal.old.records (Boot places) image) }
-    ensures any_moment { IfTold (D.held journal.old.disk) (λ _. LeavesOnly D.moment D.images_since journal.old.disk journal.new.disk (StandsForEither journal.old.records (Boot places))) }
+    ensures any_moment { IfTold (D.held journal.old.disk) (λ _. LeavesOnly D.Disk journal.old.disk journal.new.disk (StandsForEither journal.old.records (Boot places))) }
     ensures told { is_some (D.held journal.new.disk) ≡ is_some (D.held journal.old.disk) }
     ensures unwritten { IfErr result (λ f. f ≢ BootDisk → journal.new.disk ≡ journal.old.disk) }
     ensures not_mounted { IfErr result (λ f. (at : ℕ) → f ≢ NotJournal at) }
@@ -595,7 +595,7 @@ fn append<D: Disk>(journal: &mut Journal<D>, rec: Rec) -> Result<u64, Deny>
     ensures room { journal.old.room ≤ journal.new.room + 1 }
     ensures faults { D.faults journal.old.disk ≤ D.faults journal.new.disk }
     ensures told { is_some (D.held journal.new.disk) ≡ is_some (D.held journal.old.disk) }
-    ensures any_moment { IfTold (D.held journal.old.disk) (λ _. LeavesOnly D.moment D.images_since journal.old.disk journal.new.disk (StandsForEither journal.old.records rec)) }
+    ensures any_moment { IfTold (D.held journal.old.disk) (λ _. LeavesOnly D.Disk journal.old.disk journal.new.disk (StandsForEither journal.old.records rec)) }
     ensures kept { OnOk result (Leaves D.Disk journal.new.disk journal.new.records) }
 {
     match journal.append(rec) {
