@@ -1,5 +1,5 @@
 -- What lies in the machine, against its last Boot: the notes that lay there then, and those that were loaded since.
-use Rattle.std.specs.Prelude.{◌≡◌, ℕ, ◌+◌, ◌-◌, Bool, false, List, [], ◌∷◌, slice_set}
+use Rattle.std.specs.Prelude.{◌≡◌, ℕ, ◌+◌, ◌-◌, Bool, false, List, [], ◌∷◌, length, slice_set}
 use Rattle.std.specs.List.{Contains}
 use Rattle.xfs_base.specs.Counts.{at, all_notes}
 use Rattle.xfs_base.specs.declared.counts.Counts.{Counts}
@@ -25,4 +25,5 @@ loaded_after entry failed loaded = loaded
 -- A record of the list is the Boot with these places, and each unit has over the six places what it had there, and what was loaded since.
 pub record IsBalanced (records : List Rec) (booted : Places) (loaded : Counts) (places : Places) : Type 0 where
   pub boot : Contains records (Boot booted)
+  pub eight : length loaded.0 ≡ 8
   pub sums : (u : ℕ) → all_notes places u ≡ all_notes booted u + at loaded u

@@ -290,7 +290,8 @@ impl<D: Disk> Ledger<D> {
         requires low { 1 ≤ unit }
         requires high { unit ≤ length self.old.units }
         requires small { at self.old.loaded (unit - 1) + count < 2 ^ 32 }
-        ensures { self.new ≡ record self.old { loaded = with_notes self.old.loaded unit count } }
+        ensures counted { self.new ≡ record self.old { loaded = with_notes self.old.loaded unit count } }
+        ensures few { unit ≤ 8 }
     {
         let _few = self.units.len();
         self.loaded.0[usize::from(unit) - 1] += count;

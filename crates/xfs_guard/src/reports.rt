@@ -63,9 +63,10 @@ impl<M: Mechanism, D: Disk> Guard<M, D> {
         let _possible = self.ledger.shut();
         self.mech.ready()?;
         let outcome = self.mech.load(unit, count);
-        if !outcome.failed {
-            self.ledger.count_load(unit, count);
+        if outcome.failed {
+            return Ok(outcome);
         }
+        self.ledger.count_load(unit, count);
         Ok(outcome)
     }
 

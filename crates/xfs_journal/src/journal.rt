@@ -43,6 +43,7 @@ pub struct MountFail<D: Disk> {
 impl<D: Disk> Model for Journal<D> {
     ghost use Rattle.std.specs.Prelude.{◌-◌, ◌≤◌, vec_len, vec_capacity};
     ghost use Rattle.xfs_journal.specs.JournalView.{JournalView, IsKept, IsInDoubt};
+    ghost use Rattle.xfs_journal.specs.declared.body.TheConstants.{MOST};
 
     ghost Value = { JournalView D };
 
