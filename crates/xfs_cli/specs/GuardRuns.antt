@@ -10,6 +10,7 @@ use Rattle.xfs_journal.specs.Image.{StandsFor}
 use Rattle.xfs_journal.specs.declared.limits.Limits.{Limits}
 use Rattle.xfs_journal.specs.declared.record.Rec.{Rec}
 use Rattle.xfs_journal.specs.declared.record.Rec.TheVariants.{Boot}
+use Rattle.xfs_guard.specs.Balance.{no_notes}
 use Rattle.xfs_guard.specs.View.{View}
 use Rattle.xfs_guard.specs.declared.machine_core.Core.{Core}
 use Rattle.xfs_guard.specs.declared.fail.BootFault.{BootFault}
@@ -57,6 +58,8 @@ opened e records = record {
   open_order = No;
   motions = e.motions;
   places = e.places;
+  booted = e.places;
+  loaded = no_notes;
   faults = e.faults;
   limits = e.limits;
   shut = false;

@@ -3,7 +3,8 @@
 ghost use Rattle.std.specs.Prelude.{◌≡◌, ◌≢◌, ◌↔◌, ◌<◌, ◌≤◌, ◌⊎◌, ℕ, List, Some, None, false, IsTrue, is_some, length};
 ghost use Rattle.std.specs.Io.KnownBytes.{IsAtEnd};
 ghost use Rattle.xfs_base.specs.Causes.{Rose, IfTold};
-ghost use Rattle.xfs_disk.specs.Disk.{LeavesOnly, Only};
+ghost use Rattle.xfs_disk.specs.Disk.{Only};
+ghost use Rattle.xfs_disk.specs.Moments.{LeavesOnly};
 ghost use Rattle.xfs_cli.specs.Moments.{WasOnTheWay};
 ghost use Rattle.xfs_journal.specs.Image.{StandsFor};
 ghost use Rattle.xfs_journal.specs.declared.record.Rec.{Rec};
@@ -79,7 +80,7 @@ pub fn guard<S: Source, K: Sink, M: Mechanism, D: Disk>(
     ensures unwritten { IfTold (D.held core.disk) (λ bytes. IsNoJournal bytes → IsUnwritten (D.held core.disk) (D.held result.disk) (D.images core.disk) (D.images result.disk)) }
     ensures unmoved { IfTold (D.held core.disk) (λ bytes. IsNoJournal bytes → result.mech ≡ core.mech) }
 
-    ensures any_moment { IfTold (D.held core.disk) (λ bytes. (records : List Rec) → StandsFor bytes records → LeavesOnly D.moment D.images_since core.disk result.disk (WasOnTheWay records (D.held result.disk) (M.motions result.mech))) }
+    ensures any_moment { IfTold (D.held core.disk) (λ bytes. (records : List Rec) → StandsFor bytes records → LeavesOnly D.Disk core.disk result.disk (WasOnTheWay records (D.held result.disk) (M.motions result.mech))) }
     ensures newer { IfTold (D.held core.disk) (λ bytes. (records : List Rec) → StandsFor bytes records → IsNewer (length records) (M.motions core.mech) (M.motions result.mech)) }
     ensures adds { AddsUp (M.motions core.mech) (M.motions result.mech) (M.places core.mech) (M.places result.mech) }
     ensures units { M.units result.mech ≡ core.units }

@@ -3,7 +3,8 @@
 ghost use Rattle.std.specs.Prelude.{◌≡◌, ◌≢◌, ◌↔◌, ◌<◌, ◌⊎◌, ℕ, List, None, is_some, length};
 ghost use Rattle.std.specs.Io.KnownBytes.{IsAtEnd};
 ghost use Rattle.xfs_base.specs.Causes.{Rose, IfTold};
-ghost use Rattle.xfs_disk.specs.Disk.{LeavesOnly, Only};
+ghost use Rattle.xfs_disk.specs.Disk.{Only};
+ghost use Rattle.xfs_disk.specs.Moments.{LeavesOnly};
 ghost use Rattle.xfs_cli.specs.Moments.{WasOnTheWay};
 ghost use Rattle.xfs_journal.specs.Image.{StandsFor};
 ghost use Rattle.xfs_journal.specs.declared.record.Rec.{Rec};
@@ -57,7 +58,7 @@ pub fn run<S: Source, K: Sink, M: Mechanism, D: Disk>(
 
     // A crash at any moment of the run leaves a list that begins with the records at entry, and is a front of those at
     // the end but for its last record, whose number then no motion has.
-    ensures any_moment { IfTold (D.held core.disk) (λ bytes. (records : List Rec) → StandsFor bytes records → LeavesOnly D.moment D.images_since core.disk result.disk (WasOnTheWay records (D.held result.disk) (M.motions result.mech))) }
+    ensures any_moment { IfTold (D.held core.disk) (λ bytes. (records : List Rec) → StandsFor bytes records → LeavesOnly D.Disk core.disk result.disk (WasOnTheWay records (D.held result.disk) (M.motions result.mech))) }
 
     // Each status has its cause.
     ensures usage { (result.status ≡ USAGE) ↔ ¬ (IsCommand words.now) }

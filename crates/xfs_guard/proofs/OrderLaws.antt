@@ -15,6 +15,7 @@ use Rattle.xfs_token.specs.Amounts.{amount, amount_in, has_currency}
 use Rattle.xfs_journal.specs.declared.record.Rec.{Rec}
 use Rattle.xfs_journal.specs.declared.record.Rec.TheVariants.{Order}
 use Rattle.xfs_journal.specs.Journal.{record_at, live_of, token_of, last_mark}
+use Rattle.xfs_guard.specs.Balance.{no_notes}
 use Rattle.xfs_guard.specs.declared.open.Open.TheVariants.{No, Written, Acted}
 use Rattle.xfs_guard.specs.declared.deny.Deny.TheVariants.{Short, WrongNonce}
 use Rattle.xfs_guard.specs.declared.nonce.Nonce.{Nonce}
@@ -27,6 +28,7 @@ use Rattle.xfs_guard.specs.Budget.{IsFunded}
 use Rattle.xfs_guard.specs.Sound.{IsSound, OpenIsNewest}
 use Rattle.xfs_guard.specs.Refusals.{notes_of, asked_kind, asked_counts, over_budget, order_refusal, order_refusal_at, stack_refusal}
 use Rattle.xfs_token.proofs.AmountBounds.{amount-small}
+use Rattle.xfs_guard.proofs.BalanceLaws.{none_there}
 use Rattle.xfs_guard.proofs.BudgetLaws.{over_budget-none, amount-is, amount_in-none}
 use Rattle.xfs_guard.proofs.RecordLaws.{longer, IsSound-order, released-order}
 
@@ -97,28 +99,14 @@ set-past [] i v le = refl
 set-past (x ∷ xs) zero v le = absurd (omega arith)
 set-past (x ∷ xs) (suc i) v le = ap (λ l. x ∷ l) (set-past xs i v (omega arith))
 
-abbrev zeros : List ℕ
-zeros = 0 ∷ 0 ∷ 0 ∷ 0 ∷ 0 ∷ 0 ∷ 0 ∷ 0 ∷ []
-
-nothing : (u : ℕ) → get_or zeros u 0 ≡ 0
-nothing zero = refl
-nothing (suc zero) = refl
-nothing (suc (suc zero)) = refl
-nothing (suc (suc (suc zero))) = refl
-nothing (suc (suc (suc (suc zero)))) = refl
-nothing (suc (suc (suc (suc (suc zero))))) = refl
-nothing (suc (suc (suc (suc (suc (suc zero)))))) = refl
-nothing (suc (suc (suc (suc (suc (suc (suc zero))))))) = refl
-nothing (suc (suc (suc (suc (suc (suc (suc (suc u)))))))) = refl
-
 -- the notes of one unit lie where that unit has enough
 notes-lie : (unit count : ℕ) (c : Counts) → count ≤ at c (unit - 1) → LiesIn (notes_of unit count) c
 notes-lie unit count c le u = elim (cases_lt (unit - 1) 8) [
   | inl low ↦ elim (cases_eq u (unit - 1)) [
-    | inl same ↦ (let e = get_or-set_at zeros (unit - 1) u count 0 same (omega arith) in let f = ap (λ k. at c k) same in omega (arith, e, f, le))
-    | inr other ↦ (let e = get_or-set_other zeros (unit - 1) u count 0 other in let z = nothing u in omega (arith, e, z))
+    | inl same ↦ (let e = get_or-set_at no_notes.0 (unit - 1) u count 0 same (omega arith) in let f = ap (λ k. at c k) same in omega (arith, e, f, le))
+    | inr other ↦ (let e = get_or-set_other no_notes.0 (unit - 1) u count 0 other in let z = none_there u in omega (arith, e, z))
   ]
-  | inr past ↦ (let e = ap (λ l. get_or l u 0) (set-past zeros (unit - 1) count past) in let z = nothing u in omega (arith, e, z))
+  | inr past ↦ (let e = ap (λ l. get_or l u 0) (set-past no_notes.0 (unit - 1) count past) in let z = none_there u in omega (arith, e, z))
 ]
 
 -- an order that isn't refused may be written

@@ -1,4 +1,5 @@
 pub mod Agrees
+pub mod Balance
 pub mod BootFaults
 pub mod Budget
 pub mod Claims

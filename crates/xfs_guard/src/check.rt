@@ -5,6 +5,7 @@ ghost use Rattle.std.specs.Option.{option_map};
 ghost use Rattle.xfs_hmac.specs.Hmac.{hmac};
 ghost use Rattle.xfs_token.specs.Token.{Spells};
 ghost use Rattle.xfs_token.specs.Amounts.{amounts_of};
+ghost use Rattle.xfs_token.specs.declared.text.TheConstants.{MAC_FIELD};
 ghost use Rattle.xfs_journal.specs.declared.record.Rec.TheVariants.{Bind};
 ghost use Rattle.xfs_guard.specs.declared.open.Open.TheVariants.{No};
 ghost use Rattle.xfs_guard.specs.Nonce.{live_nonce};
@@ -24,7 +25,7 @@ use xfs_base::Counts;
 use xfs_disk::Disk;
 use xfs_journal::Text;
 use xfs_mech::Mechanism;
-use xfs_token::{Amounts, Token, amounts, read};
+use xfs_token::{Amounts, MAC_FIELD, Token, amounts, read};
 
 impl<M: Mechanism, D: Disk> Guard<M, D> {
     /// Looks at a token's bytes: whether the journal takes more records, and whether they spell a token
@@ -174,11 +175,11 @@ fn text_of(alloc: Global, bytes: &[u8]) -> Result<Text, AllocError>
     }
 }
 
-// The HMAC that is due: that of all but the last 76 bytes of the token's text.
+// The HMAC that is due: that of all but the last field of the token's text.
 fn due(key: &Signer, bytes: &[u8]) -> [u8; 32]
-    requires { 76 ≤ length bytes.now }
-    ensures { result ≡ hmac key.now (take (length bytes.now - 76) bytes.now) }
+    requires { MAC_FIELD ≤ length bytes.now }
+    ensures { result ≡ hmac key.now (take (length bytes.now - MAC_FIELD) bytes.now) }
 {
-    let (prefix, _) = bytes.split_at(bytes.len() - 76);
+    let (prefix, _) = bytes.split_at(bytes.len() - MAC_FIELD);
     key.mac(prefix)
 }

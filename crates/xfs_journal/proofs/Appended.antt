@@ -8,7 +8,9 @@ use Rattle.std.specs.declared.result.Result.{Result}
 use Rattle.std.specs.List.{AllByRecursion}
 use Rattle.xfs_base.specs.Causes.{IfTold}
 use Rattle.std.specs.Prelude.{Bool}
-use Rattle.xfs_disk.specs.Disk.{Only, LeavesOnly}
+use Rattle.xfs_disk.specs.Disk.{Only}
+use Rattle.xfs_disk.specs.Moments.{LeavesOnly}
+use Rattle.xfs_disk.specs.declared.disk.Disk.{Ghosts}
 use Rattle.xfs_journal.proofs.Moments.{started}
 use Rattle.xfs_journal.specs.Gate.{IsClosed, IsOpened, IsEither}
 use Rattle.xfs_journal.specs.Image.{IsImage, IsRecord, StandsFor, contents, blocks, framed, magic}
@@ -125,8 +127,8 @@ passes_is limits J r end bytes place are =
     (ap (λ (m : ℕ). m + 1) (sym (front-longer J r end place) ∙ ap (λ (l : List ℕ). end + length l) (sym are)))
 
 -- a journal whose disk was not called
-pub still : {D : Type 0} (moment : D → ℕ) (since : D → ℕ → List ℕ → Type 0) (d : D) (h : Option (List ℕ)) (images : List ℕ → Type 0) (J : List Rec) (r : Rec) (shut : Bool) (end : ℕ)
-    → ((c : List ℕ) → since d (moment d) c → images c) → IsKept h images J shut end → shut ≡ false → IfTold h (λ _. LeavesOnly moment since d d (StandsForEither J r))
-still moment since d h images J r shut end now kept is_open = on_told h (λ _. LeavesOnly moment since d d (StandsForEither J r)) (λ b known.
+pub still : {D : Type 0} (g : Ghosts D) (d : D) (h : Option (List ℕ)) (images : List ℕ → Type 0) (J : List Rec) (r : Rec) (shut : Bool) (end : ℕ)
+    → ((c : List ℕ) → g.images_since d (g.moment d) c → images c) → IsKept h images J shut end → shut ≡ false → IfTold h (λ _. LeavesOnly g d d (StandsForEither J r))
+still g d h images J r shut end now kept is_open = on_told h (λ _. LeavesOnly g d d (StandsForEither J r)) (λ b known.
     let at_rest = stands_at_rest h images J end (subst (λ (s : Bool). IsKept h images J s end) is_open kept) in
-    started moment since d (StandsForEither J r) (λ c left. inl (from_told h (λ _. (f : List ℕ) → images f → StandsFor f J) at_rest b known c (now c left))))
+    started g d (StandsForEither J r) (λ c left. inl (from_told h (λ _. (f : List ℕ) → images f → StandsFor f J) at_rest b known c (now c left))))

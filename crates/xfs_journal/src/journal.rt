@@ -1,7 +1,8 @@
 //! The journal on a disk: a list of records, each on the disk before it counts.
 ghost use Rattle.std.specs.Prelude.{MatchResult, ◌≡◌, ◌≢◌, ◌⊎◌, ℕ, List, ◌+◌, ◌-◌, ◌≤◌, ◌<◌, ◌||◌, nat_lt, [], ◌∷◌, ◌++◌, is_some, length, true, false, Some, None, Err, IfOk, IfErr, OnOk, OnErr, IfSome};
 ghost use Rattle.xfs_base.specs.Causes.{IfTold, Rose};
-ghost use Rattle.xfs_disk.specs.Disk.{LeavesOnly};
+ghost use Rattle.xfs_disk.specs.Moments.{LeavesOnly};
+ghost use Rattle.xfs_journal.specs.declared.body.TheConstants.{MOST};
 ghost use Rattle.xfs_journal.specs.Image.{HasUnit, StandsFor, framed, contents, size};
 ghost use Rattle.xfs_journal.specs.JournalView.{exceeds, refusal, IsPossible, HasPossible, StandsForEither, MayPartAt};
 ghost use Rattle.xfs_journal.specs.declared.faults.AppendFault.TheVariants.{Disk as DiskFault, Memory as NoMemory};
@@ -42,6 +43,7 @@ pub struct MountFail<D: Disk> {
 impl<D: Disk> Model for Journal<D> {
     ghost use Rattle.std.specs.Prelude.{◌-◌, ◌≤◌, vec_len, vec_capacity};
     ghost use Rattle.xfs_journal.specs.JournalView.{JournalView, IsKept, IsInDoubt};
+    ghost use Rattle.xfs_journal.specs.declared.body.TheConstants.{MOST};
 
     ghost Value = { JournalView D };
 
@@ -55,7 +57,7 @@ impl<D: Disk> Model for Journal<D> {
     } };
 
     ghost invariant = { λ j. IsKept (D.held j.disk) (D.images j.disk) j.records.items j.shut j.end
-        × IsInDoubt (D.held j.disk) (D.images j.disk) j.records.items j.shut j.in_doubt × (1028 ≤ vec_capacity j.buffer) };
+        × IsInDoubt (D.held j.disk) (D.images j.disk) j.records.items j.shut j.in_doubt × (MOST ≤ vec_capacity j.buffer) };
 }
 
 impl<D: Disk> Journal<D> {
@@ -69,18 +71,18 @@ impl<D: Disk> Journal<D> {
         ensures limits { IfOk result (λ j. j.limits ≡ limits) }
         ensures in_doubt { IfOk result (λ j. j.in_doubt ≡ None) }
         // But after a fault of the disk nothing was written.
-        ensures unwritten { IfErr result (λ f. f.why ≢ MountDisk → IsQuiet D.held D.images D.moment D.images_since D.faults disk f.disk) }
+        ensures unwritten { IfErr result (λ f. f.why ≢ MountDisk → IsQuiet D.Disk disk f.disk) }
         ensures long { IfTold (D.held disk) (λ all. 9 < length all → MatchResult result
-            (λ j. IsQuiet D.held D.images D.moment D.images_since D.faults disk j.disk)
-            (λ f. IsQuiet D.held D.images D.moment D.images_since D.faults disk f.disk)) }
+            (λ j. IsQuiet D.Disk disk j.disk)
+            (λ f. IsQuiet D.Disk disk f.disk)) }
         ensures told { MatchResult result (λ j. is_some (D.held j.disk) ≡ is_some (D.held disk)) (λ f. is_some (D.held f.disk) ≡ is_some (D.held disk)) }
         ensures faults { MatchResult result (λ j. D.faults disk ≤ D.faults j.disk) (λ f. D.faults disk ≤ D.faults f.disk) }
 
         // A crash at any moment of the call leaves what it might have left before, or at most 9 bytes where the file
         // had no more; after `Ok` it leaves the list.
         ensures any_moment { IfTold (D.held disk) (λ all. MatchResult result
-            (λ j. LeavesOnly D.moment D.images_since disk j.disk (IsOldOrShort (D.images disk) all))
-            (λ f. LeavesOnly D.moment D.images_since disk f.disk (IsOldOrShort (D.images disk) all))) }
+            (λ j. LeavesOnly D.Disk disk j.disk (IsOldOrShort (D.images disk) all))
+            (λ f. LeavesOnly D.Disk disk f.disk (IsOldOrShort (D.images disk) all))) }
         ensures acknowledged { IfOk result (λ j. IfTold (D.held j.disk) (λ _. (c : List ℕ) → D.images j.disk c → StandsFor c j.records)) }
     {
         let mut disk = disk;
@@ -175,7 +177,7 @@ impl<D: Disk> Journal<D> {
         ensures stands { OnOk result (IfTold (D.held self.old.disk) (λ all. StandsFor all self.new.records)) }
         ensures not_journal { IfErr result (λ f. (at : ℕ) → f ≡ NotJournal at → D.held self.old.disk ≡ None) }
         ensures place { IfErr result (λ f. (at : ℕ) → f ≡ NotJournal at → MayPartAt self.old.records self.old.in_doubt at) }
-        ensures any_moment { IfTold (D.held self.old.disk) (λ _. IsQuiet D.held D.images D.moment D.images_since D.faults self.old.disk self.new.disk) }
+        ensures any_moment { IfTold (D.held self.old.disk) (λ _. IsQuiet D.Disk self.old.disk self.new.disk) }
         ensures acknowledged { OnOk result (IfTold (D.held self.new.disk) (λ _. (c : List ℕ) → D.images self.new.disk c → StandsFor c self.new.records)) }
     {
         match reload(
@@ -224,7 +226,7 @@ impl<D: Disk> Journal<D> {
         ensures told { is_some (D.held self.new.disk) ≡ is_some (D.held self.old.disk) }
 
         // A crash at any moment of the call leaves the list with the record or without it, and after `Ok` with it.
-        ensures any_moment { self.old.shut ≡ false → IfTold (D.held self.old.disk) (λ _. LeavesOnly D.moment D.images_since self.old.disk self.new.disk
+        ensures any_moment { self.old.shut ≡ false → IfTold (D.held self.old.disk) (λ _. LeavesOnly D.Disk self.old.disk self.new.disk
             (StandsForEither self.old.records rec)) }
         ensures images { self.old.shut ≡ false → IfTold (D.held self.old.disk) (λ _. (c : List ℕ) → D.images self.new.disk c → StandsForEither self.old.records rec c) }
         ensures acknowledged { OnOk result (IfTold (D.held self.new.disk) (λ _. (c : List ℕ) → D.images self.new.disk c → StandsFor c self.new.records)) }

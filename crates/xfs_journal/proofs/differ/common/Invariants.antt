@@ -1,4 +1,5 @@
 use Rattle.std.proofs.Common.{◌≡◌, ◌≤◌, ◌-◌, length, take, vec_capacity}
+use Rattle.xfs_journal.specs.declared.body.TheConstants.{MOST}
 use Rattle.xfs_journal.specs.Image.{contents}
 use Rattle.xfs_journal.proofs.differ.common.Given as goal
 
@@ -7,7 +8,7 @@ invariant-loop-count l = record {
   within : (l.count ≤ length l.found) × (l.count ≤ length l.kept);
   same : take l.count l.found ≡ take l.count l.kept;
   place : l.at ≡ length (contents (take l.count l.found));
-  room : (1028 ≤ vec_capacity l.first) × (1028 ≤ vec_capacity l.second);
+  room : (MOST ≤ vec_capacity l.first) × (MOST ≤ vec_capacity l.second);
 }
 
 abbrev pub decreases-loop-count : goal.decreases-loop-count
