@@ -1,6 +1,9 @@
+use crate::entrance::{Entrance, Port, is_broken};
 use crate::{Ports, SocketLink, TcpDoors};
-use std::io::{Read, Write};
+use std::io;
+use std::io::{ErrorKind, Read, Write};
 use std::net::{Net, Shutdown, TcpListener, TcpStream};
+use std::os::fd::OwnedFd;
 use std::random::RandomSource;
 use std::sync::atomic::{AtomicU64, Ordering};
 use std::thread;
@@ -280,6 +283,55 @@ fn a_handshake_that_is_cut_or_slow_keeps_nobody_out(rt: HostRuntime) {
     assert!(rt; matches!(doors.next(), Door::Quiet));
     assert!(rt; !matches!(late.read(&mut [0u8; 8]), Ok(count) if count > 0));
     assert!(rt; matches!(doors.next(), Door::Quiet));
+}
+
+#[test]
+fn of_more_than_64_handshakes_the_oldest_is_let_go(rt: HostRuntime) {
+    let clock = clock();
+    let mut doors = TcpDoors::open(&rt, rt.alloc(), &clock, ANY).expect(&rt, "ports");
+    let port = doors.ports().card;
+    let mut peers = Vec::new(rt.alloc());
+    for _ in 0..64 {
+        let peer = TcpStream::connect(&rt, ("127.0.0.1", port)).expect(&rt, "a stream");
+        assert!(rt; peer.set_nonblocking(true).is_ok());
+        peers.push(peer).expect(&rt, "memory");
+        assert!(rt; matches!(doors.next(), Door::Quiet));
+    }
+    let is_open = |peer: &mut TcpStream| {
+        matches!(peer.read(&mut [0u8; 8]), Err(error) if error.kind() == ErrorKind::WouldBlock)
+    };
+    assert!(rt; peers.iter_mut().all(is_open));
+    let _latest = TcpStream::connect(&rt, ("127.0.0.1", port)).expect(&rt, "a stream");
+    assert!(rt; matches!(doors.next(), Door::Quiet));
+    let mut oldest = peers.remove(0);
+    assert!(rt; !is_open(&mut oldest));
+    assert!(rt; peers.iter_mut().all(is_open));
+    assert!(rt; peers[0].write_all(REQUEST).is_ok());
+    assert!(rt; next_link(&mut doors).is_some());
+}
+
+#[test]
+fn doors_fail_where_a_listener_is_broken_and_nowhere_else(rt: HostRuntime) {
+    // a connected stream is no listener: accept(2) answers EINVAL
+    let alloc = rt.alloc();
+    let listener = TcpListener::bind(&rt, ("127.0.0.1", 0)).expect(&rt, "a listener");
+    let port = listener.local_addr().expect(&rt, "an address").port();
+    let stream = TcpStream::connect(&rt, ("127.0.0.1", port)).expect(&rt, "a stream");
+    let mut ports = Vec::new(alloc);
+    ports
+        .push(Port {
+            service: Service::Card,
+            listener: TcpListener::from(OwnedFd::from(stream)),
+        })
+        .expect(&rt, "memory");
+    let mut entrance = Entrance::new(alloc, ports).expect(&rt, "memory");
+    for _ in 0..2 {
+        assert!(rt; matches!(entrance.next(alloc, Moment(0)), Door::Failed));
+    }
+    // EPERM, EINTR, EAGAIN, ENOMEM, ENFILE, EMFILE, EPROTO, ECONNABORTED, ECONNRESET and ENOBUFS
+    for code in [1, 4, 11, 12, 23, 24, 71, 103, 104, 105] {
+        assert!(rt; !is_broken(&io::Error::from_raw_os_error(code)));
+    }
 }
 
 // Asks over a dialled link, and answers whether the same text comes back.
