@@ -285,28 +285,42 @@ fn a_handshake_that_is_cut_or_slow_keeps_nobody_out(rt: HostRuntime) {
     assert!(rt; matches!(doors.next(), Door::Quiet));
 }
 
+// A peer that says nothing, whose handshake is under way.
+fn silent_peer<'a, R: Net<Listener = TcpListener, Stream = TcpStream> + RandomSource + Sync>(
+    rt: &'a R,
+    doors: &mut TcpDoors<'a, R, SetClock>,
+) -> Option<TcpStream> {
+    let peer = TcpStream::connect(rt, ("127.0.0.1", doors.ports().card)).ok()?;
+    peer.set_nonblocking(true).ok()?;
+    match doors.next() {
+        Door::Quiet => Some(peer),
+        _ => None,
+    }
+}
+
+// Whether the stream of a peer to which nothing was written is open.
+fn is_open(peer: &mut TcpStream) -> bool {
+    match peer.read(&mut [0u8; 8]) {
+        Ok(_) => false,
+        Err(error) => error.kind() == ErrorKind::WouldBlock,
+    }
+}
+
 #[test]
 fn of_more_than_64_handshakes_the_oldest_is_let_go(rt: HostRuntime) {
     let clock = clock();
     let mut doors = TcpDoors::open(&rt, rt.alloc(), &clock, ANY).expect(&rt, "ports");
-    let port = doors.ports().card;
-    let mut peers = Vec::new(rt.alloc());
-    for _ in 0..64 {
-        let peer = TcpStream::connect(&rt, ("127.0.0.1", port)).expect(&rt, "a stream");
-        assert!(rt; peer.set_nonblocking(true).is_ok());
-        peers.push(peer).expect(&rt, "memory");
-        assert!(rt; matches!(doors.next(), Door::Quiet));
+    let mut first = silent_peer(&rt, &mut doors).expect(&rt, "the first peer");
+    let mut second = silent_peer(&rt, &mut doors).expect(&rt, "the second peer");
+    let mut others = Vec::new(rt.alloc());
+    for _ in 2..64 {
+        let peer = silent_peer(&rt, &mut doors).expect(&rt, "one more peer");
+        others.push(peer).expect(&rt, "memory");
     }
-    let is_open = |peer: &mut TcpStream| {
-        matches!(peer.read(&mut [0u8; 8]), Err(error) if error.kind() == ErrorKind::WouldBlock)
-    };
-    assert!(rt; peers.iter_mut().all(is_open));
-    let _latest = TcpStream::connect(&rt, ("127.0.0.1", port)).expect(&rt, "a stream");
-    assert!(rt; matches!(doors.next(), Door::Quiet));
-    let mut oldest = peers.remove(0);
-    assert!(rt; !is_open(&mut oldest));
-    assert!(rt; peers.iter_mut().all(is_open));
-    assert!(rt; peers[0].write_all(REQUEST).is_ok());
+    assert!(rt; is_open(&mut first) && is_open(&mut second));
+    let _latest = silent_peer(&rt, &mut doors).expect(&rt, "the latest peer");
+    assert!(rt; !is_open(&mut first) && is_open(&mut second));
+    assert!(rt; second.write_all(REQUEST).is_ok());
     assert!(rt; next_link(&mut doors).is_some());
 }
 
