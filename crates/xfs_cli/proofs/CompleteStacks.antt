@@ -22,10 +22,11 @@ use Rattle.xfs_journal.specs.Journal.{live_of, live_after, record_at}
 use Rattle.xfs_journal.specs.declared.record.Rec.{Rec}
 use Rattle.xfs_journal.specs.declared.record.Rec.TheVariants.{Order, Done}
 use Rattle.xfs_journal.proofs.JournalLaws.{live_of-push, record_at-push, eqb-same}
+use Rattle.xfs_guard.specs.Balance.{no_notes}
 use Rattle.xfs_guard.specs.View.{View}
 use Rattle.xfs_guard.specs.Fits.{unfit}
 use Rattle.xfs_guard.specs.Nonce.{nonce_of, live_nonce}
-use Rattle.xfs_guard.specs.Passed.{first_currency, is_over}
+use Rattle.xfs_guard.specs.OverBudget.{first_currency, is_over}
 use Rattle.xfs_guard.specs.Presented.{presented_in, done_worth}
 use Rattle.xfs_guard.specs.Refusals.{notes_of, over_budget, order_refusal, order_refusal_at}
 use Rattle.xfs_guard.specs.declared.ask.Ask.TheVariants.{Stack as AskStack}
@@ -39,7 +40,7 @@ use Rattle.xfs_cli.specs.Seen.{Seen}
 use Rattle.xfs_cli.specs.OrderAnswers.{Stacks, GoesOn, refusal_of, with_stacked}
 use Rattle.xfs_cli.specs.Complete.{IsCalm}
 use Rattle.xfs_cli.proofs.CompleteOrders.{IsFull, carries-full, carries-grown, follows-grown, stacks-grown, stack-places, calm-first, calm-rest}
-use Rattle.xfs_guard.proofs.CoveredLaws.{eight, ahead, ahead-zero, ahead-none, ahead-split, notes-here, IsAhead, IsOpenFor, nonce-push, free-order, done-short, presented-after}
+use Rattle.xfs_guard.proofs.CoveredLaws.{ahead, ahead-zero, ahead-none, ahead-split, notes-here, IsAhead, IsOpenFor, nonce-push, free-order, done-short, presented-after}
 
 abbrev pub zeros : ℕ → List ℕ
 zeros zero = []
@@ -52,7 +53,7 @@ open-after s middle issue u n amounts orders result f o =
     let notes = notes_of (u + 1) n in
     let J = s.guard.records ++ Order Stack notes ∷ [] in
     let longer : middle.guard.records ≡ J ++ Done notes f.outcome.diverted ∷ [] = f.records in
-    let m : length notes.0 ≡ 8 = length-set eight (u + 1 - 1) n in
+    let m : length notes.0 ≡ 8 = length-set no_notes.0 (u + 1 - 1) n in
     let many : length middle.guard.records ≡ length s.guard.records + 2 = ap length longer ∙ omega (arith, length-append J (Done notes f.outcome.diverted ∷ []), length-append s.guard.records (Order Stack notes ∷ [])) in
     let long : size middle.guard.records ≡ size s.guard.records + 105 = ap size longer ∙ omega (arith, size-longer J (Done notes f.outcome.diverted), size-longer s.guard.records (Order Stack notes), order-short Stack notes m, done-short notes f.outcome.diverted m f.eight) in
     let live : live_nonce middle.guard.records ≡ live_nonce s.guard.records = ap live_nonce longer ∙ (nonce-push J (Done notes f.outcome.diverted) (λ count live. refl) ∙ nonce-push s.guard.records (Order Stack notes) (λ count live. refl)) in

@@ -9,7 +9,7 @@ use Rattle.xfs_cli.specs.Boots.{IsNoJournal, IsUnwritten}
 
 -- a disk that was only read isn't written
 pub unwritten-quiet : {D : Type 0} (g : Ghosts D) (old new : D)
-    → IfTold (g.held old) (λ bytes. IsNoJournal bytes → IsQuiet g.held g.images g.moment g.images_since g.faults old new) → IfTold (g.held old) (λ bytes. IsNoJournal bytes → IsUnwritten (g.held old) (g.held new) (g.images old) (g.images new))
+    → IfTold (g.held old) (λ bytes. IsNoJournal bytes → IsQuiet g old new) → IfTold (g.held old) (λ bytes. IsNoJournal bytes → IsUnwritten (g.held old) (g.held new) (g.images old) (g.images new))
 unwritten-quiet g old new quiet = on_told (g.held old) (λ bytes. IsNoJournal bytes → IsUnwritten (g.held old) (g.held new) (g.images old) (g.images new)) (λ all told none.
-    let q = from_told (g.held old) (λ bytes. IsNoJournal bytes → IsQuiet g.held g.images g.moment g.images_since g.faults old new) quiet all told none in
+    let q = from_told (g.held old) (λ bytes. IsNoJournal bytes → IsQuiet g old new) quiet all told none in
     record { same = q.same; adds_none = q.adds_none })

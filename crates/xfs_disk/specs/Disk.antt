@@ -26,11 +26,11 @@ pub record Torn (at n : ℕ) (old new : List ℕ) : Type 0 where
 pub record Cut (n : ℕ) (old new : List ℕ) : Type 0 where
   pub no_shorter : min (length old) n ≤ length new
   pub no_longer : length new ≤ max (length old) n
-  pub front : take (min (length old) (length new)) new ≡ take (min (length old) (length new)) old
+  pub prefix : take (min (length old) (length new)) new ≡ take (min (length old) (length new)) old
 
 -- each new image is an old one after a step
-abbrev pub Follows : (List ℕ → List ℕ → Type 0) → (List ℕ → Type 0) → (List ℕ → Type 0) → Type 0
-Follows step old new = (c : List ℕ) → new c → (d : List ℕ) × old d × step d c
+abbrev pub ImagesFollow : (List ℕ → List ℕ → Type 0) → (List ℕ → Type 0) → (List ℕ → Type 0) → Type 0
+ImagesFollow step old new = (c : List ℕ) → new c → (d : List ℕ) × old d × step d c
 
 -- there is no new image
 abbrev pub AddsNone : (List ℕ → Type 0) → (List ℕ → Type 0) → Type 0
@@ -45,10 +45,3 @@ pub record Elapses (before now : ℕ) (past since : ℕ → List ℕ → Type 0)
   pub later : before ≤ now
   pub nothing_else : (t : ℕ) (c : List ℕ) → t ≤ before → since t c → past t c ⊎ images c
   pub keeps : (t : ℕ) (c : List ℕ) → t ≤ before → past t c → since t c
-
--- Each image of each moment since `old` has P.
-pub record LeavesOnly {D : Type 0} (moment : D → ℕ) (images_since : D → ℕ → List ℕ → Type 0) (old new : D) (P : List ℕ → Type 0) : Type 0 where
-  pub later : moment old ≤ moment new
-  pub each : (c : List ℕ) → images_since new (moment old) c → P c
-  -- for a run that began earlier
-  pub before : (t : ℕ) (c : List ℕ) → t ≤ moment old → images_since new t c → images_since old t c ⊎ P c

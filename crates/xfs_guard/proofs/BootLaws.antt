@@ -12,6 +12,7 @@ use Rattle.xfs_journal.specs.declared.record.Rec.TheVariants.{Boot}
 use Rattle.xfs_journal.specs.Journal.{live_of, next_number, CarriesNumber}
 use Rattle.xfs_journal.proofs.JournalLaws.{live_of-push, Walk-push}
 use Rattle.xfs_guard.specs.declared.open.Open.TheVariants.{No}
+use Rattle.xfs_guard.specs.Balance.{no_notes}
 use Rattle.xfs_guard.specs.View.{View}
 use Rattle.xfs_guard.specs.Agrees.{Agrees}
 use Rattle.xfs_guard.specs.Within.{Within}
@@ -23,7 +24,7 @@ use Rattle.xfs_guard.proofs.AgreesLaws.{Agrees-record, numbers_within}
 use Rattle.xfs_guard.proofs.WithinLaws.{Within-record}
 use Rattle.xfs_guard.proofs.RecordLaws.{last-pushed}
 use Rattle.xfs_guard.proofs.KeptLaws.{IsKept-open}
-use Rattle.xfs_guard.proofs.MarkLaws.{marked-boot}
+use Rattle.xfs_guard.proofs.BalanceLaws.{balanced-boot}
 
 agrees-boot : (J : List Rec) (p : Places) (m : Option (List Motion)) → IfTold m (Agrees J) → IfTold m (Agrees (J ++ Boot p ∷ []))
 agrees-boot J p None a = tt
@@ -70,10 +71,10 @@ IsSound-boot v J p recorded = record {
     }
 
 -- what a guard is then
-pub IsKept-boot : (v : View) (J : List Rec) (p : Places) (spare left : ℕ) (kinds : List NoteKind) → (v.disk_told ≡ true → IsRecorded v.key v.units J v.motions) → kinds ≡ v.units
-    → IsKept (record v { records = J ++ Boot p ∷ []; bound = None; open_order = No; shut = false; boot_missing = false; in_doubt = None }) spare left kinds
-IsKept-boot v J p spare left kinds recorded units =
-    IsKept-open (record v { records = J ++ Boot p ∷ []; bound = None; open_order = No; boot_missing = false }) spare left kinds (IsSound-boot (record v { boot_missing = false }) J p recorded) (marked-boot J p) refl tt tt units
+pub IsKept-boot : (v : View) (J : List Rec) (p : Places) (spare left : ℕ) (kinds : List NoteKind) → p ≡ v.places → (v.disk_told ≡ true → IsRecorded v.key v.units J v.motions) → kinds ≡ v.units
+    → IsKept (record v { records = J ++ Boot p ∷ []; bound = None; open_order = No; booted = p; loaded = no_notes; shut = false; boot_missing = false; in_doubt = None }) spare left kinds
+IsKept-boot v J p spare left kinds there recorded units =
+    IsKept-open (record v { records = J ++ Boot p ∷ []; bound = None; open_order = No; booted = p; loaded = no_notes; boot_missing = false }) spare left kinds (IsSound-boot (record v { booted = p; loaded = no_notes; boot_missing = false }) J p recorded) (balanced-boot J p v.places there) refl tt tt units
 
 -- a list that was left is recorded, and stays so with the Boot
 pub WasLeft-recorded : {D : Type 0} (key : List ℕ) (u : List NoteKind) (m : Option (List Motion)) (g : Ghosts D) (d : D) (p : Places)

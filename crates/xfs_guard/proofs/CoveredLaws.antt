@@ -20,16 +20,18 @@ use Rattle.xfs_journal.specs.Journal.{live_of, live_after, record_at}
 use Rattle.xfs_journal.specs.declared.record.Rec.{Rec}
 use Rattle.xfs_journal.specs.declared.record.Rec.TheVariants.{Order, Done}
 use Rattle.xfs_journal.proofs.JournalLaws.{live_of-push, record_at-push, eqb-same}
+use Rattle.xfs_guard.specs.Balance.{no_notes}
 use Rattle.xfs_guard.specs.View.{View}
 use Rattle.xfs_guard.specs.Fits.{unfit}
 use Rattle.xfs_guard.specs.Nonce.{nonce_of, live_nonce}
-use Rattle.xfs_guard.specs.Passed.{first_currency, is_over}
+use Rattle.xfs_guard.specs.OverBudget.{first_currency, is_over}
 use Rattle.xfs_guard.specs.Presented.{presented_in, done_worth}
 use Rattle.xfs_guard.specs.Refusals.{notes_of, over_budget, order_refusal, order_refusal_at}
 use Rattle.xfs_guard.specs.declared.ask.Ask.TheVariants.{Stack as AskStack}
 use Rattle.xfs_guard.specs.declared.deny.Deny.{Deny}
 use Rattle.xfs_guard.specs.declared.deny.Deny.TheVariants.{Shut, Full}
 use Rattle.xfs_guard.specs.declared.nonce.Nonce.{Nonce}
+use Rattle.xfs_guard.proofs.BalanceLaws.{none_there}
 use Rattle.xfs_guard.proofs.PresentedLaws.{presented_in-push}
 use Rattle.xfs_guard.proofs.RecordLaws.{last-pushed, lives-within}
 use Rattle.xfs_guard.proofs.SizeLaws.{size-longer, order-short}
@@ -73,25 +75,11 @@ ahead-none zero w = refl
 ahead-none (suc u) zero = refl
 ahead-none (suc u) (suc w) = ahead-none u w
 
-abbrev pub eight : List ℕ
-eight = 0 ∷ 0 ∷ 0 ∷ 0 ∷ 0 ∷ 0 ∷ 0 ∷ 0 ∷ []
-
-nothing : (w : ℕ) → get_or eight w 0 ≡ 0
-nothing zero = refl
-nothing (suc zero) = refl
-nothing (suc (suc zero)) = refl
-nothing (suc (suc (suc zero))) = refl
-nothing (suc (suc (suc (suc zero)))) = refl
-nothing (suc (suc (suc (suc (suc zero))))) = refl
-nothing (suc (suc (suc (suc (suc (suc zero)))))) = refl
-nothing (suc (suc (suc (suc (suc (suc (suc zero))))))) = refl
-nothing (suc (suc (suc (suc (suc (suc (suc (suc w)))))))) = refl
-
 pub notes-here : (u n : ℕ) → u < 8 → at (notes_of (u + 1) n) u ≡ n
-notes-here u n low = get_or-set_at eight (u + 1 - 1) u n 0 (omega arith) (omega (arith, low))
+notes-here u n low = get_or-set_at no_notes.0 (u + 1 - 1) u n 0 (omega arith) (omega (arith, low))
 
 pub notes-other : (u n w : ℕ) → w ≢ u → at (notes_of (u + 1) n) w ≡ 0
-notes-other u n w other = get_or-set_other eight (u + 1 - 1) w n 0 (λ e. other (omega (arith, e))) ∙ nothing w
+notes-other u n w other = get_or-set_other no_notes.0 (u + 1 - 1) w n 0 (λ e. other (omega (arith, e))) ∙ none_there w
 
 -- the first unit's notes, and those of the next units
 pub ahead-split : (u n w : ℕ) (rest : List ℕ) → u < 8 → slice_index (ahead u (n ∷ rest)) w ≡ at (notes_of (u + 1) n) w + slice_index (ahead (suc u) rest) w

@@ -3,7 +3,7 @@ use Rattle.std.proofs.Common.{◌≡◌, ℕ, ◌≤◌, true, List, None, Some,
 use Rattle.std.specs.Prelude.{is_some}
 use Rattle.std.specs.declared.option.Option.{Option}
 use Rattle.xfs_base.specs.Causes.{IfTold}
-use Rattle.xfs_disk.specs.Disk.{LeavesOnly}
+use Rattle.xfs_disk.specs.Moments.{LeavesOnly}
 use Rattle.xfs_disk.specs.declared.disk.Disk.{Ghosts}
 use Rattle.xfs_journal.specs.JournalView.{IsPossible}
 use Rattle.xfs_journal.specs.declared.record.Rec.{Rec}
@@ -13,7 +13,7 @@ use Rattle.xfs_mech.specs.declared.motion.Motion.{Motion}
 use Rattle.xfs_guard.specs.Continues.{Continues}
 use Rattle.xfs_guard.specs.Crashed.{LeavesBehind}
 use Rattle.xfs_guard.specs.Keeps.{Proceeds, Keeps, NoEntry}
-use Rattle.xfs_guard.specs.Left.{StandsRecorded, StandsThrough}
+use Rattle.xfs_guard.specs.CrashOutcomes.{StandsRecorded, StandsThrough}
 use Rattle.xfs_guard.specs.Recorded.{IsRecorded}
 use Rattle.xfs_guard.specs.Stored.{IsStored}
 use Rattle.xfs_guard.specs.Upheld.{IsUpheld}
@@ -27,11 +27,11 @@ through-recorded : (v : View) (bytes : List ℕ) → StandsRecorded v.key v.unit
 through-recorded v bytes s = record { records = s.records; stands = s.stands; before = s.recorded; after = λ entry now may grows. absurd may }
 
 pub stays-through : {D : Type 0} (g : Ghosts D) (old new : D) (v : View)
-    → IfTold (g.held old) (λ _. LeavesOnly g.moment g.images_since old new (StandsRecorded v.key v.units v.motions))
-    → IfTold (g.held old) (λ _. LeavesOnly g.moment g.images_since old new (StandsThrough v NoEntry))
-stays-through g old new v stays = on_told (g.held old) (λ _. LeavesOnly g.moment g.images_since old new (StandsThrough v NoEntry)) (λ all told.
-    weaken g.moment g.images_since old new (StandsRecorded v.key v.units v.motions) (StandsThrough v NoEntry) (through-recorded v)
-    (from_told (g.held old) (λ _. LeavesOnly g.moment g.images_since old new (StandsRecorded v.key v.units v.motions)) stays all told))
+    → IfTold (g.held old) (λ _. LeavesOnly g old new (StandsRecorded v.key v.units v.motions))
+    → IfTold (g.held old) (λ _. LeavesOnly g old new (StandsThrough v NoEntry))
+stays-through g old new v stays = on_told (g.held old) (λ _. LeavesOnly g old new (StandsThrough v NoEntry)) (λ all told.
+    weaken g old new (StandsRecorded v.key v.units v.motions) (StandsThrough v NoEntry) (through-recorded v)
+    (from_told (g.held old) (λ _. LeavesOnly g old new (StandsRecorded v.key v.units v.motions)) stays all told))
 
 -- nothing happened
 pub Proceeds-same : {D : Type 0} (g : Ghosts D) (x : GuardView D) → ((d : D) (c : List ℕ) → g.images_since d (g.moment d) c → g.images d c) → Proceeds g x x
@@ -56,7 +56,7 @@ Keeps-same g x only_now upheld = record {
 
 -- a call that may have written
 pub Keeps-wrote : {D : Type 0} (g : Ghosts D) (old new : GuardView D) → Continues old.state new.state → g.faults old.disk ≤ g.faults new.disk → old.state.faults ≤ new.state.faults → LeavesBehind g old new
-    → IfTold (g.held old.disk) (λ _. LeavesOnly g.moment g.images_since old.disk new.disk (StandsRecorded old.state.key old.state.units old.state.motions)) → Keeps g NoEntry old new
+    → IfTold (g.held old.disk) (λ _. LeavesOnly g old.disk new.disk (StandsRecorded old.state.key old.state.units old.state.motions)) → Keeps g NoEntry old new
 Keeps-wrote g old new continues disk mech crashes stays = record {
   proceeds = record { continues = continues; disk_faults = disk; mech_faults = mech; crashes = crashes };
   recorded = stays-through g old.disk new.disk old.state stays;
@@ -65,7 +65,7 @@ Keeps-wrote g old new continues disk mech crashes stays = record {
 -- a call of the mechanism
 pub Keeps-moved : {D : Type 0} (g : Ghosts D) (MayAdd : Motion → Type 0) (old new : GuardView D) → ((d : D) (c : List ℕ) → g.images_since d (g.moment d) c → g.images d c) → new.disk ≡ old.disk
     → Continues old.state new.state → old.state.faults ≤ new.state.faults
-    → IfTold (g.held old.disk) (λ _. LeavesOnly g.moment g.images_since old.disk old.disk (StandsThrough old.state MayAdd)) → Keeps g MayAdd old new
+    → IfTold (g.held old.disk) (λ _. LeavesOnly g old.disk old.disk (StandsThrough old.state MayAdd)) → Keeps g MayAdd old new
 Keeps-moved g MayAdd old new only_now same continues mech through = record {
   proceeds = record { continues = continues; disk_faults = rw same (omega arith); mech_faults = mech; crashes = behind-still g old new only_now same };
   recorded = rw same through;

@@ -7,18 +7,19 @@ use Rattle.xfs_base.specs.declared.money.NoteKind.{NoteKind}
 use Rattle.xfs_base.specs.declared.counts.Places.{Places}
 use Rattle.xfs_base.specs.declared.counts.Counts.{Counts}
 use Rattle.xfs_base.specs.declared.counts.Kind.{Kind}
-use Rattle.xfs_mech.specs.Mechanism.{Grows, Carries as MayCarry}
+use Rattle.xfs_mech.specs.Mechanism.{AddsEntry, MayCarry}
 use Rattle.xfs_mech.specs.Motions.{PlacesOf}
 use Rattle.xfs_mech.specs.declared.motion.Motion.{Motion}
 use Rattle.xfs_mech.specs.declared.motion.Motion.TheVariants.{Moved}
 use Rattle.xfs_journal.specs.declared.record.Rec.{Rec}
 use Rattle.xfs_journal.specs.declared.record.Rec.TheVariants.{Boot}
-use Rattle.xfs_journal.specs.Journal.{Numbered, last_mark}
+use Rattle.xfs_journal.specs.Journal.{Numbered}
 use Rattle.xfs_guard.specs.declared.open.Open.{Open}
 use Rattle.xfs_guard.specs.declared.open.Open.TheVariants.{No, Written, Acted}
 pub use Rattle.xfs_guard.specs.View.{over}
 use Rattle.xfs_guard.specs.View.{View}
 use Rattle.xfs_guard.specs.Agrees.{Agrees}
+use Rattle.xfs_guard.specs.Balance.{IsBalanced}
 use Rattle.xfs_guard.specs.Within.{Within}
 use Rattle.xfs_guard.specs.Recorded.{IsRecorded}
 use Rattle.xfs_guard.specs.Kept.{HasRoom, HasLimits, IsKept}
@@ -27,6 +28,7 @@ use Rattle.xfs_guard.specs.declared.deny.Deny.{Deny}
 use Rattle.xfs_guard.specs.declared.deny.Deny.TheVariants.{Disk, Memory}
 use Rattle.xfs_guard.specs.LedgerView.{LedgerView, Wrote, IsWriteFault}
 use Rattle.xfs_guard.specs.Continues.{Continues}
+use Rattle.xfs_guard.proofs.BalanceLaws.{balanced-moved}
 use Rattle.xfs_guard.proofs.CrashedLaws.{begins-same, left-doubt}
 use Rattle.xfs_guard.proofs.ContinueLaws.{Continues-grown, doubted-possible}
 use Rattle.xfs_guard.proofs.SoundLaws.{acted_view, IsSound-act}
@@ -71,12 +73,12 @@ IsSound-stored v s d h = record {
     go (Some L) t = record { agrees = t.agrees; within = t.within; counted = t.counted; acted = t.acted }
 
 -- a guard whose journal is open
-pub IsKept-open : (v : View) (spare left : ℕ) (kinds : List NoteKind) → IsSound v → 0 < last_mark v.records → v.boot_missing ≡ false → HasRoom v.open_order spare left → HasLimits v.open_order v → kinds ≡ v.units
+pub IsKept-open : (v : View) (spare left : ℕ) (kinds : List NoteKind) → IsSound v → IsBalanced v.records v.booted v.loaded v.places → v.boot_missing ≡ false → HasRoom v.open_order spare left → HasLimits v.open_order v → kinds ≡ v.units
     → IsKept (record v { shut = false; in_doubt = None }) spare left kinds
-IsKept-open v spare left kinds s marked booted room limits units = record {
+IsKept-open v spare left kinds s balanced booted room limits units = record {
   sound = λ e m. IsSound-stored v false None s;
   clean = λ e. refl;
-  marked = marked;
+  balanced = balanced;
   closed = λ e. absurd (true≢false (sym e));
   missing = λ e. absurd (true≢false (sym e ∙ booted));
   recorded = λ told J p. ⊎_elim (λ same. rw same (recorded-sound v s told)) (λ doubt. absurd (none doubt.0 doubt.1)) p;
@@ -94,12 +96,12 @@ IsKept-open v spare left kinds s marked booted room limits units = record {
     has (Acted k m d failed) h = h
 
 -- a guard whose disk failed at a record
-pub IsKept-doubted : (v : View) (r : Rec) (w : Option (List (List ℕ × ℕ))) (o : Open) (spare left : ℕ) (kinds : List NoteKind) → IsSound v → 0 < last_mark v.records → IsSound (longer v r w o) → kinds ≡ v.units
+pub IsKept-doubted : (v : View) (r : Rec) (w : Option (List (List ℕ × ℕ))) (o : Open) (spare left : ℕ) (kinds : List NoteKind) → IsSound v → IsBalanced v.records v.booted v.loaded v.places → IsSound (longer v r w o) → kinds ≡ v.units
     → IsKept (record v { shut = true; in_doubt = Some r; open_order = No }) spare left kinds
-IsKept-doubted v r w o spare left kinds s marked t units = record {
+IsKept-doubted v r w o spare left kinds s balanced t units = record {
   sound = λ e m. absurd (true≢false e);
   clean = λ e. absurd (true≢false e);
-  marked = marked;
+  balanced = balanced;
   closed = λ e. refl;
   missing = λ e. refl;
   recorded = λ told J p. ⊎_elim (λ same. rw same (recorded-sound v s told)) (λ doubt. rw (doubt.2, ← (some doubt.0 doubt.1)) (recorded-sound (longer v r w o) t told)) p;
@@ -120,10 +122,10 @@ IsKept-refused T e key seed o motions places faults old new r w was told spare r
   where
     memory : e ≡ Memory → IsKept (over key seed o motions places faults new told) spare left kinds
     memory is = let s = rw is at wrote in
-        rw (s.records, s.units, s.bound, s.limits, s.shut, s.boot_missing, s.in_doubt, same) (record {
+        rw (s.records, s.units, s.bound, s.booted, s.loaded, s.limits, s.shut, s.boot_missing, s.in_doubt, same) (record {
           sound = kept.sound;
           clean = kept.clean;
-          marked = kept.marked;
+          balanced = kept.balanced;
           closed = kept.closed;
           missing = kept.missing;
           recorded = kept.recorded;
@@ -134,8 +136,8 @@ IsKept-refused T e key seed o motions places faults old new r w was told spare r
 
     disk : e ≡ Disk → IsKept (over key seed o motions places faults new told) spare left kinds
     disk is = let s = rw is at wrote in
-        rw (s.records, s.units, s.bound, s.limits, s.shut, s.boot_missing, s.in_doubt, same, none)
-        (IsKept-doubted (over key seed o motions places faults old was) r w No spare left kinds (kept.sound open_still booted) kept.marked sound kept.units)
+        rw (s.records, s.units, s.bound, s.booted, s.loaded, s.limits, s.shut, s.boot_missing, s.in_doubt, same, none)
+        (IsKept-doubted (over key seed o motions places faults old was) r w No spare left kinds (kept.sound open_still booted) kept.balanced sound kept.units)
 
 -- what follows then
 pub Continues-refused : (T : Type 0) {D : Type 0} (e : Deny) (key seed : List ℕ) (o : Open) (motions : Option (List Motion)) (places : Places) (faults : ℕ) (old new : LedgerView D) (r : Rec)
@@ -161,12 +163,12 @@ still-open true o k c closed is = let none : Written k c ≡ No = sym is ∙ clo
 
 -- the written order was carried out
 pub IsKept-acted : (v : View) (k : Kind) (c m d : Counts) (failed : Bool) (now : Option (List Motion)) (Q : Places) (f spare was left : ℕ) (kinds before : List NoteKind)
-    → IsKept v was left before → v.open_order ≡ Written k c → MayCarry k c m d failed → Grows v.motions (Moved (length v.records) k m d) now
+    → IsKept v was left before → v.open_order ≡ Written k c → MayCarry k c m d failed → AddsEntry v.motions (Moved (length v.records) k m d) now
     → PlacesOf v.places (Moved (length v.records) k m d ∷ []) Q → kinds ≡ v.units → IsKept (acted_view v k m d failed now Q f) spare left kinds
 IsKept-acted v k c m d failed now Q f spare was left kinds before kept written may grows places units = record {
   sound = λ e m. sound;
   clean = kept.clean;
-  marked = kept.marked;
+  balanced = balanced-moved v.records v.booted v.loaded v.places Q (length v.records) k m d places kept.balanced;
   closed = λ e. absurd (true≢false (sym e ∙ still));
   missing = λ e. absurd (true≢false (sym e ∙ booted));
   recorded = λ told J p. ⊎_elim (λ same. rw same (recorded-sound (acted_view v k m d failed now Q f) sound told)) (λ doubt. absurd (none doubt.0 (sym (kept.clean still) ∙ doubt.1))) p;

@@ -1,4 +1,5 @@
 pub mod AgreesLaws
+pub mod BalanceLaws
 pub mod BehindLaws
 pub mod BootLaws
 pub mod BudgetLaws

@@ -2,11 +2,12 @@
 use Rattle.std.proofs.Common.{◌≡◌, ⊎_elim, inl, inr, ℕ, ◌+◌, ◌<◌, Bool, true, false, List, [], ◌∷◌, ◌++◌, length, None, Some, refl, sym, ◌∙◌, ap, subst, arith, append_assoc}
 use Rattle.std.specs.Prelude.{◌==◌, if◌then◌else◌}
 use Rattle.std.proofs.lemmas.List.{append-nil}
+use Rattle.std.proofs.lemmas.List.Elements.{Contains-push_cases}
+use Rattle.std.specs.List.{Contains}
 use Rattle.std.specs.Option.{option_and_then, option_map}
 use Rattle.std.specs.declared.option.Option.{Option}
 use Rattle.xfs_base.specs.declared.counts.Places.{Places}
 use Rattle.xfs_journal.specs.Journal.{record_at, is_mark, is_place, live_of, last_mark, Binding, first_of, found_after, binding_of, bind_of}
-use Rattle.xfs_journal.specs.JournalView.{IsPossible}
 use Rattle.xfs_journal.specs.declared.record.Rec.{Rec}
 use Rattle.xfs_journal.specs.declared.record.Rec.TheVariants.{Issue, Clear, Expire, Boot, Bind, Order, Done, Load}
 use Rattle.xfs_journal.proofs.JournalLaws.{record_at-push, record_at-pushed, record_at-within, binding_of-push, last_mark-push}
@@ -20,20 +21,20 @@ positive true count mark some = omega arith
 positive false count mark some = some
 
 -- a list with a mark has one once it grew
-pub marked-push : (J : List Rec) (r : Rec) → 0 < last_mark J → 0 < last_mark (J ++ r ∷ [])
+marked-push : (J : List Rec) (r : Rec) → 0 < last_mark J → 0 < last_mark (J ++ r ∷ [])
 marked-push J r some = rw last_mark-push (positive (is_mark r) (length J) (last_mark J) some)
-
-pub marked-boot : (J : List Rec) (p : Places) → 0 < last_mark (J ++ Boot p ∷ [])
-marked-boot J p = rw last_mark-push (omega arith)
-
-pub marked-possible : (J : List Rec) (d : Option Rec) (K : List Rec) → IsPossible J d K → 0 < last_mark J → 0 < last_mark K
-marked-possible J d K (inl is) some = rw is some
-marked-possible J d K (inr (r, doubt, is)) some = rw is (marked-push J r some)
 
 -- what one more record keeps holds of a list that grew
 grow : (P : List Rec → Type 0) → ((J : List Rec) (r : Rec) → P J → P (J ++ r ∷ [])) → (J R : List Rec) → P J → P (J ++ R)
 grow P step J [] h = subst P (sym (append-nil J)) h
 grow P step J (r ∷ rs) h = subst P (append_assoc J (r ∷ []) rs) (grow P step (J ++ r ∷ []) rs (step J r h))
+
+-- a list with a Boot has a mark
+pub boot-marked : (b : Places) (J : List Rec) → Contains J (Boot b) → 0 < last_mark J
+boot-marked b J = grow (λ (K : List Rec). Contains K (Boot b) → 0 < last_mark K) step [] J (λ none. absurd (omega (arith, none.1)))
+  where
+    step : (K : List Rec) (r : Rec) → (Contains K (Boot b) → 0 < last_mark K) → Contains (K ++ r ∷ []) (Boot b) → 0 < last_mark (K ++ r ∷ [])
+    step K r h there = ⊎_elim (λ old. marked-push K r (h old)) (λ is. rw (is, last_mark-push) (omega arith)) (Contains-push_cases K r (Boot b) there)
 
 -- a record of a list stays at its place
 still : (J : List Rec) (r x : Rec) (n : ℕ) → record_at J n ≡ Some x → record_at (J ++ r ∷ []) n ≡ Some x

@@ -15,6 +15,7 @@ use Rattle.xfs_token.specs.Amounts.{amount, amount_in, has_currency}
 use Rattle.xfs_journal.specs.declared.record.Rec.{Rec}
 use Rattle.xfs_journal.specs.declared.record.Rec.TheVariants.{Order}
 use Rattle.xfs_journal.specs.Journal.{record_at, live_of, token_of, last_mark}
+use Rattle.xfs_guard.specs.Balance.{no_notes}
 use Rattle.xfs_guard.specs.declared.open.Open.TheVariants.{No, Written, Acted}
 use Rattle.xfs_guard.specs.declared.deny.Deny.TheVariants.{Short, WrongNonce}
 use Rattle.xfs_guard.specs.declared.nonce.Nonce.{Nonce}
@@ -24,10 +25,11 @@ use Rattle.xfs_guard.specs.View.{View}
 use Rattle.xfs_guard.specs.Nonce.{nonce_of, live_nonce}
 use Rattle.xfs_guard.specs.Presented.{presented_in, pending}
 use Rattle.xfs_guard.specs.Budget.{IsFunded}
-use Rattle.xfs_guard.specs.Sound.{IsSound, Stands}
+use Rattle.xfs_guard.specs.Sound.{IsSound, OpenIsNewest}
 use Rattle.xfs_guard.specs.Refusals.{notes_of, asked_kind, asked_counts, over_budget, order_refusal, order_refusal_at, stack_refusal}
 use Rattle.xfs_token.proofs.AmountBounds.{amount-small}
-use Rattle.xfs_guard.proofs.BudgetLaws.{passed-none, amount-is, amount_in-none}
+use Rattle.xfs_guard.proofs.BalanceLaws.{none_there}
+use Rattle.xfs_guard.proofs.BudgetLaws.{over_budget-none, amount-is, amount_in-none}
 use Rattle.xfs_guard.proofs.RecordLaws.{longer, IsSound-order, released-order}
 
 -- a live nonce is that of a live issue
@@ -86,7 +88,7 @@ funded-stack v c a p b bound fits f = record {
   kept = f.kept;
   enough = λ cur.
       let same : f.amounts ≡ a = (let e : Some f.amounts ≡ Some a = sym f.kept ∙ bound in cc) in
-      let within = passed-none v.units v.records v.places.transport a c fits cur in
+      let within = over_budget-none v.units v.records v.places.transport a c fits cur in
       let whole = amount-is f.token f.amounts cur f.amounts_are in
       let there = ap (λ x. amount_in x cur) same in
       omega (arith, within, whole, there);
@@ -97,28 +99,14 @@ set-past [] i v le = refl
 set-past (x ∷ xs) zero v le = absurd (omega arith)
 set-past (x ∷ xs) (suc i) v le = ap (λ l. x ∷ l) (set-past xs i v (omega arith))
 
-abbrev zeros : List ℕ
-zeros = 0 ∷ 0 ∷ 0 ∷ 0 ∷ 0 ∷ 0 ∷ 0 ∷ 0 ∷ []
-
-nothing : (u : ℕ) → get_or zeros u 0 ≡ 0
-nothing zero = refl
-nothing (suc zero) = refl
-nothing (suc (suc zero)) = refl
-nothing (suc (suc (suc zero))) = refl
-nothing (suc (suc (suc (suc zero)))) = refl
-nothing (suc (suc (suc (suc (suc zero))))) = refl
-nothing (suc (suc (suc (suc (suc (suc zero)))))) = refl
-nothing (suc (suc (suc (suc (suc (suc (suc zero))))))) = refl
-nothing (suc (suc (suc (suc (suc (suc (suc (suc u)))))))) = refl
-
 -- the notes of one unit lie where that unit has enough
 notes-lie : (unit count : ℕ) (c : Counts) → count ≤ at c (unit - 1) → LiesIn (notes_of unit count) c
 notes-lie unit count c le u = elim (cases_lt (unit - 1) 8) [
   | inl low ↦ elim (cases_eq u (unit - 1)) [
-    | inl same ↦ (let e = get_or-set_at zeros (unit - 1) u count 0 same (omega arith) in let f = ap (λ k. at c k) same in omega (arith, e, f, le))
-    | inr other ↦ (let e = get_or-set_other zeros (unit - 1) u count 0 other in let z = nothing u in omega (arith, e, z))
+    | inl same ↦ (let e = get_or-set_at no_notes.0 (unit - 1) u count 0 same (omega arith) in let f = ap (λ k. at c k) same in omega (arith, e, f, le))
+    | inr other ↦ (let e = get_or-set_other no_notes.0 (unit - 1) u count 0 other in let z = none_there u in omega (arith, e, z))
   ]
-  | inr past ↦ (let e = ap (λ l. get_or l u 0) (set-past zeros (unit - 1) count past) in let z = nothing u in omega (arith, e, z))
+  | inr past ↦ (let e = ap (λ l. get_or l u 0) (set-past no_notes.0 (unit - 1) count past) in let z = none_there u in omega (arith, e, z))
 ]
 
 -- an order that isn't refused may be written
@@ -175,7 +163,7 @@ small-done v Stack m d failed s acted is c = cc
 small-done v Reject m d failed s acted is c = cc
 small-done v Retract m d failed s acted is c = cc
 small-done v Present m d failed s acted is c =
-    let stands : Stands (Acted Present m d failed) v.records v.places = rw acted at s.stands in
+    let stands : OpenIsNewest (Acted Present m d failed) v.records v.places = rw acted at s.stands in
     let r = stands.2 in
     let f = s.budget.funded r.place r.bytes r.lives r.bound in
     let e = rw acted at (f.enough c) in

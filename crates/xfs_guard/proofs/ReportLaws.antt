@@ -14,7 +14,7 @@ use Rattle.xfs_base.proofs.MoneyLaws.{value_from-le}
 use Rattle.xfs_mech.specs.declared.motion.Motion.{Motion}
 use Rattle.xfs_mech.specs.declared.motion.Motion.TheVariants.{Moved, Taken, Loaded}
 use Rattle.xfs_mech.specs.Motions.{NumberIs, PlacesOf}
-use Rattle.xfs_mech.specs.Mechanism.{Grows, Reports, source_of}
+use Rattle.xfs_mech.specs.Mechanism.{AddsEntry, Reports, source_of}
 use Rattle.xfs_mech.proofs.MotionLaws.{all-append}
 use Rattle.xfs_journal.specs.declared.record.Rec.{Rec}
 use Rattle.xfs_guard.specs.declared.open.Open.{Open}
@@ -26,7 +26,7 @@ use Rattle.xfs_guard.specs.Budget.{Budget}
 use Rattle.xfs_guard.specs.Recorded.{IsRecorded}
 use Rattle.xfs_guard.specs.Orders.{kind_unacted}
 use Rattle.xfs_guard.specs.Kept.{HasRoom, HasLimits}
-use Rattle.xfs_guard.specs.Sound.{Stands, HasActed, Ties, where_told, IsSound}
+use Rattle.xfs_guard.specs.Sound.{OpenIsNewest, HasActed, Ties, where_told, IsSound}
 use Rattle.xfs_guard.specs.Continues.{Continues}
 use Rattle.xfs_guard.proofs.CrashedLaws.{begins-same}
 use Rattle.xfs_mech.proofs.MoveLaws.{Moves-same, Moves-entry}
@@ -35,8 +35,8 @@ use Rattle.xfs_guard.proofs.SoundLaws.{grows-told}
 use Rattle.xfs_guard.proofs.WithinLaws.{Within-quiet, shown-motion}
 
 -- the guard after a report
-abbrev pub reported_view : View → Option (List Motion) → Places → ℕ → View
-reported_view v motions places faults = record v { motions = motions; places = places; faults = faults }
+abbrev pub reported_view : View → Option (List Motion) → Places → ℕ → Counts → View
+reported_view v motions places faults loaded = record v { motions = motions; places = places; loaded = loaded; faults = faults }
 
 -- an entry that no order asked for
 abbrev pub IsReport : Motion → Type 0
@@ -48,7 +48,7 @@ IsReport (Loaded u n) = ⊤
 abbrev pub LeavesSource : Open → Places → Places → Type 0
 LeavesSource o P Q = (k : Kind) → kind_unacted o ≡ Some k → LiesIn (source_of k P) (source_of k Q)
 
-stands-report : (o : Open) (J : List Rec) (P Q : Places) → LeavesSource o P Q → Stands o J P → Stands o J Q
+stands-report : (o : Open) (J : List Rec) (P Q : Places) → LeavesSource o P Q → OpenIsNewest o J P → OpenIsNewest o J Q
 stands-report No J P Q leaves s = s
 stands-report (Written k c) J P Q leaves s = (s.0, λ u. omega (arith, s.1 u, leaves k refl u), s.2)
 stands-report (Acted k m d failed) J P Q leaves s = s
@@ -101,8 +101,8 @@ transport-report P Q (Moved n k m d) is places u = absurd is
 transport-report P Q (Taken c) is places u = omega (arith, places.transport u)
 transport-report P Q (Loaded i n) is places u = omega (arith, places.transport u)
 
-budget-report : (v : View) (now : Option (List Motion)) (Q : Places) (f : ℕ) → ((u : ℕ) → at Q.transport u ≡ at v.places.transport u) → Budget v → Budget (reported_view v now Q f)
-budget-report v now Q f same budget = record {
+budget-report : (v : View) (now : Option (List Motion)) (Q : Places) (f : ℕ) (l : Counts) → ((u : ℕ) → at Q.transport u ≡ at v.places.transport u) → Budget v → Budget (reported_view v now Q f l)
+budget-report v now Q f l same budget = record {
   funded = λ p b lives bound.
       let old = budget.funded p b lives bound in record {
         token = old.token;
@@ -119,11 +119,11 @@ budget-report v now Q f same budget = record {
 }
 
 -- what the mechanism tells, once its list is this one
-ties-same : (v : View) (now : Option (List Motion)) (Q : Places) (f : ℕ) (L : List Motion) → Ties v L → Ties (reported_view v now Q f) L
-ties-same v now Q f L t = record { agrees = t.agrees; within = t.within; counted = t.counted; acted = t.acted }
+ties-same : (v : View) (now : Option (List Motion)) (Q : Places) (f : ℕ) (l : Counts) (L : List Motion) → Ties v L → Ties (reported_view v now Q f l) L
+ties-same v now Q f l L t = record { agrees = t.agrees; within = t.within; counted = t.counted; acted = t.acted }
 
-ties-report : (v : View) (now : Option (List Motion)) (Q : Places) (f : ℕ) (L : List Motion) (e : Motion) → IsReport e → Ties v L → Ties (reported_view v now Q f) (L ++ e ∷ [])
-ties-report v now Q f L e is t = record {
+ties-report : (v : View) (now : Option (List Motion)) (Q : Places) (f : ℕ) (l : Counts) (L : List Motion) (e : Motion) → IsReport e → Ties v L → Ties (reported_view v now Q f l) (L ++ e ∷ [])
+ties-report v now Q f l L e is t = record {
   agrees = Agrees-report v.records L e is t.agrees;
   within = Within-quiet v.key v.units v.records L e (λ p cur. shown_by-report v.units v.records p cur e is) (within-report v.key v.units v.records (L ++ e ∷ []) e is) t.within;
   counted = λ p cur lives.
@@ -133,36 +133,36 @@ ties-report v now Q f L e is t = record {
   acted = acted-report v.open_order v.records L e is t.acted;
 }
 
-told-same : (v : View) (now : Option (List Motion)) (Q : Places) (f : ℕ) (told : Option (List Motion)) → IfTold told (Ties v) → IfTold told (Ties (reported_view v now Q f))
-told-same v now Q f None t = tt
-told-same v now Q f (Some L) t = ties-same v now Q f L t
+told-same : (v : View) (now : Option (List Motion)) (Q : Places) (f : ℕ) (l : Counts) (told : Option (List Motion)) → IfTold told (Ties v) → IfTold told (Ties (reported_view v now Q f l))
+told-same v now Q f l None t = tt
+told-same v now Q f l (Some L) t = ties-same v now Q f l L t
 
-told-report : (v : View) (now was is : Option (List Motion)) (Q : Places) (f : ℕ) (e : Motion) → IsReport e → IfTold was (Ties v) → Grows was e is → IfTold is (Ties (reported_view v now Q f))
-told-report v now None is Q f e of t grows = rw grows tt
-told-report v now (Some L) is Q f e of t grows = rw grows (ties-report v now Q f L e of t)
+told-report : (v : View) (now was is : Option (List Motion)) (Q : Places) (f : ℕ) (l : Counts) (e : Motion) → IsReport e → IfTold was (Ties v) → AddsEntry was e is → IfTold is (Ties (reported_view v now Q f l))
+told-report v now None is Q f l e of t grows = rw grows tt
+told-report v now (Some L) is Q f l e of t grows = rw grows (ties-report v now Q f l L e of t)
 
-sound-entry : (v : View) (e : Motion) (now : Option (List Motion)) (Q : Places) (f : ℕ) → IsSound v → IsReport e → Grows v.motions e now → PlacesOf v.places (e ∷ []) Q → LeavesSource v.open_order v.places Q
-    → IsSound (reported_view v now Q f)
-sound-entry v e now Q f s is grows places leaves = record {
+sound-entry : (v : View) (e : Motion) (now : Option (List Motion)) (Q : Places) (f : ℕ) (l : Counts) → IsSound v → IsReport e → AddsEntry v.motions e now → PlacesOf v.places (e ∷ []) Q → LeavesSource v.open_order v.places Q
+    → IsSound (reported_view v now Q f l)
+sound-entry v e now Q f l s is grows places leaves = record {
   numbered = s.numbered;
   stands = stands-report v.open_order v.records v.places Q leaves s.stands;
-  budget = budget-report v now Q f (transport-report v.places Q e is places) s.budget;
-  told = told-report v now (where_told v.disk_told v.motions) (where_told v.disk_told now) Q f e is s.told (grows-told v.disk_told v.motions now e grows);
+  budget = budget-report v now Q f l (transport-report v.places Q e is places) s.budget;
+  told = told-report v now (where_told v.disk_told v.motions) (where_told v.disk_told now) Q f l e is s.told (grows-told v.disk_told v.motions now e grows);
 }
 
-sound-failed : (v : View) (f : ℕ) → IsSound v → IsSound (reported_view v v.motions v.places f)
-sound-failed v f s = record {
+sound-failed : (v : View) (f : ℕ) (l : Counts) → IsSound v → IsSound (reported_view v v.motions v.places f l)
+sound-failed v f l s = record {
   numbered = s.numbered;
   stands = s.stands;
-  budget = budget-report v v.motions v.places f (λ u. refl) s.budget;
-  told = told-same v v.motions v.places f (where_told v.disk_told v.motions) s.told;
+  budget = budget-report v v.motions v.places f l (λ u. refl) s.budget;
+  told = told-same v v.motions v.places f l (where_told v.disk_told v.motions) s.told;
 }
 
 -- a report keeps what the guard keeps
-pub IsSound-report : (v : View) (e : Motion) (m d : Counts) (failed : Bool) (now : Option (List Motion)) (Q : Places) (f spare left : ℕ) → IsSound v → IsReport e
-    → Reports e m d failed v.motions now v.places Q spare left → (PlacesOf v.places (e ∷ []) Q → LeavesSource v.open_order v.places Q) → IsSound (reported_view v now Q f)
-IsSound-report v e m d false now Q f spare left s is r leaves = sound-entry v e now Q f s is (r.grown refl) (r.places refl) (leaves (r.places refl))
-IsSound-report v e m d true now Q f spare left s is r leaves = let none = r.nothing refl in rw (none.0, none.1) (sound-failed v f s)
+pub IsSound-report : (v : View) (e : Motion) (m d : Counts) (failed : Bool) (now : Option (List Motion)) (Q : Places) (f : ℕ) (l : Counts) (spare left : ℕ) → IsSound v → IsReport e
+    → Reports e m d failed v.motions now v.places Q spare left → (PlacesOf v.places (e ∷ []) Q → LeavesSource v.open_order v.places Q) → IsSound (reported_view v now Q f l)
+IsSound-report v e m d false now Q f l spare left s is r leaves = sound-entry v e now Q f l s is (r.grown refl) (r.places refl) (leaves (r.places refl))
+IsSound-report v e m d true now Q f l spare left s is r leaves = let none = r.nothing refl in rw (none.0, none.1) (sound-failed v f l s)
 
 -- room is left for what an open order still adds
 pub HasRoom-report : (o : Open) (e : Motion) (m d : Counts) (failed : Bool) (was now : Option (List Motion)) (P Q : Places) (before spare left room : ℕ) → HasRoom o before room → before < spare
@@ -179,10 +179,10 @@ HasRoom-report o e m d failed was now P Q before spare left room h more r = go o
     go (Acted k m d failed) le h = h
 
 -- what follows after a report, also behind a record in doubt
-pub Continues-report : (v : View) (e : Motion) (m d : Counts) (failed : Bool) (now : Option (List Motion)) (Q : Places) (f spare left : ℕ) → IsReport e
-    → Reports e m d failed v.motions now v.places Q spare left → Continues v (reported_view v now Q f)
-Continues-report v e m d true now Q f spare left is r = let none = r.nothing refl in rw (none.0, none.1) (record { leads = λ J possible. record { from = J; possible = possible; led = leads-same v.motions J v.places }; key = refl; seed = refl; units = refl; moves = Moves-same v.motions v.places; disk_told = refl; limits = refl; grew = begins-same v.records; left = λ J was. was })
-Continues-report v e m d false now Q f spare left is r = record {
+pub Continues-report : (v : View) (e : Motion) (m d : Counts) (failed : Bool) (now : Option (List Motion)) (Q : Places) (f : ℕ) (l : Counts) (spare left : ℕ) → IsReport e
+    → Reports e m d failed v.motions now v.places Q spare left → Continues v (reported_view v now Q f l)
+Continues-report v e m d true now Q f l spare left is r = let none = r.nothing refl in rw (none.0, none.1) (record { leads = λ J possible. record { from = J; possible = possible; led = leads-same v.motions J v.places }; key = refl; seed = refl; units = refl; moves = Moves-same v.motions v.places; disk_told = refl; limits = refl; grew = begins-same v.records; left = λ J was. was })
+Continues-report v e m d false now Q f l spare left is r = record {
   leads = λ J possible. record {
     from = J;
     possible = possible;
@@ -213,14 +213,14 @@ loaded-leaves o unit count P Q places Reject is u = omega (arith, places.transpo
 loaded-leaves o unit count P Q places Retract is u = omega (arith, places.outlet u)
 
 -- a list of records agrees with what the mechanism did, also with an entry more that no order asked for
-pub IsRecorded-entry : (key : List ℕ) (u : List NoteKind) (J : List Rec) (e : Motion) (was now : Option (List Motion)) → IsReport e → Grows was e now → IsRecorded key u J was → IsRecorded key u J now
+pub IsRecorded-entry : (key : List ℕ) (u : List NoteKind) (J : List Rec) (e : Motion) (was now : Option (List Motion)) → IsReport e → AddsEntry was e now → IsRecorded key u J was → IsRecorded key u J now
 IsRecorded-entry key u J e was now is g h = record { numbered = h.numbered; agrees = agrees was h.agrees g; within = within was h.within g }
   where
-    agrees : (was : Option (List Motion)) → IfTold was (Agrees J) → Grows was e now → IfTold now (Agrees J)
+    agrees : (was : Option (List Motion)) → IfTold was (Agrees J) → AddsEntry was e now → IfTold now (Agrees J)
     agrees None a g = rw g tt
     agrees (Some L) a g = rw g (Agrees-report J L e is a)
 
-    within : (was : Option (List Motion)) → IfTold was (Within key u J) → Grows was e now → IfTold now (Within key u J)
+    within : (was : Option (List Motion)) → IfTold was (Within key u J) → AddsEntry was e now → IfTold now (Within key u J)
     within None a g = rw g tt
     within (Some L) a g = rw g (Within-quiet key u J L e (λ p cur. shown_by-report u J p cur e is) (within-report key u J (L ++ e ∷ []) e is) a)
 
@@ -231,7 +231,7 @@ IsRecorded-report key u J e m d true was now P Q spare left is r h = let none = 
 IsRecorded-report key u J e m d false was now P Q spare left is r h = IsRecorded-entry key u J e was now is (r.grown refl) h
 
 -- what the limits leave an open order stays
-pub HasLimits-report : (o : Open) (v : View) (now : Option (List Motion)) (Q : Places) (f : ℕ) → HasLimits o v → HasLimits o (reported_view v now Q f)
-HasLimits-report No v now Q f h = tt
-HasLimits-report (Written k c) v now Q f h = h
-HasLimits-report (Acted k m d failed) v now Q f h = h
+pub HasLimits-report : (o : Open) (v : View) (now : Option (List Motion)) (Q : Places) (f : ℕ) (l : Counts) → HasLimits o v → HasLimits o (reported_view v now Q f l)
+HasLimits-report No v now Q f l h = tt
+HasLimits-report (Written k c) v now Q f l h = h
+HasLimits-report (Acted k m d failed) v now Q f l h = h

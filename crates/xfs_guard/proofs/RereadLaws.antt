@@ -4,7 +4,7 @@ use Rattle.std.specs.Prelude.{is_some}
 use Rattle.std.specs.declared.option.Option.{Option}
 use Rattle.xfs_base.specs.Causes.{IfTold}
 use Rattle.xfs_base.specs.declared.counts.Places.{Places}
-use Rattle.xfs_disk.specs.Disk.{LeavesOnly}
+use Rattle.xfs_disk.specs.Moments.{LeavesOnly}
 use Rattle.xfs_disk.specs.declared.disk.Disk.{Ghosts}
 use Rattle.xfs_journal.specs.JournalView.{IsPossible, HasPossible, StandsForEither}
 use Rattle.xfs_journal.specs.Paging.{IsQuiet}
@@ -12,8 +12,8 @@ use Rattle.xfs_journal.specs.declared.record.Rec.{Rec}
 use Rattle.xfs_journal.specs.declared.record.Rec.TheVariants.{Boot}
 use Rattle.xfs_journal.proofs.Moments.{weaken, joins}
 use Rattle.xfs_journal.proofs.Told.{on_told, from_told}
-use Rattle.xfs_guard.specs.Crashed.{IsLeftAt, StandsLeft, StandsReread, LeavesBehind}
-use Rattle.xfs_guard.specs.Left.{StandsRecorded}
+use Rattle.xfs_guard.specs.Crashed.{IsCrashOutcomeAt, StandsLeft, StandsReread, LeavesBehind}
+use Rattle.xfs_guard.specs.CrashOutcomes.{StandsRecorded}
 use Rattle.xfs_guard.specs.Recorded.{IsRecorded}
 use Rattle.xfs_guard.specs.Stored.{IsStored}
 use Rattle.xfs_guard.specs.View.{View, GuardView}
@@ -24,36 +24,36 @@ use Rattle.xfs_guard.proofs.StoredLaws.{tells}
 
 module _ {D : Type 0} (g : Ghosts D) where
   -- the disk was read, and nothing else
-  pub reread-quiet : (old new : D) (P : List ℕ → Type 0) → IfTold (g.held old) (λ _. IsQuiet g.held g.images g.moment g.images_since g.faults old new)
-      → IfTold (g.held old) (λ _. LeavesOnly g.moment g.images_since old new (λ bytes. g.images old bytes ⊎ P bytes))
-  reread-quiet old new P quiet = on_told (g.held old) (λ _. LeavesOnly g.moment g.images_since old new (λ bytes. g.images old bytes ⊎ P bytes)) (λ all told.
-      weaken g.moment g.images_since old new (g.images old) (λ bytes. g.images old bytes ⊎ P bytes) (λ bytes was. inl was)
-      (from_told (g.held old) (λ _. IsQuiet g.held g.images g.moment g.images_since g.faults old new) quiet all told).moments)
+  pub reread-quiet : (old new : D) (P : List ℕ → Type 0) → IfTold (g.held old) (λ _. IsQuiet g old new)
+      → IfTold (g.held old) (λ _. LeavesOnly g old new (λ bytes. g.images old bytes ⊎ P bytes))
+  reread-quiet old new P quiet = on_told (g.held old) (λ _. LeavesOnly g old new (λ bytes. g.images old bytes ⊎ P bytes)) (λ all told.
+      weaken g old new (g.images old) (λ bytes. g.images old bytes ⊎ P bytes) (λ bytes was. inl was)
+      (from_told (g.held old) (λ _. IsQuiet g old new) quiet all told).moments)
 
   -- it was read, and a record was appended, or may have been
   pub reread-append : (old mid new : D) (J : List Rec) (r : Rec) (P : List ℕ → Type 0) → is_some (g.held mid) ≡ is_some (g.held old)
-      → IfTold (g.held old) (λ _. IsQuiet g.held g.images g.moment g.images_since g.faults old mid) → IfTold (g.held mid) (λ _. LeavesOnly g.moment g.images_since mid new (StandsForEither J r))
-      → ((bytes : List ℕ) → StandsForEither J r bytes → P bytes) → IfTold (g.held old) (λ _. LeavesOnly g.moment g.images_since old new (λ bytes. g.images old bytes ⊎ P bytes))
-  reread-append old mid new J r P same quiet appended implies = on_told (g.held old) (λ _. LeavesOnly g.moment g.images_since old new (λ bytes. g.images old bytes ⊎ P bytes)) (λ all told.
+      → IfTold (g.held old) (λ _. IsQuiet g old mid) → IfTold (g.held mid) (λ _. LeavesOnly g mid new (StandsForEither J r))
+      → ((bytes : List ℕ) → StandsForEither J r bytes → P bytes) → IfTold (g.held old) (λ _. LeavesOnly g old new (λ bytes. g.images old bytes ⊎ P bytes))
+  reread-append old mid new J r P same quiet appended implies = on_told (g.held old) (λ _. LeavesOnly g old new (λ bytes. g.images old bytes ⊎ P bytes)) (λ all told.
       let still = tells (g.held mid) (same ∙ ap is_some told) in
-      weaken g.moment g.images_since old new (λ bytes. g.images old bytes ⊎ StandsForEither J r bytes) (λ bytes. g.images old bytes ⊎ P bytes) (λ bytes e. ⊎_elim (λ was. inl was) (λ is. inr (implies bytes is)) e)
-      (joins g.moment g.images_since old mid new (g.images old) (StandsForEither J r)
-      (from_told (g.held old) (λ _. IsQuiet g.held g.images g.moment g.images_since g.faults old mid) quiet all told).moments
-      (from_told (g.held mid) (λ _. LeavesOnly g.moment g.images_since mid new (StandsForEither J r)) appended still.0 still.1)))
+      weaken g old new (λ bytes. g.images old bytes ⊎ StandsForEither J r bytes) (λ bytes. g.images old bytes ⊎ P bytes) (λ bytes e. ⊎_elim (λ was. inl was) (λ is. inr (implies bytes is)) e)
+      (joins g old mid new (g.images old) (StandsForEither J r)
+      (from_told (g.held old) (λ _. IsQuiet g old mid) quiet all told).moments
+      (from_told (g.held mid) (λ _. LeavesOnly g mid new (StandsForEither J r)) appended still.0 still.1)))
 
   -- what was left goes on from the records before
   pub behind-reread : (old new : GuardView D) (p : Places) → is_some (g.held new.disk) ≡ is_some (g.held old.disk)
-      → IfTold (g.held old.disk) (λ _. LeavesOnly g.moment g.images_since old.disk new.disk (λ bytes. g.images old.disk bytes ⊎ StandsReread old.state.records old.state.in_doubt p (IsLeftAt new.state) bytes))
+      → IfTold (g.held old.disk) (λ _. LeavesOnly g old.disk new.disk (λ bytes. g.images old.disk bytes ⊎ StandsReread old.state.records old.state.in_doubt p (IsCrashOutcomeAt new.state) bytes))
       → LeavesBehind g old new
   behind-reread old new p told leaves = record {
     told = told;
-    moments = on_told (g.held old.disk) (λ _. LeavesOnly g.moment g.images_since old.disk new.disk (λ bytes. g.images old.disk bytes ⊎ StandsLeft old.state new.state bytes)) (λ all is.
-        weaken g.moment g.images_since old.disk new.disk (λ bytes. g.images old.disk bytes ⊎ StandsReread old.state.records old.state.in_doubt p (IsLeftAt new.state) bytes)
+    moments = on_told (g.held old.disk) (λ _. LeavesOnly g old.disk new.disk (λ bytes. g.images old.disk bytes ⊎ StandsLeft old.state new.state bytes)) (λ all is.
+        weaken g old.disk new.disk (λ bytes. g.images old.disk bytes ⊎ StandsReread old.state.records old.state.in_doubt p (IsCrashOutcomeAt new.state) bytes)
         (λ bytes. g.images old.disk bytes ⊎ StandsLeft old.state new.state bytes) (λ bytes e. ⊎_elim (λ was. inl was) (λ read. inr (from bytes read read.either)) e)
-        (from_told (g.held old.disk) (λ _. LeavesOnly g.moment g.images_since old.disk new.disk (λ bytes. g.images old.disk bytes ⊎ StandsReread old.state.records old.state.in_doubt p (IsLeftAt new.state) bytes)) leaves all is));
+        (from_told (g.held old.disk) (λ _. LeavesOnly g old.disk new.disk (λ bytes. g.images old.disk bytes ⊎ StandsReread old.state.records old.state.in_doubt p (IsCrashOutcomeAt new.state) bytes)) leaves all is));
   }
     where
-      from : (bytes : List ℕ) (read : StandsReread old.state.records old.state.in_doubt p (IsLeftAt new.state) bytes) → StandsForEither read.list (Boot p) bytes → StandsLeft old.state new.state bytes
+      from : (bytes : List ℕ) (read : StandsReread old.state.records old.state.in_doubt p (IsCrashOutcomeAt new.state) bytes) → StandsForEither read.list (Boot p) bytes → StandsLeft old.state new.state bytes
       from bytes read (inl is) = record { list = read.list; stands = is; begins = begins-possible old.state.records old.state.in_doubt read.list read.possible; left = read.without }
       from bytes read (inr is) = record {
         list = read.list ++ Boot p ∷ [];
@@ -65,13 +65,13 @@ module _ {D : Type 0} (g : Ghosts D) where
   -- and is recorded
   pub recorded-reread : (old new : D) (v : View) (p : Places) (IsLeftNow : List Rec → Type 0) → IsStored g old v.records v.in_doubt
       → (is_some (g.held old) ≡ true → (J : List Rec) → IsPossible v.records v.in_doubt J → IsRecorded v.key v.units J v.motions)
-      → IfTold (g.held old) (λ _. LeavesOnly g.moment g.images_since old new (λ bytes. g.images old bytes ⊎ StandsReread v.records v.in_doubt p IsLeftNow bytes))
-      → IfTold (g.held old) (λ _. LeavesOnly g.moment g.images_since old new (StandsRecorded v.key v.units v.motions))
-  recorded-reread old new v p IsLeftNow stored recorded leaves = on_told (g.held old) (λ _. LeavesOnly g.moment g.images_since old new (StandsRecorded v.key v.units v.motions)) (λ all told.
+      → IfTold (g.held old) (λ _. LeavesOnly g old new (λ bytes. g.images old bytes ⊎ StandsReread v.records v.in_doubt p IsLeftNow bytes))
+      → IfTold (g.held old) (λ _. LeavesOnly g old new (StandsRecorded v.key v.units v.motions))
+  recorded-reread old new v p IsLeftNow stored recorded leaves = on_told (g.held old) (λ _. LeavesOnly g old new (StandsRecorded v.key v.units v.motions)) (λ all told.
       let each = recorded (ap is_some told) in
-      weaken g.moment g.images_since old new (λ bytes. g.images old bytes ⊎ StandsReread v.records v.in_doubt p IsLeftNow bytes) (StandsRecorded v.key v.units v.motions)
+      weaken g old new (λ bytes. g.images old bytes ⊎ StandsReread v.records v.in_doubt p IsLeftNow bytes) (StandsRecorded v.key v.units v.motions)
       (λ bytes e. ⊎_elim
       (λ was. recorded-possible v.key v.units v.motions v.records v.in_doubt bytes each (from_told (g.held old) (λ _. (c : List ℕ) → g.images old c → HasPossible v.records v.in_doubt c) stored all told bytes was))
       (λ read. recorded-either v.key v.units v.motions read.list (Boot p) bytes (each read.list read.possible) (IsRecorded-boot v.key v.units read.list p v.motions (each read.list read.possible)) read.either)
       e)
-      (from_told (g.held old) (λ _. LeavesOnly g.moment g.images_since old new (λ bytes. g.images old bytes ⊎ StandsReread v.records v.in_doubt p IsLeftNow bytes)) leaves all told))
+      (from_told (g.held old) (λ _. LeavesOnly g old new (λ bytes. g.images old bytes ⊎ StandsReread v.records v.in_doubt p IsLeftNow bytes)) leaves all told))

@@ -6,23 +6,24 @@ use Rattle.std.specs.declared.result.Result.{Result}
 use Rattle.xfs_base.specs.declared.money.NoteKind.{NoteKind}
 use Rattle.xfs_base.specs.declared.counts.Places.{Places}
 use Rattle.xfs_mech.specs.declared.motion.Motion.{Motion}
-use Rattle.xfs_journal.specs.JournalView.{IsPossible, passes}
+use Rattle.xfs_journal.specs.JournalView.{IsPossible, exceeds}
 use Rattle.xfs_journal.specs.declared.record.Rec.{Rec}
 use Rattle.xfs_journal.specs.declared.record.Rec.TheVariants.{Boot}
 use Rattle.xfs_guard.specs.declared.fail.BootFault.{BootFault}
 use Rattle.xfs_guard.specs.declared.fail.BootFault.TheVariants.{NotJournal, Disk, Full, Memory}
 use Rattle.xfs_guard.specs.declared.open.Open.{Open}
 use Rattle.xfs_guard.specs.declared.open.Open.TheVariants.{No}
+use Rattle.xfs_guard.specs.Balance.{no_notes}
 use Rattle.xfs_guard.specs.View.{View, unread, reread}
 use Rattle.xfs_guard.specs.Recorded.{IsRecorded}
 use Rattle.xfs_guard.specs.Kept.{IsKept}
 use Rattle.xfs_guard.specs.LedgerView.{LedgerView}
 use Rattle.xfs_guard.specs.Continues.{Continues}
+use Rattle.xfs_guard.proofs.BalanceLaws.{balanced-possible}
 use Rattle.xfs_guard.proofs.BootLaws.{IsKept-boot, IsRecorded-boot}
 use Rattle.xfs_guard.proofs.ContinueLaws.{Continues-grown, only-possible, doubted-possible}
 use Rattle.xfs_guard.proofs.CrashedLaws.{begins-same, begins-push, begins-possible, left-close, left-mount, left-boot, left-boot_doubt}
 use Rattle.xfs_guard.proofs.KeptLaws.{over}
-use Rattle.xfs_guard.proofs.MarkLaws.{marked-possible}
 
 -- as before, but for the disk
 abbrev pub untouched : {D : Type 0} → LedgerView D → LedgerView D → LedgerView D
@@ -34,7 +35,7 @@ shut_now old new = record old { shut = true; disk = new.disk }
 
 -- this list was read, and has its Boot
 abbrev pub booted_now : {D : Type 0} → LedgerView D → LedgerView D → Places → List Rec → LedgerView D
-booted_now old new p J = record old { records = J ++ Boot p ∷ []; bound = None; shut = false; boot_missing = false; in_doubt = None; room = new.room; disk = new.disk }
+booted_now old new p J = record old { records = J ++ Boot p ∷ []; bound = None; booted = p; loaded = no_notes; shut = false; boot_missing = false; in_doubt = None; room = new.room; disk = new.disk }
 
 -- this list was read, and its Boot is missing
 abbrev pub missing_now : {D : Type 0} → LedgerView D → LedgerView D → List Rec → LedgerView D
@@ -54,7 +55,7 @@ MayRestore old new p = (new ≡ shut_now old new) ⊎ ((J : List Rec) × IsPossi
 
 pub restored : {T D : Type 0} (res : Result T BootFault) (old new : LedgerView D) (p : Places) (told : Type 0) → res ≢ Err Memory
     → OnOk res ((J : List Rec) × IsPossible old.records old.in_doubt J × (new ≡ booted_now old new p J))
-    → (res ≡ Err Full → (J : List Rec) × IsPossible old.records old.in_doubt J × (passes old.limits (J ++ Boot p ∷ []) ≡ true) × (new ≡ missing_now old new J))
+    → (res ≡ Err Full → (J : List Rec) × IsPossible old.records old.in_doubt J × (exceeds old.limits (J ++ Boot p ∷ []) ≡ true) × (new ≡ missing_now old new J))
     → (res ≡ Err Disk → (new ≡ shut_now old new) ⊎ ((J : List Rec) × IsPossible old.records old.in_doubt J × (new ≡ doubted_now old new p J)))
     → IfErr res (λ f. (at : ℕ) → f ≡ NotJournal at → told × (new ≡ shut_now old new))
     → MayRestore old new p
@@ -70,7 +71,7 @@ restored (Err (NotJournal at)) old new p told other ok full disk silent = inl (s
 pub may-restore : {T D : Type 0} (res : Result T BootFault) (old new : LedgerView D) (p : Places) (told : Type 0)
     → OnOk res ((J : List Rec) × IsPossible old.records old.in_doubt J × (new ≡ booted_now old new p J))
     → (res ≡ Err Memory → new ≡ untouched old new)
-    → (res ≡ Err Full → (J : List Rec) × IsPossible old.records old.in_doubt J × (passes old.limits (J ++ Boot p ∷ []) ≡ true) × (new ≡ missing_now old new J))
+    → (res ≡ Err Full → (J : List Rec) × IsPossible old.records old.in_doubt J × (exceeds old.limits (J ++ Boot p ∷ []) ≡ true) × (new ≡ missing_now old new J))
     → (res ≡ Err Disk → (new ≡ shut_now old new) ⊎ ((J : List Rec) × IsPossible old.records old.in_doubt J × (new ≡ doubted_now old new p J)))
     → IfErr res (λ f. (at : ℕ) → f ≡ NotJournal at → told × (new ≡ shut_now old new))
     → (new ≡ untouched old new) ⊎ MayRestore old new p
@@ -90,7 +91,7 @@ pub IsKept-unread : (v : View) (spare was left : ℕ) (kinds : List NoteKind) �
 IsKept-unread v spare was left kinds kept = record {
   sound = λ e m. absurd (true≢false e);
   clean = λ e. absurd (true≢false e);
-  marked = kept.marked;
+  balanced = kept.balanced;
   closed = λ e. refl;
   missing = λ e. refl;
   recorded = kept.recorded;
@@ -104,7 +105,7 @@ pub IsKept-reread : (v : View) (J : List Rec) (spare was left : ℕ) (kinds : Li
 IsKept-reread v J spare was left kinds possible kept = record {
   sound = λ e m. absurd (true≢false m);
   clean = λ e. refl;
-  marked = marked-possible v.records v.in_doubt J possible kept.marked;
+  balanced = balanced-possible v.records v.in_doubt J v.booted v.loaded v.places possible kept.balanced;
   closed = λ e. refl;
   missing = λ e. refl;
   recorded = λ told K only. rw (only-possible J K None refl only) (kept.recorded told J possible);
@@ -119,7 +120,7 @@ pub IsKept-unbooted : (v : View) (J : List Rec) (p : Places) (spare was left : �
 IsKept-unbooted v J p spare was left kinds possible kept = record {
   sound = λ e m. absurd (true≢false e);
   clean = λ e. absurd (true≢false e);
-  marked = marked-possible v.records v.in_doubt J possible kept.marked;
+  balanced = balanced-possible v.records v.in_doubt J v.booted v.loaded v.places possible kept.balanced;
   closed = λ e. refl;
   missing = λ e. refl;
   recorded = λ told K either. ⊎_elim (λ same. rw same (kept.recorded told J possible)) (λ more. rw more (IsRecorded-boot v.key v.units J p v.motions (kept.recorded told J possible))) (doubted-possible J K (Boot p) either);
@@ -130,14 +131,14 @@ IsKept-unbooted v J p spare was left kinds possible kept = record {
 
 -- what a guard is after a restore that doesn't want memory
 pub IsKept-restored : {D : Type 0} (key seed : List ℕ) (o : Open) (motions : Option (List Motion)) (places : Places) (faults : ℕ) (old new : LedgerView D) (p : Places) (was told : Bool) (spare room left : ℕ) (kinds : List NoteKind)
-    → MayRestore old new p → told ≡ was → IsKept (over key seed o motions places faults old was) spare room kinds → IsKept (over key seed No motions places faults new told) spare left kinds
-IsKept-restored key seed o motions places faults old new p was told spare room left kinds (inl is) same kept =
+    → MayRestore old new p → p ≡ places → told ≡ was → IsKept (over key seed o motions places faults old was) spare room kinds → IsKept (over key seed No motions places faults new told) spare left kinds
+IsKept-restored key seed o motions places faults old new p was told spare room left kinds (inl is) there same kept =
     rw (is, same) (IsKept-unread (over key seed o motions places faults old was) spare room left kinds kept)
-IsKept-restored key seed o motions places faults old new p was told spare room left kinds (inr (J, possible, inl is)) same kept =
-    rw (is, same) (IsKept-boot (over key seed o motions places faults old was) J p spare left kinds (λ t. kept.recorded t J possible) kept.units)
-IsKept-restored key seed o motions places faults old new p was told spare room left kinds (inr (J, possible, inr (inl is))) same kept =
+IsKept-restored key seed o motions places faults old new p was told spare room left kinds (inr (J, possible, inl is)) there same kept =
+    rw (is, same) (IsKept-boot (over key seed o motions places faults old was) J p spare left kinds there (λ t. kept.recorded t J possible) kept.units)
+IsKept-restored key seed o motions places faults old new p was told spare room left kinds (inr (J, possible, inr (inl is))) there same kept =
     rw (is, same) (IsKept-reread (over key seed o motions places faults old was) J spare room left kinds possible kept)
-IsKept-restored key seed o motions places faults old new p was told spare room left kinds (inr (J, possible, inr (inr is))) same kept =
+IsKept-restored key seed o motions places faults old new p was told spare room left kinds (inr (J, possible, inr (inr is))) there same kept =
     rw (is, same) (IsKept-unbooted (over key seed o motions places faults old was) J p spare room left kinds possible kept)
 
 -- what follows then: the Boot, which has the places, comes behind a possible list, or nothing does

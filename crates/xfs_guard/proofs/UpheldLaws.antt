@@ -12,7 +12,7 @@ use Rattle.xfs_mech.specs.declared.motion.Motion.{Motion}
 use Rattle.xfs_guard.specs.declared.open.Open.{Open}
 use Rattle.xfs_guard.specs.declared.open.Open.TheVariants.{No}
 use Rattle.xfs_guard.specs.Kept.{IsKept}
-use Rattle.xfs_guard.specs.Left.{StandsRecorded}
+use Rattle.xfs_guard.specs.CrashOutcomes.{StandsRecorded}
 use Rattle.xfs_guard.specs.Presented.{presented_in, unsettled}
 use Rattle.xfs_guard.specs.Sound.{Ties, where_told}
 use Rattle.xfs_guard.specs.Stored.{IsStored}
@@ -20,7 +20,7 @@ use Rattle.xfs_guard.specs.Upheld.{IsCounted, IsUpheld}
 use Rattle.xfs_guard.specs.View.{View, GuardView}
 use Rattle.xfs_guard.specs.Within.{shown}
 use Rattle.xfs_guard.proofs.LeftLaws.{recorded-possible}
-use Rattle.xfs_guard.proofs.MarkLaws.{mark-there, bound-there, issue-there}
+use Rattle.xfs_guard.proofs.MarkLaws.{boot-marked, mark-there, bound-there, issue-there}
 use Rattle.xfs_guard.proofs.SizeLaws.{neither}
 
 either : (a b : Bool) (P : Type 0) → (a ≡ true → P) → (b ≡ true → P) → (a || b) ≡ true → P
@@ -48,6 +48,7 @@ upheld g v d spare left kinds told kept stored = record {
   budget = λ e. let both = neither v.shut v.boot_missing e in (kept.sound both.0 both.1).budget;
   counted = λ e. let both = neither v.shut v.boot_missing e in counted v (kept.sound both.0 both.1).told;
   issue = issue-there v.boot_missing v.records;
-  mark = mark-there v.records kept.marked;
+  balanced = kept.balanced;
+  mark = mark-there v.records (boot-marked v.booted v.records kept.balanced.boot);
   bind = bound-there v.records;
 }

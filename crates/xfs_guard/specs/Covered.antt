@@ -10,6 +10,7 @@ use Rattle.xfs_guard.specs.View.{View}
 use Rattle.xfs_guard.specs.Nonce.{live_nonce}
 use Rattle.xfs_guard.specs.Presented.{presented_in}
 use Rattle.xfs_guard.specs.Refusals.{bound_token}
+use Rattle.xfs_guard.specs.declared.fit.TheConstants.{LEAST_BYTES, LEAST_RECORDS}
 use Rattle.xfs_guard.specs.declared.nonce.Nonce.{Nonce}
 
 -- the journal is open, its Boot isn't missing, and so many records and bytes are left of its limits
@@ -55,7 +56,7 @@ pub record CanDispense (v : View) (bytes : List ℕ) (counts : CountsOf) : Type 
 
 -- nothing stands against a present: a nonce lives, a token's amounts are kept, there are notes, and the outlet is empty
 pub record CanPresent (v : View) : Type 0 where
-  pub room : HasSpace v 3 2048
+  pub room : HasSpace v LEAST_RECORDS LEAST_BYTES
   pub nonce : Nonce
   pub lives : live_nonce v.records ≡ Some nonce
   pub amounts : List (List ℕ × ℕ)

@@ -4,11 +4,12 @@ use Rattle.std.specs.declared.option.Option.{Option}
 use Rattle.xfs_journal.specs.Image.{size}
 use Rattle.xfs_guard.specs.declared.deny.Deny.{Deny}
 use Rattle.xfs_guard.specs.declared.fit.Fit.{Fit}
+use Rattle.xfs_guard.specs.declared.fit.TheConstants.{LEAST_BYTES, LEAST_RECORDS}
 use Rattle.xfs_guard.specs.View.{View}
 
 -- too little is left of the limits
 abbrev pub is_short : View → Bool
-is_short v = nat_lt (v.limits.records - length v.records) 3 || nat_lt (v.limits.bytes - size v.records) 2048
+is_short v = nat_lt (v.limits.records - length v.records) LEAST_RECORDS || nat_lt (v.limits.bytes - size v.records) LEAST_BYTES
 
 abbrev pub is_full : View → Bool
 is_full v = v.boot_missing || is_short v

@@ -2,12 +2,12 @@
 use Rattle.std.specs.Prelude.{◌≡◌, ℕ, ◌+◌, ◌<◌, ◌≤◌, true, false, List, None, length, ⊤}
 use Rattle.xfs_base.specs.declared.money.NoteKind.{NoteKind}
 use Rattle.xfs_journal.specs.Image.{size}
-use Rattle.xfs_journal.specs.Journal.{last_mark}
 use Rattle.xfs_journal.specs.JournalView.{IsPossible}
 use Rattle.xfs_journal.specs.declared.record.Rec.{Rec}
 use Rattle.xfs_guard.specs.declared.open.Open.{Open}
 use Rattle.xfs_guard.specs.declared.open.Open.TheVariants.{No, Written, Acted}
 use Rattle.xfs_guard.specs.View.{View}
+use Rattle.xfs_guard.specs.Balance.{IsBalanced}
 use Rattle.xfs_guard.specs.Sound.{IsSound}
 use Rattle.xfs_guard.specs.Recorded.{IsRecorded}
 
@@ -23,14 +23,14 @@ HasLimits No v = ⊤
 HasLimits (Written kind counts) v = (length v.records + 1 ≤ v.limits.records) × (size v.records + 68 ≤ v.limits.bytes)
 HasLimits (Acted kind moved diverted failed) v = (length v.records + 1 ≤ v.limits.records) × (size v.records + 68 ≤ v.limits.bytes)
 
--- What a guard is: sound while its journal isn't shut and has its Boot, with room to carry its order through, over a mechanism of its units. Each list that the disk may have agrees with the mechanism's, where both are told.
+-- What a guard is: sound while its journal isn't shut and has its Boot, with room to carry its order through, over a mechanism of its units, whose notes balance with the last Boot. Each list that the disk may have agrees with the mechanism's, where both are told.
 pub record IsKept (v : View) (spare left : ℕ) (kinds : List NoteKind) : Type 0 where
   pub sound : v.shut ≡ false → v.boot_missing ≡ false → IsSound v
   pub clean : v.shut ≡ false → v.in_doubt ≡ None
-  pub marked : 0 < last_mark v.records
+  pub balanced : IsBalanced v.records v.booted v.loaded v.places
   pub closed : v.shut ≡ true → v.open_order ≡ No
   pub missing : v.boot_missing ≡ true → v.open_order ≡ No
-  pub recorded : v.disk_told ≡ true → (J : List Rec) → IsPossible v.records v.in_doubt J → IsRecorded v.key v.units J v.motions
+  pub recorded : v.disk_told ≡ true → (records : List Rec) → IsPossible v.records v.in_doubt records → IsRecorded v.key v.units records v.motions
   pub room : HasRoom v.open_order spare left
   pub limits : HasLimits v.open_order v
   pub units : kinds ≡ v.units

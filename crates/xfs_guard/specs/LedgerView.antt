@@ -2,20 +2,24 @@
 use Rattle.std.specs.Prelude.{◌≡◌, ◌⊎◌, ℕ, Bool, true, false, List, [], ◌∷◌, ◌++◌, if◌then◌else◌, unwrap_or, Some, None, Ok, Err}
 use Rattle.std.specs.declared.option.Option.{Option}
 use Rattle.std.specs.declared.result.Result.{Result}
+use Rattle.xfs_base.specs.declared.counts.Counts.{Counts}
+use Rattle.xfs_base.specs.declared.counts.Places.{Places}
 use Rattle.xfs_base.specs.declared.money.NoteKind.{NoteKind}
 use Rattle.xfs_token.specs.Amounts.{has_currency}
-use Rattle.xfs_journal.specs.JournalView.{passes}
+use Rattle.xfs_journal.specs.JournalView.{exceeds}
 use Rattle.xfs_journal.specs.declared.limits.Limits.{Limits}
 use Rattle.xfs_journal.specs.declared.record.Rec.{Rec}
 use Rattle.xfs_guard.specs.declared.deny.Deny.{Deny}
 use Rattle.xfs_guard.specs.declared.deny.Deny.TheVariants.{Shut, Full, Disk, Memory}
 use Rattle.xfs_guard.specs.Presented.{presented_in}
 
--- a ledger: its journal with the disk, the table of its units, the amounts of the token that is bound to the live nonce, the room for more records, and whether its Boot is missing, for which a restore found no room
+-- a ledger: its journal with the disk, the table of its units, the amounts of the token that is bound to the live nonce, the places of the last Boot that it appended and the notes that were loaded since, the room for more records, and whether its Boot is missing, for which a restore found no room
 pub record LedgerView (D : Type 0) : Type 0 where
   pub records : List Rec
   pub units : List NoteKind
   pub bound : Option (List (List ℕ × ℕ))
+  pub booted : Places
+  pub loaded : Counts
   pub room : ℕ
   pub limits : Limits
   pub shut : Bool
@@ -33,6 +37,8 @@ pub record Writes {D : Type 0} (old new : LedgerView D) (r : Rec) (bound : Optio
   pub records : new.records ≡ old.records ++ r ∷ []
   pub units : new.units ≡ old.units
   pub bound_is : new.bound ≡ bound
+  pub booted : new.booted ≡ old.booted
+  pub loaded : new.loaded ≡ old.loaded
   pub limits : new.limits ≡ old.limits
   pub open_still : new.shut ≡ false
   pub boot_missing : new.boot_missing ≡ old.boot_missing
@@ -43,6 +49,8 @@ pub record IsSame {D : Type 0} (old new : LedgerView D) : Type 0 where
   pub records : new.records ≡ old.records
   pub units : new.units ≡ old.units
   pub bound : new.bound ≡ old.bound
+  pub booted : new.booted ≡ old.booted
+  pub loaded : new.loaded ≡ old.loaded
   pub limits : new.limits ≡ old.limits
   pub shut : new.shut ≡ old.shut
   pub boot_missing : new.boot_missing ≡ old.boot_missing
@@ -54,6 +62,8 @@ pub record Doubts {D : Type 0} (old new : LedgerView D) (r : Rec) : Type 0 where
   pub records : new.records ≡ old.records
   pub units : new.units ≡ old.units
   pub bound : new.bound ≡ old.bound
+  pub booted : new.booted ≡ old.booted
+  pub loaded : new.loaded ≡ old.loaded
   pub limits : new.limits ≡ old.limits
   pub shut : new.shut ≡ true
   pub boot_missing : new.boot_missing ≡ old.boot_missing
@@ -65,14 +75,14 @@ Wrote (Ok x) old new r bound = Writes old new r bound
 Wrote (Err Disk) old new r bound = Doubts old new r
 Wrote (Err e) old new r bound = IsSame old new
 
--- why a record isn't taken: the journal is shut, its Boot is missing, or a limit would be passed
+-- why a record isn't taken: the journal is shut, its Boot is missing, or a limit would be exceeded
 abbrev pub write_refusal : {D : Type 0} → LedgerView D → Rec → Option Deny
-write_refusal l r = if l.shut then Some Shut else if l.boot_missing then Some Full else (if passes l.limits (l.records ++ r ∷ []) then Some Full else None)
+write_refusal l r = if l.shut then Some Shut else if l.boot_missing then Some Full else (if exceeds l.limits (l.records ++ r ∷ []) then Some Full else None)
 
 -- why a record that nothing refuses isn't written
 abbrev pub IsWriteFault : Deny → Type 0
 IsWriteFault e = (e ≡ Memory) ⊎ (e ≡ Disk)
 
 -- in a currency of which the bound amounts have nothing, nothing was presented
-abbrev pub IsTold : {D : Type 0} → LedgerView D → Type 0
-IsTold l = (c : List ℕ) → has_currency c (unwrap_or l.bound []) ≡ false → presented_in l.units l.records c ≡ 0
+abbrev pub IsPresentedBound : {D : Type 0} → LedgerView D → Type 0
+IsPresentedBound l = (c : List ℕ) → has_currency c (unwrap_or l.bound []) ≡ false → presented_in l.units l.records c ≡ 0

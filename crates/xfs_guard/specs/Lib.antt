@@ -1,4 +1,5 @@
 pub mod Agrees
+pub mod Balance
 pub mod BootFaults
 pub mod Budget
 pub mod Claims
@@ -11,11 +12,11 @@ pub mod Keeps
 pub mod Kept
 pub mod Ledger
 pub mod LedgerView
-pub mod Left
+pub mod CrashOutcomes
 pub mod Lives
 pub mod Nonce
 pub mod Orders
-pub mod Passed
+pub mod OverBudget
 pub mod Pays
 pub mod Presented
 pub mod Recorded

@@ -12,6 +12,7 @@ use Rattle.xfs_hmac.specs.Hmac.{hmac}
 use Rattle.xfs_token.specs.Token.{Parts, Spells}
 use Rattle.xfs_token.specs.Amounts.{amounts_of}
 use Rattle.xfs_token.specs.Fault.{IsFault}
+use Rattle.xfs_token.specs.declared.text.TheConstants.{MAC_FIELD}
 use Rattle.xfs_token.specs.declared.faults.TokenFault.{TokenFault}
 use Rattle.xfs_journal.specs.declared.record.Rec.TheVariants.{Bind}
 use Rattle.xfs_guard.specs.TokenDeny.{deny_of}
@@ -22,14 +23,15 @@ use Rattle.xfs_guard.specs.declared.deny.Deny.{Deny}
 use Rattle.xfs_guard.specs.declared.deny.Deny.TheVariants.{NoNonce, WrongNonce, WrongMac, NoAmounts, OtherBound, NotEmpty, Unbound, Nothing, OutletFull, Short, Disk, Memory}
 use Rattle.xfs_guard.specs.declared.ask.Ask.{Ask}
 use Rattle.xfs_guard.specs.declared.ask.Ask.TheVariants.{Stack as AskStack, Present as AskPresent, Reject as AskReject, Retract as AskRetract}
+use Rattle.xfs_guard.specs.Balance.{no_notes}
 use Rattle.xfs_guard.specs.View.{View}
 use Rattle.xfs_guard.specs.Nonce.{live_nonce}
-use Rattle.xfs_guard.specs.Passed.{passed_in}
+use Rattle.xfs_guard.specs.OverBudget.{over_budget_in}
 use Rattle.xfs_guard.specs.Fits.{unfit}
 
--- OverBudget, for the first currency in which the counts pass the amounts, with what is left before them
+-- OverBudget, for the first currency in which the counts exceed the amounts, with what is left before them
 abbrev pub over_budget : View → List (List ℕ × ℕ) → Counts → Option Deny
-over_budget v amounts counts = passed_in v.units v.records v.places.transport amounts counts
+over_budget v amounts counts = over_budget_in v.units v.records v.places.transport amounts counts
 
 -- the token that is bound to the live nonce, and the number of its Bind
 abbrev pub bound_token : List Rec → Option (List ℕ)
@@ -47,7 +49,7 @@ bind_refusal v bytes None = if sum v.places.transport.0 == 0 then None else Some
 abbrev pub claim_refusal_at : View → List ℕ → Parts → Option Nonce → Option Deny
 claim_refusal_at v bytes t None = Some (NoNonce (last_mark v.records))
 claim_refusal_at v bytes t (Some nonce) =
-    let due = hmac v.key (take (length bytes - 76) bytes) in
+    let due = hmac v.key (take (length bytes - MAC_FIELD) bytes) in
     if not (bytes_eq t.nonce nonce.text) then Some (WrongNonce (last_mark v.records))
     else if not (bytes_eq t.mac due) then Some (WrongMac due)
     else if is_none (amounts_of t) then Some NoAmounts
@@ -89,7 +91,7 @@ pub record Binds (old new : View) (bytes : List ℕ) (amounts : List (List ℕ �
 
 -- so many notes of one unit, which counts from 1
 abbrev pub notes_of : ℕ → ℕ → Counts
-notes_of unit count = record { 0 = slice_set (0 ∷ 0 ∷ 0 ∷ 0 ∷ 0 ∷ 0 ∷ 0 ∷ 0 ∷ []) (unit - 1) count }
+notes_of unit count = record { 0 = slice_set no_notes.0 (unit - 1) count }
 
 -- what an ask moves, and how
 abbrev pub asked_kind : Ask → Kind

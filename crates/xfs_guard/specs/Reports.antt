@@ -3,11 +3,12 @@ use Rattle.std.specs.Prelude.{◌≡◌, ℕ, Bool}
 use Rattle.xfs_base.specs.declared.counts.Counts.{Counts}
 use Rattle.xfs_mech.specs.declared.motion.Motion.{Motion}
 use Rattle.xfs_mech.specs.Mechanism.{Reports}
+use Rattle.xfs_guard.specs.Balance.{loaded_after}
 use Rattle.xfs_guard.specs.View.{View}
 
--- the mechanism reported this entry, or failed and moved nothing; spare and left are its room before and after
+-- the mechanism reported this entry, or failed and moved nothing; a loading counts since the Boot where it didn't fail; spare and left are the room before and after
 pub record HasReported (old new : View) (entry : Motion) (moved diverted : Counts) (failed : Bool) : Type 0 where
   pub spare : ℕ
   pub left : ℕ
   pub reported : Reports entry moved diverted failed old.motions new.motions old.places new.places spare left
-  pub same : new ≡ record old { motions = new.motions; places = new.places; faults = new.faults }
+  pub same : new ≡ record old { motions = new.motions; places = new.places; faults = new.faults; loaded = loaded_after entry failed old.loaded }

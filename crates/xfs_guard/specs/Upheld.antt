@@ -8,13 +8,14 @@ use Rattle.xfs_journal.specs.declared.record.Rec.{Rec}
 use Rattle.xfs_journal.specs.declared.record.Rec.TheVariants.{Issue, Bind}
 use Rattle.xfs_guard.specs.declared.nonce.Nonce.{Nonce}
 use Rattle.xfs_guard.specs.declared.open.Open.TheVariants.{No}
+use Rattle.xfs_guard.specs.Balance.{IsBalanced}
 use Rattle.xfs_guard.specs.Budget.{Budget}
 use Rattle.xfs_guard.specs.Crashed.{is_closed}
-use Rattle.xfs_guard.specs.Left.{StandsRecorded}
+use Rattle.xfs_guard.specs.CrashOutcomes.{StandsRecorded}
 use Rattle.xfs_guard.specs.Nonce.{live_in, nonce_of}
 use Rattle.xfs_guard.specs.Presented.{presented_in, unsettled}
 use Rattle.xfs_guard.specs.Refusals.{bound_place, bound_token}
-use Rattle.xfs_guard.specs.Sound.{Stands, where_told}
+use Rattle.xfs_guard.specs.Sound.{OpenIsNewest, where_told}
 use Rattle.xfs_guard.specs.Stored.{IsStored}
 use Rattle.xfs_guard.specs.View.{View, GuardView}
 use Rattle.xfs_guard.specs.Within.{shown}
@@ -36,15 +37,16 @@ abbrev pub IsCounted : View → Type 0
 IsCounted v = IfTold (where_told v.disk_told v.motions) (λ motions.
     (p : ℕ) (c : List ℕ) → live_of v.records ≡ Some p → shown v.units v.records motions p c ≡ presented_in v.units v.records c + unsettled v.units v.open_order c)
 
--- The list is stored, and each image of the disk stands for a list that is recorded. While the journal is open and has its Boot, the open order is its newest record, and the budget holds; else no order is open. A live nonce has its Issue, the last mark is one, and the bound token has its Bind.
+-- The list is stored, and each image of the disk stands for a list that is recorded. While the journal is open and has its Boot, the open order is its newest record, and the budget holds; else no order is open. Whatever the mechanism tells, the notes balance with the last Boot. A live nonce has its Issue, the last mark is one, and the bound token has its Bind.
 pub record IsUpheld {D : Type 0} (g : Ghosts D) (now : GuardView D) : Type 0 where
   pub stored : IsStored g now.disk now.state.records now.state.in_doubt
   pub recorded : IfTold (g.held now.disk) (λ _. (bytes : List ℕ) → g.images now.disk bytes → StandsRecorded now.state.key now.state.units now.state.motions bytes)
   pub clean : now.state.shut ≡ false → now.state.in_doubt ≡ None
   pub closed : is_closed now.state ≡ true → now.state.open_order ≡ No
-  pub order : is_closed now.state ≡ false → Stands now.state.open_order now.state.records now.state.places
+  pub order : is_closed now.state ≡ false → OpenIsNewest now.state.open_order now.state.records now.state.places
   pub budget : is_closed now.state ≡ false → Budget now.state
   pub counted : is_closed now.state ≡ false → IsCounted now.state
+  pub balanced : IsBalanced now.state.records now.state.booted now.state.loaded now.state.places
   pub issue : (n : Nonce) → live_in now.state.boot_missing now.state.records ≡ Some n → HasIssue now.state.records n
   pub mark : IsMarkAt now.state.records (last_mark now.state.records)
   pub bind : (n : ℕ) → bound_place now.state.records ≡ Some n → IsBindAt now.state.records n

@@ -2,16 +2,18 @@
 use Rattle.std.specs.Prelude.{ℕ, Bool, true, false, List, [], ◌∷◌, ◌++◌, None, Some}
 use Rattle.std.specs.declared.option.Option.{Option}
 use Rattle.xfs_base.specs.declared.money.NoteKind.{NoteKind}
+use Rattle.xfs_base.specs.declared.counts.Counts.{Counts}
 use Rattle.xfs_base.specs.declared.counts.Places.{Places}
 use Rattle.xfs_mech.specs.declared.motion.Motion.{Motion}
 use Rattle.xfs_journal.specs.declared.record.Rec.{Rec}
 use Rattle.xfs_journal.specs.declared.record.Rec.TheVariants.{Boot}
 use Rattle.xfs_journal.specs.declared.limits.Limits.{Limits}
+use Rattle.xfs_guard.specs.Balance.{no_notes}
 use Rattle.xfs_guard.specs.LedgerView.{LedgerView}
 use Rattle.xfs_guard.specs.declared.open.Open.{Open}
 use Rattle.xfs_guard.specs.declared.open.Open.TheVariants.{No}
 
--- a guard: its key, seed and units, its journal, the amounts of the token that is bound to the live nonce, the open order, what its mechanism tells, the journal's limits, whether the journal is shut, whether a restore found no room for its Boot since the last Boot was appended, the record whose append last answered that the disk failed, and whether the disk tells its bytes
+-- a guard: its key, seed and units, its journal, the amounts of the token that is bound to the live nonce, the open order, what its mechanism tells, the places of the last Boot that it appended and the notes that were loaded since, the journal's limits, whether the journal is shut, whether a restore found no room for its Boot since the last Boot was appended, the record whose append last answered that the disk failed, and whether the disk tells its bytes
 pub record View : Type 0 where
   pub key : List ℕ
   pub seed : List ℕ
@@ -21,6 +23,8 @@ pub record View : Type 0 where
   pub open_order : Open
   pub motions : Option (List Motion)
   pub places : Places
+  pub booted : Places
+  pub loaded : Counts
   pub faults : ℕ
   pub limits : Limits
   pub shut : Bool
@@ -39,6 +43,8 @@ over key seed open_order motions places faults l told = record {
   open_order = open_order;
   motions = motions;
   places = places;
+  booted = l.booted;
+  loaded = l.loaded;
   faults = faults;
   limits = l.limits;
   shut = l.shut;
@@ -59,9 +65,9 @@ unread v = record v { open_order = No; shut = true }
 abbrev pub reread : View → List Rec → View
 reread v records = record v { records = records; bound = None; open_order = No; shut = false; boot_missing = true; in_doubt = None }
 
--- and has a Boot of the mechanism's places behind it
+-- and has a Boot of the mechanism's places behind it, since which nothing was loaded
 abbrev pub restarted : View → List Rec → View
-restarted v records = record (reread v (records ++ Boot v.places ∷ [])) { boot_missing = false }
+restarted v records = record (reread v (records ++ Boot v.places ∷ [])) { booted = v.places; loaded = no_notes; boot_missing = false }
 
 -- and the disk failed at that Boot; whether an earlier one is missing stays
 abbrev pub unbooted : View → List Rec → View

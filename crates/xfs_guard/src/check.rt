@@ -5,18 +5,19 @@ ghost use Rattle.std.specs.Option.{option_map};
 ghost use Rattle.xfs_hmac.specs.Hmac.{hmac};
 ghost use Rattle.xfs_token.specs.Token.{Spells};
 ghost use Rattle.xfs_token.specs.Amounts.{amounts_of};
+ghost use Rattle.xfs_token.specs.declared.text.TheConstants.{MAC_FIELD};
 ghost use Rattle.xfs_journal.specs.declared.record.Rec.TheVariants.{Bind};
 ghost use Rattle.xfs_guard.specs.declared.open.Open.TheVariants.{No};
 ghost use Rattle.xfs_guard.specs.Nonce.{live_nonce};
 ghost use Rattle.xfs_base.specs.Causes.{Rose};
 ghost use Rattle.xfs_guard.specs.Keeps.{Keeps, NoEntry};
-ghost use Rattle.xfs_guard.specs.Left.{Leaves};
+ghost use Rattle.xfs_guard.specs.CrashOutcomes.{Leaves};
 ghost use Rattle.xfs_guard.specs.View.{shut_at};
 ghost use Rattle.xfs_guard.specs.Fits.{unfit};
 ghost use Rattle.xfs_guard.specs.LedgerView.{IsWriteFault};
 ghost use Rattle.xfs_guard.specs.Refusals.{Answers, Passes, TokenRefused, Binds, claim_refusal, bind_refusal, bound_token, over_budget};
 
-use crate::budget::passed;
+use crate::budget::over_budget;
 use crate::signer::Signer;
 use crate::{Claim, Deny, Guard, Permit};
 use std::alloc::{AllocError, Global};
@@ -24,7 +25,7 @@ use xfs_base::Counts;
 use xfs_disk::Disk;
 use xfs_journal::Text;
 use xfs_mech::Mechanism;
-use xfs_token::{Amounts, Token, amounts, read};
+use xfs_token::{Amounts, MAC_FIELD, Token, amounts, read};
 
 impl<M: Mechanism, D: Disk> Guard<M, D> {
     /// Looks at a token's bytes: whether the journal takes more records, and whether they spell a token
@@ -124,7 +125,7 @@ impl<M: Mechanism, D: Disk> Guard<M, D> {
         // Its clause tells what stands now.
         let _upheld = self.unfit();
         let transport = self.mech.survey().transport;
-        if let Some(deny) = passed(&self.ledger, &transport, &claim.amounts, counts) {
+        if let Some(deny) = over_budget(&self.ledger, &transport, &claim.amounts, counts) {
             return Err(deny);
         }
         self.bind_once(claim)?;
@@ -174,11 +175,11 @@ fn text_of(alloc: Global, bytes: &[u8]) -> Result<Text, AllocError>
     }
 }
 
-// The HMAC that is due: that of all but the last 76 bytes of the token's text.
+// The HMAC that is due: that of all but the last field of the token's text.
 fn due(key: &Signer, bytes: &[u8]) -> [u8; 32]
-    requires { 76 ≤ length bytes.now }
-    ensures { result ≡ hmac key.now (take (length bytes.now - 76) bytes.now) }
+    requires { MAC_FIELD ≤ length bytes.now }
+    ensures { result ≡ hmac key.now (take (length bytes.now - MAC_FIELD) bytes.now) }
 {
-    let (front, _) = bytes.split_at(bytes.len() - 76);
-    key.mac(front)
+    let (prefix, _) = bytes.split_at(bytes.len() - MAC_FIELD);
+    key.mac(prefix)
 }

@@ -10,7 +10,7 @@ use xfs_token::TokenFault;
 pub enum Deny {
     /// The disk failed in an earlier call, and the journal wasn't read again since.
     Shut,
-    /// Fewer than 3 records or fewer than 2,048 bytes are left of the journal's limits, or a restore found no room
+    /// Fewer than `LEAST_RECORDS` or `LEAST_BYTES` are left of the journal's limits, or a restore found no room
     /// for its Boot.
     Full,
     /// The token has more than 1,024 bytes.
@@ -31,7 +31,7 @@ pub enum Deny {
     OtherBound { since: u64 },
     /// Notes lie on the transport, and no token is bound that would cover them.
     NotEmpty { notes: u64 },
-    /// The token's amount of this currency is passed; `left` is what it has before the counts.
+    /// The token's amount of this currency is exceeded; `left` is what it has before the counts.
     OverBudget { currency: Currency, left: Milli },
     /// No token is bound to the live nonce.
     Unbound { since: u64 },

@@ -1,3 +1,9 @@
+/// So many records must be left of the journal's limits, so that an order has room for its Done, and a Boot behind it.
+pub const LEAST_RECORDS: u64 = 3;
+
+/// So many bytes must be left, which those three records never need.
+pub const LEAST_BYTES: u64 = 2_048;
+
 /// Whether the journal takes more records.
 #[derive(Clone, Copy, Debug, PartialEq, Eq)]
 pub enum Fit {
@@ -5,7 +11,7 @@ pub enum Fit {
     Ready,
     /// The disk failed, and the journal wasn't read again since.
     Shut,
-    /// Fewer than 3 records or fewer than 2,048 bytes are left of the journal's limits, or a restore found no room
+    /// Fewer than `LEAST_RECORDS` or `LEAST_BYTES` are left of the journal's limits, or a restore found no room
     /// for its Boot.
     Full,
 }

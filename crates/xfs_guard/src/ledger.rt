@@ -3,24 +3,26 @@
 ghost use Rattle.std.specs.Prelude.{MatchResult, ◌≡◌, ◌≢◌, ◌⊎◌, ℕ, List, ◌+◌, ◌-◌, ◌<◌, ◌≤◌, ◌^◌, [], ◌∷◌, ◌++◌, true, false, is_some, length, slice_get, slice_index, take, OnErr, IfErr, IfOk, OnOk, Some, None, Err, ◌||◌};
 ghost use Rattle.std.specs.Option.{option_copied, option_map};
 ghost use Rattle.xfs_base.specs.Causes.{IfTold, Rose};
+ghost use Rattle.xfs_base.specs.Counts.{at};
 ghost use Rattle.xfs_base.specs.Money.{value};
 ghost use Rattle.xfs_base.specs.declared.counts.Counts.{Counts};
 ghost use Rattle.xfs_base.specs.declared.counts.Kind.TheVariants.{Present};
-ghost use Rattle.xfs_journal.specs.Image.{HasUnit, Stands, size};
+ghost use Rattle.xfs_journal.specs.Image.{HasUnit, StandsFor, size};
 ghost use Rattle.xfs_journal.specs.Paging.{CeasesAt, IsOldOrShort, IsQuiet};
 ghost use Rattle.xfs_journal.specs.declared.record.Rec.{Rec};
 ghost use Rattle.xfs_guard.specs.declared.fail.BootFault.TheVariants.{NotJournal, Disk as BootDisk, Full as BootFull, Memory as BootMemory};
-ghost use Rattle.xfs_journal.specs.JournalView.{passes, refusal, IsPossible, StandsForEither};
-ghost use Rattle.xfs_disk.specs.Disk.{LeavesOnly};
+ghost use Rattle.xfs_journal.specs.JournalView.{exceeds, refusal, IsPossible, StandsForEither};
+ghost use Rattle.xfs_disk.specs.Moments.{LeavesOnly};
 ghost use Rattle.xfs_journal.specs.declared.record.Rec.TheVariants.{Issue, Clear, Boot, Bind, Order, Done, Load};
 ghost use Rattle.xfs_journal.specs.Journal.{record_at, live_of, token_of, last_mark, next_issue, nonce_text};
 ghost use Rattle.xfs_guard.specs.Nonce.{Ends, live_in, nonce_of};
 ghost use Rattle.xfs_guard.specs.Refusals.{bound_token, bound_place};
 ghost use Rattle.xfs_guard.specs.Presented.{presented_in};
-ghost use Rattle.xfs_guard.specs.LedgerView.{IsOpen, IsWriteFault, Wrote, IsSame, IsTold, write_refusal};
+ghost use Rattle.xfs_guard.specs.LedgerView.{IsOpen, IsWriteFault, Wrote, IsSame, IsPresentedBound, write_refusal};
+ghost use Rattle.xfs_guard.specs.Balance.{no_notes, with_notes};
 ghost use Rattle.xfs_guard.specs.Ledger.{IsLive, IsDoubted};
-ghost use Rattle.xfs_guard.specs.Left.{IsOldOrBooted, Leaves};
-ghost use Rattle.xfs_guard.specs.Crashed.{IsLeft, StandsReread};
+ghost use Rattle.xfs_guard.specs.CrashOutcomes.{IsOldOrBooted, Leaves};
+ghost use Rattle.xfs_guard.specs.Crashed.{IsCrashOutcome, StandsReread};
 ghost use Rattle.xfs_guard.specs.Stored.{IsStored, MayLeave, WasLeft};
 ghost use Rattle.xfs_guard.specs.Pays.{Fits, Pays, IsSumOf};
 
@@ -28,7 +30,7 @@ use crate::bound::{Bound, Live};
 use crate::{BootFault, Deny, Nonce};
 use std::alloc::Global;
 use std::marker::Model;
-use xfs_base::{Counts, Currency, Kind, Memory, UnitTable};
+use xfs_base::{Counts, Currency, Kind, Memory, Places, UnitTable};
 use xfs_disk::Disk;
 use xfs_journal::{AppendFault, Journal, Limits, MountFail, Rec, Survey, Text};
 use xfs_token::Amounts;
@@ -44,6 +46,9 @@ pub struct Ledger<D: Disk> {
     mark: u64,
     live: Option<Live>,
     bound: Option<Bound>,
+    // The places of the last Boot that was appended, and the notes that were loaded since.
+    booted: Places,
+    loaded: Counts,
     boot_missing: bool,
     // The nonce that may live where the record in doubt is an Issue.
     doubted: Option<Nonce>,
@@ -51,7 +56,7 @@ pub struct Ledger<D: Disk> {
 
 impl<D: Disk> Model for Ledger<D> {
     ghost use Rattle.xfs_guard.specs.LedgerView.{LedgerView};
-    ghost use Rattle.xfs_guard.specs.Ledger.{Keeps, amounts_kept};
+    ghost use Rattle.xfs_guard.specs.Ledger.{KeepsLedger, amounts_kept};
 
     ghost Value = { LedgerView D };
 
@@ -59,6 +64,8 @@ impl<D: Disk> Model for Ledger<D> {
       records = l.journal.records;
       units = l.units;
       bound = amounts_kept l.bound;
+      booted = l.booted;
+      loaded = l.loaded;
       room = l.journal.room;
       limits = l.journal.limits;
       shut = l.journal.shut;
@@ -67,12 +74,12 @@ impl<D: Disk> Model for Ledger<D> {
       disk = l.journal.disk;
     } };
 
-    ghost invariant = { λ l. Keeps l.journal.records l.journal.in_doubt l.journal.shut l.boot_missing l.units l.issues l.mark l.live l.bound l.doubted };
+    ghost invariant = { λ l. KeepsLedger l.journal.records l.journal.in_doubt l.journal.shut l.boot_missing l.units l.issues l.mark l.live l.bound l.doubted };
 }
 
 /// A refused boot, with the disk.
 #[derive(Drop)]
-pub struct Unbooted<D: Disk> {
+pub struct RefusedLedger<D: Disk> {
     pub why: BootFault,
     pub disk: D,
 }
@@ -85,35 +92,37 @@ impl<D: Disk> Ledger<D> {
         limits: Limits,
         units: UnitTable,
         places: Survey,
-    ) -> Result<Ledger<D>, Unbooted<D>>
-        ensures records { IfOk result (λ l. (records : List Rec) × IfTold (D.held disk) (λ all. Stands all records) × (l.records ≡ records ++ Boot places ∷ [])) }
-        ensures fits { IfOk result (λ l. passes limits l.records ≡ false) }
+    ) -> Result<Ledger<D>, RefusedLedger<D>>
+        ensures records { IfOk result (λ l. (records : List Rec) × IfTold (D.held disk) (λ all. StandsFor all records) × (l.records ≡ records ++ Boot places ∷ [])) }
+        ensures fits { IfOk result (λ l. exceeds limits l.records ≡ false) }
         ensures opened { IfOk result (λ l. (l.shut ≡ false) × (l.in_doubt ≡ None) × (l.bound ≡ None) × (l.boot_missing ≡ false)) }
         ensures same { IfOk result (λ l. (l.limits ≡ limits) × (l.units ≡ units)) }
+        ensures unloaded { IfOk result (λ l. (l.booted ≡ places) × (l.loaded ≡ no_notes)) }
         ensures told { MatchResult result (λ l. is_some (D.held l.disk) ≡ is_some (D.held disk)) (λ f. is_some (D.held f.disk) ≡ is_some (D.held disk)) }
-        ensures not_journal { IfErr result (λ f. (at : ℕ) → f.why ≡ NotJournal at → IfTold (D.held disk) (λ all. CeasesAt all at × ((records : List Rec) → ¬ Stands all records))) }
-        ensures refused { IfErr result (λ f. (at : ℕ) → f.why ≡ NotJournal at → IsQuiet D.held D.images D.moment D.images_since D.faults disk f.disk) }
-        ensures full { IfErr result (λ f. f.why ≡ BootFull → (records : List Rec) × IfTold (D.held disk) (λ all. Stands all records) × (passes limits (records ++ Boot places ∷ []) ≡ true)) }
+        ensures not_journal { IfErr result (λ f. (at : ℕ) → f.why ≡ NotJournal at → IfTold (D.held disk) (λ all. CeasesAt all at × ((records : List Rec) → ¬ StandsFor all records))) }
+        ensures refused { IfErr result (λ f. (at : ℕ) → f.why ≡ NotJournal at → IsQuiet D.Disk disk f.disk) }
+        ensures full { IfErr result (λ f. f.why ≡ BootFull → (records : List Rec) × IfTold (D.held disk) (λ all. StandsFor all records) × (exceeds limits (records ++ Boot places ∷ []) ≡ true)) }
         ensures disk { IfErr result (λ f. f.why ≡ BootDisk → Rose (D.faults disk) (D.faults f.disk)) }
         ensures left { IfErr result (λ f. (records : List Rec) → MayLeave D.Disk f.disk records → WasLeft D.Disk disk places records) }
-        ensures either { IfErr result (λ f. IfTold (D.held disk) (λ _. (records : List Rec) → ((image : List ℕ) → D.images disk image → Stands image records) → (image : List ℕ) → D.images f.disk image → StandsForEither records (Boot places) image)) }
-        ensures unlisted { IfErr result (λ f. IfTold (D.held disk) (λ all. ((records : List Rec) → ¬ Stands all records) → IsQuiet D.held D.images D.moment D.images_since D.faults disk f.disk)) }
-        ensures unwritten { IfErr result (λ f. f.why ≢ BootDisk → IfTold (D.held disk) (λ all. LeavesOnly D.moment D.images_since disk f.disk (IsOldOrShort (D.images disk) all))) }
+        ensures either { IfErr result (λ f. IfTold (D.held disk) (λ _. (records : List Rec) → ((image : List ℕ) → D.images disk image → StandsFor image records) → (image : List ℕ) → D.images f.disk image → StandsForEither records (Boot places) image)) }
+        ensures unlisted { IfErr result (λ f. IfTold (D.held disk) (λ all. ((records : List Rec) → ¬ StandsFor all records) → IsQuiet D.Disk disk f.disk)) }
+        ensures unwritten { IfErr result (λ f. f.why ≢ BootDisk → IfTold (D.held disk) (λ all. LeavesOnly D.Disk disk f.disk (IsOldOrShort (D.images disk) all))) }
         ensures any_moment { IfTold (D.held disk) (λ all. MatchResult result
-            (λ l. LeavesOnly D.moment D.images_since disk l.disk (IsOldOrBooted (D.images disk) all places))
-            (λ f. LeavesOnly D.moment D.images_since disk f.disk (IsOldOrBooted (D.images disk) all places))) }
+            (λ l. LeavesOnly D.Disk disk l.disk (IsOldOrBooted (D.images disk) all places))
+            (λ f. LeavesOnly D.Disk disk f.disk (IsOldOrBooted (D.images disk) all places))) }
         ensures faults { MatchResult result (λ l. D.faults disk ≤ D.faults l.disk) (λ f. D.faults disk ≤ D.faults f.disk) }
     {
         let mut journal = match Journal::mount(alloc, disk, limits) {
             Ok(journal) => journal,
             Err(MountFail { why, disk }) => {
-                return Err(Unbooted {
+                return Err(RefusedLedger {
                     why: BootFault::from(why),
                     disk,
                 });
             }
         };
         let issues = issues_of(journal.records());
+        let booted = *places.places();
         match append_boot(&mut journal, places) {
             Ok(mark) => Ok(Ledger {
                 alloc,
@@ -123,10 +132,12 @@ impl<D: Disk> Ledger<D> {
                 mark,
                 live: None,
                 bound: None,
+                booted,
+                loaded: Counts([0; 8]),
                 boot_missing: false,
                 doubted: None,
             }),
-            Err(why) => Err(Unbooted {
+            Err(why) => Err(RefusedLedger {
                 why,
                 disk: journal.end(),
             }),
@@ -153,6 +164,8 @@ impl<D: Disk> Ledger<D> {
             mark: _,
             live: _,
             bound: _,
+            booted: _,
+            loaded: _,
             boot_missing: _,
             doubted: _,
         } = self;
@@ -249,13 +262,39 @@ impl<D: Disk> Ledger<D> {
     /// What was presented since the last mark in a currency, in thousandths.
     pub fn presented(&self, currency: Currency) -> u64
         requires open_still { IsOpen self.now }
-        requires told { IsTold self.now }
+        requires told { IsPresentedBound self.now }
         ensures { result ≡ presented_in self.now.units self.now.records currency }
     {
         match &self.bound {
             Some(bound) => sum_of(&bound.amounts, &bound.presented, currency),
             None => 0,
         }
+    }
+
+    /// The places of the last Boot that was appended.
+    pub fn booted(&self) -> &Places
+        ensures { result.now ≡ self.now.booted }
+    {
+        &self.booted
+    }
+
+    /// The notes that were loaded since that Boot.
+    pub fn loaded(&self) -> &Counts
+        ensures { result.now ≡ self.now.loaded }
+    {
+        &self.loaded
+    }
+
+    /// So many notes of a unit, which counts from 1, were loaded. The journal has nothing of it.
+    pub fn count_load(&mut self, unit: u8, count: u32)
+        requires low { 1 ≤ unit }
+        requires high { unit ≤ length self.old.units }
+        requires small { at self.old.loaded (unit - 1) + count < 2 ^ 32 }
+        ensures counted { self.new ≡ record self.old { loaded = with_notes self.old.loaded unit count } }
+        ensures few { unit ≤ 8 }
+    {
+        let _few = self.units.len();
+        self.loaded.0[usize::from(unit) - 1] += count;
     }
 
     /// Each limit less what the journal has of it.
@@ -276,7 +315,7 @@ impl<D: Disk> Ledger<D> {
         ensures cause { result ≡ Err Deny.Disk → Rose (D.faults self.old.disk) (D.faults self.new.disk) }
         ensures faults { D.faults self.old.disk ≤ D.faults self.new.disk }
         ensures told { is_some (D.held self.new.disk) ≡ is_some (D.held self.old.disk) }
-        ensures any_moment { IfTold (D.held self.old.disk) (λ _. LeavesOnly D.moment D.images_since self.old.disk self.new.disk (StandsForEither self.old.records (Issue (next_issue self.old.records) word))) }
+        ensures any_moment { IfTold (D.held self.old.disk) (λ _. LeavesOnly D.Disk self.old.disk self.new.disk (StandsForEither self.old.records (Issue (next_issue self.old.records) word))) }
         ensures kept { OnOk result (Leaves D.Disk self.new.disk self.new.records) }
     {
         let number = self.next_issue();
@@ -308,7 +347,7 @@ impl<D: Disk> Ledger<D> {
         ensures cause { result ≡ Err Deny.Disk → Rose (D.faults self.old.disk) (D.faults self.new.disk) }
         ensures faults { D.faults self.old.disk ≤ D.faults self.new.disk }
         ensures told { is_some (D.held self.new.disk) ≡ is_some (D.held self.old.disk) }
-        ensures any_moment { IfTold (D.held self.old.disk) (λ _. LeavesOnly D.moment D.images_since self.old.disk self.new.disk (StandsForEither self.old.records rec)) }
+        ensures any_moment { IfTold (D.held self.old.disk) (λ _. LeavesOnly D.Disk self.old.disk self.new.disk (StandsForEither self.old.records rec)) }
         ensures kept { OnOk result (Leaves D.Disk self.new.disk self.new.records) }
     {
         self.mark = append(&mut self.journal, rec)?;
@@ -328,7 +367,7 @@ impl<D: Disk> Ledger<D> {
         ensures cause { result ≡ Err Deny.Disk → Rose (D.faults self.old.disk) (D.faults self.new.disk) }
         ensures faults { D.faults self.old.disk ≤ D.faults self.new.disk }
         ensures told { is_some (D.held self.new.disk) ≡ is_some (D.held self.old.disk) }
-        ensures any_moment { IfTold (D.held self.old.disk) (λ _. LeavesOnly D.moment D.images_since self.old.disk self.new.disk (StandsForEither self.old.records (Bind token))) }
+        ensures any_moment { IfTold (D.held self.old.disk) (λ _. LeavesOnly D.Disk self.old.disk self.new.disk (StandsForEither self.old.records (Bind token))) }
         ensures kept { OnOk result (Leaves D.Disk self.new.disk self.new.records) }
     {
         let place = append(&mut self.journal, Rec::Bind { token })?;
@@ -349,7 +388,7 @@ impl<D: Disk> Ledger<D> {
         ensures cause { result ≡ Err Deny.Disk → Rose (D.faults self.old.disk) (D.faults self.new.disk) }
         ensures faults { D.faults self.old.disk ≤ D.faults self.new.disk }
         ensures told { is_some (D.held self.new.disk) ≡ is_some (D.held self.old.disk) }
-        ensures any_moment { IfTold (D.held self.old.disk) (λ _. LeavesOnly D.moment D.images_since self.old.disk self.new.disk (StandsForEither self.old.records (Load unit count))) }
+        ensures any_moment { IfTold (D.held self.old.disk) (λ _. LeavesOnly D.Disk self.old.disk self.new.disk (StandsForEither self.old.records (Load unit count))) }
         ensures kept { OnOk result (Leaves D.Disk self.new.disk self.new.records) }
     {
         append(&mut self.journal, Rec::Load { unit, count })?;
@@ -374,7 +413,7 @@ impl<D: Disk> Ledger<D> {
         ensures cause { result ≡ Err Deny.Disk → Rose (D.faults self.old.disk) (D.faults self.new.disk) }
         ensures faults { D.faults self.old.disk ≤ D.faults self.new.disk }
         ensures told { is_some (D.held self.new.disk) ≡ is_some (D.held self.old.disk) }
-        ensures any_moment { IfTold (D.held self.old.disk) (λ _. LeavesOnly D.moment D.images_since self.old.disk self.new.disk (StandsForEither self.old.records (Order kind counts))) }
+        ensures any_moment { IfTold (D.held self.old.disk) (λ _. LeavesOnly D.Disk self.old.disk self.new.disk (StandsForEither self.old.records (Order kind counts))) }
         ensures kept { OnOk result (Leaves D.Disk self.new.disk self.new.records) }
     {
         append(&mut self.journal, Rec::Order { kind, counts })?;
@@ -392,7 +431,7 @@ impl<D: Disk> Ledger<D> {
         ensures cause { result ≡ Err Deny.Disk → Rose (D.faults self.old.disk) (D.faults self.new.disk) }
         ensures faults { D.faults self.old.disk ≤ D.faults self.new.disk }
         ensures told { is_some (D.held self.new.disk) ≡ is_some (D.held self.old.disk) }
-        ensures any_moment { IfTold (D.held self.old.disk) (λ _. LeavesOnly D.moment D.images_since self.old.disk self.new.disk (StandsForEither self.old.records (Done moved diverted))) }
+        ensures any_moment { IfTold (D.held self.old.disk) (λ _. LeavesOnly D.Disk self.old.disk self.new.disk (StandsForEither self.old.records (Done moved diverted))) }
         ensures kept { OnOk result (Leaves D.Disk self.new.disk self.new.records) }
     {
         append(&mut self.journal, Rec::Done { moved, diverted })?;
@@ -405,16 +444,18 @@ impl<D: Disk> Ledger<D> {
         ensures ok { OnOk result ((records : List Rec) × IsPossible self.old.records self.old.in_doubt records × (self.new ≡ record self.old {
           records = records ++ Boot places ∷ [];
           bound = None;
+          booted = places;
+          loaded = no_notes;
           shut = false;
           boot_missing = false;
           in_doubt = None;
           room = self.new.room;
           disk = self.new.disk;
         })) }
-        ensures fits { OnOk result (passes self.old.limits self.new.records ≡ false) }
-        ensures stands { OnOk result (IfTold (D.held self.old.disk) (λ all. (records : List Rec) × Stands all records × (self.new.records ≡ records ++ Boot places ∷ []))) }
+        ensures fits { OnOk result (exceeds self.old.limits self.new.records ≡ false) }
+        ensures stands { OnOk result (IfTold (D.held self.old.disk) (λ all. (records : List Rec) × StandsFor all records × (self.new.records ≡ records ++ Boot places ∷ []))) }
         ensures memory { result ≡ Err BootMemory → self.new ≡ record self.old { disk = self.new.disk } }
-        ensures full { result ≡ Err BootFull → (records : List Rec) × IsPossible self.old.records self.old.in_doubt records × (passes self.old.limits (records ++ Boot places ∷ []) ≡ true) × (self.new ≡ record self.old {
+        ensures full { result ≡ Err BootFull → (records : List Rec) × IsPossible self.old.records self.old.in_doubt records × (exceeds self.old.limits (records ++ Boot places ∷ []) ≡ true) × (self.new ≡ record self.old {
           records = records;
           bound = None;
           shut = false;
@@ -423,7 +464,7 @@ impl<D: Disk> Ledger<D> {
           room = self.new.room;
           disk = self.new.disk;
         }) }
-        ensures found { result ≡ Err BootFull → IfTold (D.held self.old.disk) (λ all. Stands all self.new.records) }
+        ensures found { result ≡ Err BootFull → IfTold (D.held self.old.disk) (λ all. StandsFor all self.new.records) }
         ensures disk { result ≡ Err BootDisk → (self.new ≡ record self.old { shut = true; disk = self.new.disk }) ⊎ ((records : List Rec) × IsPossible self.old.records self.old.in_doubt records × (self.new ≡ record self.old {
           records = records;
           bound = None;
@@ -437,8 +478,8 @@ impl<D: Disk> Ledger<D> {
         ensures faults { D.faults self.old.disk ≤ D.faults self.new.disk }
         ensures told { is_some (D.held self.new.disk) ≡ is_some (D.held self.old.disk) }
         ensures possible { IsStored D.Disk self.old.disk self.old.records self.old.in_doubt }
-        ensures any_moment { IfTold (D.held self.old.disk) (λ _. LeavesOnly D.moment D.images_since self.old.disk self.new.disk
-            (λ bytes. D.images self.old.disk bytes ⊎ StandsReread self.old.records self.old.in_doubt places (IsLeft self.new.records self.new.in_doubt (self.new.shut || self.new.boot_missing)) bytes)) }
+        ensures any_moment { IfTold (D.held self.old.disk) (λ _. LeavesOnly D.Disk self.old.disk self.new.disk
+            (λ bytes. D.images self.old.disk bytes ⊎ StandsReread self.old.records self.old.in_doubt places (IsCrashOutcome self.new.records self.new.in_doubt (self.new.shut || self.new.boot_missing)) bytes)) }
     {
         let before = self.journal.records().len();
         if let Err(why) = self.journal.remount() {
@@ -447,11 +488,14 @@ impl<D: Disk> Ledger<D> {
         self.bound = None;
         self.live = live_found(self.live, self.doubted, self.journal.records(), before);
         let issues = issues_of(self.journal.records());
+        let booted = *places.places();
         match append_boot(&mut self.journal, places) {
             Ok(mark) => {
                 self.issues = issues;
                 self.mark = mark;
                 self.live = None;
+                self.booted = booted;
+                self.loaded = Counts([0; 8]);
                 self.boot_missing = false;
                 Ok(())
             }
@@ -513,11 +557,11 @@ fn append_boot<D: Disk>(journal: &mut Journal<D>, places: Survey) -> Result<u64,
     requires { journal.old.shut ≡ false }
     ensures number { IfOk result (λ n. n ≡ length journal.old.records + 1) }
     ensures ok { OnOk result ((journal.new.records ≡ journal.old.records ++ Boot places ∷ []) × (journal.new.shut ≡ false) × (journal.new.in_doubt ≡ None)) }
-    ensures fits { OnOk result (passes journal.old.limits journal.new.records ≡ false) }
-    ensures full { result ≡ Err BootFull → passes journal.old.limits (journal.old.records ++ Boot places ∷ []) ≡ true }
+    ensures fits { OnOk result (exceeds journal.old.limits journal.new.records ≡ false) }
+    ensures full { result ≡ Err BootFull → exceeds journal.old.limits (journal.old.records ++ Boot places ∷ []) ≡ true }
     ensures disk { result ≡ Err BootDisk → Rose (D.faults journal.old.disk) (D.faults journal.new.disk) }
     ensures images { IfTold (D.held journal.old.disk) (λ _. (image : List ℕ) → D.images journal.new.disk image → StandsForEither journal.old.records (Boot places) image) }
-    ensures any_moment { IfTold (D.held journal.old.disk) (λ _. LeavesOnly D.moment D.images_since journal.old.disk journal.new.disk (StandsForEither journal.old.records (Boot places))) }
+    ensures any_moment { IfTold (D.held journal.old.disk) (λ _. LeavesOnly D.Disk journal.old.disk journal.new.disk (StandsForEither journal.old.records (Boot places))) }
     ensures told { is_some (D.held journal.new.disk) ≡ is_some (D.held journal.old.disk) }
     ensures unwritten { IfErr result (λ f. f ≢ BootDisk → journal.new.disk ≡ journal.old.disk) }
     ensures not_mounted { IfErr result (λ f. (at : ℕ) → f ≢ NotJournal at) }
@@ -552,7 +596,7 @@ fn append<D: Disk>(journal: &mut Journal<D>, rec: Rec) -> Result<u64, Deny>
     ensures room { journal.old.room ≤ journal.new.room + 1 }
     ensures faults { D.faults journal.old.disk ≤ D.faults journal.new.disk }
     ensures told { is_some (D.held journal.new.disk) ≡ is_some (D.held journal.old.disk) }
-    ensures any_moment { IfTold (D.held journal.old.disk) (λ _. LeavesOnly D.moment D.images_since journal.old.disk journal.new.disk (StandsForEither journal.old.records rec)) }
+    ensures any_moment { IfTold (D.held journal.old.disk) (λ _. LeavesOnly D.Disk journal.old.disk journal.new.disk (StandsForEither journal.old.records rec)) }
     ensures kept { OnOk result (Leaves D.Disk journal.new.disk journal.new.records) }
 {
     match journal.append(rec) {

@@ -24,7 +24,7 @@ pub use ask::Ask;
 pub use claim::{Claim, Permit};
 pub use deny::Deny;
 pub use fail::{BootFail, BootFault};
-pub use fit::Fit;
+pub use fit::{Fit, LEAST_BYTES, LEAST_RECORDS};
 pub use guard::Guard;
 pub use machine_core::Core;
 pub use nonce::Nonce;

@@ -14,7 +14,7 @@ ghost use Rattle.xfs_guard.specs.Fits.{unfit};
 ghost use Rattle.xfs_guard.specs.Refusals.{Answers};
 ghost use Rattle.xfs_guard.specs.Reports.{HasReported};
 ghost use Rattle.xfs_guard.specs.Keeps.{Keeps, NoEntry};
-ghost use Rattle.xfs_guard.specs.Left.{Leaves, MayTake};
+ghost use Rattle.xfs_guard.specs.CrashOutcomes.{Leaves, MayTake};
 
 use crate::{Deny, Guard};
 use xfs_base::Memory;
@@ -48,7 +48,8 @@ impl<M: Mechanism, D: Disk> Guard<M, D> {
     }
 
     /// The operator adds so many notes to a unit, which counts from 1. The journal has nothing of it
-    /// until `note_load`, and an order that is open stays so.
+    /// until `note_load`, and an order that is open stays so. Where it doesn't fail, the notes count among those
+    /// that were loaded since the last Boot.
     pub fn load(&mut self, unit: u8, count: u32) -> Result<Outcome, Memory>
         requires fits { CanLoad self.old.state.units self.old.state.places unit count }
         ensures loaded { IfOk result (λ o. Loads unit count o.moved o.failed) }
@@ -61,7 +62,12 @@ impl<M: Mechanism, D: Disk> Guard<M, D> {
         // Its clause tells what a crash may leave now.
         let _possible = self.ledger.shut();
         self.mech.ready()?;
-        Ok(self.mech.load(unit, count))
+        let outcome = self.mech.load(unit, count);
+        if outcome.failed {
+            return Ok(outcome);
+        }
+        self.ledger.count_load(unit, count);
+        Ok(outcome)
     }
 
     /// Writes down that the operator added so many notes to a unit, which counts from 1. After `Disk`

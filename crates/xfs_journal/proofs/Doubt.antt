@@ -5,6 +5,7 @@ use Rattle.std.specs.declared.option.Option.{Option}
 use Rattle.xfs_base.specs.Causes.{IfTold}
 use Rattle.xfs_journal.specs.Image.{IsImage}
 use Rattle.xfs_journal.specs.JournalView.{IsAtRest, IsKept, IsInDoubt, IsPossible, HasPossible}
+use Rattle.xfs_disk.specs.declared.disk.Disk.{Ghosts}
 use Rattle.xfs_journal.specs.Paging.{IsQuiet, CeasesAt}
 use Rattle.xfs_journal.specs.declared.record.Rec.{Rec}
 use Rattle.xfs_journal.proofs.Ceasing.{no_image}
@@ -25,36 +26,36 @@ pub settled : (h h2 : Option (List ℕ)) (images images2 : List ℕ → Type 0) 
 settled h h2 images images2 J K d was now = subst (λ (o : Option Rec). IsInDoubt h2 images2 K false o) (sym (was.none refl)) now
 
 -- a disk that was not written
-module _ {D : Type 0} (held : D → Option (List ℕ)) (images : D → List ℕ → Type 0) (moment : D → ℕ) (since : D → ℕ → List ℕ → Type 0) (faults : D → ℕ) (a b : D)
-    (told : is_some (held b) ≡ is_some (held a)) (quiet : IfTold (held a) (λ _. IsQuiet held images moment since faults a b)) where
-  is_quiet : (x : List ℕ) → held b ≡ Some x → IsQuiet held images moment since faults a b
+module _ {D : Type 0} (g : Ghosts D) (a b : D)
+    (told : is_some (g.held b) ≡ is_some (g.held a)) (quiet : IfTold (g.held a) (λ _. IsQuiet g a b)) where
+  is_quiet : (x : List ℕ) → g.held b ≡ Some x → IsQuiet g a b
   is_quiet x now =
-      let was = both_told (held a) (held b) told x now in
-      from_told (held a) (λ _. IsQuiet held images moment since faults a b) quiet was.0 was.1
+      let was = both_told (g.held a) (g.held b) told x now in
+      from_told (g.held a) (λ _. IsQuiet g a b) quiet was.0 was.1
 
-  pub kept_still : (J : List Rec) (shut : Bool) (end : ℕ) → IsKept (held a) (images a) J shut end → IsKept (held b) (images b) J shut end
+  pub kept_still : (J : List Rec) (shut : Bool) (end : ℕ) → IsKept (g.held a) (g.images a) J shut end → IsKept (g.held b) (g.images b) J shut end
   kept_still J shut end kept = record {
     place = kept.place;
     of_table = kept.of_table;
-    at_rest = λ s. on_told (held b) (IsAtRest (images b) J) (λ x now.
+    at_rest = λ s. on_told (g.held b) (IsAtRest (g.images b) J) (λ x now.
         let q = is_quiet x now in
-        let rest = from_told (held a) (IsAtRest (images a) J) (kept.at_rest s) x (sym q.same ∙ now) in
+        let rest = from_told (g.held a) (IsAtRest (g.images a) J) (kept.at_rest s) x (sym q.same ∙ now) in
         record { image = rest.image; durable = λ c left. rest.durable c (q.adds_none c left) });
   }
 
-  possible_still : (J : List Rec) (d : Option Rec) → IfTold (held a) (λ _. (c : List ℕ) → images a c → HasPossible J d c) → IfTold (held b) (λ _. (c : List ℕ) → images b c → HasPossible J d c)
-  possible_still J d possible = on_told (held b) (λ _. (c : List ℕ) → images b c → HasPossible J d c) (λ x now.
+  possible_still : (J : List Rec) (d : Option Rec) → IfTold (g.held a) (λ _. (c : List ℕ) → g.images a c → HasPossible J d c) → IfTold (g.held b) (λ _. (c : List ℕ) → g.images b c → HasPossible J d c)
+  possible_still J d possible = on_told (g.held b) (λ _. (c : List ℕ) → g.images b c → HasPossible J d c) (λ x now.
       let q = is_quiet x now in
-      (λ c left. from_told (held a) (λ _. (f : List ℕ) → images a f → HasPossible J d f) possible x (sym q.same ∙ now) c (q.adds_none c left)))
+      (λ c left. from_told (g.held a) (λ _. (f : List ℕ) → g.images a f → HasPossible J d f) possible x (sym q.same ∙ now) c (q.adds_none c left)))
 
-  pub doubt_still : (J : List Rec) (shut : Bool) (d : Option Rec) → IsInDoubt (held a) (images a) J shut d → IsInDoubt (held b) (images b) J shut d
+  pub doubt_still : (J : List Rec) (shut : Bool) (d : Option Rec) → IsInDoubt (g.held a) (g.images a) J shut d → IsInDoubt (g.held b) (g.images b) J shut d
   doubt_still J shut d doubt = record { none = doubt.none; of_table = doubt.of_table; possible = possible_still J d doubt.possible }
 
   -- and whose journal is shut now
-  pub kept_shut : (J : List Rec) (shut : Bool) (end : ℕ) → IsKept (held a) (images a) J shut end → IsKept (held b) (images b) J true end
+  pub kept_shut : (J : List Rec) (shut : Bool) (end : ℕ) → IsKept (g.held a) (g.images a) J shut end → IsKept (g.held b) (g.images b) J true end
   kept_shut J shut end kept = record { place = kept.place; of_table = kept.of_table; at_rest = λ s. absurd (true≢false s) }
 
-  pub doubt_shut : (J : List Rec) (shut : Bool) (d : Option Rec) → IsInDoubt (held a) (images a) J shut d → IsInDoubt (held b) (images b) J true d
+  pub doubt_shut : (J : List Rec) (shut : Bool) (d : Option Rec) → IsInDoubt (g.held a) (g.images a) J shut d → IsInDoubt (g.held b) (g.images b) J true d
   doubt_shut J shut d doubt = record { none = λ s. absurd (true≢false s); of_table = doubt.of_table; possible = possible_still J d doubt.possible }
 
 -- what is read stands for one of the possible lists

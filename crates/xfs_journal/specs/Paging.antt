@@ -4,8 +4,10 @@ use Rattle.std.specs.Int.{from_be_bytes, w16}
 use Rattle.std.specs.declared.option.Option.{Option}
 use Rattle.std.specs.List.{AllByRecursion}
 use Rattle.xfs_base.specs.Causes.{IfTold}
-use Rattle.xfs_disk.specs.Disk.{AddsNone, LeavesOnly}
-use Rattle.xfs_journal.specs.Image.{IsRecord, body, framed, front, magic}
+use Rattle.xfs_disk.specs.Disk.{AddsNone}
+use Rattle.xfs_disk.specs.Moments.{LeavesOnly}
+use Rattle.xfs_disk.specs.declared.disk.Disk.{Ghosts}
+use Rattle.xfs_journal.specs.Image.{IsRecord, body, framed, contents, magic}
 use Rattle.xfs_journal.specs.declared.record.Rec.{Rec}
 
 -- the next bytes from a place on, and the length of the whole
@@ -33,11 +35,11 @@ pub record Since (all : Option (List ℕ)) (p : PageView) (from : ℕ) (read : L
   pub bytes : IfTold all (λ b. (read ≡ take (length read) (drop from b)) × Shows b p)
 
 -- a disk was read and synced, but not written
-pub record IsQuiet {D : Type 0} (held : D → Option (List ℕ)) (images : D → List ℕ → Type 0) (moment : D → ℕ) (since : D → ℕ → List ℕ → Type 0) (faults : D → ℕ) (old new : D) : Type 0 where
-  pub same : held new ≡ held old
-  pub adds_none : AddsNone (images old) (images new)
-  pub moments : LeavesOnly moment since old new (images old)
-  pub later : faults old ≤ faults new
+pub record IsQuiet {D : Type 0} (g : Ghosts D) (old new : D) : Type 0 where
+  pub same : g.held new ≡ g.held old
+  pub adds_none : AddsNone (g.images old) (g.images new)
+  pub moments : LeavesOnly g old new (g.images old)
+  pub later : g.faults old ≤ g.faults new
 
 -- the length that a block behind a gate byte tells
 abbrev pub size_in : List ℕ → ℕ
@@ -58,7 +60,7 @@ IsBroken bytes = (bytes ≡ []) ⊎ ((rest : List ℕ) × (bytes ≡ 1 ∷ rest)
 -- The place from which bytes are no journal: 0 where they don't begin as one, else that behind the last whole record, where no closed gate byte stands.
 abbrev pub CeasesAt : List ℕ → ℕ → Type 0
 CeasesAt bytes at = ((take 8 bytes ≢ magic) × (at ≡ 0))
-    ⊎ ((records : List Rec) × (rest : List ℕ) × AllByRecursion IsRecord records × (bytes ≡ front records ++ rest) × IsBroken rest × (at ≡ length (front records)))
+    ⊎ ((records : List Rec) × (rest : List ℕ) × AllByRecursion IsRecord records × (bytes ≡ contents records ++ rest) × IsBroken rest × (at ≡ length (contents records)))
 
 -- some bytes cease to be a journal there
 abbrev pub MayCease : ℕ → Type 0

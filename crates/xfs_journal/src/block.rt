@@ -1,6 +1,7 @@
 //! Reading what stands at a gate byte: a record behind it, or the end of the list.
 ghost use Rattle.std.specs.Prelude.{◌≡◌, ◌≢◌, ◌+◌, ◌<◌, ◌≤◌, ◌^◌, true, false, None, List, ℕ, [], ◌∷◌, ◌++◌, length, drop, slice_index, vec_capacity, IfOk, IfErr, OnOk, IfSome};
 ghost use Rattle.xfs_base.specs.Causes.{IfTold, Rose};
+ghost use Rattle.xfs_journal.specs.declared.body.TheConstants.{MOST};
 ghost use Rattle.xfs_journal.specs.Image.{IsRecord, framed};
 ghost use Rattle.xfs_journal.specs.Paging.{Shows, Since, Took, IsQuiet, IsShut, IsBroken, size_in};
 ghost use Rattle.xfs_journal.specs.declared.faults.MountFault.TheVariants.{NotJournal, Disk as DiskFault, Memory as NoMemory};
@@ -26,7 +27,7 @@ pub(crate) fn need<D: Disk>(
     ensures short { IfErr result (λ f. (x : ℕ) → f ≡ NotJournal x → (x ≡ gate) × IfTold (D.held disk.old) (λ all. length (drop gate all) < length out.old.items + count)) }
     ensures disk { IfErr result (λ f. f ≡ DiskFault → Rose (D.faults disk.old) (D.faults disk.new)) }
     ensures capacity { vec_capacity out.old ≤ vec_capacity out.new }
-    ensures quiet { IsQuiet D.held D.images D.moment D.images_since D.faults disk.old disk.new }
+    ensures quiet { IsQuiet D.Disk disk.old disk.new }
 {
     match read_on(disk, page, out, count) {
         Ok(true) => Ok(()),
@@ -52,7 +53,7 @@ fn read_gate<D: Disk>(
     ensures broken { IfErr result (λ f. (x : ℕ) → f ≡ NotJournal x → (x ≡ gate) × IfTold (D.held disk.old) (λ all. IsBroken (drop gate all))) }
     ensures disk { IfErr result (λ f. f ≡ DiskFault → Rose (D.faults disk.old) (D.faults disk.new)) }
     ensures capacity { vec_capacity block.old ≤ vec_capacity block.new }
-    ensures quiet { IsQuiet D.held D.images D.moment D.images_since D.faults disk.old disk.new }
+    ensures quiet { IsQuiet D.Disk disk.old disk.new }
 {
     block.clear();
     need(disk, page, block, 1, gate)?;
@@ -77,7 +78,7 @@ fn read_size<D: Disk>(
     ensures broken { IfErr result (λ f. (x : ℕ) → f ≡ NotJournal x → (x ≡ gate) × IfTold (D.held disk.old) (λ all. IsBroken (drop gate all))) }
     ensures disk { IfErr result (λ f. f ≡ DiskFault → Rose (D.faults disk.old) (D.faults disk.new)) }
     ensures capacity { vec_capacity block.old ≤ vec_capacity block.new }
-    ensures quiet { IsQuiet D.held D.images D.moment D.images_since D.faults disk.old disk.new }
+    ensures quiet { IsQuiet D.Disk disk.old disk.new }
 {
     need(disk, page, block, 2, gate)?;
     let size = usize::from(u16::from_be_bytes([block[1], block[2]]));
@@ -94,7 +95,7 @@ fn read_rest<D: Disk>(
     block: &mut Vec<u8>,
     gate: u64,
 ) -> Result<(), MountFault>
-    requires room { 1028 ≤ vec_capacity block.old }
+    requires room { MOST ≤ vec_capacity block.old }
     requires since { Since (D.held disk.old) page.old gate block.old.items }
     requires one { length block.old.items ≡ 1 }
     requires open { IfTold (D.held disk.old) (λ all. slice_index (drop gate all) 0 ≡ 1) }
@@ -104,7 +105,7 @@ fn read_rest<D: Disk>(
     ensures broken { IfErr result (λ f. (x : ℕ) → f ≡ NotJournal x → (x ≡ gate) × IfTold (D.held disk.old) (λ all. IsBroken (drop gate all))) }
     ensures disk { IfErr result (λ f. f ≡ DiskFault → Rose (D.faults disk.old) (D.faults disk.new)) }
     ensures capacity { vec_capacity block.old ≤ vec_capacity block.new }
-    ensures quiet { IsQuiet D.held D.images D.moment D.images_since D.faults disk.old disk.new }
+    ensures quiet { IsQuiet D.Disk disk.old disk.new }
 {
     let size = read_size(disk, page, block, gate)?;
     need(disk, page, block, size, gate)
@@ -118,7 +119,7 @@ pub(crate) fn read_block<D: Disk>(
     block: &mut Vec<u8>,
     spare: &mut Vec<u8>,
 ) -> Result<Option<Rec>, MountFault>
-    requires room { (1028 ≤ vec_capacity block.old) × (1025 ≤ vec_capacity spare.old) }
+    requires room { (MOST ≤ vec_capacity block.old) × (1025 ≤ vec_capacity spare.old) }
     requires shows { IfTold (D.held disk.old) (λ all. Shows all page.old) }
     ensures of_table { IfOk result (λ found. IfSome found (λ r. IsRecord r × (page.new.at ≡ page.old.at + length (1 ∷ framed r)))) }
     ensures record { IfOk result (λ found. IfSome found (λ r. IfTold (D.held disk.old) (λ all. (drop page.old.at all ≡ (1 ∷ framed r) ++ drop page.new.at all) × Shows all page.new))) }
@@ -127,8 +128,8 @@ pub(crate) fn read_block<D: Disk>(
     ensures shut { IfOk result (λ found. found ≡ None → IfTold (D.held disk.old) (λ all. IsShut (drop page.old.at all))) }
     ensures broken { IfErr result (λ f. (x : ℕ) → f ≡ NotJournal x → (x ≡ page.old.at) × IfTold (D.held disk.old) (λ all. IsBroken (drop page.old.at all))) }
     ensures disk { IfErr result (λ f. f ≡ DiskFault → Rose (D.faults disk.old) (D.faults disk.new)) }
-    ensures capacity { (1028 ≤ vec_capacity block.new) × (1025 ≤ vec_capacity spare.new) }
-    ensures quiet { IsQuiet D.held D.images D.moment D.images_since D.faults disk.old disk.new }
+    ensures capacity { (MOST ≤ vec_capacity block.new) × (1025 ≤ vec_capacity spare.new) }
+    ensures quiet { IsQuiet D.Disk disk.old disk.new }
 {
     let gate = page.at();
     if !read_gate(disk, page, block, gate)? {

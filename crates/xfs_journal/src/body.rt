@@ -1,6 +1,7 @@
 //! The bytes of one record. The buffer they are put into has its room, so no call here takes memory.
 ghost use Rattle.std.specs.Prelude.{◌≡◌, ◌<◌, ◌≤◌, ◌+◌, ◌^◌, ◌++◌, [], ◌∷◌, length, vec_len, vec_capacity};
 ghost use Rattle.std.specs.Int.{to_be_bytes, w16, w32, w64};
+ghost use Rattle.xfs_journal.specs.declared.body.TheConstants.{MOST};
 ghost use Rattle.xfs_journal.specs.Image.{body, counts_bytes, places_bytes, kind_byte, framed, AreCounts, IsRecord, HasUnit};
 
 use crate::Rec;
@@ -125,10 +126,10 @@ pub(crate) fn put_body(out: &mut Vec<u8>, rec: &Rec)
 // What is written behind the gate: the length, the body, and a closing gate byte.
 pub(crate) fn fill(out: &mut Vec<u8>, rec: &Rec)
     requires unit { HasUnit rec.now }
-    requires room { 1028 ≤ vec_capacity out.old }
+    requires room { MOST ≤ vec_capacity out.old }
     ensures items { out.new.items ≡ framed rec.now ++ 0 ∷ [] }
     ensures of_table { IsRecord rec.now }
-    ensures capacity { 1028 ≤ vec_capacity out.new }
+    ensures capacity { MOST ≤ vec_capacity out.new }
 {
     out.clear();
     put(out, &[0, 0]);

@@ -2,8 +2,10 @@
 ghost use Rattle.std.specs.Prelude.{◌⊎◌, ◌∷◌, ◌++◌, ◌≡◌, ◌≢◌, ◌<◌, ◌≤◌, List, ℕ, [], length, false, is_some, vec_capacity, IfOk, IfErr, OnOk, OnErr};
 ghost use Rattle.std.specs.List.{AllByRecursion};
 ghost use Rattle.xfs_base.specs.Causes.{IfTold, Rose};
-ghost use Rattle.xfs_disk.specs.Disk.{LeavesOnly, Only};
-ghost use Rattle.xfs_journal.specs.Image.{IsImage, IsRecord, Stands, front};
+ghost use Rattle.xfs_disk.specs.Disk.{Only};
+ghost use Rattle.xfs_disk.specs.Moments.{LeavesOnly};
+ghost use Rattle.xfs_journal.specs.declared.body.TheConstants.{MOST};
+ghost use Rattle.xfs_journal.specs.Image.{IsImage, IsRecord, StandsFor, contents};
 ghost use Rattle.xfs_journal.specs.JournalView.{IsKept};
 ghost use Rattle.xfs_journal.specs.Paging.{IsQuiet, IsOldOrShort, CeasesAt, MayCease};
 ghost use Rattle.xfs_journal.specs.declared.faults.MountFault.TheVariants.{NotJournal, Disk as DiskFault, Memory as NoMemory};
@@ -29,15 +31,15 @@ pub(crate) fn read_all<D: Disk>(
     len: u64,
     block: &mut Vec<u8>,
 ) -> Result<Listed, MountFault>
-    requires room { 1028 ≤ vec_capacity block.old }
+    requires room { MOST ≤ vec_capacity block.old }
     requires len { IfTold (D.held disk.old) (λ all. length all ≡ len) }
-    ensures place { IfOk result (λ l. (l.end ≡ length (front l.records.items)) × AllByRecursion IsRecord l.records.items) }
+    ensures place { IfOk result (λ l. (l.end ≡ length (contents l.records.items)) × AllByRecursion IsRecord l.records.items) }
     ensures image { IfOk result (λ l. IfTold (D.held disk.old) (λ all. IsImage all l.records.items)) }
     ensures broken { IfErr result (λ f. (x : ℕ) → f ≡ NotJournal x → IfTold (D.held disk.old) (λ all. CeasesAt all x)) }
     ensures ceases { IfErr result (λ f. (x : ℕ) → f ≡ NotJournal x → MayCease x) }
     ensures disk { IfErr result (λ f. f ≡ DiskFault → Rose (D.faults disk.old) (D.faults disk.new)) }
-    ensures capacity { 1028 ≤ vec_capacity block.new }
-    ensures quiet { IsQuiet D.held D.images D.moment D.images_since D.faults disk.old disk.new }
+    ensures capacity { MOST ≤ vec_capacity block.new }
+    ensures quiet { IsQuiet D.Disk disk.old disk.new }
 {
     let Ok(mut spare) = Vec::with_capacity(alloc, 1025) else {
         return Err(MountFault::Memory);
@@ -53,7 +55,7 @@ pub(crate) fn sync_len<D: Disk>(disk: &mut D) -> Result<u64, MountFault>
     ensures len { IfOk result (λ n. IfTold (D.held disk.old) (λ all. length all ≡ n)) }
     ensures durable { OnOk result (IfTold (D.held disk.new) (λ all. Only all (D.images disk.new))) }
     ensures err { IfErr result (λ f. (f ≡ DiskFault) × Rose (D.faults disk.old) (D.faults disk.new)) }
-    ensures quiet { IsQuiet D.held D.images D.moment D.images_since D.faults disk.old disk.new }
+    ensures quiet { IsQuiet D.Disk disk.old disk.new }
 {
     if disk.sync().is_err() {
         return Err(MountFault::Disk);
@@ -67,7 +69,7 @@ pub(crate) fn make_empty<D: Disk>(alloc: Global, disk: &mut D) -> Result<Listed,
     ensures ok { IfOk result (λ l. l.records.items ≡ []) }
     ensures kept { IfOk result (λ l. IsKept (D.held disk.new) (D.images disk.new) l.records.items false l.end) }
     ensures err { IfErr result (λ f. (f ≡ DiskFault) × Rose (D.faults disk.old) (D.faults disk.new)) }
-    ensures any_moment { IfTold (D.held disk.old) (λ _. LeavesOnly D.moment D.images_since disk.old disk.new (λ c. length c ≤ 9)) }
+    ensures any_moment { IfTold (D.held disk.old) (λ _. LeavesOnly D.Disk disk.old disk.new (λ c. length c ≤ 9)) }
     ensures told { is_some (D.held disk.new) ≡ is_some (D.held disk.old) }
     ensures faults { D.faults disk.old ≤ D.faults disk.new }
 {
@@ -88,19 +90,19 @@ fn read_or_empty<D: Disk>(
     len: u64,
     block: &mut Vec<u8>,
 ) -> Result<Listed, MountFault>
-    requires room { 1028 ≤ vec_capacity block.old }
+    requires room { MOST ≤ vec_capacity block.old }
     requires len { IfTold (D.held disk.old) (λ all. length all ≡ len) }
     requires durable { IfTold (D.held disk.old) (λ all. Only all (D.images disk.old)) }
     ensures kept { IfOk result (λ l. IsKept (D.held disk.new) (D.images disk.new) l.records.items false l.end) }
-    ensures stands { IfOk result (λ l. IfTold (D.held disk.old) (λ all. Stands all l.records.items)) }
+    ensures stands { IfOk result (λ l. IfTold (D.held disk.old) (λ all. StandsFor all l.records.items)) }
     ensures refused { IfErr result (λ f. (at : ℕ) → f ≡ NotJournal at → IfTold (D.held disk.old) (λ all. (9 < length all) × CeasesAt all at)) }
-    ensures unwritten { IfErr result (λ f. f ≢ DiskFault → IsQuiet D.held D.images D.moment D.images_since D.faults disk.old disk.new) }
-    ensures long { IfTold (D.held disk.old) (λ all. 9 < length all → IsQuiet D.held D.images D.moment D.images_since D.faults disk.old disk.new) }
+    ensures unwritten { IfErr result (λ f. f ≢ DiskFault → IsQuiet D.Disk disk.old disk.new) }
+    ensures long { IfTold (D.held disk.old) (λ all. 9 < length all → IsQuiet D.Disk disk.old disk.new) }
     ensures disk { IfErr result (λ f. f ≡ DiskFault → Rose (D.faults disk.old) (D.faults disk.new)) }
-    ensures any_moment { IfTold (D.held disk.old) (λ all. LeavesOnly D.moment D.images_since disk.old disk.new (IsOldOrShort (D.images disk.old) all)) }
+    ensures any_moment { IfTold (D.held disk.old) (λ all. LeavesOnly D.Disk disk.old disk.new (IsOldOrShort (D.images disk.old) all)) }
     ensures told { is_some (D.held disk.new) ≡ is_some (D.held disk.old) }
     ensures faults { D.faults disk.old ≤ D.faults disk.new }
-    ensures capacity { 1028 ≤ vec_capacity block.new }
+    ensures capacity { MOST ≤ vec_capacity block.new }
 {
     match read_all(alloc, disk, len, block) {
         Err(MountFault::NotJournal { .. }) if len <= 9 => make_empty(alloc, disk),
@@ -114,17 +116,17 @@ pub(crate) fn load<D: Disk>(
     disk: &mut D,
     block: &mut Vec<u8>,
 ) -> Result<Listed, MountFault>
-    requires room { 1028 ≤ vec_capacity block.old }
+    requires room { MOST ≤ vec_capacity block.old }
     ensures kept { IfOk result (λ l. IsKept (D.held disk.new) (D.images disk.new) l.records.items false l.end) }
-    ensures stands { IfOk result (λ l. IfTold (D.held disk.old) (λ all. Stands all l.records.items)) }
+    ensures stands { IfOk result (λ l. IfTold (D.held disk.old) (λ all. StandsFor all l.records.items)) }
     ensures refused { IfErr result (λ f. (at : ℕ) → f ≡ NotJournal at → IfTold (D.held disk.old) (λ all. (9 < length all) × CeasesAt all at)) }
-    ensures unwritten { IfErr result (λ f. f ≢ DiskFault → IsQuiet D.held D.images D.moment D.images_since D.faults disk.old disk.new) }
-    ensures long { IfTold (D.held disk.old) (λ all. 9 < length all → IsQuiet D.held D.images D.moment D.images_since D.faults disk.old disk.new) }
+    ensures unwritten { IfErr result (λ f. f ≢ DiskFault → IsQuiet D.Disk disk.old disk.new) }
+    ensures long { IfTold (D.held disk.old) (λ all. 9 < length all → IsQuiet D.Disk disk.old disk.new) }
     ensures disk { IfErr result (λ f. f ≡ DiskFault → Rose (D.faults disk.old) (D.faults disk.new)) }
-    ensures any_moment { IfTold (D.held disk.old) (λ all. LeavesOnly D.moment D.images_since disk.old disk.new (IsOldOrShort (D.images disk.old) all)) }
+    ensures any_moment { IfTold (D.held disk.old) (λ all. LeavesOnly D.Disk disk.old disk.new (IsOldOrShort (D.images disk.old) all)) }
     ensures told { is_some (D.held disk.new) ≡ is_some (D.held disk.old) }
     ensures faults { D.faults disk.old ≤ D.faults disk.new }
-    ensures capacity { 1028 ≤ vec_capacity block.new }
+    ensures capacity { MOST ≤ vec_capacity block.new }
 {
     let len = sync_len(disk)?;
     read_or_empty(alloc, disk, len, block)

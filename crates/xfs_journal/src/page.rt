@@ -88,7 +88,7 @@ impl Page {
         ensures end { OnOk result (self.new.window ≡ [] → IfTold (D.held disk.old) (λ all. length all ≤ self.old.at)) }
         ensures at { self.new.at ≡ self.old.at }
         ensures len { self.new.len ≡ self.old.len }
-        ensures quiet { IsQuiet D.held D.images D.moment D.images_since D.faults disk.old disk.new }
+        ensures quiet { IsQuiet D.Disk disk.old disk.new }
         ensures cause { HasCause (D.faults disk.old) (D.faults disk.new) result }
     {
         if self.at == self.len {
@@ -119,7 +119,7 @@ fn ready<D: Disk>(disk: &mut D, page: &mut Page) -> Result<(), Failed>
     ensures end { OnOk result (page.new.window ≡ [] → IfTold (D.held disk.old) (λ all. length all ≤ page.old.at)) }
     ensures at { page.new.at ≡ page.old.at }
     ensures len { page.new.len ≡ page.old.len }
-    ensures quiet { IsQuiet D.held D.images D.moment D.images_since D.faults disk.old disk.new }
+    ensures quiet { IsQuiet D.Disk disk.old disk.new }
     ensures cause { HasCause (D.faults disk.old) (D.faults disk.new) result }
 {
     if page.is_empty() {
@@ -142,7 +142,7 @@ fn read_some<D: Disk>(
     ensures most { IfOk result (λ n. n ≤ most) }
     ensures end { IfOk result (λ n. n ≡ 0 → IfTold (D.held disk.old) (λ all. length all ≤ page.old.at)) }
     ensures capacity { vec_capacity out.old ≤ vec_capacity out.new }
-    ensures quiet { IsQuiet D.held D.images D.moment D.images_since D.faults disk.old disk.new }
+    ensures quiet { IsQuiet D.Disk disk.old disk.new }
     ensures cause { HasCause (D.faults disk.old) (D.faults disk.new) result }
 {
     ready(disk, page)?;
@@ -161,7 +161,7 @@ pub(crate) fn read_on<D: Disk>(
     ensures took { IfOk result (λ whole. whole ≡ true → Took (D.held disk.old) page.old page.new out.old.items out.new.items count) }
     ensures end { IfOk result (λ whole. whole ≡ false → IfTold (D.held disk.old) (λ all. length all < page.old.at + count)) }
     ensures capacity { vec_capacity out.old ≤ vec_capacity out.new }
-    ensures quiet { IsQuiet D.held D.images D.moment D.images_since D.faults disk.old disk.new }
+    ensures quiet { IsQuiet D.Disk disk.old disk.new }
     ensures cause { HasCause (D.faults disk.old) (D.faults disk.new) result }
 {
     let mut missing = count;

@@ -21,3 +21,6 @@ pub enum Rec {
     /// The operator added so many notes to a unit, which counts from 1.
     Load { unit: u8, count: u32 },
 }
+
+// A record in memory takes at most 120 bytes, whatever it tells.
+const _: () = prove!(size_of::<Rec>() <= 120);

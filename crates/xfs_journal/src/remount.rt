@@ -3,6 +3,7 @@ ghost use Rattle.std.specs.Prelude.{◌≡◌, ◌≤◌, ◌+◌, ◌∷◌, �
 ghost use Rattle.std.specs.List.{AllByRecursion};
 ghost use Rattle.xfs_base.specs.Causes.{IfTold, Rose};
 ghost use Rattle.xfs_disk.specs.Disk.{Only};
+ghost use Rattle.xfs_journal.specs.declared.body.TheConstants.{MOST};
 ghost use Rattle.xfs_journal.specs.Image.{IsImage, IsRecord};
 ghost use Rattle.xfs_journal.specs.JournalView.{IsKept, IsPossible, HasPossible, MayPartAt};
 ghost use Rattle.xfs_journal.specs.Paging.{IsQuiet, MayCease};
@@ -25,19 +26,19 @@ fn read_again<D: Disk>(
     block: &mut Vec<u8>,
     kept: &[Rec],
 ) -> Result<Listed, MountFault>
-    requires room { 1028 ≤ vec_capacity block.old }
+    requires room { MOST ≤ vec_capacity block.old }
     requires len { IfTold (D.held disk.old) (λ all. length all ≡ len) }
     requires durable { IfTold (D.held disk.old) (λ all. Only all (D.images disk.old)) }
-    requires image { IfTold (D.held disk.old) (λ all. (J : List Rec) × IsImage all J) }
+    requires image { IfTold (D.held disk.old) (λ all. (records : List Rec) × IsImage all records) }
     ensures kept { IfOk result (λ l. IsKept (D.held disk.new) (D.images disk.new) l.records.items false l.end) }
     ensures image { IfOk result (λ l. IfTold (D.held disk.old) (λ all. IsImage all l.records.items)) }
     ensures silent { IfErr result (λ f. (at : ℕ) → f ≡ NotJournal at → D.held disk.old ≡ None) }
     ensures ceases { IfErr result (λ f. (at : ℕ) → f ≡ NotJournal at → MayCease at) }
-    ensures quiet { IfTold (D.held disk.old) (λ _. IsQuiet D.held D.images D.moment D.images_since D.faults disk.old disk.new) }
+    ensures quiet { IfTold (D.held disk.old) (λ _. IsQuiet D.Disk disk.old disk.new) }
     ensures disk { IfErr result (λ f. f ≡ DiskFault → Rose (D.faults disk.old) (D.faults disk.new)) }
     ensures told { is_some (D.held disk.new) ≡ is_some (D.held disk.old) }
     ensures faults { D.faults disk.old ≤ D.faults disk.new }
-    ensures capacity { 1028 ≤ vec_capacity block.new }
+    ensures capacity { MOST ≤ vec_capacity block.new }
 {
     match read_all(alloc, disk, len, block) {
         Err(MountFault::NotJournal { .. }) if len <= 9 && kept.is_empty() => {
@@ -56,7 +57,7 @@ pub(crate) fn reload<D: Disk>(
     kept: &[Rec],
     in_doubt: &Option<Rec>,
 ) -> Result<Listed, MountFault>
-    requires room { 1028 ≤ vec_capacity block.old }
+    requires room { MOST ≤ vec_capacity block.old }
     requires of_table { AllByRecursion IsRecord kept.now × IfSome in_doubt.now IsRecord }
     requires possible { IfTold (D.held disk.old) (λ _. (c : List ℕ) → D.images disk.old c → HasPossible kept.now in_doubt.now c) }
     ensures kept { IfOk result (λ l. IsKept (D.held disk.new) (D.images disk.new) l.records.items false l.end) }
@@ -65,11 +66,11 @@ pub(crate) fn reload<D: Disk>(
     ensures image { IfOk result (λ l. IfTold (D.held disk.old) (λ all. IsImage all l.records.items)) }
     ensures silent { IfErr result (λ f. (at : ℕ) → f ≡ NotJournal at → D.held disk.old ≡ None) }
     ensures place { IfErr result (λ f. (at : ℕ) → f ≡ NotJournal at → MayPartAt kept.now in_doubt.now at) }
-    ensures quiet { IfTold (D.held disk.old) (λ _. IsQuiet D.held D.images D.moment D.images_since D.faults disk.old disk.new) }
+    ensures quiet { IfTold (D.held disk.old) (λ _. IsQuiet D.Disk disk.old disk.new) }
     ensures disk { IfErr result (λ f. f ≡ DiskFault → Rose (D.faults disk.old) (D.faults disk.new)) }
     ensures told { is_some (D.held disk.new) ≡ is_some (D.held disk.old) }
     ensures faults { D.faults disk.old ≤ D.faults disk.new }
-    ensures capacity { 1028 ≤ vec_capacity block.new }
+    ensures capacity { MOST ≤ vec_capacity block.new }
 {
     let len = sync_len(disk)?;
     let mut listed = read_again(alloc, disk, len, block, kept)?;

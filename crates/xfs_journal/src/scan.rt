@@ -2,7 +2,8 @@
 ghost use Rattle.std.specs.Prelude.{◌≡◌, ◌≢◌, ◌+◌, ◌<◌, ◌≤◌, List, ℕ, [], ◌∷◌, ◌++◌, length, take, drop, vec_capacity, IfOk, IfErr, OnOk};
 ghost use Rattle.std.specs.List.{AllByRecursion};
 ghost use Rattle.xfs_base.specs.Causes.{IfTold, Rose};
-ghost use Rattle.xfs_journal.specs.Image.{IsImage, IsRecord, front, magic};
+ghost use Rattle.xfs_journal.specs.declared.body.TheConstants.{MOST};
+ghost use Rattle.xfs_journal.specs.Image.{IsImage, IsRecord, contents, magic};
 ghost use Rattle.xfs_journal.specs.Paging.{Shows, IsQuiet, CeasesAt, MayCease};
 ghost use Rattle.xfs_journal.specs.declared.faults.MountFault.TheVariants.{NotJournal, Disk as DiskFault, Memory as NoMemory};
 
@@ -26,7 +27,7 @@ fn read_magic<D: Disk>(disk: &mut D, page: &mut Page, block: &mut Vec<u8>) -> Re
     ensures ceases { IfErr result (λ f. (x : ℕ) → f ≡ NotJournal x → MayCease x) }
     ensures disk { IfErr result (λ f. f ≡ DiskFault → Rose (D.faults disk.old) (D.faults disk.new)) }
     ensures capacity { vec_capacity block.old ≤ vec_capacity block.new }
-    ensures quiet { IsQuiet D.held D.images D.moment D.images_since D.faults disk.old disk.new }
+    ensures quiet { IsQuiet D.Disk disk.old disk.new }
 {
     block.clear();
     need(disk, page, block, 8, 0)?;
@@ -45,17 +46,17 @@ pub(crate) fn read_records<D: Disk>(
     block: &mut Vec<u8>,
     spare: &mut Vec<u8>,
 ) -> Result<Vec<Rec>, MountFault>
-    requires room { (1028 ≤ vec_capacity block.old) × (1025 ≤ vec_capacity spare.old) }
+    requires room { (MOST ≤ vec_capacity block.old) × (1025 ≤ vec_capacity spare.old) }
     requires start { page.old.at ≡ 0 }
     requires shows { IfTold (D.held disk.old) (λ all. Shows all page.old) }
-    ensures place { IfOk result (λ records. page.new.at ≡ length (front records.items) + 1) }
+    ensures place { IfOk result (λ records. page.new.at ≡ length (contents records.items) + 1) }
     ensures of_table { IfOk result (λ records. AllByRecursion IsRecord records.items) }
     ensures image { IfOk result (λ records. IfTold (D.held disk.old) (λ all. IsImage all records.items)) }
     ensures broken { IfErr result (λ f. (x : ℕ) → f ≡ NotJournal x → IfTold (D.held disk.old) (λ all. CeasesAt all x)) }
     ensures ceases { IfErr result (λ f. (x : ℕ) → f ≡ NotJournal x → MayCease x) }
     ensures disk { IfErr result (λ f. f ≡ DiskFault → Rose (D.faults disk.old) (D.faults disk.new)) }
-    ensures capacity { 1028 ≤ vec_capacity block.new }
-    ensures quiet { IsQuiet D.held D.images D.moment D.images_since D.faults disk.old disk.new }
+    ensures capacity { MOST ≤ vec_capacity block.new }
+    ensures quiet { IsQuiet D.Disk disk.old disk.new }
 {
     read_magic(disk, page, block)?;
     let mut records = Vec::new(alloc);

@@ -2,6 +2,5 @@ pub mod Entries
 pub mod InOrder
 pub mod Index
 pub mod Kept
-pub mod Moments
 pub mod Places
 pub mod Whole

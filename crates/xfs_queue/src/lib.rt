@@ -3,11 +3,7 @@
 
 mod command;
 mod deadlines;
-#[cfg(test)]
-mod plain;
 mod queue;
-#[cfg(test)]
-mod same_calls;
 #[cfg(test)]
 mod tests;
 

@@ -285,7 +285,7 @@ impl<J: Drop> Queue<J> {
     }
 }
 
-pub(crate) fn fault_of<J>(commands: &[Command<J>], client: ClientId, id: u64) -> Option<OfferFault>
+fn fault_of<J>(commands: &[Command<J>], client: ClientId, id: u64) -> Option<OfferFault>
     ensures { result ≡ offer_fault commands.now client id }
 {
     if is_pending(commands, Ticket { client, id }) {
@@ -300,7 +300,7 @@ pub(crate) fn fault_of<J>(commands: &[Command<J>], client: ClientId, id: u64) ->
     None
 }
 
-pub(crate) fn is_pending<J>(commands: &[Command<J>], ticket: Ticket) -> bool
+fn is_pending<J>(commands: &[Command<J>], ticket: Ticket) -> bool
     ensures { result ≡ list_any (is_at ticket) commands.now }
 {
     commands.iter().any(|command| command.is_at(ticket))
@@ -328,7 +328,7 @@ fn add_entry(deadlines: &mut Deadlines, entry: Option<Entry>) -> Result<(), Allo
     }
 }
 
-pub(crate) fn place<J>(commands: &[Command<J>], ticket: Ticket) -> usize
+fn place<J>(commands: &[Command<J>], ticket: Ticket) -> usize
     requires { IsPending commands.now ticket }
     ensures { position (is_at ticket) commands.now ≡ Some result }
 {
@@ -344,7 +344,7 @@ fn first_place<J>(commands: &[Command<J>], ticket: Ticket) -> Option<usize>
     commands.iter().position(|command| command.is_at(ticket))
 }
 
-pub(crate) fn set_stage<J>(commands: &mut Vec<Command<J>>, ticket: Ticket, stage: Stage)
+fn set_stage<J>(commands: &mut Vec<Command<J>>, ticket: Ticket, stage: Stage)
     requires ids { AllPairs (λ a b. is_at (ticket_of a) b ≡ false) commands.old.items }
     requires pending { IsPending commands.old.items ticket }
     ensures { commands.new.items ≡ with_stage commands.old.items ticket stage }
@@ -353,7 +353,7 @@ pub(crate) fn set_stage<J>(commands: &mut Vec<Command<J>>, ticket: Ticket, stage
     commands[at].stage = stage;
 }
 
-pub(crate) fn count_named<J>(commands: &[Command<J>], client: ClientId, ids: &Ids) -> usize
+fn count_named<J>(commands: &[Command<J>], client: ClientId, ids: &Ids) -> usize
     ensures count { result ≡ count_by (is_named client ids.now) commands.now }
     ensures bound { result ≤ length commands.now }
 {
@@ -363,7 +363,7 @@ pub(crate) fn count_named<J>(commands: &[Command<J>], client: ClientId, ids: &Id
         .count()
 }
 
-pub(crate) fn mark_named<J>(commands: &mut [Command<J>], client: ClientId, ids: &Ids)
+fn mark_named<J>(commands: &mut [Command<J>], client: ClientId, ids: &Ids)
     ensures { commands.new ≡ canceled commands.old client ids.now }
 {
     for command in commands.iter_mut() {
@@ -371,7 +371,7 @@ pub(crate) fn mark_named<J>(commands: &mut [Command<J>], client: ClientId, ids: 
     }
 }
 
-pub(crate) fn mark_client<J>(commands: &mut [Command<J>], client: ClientId)
+fn mark_client<J>(commands: &mut [Command<J>], client: ClientId)
     ensures { commands.new ≡ marked_of commands.old client }
 {
     for command in commands.iter_mut() {

@@ -4,6 +4,7 @@ use Rattle.std.specs.List.{list_all, list_any}
 use Rattle.std.specs.Str.{bytes_eq}
 use Rattle.hex.specs.Hex.{encode_upper}
 use Rattle.xfs_hmac.specs.Hmac.{hmac}
+use Rattle.xfs_token.specs.declared.text.TheConstants.{MAC_FIELD}
 
 -- the parts of a token: its nonce, its pairs of key and value in their order, and its HMAC
 pub record Parts : Type 0 where
@@ -92,4 +93,4 @@ pub record Spells (t : Parts) (bytes : List ℕ) : Type 0 where
 -- these bytes spell this token, and its HMAC is that of the bytes before `,HMACSHA256=` and its 64 digits under the key
 pub record Genuine (key : List ℕ) (t : Parts) (bytes : List ℕ) : Type 0 where
   pub spelled : Spells t bytes
-  pub mac : t.mac ≡ hmac key (take (length bytes - 76) bytes)
+  pub mac : t.mac ≡ hmac key (take (length bytes - MAC_FIELD) bytes)

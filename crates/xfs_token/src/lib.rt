@@ -27,4 +27,5 @@ pub use minting::{MakeFault, make, make_under};
 pub use money::Amounts;
 pub use reader::read;
 pub use signing::{WriteFault, genuine, genuine_under, write};
+pub use text::MAC_FIELD;
 pub use token::{BuildFault, Token};

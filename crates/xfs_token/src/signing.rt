@@ -6,7 +6,7 @@ ghost use Rattle.xfs_token.specs.declared.signing.WriteFault.TheVariants.{TooLon
 
 use crate::Token;
 use crate::pair::Pair;
-use crate::text::{FRAME, covered, push_mac};
+use crate::text::{FRAME, MAC_FIELD, covered, push_mac};
 use std::alloc::{AllocError, Global};
 use xfs_hmac::Key;
 
@@ -24,7 +24,7 @@ pub fn genuine_under(key: &Key, bytes: &[u8], token: &Token) -> bool
     requires { Spells token.now bytes.now }
     ensures { (k : List ℕ) → IsKey key.now k → IsTrue result ↔ Genuine k token.now bytes.now }
 {
-    let (front, _) = bytes.split_at(bytes.len() - 76);
+    let (front, _) = bytes.split_at(bytes.len() - MAC_FIELD);
     key.mac(front) == token.mac()
 }
 

@@ -6,6 +6,9 @@ ghost use Rattle.xfs_token.specs.Token as grammar;
 use std::alloc::{AllocError, Global};
 use xfs_hmac::upper;
 
+/// How many bytes the field of the HMAC has, which the HMAC doesn't cover: `,HMACSHA256=` and 64 digits.
+pub const MAC_FIELD: usize = 76;
+
 /// How many bytes a token has beside its nonce and its pairs.
 pub(crate) const FRAME: usize = 113;
 

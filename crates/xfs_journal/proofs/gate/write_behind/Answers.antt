@@ -9,7 +9,7 @@ use Rattle.xfs_journal.proofs.gate.write_behind.Goals as goal
 pub returns-in_err-write_synced-clause-any_moment : goal.returns-in_err-write_synced-clause-any_moment
 returns-in_err-write_synced-clause-any_moment g c = on_told _ _ (λ old told.
     let start = from_told _ _ c.requires.closed old told in
-    weaken g.D.Disk.moment g.D.Disk.images_since _ _ _ (IsEither (take c.args.gate old) c.args.bytes.now) (first_image _ old c.args.bytes.now c.args.gate start) c.write_synced.ensures.any_moment)
+    weaken g.D.Disk _ _ _ (IsEither (take c.args.gate old) c.args.bytes.now) (first_image _ old c.args.bytes.now c.args.gate start) c.write_synced.ensures.any_moment)
 
 pub returns-in_err-write_synced-clause-images : goal.returns-in_err-write_synced-clause-images
 returns-in_err-write_synced-clause-images g c = on_told _ _ (λ old told.
@@ -21,8 +21,8 @@ returns-clause-any_moment g c = on_told _ _ (λ old told.
     let x = c.args.bytes.now in
     let mid = c.in_ok-write_synced.ensures.written ∙ ap (option_map (λ all. overlaid all (c.args.gate + 1) x)) told in
     let only = from_told _ _ c.in_ok-write_synced.ensures.durable _ mid in
-    weaken g.D.Disk.moment g.D.Disk.images_since _ _ _ (IsEither (take c.args.gate old) x) (λ f p. ⊎_elim (first_image _ old x c.args.gate start f) (second_image _ old x c.args.gate start _ only f) p)
-    (joins g.D.Disk.moment g.D.Disk.images_since _ _ _ _ _ c.write_synced.ensures.any_moment c.write_synced-2.ensures.any_moment))
+    weaken g.D.Disk _ _ _ (IsEither (take c.args.gate old) x) (λ f p. ⊎_elim (first_image _ old x c.args.gate start f) (second_image _ old x c.args.gate start _ only f) p)
+    (joins g.D.Disk _ _ _ _ _ c.write_synced.ensures.any_moment c.write_synced-2.ensures.any_moment))
 
 pub returns-clause-images : goal.returns-clause-images
 returns-clause-images g c = on_told _ _ (λ old told.

@@ -16,7 +16,7 @@ returns-clause-ok g c =
 
 pub returns-clause-any_moment : goal.returns-clause-any_moment
 returns-clause-any_moment g c = on_told _ _ (λ b known.
-    weaken g.D.Disk.moment g.D.Disk.images_since _ _ _ (StandsForEither c.args.records.now c.args.rec.now)
+    weaken g.D.Disk _ _ _ (StandsForEither c.args.records.now c.args.rec.now)
     (stands_after _ _ _ (g.D.Disk.images c.args.disk.now) c.args.records.now c.args.rec.now c.args.end c.args.bytes.now c.requires.kept c.requires.of_table c.requires.bytes c.write_behind.ensures.told b known)
     (from_told _ _ c.write_behind.ensures.any_moment b known))
 

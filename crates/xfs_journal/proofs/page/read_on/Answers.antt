@@ -20,5 +20,5 @@ loop-missing-preserved g c =
       omega (arith, inv.1),
       omega (arith, inv.2, next.count, c.read_some.ensures.capacity, c.in_ok-got.ensures.most),
       omega (arith, inv.3, c.read_some.ensures.capacity),
-      quiet_then g.D.Disk.held g.D.Disk.images g.D.Disk.moment g.D.Disk.images_since g.D.Disk.faults _ _ _ inv.4 c.read_some.ensures.quiet,
+      quiet_then g.D.Disk _ _ _ inv.4 c.read_some.ensures.quiet,
     )

@@ -8,7 +8,7 @@ invariant-loop-missing g l =
     × (l.missing ≤ l.count)
     × (length l.out.items + l.missing ≤ vec_capacity l.out)
     × (vec_capacity l.initial.out ≤ vec_capacity l.out)
-    × IsQuiet g.D.Disk.held g.D.Disk.images g.D.Disk.moment g.D.Disk.images_since g.D.Disk.faults l.initial.disk l.disk
+    × IsQuiet g.D.Disk l.initial.disk l.disk
 
 abbrev pub decreases-loop-missing : goal.decreases-loop-missing
 decreases-loop-missing g l = l.missing

@@ -25,7 +25,7 @@ loop-records-preserved g c =
       more.2,
       c.read_block.ensures.capacity.0,
       c.read_block.ensures.capacity.1,
-      quiet_then g.D.Disk.held g.D.Disk.images g.D.Disk.moment g.D.Disk.images_since g.D.Disk.faults _ _ _ inv.5 c.read_block.ensures.quiet,
+      quiet_then g.D.Disk _ _ _ inv.5 c.read_block.ensures.quiet,
     )
 
 pub returns-in_err-rec-clause-ceases : goal.returns-in_err-rec-clause-ceases

@@ -7,7 +7,7 @@ use Rattle.xfs_guard.proofs.ClaimLaws.{IsSound-claim, kept-claim, copied-none, c
 use Rattle.xfs_guard.proofs.ContinueLaws.{Continues-written}
 use Rattle.xfs_guard.proofs.KeepsLaws.{Keeps-same, Keeps-wrote}
 use Rattle.xfs_guard.proofs.KeptLaws.{IsKept-open, IsKept-refused, Continues-refused}
-use Rattle.xfs_guard.proofs.MarkLaws.{marked-push}
+use Rattle.xfs_guard.proofs.BalanceLaws.{balanced-push}
 use Rattle.xfs_guard.proofs.SizeLaws.{fit-at, takes-one, may-write}
 use Rattle.xfs_guard.proofs.LeftLaws.{left-written}
 use Rattle.xfs_guard.proofs.BehindLaws.{behind-refused, behind-written}
@@ -46,8 +46,8 @@ invariant_of-self-2 g c =
     let fit = fit-at _ _ c.self.view_is c.requires.passes.fit in
     let free : bound_token c.self.inside.ledger.records ≡ None = copied-none c.token.result _ c.token.ensures (sym c.is_some.ensures ∙ c.if-is_some.false) in
     let w = c.in_ok-bind.ensures.wrote in
-    rw (w.records, w.units, w.bound_is, w.limits, w.open_still, w.boot_missing, w.in_doubt, c.bind.ensures.told, none)
-    (IsKept-open _ _ _ _ (IsSound-claim _ c.claim.inside.token c.claim.inside.amounts (c.self.invariant.sound fit.0 fit.2) none passes free) (marked-push c.self.inside.ledger.records (Bind c.claim.inside.token) c.self.invariant.marked) fit.2 tt tt c.self.invariant.units)
+    rw (w.records, w.units, w.bound_is, w.booted, w.loaded, w.limits, w.open_still, w.boot_missing, w.in_doubt, c.bind.ensures.told, none)
+    (IsKept-open _ _ _ _ (IsSound-claim _ c.claim.inside.token c.claim.inside.amounts (c.self.invariant.sound fit.0 fit.2) none passes free) (balanced-push c.self.inside.ledger.records (Bind c.claim.inside.token) _ _ _ c.self.invariant.balanced) fit.2 tt tt c.self.invariant.units)
 
 pub returns-in_err-bind-clause-keeps : goal.returns-in_err-bind-clause-keeps
 returns-in_err-bind-clause-keeps g c =
@@ -68,7 +68,7 @@ returns-clause-keeps g c =
     Keeps-wrote g.D.Disk _ _
     (let fit = fit-at _ _ c.self.view_is c.requires.passes.fit in
     let w = c.in_ok-bind.ensures.wrote in
-    rw (← c.self.view_is, w.records, w.units, w.bound_is, w.limits, w.open_still, w.boot_missing, w.in_doubt, c.bind.ensures.told)
+    rw (← c.self.view_is, w.records, w.units, w.bound_is, w.booted, w.loaded, w.limits, w.open_still, w.boot_missing, w.in_doubt, c.bind.ensures.told)
     (Continues-written _ (Bind c.claim.inside.token) (Some c.claim.inside.amounts) c.self.inside.open_order (c.self.invariant.clean fit.0) fit.0 fit.2 (λ p e. cc)))
     (rw (← c.self.view_is) c.bind.ensures.faults) (rw (← c.self.view_is) (omega arith))
     (rw (← c.self.view_is) (behind-written g.D.Disk _ _ (Bind c.claim.inside.token) c.bind.ensures.told c.bind.ensures.any_moment c.in_ok-bind.ensures.wrote.records))

@@ -4,7 +4,7 @@ use Rattle.xfs_journal.specs.Image.{body}
 use Rattle.xfs_guard.proofs.ContinueLaws.{Continues-written}
 use Rattle.xfs_guard.proofs.KeepsLaws.{Keeps-wrote}
 use Rattle.xfs_guard.proofs.KeptLaws.{IsKept-open, IsKept-refused, Continues-refused}
-use Rattle.xfs_guard.proofs.MarkLaws.{marked-push}
+use Rattle.xfs_guard.proofs.BalanceLaws.{balanced-push}
 use Rattle.xfs_guard.proofs.SizeLaws.{fit-at, takes-one, may-write}
 use Rattle.xfs_guard.proofs.RecordLaws.{IsSound-end, ends-short, ends-plain, ends-dead}
 use Rattle.xfs_guard.proofs.LeftLaws.{left-written}
@@ -31,8 +31,8 @@ invariant_of-self-2 g c =
     let none : c.self.inside.open_order ≡ No = rw (← c.self.view_is) at c.requires.none in
     let fit = fit-at _ _ c.self.view_is c.requires.fit in
     let w = c.in_ok-end_nonce.ensures.wrote in
-    rw (w.records, w.units, w.bound_is, w.limits, w.open_still, w.boot_missing, w.in_doubt, c.end_nonce.ensures.told, none)
-    (IsKept-open _ _ _ _ (IsSound-end _ c.args.rec c.requires.ends (c.self.invariant.sound fit.0 fit.2) none) (marked-push c.self.inside.ledger.records c.args.rec c.self.invariant.marked) fit.2 tt tt c.self.invariant.units)
+    rw (w.records, w.units, w.bound_is, w.booted, w.loaded, w.limits, w.open_still, w.boot_missing, w.in_doubt, c.end_nonce.ensures.told, none)
+    (IsKept-open _ _ _ _ (IsSound-end _ c.args.rec c.requires.ends (c.self.invariant.sound fit.0 fit.2) none) (balanced-push c.self.inside.ledger.records c.args.rec _ _ _ c.self.invariant.balanced) fit.2 tt tt c.self.invariant.units)
 
 pub returns-in_err-end_nonce-clause-keeps : goal.returns-in_err-end_nonce-clause-keeps
 returns-in_err-end_nonce-clause-keeps g c =
@@ -51,7 +51,7 @@ returns-clause-keeps g c =
     Keeps-wrote g.D.Disk _ _
     (let fit = fit-at _ _ c.self.view_is c.requires.fit in
     let w = c.in_ok-end_nonce.ensures.wrote in
-    rw (← c.self.view_is, w.records, w.units, w.bound_is, w.limits, w.open_still, w.boot_missing, w.in_doubt, c.end_nonce.ensures.told)
+    rw (← c.self.view_is, w.records, w.units, w.bound_is, w.booted, w.loaded, w.limits, w.open_still, w.boot_missing, w.in_doubt, c.end_nonce.ensures.told)
     (Continues-written _ c.args.rec None c.self.inside.open_order (c.self.invariant.clean fit.0) fit.0 fit.2 (λ p e. absurd (ends-plain c.args.rec p c.requires.ends e))))
     (rw (← c.self.view_is) c.end_nonce.ensures.faults) (rw (← c.self.view_is) (omega arith))
     (rw (← c.self.view_is) (behind-written g.D.Disk _ _ c.args.rec c.end_nonce.ensures.told c.end_nonce.ensures.any_moment c.in_ok-end_nonce.ensures.wrote.records))

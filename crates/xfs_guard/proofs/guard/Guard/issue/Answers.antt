@@ -8,7 +8,7 @@ use Rattle.xfs_guard.proofs.LedgerLaws.{live-issued}
 use Rattle.xfs_guard.proofs.ContinueLaws.{Continues-written}
 use Rattle.xfs_guard.proofs.KeepsLaws.{Keeps-same, Keeps-wrote}
 use Rattle.xfs_guard.proofs.KeptLaws.{IsKept-open, IsKept-refused, Continues-refused}
-use Rattle.xfs_guard.proofs.MarkLaws.{marked-push}
+use Rattle.xfs_guard.proofs.BalanceLaws.{balanced-push}
 use Rattle.xfs_guard.proofs.SizeLaws.{fit-at, takes-one, may-write}
 use Rattle.xfs_guard.proofs.RecordLaws.{IsSound-issue}
 use Rattle.xfs_guard.proofs.LeftLaws.{left-written}
@@ -35,8 +35,8 @@ invariant_of-self-2 g c =
     let none : c.self.inside.open_order ≡ No = rw (← c.self.view_is) at c.requires in
     let fit = fit-at _ _ c.self.view_is (sym c.unfit.ensures.first ∙ c.in_default.is) in
     let w = c.in_ok-issue.ensures.wrote in
-    rw (w.records, w.units, w.bound_is, w.limits, w.open_still, w.boot_missing, w.in_doubt, c.issue.ensures.told, none)
-    (IsKept-open _ _ _ _ (IsSound-issue _ _ c.word_of-word.result (c.self.invariant.sound fit.0 fit.2) none refl) (marked-push c.self.inside.ledger.records (Issue (next_issue c.self.inside.ledger.records) c.word_of-word.result) c.self.invariant.marked) fit.2 tt tt c.self.invariant.units)
+    rw (w.records, w.units, w.bound_is, w.booted, w.loaded, w.limits, w.open_still, w.boot_missing, w.in_doubt, c.issue.ensures.told, none)
+    (IsKept-open _ _ _ _ (IsSound-issue _ _ c.word_of-word.result (c.self.invariant.sound fit.0 fit.2) none refl) (balanced-push c.self.inside.ledger.records (Issue (next_issue c.self.inside.ledger.records) c.word_of-word.result) _ _ _ c.self.invariant.balanced) fit.2 tt tt c.self.invariant.units)
 
 pub returns-clause-live : goal.returns-clause-live
 returns-clause-live g c =
@@ -68,7 +68,7 @@ returns-clause-keeps g c =
     Keeps-wrote g.D.Disk _ _
     (let fit = fit-at _ _ c.self.view_is (sym c.unfit.ensures.first ∙ c.in_default.is) in
     let w = c.in_ok-issue.ensures.wrote in
-    rw (← c.self.view_is, w.records, w.units, w.bound_is, w.limits, w.open_still, w.boot_missing, w.in_doubt, c.issue.ensures.told)
+    rw (← c.self.view_is, w.records, w.units, w.bound_is, w.booted, w.loaded, w.limits, w.open_still, w.boot_missing, w.in_doubt, c.issue.ensures.told)
     (Continues-written _ (Issue _ c.word_of-word.result) None c.self.inside.open_order (c.self.invariant.clean fit.0) fit.0 fit.2 (λ p e. cc)))
     (rw (← c.self.view_is) c.issue.ensures.faults) (rw (← c.self.view_is) (omega arith))
     (rw (← c.self.view_is) (behind-written g.D.Disk _ _ (Issue _ c.word_of-word.result) c.issue.ensures.told c.issue.ensures.any_moment c.in_ok-issue.ensures.wrote.records))

@@ -1,33 +1,54 @@
 use Rattle.std.proofs.Common.{◌≡◌, ◌∙◌, refl, arith}
 use Rattle.xfs_mech.specs.declared.motion.Motion.TheVariants.{Loaded}
+use Rattle.xfs_guard.specs.Balance.{with_notes}
+use Rattle.xfs_guard.proofs.BalanceLaws.{balanced-failed, balanced-loaded}
 use Rattle.xfs_guard.proofs.ReportLaws.{IsSound-report, IsRecorded-entry, IsRecorded-report, HasRoom-report, HasLimits-report, Continues-report, loaded-leaves}
 use Rattle.xfs_guard.proofs.ContinueLaws.{Continues-same}
 use Rattle.xfs_guard.proofs.KeepsLaws.{Keeps-moved}
 use Rattle.xfs_guard.proofs.LeftLaws.{left-through}
 use Rattle.xfs_guard.proofs.guard.Guard.load.Goals as goal
 
-pub invariant_of-self-2 : goal.invariant_of-self-2
-invariant_of-self-2 g c =
-    let reported = rw (c.ready.ensures.motions, c.ready.ensures.places) at c.load.ensures.reported in
+pub invariant_of-self-then-outcome : goal.invariant_of-self-then-outcome
+invariant_of-self-then-outcome g c =
+    let reported = rw (c.ready.ensures.motions, c.ready.ensures.places) at c.load-outcome.ensures.reported in
     record {
-      sound = λ still booted. IsSound-report _ (Loaded c.args.unit c.args.count) c.load.result.moved c.load.result.diverted c.load.result.failed
-          (g.M.Mechanism.motions c.load.new.self) (g.M.Mechanism.places c.load.new.self) (g.M.Mechanism.faults c.load.new.self)
-          (g.M.Mechanism.room c.ready.new.self) (g.M.Mechanism.room c.load.new.self) (c.self.invariant.sound still booted) tt reported (loaded-leaves c.self.inside.open_order c.args.unit c.args.count _ _);
+      sound = λ still booted. IsSound-report _ (Loaded c.args.unit c.args.count) c.load-outcome.result.moved c.load-outcome.result.diverted c.load-outcome.result.failed
+          (g.M.Mechanism.motions c.load-outcome.new.self) (g.M.Mechanism.places c.load-outcome.new.self) (g.M.Mechanism.faults c.load-outcome.new.self) c.self.inside.ledger.loaded
+          (g.M.Mechanism.room c.ready.new.self) (g.M.Mechanism.room c.load-outcome.new.self) (c.self.invariant.sound still booted) tt reported (loaded-leaves c.self.inside.open_order c.args.unit c.args.count _ _);
       clean = c.self.invariant.clean;
-      marked = c.self.invariant.marked;
+      balanced = balanced-failed _ _ _ _ _ (Loaded c.args.unit c.args.count) c.load-outcome.result.moved c.load-outcome.result.diverted c.load-outcome.result.failed _ _ _ _ c.if-outcome.true reported c.self.invariant.balanced;
       closed = c.self.invariant.closed;
       missing = c.self.invariant.missing;
-      recorded = λ told J p. IsRecorded-report _ _ J (Loaded c.args.unit c.args.count) c.load.result.moved c.load.result.diverted c.load.result.failed _ _ _ _ _ _ tt reported (c.self.invariant.recorded told J p);
-      limits = HasLimits-report c.self.inside.open_order _ _ _ _ c.self.invariant.limits;
-      room = HasRoom-report c.self.inside.open_order (Loaded c.args.unit c.args.count) c.load.result.moved c.load.result.diverted c.load.result.failed
+      recorded = λ told J p. IsRecorded-report _ _ J (Loaded c.args.unit c.args.count) c.load-outcome.result.moved c.load-outcome.result.diverted c.load-outcome.result.failed _ _ _ _ _ _ tt reported (c.self.invariant.recorded told J p);
+      limits = HasLimits-report c.self.inside.open_order _ _ _ _ _ c.self.invariant.limits;
+      room = HasRoom-report c.self.inside.open_order (Loaded c.args.unit c.args.count) c.load-outcome.result.moved c.load-outcome.result.diverted c.load-outcome.result.failed
           _ _ _ _ (g.M.Mechanism.room c.self.inside.mech) _ _ c.self.inside.ledger.room c.self.invariant.room c.in_ok-ready.ensures.room reported;
-      units = c.load.ensures.units ∙ (c.ready.ensures.units ∙ c.self.invariant.units);
+      units = c.load-outcome.ensures.units ∙ (c.ready.ensures.units ∙ c.self.invariant.units);
     }
+
+pub invariant_of-self-2 : goal.invariant_of-self-2
+invariant_of-self-2 g c =
+    let reported = rw (c.ready.ensures.motions, c.ready.ensures.places) at c.load-outcome.ensures.reported in
+    rw c.count_load.ensures.counted (
+    record {
+      sound = λ still booted. IsSound-report _ (Loaded c.args.unit c.args.count) c.load-outcome.result.moved c.load-outcome.result.diverted c.load-outcome.result.failed
+          (g.M.Mechanism.motions c.load-outcome.new.self) (g.M.Mechanism.places c.load-outcome.new.self) (g.M.Mechanism.faults c.load-outcome.new.self) (with_notes c.self.inside.ledger.loaded c.args.unit c.args.count)
+          (g.M.Mechanism.room c.ready.new.self) (g.M.Mechanism.room c.load-outcome.new.self) (c.self.invariant.sound still booted) tt reported (loaded-leaves c.self.inside.open_order c.args.unit c.args.count _ _);
+      clean = c.self.invariant.clean;
+      balanced = balanced-loaded _ _ _ _ _ c.args.unit c.args.count c.load-outcome.result.moved c.load-outcome.result.diverted c.load-outcome.result.failed _ _ _ _ c.if-outcome.false (rw (← c.self.view_is) at c.requires.fits).low c.count_load.ensures.few reported c.self.invariant.balanced;
+      closed = c.self.invariant.closed;
+      missing = c.self.invariant.missing;
+      recorded = λ told J p. IsRecorded-report _ _ J (Loaded c.args.unit c.args.count) c.load-outcome.result.moved c.load-outcome.result.diverted c.load-outcome.result.failed _ _ _ _ _ _ tt reported (c.self.invariant.recorded told J p);
+      limits = HasLimits-report c.self.inside.open_order _ _ _ _ _ c.self.invariant.limits;
+      room = HasRoom-report c.self.inside.open_order (Loaded c.args.unit c.args.count) c.load-outcome.result.moved c.load-outcome.result.diverted c.load-outcome.result.failed
+          _ _ _ _ (g.M.Mechanism.room c.self.inside.mech) _ _ c.self.inside.ledger.room c.self.invariant.room c.in_ok-ready.ensures.room reported;
+      units = c.load-outcome.ensures.units ∙ (c.ready.ensures.units ∙ c.self.invariant.units);
+    })
 
 pub returns-clause-ok : goal.returns-clause-ok
 returns-clause-ok g c =
-    let reported = rw (c.ready.ensures.motions, c.ready.ensures.places) at c.load.ensures.reported in
-    rw (← c.self.view_is) (record { spare = g.M.Mechanism.room c.ready.new.self; left = g.M.Mechanism.room c.load.new.self; reported = reported; same = refl })
+    let reported = rw (c.ready.ensures.motions, c.ready.ensures.places) at c.load-outcome.ensures.reported in
+    rw (← c.self.view_is, c.count_load.ensures.counted) (record { spare = g.M.Mechanism.room c.ready.new.self; left = g.M.Mechanism.room c.load-outcome.new.self; reported = reported; same = rw c.if-outcome.false refl })
 
 pub returns-in_err-ready-clause-keeps : goal.returns-in_err-ready-clause-keeps
 returns-in_err-ready-clause-keeps g c =
@@ -38,14 +59,26 @@ returns-in_err-ready-clause-keeps g c =
     c.self.invariant.recorded
     (λ told J p entry now may grows. IsRecorded-entry _ _ J (Loaded c.args.unit c.args.count) _ now tt (rw may at grows) (c.self.invariant.recorded told J p))))
 
-pub returns-clause-keeps : goal.returns-clause-keeps
-returns-clause-keeps g c =
+pub returns-then-outcome-clause-keeps : goal.returns-then-outcome-clause-keeps
+returns-then-outcome-clause-keeps g c =
+    let reported = rw (c.ready.ensures.motions, c.ready.ensures.places) at c.load-outcome.ensures.reported in
     Keeps-moved g.D.Disk _ _ _ g.met.D.Disk.only_now (rw (← c.self.view_is) refl)
-    (let reported = rw (c.ready.ensures.motions, c.ready.ensures.places) at c.load.ensures.reported in
-    rw (← c.self.view_is) (Continues-report _ (Loaded c.args.unit c.args.count) c.load.result.moved c.load.result.diverted c.load.result.failed
-    (g.M.Mechanism.motions c.load.new.self) (g.M.Mechanism.places c.load.new.self) (g.M.Mechanism.faults c.load.new.self)
-    (g.M.Mechanism.room c.ready.new.self) (g.M.Mechanism.room c.load.new.self) tt reported))
-    (rw (← c.self.view_is) (rw c.ready.ensures.faults at c.load.ensures.later))
+    (rw (← c.self.view_is) (Continues-report _ (Loaded c.args.unit c.args.count) c.load-outcome.result.moved c.load-outcome.result.diverted c.load-outcome.result.failed
+    (g.M.Mechanism.motions c.load-outcome.new.self) (g.M.Mechanism.places c.load-outcome.new.self) (g.M.Mechanism.faults c.load-outcome.new.self) c.self.inside.ledger.loaded
+    (g.M.Mechanism.room c.ready.new.self) (g.M.Mechanism.room c.load-outcome.new.self) tt reported))
+    (rw (← c.self.view_is) (rw c.ready.ensures.faults at c.load-outcome.ensures.later))
     (rw (← c.self.view_is) (left-through g.D.Disk c.self.inside.ledger.disk _ (λ entry. entry ≡ Loaded c.args.unit c.args.count) (g.met.D.Disk.only_now c.self.inside.ledger.disk) c.shut-possible.ensures.possible
     c.self.invariant.recorded
     (λ told J p entry now may grows. IsRecorded-entry _ _ J (Loaded c.args.unit c.args.count) _ now tt (rw may at grows) (c.self.invariant.recorded told J p))))
+
+pub returns-clause-keeps : goal.returns-clause-keeps
+returns-clause-keeps g c =
+    let reported = rw (c.ready.ensures.motions, c.ready.ensures.places) at c.load-outcome.ensures.reported in
+    rw c.count_load.ensures.counted (Keeps-moved g.D.Disk _ _ _ g.met.D.Disk.only_now (rw (← c.self.view_is) refl)
+    (rw (← c.self.view_is) (Continues-report _ (Loaded c.args.unit c.args.count) c.load-outcome.result.moved c.load-outcome.result.diverted c.load-outcome.result.failed
+    (g.M.Mechanism.motions c.load-outcome.new.self) (g.M.Mechanism.places c.load-outcome.new.self) (g.M.Mechanism.faults c.load-outcome.new.self) (with_notes c.self.inside.ledger.loaded c.args.unit c.args.count)
+    (g.M.Mechanism.room c.ready.new.self) (g.M.Mechanism.room c.load-outcome.new.self) tt reported))
+    (rw (← c.self.view_is) (rw c.ready.ensures.faults at c.load-outcome.ensures.later))
+    (rw (← c.self.view_is) (left-through g.D.Disk c.self.inside.ledger.disk _ (λ entry. entry ≡ Loaded c.args.unit c.args.count) (g.met.D.Disk.only_now c.self.inside.ledger.disk) c.shut-possible.ensures.possible
+    c.self.invariant.recorded
+    (λ told J p entry now may grows. IsRecorded-entry _ _ J (Loaded c.args.unit c.args.count) _ now tt (rw may at grows) (c.self.invariant.recorded told J p)))))

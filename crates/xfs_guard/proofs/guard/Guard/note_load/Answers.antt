@@ -5,7 +5,7 @@ use Rattle.xfs_journal.specs.declared.record.Rec.TheVariants.{Load}
 use Rattle.xfs_guard.proofs.ContinueLaws.{Continues-written}
 use Rattle.xfs_guard.proofs.KeepsLaws.{Keeps-same, Keeps-wrote}
 use Rattle.xfs_guard.proofs.KeptLaws.{IsKept-open, IsKept-refused, Continues-refused}
-use Rattle.xfs_guard.proofs.MarkLaws.{marked-push}
+use Rattle.xfs_guard.proofs.BalanceLaws.{balanced-push}
 use Rattle.xfs_guard.proofs.SizeLaws.{fit-at, takes-one, may-write}
 use Rattle.xfs_guard.proofs.RecordLaws.{IsSound-load}
 use Rattle.xfs_guard.proofs.LeftLaws.{left-written}
@@ -30,8 +30,8 @@ invariant_of-self-2 g c =
     let none : c.self.inside.open_order ≡ No = rw (← c.self.view_is) at c.requires.none in
     let fit = fit-at _ _ c.self.view_is (sym c.unfit.ensures.first ∙ c.in_default.is) in
     let w = c.in_ok-load.ensures.wrote in
-    rw (w.records, w.units, w.bound_is, w.limits, w.open_still, w.boot_missing, w.in_doubt, c.load.ensures.told, none)
-    (IsKept-open _ _ _ _ (IsSound-load _ c.args.unit c.args.count (c.self.invariant.sound fit.0 fit.2) none) (marked-push c.self.inside.ledger.records (Load c.args.unit c.args.count) c.self.invariant.marked) fit.2 tt tt c.self.invariant.units)
+    rw (w.records, w.units, w.bound_is, w.booted, w.loaded, w.limits, w.open_still, w.boot_missing, w.in_doubt, c.load.ensures.told, none)
+    (IsKept-open _ _ _ _ (IsSound-load _ c.args.unit c.args.count (c.self.invariant.sound fit.0 fit.2) none) (balanced-push c.self.inside.ledger.records (Load c.args.unit c.args.count) _ _ _ c.self.invariant.balanced) fit.2 tt tt c.self.invariant.units)
 
 pub returns-in-Some-clause-keeps : goal.returns-in-Some-clause-keeps
 returns-in-Some-clause-keeps g c = Keeps-same g.D.Disk _ g.met.D.Disk.only_now c.unfit.ensures.upheld
@@ -53,7 +53,7 @@ returns-clause-keeps g c =
     Keeps-wrote g.D.Disk _ _
     (let fit = fit-at _ _ c.self.view_is (sym c.unfit.ensures.first ∙ c.in_default.is) in
     let w = c.in_ok-load.ensures.wrote in
-    rw (← c.self.view_is, w.records, w.units, w.bound_is, w.limits, w.open_still, w.boot_missing, w.in_doubt, c.load.ensures.told)
+    rw (← c.self.view_is, w.records, w.units, w.bound_is, w.booted, w.loaded, w.limits, w.open_still, w.boot_missing, w.in_doubt, c.load.ensures.told)
     (Continues-written _ (Load c.args.unit c.args.count) c.self.inside.ledger.bound c.self.inside.open_order (c.self.invariant.clean fit.0) fit.0 fit.2 (λ p e. cc)))
     (rw (← c.self.view_is) c.load.ensures.faults) (rw (← c.self.view_is) (omega arith))
     (rw (← c.self.view_is) (behind-written g.D.Disk _ _ (Load c.args.unit c.args.count) c.load.ensures.told c.load.ensures.any_moment c.in_ok-load.ensures.wrote.records))

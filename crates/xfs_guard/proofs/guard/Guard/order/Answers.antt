@@ -5,7 +5,7 @@ use Rattle.xfs_journal.specs.declared.record.Rec.TheVariants.{Order}
 use Rattle.xfs_guard.proofs.ContinueLaws.{Continues-written, Continues-doubted}
 use Rattle.xfs_guard.proofs.KeepsLaws.{Keeps-same, Keeps-wrote}
 use Rattle.xfs_guard.proofs.KeptLaws.{IsKept-open, IsKept-doubted}
-use Rattle.xfs_guard.proofs.MarkLaws.{marked-push}
+use Rattle.xfs_guard.proofs.BalanceLaws.{balanced-push}
 use Rattle.xfs_guard.proofs.SizeLaws.{fit-at, takes-one, may-write, order-short, leaves-done}
 use Rattle.xfs_guard.proofs.OrderLaws.{IsSound-asked}
 use Rattle.xfs_guard.proofs.LeftLaws.{left-written}
@@ -29,8 +29,8 @@ invariant_of-self-in_err-order g c =
     let same = c.in_ok-reserve_two.ensures.same in
     let s = rw c.in_err-order.ensures.err at c.in_err-order.ensures.wrote in
     let sound = c.self.invariant.sound fit.0 fit.2 in
-    rw (s.records, s.units, s.bound, s.limits, s.shut, s.boot_missing, s.in_doubt, c.order.ensures.told, same.records, same.units, same.bound, same.limits, same.boot_missing, same.disk, c.ready.ensures.motions, c.ready.ensures.places, c.ready.ensures.faults, none, fine.1, fine.2)
-    (IsKept-doubted _ _ _ _ _ _ _ sound c.self.invariant.marked (IsSound-asked _ c.args.ask sound none fine.0) (c.ready.ensures.units ∙ c.self.invariant.units))
+    rw (s.records, s.units, s.bound, s.booted, s.loaded, s.limits, s.shut, s.boot_missing, s.in_doubt, c.order.ensures.told, same.records, same.units, same.bound, same.booted, same.loaded, same.limits, same.boot_missing, same.disk, c.ready.ensures.motions, c.ready.ensures.places, c.ready.ensures.faults, none, fine.1, fine.2)
+    (IsKept-doubted _ _ _ _ _ _ _ sound c.self.invariant.balanced (IsSound-asked _ c.args.ask sound none fine.0) (c.ready.ensures.units ∙ c.self.invariant.units))
 
 pub invariant_of-self-2 : goal.invariant_of-self-2
 invariant_of-self-2 g c =
@@ -40,8 +40,8 @@ invariant_of-self-2 g c =
     let eight = rw fine.2 at c.eight.ensures in
     let same = c.in_ok-reserve_two.ensures.same in
     let w = c.in_ok-order.ensures.wrote in
-    let marked = rw (fine.1, fine.2) at (marked-push c.self.inside.ledger.records (Order c.in_ok-kind.kind c.in_ok-kind.counts) c.self.invariant.marked) in
-    rw (w.records, w.units, w.bound_is, w.limits, w.open_still, w.boot_missing, w.in_doubt, c.order.ensures.told, same.records, same.units, same.bound, same.limits, same.boot_missing, same.disk, c.ready.ensures.motions, c.ready.ensures.places, c.ready.ensures.faults, fine.1, fine.2)
+    let marked = rw (fine.1, fine.2) at (balanced-push c.self.inside.ledger.records (Order c.in_ok-kind.kind c.in_ok-kind.counts) _ _ _ c.self.invariant.balanced) in
+    rw (w.records, w.units, w.bound_is, w.booted, w.loaded, w.limits, w.open_still, w.boot_missing, w.in_doubt, c.order.ensures.told, same.records, same.units, same.bound, same.booted, same.loaded, same.limits, same.boot_missing, same.disk, c.ready.ensures.motions, c.ready.ensures.places, c.ready.ensures.faults, fine.1, fine.2)
     (IsKept-open _ _ _ _ (IsSound-asked _ c.args.ask (c.self.invariant.sound fit.0 fit.2) none fine.0) marked fit.2
     (omega (arith, c.in_ok-ready.ensures.room), omega (arith, c.in_ok-reserve_two.ensures.ok, c.order.ensures.room))
     (leaves-done c.self.inside.ledger.limits c.self.inside.ledger.records _ _ fit.1 eight)
@@ -59,7 +59,7 @@ returns-in_err-order-clause-keeps g c =
     (let fit = fit-at _ _ c.self.view_is (sym c.unfit.ensures.first ∙ c.in_default.is) in
     let same = c.in_ok-reserve_two.ensures.same in
     let s = rw c.in_err-order.ensures.err at c.in_err-order.ensures.wrote in
-    rw (← c.self.view_is, s.records, s.units, s.bound, s.limits, s.shut, s.boot_missing, s.in_doubt, c.order.ensures.told, same.records, same.units, same.bound, same.limits, same.boot_missing, same.disk, c.ready.ensures.motions, c.ready.ensures.places, c.ready.ensures.faults)
+    rw (← c.self.view_is, s.records, s.units, s.bound, s.booted, s.loaded, s.limits, s.shut, s.boot_missing, s.in_doubt, c.order.ensures.told, same.records, same.units, same.bound, same.booted, same.loaded, same.limits, same.boot_missing, same.disk, c.ready.ensures.motions, c.ready.ensures.places, c.ready.ensures.faults)
     (Continues-doubted _ (Order c.in_ok-kind.kind c.in_ok-kind.counts) c.self.inside.open_order (c.self.invariant.clean fit.0) fit.0 fit.2 (λ p e. cc)))
     (let same = c.in_ok-reserve_two.ensures.same in rw (← c.self.view_is) (rw same.disk at c.order.ensures.faults)) (rw (← c.self.view_is, c.ready.ensures.faults) (omega arith))
     (let same = c.in_ok-reserve_two.ensures.same in
@@ -80,7 +80,7 @@ returns-clause-keeps g c =
     (let fit = fit-at _ _ c.self.view_is (sym c.unfit.ensures.first ∙ c.in_default.is) in
     let same = c.in_ok-reserve_two.ensures.same in
     let w = c.in_ok-order.ensures.wrote in
-    rw (← c.self.view_is, w.records, w.units, w.bound_is, w.limits, w.open_still, w.boot_missing, w.in_doubt, c.order.ensures.told, same.records, same.units, same.bound, same.limits, same.boot_missing, same.disk, c.ready.ensures.motions, c.ready.ensures.places, c.ready.ensures.faults)
+    rw (← c.self.view_is, w.records, w.units, w.bound_is, w.booted, w.loaded, w.limits, w.open_still, w.boot_missing, w.in_doubt, c.order.ensures.told, same.records, same.units, same.bound, same.booted, same.loaded, same.limits, same.boot_missing, same.disk, c.ready.ensures.motions, c.ready.ensures.places, c.ready.ensures.faults)
     (Continues-written _ (Order c.in_ok-kind.kind c.in_ok-kind.counts) c.self.inside.ledger.bound (Written c.in_ok-kind.kind c.in_ok-kind.counts) (c.self.invariant.clean fit.0) fit.0 fit.2 (λ p e. cc)))
     (let same = c.in_ok-reserve_two.ensures.same in rw (← c.self.view_is) (rw same.disk at c.order.ensures.faults)) (rw (← c.self.view_is, c.ready.ensures.faults) (omega arith))
     (let same = c.in_ok-reserve_two.ensures.same in
@@ -101,4 +101,4 @@ returns-in_err-ready-clause-keeps g c =
 pub returns-in_err-reserve_two-clause-keeps : goal.returns-in_err-reserve_two-clause-keeps
 returns-in_err-reserve_two-clause-keeps g c =
     let same = c.in_err-reserve_two.ensures.same in
-    rw (← c.self.view_is, same.records, same.units, same.bound, same.limits, same.shut, same.boot_missing, same.in_doubt, same.disk, c.ready.ensures.motions, c.ready.ensures.places, c.ready.ensures.faults) (Keeps-same g.D.Disk _ g.met.D.Disk.only_now (rw (← c.self.view_is) at c.unfit.ensures.upheld))
+    rw (← c.self.view_is, same.records, same.units, same.bound, same.booted, same.loaded, same.limits, same.shut, same.boot_missing, same.in_doubt, same.disk, c.ready.ensures.motions, c.ready.ensures.places, c.ready.ensures.faults) (Keeps-same g.D.Disk _ g.met.D.Disk.only_now (rw (← c.self.view_is) at c.unfit.ensures.upheld))

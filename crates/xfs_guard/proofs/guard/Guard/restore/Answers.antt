@@ -12,7 +12,7 @@ invariant_of-self-2 g c =
     let e = c.restore-read.ensures in
     let other : c.restore-read.result ≢ Err Memory = λ is. true≢false (rw is at (sym c.eq.ensures ∙ c.if-eq.false)) in
     IsKept-restored _ _ _ _ _ _ c.self.inside.ledger c.restore-read.new.self c.in-Ok.survey _ _ _ _ _ _
-    (restored c.restore-read.result c.self.inside.ledger c.restore-read.new.self c.in-Ok.survey (g.D.Disk.held c.self.inside.ledger.disk ≡ None) other e.ok e.full e.disk e.not_journal) e.told c.self.invariant
+    (restored c.restore-read.result c.self.inside.ledger c.restore-read.new.self c.in-Ok.survey (g.D.Disk.held c.self.inside.ledger.disk ≡ None) other e.ok e.full e.disk e.not_journal) (c.in-Ok.ensures ∙ c.survey-places.ensures) e.told c.self.invariant
 
 pub returns-then-eq-clause-keeps : goal.returns-then-eq-clause-keeps
 returns-then-eq-clause-keeps g c =

@@ -4,7 +4,7 @@ use Rattle.xfs_journal.specs.declared.record.Rec.TheVariants.{Done}
 use Rattle.xfs_guard.proofs.ContinueLaws.{Continues-written, Continues-doubted}
 use Rattle.xfs_guard.proofs.KeepsLaws.{Keeps-same, Keeps-wrote}
 use Rattle.xfs_guard.proofs.KeptLaws.{IsKept-open, IsKept-doubted, still-acted}
-use Rattle.xfs_guard.proofs.MarkLaws.{marked-push}
+use Rattle.xfs_guard.proofs.BalanceLaws.{balanced-push}
 use Rattle.xfs_guard.proofs.SizeLaws.{may-write, takes-done}
 use Rattle.xfs_guard.proofs.RecordLaws.{IsSound-done}
 use Rattle.xfs_guard.proofs.OrderLaws.{small-done}
@@ -31,8 +31,8 @@ invariant_of-self g c =
     let still = still-acted _ _ _ _ _ _ c.self.invariant.closed c.in-Acted.is in
     let booted = still-acted _ _ _ _ _ _ c.self.invariant.missing c.in-Acted.is in
     let s = rw c.in_err-done.ensures.err at c.in_err-done.ensures.wrote in
-    rw (s.records, s.units, s.bound, s.limits, s.shut, s.boot_missing, s.in_doubt, c.done.ensures.told)
-    (IsKept-doubted _ (Done c.in-Acted.moved c.in-Acted.diverted) c.self.inside.ledger.bound No _ _ _ (c.self.invariant.sound still booted) c.self.invariant.marked
+    rw (s.records, s.units, s.bound, s.booted, s.loaded, s.limits, s.shut, s.boot_missing, s.in_doubt, c.done.ensures.told)
+    (IsKept-doubted _ (Done c.in-Acted.moved c.in-Acted.diverted) c.self.inside.ledger.bound No _ _ _ (c.self.invariant.sound still booted) c.self.invariant.balanced
     (IsSound-done _ c.in-Acted.kind c.in-Acted.moved c.in-Acted.diverted c.in-Acted.failed (c.self.invariant.sound still booted) c.in-Acted.is) c.self.invariant.units)
 
 pub invariant_of-self-2 : goal.invariant_of-self-2
@@ -40,8 +40,8 @@ invariant_of-self-2 g c =
     let still = still-acted _ _ _ _ _ _ c.self.invariant.closed c.in-Acted.is in
     let booted = still-acted _ _ _ _ _ _ c.self.invariant.missing c.in-Acted.is in
     let w = c.in_ok-done.ensures.wrote in
-    rw (w.records, w.units, w.bound_is, w.limits, w.open_still, w.boot_missing, w.in_doubt, c.done.ensures.told)
-    (IsKept-open _ _ _ _ (IsSound-done _ c.in-Acted.kind c.in-Acted.moved c.in-Acted.diverted c.in-Acted.failed (c.self.invariant.sound still booted) c.in-Acted.is) (marked-push c.self.inside.ledger.records (Done c.in-Acted.moved c.in-Acted.diverted) c.self.invariant.marked) booted tt tt c.self.invariant.units)
+    rw (w.records, w.units, w.bound_is, w.booted, w.loaded, w.limits, w.open_still, w.boot_missing, w.in_doubt, c.done.ensures.told)
+    (IsKept-open _ _ _ _ (IsSound-done _ c.in-Acted.kind c.in-Acted.moved c.in-Acted.diverted c.in-Acted.failed (c.self.invariant.sound still booted) c.in-Acted.is) (balanced-push c.self.inside.ledger.records (Done c.in-Acted.moved c.in-Acted.diverted) _ _ _ c.self.invariant.balanced) booted tt tt c.self.invariant.units)
 
 pub returns-in_err-done-clause-keeps : goal.returns-in_err-done-clause-keeps
 returns-in_err-done-clause-keeps g c =
@@ -49,7 +49,7 @@ returns-in_err-done-clause-keeps g c =
     (let still = still-acted _ _ _ _ _ _ c.self.invariant.closed c.in-Acted.is in
     let booted = still-acted _ _ _ _ _ _ c.self.invariant.missing c.in-Acted.is in
     let s = rw c.in_err-done.ensures.err at c.in_err-done.ensures.wrote in
-    rw (← c.self.view_is, s.records, s.units, s.bound, s.limits, s.shut, s.boot_missing, s.in_doubt, c.done.ensures.told)
+    rw (← c.self.view_is, s.records, s.units, s.bound, s.booted, s.loaded, s.limits, s.shut, s.boot_missing, s.in_doubt, c.done.ensures.told)
     (Continues-doubted _ (Done c.in-Acted.moved c.in-Acted.diverted) No (c.self.invariant.clean still) still booted (λ p e. cc)))
     (rw (← c.self.view_is) c.done.ensures.faults) (rw (← c.self.view_is) (omega arith))
     (let s = rw c.in_err-done.ensures.err at c.in_err-done.ensures.wrote in
@@ -65,7 +65,7 @@ returns-clause-keeps g c =
     (let still = still-acted _ _ _ _ _ _ c.self.invariant.closed c.in-Acted.is in
     let booted = still-acted _ _ _ _ _ _ c.self.invariant.missing c.in-Acted.is in
     let w = c.in_ok-done.ensures.wrote in
-    rw (← c.self.view_is, w.records, w.units, w.bound_is, w.limits, w.open_still, w.boot_missing, w.in_doubt, c.done.ensures.told)
+    rw (← c.self.view_is, w.records, w.units, w.bound_is, w.booted, w.loaded, w.limits, w.open_still, w.boot_missing, w.in_doubt, c.done.ensures.told)
     (Continues-written _ (Done c.in-Acted.moved c.in-Acted.diverted) c.self.inside.ledger.bound No (c.self.invariant.clean still) still booted (λ p e. cc)))
     (rw (← c.self.view_is) c.done.ensures.faults) (rw (← c.self.view_is) (omega arith))
     (rw (← c.self.view_is) (behind-written g.D.Disk _ _ (Done c.in-Acted.moved c.in-Acted.diverted) c.done.ensures.told c.done.ensures.any_moment c.in_ok-done.ensures.wrote.records))

@@ -1,8 +1,9 @@
 use Rattle.std.proofs.Common.{◌∙◌, refl, arith}
 use Rattle.xfs_mech.specs.declared.motion.Motion.TheVariants.{Taken}
+use Rattle.xfs_guard.proofs.BalanceLaws.{balanced-taking}
 use Rattle.xfs_guard.proofs.ReportLaws.{IsSound-report, IsRecorded-entry, IsRecorded-report, HasRoom-report, HasLimits-report, Continues-report, taken-leaves}
 use Rattle.xfs_guard.proofs.ContinueLaws.{Continues-same}
-use Rattle.xfs_guard.specs.Left.{MayTake}
+use Rattle.xfs_guard.specs.CrashOutcomes.{MayTake}
 use Rattle.xfs_guard.proofs.KeepsLaws.{Keeps-moved}
 use Rattle.xfs_guard.proofs.LeftLaws.{left-through}
 use Rattle.xfs_guard.proofs.guard.Guard.taken.Goals as goal
@@ -13,14 +14,14 @@ invariant_of-self-2 g c =
     let other = rw (← c.self.view_is) at c.requires.no_retract in
     record {
       sound = λ still booted. IsSound-report _ (Taken c.taken.result.moved) c.taken.result.moved c.taken.result.diverted c.taken.result.failed
-          (g.M.Mechanism.motions c.taken.new.self) (g.M.Mechanism.places c.taken.new.self) (g.M.Mechanism.faults c.taken.new.self)
+          (g.M.Mechanism.motions c.taken.new.self) (g.M.Mechanism.places c.taken.new.self) (g.M.Mechanism.faults c.taken.new.self) c.self.inside.ledger.loaded
           (g.M.Mechanism.room c.ready.new.self) (g.M.Mechanism.room c.taken.new.self) (c.self.invariant.sound still booted) tt reported (taken-leaves c.self.inside.open_order c.taken.result.moved _ _ other);
       clean = c.self.invariant.clean;
-      marked = c.self.invariant.marked;
+      balanced = balanced-taking _ _ _ _ _ c.taken.result.moved c.taken.result.moved c.taken.result.diverted c.taken.result.failed _ _ _ _ reported c.self.invariant.balanced;
       closed = c.self.invariant.closed;
       missing = c.self.invariant.missing;
       recorded = λ told J p. IsRecorded-report _ _ J (Taken c.taken.result.moved) c.taken.result.moved c.taken.result.diverted c.taken.result.failed _ _ _ _ _ _ tt reported (c.self.invariant.recorded told J p);
-      limits = HasLimits-report c.self.inside.open_order _ _ _ _ c.self.invariant.limits;
+      limits = HasLimits-report c.self.inside.open_order _ _ _ _ _ c.self.invariant.limits;
       room = HasRoom-report c.self.inside.open_order (Taken c.taken.result.moved) c.taken.result.moved c.taken.result.diverted c.taken.result.failed
           _ _ _ _ (g.M.Mechanism.room c.self.inside.mech) _ _ c.self.inside.ledger.room c.self.invariant.room c.in_ok-ready.ensures.room reported;
       units = c.taken.ensures.units ∙ (c.ready.ensures.units ∙ c.self.invariant.units);
@@ -45,7 +46,7 @@ returns-clause-keeps g c =
     Keeps-moved g.D.Disk _ _ _ g.met.D.Disk.only_now (rw (← c.self.view_is) refl)
     (let reported = rw (c.ready.ensures.motions, c.ready.ensures.places) at c.taken.ensures.reported in
     rw (← c.self.view_is) (Continues-report _ (Taken c.taken.result.moved) c.taken.result.moved c.taken.result.diverted c.taken.result.failed
-    (g.M.Mechanism.motions c.taken.new.self) (g.M.Mechanism.places c.taken.new.self) (g.M.Mechanism.faults c.taken.new.self)
+    (g.M.Mechanism.motions c.taken.new.self) (g.M.Mechanism.places c.taken.new.self) (g.M.Mechanism.faults c.taken.new.self) c.self.inside.ledger.loaded
     (g.M.Mechanism.room c.ready.new.self) (g.M.Mechanism.room c.taken.new.self) tt reported))
     (rw (← c.self.view_is) (rw c.ready.ensures.faults at c.taken.ensures.later))
     (rw (← c.self.view_is) (left-through g.D.Disk c.self.inside.ledger.disk _ (MayTake _) (g.met.D.Disk.only_now c.self.inside.ledger.disk) c.shut-possible.ensures.possible
