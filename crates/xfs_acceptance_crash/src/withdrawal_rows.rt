@@ -5,7 +5,7 @@ ghost use Rattle.std.specs.Prelude.{◌≡◌, ℕ, List, Some, IfOk};
 ghost use Rattle.xfs_mech.specs.Sim.{units_of, motions_of};
 ghost use Rattle.xfs_disk.specs.Disk.{Only};
 ghost use Rattle.xfs_disk.specs.MemDisk.{IsImage as MayBe, bytes_of};
-ghost use Rattle.xfs_journal.specs.Image.{Stands};
+ghost use Rattle.xfs_journal.specs.Image.{StandsFor};
 ghost use Rattle.xfs_journal.specs.declared.record.Rec.{Rec};
 ghost use Rattle.xfs_guard.specs.Recorded.{IsRecorded};
 
@@ -46,7 +46,7 @@ fn run_cut(
     pick: u64,
 ) -> Result<(Run, Core<SimMech, MemDisk>), Fail>
     ensures units { IfOk result (λ r. units_of r.1.mech ≡ r.1.units) }
-    ensures starts { IfOk result (λ r. (c : List ℕ) → MayBe r.1.disk c → (J : List Rec) → Stands c J → IsRecorded r.1.key r.1.units J (Some (motions_of r.1.mech))) }
+    ensures starts { IfOk result (λ r. (c : List ℕ) → MayBe r.1.disk c → (records : List Rec) → StandsFor c records → IsRecorded r.1.key r.1.units records (Some (motions_of r.1.mech))) }
     ensures at_rest { IfOk result (λ r. Only (bytes_of r.1.disk) (MayBe r.1.disk)) }
 {
     let units = units()?;
@@ -75,7 +75,7 @@ fn run_cut(
 // Runs `guard` on a script over a machine that came back.
 fn run_again(alloc: Global, script: &[u8], core: Core<SimMech, MemDisk>) -> Result<Run, Fail>
     requires units { units_of core.mech ≡ core.units }
-    requires starts { (c : List ℕ) → MayBe core.disk c → (J : List Rec) → Stands c J → IsRecorded core.key core.units J (Some (motions_of core.mech)) }
+    requires starts { (c : List ℕ) → MayBe core.disk c → (records : List Rec) → StandsFor c records → IsRecorded core.key core.units records (Some (motions_of core.mech)) }
     requires at_rest { Only (bytes_of core.disk) (MayBe core.disk) }
 {
     let mut source = MemSource::new(listed(alloc, script)?, Vec::new(alloc));

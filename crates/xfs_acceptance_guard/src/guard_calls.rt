@@ -86,7 +86,7 @@ fn answer<M: Mechanism>(
     rows: &[(Call, Answer)],
 ) -> Result<(), Fail>
     requires units { M.units mech ≡ units }
-    requires fresh { IfTold (M.motions mech) (λ L. L ≡ []) }
+    requires fresh { IfTold (M.motions mech) (λ motions. motions ≡ []) }
 {
     let guard = booted(alloc, core_on(mech, units, empty(alloc), LIMITS))?;
     let mut teller = Teller::new(alloc, guard);

@@ -22,7 +22,7 @@ pub record HasCause {T E : Type 0} (before now : ℕ) (result : Result T E) : Ty
   pub later : before ≤ now
   pub failed : OnErr result (Rose before now)
 
--- a front of the bytes was taken
-pub record TookFront (old new : Option (List ℕ)) (bytes : List ℕ) : Type 0 where
+-- a prefix of the bytes was taken
+pub record TookPrefix (old new : Option (List ℕ)) (bytes : List ℕ) : Type 0 where
   pub many : ℕ
   pub taken : Appends old new (take many bytes)

@@ -26,6 +26,6 @@ pub struct Failed;
 #[derive(Clone, Copy, Debug, PartialEq, Eq)]
 pub struct ReadFault;
 
-/// The sink failed, and has taken a front of the bytes.
+/// The sink failed, and has taken a prefix of the bytes.
 #[derive(Clone, Copy, Debug, PartialEq, Eq)]
 pub struct WriteFault;

@@ -2,7 +2,7 @@ ghost use Rattle.std.specs.Prelude.{◌≡◌, ℕ, List, ◌≤◌, length, OnO
 ghost use Rattle.std.specs.Io.{ReadsAtMost, WritesAtMost};
 ghost use Rattle.std.specs.Io.KnownBytes.{ReadConsumes, WriteAppends, Appends};
 ghost use Rattle.std.specs.declared.option.Option.{Option};
-ghost use Rattle.xfs_base.specs.Causes.{HasCause, TookFront};
+ghost use Rattle.xfs_base.specs.Causes.{HasCause, TookPrefix};
 
 use crate::{Failed, WriteFault};
 
@@ -29,7 +29,7 @@ pub trait Sink {
     /// How often it failed.
     ghost faults: { Self → ℕ };
 
-    /// Takes a front of the bytes, which isn't empty where the bytes aren't.
+    /// Takes a prefix of the bytes, which isn't empty where the bytes aren't.
     fn write(&mut self, bytes: &[u8]) -> Result<usize, Failed>
         ensures bound { WritesAtMost result bytes.now }
         ensures some { result ≡ Ok 0 → length bytes.now ≡ 0 }
@@ -37,10 +37,10 @@ pub trait Sink {
         ensures cause { HasCause (faults self.old) (faults self.new) result };
 }
 
-/// Writes all the bytes. After a fault the sink has taken a front of them.
+/// Writes all the bytes. After a fault the sink has taken a prefix of them.
 pub fn write_all<K: Sink>(sink: &mut K, bytes: &[u8]) -> Result<(), WriteFault>
     ensures ok { OnOk result (Appends (K.held sink.old) (K.held sink.new) bytes.now) }
-    ensures err { OnErr result (TookFront (K.held sink.old) (K.held sink.new) bytes.now) }
+    ensures err { OnErr result (TookPrefix (K.held sink.old) (K.held sink.new) bytes.now) }
     ensures cause { HasCause (K.faults sink.old) (K.faults sink.new) result }
 {
     let mut at = 0;

@@ -4,7 +4,7 @@ use Rattle.std.specs.declared.option.Option.{Option}
 use Rattle.std.specs.Io.KnownBytes.{Appends}
 use Rattle.std.proofs.lemmas.List.{append-nil}
 use Rattle.std.proofs.Math.Seq.{take-append-add}
-use Rattle.xfs_base.specs.Causes.{IfTold, TookFront}
+use Rattle.xfs_base.specs.Causes.{IfTold, TookPrefix}
 use Rattle.xfs_script.specs.Lines.{first_line}
 use Rattle.xfs_script.specs.Reading.{Reading, nothing_read}
 use Rattle.xfs_script.specs.Answer.{bytes_ahead, ReadsLine}
@@ -125,7 +125,7 @@ no-limit status X three ten (inr e) = absurd (ten e)
 
 -- the run ends between two lines, and the sink took a front of the last line
 until-status : {S : Type 0} (IsLine : List ℕ → Type 0) (A : S → List ℕ → List (List ℕ) → S → Type 0) (E : ℕ → List ℕ → S → Type 0) (start state : S) (status at : ℕ) (r : Reading) (y z old new newer : Option (List ℕ)) (text : List ℕ)
-    → E status (first_line (behind r.handed text)) state → HasAnswered A start state r y old new text → (status ≡ 4 → ¬ (IsLine (first_line (behind r.handed text)))) → ((status ≡ 3) ⊎ (status ≡ 10) → IfTold z (NoLineEnds r.handed text)) → TookFront new newer (lines_text (last_line status r.handed at))
+    → E status (first_line (behind r.handed text)) state → HasAnswered A start state r y old new text → (status ≡ 4 → ¬ (IsLine (first_line (behind r.handed text)))) → ((status ≡ 3) ⊎ (status ≡ 10) → IfTold z (NoLineEnds r.handed text)) → TookPrefix new newer (lines_text (last_line status r.handed at))
     → WritesUntil IsLine A E start status z old newer text
 until-status IsLine A E start state status at r y z old new newer text ends h none limit front = record {
   many = r.handed;
@@ -141,7 +141,7 @@ until-status IsLine A E start state status at r y z old new newer text ends h no
 -- a line that is none
 pub answered-no_line : {S : Type 0} (IsLine : List ℕ → Type 0) (A : S → List ℕ → List (List ℕ) → S → Type 0) (E : ℕ → List ℕ → S → Type 0) (start state : S) (status number : ℕ) (r s : Reading) (x y z old new newer : Option (List ℕ)) (line : Line)
     → ((l : List ℕ) → E status l state) → IfTold x (HasAnswered A start state r y old new) → ReadsLine r s y z (Ok (Some line)) → ¬ (IsLine line.text) → status ≡ 4 → number ≡ line.number
-    → TookFront new newer (lines_text (no_line_text number ∷ [])) → IfTold x (WritesUntil IsLine A E start status z old newer)
+    → TookPrefix new newer (lines_text (no_line_text number ∷ [])) → IfTold x (WritesUntil IsLine A E start status z old newer)
 answered-no_line IsLine A E start state status number r s None y z old new newer line ends h reads is four same front = tt
 answered-no_line IsLine A E start state status number r s (Some text) y z old new newer line ends h reads is four same front =
     let a = ahead-some r y (behind r.handed text) h.ahead in
@@ -170,7 +170,7 @@ answered-begun IsLine A E start state r s (Some text) y z old new newer line end
 pub answered-fault : {S : Type 0} (IsLine : List ℕ → Type 0) (A : S → List ℕ → List (List ℕ) → S → Type 0) (E : ℕ → List ℕ → S → Type 0) (start state : S) (status : ℕ) (r s : Reading) (x y z old new newer : Option (List ℕ)) (fault : LineFault)
     → ((l : List ℕ) → IsLine l → length l ≤ 70000)
     → ((l : List ℕ) → E status l state) → IfTold x (HasAnswered A start state r y old new) → ReadsLine r s y z (Err fault) → status ≡ status_of fault
-    → TookFront new newer (lines_text (fault_line fault)) → IfTold x (WritesUntil IsLine A E start status z old newer)
+    → TookPrefix new newer (lines_text (fault_line fault)) → IfTold x (WritesUntil IsLine A E start status z old newer)
 answered-fault IsLine A E start state status r s None y z old new newer fault short ends h reads is front = tt
 answered-fault IsLine A E start state status r s (Some text) y z old new newer Read short ends h reads is front =
     rw is (until-status IsLine A E start state 3 0 r y z old new newer text (rw is at (ends (first_line (behind r.handed text)))) h (λ four. absurd (omega (arith, four))) (λ cut. read-limit r s y z r.handed text Read h.ahead reads (inl refl)) front)

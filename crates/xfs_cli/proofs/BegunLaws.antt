@@ -24,7 +24,7 @@ use Rattle.xfs_script.specs.declared.guard_line.GuardLine.{GuardLine}
 use Rattle.xfs_script.specs.declared.guard_line.GuardLine.TheVariants.{Restart}
 use Rattle.xfs_cli.specs.Begun.{AllOrNothing, IsBegun, IsPartDispensed, IsPartFilled, LeavesOfVerb, StacksFirst}
 use Rattle.xfs_cli.specs.DispenseAnswers.{Dispenses, IsPermitted}
-use Rattle.xfs_cli.specs.OrderAnswers.{Carries, MechCalled, Stacks, nothing_stacked, with_stacked}
+use Rattle.xfs_cli.specs.OrderAnswers.{CarriesOut, MechCalled, Stacks, nothing_stacked, with_stacked}
 use Rattle.xfs_cli.specs.Refused.{refusal_text}
 use Rattle.xfs_cli.specs.Seen.{Seen, Becomes, seen}
 use Rattle.xfs_cli.specs.VerbAnswers.{AreAnswer, Clears, Fills, IsLoaded, Mints}
@@ -162,7 +162,7 @@ IsFrontOf issue counts all start s = (more : List ℕ) (result : Result Outcome 
 length-push : (counts : List ℕ) (count : ℕ) → length (counts ++ count ∷ []) ≡ length counts + 1
 length-push counts count = let e = length-append counts (count ∷ []) in omega (arith, e)
 
-front-push : (issue : ℕ) (counts : List ℕ) (count : ℕ) (all one : Outcome) (start s middle : Seen) → count ≢ 0 → Carries s (Stack issue (length counts + 1) count) (Ok one) middle → one.failed ≡ false
+front-push : (issue : ℕ) (counts : List ℕ) (count : ℕ) (all one : Outcome) (start s middle : Seen) → count ≢ 0 → CarriesOut s (Stack issue (length counts + 1) count) (Ok one) middle → one.failed ≡ false
     → IsFrontOf issue counts all start s → IsFrontOf issue (counts ++ count ∷ []) (with_stacked all (length counts) one) start middle
 front-push issue counts count all one start s middle asked carried fine front = λ more result next h.
     let onward : Stacks issue more (length counts + 1) (with_stacked all (length counts) one) middle result next = subst (λ u. Stacks issue more u (with_stacked all (length counts) one) middle result next) (length-push counts count) h in
@@ -177,13 +177,13 @@ front-zero issue counts count all start s none front = λ more result next h.
 
 -- one more unit, whose order didn't fail
 pub front-unit : (issue : ℕ) (counts : List ℕ) (u at : ℕ) (all one : Outcome) (start s middle : Seen) → at ≡ u → slice_index counts at ≢ 0
-    → Carries s (Stack issue (u + 1) (slice_index counts at)) (Ok one) middle → one.failed ≡ false → IsFrontOf issue (take u counts) all start s → IsFrontOf issue (take (u + 1) counts) (with_stacked all at one) start middle
+    → CarriesOut s (Stack issue (u + 1) (slice_index counts at)) (Ok one) middle → one.failed ≡ false → IsFrontOf issue (take u counts) all start s → IsFrontOf issue (take (u + 1) counts) (with_stacked all at one) start middle
 front-unit issue counts u at all one start s middle is some carried fine front =
     let asked : slice_index counts u ≢ 0 = subst (λ i. slice_index counts i ≢ 0) is some in
     let within = some-within counts u asked in
     let len : length (take u counts) ≡ u = length-take-le u counts (omega (arith, within)) in
-    let here : Carries s (Stack issue (u + 1) (slice_index counts u)) (Ok one) middle = subst (λ i. Carries s (Stack issue (u + 1) (slice_index counts i)) (Ok one) middle) is carried in
-    let one-carried : Carries s (Stack issue (length (take u counts) + 1) (slice_index counts u)) (Ok one) middle = subst (λ n. Carries s (Stack issue (n + 1) (slice_index counts u)) (Ok one) middle) (sym len) here in
+    let here : CarriesOut s (Stack issue (u + 1) (slice_index counts u)) (Ok one) middle = subst (λ i. CarriesOut s (Stack issue (u + 1) (slice_index counts i)) (Ok one) middle) is carried in
+    let one-carried : CarriesOut s (Stack issue (length (take u counts) + 1) (slice_index counts u)) (Ok one) middle = subst (λ n. CarriesOut s (Stack issue (n + 1) (slice_index counts u)) (Ok one) middle) (sym len) here in
     let pushed = front-push issue (take u counts) (slice_index counts u) all one start s middle asked one-carried fine front in
     let taken : IsFrontOf issue (take (u + 1) counts) (with_stacked all (length (take u counts)) one) start middle = subst (λ cs. IsFrontOf issue cs (with_stacked all (length (take u counts)) one) start middle) (sym (take_more counts u 0 within)) pushed in
     subst (λ i. IsFrontOf issue (take (u + 1) counts) (with_stacked all i one) start middle) (len ∙ sym is) taken

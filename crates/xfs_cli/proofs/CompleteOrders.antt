@@ -21,7 +21,7 @@ use Rattle.xfs_guard.specs.declared.deny.Deny.{Deny}
 use Rattle.xfs_guard.specs.declared.open.Open.TheVariants.{Written, Acted}
 use Rattle.xfs_cli.specs.Seen.{Seen}
 use Rattle.xfs_cli.specs.Complete.{IsCalm}
-use Rattle.xfs_cli.specs.OrderAnswers.{Carries, IsActed, IsSettled, IsStopped, Stacks, FollowsUnit, refusal_of, order_of, with_stacked}
+use Rattle.xfs_cli.specs.OrderAnswers.{CarriesOut, IsActed, IsSettled, IsStopped, Stacks, FollowsUnit, refusal_of, order_of, with_stacked}
 
 -- a rise within a longer while is one of the longer while
 rose-within : (a b x y : ℕ) → a ≤ x → y ≤ b → Rose x y → Rose a b
@@ -78,7 +78,7 @@ stopped-grown s ask deny next (inr (none, is, inr u)) =
     grown-trans s u.acted next (acted-grown s ask u.outcome u.acted u.first)
     (record { mech = omega (arith, faults); disk = u.later; more = []; grown = records ∙ sym (append-nil u.acted.guard.records) })
 
-pub carries-grown : (s : Seen) (ask : Ask) (result : Result Outcome Deny) (next : Seen) → Carries s ask result next → IsGrown s next
+pub carries-grown : (s : Seen) (ask : Ask) (result : Result Outcome Deny) (next : Seen) → CarriesOut s ask result next → IsGrown s next
 carries-grown s ask (Ok o) next c = settled-grown s ask o next c.1
 carries-grown s ask (Err d) next c = stopped-grown s ask d next c
 
@@ -173,7 +173,7 @@ settled-full s ask outcome next calm h =
     sound false never = refl
 
 -- an order that isn't refused
-pub carries-full : (s : Seen) (ask : Ask) (result : Result Outcome Deny) (next : Seen) → refusal_of s.guard ask ≡ None → IsCalm s next → Carries s ask result next → IsFull s ask result next
+pub carries-full : (s : Seen) (ask : Ask) (result : Result Outcome Deny) (next : Seen) → refusal_of s.guard ask ≡ None → IsCalm s next → CarriesOut s ask result next → IsFull s ask result next
 carries-full s ask (Ok o) next free calm c = settled-full s ask o next calm c.1
 carries-full s ask (Err d) next free calm (inl (refused, same)) = let e : None ≡ Some d = sym free ∙ refused in cc
 carries-full s ask (Err d) next free calm (inr (none, is, inl f)) = absurd (calm.disk f.cause)

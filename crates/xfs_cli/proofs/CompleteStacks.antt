@@ -25,7 +25,7 @@ use Rattle.xfs_journal.proofs.JournalLaws.{live_of-push, record_at-push, eqb-sam
 use Rattle.xfs_guard.specs.View.{View}
 use Rattle.xfs_guard.specs.Fits.{unfit}
 use Rattle.xfs_guard.specs.Nonce.{nonce_of, live_nonce}
-use Rattle.xfs_guard.specs.Passed.{first_currency, is_over}
+use Rattle.xfs_guard.specs.OverBudget.{first_currency, is_over}
 use Rattle.xfs_guard.specs.Presented.{presented_in, done_worth}
 use Rattle.xfs_guard.specs.Refusals.{notes_of, over_budget, order_refusal, order_refusal_at}
 use Rattle.xfs_guard.specs.declared.ask.Ask.TheVariants.{Stack as AskStack}

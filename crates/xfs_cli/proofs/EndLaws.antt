@@ -4,7 +4,7 @@ use Rattle.std.proofs.lemmas.Bool.{cases_lt}
 use Rattle.std.specs.declared.option.Option.{Option}
 use Rattle.xfs_base.specs.Causes.{IfTold}
 use Rattle.xfs_base.specs.declared.counts.Places.{Places}
-use Rattle.xfs_journal.specs.Image.{Stands}
+use Rattle.xfs_journal.specs.Image.{StandsFor}
 use Rattle.xfs_journal.specs.Paging.{CeasesAt}
 use Rattle.xfs_journal.specs.declared.limits.Limits.{Limits}
 use Rattle.xfs_journal.specs.declared.record.Rec.{Rec}
@@ -15,7 +15,7 @@ use Rattle.xfs_script.specs.declared.line.LineFault.{LineFault}
 use Rattle.xfs_script.specs.declared.line.LineFault.TheVariants.{Read, Quota, TooLong, Memory}
 use Rattle.xfs_guard.specs.declared.fail.BootFault.{BootFault}
 use Rattle.xfs_guard.specs.declared.fail.BootFault.TheVariants.{NotJournal, Disk, Full, Memory as NoMemory}
-use Rattle.xfs_cli.specs.Boots.{BootPasses, IsNoJournal, boot_status}
+use Rattle.xfs_cli.specs.Boots.{BootExceeds, IsNoJournal, boot_status}
 use Rattle.xfs_cli.specs.GuardLines.{IsLine, behind}
 use Rattle.xfs_cli.specs.Run.{AllLines, StopsAtLine, GaveAll, status_of}
 use Rattle.xfs_cli.specs.Seen.{Seen}
@@ -69,12 +69,12 @@ pub record HasCauses (IsStartOf Ends : Seen → Type 0) (status : ℕ) (left lef
   pub disk_fault : status ≡ 6 → disk
   pub journal : status ≡ 7 → IfTold held IsNoJournal
   pub quota : status ≡ 10 → GaveAll left left'
-  pub full : status ≡ 12 → IfTold left (λ text. IfTold held (λ bytes. (J : List Rec) → Stands bytes J → BootPasses limits places J ⊎ HasFullRestart IsStartOf Ends text))
+  pub full : status ≡ 12 → IfTold left (λ text. IfTold held (λ bytes. (J : List Rec) → StandsFor bytes J → BootExceeds limits places J ⊎ HasFullRestart IsStartOf Ends text))
 
 -- a refused boot has the cause of its status
 pub causes-refused : (IsStartOf Ends : Seen → Type 0) (why : BootFault) (status : ℕ) (left left' held : Option (List ℕ)) (limits : Limits) (places : Places) (source sink disk : Type 0) → status ≡ boot_status why
     → ((at : ℕ) → why ≡ NotJournal at → IfTold held (λ bytes. CeasesAt bytes at × IsNoJournal bytes)) → (why ≡ Disk → disk)
-    → (why ≡ Full → (J : List Rec) × IfTold held (λ bytes. Stands bytes J) × BootPasses limits places J)
+    → (why ≡ Full → (J : List Rec) × IfTold held (λ bytes. StandsFor bytes J) × BootExceeds limits places J)
     → HasCauses IsStartOf Ends status left left' held limits places source sink disk
 causes-refused IsStartOf Ends why status left left' held limits places source sink disk is none failed full = record {
   one = rw is (status-boot why);
@@ -119,14 +119,14 @@ causes-refused IsStartOf Ends why status left left' held limits places source si
     seven Full e none = absurd (omega (arith, e))
     seven NoMemory e none = absurd (omega (arith, e))
 
-    twelve : (why : BootFault) → boot_status why ≡ 12 → (why ≡ Full → (J : List Rec) × IfTold held (λ bytes. Stands bytes J) × BootPasses limits places J)
-        → IfTold left (λ text. IfTold held (λ bytes. (J : List Rec) → Stands bytes J → BootPasses limits places J ⊎ HasFullRestart IsStartOf Ends text))
+    twelve : (why : BootFault) → boot_status why ≡ 12 → (why ≡ Full → (J : List Rec) × IfTold held (λ bytes. StandsFor bytes J) × BootExceeds limits places J)
+        → IfTold left (λ text. IfTold held (λ bytes. (J : List Rec) → StandsFor bytes J → BootExceeds limits places J ⊎ HasFullRestart IsStartOf Ends text))
     twelve (NotJournal at) e full = absurd (omega (arith, e))
     twelve Disk e full = absurd (omega (arith, e))
     twelve Full e full = let over = full refl in go left held over.0 over.1 over.2
       where
-        go : (left held : Option (List ℕ)) (J : List Rec) → IfTold held (λ bytes. Stands bytes J) → BootPasses limits places J
-            → IfTold left (λ text. IfTold held (λ bytes. (J : List Rec) → Stands bytes J → BootPasses limits places J ⊎ HasFullRestart IsStartOf Ends text))
+        go : (left held : Option (List ℕ)) (J : List Rec) → IfTold held (λ bytes. StandsFor bytes J) → BootExceeds limits places J
+            → IfTold left (λ text. IfTold held (λ bytes. (J : List Rec) → StandsFor bytes J → BootExceeds limits places J ⊎ HasFullRestart IsStartOf Ends text))
         go None held J stood over = tt
         go (Some text) None J stood over = tt
         go (Some text) (Some bytes) J stood over = λ K stands. inl (rw (stands_for_one bytes K J stands stood) over)
@@ -134,7 +134,7 @@ causes-refused IsStartOf Ends why status left left' held limits places source si
 
 -- the Boot of a restart may pass a limit
 pub full-restart : (IsStartOf Ends : Seen → Type 0) (left held : Option (List ℕ)) (limits : Limits) (places : Places) → IfTold left (HasFullRestart IsStartOf Ends)
-    → IfTold left (λ text. IfTold held (λ bytes. (J : List Rec) → Stands bytes J → BootPasses limits places J ⊎ HasFullRestart IsStartOf Ends text))
+    → IfTold left (λ text. IfTold held (λ bytes. (J : List Rec) → StandsFor bytes J → BootExceeds limits places J ⊎ HasFullRestart IsStartOf Ends text))
 full-restart IsStartOf Ends None held limits places has = tt
 full-restart IsStartOf Ends (Some text) None limits places has = tt
 full-restart IsStartOf Ends (Some text) (Some bytes) limits places has = λ J stands. inr has
@@ -158,12 +158,12 @@ causes-served IsStartOf Ends status left left' held limits places source sink di
 
 -- where no cause is there, the run ends with its input
 pub finishes : (IsStartOf Ends : Seen → Type 0) (status : ℕ) (left left' held : Option (List ℕ)) (limits : Limits) (places : Places) (source sink disk : Type 0) → HasCauses IsStartOf Ends status left left' held limits places source sink disk
-    → ¬ source → ¬ sink → ¬ disk → IfTold left (λ text. IfTold held (λ bytes. (J : List Rec) → Stands bytes J → IsUnhindered IsStartOf Ends text limits places J → IsFinished status))
+    → ¬ source → ¬ sink → ¬ disk → IfTold left (λ text. IfTold held (λ bytes. (J : List Rec) → StandsFor bytes J → IsUnhindered IsStartOf Ends text limits places J → IsFinished status))
 finishes IsStartOf Ends status None left' held limits places source sink disk causes no_source no_sink no_disk = tt
 finishes IsStartOf Ends status (Some text) left' None limits places source sink disk causes no_source no_sink no_disk = tt
 finishes IsStartOf Ends status (Some text) left' (Some bytes) limits places source sink disk causes no_source no_sink no_disk = λ J stands free. by_status J stands free causes.one
   where
-    by_status : (J : List Rec) → Stands bytes J → IsUnhindered IsStartOf Ends text limits places J → IsStatus status → IsFinished status
+    by_status : (J : List Rec) → StandsFor bytes J → IsUnhindered IsStartOf Ends text limits places J → IsStatus status → IsFinished status
     by_status J stands free (inl is) = inl is
     by_status J stands free (inr (inl is)) = absurd (causes.words is)
     by_status J stands free (inr (inr (inl is))) = absurd (no_source (causes.read is))

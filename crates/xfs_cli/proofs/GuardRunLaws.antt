@@ -6,7 +6,7 @@ use Rattle.xfs_base.specs.Causes.{IfTold, Rose}
 use Rattle.xfs_base.specs.declared.counts.Places.{Places}
 use Rattle.xfs_mech.specs.declared.motion.Motion.{Motion}
 use Rattle.xfs_journal.specs.JournalView.{HasPossible}
-use Rattle.xfs_journal.specs.Image.{Stands}
+use Rattle.xfs_journal.specs.Image.{StandsFor}
 use Rattle.xfs_journal.specs.declared.record.Rec.{Rec}
 use Rattle.xfs_journal.specs.declared.record.Rec.TheVariants.{Boot}
 use Rattle.xfs_guard.specs.Continues.{Continues}
@@ -18,7 +18,7 @@ use Rattle.xfs_script.specs.declared.line.LineFault.TheVariants.{Read, Quota, To
 use Rattle.xfs_cli.specs.GuardLines.{behind}
 use Rattle.xfs_cli.specs.Run.{status_of}
 use Rattle.xfs_cli.specs.Answers.{WritesAll, WritesFront, WritesUntil}
-use Rattle.xfs_cli.specs.Boots.{EndsFailed, BootPasses, EndsFull, WritesBoot, boot_status}
+use Rattle.xfs_cli.specs.Boots.{EndsFailed, BootExceeds, EndsFull, WritesBoot, boot_status}
 use Rattle.xfs_journal.specs.declared.limits.Limits.{Limits}
 use Rattle.xfs_cli.specs.Statuses.{HasFullRestart, IsOneOf}
 use Rattle.xfs_guard.specs.declared.fail.BootFault.{BootFault}
@@ -155,13 +155,13 @@ stops-restart status why line s end is continues later fails = record {
 -- a guard whose Boot has no room leaves a disk that reads as its list
 pub full-end : (v : View) (limits : Limits) (places : Places) (held : Option (List ℕ)) (images : List ℕ → Type 0) → v.limits ≡ limits → places ≡ v.places
     → ((bytes : List ℕ) → held ≡ Some bytes → images bytes) → IfTold held (λ _. (bytes : List ℕ) → images bytes → HasPossible v.records v.in_doubt bytes) → IsFull v → IsFullAtEnd limits places held
-full-end v limits places held images l p read stored full = record { records = v.records; stands = go held read stored; passes_limit = rw (← l, p) full.passes_limit }
+full-end v limits places held images l p read stored full = record { records = v.records; stands = go held read stored; exceeds_limit = rw (← l, p) full.exceeds_limit }
   where
-    go : (held : Option (List ℕ)) → ((bytes : List ℕ) → held ≡ Some bytes → images bytes) → IfTold held (λ _. (bytes : List ℕ) → images bytes → HasPossible v.records v.in_doubt bytes) → IfTold held (λ bytes. Stands bytes v.records)
+    go : (held : Option (List ℕ)) → ((bytes : List ℕ) → held ≡ Some bytes → images bytes) → IfTold held (λ _. (bytes : List ℕ) → images bytes → HasPossible v.records v.in_doubt bytes) → IfTold held (λ bytes. StandsFor bytes v.records)
     go None read stored = tt
     go (Some bytes) read stored =
         let kept = stored bytes (read bytes refl) in
-        let here : Stands bytes kept.0 = inl kept.2 in
+        let here : StandsFor bytes kept.0 = inl kept.2 in
         rw (only-possible v.records kept.0 v.in_doubt full.clear kept.1) at here
 
 -- what is said of the end of a run follows from what was said of it
@@ -215,12 +215,12 @@ told-any (Some x) Q all = all x
 
 -- the start of a run
 pub starts-run : {D : Type 0} (faults : D → ℕ) (g : GuardView D) (e : AtEntry) (J : List Rec)
-    → IfTold e.held (λ bytes. Stands bytes J) → g.state ≡ opened e (J ++ Boot e.places ∷ []) → e.disk_faults ≤ faults g.disk → IsStart e (seen faults g None)
+    → IfTold e.held (λ bytes. StandsFor bytes J) → g.state ≡ opened e (J ++ Boot e.places ∷ []) → e.disk_faults ≤ faults g.disk → IsStart e (seen faults g None)
 starts-run faults g e J stands is later = record { records = J; stands = stands; guard_is = is; later = later; none = refl }
 
 -- the boot begins the session that its guard is seen as, from which the lines are answered
 pub from-boot : {D : Type 0} (faults : D → ℕ) (g : GuardView D) (e : AtEntry) (J : List Rec) (Writes : Seen → Type 0)
-    → IfTold e.held (λ bytes. Stands bytes J) → g.state ≡ opened e (J ++ Boot e.places ∷ []) → e.disk_faults ≤ faults g.disk → Writes (seen faults g None) → FromBoot e Writes
+    → IfTold e.held (λ bytes. StandsFor bytes J) → g.state ≡ opened e (J ++ Boot e.places ∷ []) → e.disk_faults ≤ faults g.disk → Writes (seen faults g None) → FromBoot e Writes
 from-boot faults g e J Writes stands is later writes = record { start = seen faults g None; begins = starts-run faults g e J stands is later; writes = writes }
 
 -- a refused boot
@@ -245,10 +245,10 @@ ends-failed BootMemory faults now before after status is written failed six = ab
 
 -- a refused boot whose Boot passes a limit
 pub ends-full : (why : BootFault) (limits : Limits) (places : Places) (held before after : Option (List ℕ)) (status : ℕ) → status ≡ boot_status why → WritesBoot why before after
-    → (why ≡ Full → (J : List Rec) × IfTold held (λ bytes. Stands bytes J) × BootPasses limits places J) → status ≡ 12 → EndsFull limits places held before after
+    → (why ≡ Full → (J : List Rec) × IfTold held (λ bytes. StandsFor bytes J) × BootExceeds limits places J) → status ≡ 12 → EndsFull limits places held before after
 ends-full (NotJournal at) limits places held before after status is written full twelve = absurd (omega (arith, is, twelve))
 ends-full Disk limits places held before after status is written full twelve = absurd (omega (arith, is, twelve))
-ends-full Full limits places held before after status is written full twelve = let f = full refl in record { records = f.0; stands = f.1; passes_limit = f.2; written = written }
+ends-full Full limits places held before after status is written full twelve = let f = full refl in record { records = f.0; stands = f.1; exceeds_limit = f.2; written = written }
 ends-full BootMemory limits places held before after status is written full twelve = absurd (omega (arith, is, twelve))
 
 -- under status 12 a restart found no room for its Boot

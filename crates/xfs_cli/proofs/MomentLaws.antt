@@ -8,7 +8,7 @@ use Rattle.xfs_base.specs.declared.money.NoteKind.{NoteKind}
 use Rattle.xfs_disk.specs.declared.disk.Disk.{Ghosts}
 use Rattle.xfs_disk.specs.Disk.{LeavesOnly, Only}
 use Rattle.xfs_mech.specs.declared.motion.Motion.{Motion}
-use Rattle.xfs_journal.specs.Image.{Stands}
+use Rattle.xfs_journal.specs.Image.{StandsFor}
 use Rattle.xfs_journal.specs.JournalView.{IsPossible, StandsForEither}
 use Rattle.xfs_journal.specs.declared.record.Rec.{Rec}
 use Rattle.xfs_journal.specs.declared.record.Rec.TheVariants.{Boot}
@@ -16,40 +16,40 @@ use Rattle.xfs_journal.proofs.Moments.{started, weaken, joins}
 use Rattle.xfs_journal.proofs.Told.{on_told, from_told}
 use Rattle.xfs_journal.proofs.Unique.{stands_for_one}
 use Rattle.xfs_guard.specs.Continues.{Continues}
-use Rattle.xfs_guard.specs.Crashed.{IsLeft, IsLeftAt, StandsLeft, LeavesBehind}
-use Rattle.xfs_guard.specs.Left.{IsOldOrBooted}
+use Rattle.xfs_guard.specs.Crashed.{IsCrashOutcome, IsCrashOutcomeAt, StandsLeft, LeavesBehind}
+use Rattle.xfs_guard.specs.CrashOutcomes.{IsOldOrBooted}
 use Rattle.xfs_guard.specs.Recorded.{IsRecorded}
 use Rattle.xfs_guard.specs.Stored.{IsStored, MayLeave}
 use Rattle.xfs_guard.specs.View.{GuardView}
 use Rattle.xfs_guard.proofs.BootLaws.{IsRecorded-boot}
-use Rattle.xfs_guard.proofs.CrashedLaws.{begins-same, begins-trans, begins-push, left-front, IsLoose-in_doubt}
+use Rattle.xfs_guard.proofs.CrashedLaws.{begins-same, begins-trans, begins-push, left-front, IsTorn-in_doubt}
 use Rattle.xfs_guard.proofs.StoredLaws.{MayLeave-held, left-possible, tells}
 use Rattle.xfs_cli.specs.Moments.{IsFront, WasOnTheWay}
 use Rattle.xfs_cli.proofs.RunLaws.{Starts, AtRest}
 
 -- what each moment of a run leaves, from the disk at entry to that at the end
 abbrev pub WasOnTheWayAll : {D : Type 0} → Ghosts D → D → D → Option (List Motion) → Type 0
-WasOnTheWayAll g old new motions = IfTold (g.held old) (λ bytes. (J : List Rec) → Stands bytes J → LeavesOnly g.moment g.images_since old new (WasOnTheWay J (g.held new) motions))
+WasOnTheWayAll g old new motions = IfTold (g.held old) (λ bytes. (J : List Rec) → StandsFor bytes J → LeavesOnly g.moment g.images_since old new (WasOnTheWay J (g.held new) motions))
 
 module _ {D : Type 0} (g : Ghosts D)
     (as_read : (d : D) (all : List ℕ) → g.held d ≡ Some all → g.images d all) where
   -- nothing was done
   pub moments-same : (old new : D) (motions : Option (List Motion)) → ((d : D) (c : List ℕ) → g.images_since d (g.moment d) c → g.images d c) → AtRest (g.held old) (g.images old) → new ≡ old
       → WasOnTheWayAll g old new motions
-  moments-same old new motions only_now rest same = rw same (on_told (g.held old) (λ bytes. (J : List Rec) → Stands bytes J → LeavesOnly g.moment g.images_since old old (WasOnTheWay J (g.held old) motions)) (λ bytes told J stands.
+  moments-same old new motions only_now rest same = rw same (on_told (g.held old) (λ bytes. (J : List Rec) → StandsFor bytes J → LeavesOnly g.moment g.images_since old old (WasOnTheWay J (g.held old) motions)) (λ bytes told J stands.
       started g.moment g.images_since old (WasOnTheWay J (g.held old) motions) (λ c left.
-      let here : Stands c J = rw (from_told (g.held old) (λ b. Only b (g.images old)) rest bytes told c (only_now old c left)) stands in record {
+      let here : StandsFor c J = rw (from_told (g.held old) (λ b. Only b (g.images old)) rest bytes told c (only_now old c left)) stands in record {
         list = J;
         stands = here;
         begins = begins-same J;
-        front = on_told (g.held old) (λ now. (R : List Rec) → Stands now R → IsFront R motions J) (λ now is R reads. inl (rw (stands_for_one now R J reads (rw (same_bytes now bytes is told) stands)) (begins-same J)));
+        front = on_told (g.held old) (λ now. (R : List Rec) → StandsFor now R → IsFront R motions J) (λ now is R reads. inl (rw (stands_for_one now R J reads (rw (same_bytes now bytes is told) stands)) (begins-same J)));
       })))
     where
       same_bytes : (now bytes : List ℕ) → g.held old ≡ Some now → g.held old ≡ Some bytes → now ≡ bytes
       same_bytes now bytes is told = let e : Some now ≡ Some bytes = sym is ∙ told in cc
 
   -- an image of a boot stands for the list at entry, or for that with the Boot
-  booted-either : (old : D) (bytes : List ℕ) (J : List Rec) (p : Places) (c : List ℕ) → Only bytes (g.images old) → Stands bytes J → IsOldOrBooted (g.images old) bytes p c → StandsForEither J (Boot p) c
+  booted-either : (old : D) (bytes : List ℕ) (J : List Rec) (p : Places) (c : List ℕ) → Only bytes (g.images old) → StandsFor bytes J → IsOldOrBooted (g.images old) bytes p c → StandsForEither J (Boot p) c
   booted-either old bytes J p c rest stands (inl was) = inl (rw (rest c was) stands)
   booted-either old bytes J p c rest stands (inr (K, found, either)) = rw (stands_for_one bytes J K stands found) either
 
@@ -57,17 +57,17 @@ module _ {D : Type 0} (g : Ghosts D)
   pub moments-refused : (old new : D) (key : List ℕ) (units : List NoteKind) (motions : Option (List Motion)) (p : Places)
       → Starts (g.held old) (g.images old) key units motions → AtRest (g.held old) (g.images old)
       → IfTold (g.held old) (λ all. LeavesOnly g.moment g.images_since old new (IsOldOrBooted (g.images old) all p))
-      → IfTold (g.held old) (λ _. (J : List Rec) → ((c : List ℕ) → g.images old c → Stands c J) → (c : List ℕ) → g.images new c → StandsForEither J (Boot p) c)
+      → IfTold (g.held old) (λ _. (J : List Rec) → ((c : List ℕ) → g.images old c → StandsFor c J) → (c : List ℕ) → g.images new c → StandsForEither J (Boot p) c)
       → WasOnTheWayAll g old new motions
-  moments-refused old new key units motions p starts rest leaves either = on_told (g.held old) (λ bytes. (J : List Rec) → Stands bytes J → LeavesOnly g.moment g.images_since old new (WasOnTheWay J (g.held new) motions)) (λ bytes told J stands.
+  moments-refused old new key units motions p starts rest leaves either = on_told (g.held old) (λ bytes. (J : List Rec) → StandsFor bytes J → LeavesOnly g.moment g.images_since old new (WasOnTheWay J (g.held new) motions)) (λ bytes told J stands.
       let only = from_told (g.held old) (λ b. Only b (g.images old)) rest bytes told in
-      let recorded : IsRecorded key units J motions = from_told (g.held old) (λ _. (c : List ℕ) → g.images old c → (K : List Rec) → Stands c K → IsRecorded key units K motions) starts bytes told bytes (as_read old bytes told) J stands in
-      let now = from_told (g.held old) (λ _. (K : List Rec) → ((c : List ℕ) → g.images old c → Stands c K) → (c : List ℕ) → g.images new c → StandsForEither K (Boot p) c) either bytes told J (λ c was. rw (only c was) stands) in
+      let recorded : IsRecorded key units J motions = from_told (g.held old) (λ _. (c : List ℕ) → g.images old c → (K : List Rec) → StandsFor c K → IsRecorded key units K motions) starts bytes told bytes (as_read old bytes told) J stands in
+      let now = from_told (g.held old) (λ _. (K : List Rec) → ((c : List ℕ) → g.images old c → StandsFor c K) → (c : List ℕ) → g.images new c → StandsForEither K (Boot p) c) either bytes told J (λ c was. rw (only c was) stands) in
       weaken g.moment g.images_since old new (IsOldOrBooted (g.images old) bytes p) (WasOnTheWay J (g.held new) motions) (λ c is. on_the_way J c recorded now (booted-either old bytes J p c only stands is))
       (from_told (g.held old) (λ all. LeavesOnly g.moment g.images_since old new (IsOldOrBooted (g.images old) all p)) leaves bytes told))
     where
       -- what the disk reads as is one of the two lists
-      possible : (J R : List Rec) (now : List ℕ) → StandsForEither J (Boot p) now → Stands now R → IsPossible J (Some (Boot p)) R
+      possible : (J R : List Rec) (now : List ℕ) → StandsForEither J (Boot p) now → StandsFor now R → IsPossible J (Some (Boot p)) R
       possible J R now (inl is) reads = inl (stands_for_one now R J reads is)
       possible J R now (inr is) reads = inr (Boot p, refl, stands_for_one now R (J ++ Boot p ∷ []) reads is)
 
@@ -78,9 +78,9 @@ module _ {D : Type 0} (g : Ghosts D)
           some_same : (a b : Rec) → Some a ≡ Some b → a ≡ b
           some_same a b e = cc
 
-      front : (J X : List Rec) → IsRecorded key units J motions → ((c : List ℕ) → g.images new c → StandsForEither J (Boot p) c) → IsLeft J (Some (Boot p)) true X
-          → IfTold (g.held new) (λ now. (R : List Rec) → Stands now R → IsFront R motions X)
-      front J X recorded each left = on_told (g.held new) (λ now. (R : List Rec) → Stands now R → IsFront R motions X) (λ now is R reads.
+      front : (J X : List Rec) → IsRecorded key units J motions → ((c : List ℕ) → g.images new c → StandsForEither J (Boot p) c) → IsCrashOutcome J (Some (Boot p)) true X
+          → IfTold (g.held new) (λ now. (R : List Rec) → StandsFor now R → IsFront R motions X)
+      front J X recorded each left = on_told (g.held new) (λ now. (R : List Rec) → StandsFor now R → IsFront R motions X) (λ now is R reads.
           let one = possible J R now (each now (as_read new now is)) reads in left-front J (Some (Boot p)) true X R motions left one (agreed J R recorded one).agrees)
 
       on_the_way : (J : List Rec) (c : List ℕ) → IsRecorded key units J motions → ((d : List ℕ) → g.images new d → StandsForEither J (Boot p) d) → StandsForEither J (Boot p) c → WasOnTheWay J (g.held new) motions c
@@ -89,20 +89,20 @@ module _ {D : Type 0} (g : Ghosts D)
         list = J ++ Boot p ∷ [];
         stands = is;
         begins = begins-push J J (Boot p) (begins-same J);
-        front = front J (J ++ Boot p ∷ []) recorded each (inr (IsLoose-in_doubt J (Boot p)));
+        front = front J (J ++ Boot p ∷ []) recorded each (inr (IsTorn-in_doubt J (Boot p)));
       }
 
   -- the guard was booted, and lines were answered
   pub moments-run : (old : D) (first last : GuardView D) (J0 : List Rec) (p : Places) (motions : Option (List Motion)) → ((d : D) (t : ℕ) (c : List ℕ) → t ≤ g.moment d → g.images d c → g.images_since d t c)
-      → AtRest (g.held old) (g.images old) → first.state.records ≡ J0 ++ Boot p ∷ [] → IfTold (g.held old) (λ bytes. Stands bytes J0) → is_some (g.held first.disk) ≡ is_some (g.held old)
+      → AtRest (g.held old) (g.images old) → first.state.records ≡ J0 ++ Boot p ∷ [] → IfTold (g.held old) (λ bytes. StandsFor bytes J0) → is_some (g.held first.disk) ≡ is_some (g.held old)
       → IfTold (g.held old) (λ all. LeavesOnly g.moment g.images_since old first.disk (IsOldOrBooted (g.images old) all p))
       → Continues first.state last.state → LeavesBehind g first last → IsStored g last.disk last.state.records last.state.in_doubt
       → ((J : List Rec) → MayLeave g last.disk J → IsRecorded last.state.key last.state.units J last.state.motions) → motions ≡ last.state.motions
       → WasOnTheWayAll g old last.disk motions
   moments-run old first last J0 p motions counts_now rest booted stood same leaves continues behind stored recorded is_motions =
-      on_told (g.held old) (λ bytes. (J : List Rec) → Stands bytes J → LeavesOnly g.moment g.images_since old last.disk (WasOnTheWay J (g.held last.disk) motions)) (λ bytes told J stands.
+      on_told (g.held old) (λ bytes. (J : List Rec) → StandsFor bytes J → LeavesOnly g.moment g.images_since old last.disk (WasOnTheWay J (g.held last.disk) motions)) (λ bytes told J stands.
       let only = from_told (g.held old) (λ b. Only b (g.images old)) rest bytes told in
-      let one : J ≡ J0 = stands_for_one bytes J J0 stands (from_told (g.held old) (λ b. Stands b J0) stood bytes told) in
+      let one : J ≡ J0 = stands_for_one bytes J J0 stands (from_told (g.held old) (λ b. StandsFor b J0) stood bytes told) in
       let boot = from_told (g.held old) (λ all. LeavesOnly g.moment g.images_since old first.disk (IsOldOrBooted (g.images old) all p)) leaves bytes told in
       let still = tells (g.held first.disk) (same ∙ ap is_some told) in
       let later = from_told (g.held first.disk) (λ _. LeavesOnly g.moment g.images_since first.disk last.disk (λ c. g.images first.disk c ⊎ StandsLeft first.state last.state c)) behind.moments still.0 still.1 in
@@ -111,8 +111,8 @@ module _ {D : Type 0} (g : Ghosts D)
       (λ then. ⊎_elim (λ here. early c (booted-either old bytes J0 p c only (rw one at stands) (boot.each c (counts_now first.disk (g.moment old) c boot.later here)))) (late c) then) e))
       (joins g.moment g.images_since old first.disk last.disk (IsOldOrBooted (g.images old) bytes p) (λ c. g.images first.disk c ⊎ StandsLeft first.state last.state c) boot later))
     where
-      front : (X : List Rec) → IsLeftAt last.state X → IfTold (g.held last.disk) (λ now. (R : List Rec) → Stands now R → IsFront R motions X)
-      front X left = on_told (g.held last.disk) (λ now. (R : List Rec) → Stands now R → IsFront R motions X) (λ now is R reads.
+      front : (X : List Rec) → IsCrashOutcomeAt last.state X → IfTold (g.held last.disk) (λ now. (R : List Rec) → StandsFor now R → IsFront R motions X)
+      front X left = on_told (g.held last.disk) (λ now. (R : List Rec) → StandsFor now R → IsFront R motions X) (λ now is R reads.
           let may = MayLeave-held g last.disk R as_read (ap is_some is) (rw is reads) in
           rw is_motions (left-front last.state.records last.state.in_doubt _ X R last.state.motions left
           (left-possible g last.disk last.state.records last.state.in_doubt stored R may) (recorded R may).agrees))

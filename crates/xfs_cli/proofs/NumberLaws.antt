@@ -7,7 +7,7 @@ use Rattle.xfs_mech.specs.Moves.{IsNewer}
 use Rattle.xfs_mech.specs.declared.motion.Motion.{Motion}
 use Rattle.xfs_mech.proofs.MotionLaws.{all-numbers}
 use Rattle.xfs_mech.proofs.MoveLaws.{IsNewer-same}
-use Rattle.xfs_journal.specs.Image.{Stands}
+use Rattle.xfs_journal.specs.Image.{StandsFor}
 use Rattle.xfs_journal.specs.declared.record.Rec.{Rec}
 use Rattle.xfs_journal.specs.declared.record.Rec.TheVariants.{Boot}
 use Rattle.xfs_journal.proofs.Unique.{stands_for_one}
@@ -34,10 +34,10 @@ newer-leads J K (Some b) None P Q R leads = absurd leads
 newer-leads J K (Some b) (Some n) P Q R leads = newer-led J K b n P Q R leads
 
 pub newer-run : (first last : View) (J0 : List Rec) (held : Option (List ℕ)) (images : List ℕ → Type 0) (told : Option (List Motion))
-    → first.records ≡ J0 ++ Boot first.places ∷ [] → first.in_doubt ≡ None → IfTold held (λ bytes. Stands bytes J0)
+    → first.records ≡ J0 ++ Boot first.places ∷ [] → first.in_doubt ≡ None → IfTold held (λ bytes. StandsFor bytes J0)
     → Starts held images first.key first.units first.motions → ((bytes : List ℕ) → held ≡ Some bytes → images bytes)
     → Continues first last → told ≡ last.motions
-    → IfTold held (λ bytes. (J : List Rec) → Stands bytes J → IsNewer (length J) first.motions told)
+    → IfTold held (λ bytes. (J : List Rec) → StandsFor bytes J → IsNewer (length J) first.motions told)
 newer-run first last J0 None images told booted clean stood starts read c told_is = tt
 newer-run first last J0 (Some bytes) images told booted clean stood starts read c told_is = λ J stands.
     let same : J ≡ J0 = stands_for_one bytes J J0 stands stood in
@@ -46,6 +46,6 @@ newer-run first last J0 (Some bytes) images told booted clean stood starts read 
     rw (same, told_is) (newer-leads J0 last.records first.motions last.motions first.places first.places last.places (rw from at comes.led))
 
 -- a mechanism that did nothing
-pub newer-same : (held : Option (List ℕ)) (list : Option (List Motion)) → IfTold held (λ bytes. (J : List Rec) → Stands bytes J → IsNewer (length J) list list)
+pub newer-same : (held : Option (List ℕ)) (list : Option (List Motion)) → IfTold held (λ bytes. (J : List Rec) → StandsFor bytes J → IsNewer (length J) list list)
 newer-same None list = tt
 newer-same (Some bytes) list = λ J stands. IsNewer-same (length J) list

@@ -8,8 +8,8 @@ use Rattle.xfs_base.specs.declared.money.NoteKind.{NoteKind}
 use Rattle.xfs_disk.specs.Disk.{Only}
 use Rattle.xfs_disk.specs.declared.disk.Disk.{Ghosts}
 use Rattle.xfs_mech.specs.declared.motion.Motion.{Motion}
-use Rattle.xfs_journal.specs.Image.{Stands}
-use Rattle.xfs_journal.specs.JournalView.{IsPossible, HasPossible, StandsForEither, passes}
+use Rattle.xfs_journal.specs.Image.{StandsFor}
+use Rattle.xfs_journal.specs.JournalView.{IsPossible, HasPossible, StandsForEither, exceeds}
 use Rattle.xfs_journal.specs.Paging.{CeasesAt}
 use Rattle.xfs_journal.specs.declared.limits.Limits.{Limits}
 use Rattle.xfs_journal.specs.declared.record.Rec.{Rec}
@@ -25,7 +25,7 @@ use Rattle.xfs_guard.proofs.StoredLaws.{tells, at_told}
 use Rattle.xfs_guard.proofs.FollowsLaws.{Follows-same, Follows-record}
 use Rattle.xfs_guard.specs.declared.fail.BootFault.{BootFault}
 use Rattle.xfs_guard.specs.declared.fail.BootFault.TheVariants.{NotJournal, Disk, Full, Memory}
-use Rattle.xfs_cli.specs.Boots.{BootPasses, EndsUnread, IsDue, IsNoJournal, WritesBoot, boot_status}
+use Rattle.xfs_cli.specs.Boots.{BootExceeds, EndsUnread, IsDue, IsNoJournal, WritesBoot, boot_status}
 use Rattle.xfs_cli.specs.Upholds.{Upholds, FollowsWhereTold}
 
 follows-same : (J : List Rec) (L : Option (List Motion)) (P : Places) → FollowsWhereTold J L P J L P
@@ -38,7 +38,7 @@ follows-boot J (Some l) P = Follows-record J (Boot P) l P (λ p e. cc)
 
 -- the condition at entry
 abbrev pub Starts : Option (List ℕ) → (List ℕ → Type 0) → List ℕ → List NoteKind → Option (List Motion) → Type 0
-Starts held images key units L = IfTold held (λ _. (c : List ℕ) → images c → (J : List Rec) → Stands c J → IsRecorded key units J L)
+Starts held images key units L = IfTold held (λ _. (c : List ℕ) → images c → (J : List Rec) → StandsFor c J → IsRecorded key units J L)
 
 abbrev pub AtRest : Option (List ℕ) → (List ℕ → Type 0) → Type 0
 AtRest held images = IfTold held (λ bytes. Only bytes images)
@@ -48,18 +48,18 @@ pub recorded-start : {D : Type 0} (g : Ghosts D) (d : D) (key : List ℕ) (units
     → (J : List Rec) → MayLeave g d J → IsRecorded key units J L
 recorded-start g d key units L starts J may =
     let known = tells (g.held d) may.told in
-    at_told (g.held d) (λ _. (c : List ℕ) → g.images d c → (K : List Rec) → Stands c K → IsRecorded key units K L) known.0 known.1 starts may.bytes may.left J may.stands
+    at_told (g.held d) (λ _. (c : List ℕ) → g.images d c → (K : List Rec) → StandsFor c K → IsRecorded key units K L) known.0 known.1 starts may.bytes may.left J may.stands
 
 -- the headline, from the condition at entry to what is there at the end
 abbrev pub UpholdsAll : Option (List ℕ) → Option (List ℕ) → (List ℕ → Type 0) → List ℕ → List NoteKind → Option (List Motion) → Places → Option (List Motion) → Places → Type 0
-UpholdsAll held held' images' key units L P L' P' = IfTold held (λ bytes. (J : List Rec) → Stands bytes J → IfTold held' (λ _. (c : List ℕ) → images' c → Upholds key units J L P c L' P'))
+UpholdsAll held held' images' key units L P L' P' = IfTold held (λ bytes. (J : List Rec) → StandsFor bytes J → IfTold held' (λ _. (c : List ℕ) → images' c → Upholds key units J L P c L' P'))
 
 -- nothing was done
 pub upholds-same : (held : Option (List ℕ)) (images : List ℕ → Type 0) (key : List ℕ) (units : List NoteKind) (L : Option (List Motion)) (P : Places)
     → Starts held images key units L → AtRest held images → UpholdsAll held held images key units L P L P
 upholds-same None images key units L P starts rest = tt
 upholds-same (Some bytes) images key units L P starts rest = λ J stands c image.
-    let here : Stands c J = rw (rest c image) stands in record {
+    let here : StandsFor c J = rw (rest c image) stands in record {
       records = J;
       stands = here;
       recorded = starts c image J here;
@@ -69,7 +69,7 @@ upholds-same (Some bytes) images key units L P starts rest = λ J stands c image
 -- what a refused boot left, over images that stand for the list or for that one with the Boot
 pub upholds-refused : (held held' : Option (List ℕ)) (images images' : List ℕ → Type 0) (key : List ℕ) (units : List NoteKind) (L : Option (List Motion)) (P : Places)
     → Starts held images key units L → AtRest held images → ((bytes : List ℕ) → held ≡ Some bytes → images bytes)
-    → IfTold held (λ _. (J : List Rec) → ((c : List ℕ) → images c → Stands c J) → (c : List ℕ) → images' c → StandsForEither J (Boot P) c)
+    → IfTold held (λ _. (J : List Rec) → ((c : List ℕ) → images c → StandsFor c J) → (c : List ℕ) → images' c → StandsForEither J (Boot P) c)
     → UpholdsAll held held' images' key units L P L P
 upholds-refused None held' images images' key units L P starts rest read left = tt
 upholds-refused (Some bytes) None images images' key units L P starts rest read left = λ J stands. tt
@@ -94,10 +94,10 @@ follows-run first last J0 J booted clean continues possible =
 
 -- the headline of a run whose boot was not refused
 pub upholds-run : (first last : View) (J0 : List Rec) (held held' : Option (List ℕ)) (images images' : List ℕ → Type 0) (told : Option (List Motion)) (places : Places)
-    → first.records ≡ J0 ++ Boot first.places ∷ [] → first.in_doubt ≡ None → IfTold held (λ bytes. Stands bytes J0)
+    → first.records ≡ J0 ++ Boot first.places ∷ [] → first.in_doubt ≡ None → IfTold held (λ bytes. StandsFor bytes J0)
     → Starts held images first.key first.units first.motions → ((bytes : List ℕ) → held ≡ Some bytes → images bytes)
     → Continues first last → IfTold held' (λ _. (c : List ℕ) → images' c → HasPossible last.records last.in_doubt c)
-    → (is_some held' ≡ true → (c : List ℕ) → images' c → (J : List Rec) → Stands c J → IsRecorded last.key last.units J last.motions)
+    → (is_some held' ≡ true → (c : List ℕ) → images' c → (J : List Rec) → StandsFor c J → IsRecorded last.key last.units J last.motions)
     → told ≡ last.motions → places ≡ last.places
     → UpholdsAll held held' images' first.key first.units first.motions first.places told places
 upholds-run first last J0 None held' images images' told places booted clean stood starts read c stored recorded told_is places_is = tt
@@ -114,17 +114,17 @@ upholds-run first last J0 (Some bytes) (Some now) images images' told places boo
     })
 
 -- a Boot that was written passed no limit
-pub fits-run : (limits : Limits) (P : Places) (first : View) (J0 : List Rec) (held : Option (List ℕ)) (X : Type 0) → first.records ≡ J0 ++ Boot P ∷ [] → IfTold held (λ bytes. Stands bytes J0)
-    → passes limits first.records ≡ false → IfTold held (λ bytes. (J : List Rec) → Stands bytes J → BootPasses limits P J → X)
+pub fits-run : (limits : Limits) (P : Places) (first : View) (J0 : List Rec) (held : Option (List ℕ)) (X : Type 0) → first.records ≡ J0 ++ Boot P ∷ [] → IfTold held (λ bytes. StandsFor bytes J0)
+    → exceeds limits first.records ≡ false → IfTold held (λ bytes. (J : List Rec) → StandsFor bytes J → BootExceeds limits P J → X)
 fits-run limits P first J0 None X booted stood fits = tt
 fits-run limits P first J0 (Some bytes) X booted stood fits = λ J stands over.
     let same : J ≡ J0 = stands_for_one bytes J J0 stands stood in
-    let is : passes limits (J0 ++ Boot P ∷ []) ≡ true = rw same at over in
-    let no : passes limits (J0 ++ Boot P ∷ []) ≡ false = rw booted at fits in
+    let is : exceeds limits (J0 ++ Boot P ∷ []) ≡ true = rw same at over in
+    let no : exceeds limits (J0 ++ Boot P ∷ []) ≡ false = rw booted at fits in
     absurd (let e : true ≡ false = sym is ∙ no in cc)
 
 -- where a list stands for the bytes, they are a journal
-pub journal-run : (J0 : List Rec) (held : Option (List ℕ)) (X : Type 0) → IfTold held (λ bytes. Stands bytes J0) → IfTold held (λ bytes. IsNoJournal bytes → X)
+pub journal-run : (J0 : List Rec) (held : Option (List ℕ)) (X : Type 0) → IfTold held (λ bytes. StandsFor bytes J0) → IfTold held (λ bytes. IsNoJournal bytes → X)
 journal-run J0 None X stood = tt
 journal-run J0 (Some bytes) X stood = λ none. absurd (none J0 stood)
 
@@ -139,7 +139,7 @@ ends-unread Memory held before after status is written ceases seven = absurd (om
 -- the status of a refused boot whose record passes a limit
 pub due-full : (why : BootFault) (held : Option (List ℕ)) (limits : Limits) (P : Places) (status : ℕ) → status ≡ boot_status why
     → ((at : ℕ) → why ≡ NotJournal at → IfTold held (λ bytes. CeasesAt bytes at × IsNoJournal bytes))
-    → IfTold held (λ bytes. (J : List Rec) → Stands bytes J → BootPasses limits P J → IsDue 12 status)
+    → IfTold held (λ bytes. (J : List Rec) → StandsFor bytes J → BootExceeds limits P J → IsDue 12 status)
 due-full why None limits P status is ceases = tt
 due-full (NotJournal at) (Some bytes) limits P status is ceases = λ J stands over. absurd ((ceases at refl).1 J stands)
 due-full Disk (Some bytes) limits P status is ceases = λ J stands over. inr (inl is)

@@ -32,7 +32,7 @@ use Rattle.xfs_guard.specs.declared.deny.Deny.TheVariants.{Disk, Memory}
 use Rattle.xfs_guard.specs.declared.nonce.Nonce.{Nonce}
 use Rattle.xfs_guard.specs.declared.open.Open.TheVariants.{No}
 use Rattle.xfs_guard.proofs.LedgerLaws.{live-issued}
-use Rattle.xfs_journal.specs.JournalView.{IsPossible, passes}
+use Rattle.xfs_journal.specs.JournalView.{IsPossible, exceeds}
 use Rattle.xfs_guard.specs.declared.fail.BootFault.{BootFault}
 use Rattle.xfs_guard.specs.declared.fail.BootFault.TheVariants.{NotJournal, Disk as BootDisk, Full as BootFull, Memory as BootMemory}
 use Rattle.xfs_script.specs.Guard.{IsGuardLine}
@@ -44,7 +44,7 @@ use Rattle.xfs_cli.specs.declared.session.AnswerFault.TheVariants.{Unbooted}
 use Rattle.xfs_cli.specs.Refused.{refusal_text}
 use Rattle.xfs_cli.specs.Seen.{Seen, IsLater, IsStill, seen, shut_at}
 use Rattle.xfs_cli.specs.LineAnswers.{WritesOne, WritesNone}
-use Rattle.xfs_cli.specs.OrderAnswers.{Carries, IsStopped, Stacks, refusal_of, order_of, with_stacked}
+use Rattle.xfs_cli.specs.OrderAnswers.{CarriesOut, IsStopped, Stacks, refusal_of, order_of, with_stacked}
 use Rattle.xfs_cli.specs.VerbAnswers.{Issues, Clears, next_record}
 use Rattle.xfs_cli.specs.declared.refused.Refusal.{Refusal}
 use Rattle.xfs_cli.specs.declared.refused.Refusal.TheVariants.{Counts as CountsFault, Deny as Denied}
@@ -189,7 +189,7 @@ stopped-order faults old new last ask deny answers disk later cause same some = 
 
 -- an order that ends in a refusal is carried out with that as its result
 pub carried-err : (s : Seen) (ask : Ask) (result : Result Outcome Deny) (deny : Deny) (next : Seen) → IsErrAnd result (λ e. e ≡ deny) → result ≢ Err Memory
-    → (deny ≢ Memory → IsStopped s ask deny next) → Carries s ask result next
+    → (deny ≢ Memory → IsStopped s ask deny next) → CarriesOut s ask result next
 carried-err s ask (Ok o) deny next err some stopped = absurd err
 carried-err s ask (Err e) deny next err some stopped = rw err (stopped (λ is. some (ap (λ d. Err d) (err ∙ is))))
 
@@ -212,18 +212,18 @@ stacks-zero issue (suc n) counts u all s result next e h = absurd (omega (arith,
 
 -- the order of a unit, and what follows it
 pub stacks-unit : (issue count : ℕ) (counts : List ℕ) (u : ℕ) (all one : Outcome) (s middle : Seen) (result : Result Outcome Deny) (next : Seen)
-    → count ≢ 0 → Carries s (Stack issue (u + 1) count) (Ok one) middle → one.failed ≡ false → Stacks issue counts (u + 1) (with_stacked all u one) middle result next
+    → count ≢ 0 → CarriesOut s (Stack issue (u + 1) count) (Ok one) middle → one.failed ≡ false → Stacks issue counts (u + 1) (with_stacked all u one) middle result next
     → Stacks issue (count ∷ counts) u all s result next
 stacks-unit issue zero counts u all one s middle result next some carried fine h = absurd (some refl)
 stacks-unit issue (suc n) counts u all one s middle result next some carried fine h = record { one = Ok one; middle = middle; carried = carried; onward = inr (fine, h) }
 
 pub stacks-failed : (issue count : ℕ) (counts : List ℕ) (u : ℕ) (all one : Outcome) (s middle : Seen)
-    → count ≢ 0 → Carries s (Stack issue (u + 1) count) (Ok one) middle → one.failed ≡ true → Stacks issue (count ∷ counts) u all s (Ok (with_stacked all u one)) middle
+    → count ≢ 0 → CarriesOut s (Stack issue (u + 1) count) (Ok one) middle → one.failed ≡ true → Stacks issue (count ∷ counts) u all s (Ok (with_stacked all u one)) middle
 stacks-failed issue zero counts u all one s middle some carried failed = absurd (some refl)
 stacks-failed issue (suc n) counts u all one s middle some carried failed = record { one = Ok one; middle = middle; carried = carried; onward = inl (failed, refl, refl) }
 
 pub stacks-err : (issue count : ℕ) (counts : List ℕ) (u : ℕ) (all : Outcome) (deny : Deny) (s middle : Seen)
-    → count ≢ 0 → Carries s (Stack issue (u + 1) count) (Err deny) middle → Stacks issue (count ∷ counts) u all s (Err deny) middle
+    → count ≢ 0 → CarriesOut s (Stack issue (u + 1) count) (Err deny) middle → Stacks issue (count ∷ counts) u all s (Err deny) middle
 stacks-err issue zero counts u all deny s middle some carried = absurd (some refl)
 stacks-err issue (suc n) counts u all deny s middle some carried = record { one = Err deny; middle = middle; carried = carried; onward = (refl, refl) }
 
@@ -240,20 +240,20 @@ stacks-first : (issue : ℕ) (counts : List ℕ) (u : ℕ) (all : Outcome) (s : 
 stacks-first issue counts u all s result next some h = subst (λ cs. Stacks issue cs u all s result next) (sym (drop_more counts u 0 (some-within counts u some))) h
 
 pub stacks-next : (issue : ℕ) (counts : List ℕ) (u at : ℕ) (all one : Outcome) (s middle : Seen) (result : Result Outcome Deny) (next : Seen)
-    → at ≡ u → slice_index counts at ≢ 0 → Carries s (Stack issue (u + 1) (slice_index counts at)) (Ok one) middle → one.failed ≡ false
+    → at ≡ u → slice_index counts at ≢ 0 → CarriesOut s (Stack issue (u + 1) (slice_index counts at)) (Ok one) middle → one.failed ≡ false
     → Stacks issue (drop (u + 1) counts) (u + 1) (with_stacked all at one) middle result next → Stacks issue (drop u counts) u all s result next
 stacks-next issue counts u at all one s middle result next is =
-    subst (λ i. slice_index counts i ≢ 0 → Carries s (Stack issue (u + 1) (slice_index counts i)) (Ok one) middle → one.failed ≡ false
+    subst (λ i. slice_index counts i ≢ 0 → CarriesOut s (Stack issue (u + 1) (slice_index counts i)) (Ok one) middle → one.failed ≡ false
     → Stacks issue (drop (u + 1) counts) (u + 1) (with_stacked all i one) middle result next → Stacks issue (drop u counts) u all s result next) (sym is)
     (λ some carried fine h. stacks-first issue counts u all s result next some (stacks-unit issue (slice_index counts u) (drop (u + 1) counts) u all one s middle result next some carried fine h))
 
 pub stacks-stop : (issue : ℕ) (counts : List ℕ) (u at : ℕ) (all : Outcome) (s middle : Seen) (result result' : Result Outcome Deny) (deny : Deny)
     → at ≡ u → slice_index counts at ≢ 0 → result ≡ Err deny → IsErrAnd result' (λ e. e ≡ deny) → result' ≢ Err Memory
-    → (result ≢ Err Memory → Carries s (Stack issue (u + 1) (slice_index counts at)) result middle) → Stacks issue (drop u counts) u all s result' middle
+    → (result ≢ Err Memory → CarriesOut s (Stack issue (u + 1) (slice_index counts at)) result middle) → Stacks issue (drop u counts) u all s result' middle
 stacks-stop issue counts u at all s middle result (Ok o) deny is some failed err other carried = absurd err
 stacks-stop issue counts u at all s middle result (Err e) deny is some failed err other carried =
     let told : result ≡ Err e = failed ∙ ap (λ d. Err d) (sym err) in
-    let here : Carries s (Stack issue (u + 1) (slice_index counts at)) (Err e) middle = subst (λ r. Carries s (Stack issue (u + 1) (slice_index counts at)) r middle) told (carried (λ m. other (sym told ∙ m))) in
+    let here : CarriesOut s (Stack issue (u + 1) (slice_index counts at)) (Err e) middle = subst (λ r. CarriesOut s (Stack issue (u + 1) (slice_index counts at)) r middle) told (carried (λ m. other (sym told ∙ m))) in
     stacks-first issue counts u all s (Err e) middle (rw (← is) some) (stacks-err issue (slice_index counts u) (drop (u + 1) counts) u all e s middle (rw (← is) some) (rw is at here))
 
 pub stacks-skip : (issue : ℕ) (counts : List ℕ) (u : ℕ) (all : Outcome) (s : Seen) (result : Result Outcome Deny) (next : Seen) → slice_index counts u ≡ 0
@@ -303,7 +303,7 @@ IsFault why fault = ◌≡◌ {A = Result (Unit {0}) BootFault} (Err why) (Err f
 
 -- a restart found no room for its Boot
 abbrev FindsFull : View → View → Type 0
-FindsFull old new = (J : List Rec) × IsPossible old.records old.in_doubt J × (passes old.limits (J ++ Boot old.places ∷ []) ≡ true)
+FindsFull old new = (J : List Rec) × IsPossible old.records old.in_doubt J × (exceeds old.limits (J ++ Boot old.places ∷ []) ≡ true)
     × (new ≡ reread old J)
 
 -- a call that changes nothing of the mechanism
@@ -342,8 +342,8 @@ restart-fails faults old new last (Err e) why err still untold cause full later 
     by-fault BootDisk untold cause full memory = cause refl
     by-fault BootFull untold cause full memory =
         let f = full refl in
-        let none : IsFull new.state = rw f.3 (record { clear = refl; passes_limit = f.2 }) in
-        (record { records = f.0; possible = f.1; passes_limit = f.2 }, none)
+        let none : IsFull new.state = rw f.3 (record { clear = refl; exceeds_limit = f.2 }) in
+        (record { records = f.0; possible = f.1; exceeds_limit = f.2 }, none)
     by-fault BootMemory untold cause full memory = record { guard_is = memory refl; later = later; last_is = refl }
 
 -- the line of a restart, with the fault that is told

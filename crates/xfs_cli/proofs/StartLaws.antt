@@ -7,7 +7,7 @@ use Rattle.xfs_disk.specs.Disk.{Only}
 use Rattle.xfs_disk.specs.MemDisk.{IsImage as MayBe, bytes_of, steps_of}
 use Rattle.xfs_disk.specs.declared.memory.MemDisk.{MemDisk}
 use Rattle.xfs_mech.specs.declared.motion.Motion.{Motion}
-use Rattle.xfs_journal.specs.Image.{IsImage, Stands, blocks, magic}
+use Rattle.xfs_journal.specs.Image.{IsImage, StandsFor, blocks, magic}
 use Rattle.xfs_journal.specs.declared.record.Rec.{Rec}
 use Rattle.xfs_journal.specs.declared.record.Rec.TheVariants.{Order}
 use Rattle.xfs_journal.proofs.JournalLaws.{record_at-within}
@@ -50,6 +50,6 @@ recorded-empty key units L fresh = record { numbered = tt; agrees = agrees L fre
     within (Some l) fresh = rw fresh tt
 
 pub starts-memory : (m : MemDisk) (key : List ℕ) (units : List NoteKind) (L : Option (List Motion)) → steps_of m ≡ [] → HasNoImage (bytes_of m) → IfTold L (λ l. l ≡ [])
-    → (c : List ℕ) → MayBe m c → (J : List Rec) → Stands c J → IsRecorded key units J L
+    → (c : List ℕ) → MayBe m c → (J : List Rec) → StandsFor c J → IsRecorded key units J L
 starts-memory m key units L settled none fresh c is J (inl image) = absurd (none J (rw (at_rest-memory m settled c is) at image))
 starts-memory m key units L settled none fresh c is J (inr empty) = rw empty.0 (recorded-empty key units L fresh)

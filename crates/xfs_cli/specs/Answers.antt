@@ -2,7 +2,7 @@
 use Rattle.std.specs.Prelude.{◌≡◌, ℕ, zero, suc, ◌+◌, ◌==◌, ◌⊎◌, false, List, [], ◌∷◌, ◌++◌, take, codes, decimal, if◌then◌else◌, None, Some, ⊤}
 use Rattle.std.specs.declared.option.Option.{Option}
 use Rattle.std.specs.Io.KnownBytes.{Appends}
-use Rattle.xfs_base.specs.Causes.{IfTold, TookFront}
+use Rattle.xfs_base.specs.Causes.{IfTold, TookPrefix}
 use Rattle.xfs_script.specs.Lines.{has_line_feed, first_line}
 use Rattle.xfs_script.specs.declared.line.LineFault.{LineFault}
 use Rattle.xfs_script.specs.declared.line.LineFault.TheVariants.{Read, Quota, TooLong, Memory}
@@ -27,12 +27,12 @@ first_lines zero text = []
 first_lines (suc n) text = first_lines n text ++ first_line (behind n text) ∷ []
 
 -- a line is answered, and what follows it behind that
-pub record AnswersThen {S : Type 0} (Answers : S → List ℕ → List (List ℕ) → S → Type 0) (Follows : S → List (List ℕ) → Type 0) (state : S) (line : List ℕ) (output : List (List ℕ)) : Type 0 where
+pub record AnswersThen {S : Type 0} (Answers : S → List ℕ → List (List ℕ) → S → Type 0) (Rest : S → List (List ℕ) → Type 0) (state : S) (line : List ℕ) (output : List (List ℕ)) : Type 0 where
   pub answer : List (List ℕ)
   pub next : S
   pub later : List (List ℕ)
   pub answered : Answers state line answer next
-  pub follows : Follows next later
+  pub follows : Rest next later
   pub joined : output ≡ answer ++ later
 
 -- each line is answered in its turn, from the state that the line before it left; Answers relates a state, a line, the lines of its answer and the next state
@@ -68,7 +68,7 @@ usage_line = codes "usage: xfs guard | token"
 
 -- the sink took a front of that
 abbrev pub WritesUsage : Option (List ℕ) → Option (List ℕ) → Type 0
-WritesUsage before after = TookFront before after (lines_text (usage_line ∷ []))
+WritesUsage before after = TookPrefix before after (lines_text (usage_line ∷ []))
 
 -- the line that tells of one that is none
 abbrev pub no_line_text : ℕ → List ℕ
@@ -113,7 +113,7 @@ pub record WritesFront {S : Type 0} (Answers : S → List ℕ → List (List ℕ
   pub many : ℕ
   pub output : List (List ℕ)
   pub answers : AnswersFirst Answers Ends start many text output
-  pub written : TookFront before after (lines_text output)
+  pub written : TookPrefix before after (lines_text output)
 
 -- one line is answered, and the sink took the answer
 pub record SaysAnswer {S : Type 0} (Answers : S → List ℕ → List (List ℕ) → S → Type 0) (state : S) (line : List ℕ) (next : S) (before after : Option (List ℕ)) : Type 0 where
@@ -125,4 +125,4 @@ pub record SaysAnswer {S : Type 0} (Answers : S → List ℕ → List (List ℕ)
 pub record SaysFront {S : Type 0} (Answers : S → List ℕ → List (List ℕ) → S → Type 0) (state : S) (line : List ℕ) (next : S) (before after : Option (List ℕ)) : Type 0 where
   pub output : List (List ℕ)
   pub answered : Answers state line output next
-  pub written : TookFront before after (lines_text output)
+  pub written : TookPrefix before after (lines_text output)

@@ -1,11 +1,11 @@
 -- How a command ends whose boot is refused: status 6, 7, 8 or 12, and its last line.
 use Rattle.std.specs.Prelude.{◌≡◌, ◌⊎◌, ℕ, true, List, [], ◌∷◌, ◌++◌}
 use Rattle.std.specs.declared.option.Option.{Option}
-use Rattle.xfs_base.specs.Causes.{Rose, IfTold, TookFront}
+use Rattle.xfs_base.specs.Causes.{Rose, IfTold, TookPrefix}
 use Rattle.xfs_base.specs.declared.counts.Places.{Places}
 use Rattle.xfs_disk.specs.Disk.{AddsNone}
-use Rattle.xfs_journal.specs.Image.{Stands}
-use Rattle.xfs_journal.specs.JournalView.{passes}
+use Rattle.xfs_journal.specs.Image.{StandsFor}
+use Rattle.xfs_journal.specs.JournalView.{exceeds}
 use Rattle.xfs_journal.specs.Paging.{CeasesAt}
 use Rattle.xfs_journal.specs.declared.limits.Limits.{Limits}
 use Rattle.xfs_journal.specs.declared.record.Rec.{Rec}
@@ -18,11 +18,11 @@ use Rattle.xfs_cli.specs.declared.status.TheConstants.{DISK_FAULT, NO_MEMORY}
 
 -- the sink took a front of the last line
 abbrev pub WritesBoot : BootFault → Option (List ℕ) → Option (List ℕ) → Type 0
-WritesBoot fault before after = TookFront before after (lines_text (boot_line fault))
+WritesBoot fault before after = TookPrefix before after (lines_text (boot_line fault))
 
 -- no list of records stands for the bytes
 abbrev pub IsNoJournal : List ℕ → Type 0
-IsNoJournal bytes = (J : List Rec) → ¬ Stands bytes J
+IsNoJournal bytes = (records : List Rec) → ¬ StandsFor bytes records
 
 -- the disk's bytes are no journal from a place on, which the last line tells
 pub record EndsUnread (held before after : Option (List ℕ)) : Type 0 where
@@ -36,14 +36,14 @@ pub record EndsFailed (faults now : ℕ) (before after : Option (List ℕ)) : Ty
   pub written : WritesBoot Disk before after
 
 -- the Boot of these places passes a limit behind these records
-abbrev pub BootPasses : Limits → Places → List Rec → Type 0
-BootPasses limits places records = passes limits (records ++ Boot places ∷ []) ≡ true
+abbrev pub BootExceeds : Limits → Places → List Rec → Type 0
+BootExceeds limits places records = exceeds limits (records ++ Boot places ∷ []) ≡ true
 
 -- the Boot passes a limit behind the records that the disk has, and the last line says so
 pub record EndsFull (limits : Limits) (places : Places) (held before after : Option (List ℕ)) : Type 0 where
   pub records : List Rec
-  pub stands : IfTold held (λ bytes. Stands bytes records)
-  pub passes_limit : BootPasses limits places records
+  pub stands : IfTold held (λ bytes. StandsFor bytes records)
+  pub exceeds_limit : BootExceeds limits places records
   pub written : WritesBoot Full before after
 
 -- the status is the one that is due, unless the disk failed or memory ran out before it was found

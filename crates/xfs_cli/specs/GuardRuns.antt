@@ -6,7 +6,7 @@ use Rattle.xfs_base.specs.declared.counts.Places.{Places}
 use Rattle.xfs_base.specs.declared.money.NoteKind.{NoteKind}
 use Rattle.xfs_mech.specs.declared.motion.Motion.{Motion}
 use Rattle.xfs_journal.specs.JournalView.{HasPossible}
-use Rattle.xfs_journal.specs.Image.{Stands}
+use Rattle.xfs_journal.specs.Image.{StandsFor}
 use Rattle.xfs_journal.specs.declared.limits.Limits.{Limits}
 use Rattle.xfs_journal.specs.declared.record.Rec.{Rec}
 use Rattle.xfs_journal.specs.declared.record.Rec.TheVariants.{Boot}
@@ -16,7 +16,7 @@ use Rattle.xfs_guard.specs.declared.machine_core.Core.{Core}
 use Rattle.xfs_guard.specs.declared.fail.BootFault.{BootFault}
 use Rattle.xfs_guard.specs.declared.open.Open.TheVariants.{No}
 use Rattle.xfs_cli.specs.Begun.{IsBegun}
-use Rattle.xfs_cli.specs.Boots.{BootPasses, WritesBoot, boot_status}
+use Rattle.xfs_cli.specs.Boots.{BootExceeds, WritesBoot, boot_status}
 use Rattle.xfs_cli.specs.RestartAnswers.{HasNoRoom}
 use Rattle.xfs_cli.specs.Seen.{Seen, IsLater, IsStill}
 use Rattle.xfs_cli.specs.Statuses.{IsOneOf}
@@ -70,7 +70,7 @@ opened e records = record {
 -- the session that the boot begins: the list that the disk had, with a Boot of the mechanism's places behind it; no token was minted
 pub record IsStart (e : AtEntry) (start : Seen) : Type 0 where
   pub records : List Rec
-  pub stands : IfTold e.held (λ bytes. Stands bytes records)
+  pub stands : IfTold e.held (λ bytes. StandsFor bytes records)
   pub guard_is : start.guard ≡ opened e (records ++ Boot e.places ∷ [])
   pub later : e.disk_faults ≤ start.disk_faults
   pub none : start.last ≡ None
@@ -114,8 +114,8 @@ pub record IsStop (Ends : Seen → Type 0) (status : ℕ) (line : List ℕ) (las
 -- the disk reads as a list behind which a Boot of these places passes a limit
 pub record IsFullAtEnd (limits : Limits) (places : Places) (held : Option (List ℕ)) : Type 0 where
   pub records : List Rec
-  pub stands : IfTold held (λ bytes. Stands bytes records)
-  pub passes_limit : BootPasses limits places records
+  pub stands : IfTold held (λ bytes. StandsFor bytes records)
+  pub exceeds_limit : BootExceeds limits places records
 
 -- the boot was refused: nothing was read of the input, and the sink took a front of the last line
 pub record IsUnbooted (status : ℕ) (left left' before after : Option (List ℕ)) : Type 0 where

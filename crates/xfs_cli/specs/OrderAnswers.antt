@@ -73,9 +73,9 @@ IsStopped s ask deny next =
     ⊎ ((refusal_of s.guard ask ≡ None) × (deny ≡ Disk) × (Fails s (shut_at (order_of s.guard ask) s.guard) next ⊎ IsUnsettled s ask next))
 
 -- an order is carried out with this result
-abbrev pub Carries : Seen → Ask → Result Outcome Deny → Seen → Type 0
-Carries s ask (Ok outcome) next = (refusal_of s.guard ask ≡ None) × IsSettled s ask outcome next
-Carries s ask (Err deny) next = IsStopped s ask deny next
+abbrev pub CarriesOut : Seen → Ask → Result Outcome Deny → Seen → Type 0
+CarriesOut s ask (Ok outcome) next = (refusal_of s.guard ask ≡ None) × IsSettled s ask outcome next
+CarriesOut s ask (Err deny) next = IsStopped s ask deny next
 
 -- the answer to it, by this verb
 abbrev pub Tells : List ℕ → Result Outcome Deny → List ℕ → Type 0
@@ -85,7 +85,7 @@ Tells verb (Err deny) line = refusal_text (Denied deny) ≡ Some line
 -- the line of an order of all the notes of a place
 pub record Moves (s : Seen) (ask : Ask) (line : List ℕ) (next : Seen) : Type 0 where
   pub result : Result Outcome Deny
-  pub carried : Carries s ask result next
+  pub carried : CarriesOut s ask result next
   pub told : Tells (codes "moved") result line
 
 -- nothing is stacked yet
@@ -112,7 +112,7 @@ FollowsUnit Onward all u (Ok one) s result next = GoesOn Onward (with_stacked al
 pub record StacksUnit (Onward : Outcome → Seen → Result Outcome Deny → Seen → Type 0) (s : Seen) (ask : Ask) (all : Outcome) (u : ℕ) (result : Result Outcome Deny) (next : Seen) : Type 0 where
   pub one : Result Outcome Deny
   pub middle : Seen
-  pub carried : Carries s ask one middle
+  pub carried : CarriesOut s ask one middle
   pub onward : FollowsUnit Onward all u one middle result next
 
 -- these counts are stacked from the unit u on, which counts from 0, unit by unit, behind all that was stacked before

@@ -1,20 +1,20 @@
 -- The line `restart`: the journal is read again and gets a Boot; or the run ends as a refused boot does.
 use Rattle.std.specs.Prelude.{◌≡◌, ℕ, false, List, [], ◌∷◌, ◌++◌, codes, None}
 use Rattle.xfs_base.specs.Causes.{Rose}
-use Rattle.xfs_journal.specs.JournalView.{IsPossible, passes}
+use Rattle.xfs_journal.specs.JournalView.{IsPossible, exceeds}
 use Rattle.xfs_journal.specs.declared.record.Rec.{Rec}
 use Rattle.xfs_journal.specs.declared.record.Rec.TheVariants.{Boot}
 use Rattle.xfs_guard.specs.View.{View, restarted}
 use Rattle.xfs_guard.specs.declared.fail.BootFault.{BootFault}
 use Rattle.xfs_guard.specs.declared.fail.BootFault.TheVariants.{NotJournal, Disk, Full, Memory}
-use Rattle.xfs_cli.specs.Boots.{BootPasses}
+use Rattle.xfs_cli.specs.Boots.{BootExceeds}
 use Rattle.xfs_cli.specs.Seen.{Seen, Becomes, IsStill}
 
 -- the journal is read as the kept list, or as that one with the record in doubt, and its Boot passes no limit; the token that was minted last stays
 pub record Restarts (s : Seen) (line : List ℕ) (next : Seen) : Type 0 where
   pub records : List Rec
   pub possible : IsPossible s.guard.records s.guard.in_doubt records
-  pub fits : passes s.guard.limits (records ++ Boot s.guard.places ∷ []) ≡ false
+  pub fits : exceeds s.guard.limits (records ++ Boot s.guard.places ∷ []) ≡ false
   pub text : line ≡ codes "restarted"
   pub becomes : Becomes s (restarted s.guard records) next
 
@@ -22,12 +22,12 @@ pub record Restarts (s : Seen) (line : List ℕ) (next : Seen) : Type 0 where
 pub record HasNoRoom (v : View) : Type 0 where
   pub records : List Rec
   pub possible : IsPossible v.records v.in_doubt records
-  pub passes_limit : BootPasses v.limits v.places records
+  pub exceeds_limit : BootExceeds v.limits v.places records
 
 -- no record is in doubt, and the Boot passes a limit behind the list
 pub record IsFull (v : View) : Type 0 where
   pub clear : v.in_doubt ≡ None
-  pub passes_limit : BootPasses v.limits v.places v.records
+  pub exceeds_limit : BootExceeds v.limits v.places v.records
 
 -- why a restart ends the run: the disk's bytes are no journal, which is never so where it tells them; the disk fails; its Boot has no room, and none behind the list that was read; or memory runs out, and the guard is as it was
 abbrev pub RestartCause : Seen → BootFault → Seen → Type 0

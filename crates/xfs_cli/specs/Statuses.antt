@@ -3,7 +3,7 @@ use Rattle.std.specs.Prelude.{◌≡◌, ◌⊎◌, ℕ, ◌<◌, List, [], ◌�
 use Rattle.xfs_base.specs.declared.counts.Places.{Places}
 use Rattle.xfs_journal.specs.declared.limits.Limits.{Limits}
 use Rattle.xfs_journal.specs.declared.record.Rec.{Rec}
-use Rattle.xfs_cli.specs.Boots.{BootPasses}
+use Rattle.xfs_cli.specs.Boots.{BootExceeds}
 use Rattle.xfs_script.specs.Lines.{first_line}
 use Rattle.xfs_cli.specs.GuardLines.{IsLine, behind}
 use Rattle.xfs_cli.specs.Run.{AllLines}
@@ -37,7 +37,7 @@ pub record HasFullRestart (IsStartOf Ends : Seen → Type 0) (text : List ℕ) :
 pub record IsUnhindered (IsStartOf Ends : Seen → Type 0) (text : List ℕ) (limits : Limits) (places : Places) (records : List Rec) : Type 0 where
   pub lines : AllLines IsLine text
   pub short : length text < 67108864
-  pub boots : ¬ (BootPasses limits places records)
+  pub boots : ¬ (BootExceeds limits places records)
   pub restarts : ¬ (HasFullRestart IsStartOf Ends text)
 
 -- the input was read to its end, or memory ran out

@@ -5,18 +5,18 @@ use Rattle.xfs_base.specs.Causes.{IfTold}
 use Rattle.xfs_base.specs.declared.money.NoteKind.{NoteKind}
 use Rattle.xfs_base.specs.declared.counts.Places.{Places}
 use Rattle.xfs_mech.specs.declared.motion.Motion.{Motion}
-use Rattle.xfs_journal.specs.Image.{Stands}
+use Rattle.xfs_journal.specs.Image.{StandsFor}
 use Rattle.xfs_journal.specs.declared.record.Rec.{Rec}
 use Rattle.xfs_guard.specs.Follows.{Follows}
 use Rattle.xfs_guard.specs.Recorded.{IsRecorded}
 
 -- the records, the mechanism's list and the places follow those at entry, where the mechanism tells its list
 abbrev pub FollowsWhereTold : List Rec → Option (List Motion) → Places → List Rec → Option (List Motion) → Places → Type 0
-FollowsWhereTold J L P J' L' P' = IfTold L (λ before. IfTold L' (λ now. Follows J before P J' now P'))
+FollowsWhereTold records motions places records' motions' places' = IfTold motions (λ before. IfTold motions' (λ now. Follows records before places records' now places'))
 
 -- these bytes stand for a list of records that is numbered, agrees with the mechanism's list, and puts out no more than its tokens cover; and it follows the list at entry
-pub record Upholds (key : List ℕ) (units : List NoteKind) (J : List Rec) (L : Option (List Motion)) (P : Places) (bytes : List ℕ) (L' : Option (List Motion)) (P' : Places) : Type 0 where
+pub record Upholds (key : List ℕ) (units : List NoteKind) (entry : List Rec) (motions : Option (List Motion)) (places : Places) (bytes : List ℕ) (motions' : Option (List Motion)) (places' : Places) : Type 0 where
   pub records : List Rec
-  pub stands : Stands bytes records
-  pub recorded : IsRecorded key units records L'
-  pub follows : FollowsWhereTold J L P records L' P'
+  pub stands : StandsFor bytes records
+  pub recorded : IsRecorded key units records motions'
+  pub follows : FollowsWhereTold entry motions places records motions' places'

@@ -5,7 +5,7 @@ ghost use Rattle.std.specs.Io.KnownBytes.{IsAtEnd};
 ghost use Rattle.xfs_base.specs.Causes.{Rose, IfTold};
 ghost use Rattle.xfs_disk.specs.Disk.{LeavesOnly, Only};
 ghost use Rattle.xfs_cli.specs.Moments.{WasOnTheWay};
-ghost use Rattle.xfs_journal.specs.Image.{Stands};
+ghost use Rattle.xfs_journal.specs.Image.{StandsFor};
 ghost use Rattle.xfs_journal.specs.declared.record.Rec.{Rec};
 ghost use Rattle.xfs_guard.specs.declared.open.Open.TheVariants.{No};
 ghost use Rattle.xfs_guard.specs.Keeps.{Proceeds};
@@ -19,7 +19,7 @@ ghost use Rattle.xfs_cli.specs.Seen.{IsStill, seen};
 ghost use Rattle.xfs_cli.specs.RestartAnswers.{IsFull};
 ghost use Rattle.xfs_cli.specs.VerbAnswers.{AnswersGuard};
 ghost use Rattle.xfs_cli.specs.Complete.{IsComplete};
-ghost use Rattle.xfs_cli.specs.Boots.{EndsFailed, EndsUnread, EndsFull, BootPasses, IsDue, IsNoJournal, IsUnwritten};
+ghost use Rattle.xfs_cli.specs.Boots.{EndsFailed, EndsUnread, EndsFull, BootExceeds, IsDue, IsNoJournal, IsUnwritten};
 ghost use Rattle.xfs_cli.specs.Upholds.{Upholds};
 ghost use Rattle.xfs_cli.specs.Statuses.{IsStatus, IsUnhindered, IsFinished};
 ghost use Rattle.xfs_mech.specs.Moves.{AddsUp, IsNewer};
@@ -49,10 +49,10 @@ pub fn guard<S: Source, K: Sink, M: Mechanism, D: Disk>(
     core: Core<M, D>,
 ) -> Ended<M, D>
     requires units { M.units core.mech ≡ core.units }
-    requires starts { IfTold (D.held core.disk) (λ _. (image : List ℕ) → D.images core.disk image → (records : List Rec) → Stands image records → IsRecorded core.key core.units records (M.motions core.mech)) }
+    requires starts { IfTold (D.held core.disk) (λ _. (image : List ℕ) → D.images core.disk image → (records : List Rec) → StandsFor image records → IsRecorded core.key core.units records (M.motions core.mech)) }
     requires at_rest { IfTold (D.held core.disk) (λ bytes. Only bytes (D.images core.disk)) }
 
-    ensures upholds { IfTold (D.held core.disk) (λ bytes. (records : List Rec) → Stands bytes records → IfTold (D.held result.disk) (λ _. (image : List ℕ) → D.images result.disk image
+    ensures upholds { IfTold (D.held core.disk) (λ bytes. (records : List Rec) → StandsFor bytes records → IfTold (D.held result.disk) (λ _. (image : List ℕ) → D.images result.disk image
         → Upholds core.key core.units records (M.motions core.mech) (M.places core.mech) image (M.motions result.mech) (M.places result.mech))) }
 
     ensures usage { (result.status ≡ USAGE) ↔ ¬ (IsGuard words.now) }
@@ -82,19 +82,19 @@ pub fn guard<S: Source, K: Sink, M: Mechanism, D: Disk>(
     ensures not_journal { result.status ≡ NOT_A_JOURNAL → EndsUnread (D.held core.disk) (K.held sink.old) (K.held sink.new) ⊎ FromBoot (at_entry M.motions M.places M.faults D.held D.faults core) (λ _. D.held core.disk ≡ None) }
     ensures full { result.status ≡ JOURNAL_FULL → EndsFull core.limits (M.places core.mech) (D.held core.disk) (K.held sink.old) (K.held sink.new) ⊎ FromBoot (at_entry M.motions M.places M.faults D.held D.faults core) (λ _. IsFullAtEnd core.limits (M.places result.mech) (D.held result.disk)) }
     ensures unread { IsGuard words.now → IfTold (D.held core.disk) (λ bytes. IsNoJournal bytes → IsDue NOT_A_JOURNAL result.status) }
-    ensures overfull { IsGuard words.now → IfTold (D.held core.disk) (λ bytes. (records : List Rec) → Stands bytes records → BootPasses core.limits (M.places core.mech) records → IsDue JOURNAL_FULL result.status) }
+    ensures overfull { IsGuard words.now → IfTold (D.held core.disk) (λ bytes. (records : List Rec) → StandsFor bytes records → BootExceeds core.limits (M.places core.mech) records → IsDue JOURNAL_FULL result.status) }
     ensures unwritten { IfTold (D.held core.disk) (λ bytes. IsNoJournal bytes → IsUnwritten (D.held core.disk) (D.held result.disk) (D.images core.disk) (D.images result.disk)) }
     ensures unmoved { IfTold (D.held core.disk) (λ bytes. IsNoJournal bytes → result.mech ≡ core.mech) }
 
-    ensures any_moment { IfTold (D.held core.disk) (λ bytes. (records : List Rec) → Stands bytes records → LeavesOnly D.moment D.images_since core.disk result.disk (WasOnTheWay records (D.held result.disk) (M.motions result.mech))) }
-    ensures newer { IfTold (D.held core.disk) (λ bytes. (records : List Rec) → Stands bytes records → IsNewer (length records) (M.motions core.mech) (M.motions result.mech)) }
+    ensures any_moment { IfTold (D.held core.disk) (λ bytes. (records : List Rec) → StandsFor bytes records → LeavesOnly D.moment D.images_since core.disk result.disk (WasOnTheWay records (D.held result.disk) (M.motions result.mech))) }
+    ensures newer { IfTold (D.held core.disk) (λ bytes. (records : List Rec) → StandsFor bytes records → IsNewer (length records) (M.motions core.mech) (M.motions result.mech)) }
     ensures adds { AddsUp (M.motions core.mech) (M.motions result.mech) (M.places core.mech) (M.places result.mech) }
     ensures units { M.units result.mech ≡ core.units }
     ensures told { is_some (M.motions result.mech) ≡ is_some (M.motions core.mech) }
     ensures told_disk { is_some (D.held result.disk) ≡ is_some (D.held core.disk) }
     ensures statuses { IsStatus result.status }
     ensures finishes { IsGuard words.now → ¬ (Rose (S.faults source.old) (S.faults source.new)) → ¬ (Rose (K.faults sink.old) (K.faults sink.new)) → ¬ (Rose (D.faults core.disk) (D.faults result.disk))
-        → IfTold (S.left source.old) (λ text. IfTold (D.held core.disk) (λ bytes. (records : List Rec) → Stands bytes records → IsUnhindered (IsStart (at_entry M.motions M.places M.faults D.held D.faults core)) (IsStill (M.motions result.mech) (M.places result.mech) (M.faults result.mech) (D.faults result.disk)) text core.limits (M.places core.mech) records → IsFinished result.status)) }
+        → IfTold (S.left source.old) (λ text. IfTold (D.held core.disk) (λ bytes. (records : List Rec) → StandsFor bytes records → IsUnhindered (IsStart (at_entry M.motions M.places M.faults D.held D.faults core)) (IsStill (M.motions result.mech) (M.places result.mech) (M.faults result.mech) (D.faults result.disk)) text core.limits (M.places core.mech) records → IsFinished result.status)) }
 {
     let Core {
         mech,

@@ -1,7 +1,7 @@
 //! The last line of the output, and the status that goes with it.
 
 ghost use Rattle.std.specs.Prelude.{◌≡◌, ◌∷◌, [], IfOk};
-ghost use Rattle.xfs_base.specs.Causes.{TookFront};
+ghost use Rattle.xfs_base.specs.Causes.{TookPrefix};
 ghost use Rattle.xfs_cli.specs.Run.{status_of};
 ghost use Rattle.xfs_guard.specs.declared.fail.BootFault.TheVariants.{NotJournal};
 ghost use Rattle.xfs_cli.specs.Boots.{boot_status, boot_line, WritesBoot};
@@ -19,7 +19,7 @@ use xfs_script::LineFault;
 /// The status of a fault of the input, once its line was written.
 pub fn faulty<K: Sink>(alloc: Global, sink: &mut K, fault: LineFault) -> u8
     ensures status { result ≡ status_of fault }
-    ensures written { TookFront (K.held sink.old) (K.held sink.new) (lines_text (fault_line fault)) }
+    ensures written { TookPrefix (K.held sink.old) (K.held sink.new) (lines_text (fault_line fault)) }
 {
     match fault {
         LineFault::Read => READ_FAULT,
@@ -36,7 +36,7 @@ pub fn faulty<K: Sink>(alloc: Global, sink: &mut K, fault: LineFault) -> u8
 /// leaves the status as it is.
 pub fn not_a_line<K: Sink>(alloc: Global, sink: &mut K, number: u64) -> u8
     ensures status { result ≡ NOT_A_LINE }
-    ensures written { TookFront (K.held sink.old) (K.held sink.new) (lines_text (no_line_text number ∷ [])) }
+    ensures written { TookPrefix (K.held sink.old) (K.held sink.new) (lines_text (no_line_text number ∷ [])) }
 {
     if let Ok(line) = no_line(alloc, number) {
         let _ = say_line(sink, line);

@@ -2,7 +2,7 @@
 
 ghost use Rattle.std.specs.Prelude.{◌≡◌, ◌≤◌, ◌++◌, ◌∷◌, [], Err, OnOk};
 ghost use Rattle.std.specs.Io.KnownBytes.{Appends};
-ghost use Rattle.xfs_base.specs.Causes.{Rose, TookFront};
+ghost use Rattle.xfs_base.specs.Causes.{Rose, TookPrefix};
 ghost use Rattle.xfs_cli.specs.Answers.{lines_text};
 
 use std::alloc::{AllocError, AllocFailed, Global};
@@ -45,7 +45,7 @@ pub fn say<K: Sink>(
     ensures later { K.faults sink.old ≤ K.faults sink.new }
     ensures cause { result ≡ Err SayFault.Write → Rose (K.faults sink.old) (K.faults sink.new) }
     ensures ok { OnOk result (Appends (K.held sink.old) (K.held sink.new) (lines_text ((first.now ++ second.now) ∷ []))) }
-    ensures front { TookFront (K.held sink.old) (K.held sink.new) (lines_text ((first.now ++ second.now) ∷ [])) }
+    ensures front { TookPrefix (K.held sink.old) (K.held sink.new) (lines_text ((first.now ++ second.now) ∷ [])) }
     ensures memory { result ≡ Err SayFault.Memory → sink.new ≡ sink.old }
 {
     let mut line = Vec::with_capacity(
@@ -62,7 +62,7 @@ pub fn say_line<K: Sink>(sink: &mut K, mut line: Vec<u8>) -> Result<(), SayFault
     ensures later { K.faults sink.old ≤ K.faults sink.new }
     ensures cause { result ≡ Err SayFault.Write → Rose (K.faults sink.old) (K.faults sink.new) }
     ensures ok { OnOk result (Appends (K.held sink.old) (K.held sink.new) (lines_text (line.items ∷ []))) }
-    ensures front { TookFront (K.held sink.old) (K.held sink.new) (lines_text (line.items ∷ [])) }
+    ensures front { TookPrefix (K.held sink.old) (K.held sink.new) (lines_text (line.items ∷ [])) }
     ensures memory { result ≡ Err SayFault.Memory → sink.new ≡ sink.old }
 {
     line.push(b'\n')?;

@@ -14,7 +14,7 @@ ghost use Rattle.xfs_cli.specs.Answers.{lines_in};
 ghost use Rattle.xfs_cli.specs.Begun.{AllOrNothing, IsPartDispensed, IsPartFilled, LeavesOfVerb, StacksFirst};
 ghost use Rattle.xfs_cli.specs.GuardAnswers.{show_text};
 ghost use Rattle.xfs_cli.specs.Seen.{seen};
-ghost use Rattle.xfs_cli.specs.OrderAnswers.{Carries, Moves, Stacks, nothing_stacked};
+ghost use Rattle.xfs_cli.specs.OrderAnswers.{CarriesOut, Moves, Stacks, nothing_stacked};
 ghost use Rattle.xfs_cli.specs.DispenseAnswers.{Dispenses, IsForbidden, IsPermitted, named};
 ghost use Rattle.xfs_cli.specs.VerbAnswers.{AreAnswer, Clears, Fills, IsLoaded, Issues, Mints, Takes};
 ghost use Rattle.xfs_cli.specs.RestartAnswers.{RestartFails, Restarts};
@@ -288,7 +288,7 @@ impl<M: Mechanism, D: Disk> Session<M, D> {
     fn carried(&mut self, ask: Ask) -> Result<Outcome, Deny>
         requires none { self.old.guard.state.open_order ≡ No }
         requires asked { IsAsk self.old.guard.state ask }
-        ensures carried { result ≢ Err NoMemory → Carries (seen D.faults self.old.guard self.old.last) ask result (seen D.faults self.new.guard self.new.last) }
+        ensures carried { result ≢ Err NoMemory → CarriesOut (seen D.faults self.old.guard self.old.last) ask result (seen D.faults self.new.guard self.new.last) }
         ensures refused { Answers result (option_or (unfit self.old.guard.state) (order_refusal self.old.guard.state ask)) }
         ensures same { IfErr result (λ e. e ≢ Deny.Disk → self.new.guard ≡ self.old.guard) }
         ensures proceeds { Proceeds D.Disk self.old.guard self.new.guard }

@@ -2,7 +2,7 @@
 
 ghost use Rattle.std.specs.Prelude.{◌≡◌, ◌≢◌, ◌↔◌, ◌<◌, ◌≤◌, [], length};
 ghost use Rattle.std.specs.Io.KnownBytes.{IsAtEnd, Appends};
-ghost use Rattle.xfs_base.specs.Causes.{Rose, IfTold, TookFront};
+ghost use Rattle.xfs_base.specs.Causes.{Rose, IfTold, TookPrefix};
 ghost use Rattle.xfs_cli.specs.Run.{IsToken, GaveAll};
 ghost use Rattle.xfs_cli.specs.Answers.{Unsaid, AnyStop, WritesAll, WritesUntil, WritesFront, SaysAnswer, SaysFront, WritesUsage};
 ghost use Rattle.xfs_guard.specs.declared.fail.BootFault.{BootFault};

@@ -5,14 +5,14 @@ ghost use Rattle.std.specs.Io.KnownBytes.{IsAtEnd};
 ghost use Rattle.xfs_base.specs.Causes.{Rose, IfTold};
 ghost use Rattle.xfs_disk.specs.Disk.{LeavesOnly, Only};
 ghost use Rattle.xfs_cli.specs.Moments.{WasOnTheWay};
-ghost use Rattle.xfs_journal.specs.Image.{Stands};
+ghost use Rattle.xfs_journal.specs.Image.{StandsFor};
 ghost use Rattle.xfs_journal.specs.declared.record.Rec.{Rec};
 ghost use Rattle.xfs_guard.specs.Recorded.{IsRecorded};
 ghost use Rattle.xfs_cli.specs.Run.{IsGuard, IsToken, IsCommand, AllLines, StopsAtLine, GaveAll};
 ghost use Rattle.xfs_cli.specs.Upholds.{Upholds};
 ghost use Rattle.xfs_cli.specs.Statuses.{IsStatus, IsUnhindered, IsFinished};
 ghost use Rattle.xfs_mech.specs.Moves.{AddsUp, IsNewer};
-ghost use Rattle.xfs_cli.specs.Boots.{EndsFailed, EndsUnread, EndsFull, BootPasses, IsDue, IsNoJournal, IsUnwritten};
+ghost use Rattle.xfs_cli.specs.Boots.{EndsFailed, EndsUnread, EndsFull, BootExceeds, IsDue, IsNoJournal, IsUnwritten};
 ghost use Rattle.xfs_cli.specs.Answers.{Unsaid, AnyStop, WritesAll, WritesUntil, WritesFront, WritesUsage};
 ghost use Rattle.xfs_cli.specs.GuardLines.{IsLine};
 ghost use Rattle.xfs_cli.specs.Seen.{IsStill};
@@ -47,16 +47,16 @@ pub fn run<S: Source, K: Sink, M: Mechanism, D: Disk>(
     core: Core<M, D>,
 ) -> Ended<M, D>
     requires units { M.units core.mech ≡ core.units }
-    requires starts { IfTold (D.held core.disk) (λ _. (image : List ℕ) → D.images core.disk image → (records : List Rec) → Stands image records → IsRecorded core.key core.units records (M.motions core.mech)) }
+    requires starts { IfTold (D.held core.disk) (λ _. (image : List ℕ) → D.images core.disk image → (records : List Rec) → StandsFor image records → IsRecorded core.key core.units records (M.motions core.mech)) }
     requires at_rest { IfTold (D.held core.disk) (λ bytes. Only bytes (D.images core.disk)) }
 
     // The headline: what was put out is within the tokens, whatever a crash leaves of the disk.
-    ensures upholds { IfTold (D.held core.disk) (λ bytes. (records : List Rec) → Stands bytes records → IfTold (D.held result.disk) (λ _. (image : List ℕ) → D.images result.disk image
+    ensures upholds { IfTold (D.held core.disk) (λ bytes. (records : List Rec) → StandsFor bytes records → IfTold (D.held result.disk) (λ _. (image : List ℕ) → D.images result.disk image
         → Upholds core.key core.units records (M.motions core.mech) (M.places core.mech) image (M.motions result.mech) (M.places result.mech))) }
 
     // A crash at any moment of the run leaves a list that begins with the records at entry, and is a front of those at
     // the end but for its last record, whose number then no motion has.
-    ensures any_moment { IfTold (D.held core.disk) (λ bytes. (records : List Rec) → Stands bytes records → LeavesOnly D.moment D.images_since core.disk result.disk (WasOnTheWay records (D.held result.disk) (M.motions result.mech))) }
+    ensures any_moment { IfTold (D.held core.disk) (λ bytes. (records : List Rec) → StandsFor bytes records → LeavesOnly D.moment D.images_since core.disk result.disk (WasOnTheWay records (D.held result.disk) (M.motions result.mech))) }
 
     // Each status has its cause.
     ensures usage { (result.status ≡ USAGE) ↔ ¬ (IsCommand words.now) }
@@ -73,7 +73,7 @@ pub fn run<S: Source, K: Sink, M: Mechanism, D: Disk>(
     ensures not_journal { result.status ≡ NOT_A_JOURNAL → EndsUnread (D.held core.disk) (K.held sink.old) (K.held sink.new) ⊎ FromBoot (at_entry M.motions M.places M.faults D.held D.faults core) (λ _. D.held core.disk ≡ None) }
     ensures full { result.status ≡ JOURNAL_FULL → EndsFull core.limits (M.places core.mech) (D.held core.disk) (K.held sink.old) (K.held sink.new) ⊎ FromBoot (at_entry M.motions M.places M.faults D.held D.faults core) (λ _. IsFullAtEnd core.limits (M.places result.mech) (D.held result.disk)) }
     ensures unread { IsGuard words.now → IfTold (D.held core.disk) (λ bytes. IsNoJournal bytes → IsDue NOT_A_JOURNAL result.status) }
-    ensures overfull { IsGuard words.now → IfTold (D.held core.disk) (λ bytes. (records : List Rec) → Stands bytes records → BootPasses core.limits (M.places core.mech) records → IsDue JOURNAL_FULL result.status) }
+    ensures overfull { IsGuard words.now → IfTold (D.held core.disk) (λ bytes. (records : List Rec) → StandsFor bytes records → BootExceeds core.limits (M.places core.mech) records → IsDue JOURNAL_FULL result.status) }
 
     // A disk that is no journal stays as it was, and so does the mechanism.
     ensures unwritten { IfTold (D.held core.disk) (λ bytes. IsNoJournal bytes → IsUnwritten (D.held core.disk) (D.held result.disk) (D.images core.disk) (D.images result.disk)) }
@@ -105,7 +105,7 @@ pub fn run<S: Source, K: Sink, M: Mechanism, D: Disk>(
         → IfTold (S.left source.old) (λ text. AllLines IsLineOfToken text → length text < 67108864 → IsFinished result.status) }
 
     // What the mechanism did in the run: its new numbers lie behind the journal's, and its notes add up.
-    ensures newer { IfTold (D.held core.disk) (λ bytes. (records : List Rec) → Stands bytes records → IsNewer (length records) (M.motions core.mech) (M.motions result.mech)) }
+    ensures newer { IfTold (D.held core.disk) (λ bytes. (records : List Rec) → StandsFor bytes records → IsNewer (length records) (M.motions core.mech) (M.motions result.mech)) }
     ensures adds { AddsUp (M.motions core.mech) (M.motions result.mech) (M.places core.mech) (M.places result.mech) }
     ensures units { M.units result.mech ≡ core.units }
     ensures told { is_some (M.motions result.mech) ≡ is_some (M.motions core.mech) }
@@ -114,7 +114,7 @@ pub fn run<S: Source, K: Sink, M: Mechanism, D: Disk>(
     // The statuses that there are, and a run of `guard` that nothing hinders.
     ensures statuses { IsStatus result.status }
     ensures finishes { IsGuard words.now → ¬ (Rose (S.faults source.old) (S.faults source.new)) → ¬ (Rose (K.faults sink.old) (K.faults sink.new)) → ¬ (Rose (D.faults core.disk) (D.faults result.disk))
-        → IfTold (S.left source.old) (λ text. IfTold (D.held core.disk) (λ bytes. (records : List Rec) → Stands bytes records → IsUnhindered (IsStart (at_entry M.motions M.places M.faults D.held D.faults core)) (IsStill (M.motions result.mech) (M.places result.mech) (M.faults result.mech) (D.faults result.disk)) text core.limits (M.places core.mech) records → IsFinished result.status)) }
+        → IfTold (S.left source.old) (λ text. IfTold (D.held core.disk) (λ bytes. (records : List Rec) → StandsFor bytes records → IsUnhindered (IsStart (at_entry M.motions M.places M.faults D.held D.faults core)) (IsStill (M.motions result.mech) (M.places result.mech) (M.faults result.mech) (D.faults result.disk)) text core.limits (M.places core.mech) records → IsFinished result.status)) }
 {
     if is_word(words, "guard") {
         return guard(alloc, words, source, sink, core);

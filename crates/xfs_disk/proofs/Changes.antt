@@ -3,7 +3,7 @@ use Rattle.std.proofs.Common.{◌≡◌, ◌⊎◌, inl, inr, ⊎_elim, ℕ, ◌
 use Rattle.std.specs.Prelude.{IsTrue}
 use Rattle.std.proofs.lemmas.Bool.{and_from}
 use Rattle.std.proofs.lemmas.List.{reverse-append, length-reverse}
-use Rattle.xfs_disk.specs.Disk.{Elapses, Follows, AddsNone, Only}
+use Rattle.xfs_disk.specs.Disk.{Elapses, ImagesFollow, AddsNone, Only}
 use Rattle.xfs_disk.specs.Steps.{before, Makes, MayLeave, LeftSince, stands, is_sound}
 use Rattle.xfs_disk.specs.Images.{here}
 use Rattle.xfs_disk.specs.declared.step.Step.{Step}
@@ -22,7 +22,7 @@ module _ (s : Step) (b new : List ℕ) (back : before s new ≡ b) (older : List
   since_before : (t : ℕ) (c : List ℕ) → t ≤ length older → LeftSince b older t c → LeftSince new (s ∷ older) t c
   since_before t c le left = inr (le, subst (λ (l : List ℕ). LeftSince l older t c) (sym back) left)
 
-  pub stepped : Makes s b new → Follows (Makes s) (MayLeave b older) (MayLeave new (s ∷ older))
+  pub stepped : Makes s b new → ImagesFollow (Makes s) (MayLeave b older) (MayLeave new (s ∷ older))
   stepped done c (inl is) = (b, here b older, subst (Makes s b) (sym is) done)
   stepped done c (inr (d, was, made)) = (d, subst (λ (l : List ℕ). MayLeave l older d) back was, made)
 
@@ -41,9 +41,9 @@ elapses s b ss new ns noted =
       keeps = λ t c le left. since_before s b new noted.back (reverse ss) t c (omega (arith, le, counts)) left;
     })
 
-pub follows : (s : Step) (b : List ℕ) (ss : List Step) (new : List ℕ) (ns : List Step) → Noted s b ss new ns → Makes s b new → Follows (Makes s) (MayLeave b (reverse ss)) (MayLeave new (reverse ns))
+pub follows : (s : Step) (b : List ℕ) (ss : List Step) (new : List ℕ) (ns : List Step) → Noted s b ss new ns → Makes s b new → ImagesFollow (Makes s) (MayLeave b (reverse ss)) (MayLeave new (reverse ns))
 follows s b ss new ns noted done =
-    subst (λ (l : List Step). Follows (Makes s) (MayLeave b (reverse ss)) (MayLeave new l)) (sym (newest_first ss ns s noted.notes)) (stepped s b new noted.back (reverse ss) done)
+    subst (λ (l : List Step). ImagesFollow (Makes s) (MayLeave b (reverse ss)) (MayLeave new l)) (sym (newest_first ss ns s noted.notes)) (stepped s b new noted.back (reverse ss) done)
 
 pub keeps_sound : (s : Step) (b : List ℕ) (ss : List Step) (new : List ℕ) (ns : List Step) → Noted s b ss new ns → IsTrue (stands s new) → IsTrue (is_sound b (reverse ss)) → IsTrue (is_sound new (reverse ns))
 keeps_sound s b ss new ns noted here was =

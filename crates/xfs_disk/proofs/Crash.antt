@@ -13,7 +13,7 @@ pub torn_same : (at n : ℕ) (d : List ℕ) → Torn at n d d
 torn_same at n d = record { before = refl; after = refl; no_shorter = omega arith; no_longer = omega arith }
 
 pub cut_same : (n : ℕ) (d : List ℕ) → Cut n d d
-cut_same n d = record { no_shorter = omega arith; no_longer = omega arith; front = refl }
+cut_same n d = record { no_shorter = omega arith; no_longer = omega arith; prefix = refl }
 
 pub synced_image : (now : List ℕ) (steps : List Step) → MayLeave now steps (synced now steps)
 synced_image now [] = refl
@@ -39,17 +39,17 @@ take_front f w r at size = ap (λ (l : List ℕ). take at l) (append_assoc f w r
 pub torn_over : (now was bytes : List ℕ) (at len : ℕ) → at + len ≤ length now → length was ≤ len → (length was ≡ len) ⊎ (at + len ≡ length now) → length bytes ≡ len
     → Torn at len (take at now ++ was ++ drop (at + len) now) (overlaid now at bytes)
 torn_over now was bytes at len within short ends size =
-    let front = take at now in
+    let prefix = take at now in
     let rest = drop (at + len) now in
-    let at_size : length front ≡ at = omega (arith, length-take at now) in
+    let at_size : length prefix ≡ at = omega (arith, length-take at now) in
     let rest_size : length rest ≡ length now - (at + len) = length-drop (at + len) now in
-    let old_size : length (front ++ was ++ rest) ≡ at + (length was + (length now - (at + len))) = omega (arith, length-append (front ++ was) rest, length-append front was, at_size, rest_size) in
-    let x_is : overlaid now at bytes ≡ front ++ bytes ++ rest = ap (λ n. front ++ bytes ++ drop (at + n) now) size in
-    let fd_size : length (front ++ bytes) ≡ at + len = omega (arith, length-append front bytes, at_size, size) in
-    let new_size : length (overlaid now at bytes) ≡ length now = omega (arith, ap length x_is, length-append (front ++ bytes) rest, fd_size, rest_size) in
+    let old_size : length (prefix ++ was ++ rest) ≡ at + (length was + (length now - (at + len))) = omega (arith, length-append (prefix ++ was) rest, length-append prefix was, at_size, rest_size) in
+    let x_is : overlaid now at bytes ≡ prefix ++ bytes ++ rest = ap (λ n. prefix ++ bytes ++ drop (at + n) now) size in
+    let fd_size : length (prefix ++ bytes) ≡ at + len = omega (arith, length-append prefix bytes, at_size, size) in
+    let new_size : length (overlaid now at bytes) ≡ length now = omega (arith, ap length x_is, length-append (prefix ++ bytes) rest, fd_size, rest_size) in
     record {
-      before = take_front front bytes (drop (at + length bytes) now) at at_size ∙ sym (take_front front was rest at at_size);
-      after = ap (λ (l : List ℕ). drop (at + len) l) x_is ∙ drop_at (front ++ bytes) rest (at + len) fd_size ∙ sym (old_rest front was rest (length now) at len at_size rest_size short ends);
+      before = take_front prefix bytes (drop (at + length bytes) now) at at_size ∙ sym (take_front prefix was rest at at_size);
+      after = ap (λ (l : List ℕ). drop (at + len) l) x_is ∙ drop_at (prefix ++ bytes) rest (at + len) fd_size ∙ sym (old_rest prefix was rest (length now) at len at_size rest_size short ends);
       no_shorter = omega (arith, old_size, new_size, short);
       no_longer = omega (arith, old_size, new_size, short, ends_long (length was) len at (length now) within short ends);
     }

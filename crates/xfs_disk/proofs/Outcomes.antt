@@ -2,7 +2,7 @@
 use Rattle.std.proofs.Common.{◌≡◌, ◌⊎◌, inl, inr, ℕ, ◌-◌, ◌≤◌, min, List, [], ◌∷◌, ◌++◌, length, take, drop, reverse, Vec, Global, refl, sym, subst}
 use Rattle.std.specs.Prelude.{IsTrue, OnOk, OnErr, Ok, Err}
 use Rattle.std.specs.declared.result.Result.{Result}
-use Rattle.xfs_disk.specs.Disk.{Torn, Cut, Elapses, Follows, AddsNone, overlaid, resized}
+use Rattle.xfs_disk.specs.Disk.{Torn, Cut, Elapses, ImagesFollow, AddsNone, overlaid, resized}
 use Rattle.xfs_disk.specs.Steps.{MayLeave, LeftSince, is_sound}
 use Rattle.xfs_disk.specs.declared.step.Step.{Step}
 use Rattle.xfs_disk.specs.declared.step.Step.TheVariants.{Write, Resize}
@@ -47,8 +47,8 @@ module _ (b : List ℕ) (ss : List Step) (new : List ℕ) (ns : List Step) where
         (elapses (Write at (length bytes) w.1.0) b ss (overlaid b at bytes) ns (noted w))
     write_time (inr same) = same_time same
 
-    pub write_images : Wrote b ss new ns at bytes ⊎ IsSame b ss new ns → Follows (Torn at (length bytes)) (MayLeave b (reverse ss)) (MayLeave new (reverse ns))
-    write_images (inl w) = subst (λ (l : List ℕ). Follows (Torn at (length bytes)) (MayLeave b (reverse ss)) (MayLeave l (reverse ns))) (sym w.0)
+    pub write_images : Wrote b ss new ns at bytes ⊎ IsSame b ss new ns → ImagesFollow (Torn at (length bytes)) (MayLeave b (reverse ss)) (MayLeave new (reverse ns))
+    write_images (inl w) = subst (λ (l : List ℕ). ImagesFollow (Torn at (length bytes)) (MayLeave b (reverse ss)) (MayLeave l (reverse ns))) (sym w.0)
         (follows (Write at (length bytes) w.1.0) b ss (overlaid b at bytes) ns (noted w) (torn_written b bytes w.1.0.items at within w.1.1))
     write_images (inr same) = λ c left. (c, same_images same c left, torn_same at (length bytes) c)
 
@@ -65,7 +65,7 @@ module _ (b : List ℕ) (ss : List Step) (new : List ℕ) (ns : List Step) where
     cut_time (inl cut) = elapses (Resize len cut.1.0) b ss new ns (cut_noted cut)
     cut_time (inr same) = same_time same
 
-    pub cut_images : Resized b ss new ns len ⊎ IsSame b ss new ns → Follows (Cut len) (MayLeave b (reverse ss)) (MayLeave new (reverse ns))
+    pub cut_images : Resized b ss new ns len ⊎ IsSame b ss new ns → ImagesFollow (Cut len) (MayLeave b (reverse ss)) (MayLeave new (reverse ns))
     cut_images (inl cut) = follows (Resize len cut.1.0) b ss new ns (cut_noted cut) (subst (Cut len b) (sym cut.0) (cut_done b len))
     cut_images (inr same) = λ c left. (c, same_images same c left, cut_same len c)
 

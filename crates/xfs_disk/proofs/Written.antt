@@ -61,4 +61,4 @@ cut_done b n =
     let size : length (resized b n) ≡ n = omega (arith, length-append (take n b) zeros, length-take n b, length-replicate {A = ℕ} (n - length b) 0) in
     let m = min (length b) (length (resized b n)) in
     let m_is : m ≡ min (length b) n = ap (λ k. min (length b) k) size in
-    record { no_shorter = omega (arith, size); no_longer = omega (arith, size); front = take-append-le m (take n b) zeros (omega (arith, m_is, size, length-take n b)) ∙ take-take m n b (omega (arith, m_is, size)) }
+    record { no_shorter = omega (arith, size); no_longer = omega (arith, size); prefix = take-append-le m (take n b) zeros (omega (arith, m_is, size, length-take n b)) ∙ take-take m n b (omega (arith, m_is, size)) }

@@ -26,11 +26,11 @@ pub record Torn (at n : ℕ) (old new : List ℕ) : Type 0 where
 pub record Cut (n : ℕ) (old new : List ℕ) : Type 0 where
   pub no_shorter : min (length old) n ≤ length new
   pub no_longer : length new ≤ max (length old) n
-  pub front : take (min (length old) (length new)) new ≡ take (min (length old) (length new)) old
+  pub prefix : take (min (length old) (length new)) new ≡ take (min (length old) (length new)) old
 
 -- each new image is an old one after a step
-abbrev pub Follows : (List ℕ → List ℕ → Type 0) → (List ℕ → Type 0) → (List ℕ → Type 0) → Type 0
-Follows step old new = (c : List ℕ) → new c → (d : List ℕ) × old d × step d c
+abbrev pub ImagesFollow : (List ℕ → List ℕ → Type 0) → (List ℕ → Type 0) → (List ℕ → Type 0) → Type 0
+ImagesFollow step old new = (c : List ℕ) → new c → (d : List ℕ) × old d × step d c
 
 -- there is no new image
 abbrev pub AddsNone : (List ℕ → Type 0) → (List ℕ → Type 0) → Type 0

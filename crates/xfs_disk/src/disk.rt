@@ -3,7 +3,7 @@ ghost use Rattle.std.specs.Prelude.{◌≡◌, ◌≤◌, ℕ, List, Some, None,
 ghost use Rattle.std.specs.declared.option.Option.{Option};
 ghost use Rattle.std.specs.Io.{ReadsAtMost};
 ghost use Rattle.xfs_base.specs.Causes.{HasCause, IfTold};
-ghost use Rattle.xfs_disk.specs.Disk.{overlaid, resized, Gives, Torn, Cut, Follows, AddsNone, Only, Elapses};
+ghost use Rattle.xfs_disk.specs.Disk.{overlaid, resized, Gives, Torn, Cut, ImagesFollow, AddsNone, Only, Elapses};
 
 use xfs_base::Failed;
 
@@ -47,7 +47,7 @@ pub trait Disk: Drop {
         requires within { IfTold (held self.old) (λ all. at ≤ length all) }
         ensures written { OnOk result (held self.new ≡ option_map (λ all. overlaid all at bytes.now) (held self.old)) }
         ensures told { OnErr result (is_some (held self.new) ≡ is_some (held self.old)) }
-        ensures crash { Follows (Torn at (length bytes.now)) (images self.old) (images self.new) }
+        ensures crash { ImagesFollow (Torn at (length bytes.now)) (images self.old) (images self.new) }
         ensures time { Elapses (moment self.old) (moment self.new) (images_since self.old) (images_since self.new) (images self.new) }
         ensures cause { HasCause (faults self.old) (faults self.new) result };
 
@@ -55,7 +55,7 @@ pub trait Disk: Drop {
     fn cut(&mut self, len: u64) -> Result<(), Failed>
         ensures cut { OnOk result (held self.new ≡ option_map (λ all. resized all len) (held self.old)) }
         ensures told { OnErr result (is_some (held self.new) ≡ is_some (held self.old)) }
-        ensures crash { Follows (Cut len) (images self.old) (images self.new) }
+        ensures crash { ImagesFollow (Cut len) (images self.old) (images self.new) }
         ensures time { Elapses (moment self.old) (moment self.new) (images_since self.old) (images_since self.new) (images self.new) }
         ensures cause { HasCause (faults self.old) (faults self.new) result };
 

@@ -64,7 +64,7 @@ impl Disk for FailDisk {
     ghost use Rattle.std.specs.Prelude.{◌≡◌, ◌≤◌, length, IfOk, OnOk};
     ghost use Rattle.std.specs.Io.{ReadsAtMost};
     ghost use Rattle.xfs_base.specs.Causes.{HasCause};
-    ghost use Rattle.xfs_disk.specs.Disk.{overlaid, resized, Gives, Torn, Cut, Follows, AddsNone, Only};
+    ghost use Rattle.xfs_disk.specs.Disk.{overlaid, resized, Gives, Torn, Cut, ImagesFollow, AddsNone, Only};
     ghost use Rattle.xfs_disk.specs.MemDisk.{bytes_of, IsImage, TimeGoesOn};
     ghost use Rattle.xfs_disk.specs.Wrapped.{failing_inner, failing_faults, FailsAtPlaces};
 
@@ -112,7 +112,7 @@ impl Disk for FailDisk {
     fn write_at(&mut self, at: u64, bytes: &[u8]) -> Result<(), Failed>
         requires within { at ≤ length (bytes_of (failing_inner self.old)) }
         ensures written { OnOk result (bytes_of (failing_inner self.new) ≡ overlaid (bytes_of (failing_inner self.old)) at bytes.now) }
-        ensures crash { Follows (Torn at (length bytes.now)) (IsImage (failing_inner self.old)) (IsImage (failing_inner self.new)) }
+        ensures crash { ImagesFollow (Torn at (length bytes.now)) (IsImage (failing_inner self.old)) (IsImage (failing_inner self.new)) }
         ensures time { TimeGoesOn (failing_inner self.old) (failing_inner self.new) }
         ensures cause { HasCause (failing_faults self.old) (failing_faults self.new) result }
         ensures fails { FailsAtPlaces self.old self.new result }
@@ -123,7 +123,7 @@ impl Disk for FailDisk {
 
     fn cut(&mut self, len: u64) -> Result<(), Failed>
         ensures cut { OnOk result (bytes_of (failing_inner self.new) ≡ resized (bytes_of (failing_inner self.old)) len) }
-        ensures crash { Follows (Cut len) (IsImage (failing_inner self.old)) (IsImage (failing_inner self.new)) }
+        ensures crash { ImagesFollow (Cut len) (IsImage (failing_inner self.old)) (IsImage (failing_inner self.new)) }
         ensures time { TimeGoesOn (failing_inner self.old) (failing_inner self.new) }
         ensures cause { HasCause (failing_faults self.old) (failing_faults self.new) result }
         ensures fails { FailsAtPlaces self.old self.new result }

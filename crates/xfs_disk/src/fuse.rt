@@ -61,7 +61,7 @@ impl Disk for FuseDisk {
     ghost use Rattle.std.specs.Prelude.{◌≡◌, ◌≤◌, length, IfOk, OnOk};
     ghost use Rattle.std.specs.Io.{ReadsAtMost};
     ghost use Rattle.xfs_base.specs.Causes.{HasCause};
-    ghost use Rattle.xfs_disk.specs.Disk.{overlaid, resized, Gives, Torn, Cut, Follows, AddsNone, Only};
+    ghost use Rattle.xfs_disk.specs.Disk.{overlaid, resized, Gives, Torn, Cut, ImagesFollow, AddsNone, Only};
     ghost use Rattle.xfs_disk.specs.MemDisk.{bytes_of, IsImage, TimeGoesOn};
     ghost use Rattle.xfs_disk.specs.Wrapped.{fuse_inner, fuse_faults, FailsWhenSpent};
 
@@ -109,7 +109,7 @@ impl Disk for FuseDisk {
     fn write_at(&mut self, at: u64, bytes: &[u8]) -> Result<(), Failed>
         requires within { at ≤ length (bytes_of (fuse_inner self.old)) }
         ensures written { OnOk result (bytes_of (fuse_inner self.new) ≡ overlaid (bytes_of (fuse_inner self.old)) at bytes.now) }
-        ensures crash { Follows (Torn at (length bytes.now)) (IsImage (fuse_inner self.old)) (IsImage (fuse_inner self.new)) }
+        ensures crash { ImagesFollow (Torn at (length bytes.now)) (IsImage (fuse_inner self.old)) (IsImage (fuse_inner self.new)) }
         ensures time { TimeGoesOn (fuse_inner self.old) (fuse_inner self.new) }
         ensures cause { HasCause (fuse_faults self.old) (fuse_faults self.new) result }
         ensures fails { FailsWhenSpent self.old self.new result }
@@ -120,7 +120,7 @@ impl Disk for FuseDisk {
 
     fn cut(&mut self, len: u64) -> Result<(), Failed>
         ensures cut { OnOk result (bytes_of (fuse_inner self.new) ≡ resized (bytes_of (fuse_inner self.old)) len) }
-        ensures crash { Follows (Cut len) (IsImage (fuse_inner self.old)) (IsImage (fuse_inner self.new)) }
+        ensures crash { ImagesFollow (Cut len) (IsImage (fuse_inner self.old)) (IsImage (fuse_inner self.new)) }
         ensures time { TimeGoesOn (fuse_inner self.old) (fuse_inner self.new) }
         ensures cause { HasCause (fuse_faults self.old) (fuse_faults self.new) result }
         ensures fails { FailsWhenSpent self.old self.new result }

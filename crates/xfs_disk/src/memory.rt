@@ -82,7 +82,7 @@ impl Disk for MemDisk {
     ghost use Rattle.std.specs.Prelude.{◌≡◌, ◌+◌, ◌-◌, ◌^◌, ◌≤◌, min, max, Some, length, IfOk, OnOk, OnErr};
     ghost use Rattle.std.specs.Io.{ReadsAtMost};
     ghost use Rattle.xfs_base.specs.Causes.{HasCause};
-    ghost use Rattle.xfs_disk.specs.Disk.{overlaid, resized, Gives, Torn, Cut, Follows, AddsNone, Only};
+    ghost use Rattle.xfs_disk.specs.Disk.{overlaid, resized, Gives, Torn, Cut, ImagesFollow, AddsNone, Only};
     ghost use Rattle.xfs_disk.specs.MemDisk.{bytes_of, reads_of, widest_of, faults_of, IsImage, TimeGoesOn, IsUnread, IsUndone};
 
     ghost held = { λ m. Some m.bytes.items };
@@ -136,7 +136,7 @@ impl Disk for MemDisk {
     fn write_at(&mut self, at: u64, bytes: &[u8]) -> Result<(), Failed>
         requires within { at ≤ length (bytes_of self.old) }
         ensures written { OnOk result (bytes_of self.new ≡ overlaid (bytes_of self.old) at bytes.now) }
-        ensures crash { Follows (Torn at (length bytes.now)) (IsImage self.old) (IsImage self.new) }
+        ensures crash { ImagesFollow (Torn at (length bytes.now)) (IsImage self.old) (IsImage self.new) }
         ensures time { TimeGoesOn self.old self.new }
         ensures cause { HasCause (faults_of self.old) (faults_of self.new) result }
         ensures unread { IsUnread self.old self.new }
@@ -158,7 +158,7 @@ impl Disk for MemDisk {
 
     fn cut(&mut self, len: u64) -> Result<(), Failed>
         ensures cut { OnOk result (bytes_of self.new ≡ resized (bytes_of self.old) len) }
-        ensures crash { Follows (Cut len) (IsImage self.old) (IsImage self.new) }
+        ensures crash { ImagesFollow (Cut len) (IsImage self.old) (IsImage self.new) }
         ensures time { TimeGoesOn self.old self.new }
         ensures cause { HasCause (faults_of self.old) (faults_of self.new) result }
         ensures unread { IsUnread self.old self.new }

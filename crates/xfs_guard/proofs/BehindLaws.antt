@@ -16,10 +16,10 @@ use Rattle.xfs_disk.specs.declared.disk.Disk.{Ghosts}
 use Rattle.xfs_journal.specs.JournalView.{StandsForEither}
 use Rattle.xfs_journal.specs.declared.record.Rec.{Rec}
 use Rattle.xfs_guard.specs.Continues.{Continues}
-use Rattle.xfs_guard.specs.Crashed.{IsLeftAt, StandsLeft, LeavesBehind}
+use Rattle.xfs_guard.specs.Crashed.{IsCrashOutcomeAt, StandsLeft, LeavesBehind}
 use Rattle.xfs_guard.specs.Lives.{BeginsWith}
 use Rattle.xfs_guard.specs.View.{GuardView}
-use Rattle.xfs_guard.proofs.CrashedLaws.{begins-same, begins-trans, begins-push, IsLoose-in_doubt}
+use Rattle.xfs_guard.proofs.CrashedLaws.{begins-same, begins-trans, begins-push, IsTorn-in_doubt}
 
 -- no call of the disk: the images are those of before
 pub behind-still : {D : Type 0} (g : Ghosts D) (old new : GuardView D)
@@ -33,7 +33,7 @@ behind-still {D = D} g old new only_now same = record { told = ap (λ (d : D). i
 -- a record was appended, or may have been
 pub behind-record : {D : Type 0} (g : Ghosts D) (old new : GuardView D) (r : Rec)
     → is_some (g.held new.disk) ≡ is_some (g.held old.disk) → IfTold (g.held old.disk) (λ _. LeavesOnly g.moment g.images_since old.disk new.disk (StandsForEither old.state.records r))
-    → BeginsWith new.state.records old.state.records → IsLeftAt new.state (old.state.records ++ r ∷ []) → LeavesBehind g old new
+    → BeginsWith new.state.records old.state.records → IsCrashOutcomeAt new.state (old.state.records ++ r ∷ []) → LeavesBehind g old new
 behind-record g old new r told leaves grew longer = record { told = told; moments = go (g.held old.disk) leaves }
   where
     either : (c : List ℕ) → StandsForEither old.state.records r c → g.images old.disk c ⊎ StandsLeft old.state new.state c
@@ -97,7 +97,7 @@ pub behind-doubted : {D : Type 0} (g : Ghosts D) (old new : GuardView D) (r : Re
     → is_some (g.held new.disk) ≡ is_some (g.held old.disk) → IfTold (g.held old.disk) (λ _. LeavesOnly g.moment g.images_since old.disk new.disk (StandsForEither old.state.records r))
     → new.state.records ≡ old.state.records → new.state.shut ≡ true → new.state.in_doubt ≡ Some r → LeavesBehind g old new
 behind-doubted g old new r told leaves is shut doubt =
-    behind-record g old new r told leaves (rw is (begins-same old.state.records)) (inr (rw (is, shut, doubt) (IsLoose-in_doubt old.state.records r)))
+    behind-record g old new r told leaves (rw is (begins-same old.state.records)) (inr (rw (is, shut, doubt) (IsTorn-in_doubt old.state.records r)))
 
 -- a ledger's record that was refused
 pub behind-refused : (T : Type 0) {D : Type 0} (g : Ghosts D) (e : Deny) (key seed : List ℕ) (o : Open)

@@ -15,7 +15,7 @@ use Rattle.xfs_token.specs.Amounts.{amount, amounts_of, amount_in, has_currency}
 use Rattle.xfs_journal.specs.declared.record.Rec.{Rec}
 use Rattle.xfs_journal.specs.declared.record.Rec.TheVariants.{Issue, Clear, Expire, Boot, Bind, Order, Done, Load}
 use Rattle.xfs_guard.specs.Presented.{Paid, paid_after, worth_after, done_worth, presented_in}
-use Rattle.xfs_guard.specs.Passed.{spent, is_over, first_currency, earlier, passed_in}
+use Rattle.xfs_guard.specs.OverBudget.{spent, is_over, first_currency, earlier, over_budget_in}
 
 -- a test that holds of a currency and of no unit's
 value_at-other : (test : List ℕ → Bool) (k : NoteKind) (x : ℕ) (c : List ℕ) → test c ≡ true → test k.currency ≡ false → value_at k x c ≡ 0
@@ -71,9 +71,9 @@ presented-none test u J c holds e = go (record { last = None; worth = 0 }) J ref
     go s [] z = z
     go s (r ∷ rs) z = go (paid_after u c s r) rs (worth-none test u c s r holds e z)
 
--- where no currency of the table is passed, none is
-pub passed-none : (u : List NoteKind) (J : List Rec) (T : Counts) (a : List (List ℕ × ℕ)) (n : Counts) → passed_in u J T a n ≡ None → (c : List ℕ) → spent u J T c + value u n c ≤ amount_in a c
-passed-none u J T a n none c = go (test c) refl
+-- where no currency of the table is exceeded, none is
+pub over_budget-none : (u : List NoteKind) (J : List Rec) (T : Counts) (a : List (List ℕ × ℕ)) (n : Counts) → over_budget_in u J T a n ≡ None → (c : List ℕ) → spent u J T c + value u n c ≤ amount_in a c
+over_budget-none u J T a n none c = go (test c) refl
   where
     test : List ℕ → Bool
     test = is_over u J T a n

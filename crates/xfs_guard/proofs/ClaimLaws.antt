@@ -22,7 +22,7 @@ use Rattle.xfs_guard.specs.declared.deny.Deny.{Deny}
 use Rattle.xfs_guard.specs.declared.deny.Deny.TheVariants.{WrongNonce, WrongMac, NoAmounts, NotEmpty, OtherBound}
 use Rattle.xfs_guard.specs.View.{View}
 use Rattle.xfs_guard.specs.Nonce.{nonce_of, live_nonce}
-use Rattle.xfs_guard.specs.Within.{Carries, HasNonce}
+use Rattle.xfs_guard.specs.Within.{IsOfNonce, HasNonce}
 use Rattle.xfs_guard.specs.Refusals.{Passes, claim_refusal, claim_refusal_at, bind_refusal, bound_token, bound_place}
 use Rattle.xfs_guard.specs.declared.open.Open.TheVariants.{No}
 use Rattle.xfs_guard.specs.Presented.{presented_in}
@@ -76,7 +76,7 @@ has-nonce (Some (Done m d)) n e = cc
 has-nonce (Some (Load u c)) n e = cc
 
 -- a token that passes carries the live nonce
-pub passes-carries : (v : View) (bytes : List ℕ) (amounts : List (List ℕ × ℕ)) (p : ℕ) (h : Passes v bytes amounts) → live_of v.records ≡ Some p → Carries v.key v.records p bytes h.token
+pub passes-carries : (v : View) (bytes : List ℕ) (amounts : List (List ℕ × ℕ)) (p : ℕ) (h : Passes v bytes amounts) → live_of v.records ≡ Some p → IsOfNonce v.key v.records p bytes h.token
 passes-carries v bytes amounts p h lives =
     let f = fine v bytes h.token h.passed in
     let at : nonce_of (record_at v.records p) ≡ Some f.nonce = sym (ap (λ l. option_and_then (λ q. nonce_of (record_at v.records q)) l) lives) ∙ f.lives in

@@ -12,8 +12,8 @@ use Rattle.xfs_journal.specs.declared.record.Rec.TheVariants.{Boot}
 use Rattle.xfs_journal.specs.JournalView.{IsPossible}
 use Rattle.xfs_guard.specs.declared.open.Open.{Open}
 use Rattle.xfs_mech.specs.Motions.{NumberIs, PlacesOf}
-use Rattle.xfs_mech.specs.Mechanism.{Grows}
-use Rattle.xfs_guard.specs.Crashed.{IsLeftAt, is_closed}
+use Rattle.xfs_mech.specs.Mechanism.{AddsEntry}
+use Rattle.xfs_guard.specs.Crashed.{IsCrashOutcomeAt, is_closed}
 use Rattle.xfs_guard.specs.Lives.{BeginsWith}
 use Rattle.xfs_guard.proofs.CrashedLaws.{begins-same, begins-trans, begins-push, left-push, left-doubt}
 use Rattle.xfs_guard.specs.View.{View}
@@ -86,7 +86,7 @@ pub leads-record : (m : Option (List Motion)) (J : List Rec) (r : Rec) (P : Plac
 leads-record None J r P boots = record { more = r ∷ []; is = refl }
 leads-record (Some L) J r P boots = Led-record J r L P boots
 
-pub leads-motion : (was now : Option (List Motion)) (J : List Rec) (m : Motion) (P Q : Places) → Grows was m now → NumberIs (λ n. n ≤ length J) m → NumberIs (λ n. length J ≤ n) m → PlacesOf P (m ∷ []) Q
+pub leads-motion : (was now : Option (List Motion)) (J : List Rec) (m : Motion) (P Q : Places) → AddsEntry was m now → NumberIs (λ n. n ≤ length J) m → NumberIs (λ n. length J ≤ n) m → PlacesOf P (m ∷ []) Q
     → Leads J was P J now Q
 leads-motion None now J m P Q g small late places = rw g (begins-same J)
 leads-motion (Some L) now J m P Q g small late places = rw g (Led-motion J L m P Q small late places)
@@ -122,7 +122,7 @@ MayGrow v r J = IsPossible v.records v.in_doubt J ⊎ ((K : List Rec) × IsPossi
 
 -- at most this record came behind the possible lists; a Boot has the places
 pub Continues-grown : (v w : View) (r : Rec) → ((p : Places) → r ≡ Boot p → v.places ≡ p) → w.motions ≡ v.motions → w.places ≡ v.places → w.key ≡ v.key → w.seed ≡ v.seed → w.units ≡ v.units → w.disk_told ≡ v.disk_told → w.limits ≡ v.limits
-    → ((J : List Rec) → IsPossible w.records w.in_doubt J → MayGrow v r J) → BeginsWith w.records v.records → ((J : List Rec) → IsLeftAt v J → IsLeftAt w J) → Continues v w
+    → ((J : List Rec) → IsPossible w.records w.in_doubt J → MayGrow v r J) → BeginsWith w.records v.records → ((J : List Rec) → IsCrashOutcomeAt v J → IsCrashOutcomeAt w J) → Continues v w
 Continues-grown v w r boots motions places key seed units disk limits grown longer left = record { leads = λ J possible. comes J (grown J possible); key = key; seed = seed; units = units; moves = rw (motions, places) (Moves-same v.motions v.places); disk_told = disk; limits = limits; grew = longer; left = left }
   where
     comes : (J : List Rec) → MayGrow v r J → Comes v w J
@@ -148,7 +148,7 @@ Continues-doubted v r o none open_still booted boots =
 
 -- the order was carried out, while no record was in doubt
 pub Continues-act : (v : View) (k : Kind) (m d : Counts) (failed : Bool) (now : Option (List Motion)) (Q : Places) (f : ℕ) → v.in_doubt ≡ None
-    → Grows v.motions (Moved (length v.records) k m d) now → PlacesOf v.places (Moved (length v.records) k m d ∷ []) Q
+    → AddsEntry v.motions (Moved (length v.records) k m d) now → PlacesOf v.places (Moved (length v.records) k m d ∷ []) Q
     → Continues v (acted_view v k m d failed now Q f)
 Continues-act v k m d failed now Q f none grows places = record {
   leads = λ J possible. record {

@@ -18,7 +18,7 @@ use Rattle.xfs_journal.specs.declared.record.Rec.TheVariants.{Boot, Order}
 use Rattle.xfs_journal.proofs.JournalLaws.{record_at-push, record_at-append, record_at-within, record_at-cases, record_at-pushed}
 use Rattle.xfs_guard.specs.Agrees.{Agrees, IsAsked, IsNoOrder}
 use Rattle.xfs_guard.specs.Lives.{BeginsWith}
-use Rattle.xfs_guard.specs.Crashed.{IsLoose, IsLeft, IsLost}
+use Rattle.xfs_guard.specs.Crashed.{IsTorn, IsCrashOutcome, IsLost}
 use Rattle.xfs_guard.proofs.RecordLaws.{last-pushed}
 
 pub begins-same : (J : List Rec) → BeginsWith J J
@@ -35,33 +35,33 @@ pub begins-possible : (J : List Rec) (d : Option Rec) (K : List Rec) → IsPossi
 begins-possible J d K (inl is) = rw is (begins-same J)
 begins-possible J d K (inr (r, doubt, is)) = rw is (record { more = r ∷ []; is = refl })
 
-length-left : (J : List Rec) (d : Option Rec) (c : Bool) (X : List Rec) (l : IsLoose J d c X) → length X ≡ length l.front + 1
-length-left J d c X l = rw l.split (length-append l.front (l.last ∷ []))
+length-left : (J : List Rec) (d : Option Rec) (c : Bool) (X : List Rec) (l : IsTorn J d c X) → length X ≡ length l.prefix + 1
+length-left J d c X l = rw l.split (length-append l.prefix (l.last ∷ []))
 
-length-front : (J : List Rec) (d : Option Rec) (c : Bool) (X : List Rec) (l : IsLoose J d c X) → length l.front ≤ length J
-length-front J d c X l = let size = ap length l.kept.is ∙ length-append l.front l.kept.more in omega (arith, size)
+length-front : (J : List Rec) (d : Option Rec) (c : Bool) (X : List Rec) (l : IsTorn J d c X) → length l.prefix ≤ length J
+length-front J d c X l = let size = ap length l.kept.is ∙ length-append l.prefix l.kept.more in omega (arith, size)
 
 -- an open journal has a record in the place of each last one
 reaches : (J : List Rec) (X : List Rec) → (length J < length X → false ≡ true) → length X ≤ length J
 reaches J X none = elim (cases_lt (length J) (length X)) [ inl above ↦ absurd (true≢false (sym (none above))) | inr below ↦ below ]
 
 -- one more record in an open journal
-pub IsLoose-push : (J : List Rec) (r : Rec) (c : Bool) (X : List Rec) → IsLoose J None false X → IsLoose (J ++ r ∷ []) None c X
-IsLoose-push J r c X l =
+pub IsTorn-push : (J : List Rec) (r : Rec) (c : Bool) (X : List Rec) → IsTorn J None false X → IsTorn (J ++ r ∷ []) None c X
+IsTorn-push J r c X l =
     let few = reaches J X l.closed_there in record {
-      front = l.front;
+      prefix = l.prefix;
       last = l.last;
       split = l.split;
-      kept = begins-push l.front J r l.kept;
+      kept = begins-push l.prefix J r l.kept;
       replaced = λ q there. l.replaced q (sym (record_at-push J r (length X) few) ∙ there);
       closed_there = λ short. let size = length-append J (r ∷ []) in absurd (omega (arith, size, short, few));
     }
 
 -- a record is in doubt, and the journal shut
-pub IsLoose-doubt : (J : List Rec) (r : Rec) (X : List Rec) → IsLoose J None false X → IsLoose J (Some r) true X
-IsLoose-doubt J r X l =
+pub IsTorn-doubt : (J : List Rec) (r : Rec) (X : List Rec) → IsTorn J None false X → IsTorn J (Some r) true X
+IsTorn-doubt J r X l =
     let few = reaches J X l.closed_there in record {
-      front = l.front;
+      prefix = l.prefix;
       last = l.last;
       split = l.split;
       kept = l.kept;
@@ -70,8 +70,8 @@ IsLoose-doubt J r X l =
     }
 
 -- the journal is closed
-pub IsLoose-close : (J : List Rec) (d : Option Rec) (c : Bool) (X : List Rec) → IsLoose J d c X → IsLoose J d true X
-IsLoose-close J d c X l = record { front = l.front; last = l.last; split = l.split; kept = l.kept; replaced = l.replaced; closed_there = λ short. refl }
+pub IsTorn-close : (J : List Rec) (d : Option Rec) (c : Bool) (X : List Rec) → IsTorn J d c X → IsTorn J d true X
+IsTorn-close J d c X l = record { prefix = l.prefix; last = l.last; split = l.split; kept = l.kept; replaced = l.replaced; closed_there = λ short. refl }
 
 -- a record of a possible list is one of the longest
 in_longest : (J : List Rec) (d : Option Rec) (K : List Rec) (n : ℕ) (q : Rec) → IsPossible J d K → record_at K n ≡ Some q → record_at (longest J d) n ≡ Some q
@@ -83,39 +83,39 @@ in_longest J d K n q (inl is) there = within d (rw is at there)
 in_longest J d K n q (inr (r, doubt, is)) there = rw doubt (rw is at there)
 
 -- a possible list is kept now, and the journal takes no record but a Boot
-pub IsLoose-mount : (J : List Rec) (d : Option Rec) (c : Bool) (K X : List Rec) → IsPossible J d K → IsLoose J d c X → IsLoose K None true X
-IsLoose-mount J d c K X possible l = record {
-  front = l.front;
+pub IsTorn-mount : (J : List Rec) (d : Option Rec) (c : Bool) (K X : List Rec) → IsPossible J d K → IsTorn J d c X → IsTorn K None true X
+IsTorn-mount J d c K X possible l = record {
+  prefix = l.prefix;
   last = l.last;
   split = l.split;
-  kept = begins-trans l.front J K l.kept (begins-possible J d K possible);
+  kept = begins-trans l.prefix J K l.kept (begins-possible J d K possible);
   replaced = λ q there. l.replaced q (in_longest J d K (length X) q possible there);
   closed_there = λ short. refl;
 }
 
 -- the Boot behind it is kept, or in doubt
-boots : (K : List Rec) (p : Places) (X : List Rec) (l : IsLoose K None true X) (q : Rec) → record_at (K ++ Boot p ∷ []) (length X) ≡ Some q → (l.last ≡ q) ⊎ IsNoOrder (Some q)
+boots : (K : List Rec) (p : Places) (X : List Rec) (l : IsTorn K None true X) (q : Rec) → record_at (K ++ Boot p ∷ []) (length X) ≡ Some q → (l.last ≡ q) ⊎ IsNoOrder (Some q)
 boots K p X l q there = ⊎_elim (λ h. l.replaced q h.1) (λ h. inr (rw (sym h.1) tt)) (record_at-cases K (Boot p) (length X) q there)
 
-pub IsLoose-boot : (K : List Rec) (p : Places) (c : Bool) (X : List Rec) → IsLoose K None true X → IsLoose (K ++ Boot p ∷ []) None c X
-IsLoose-boot K p c X l = record {
-  front = l.front;
+pub IsTorn-boot : (K : List Rec) (p : Places) (c : Bool) (X : List Rec) → IsTorn K None true X → IsTorn (K ++ Boot p ∷ []) None c X
+IsTorn-boot K p c X l = record {
+  prefix = l.prefix;
   last = l.last;
   split = l.split;
-  kept = begins-push l.front K (Boot p) l.kept;
+  kept = begins-push l.prefix K (Boot p) l.kept;
   replaced = boots K p X l;
   closed_there = λ short.
       let size = length-append K (Boot p ∷ []) in let many = length-left K None true X l in let few = length-front K None true X l in
       absurd (omega (arith, size, many, few, short));
 }
 
-pub IsLoose-boot_doubt : (K : List Rec) (p : Places) (X : List Rec) → IsLoose K None true X → IsLoose K (Some (Boot p)) true X
-IsLoose-boot_doubt K p X l = record { front = l.front; last = l.last; split = l.split; kept = l.kept; replaced = boots K p X l; closed_there = λ short. refl }
+pub IsTorn-boot_doubt : (K : List Rec) (p : Places) (X : List Rec) → IsTorn K None true X → IsTorn K (Some (Boot p)) true X
+IsTorn-boot_doubt K p X l = record { prefix = l.prefix; last = l.last; split = l.split; kept = l.kept; replaced = boots K p X l; closed_there = λ short. refl }
 
 -- the record in doubt behind the records
-pub IsLoose-in_doubt : (J : List Rec) (r : Rec) → IsLoose J (Some r) true (J ++ r ∷ [])
-IsLoose-in_doubt J r = record {
-  front = J;
+pub IsTorn-in_doubt : (J : List Rec) (r : Rec) → IsTorn J (Some r) true (J ++ r ∷ [])
+IsTorn-in_doubt J r = record {
+  prefix = J;
   last = r;
   split = refl;
   kept = begins-same J;
@@ -124,9 +124,9 @@ IsLoose-in_doubt J r = record {
 }
 
 -- a record that a journal without room never took
-pub IsLoose-missing : (J : List Rec) (r : Rec) → IsLoose J None true (J ++ r ∷ [])
-IsLoose-missing J r = record {
-  front = J;
+pub IsTorn-missing : (J : List Rec) (r : Rec) → IsTorn J None true (J ++ r ∷ [])
+IsTorn-missing J r = record {
+  prefix = J;
   last = r;
   split = refl;
   kept = begins-same J;
@@ -135,34 +135,34 @@ IsLoose-missing J r = record {
 }
 
 -- lists that were left, behind one more record of an open journal
-pub left-push : (J : List Rec) (r : Rec) (d : Option Rec) (s c : Bool) (X : List Rec) → d ≡ None → s ≡ false → IsLeft J d s X → IsLeft (J ++ r ∷ []) None c X
+pub left-push : (J : List Rec) (r : Rec) (d : Option Rec) (s c : Bool) (X : List Rec) → d ≡ None → s ≡ false → IsCrashOutcome J d s X → IsCrashOutcome (J ++ r ∷ []) None c X
 left-push J r d s c X none open_still (inl begins) = inl (begins-push X J r begins)
-left-push J r d s c X none open_still (inr loose) = inr (IsLoose-push J r c X (rw (none, open_still) at loose))
+left-push J r d s c X none open_still (inr loose) = inr (IsTorn-push J r c X (rw (none, open_still) at loose))
 
 -- lists that were left, while this record is in doubt
-pub left-doubt : (J : List Rec) (r : Rec) (d : Option Rec) (s : Bool) (X : List Rec) → d ≡ None → s ≡ false → IsLeft J d s X → IsLeft J (Some r) true X
+pub left-doubt : (J : List Rec) (r : Rec) (d : Option Rec) (s : Bool) (X : List Rec) → d ≡ None → s ≡ false → IsCrashOutcome J d s X → IsCrashOutcome J (Some r) true X
 left-doubt J r d s X none open_still (inl begins) = inl begins
-left-doubt J r d s X none open_still (inr loose) = inr (IsLoose-doubt J r X (rw (none, open_still) at loose))
+left-doubt J r d s X none open_still (inr loose) = inr (IsTorn-doubt J r X (rw (none, open_still) at loose))
 
 -- lists that were left, once the journal is closed
-pub left-close : (J : List Rec) (d : Option Rec) (s : Bool) (X : List Rec) → IsLeft J d s X → IsLeft J d true X
+pub left-close : (J : List Rec) (d : Option Rec) (s : Bool) (X : List Rec) → IsCrashOutcome J d s X → IsCrashOutcome J d true X
 left-close J d s X (inl begins) = inl begins
-left-close J d s X (inr loose) = inr (IsLoose-close J d s X loose)
+left-close J d s X (inr loose) = inr (IsTorn-close J d s X loose)
 
 -- lists that were left, once a possible list was read again
-pub left-mount : (J : List Rec) (d : Option Rec) (s : Bool) (K X : List Rec) → IsPossible J d K → IsLeft J d s X → IsLeft K None true X
+pub left-mount : (J : List Rec) (d : Option Rec) (s : Bool) (K X : List Rec) → IsPossible J d K → IsCrashOutcome J d s X → IsCrashOutcome K None true X
 left-mount J d s K X possible (inl begins) = inl (begins-trans X J K begins (begins-possible J d K possible))
-left-mount J d s K X possible (inr loose) = inr (IsLoose-mount J d s K X possible loose)
+left-mount J d s K X possible (inr loose) = inr (IsTorn-mount J d s K X possible loose)
 
 -- the Boot is kept behind it
-pub left-boot : (K : List Rec) (p : Places) (c : Bool) (X : List Rec) → IsLeft K None true X → IsLeft (K ++ Boot p ∷ []) None c X
+pub left-boot : (K : List Rec) (p : Places) (c : Bool) (X : List Rec) → IsCrashOutcome K None true X → IsCrashOutcome (K ++ Boot p ∷ []) None c X
 left-boot K p c X (inl begins) = inl (begins-push X K (Boot p) begins)
-left-boot K p c X (inr loose) = inr (IsLoose-boot K p c X loose)
+left-boot K p c X (inr loose) = inr (IsTorn-boot K p c X loose)
 
 -- the Boot is in doubt behind it
-pub left-boot_doubt : (K : List Rec) (p : Places) (X : List Rec) → IsLeft K None true X → IsLeft K (Some (Boot p)) true X
+pub left-boot_doubt : (K : List Rec) (p : Places) (X : List Rec) → IsCrashOutcome K None true X → IsCrashOutcome K (Some (Boot p)) true X
 left-boot_doubt K p X (inl begins) = inl begins
-left-boot_doubt K p X (inr loose) = inr (IsLoose-boot_doubt K p X loose)
+left-boot_doubt K p X (inr loose) = inr (IsTorn-boot_doubt K p X loose)
 
 -- one more record of the list is its next
 begins-next : (F R : List Rec) (l : Rec) → BeginsWith R F → record_at R (length F + 1) ≡ Some l → BeginsWith R (F ++ l ∷ [])
@@ -188,15 +188,15 @@ not_numbered R n (Moved m k moved diverted ∷ L) none (a, all) = ((λ same. non
 not_numbered R n (Taken moved ∷ L) none (a, all) = (tt, not_numbered R n L none all)
 not_numbered R n (Loaded unit count ∷ L) none (a, all) = (tt, not_numbered R n L none all)
 
--- a list that was left is a front of what the disk has, or no motion has its last record's number
-loose-front : (J : List Rec) (d : Option Rec) (c : Bool) (X R : List Rec) (L : Option (List Motion)) → IsLoose J d c X → IsPossible J d R → IfTold L (Agrees R) → BeginsWith R X ⊎ IsLost R L X
+-- a list that was left is a prefix of what the disk has, or no motion has its last record's number
+loose-front : (J : List Rec) (d : Option Rec) (c : Bool) (X R : List Rec) (L : Option (List Motion)) → IsTorn J d c X → IsPossible J d R → IfTold L (Agrees R) → BeginsWith R X ⊎ IsLost R L X
 loose-front J d c X R L l possible agrees = by_record (record_at R (length X)) refl
   where
-    front : BeginsWith R l.front
-    front = begins-trans l.front J R l.kept (begins-possible J d R possible)
+    prefix : BeginsWith R l.prefix
+    prefix = begins-trans l.prefix J R l.kept (begins-possible J d R possible)
 
     lost : ((k : Kind) (n : Counts) → record_at R (length X) ≢ Some (Order k n)) → BeginsWith R X ⊎ IsLost R L X
-    lost none = inr (record { front = l.front; last = l.last; split = l.split; kept = front; unmoved = unmoved L agrees })
+    lost none = inr (record { prefix = l.prefix; last = l.last; split = l.split; kept = prefix; unmoved = unmoved L agrees })
       where
         unmoved : (m : Option (List Motion)) → IfTold m (Agrees R) → IfTold m (AllByRecursion (NumberIs (λ n. n ≢ length X)))
         unmoved None a = tt
@@ -208,10 +208,10 @@ loose-front J d c X R L l possible agrees = by_record (record_at R (length X)) r
     by_record : (r : Option Rec) → record_at R (length X) ≡ r → BeginsWith R X ⊎ IsLost R L X
     by_record None is = lost (λ k n there. let e : None ≡ Some (Order k n) = sym is ∙ there in cc)
     by_record (Some q) is = ⊎_elim
-        (λ same. inl (rw l.split (begins-next l.front R l.last front (ap (record_at R) (sym (length-left J d c X l)) ∙ is ∙ ap Some (sym same)))))
+        (λ same. inl (rw l.split (begins-next l.prefix R l.last prefix (ap (record_at R) (sym (length-left J d c X l)) ∙ is ∙ ap Some (sym same)))))
         (λ none. lost (λ k n there. let e : q ≡ Order k n = some_same q (Order k n) (sym is ∙ there) in rw e at none))
         (l.replaced q (in_longest J d R (length X) q possible is))
 
-pub left-front : (J : List Rec) (d : Option Rec) (c : Bool) (X R : List Rec) (L : Option (List Motion)) → IsLeft J d c X → IsPossible J d R → IfTold L (Agrees R) → BeginsWith R X ⊎ IsLost R L X
+pub left-front : (J : List Rec) (d : Option Rec) (c : Bool) (X R : List Rec) (L : Option (List Motion)) → IsCrashOutcome J d c X → IsPossible J d R → IfTold L (Agrees R) → BeginsWith R X ⊎ IsLost R L X
 left-front J d c X R L (inl begins) possible agrees = inl (begins-trans X J R begins (begins-possible J d R possible))
 left-front J d c X R L (inr loose) possible agrees = loose-front J d c X R L loose possible agrees

@@ -38,7 +38,7 @@ Follows-record J r L P boots = record {
 }
   where
     fits : (n : ℕ) (p : Places) → length J < n → record_at (J ++ r ∷ []) n ≡ Some (Boot p) → BootFits P [] n p
-    fits n p lt e = ⊎_elim (λ h. let le : n ≤ length J = h.0 in absurd (omega arith)) (λ h. record { front = []; back = []; split = refl; reached = rw (boots p h.1) (PlacesOf-same p); before = tt; after = tt }) (record_at-cases J r n (Boot p) e)
+    fits n p lt e = ⊎_elim (λ h. let le : n ≤ length J = h.0 in absurd (omega arith)) (λ h. record { prefix = []; back = []; split = refl; reached = rw (boots p h.1) (PlacesOf-same p); before = tt; after = tt }) (record_at-cases J r n (Boot p) e)
 
 -- the numbers of the entries in between are no greater than the list's length, and the rest composes
 unfoldable pub Follows-trans : (J0 J1 J2 : List Rec) (L0 L1 L2 : List Motion) (P0 P1 P2 : Places)
@@ -61,9 +61,9 @@ Follows-trans J0 J1 J2 L0 L1 L2 P0 P1 P2 a small b = record {
     old n p lt le e =
         let was : record_at J1 n ≡ Some (Boot p) = sym (ap (λ (J : List Rec). record_at J n) b.grew ∙ record_at-append J1 b.recs n le) ∙ e in
         let f = a.boots n p lt was in record {
-          front = f.front;
+          prefix = f.prefix;
           back = f.back ++ b.moves;
-          split = ap (λ (l : List Motion). l ++ b.moves) f.split ∙ append_assoc f.front f.back b.moves;
+          split = ap (λ (l : List Motion). l ++ b.moves) f.split ∙ append_assoc f.prefix f.back b.moves;
           reached = f.reached;
           before = f.before;
           after = all-append (NumberIs (λ k. n ≤ k)) f.back b.moves f.after (all-numbers (λ k. length J1 ≤ k) (λ k. n ≤ k) b.moves (λ k h. omega arith) b.later);
@@ -72,11 +72,11 @@ Follows-trans J0 J1 J2 L0 L1 L2 P0 P1 P2 a small b = record {
     new : (n : ℕ) (p : Places) → length J1 < n → record_at J2 n ≡ Some (Boot p) → BootFits P0 (a.moves ++ b.moves) n p
     new n p lt e =
         let f = b.boots n p lt e in record {
-          front = a.moves ++ f.front;
+          prefix = a.moves ++ f.prefix;
           back = f.back;
-          split = ap (λ (l : List Motion). a.moves ++ l) f.split ∙ sym (append_assoc a.moves f.front f.back);
-          reached = PlacesOf-append P0 P1 p a.moves f.front a.reached f.reached;
-          before = all-append (NumberIs (λ k. k ≤ n)) a.moves f.front (all-numbers (λ k. k ≤ length J1) (λ k. k ≤ n) a.moves (λ k h. omega arith) small) f.before;
+          split = ap (λ (l : List Motion). a.moves ++ l) f.split ∙ sym (append_assoc a.moves f.prefix f.back);
+          reached = PlacesOf-append P0 P1 p a.moves f.prefix a.reached f.reached;
+          before = all-append (NumberIs (λ k. k ≤ n)) a.moves f.prefix (all-numbers (λ k. k ≤ length J1) (λ k. k ≤ n) a.moves (λ k h. omega arith) small) f.before;
           after = f.after;
         }
 
@@ -94,5 +94,5 @@ Follows-boot P = record {
   where
     fits : (n : ℕ) (p : Places) → 0 < n → record_at (Boot P ∷ []) n ≡ Some (Boot p) → BootFits P [] n p
     fits zero p lt e = absurd (omega arith)
-    fits (suc zero) p lt e = let same : P ≡ p = cc in record { front = []; back = []; split = refl; reached = rw (← same) (PlacesOf-same P); before = tt; after = tt }
+    fits (suc zero) p lt e = let same : P ≡ p = cc in record { prefix = []; back = []; split = refl; reached = rw (← same) (PlacesOf-same P); before = tt; after = tt }
     fits (suc (suc i)) p lt e = cc

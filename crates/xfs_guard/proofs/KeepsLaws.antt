@@ -13,7 +13,7 @@ use Rattle.xfs_mech.specs.declared.motion.Motion.{Motion}
 use Rattle.xfs_guard.specs.Continues.{Continues}
 use Rattle.xfs_guard.specs.Crashed.{LeavesBehind}
 use Rattle.xfs_guard.specs.Keeps.{Proceeds, Keeps, NoEntry}
-use Rattle.xfs_guard.specs.Left.{StandsRecorded, StandsThrough}
+use Rattle.xfs_guard.specs.CrashOutcomes.{StandsRecorded, StandsThrough}
 use Rattle.xfs_guard.specs.Recorded.{IsRecorded}
 use Rattle.xfs_guard.specs.Stored.{IsStored}
 use Rattle.xfs_guard.specs.Upheld.{IsUpheld}

@@ -7,7 +7,7 @@ use Rattle.xfs_base.specs.declared.money.NoteKind.{NoteKind}
 use Rattle.xfs_base.specs.declared.counts.Places.{Places}
 use Rattle.xfs_base.specs.declared.counts.Counts.{Counts}
 use Rattle.xfs_base.specs.declared.counts.Kind.{Kind}
-use Rattle.xfs_mech.specs.Mechanism.{Grows, Carries as MayCarry}
+use Rattle.xfs_mech.specs.Mechanism.{AddsEntry, MayCarry}
 use Rattle.xfs_mech.specs.Motions.{PlacesOf}
 use Rattle.xfs_mech.specs.declared.motion.Motion.{Motion}
 use Rattle.xfs_mech.specs.declared.motion.Motion.TheVariants.{Moved}
@@ -161,7 +161,7 @@ still-open true o k c closed is = let none : Written k c ≡ No = sym is ∙ clo
 
 -- the written order was carried out
 pub IsKept-acted : (v : View) (k : Kind) (c m d : Counts) (failed : Bool) (now : Option (List Motion)) (Q : Places) (f spare was left : ℕ) (kinds before : List NoteKind)
-    → IsKept v was left before → v.open_order ≡ Written k c → MayCarry k c m d failed → Grows v.motions (Moved (length v.records) k m d) now
+    → IsKept v was left before → v.open_order ≡ Written k c → MayCarry k c m d failed → AddsEntry v.motions (Moved (length v.records) k m d) now
     → PlacesOf v.places (Moved (length v.records) k m d ∷ []) Q → kinds ≡ v.units → IsKept (acted_view v k m d failed now Q f) spare left kinds
 IsKept-acted v k c m d failed now Q f spare was left kinds before kept written may grows places units = record {
   sound = λ e m. sound;

@@ -24,7 +24,7 @@ use Rattle.xfs_guard.specs.declared.bound.Bound.{Bound}
 use Rattle.xfs_guard.specs.declared.nonce.Nonce.{Nonce}
 use Rattle.xfs_guard.specs.Nonce.{nonce_of, live_nonce, live_in}
 use Rattle.xfs_guard.specs.Refusals.{bound_token, bound_place}
-use Rattle.xfs_guard.specs.Ledger.{IsLive, IsBound, IsRead, IsDoubted, Keeps, AreSums, amounts_kept}
+use Rattle.xfs_guard.specs.Ledger.{IsLive, IsBound, IsRead, IsDoubted, KeepsLedger, AreSums, amounts_kept}
 use Rattle.xfs_guard.specs.Pays.{Fits, Pays}
 use Rattle.xfs_guard.specs.LedgerView.{LedgerView, IsWriteFault}
 use Rattle.xfs_guard.specs.declared.deny.Deny.{Deny}
@@ -260,31 +260,31 @@ pub live-issued : (J : List Rec) (n w : ℕ) (x : Nonce) → x.text ≡ nonce_te
 live-issued J n w x text number = rw (live_of-push J (Issue n w), record_at-pushed J (Issue n w)) (ap Some (rw (← text, ← number) refl))
 
 -- a journal that is open has nothing in doubt
-pub Keeps-read : (J : List Rec) (d : Option Rec) (s m : Bool) (u : List NoteKind) (i k : ℕ) (l : Option Live) (b : Option Bound) (x : Option Nonce) → IsRead J u i k l b → d ≡ None → Keeps J d s m u i k l b x
-Keeps-read J d s m u i k l b x h none = record { read = λ _ _. h; lives = λ _. h.lives; doubts = λ n e. absurd (never n (rw none at e)) }
+pub KeepsLedger-read : (J : List Rec) (d : Option Rec) (s m : Bool) (u : List NoteKind) (i k : ℕ) (l : Option Live) (b : Option Bound) (x : Option Nonce) → IsRead J u i k l b → d ≡ None → KeepsLedger J d s m u i k l b x
+KeepsLedger-read J d s m u i k l b x h none = record { read = λ _ _. h; lives = λ _. h.lives; doubts = λ n e. absurd (never n (rw none at e)) }
   where
     never : (n : Nonce) → nonce_of None ≡ Some n → ⊥
     never n e = cc
 
 -- a record was not written, or it is not known whether it was; where it is an issue, its nonce is kept
-pub Keeps-refused : (e : Deny) (J : List Rec) (r : Rec) (d d' : Option Rec) (s s' m : Bool) (u : List NoteKind) (i k : ℕ) (l : Option Live) (b : Option Bound) (x x' : Option Nonce) → Keeps J d s m u i k l b x → IsWriteFault e
-    → (e ≡ Memory → (s' ≡ s) × (d' ≡ d) × (x' ≡ x)) → (e ≡ Disk → (s' ≡ true) × (d' ≡ Some r)) → (e ≡ Disk → IsDoubted (Some r) x') → Keeps J d' s' m u i k l b x'
-Keeps-refused e J r d d' s s' m u i k l b x x' h (inl is) memory disk doubts =
+pub KeepsLedger-refused : (e : Deny) (J : List Rec) (r : Rec) (d d' : Option Rec) (s s' m : Bool) (u : List NoteKind) (i k : ℕ) (l : Option Live) (b : Option Bound) (x x' : Option Nonce) → KeepsLedger J d s m u i k l b x → IsWriteFault e
+    → (e ≡ Memory → (s' ≡ s) × (d' ≡ d) × (x' ≡ x)) → (e ≡ Disk → (s' ≡ true) × (d' ≡ Some r)) → (e ≡ Disk → IsDoubted (Some r) x') → KeepsLedger J d' s' m u i k l b x'
+KeepsLedger-refused e J r d d' s s' m u i k l b x x' h (inl is) memory disk doubts =
     let same = memory is in rw (same.0, same.1, same.2) h
-Keeps-refused e J r d d' s s' m u i k l b x x' h (inr is) memory disk doubts =
+KeepsLedger-refused e J r d d' s s' m u i k l b x x' h (inr is) memory disk doubts =
     let shut = disk is in record { read = λ still booted. absurd (true≢false (sym shut.0 ∙ still)); lives = h.lives; doubts = rw shut.1 (doubts is) }
 
 -- the journal is shut, or as before
-pub Keeps-shut : (J : List Rec) (d : Option Rec) (s s' m : Bool) (u : List NoteKind) (i k : ℕ) (l : Option Live) (b : Option Bound) (x : Option Nonce) → Keeps J d s m u i k l b x → (s' ≡ s) ⊎ (s' ≡ true) → Keeps J d s' m u i k l b x
-Keeps-shut J d s s' m u i k l b x h (inl same) = rw same h
-Keeps-shut J d s s' m u i k l b x h (inr shut) = record { read = λ still booted. absurd (true≢false (sym shut ∙ still)); lives = h.lives; doubts = h.doubts }
+pub KeepsLedger-shut : (J : List Rec) (d : Option Rec) (s s' m : Bool) (u : List NoteKind) (i k : ℕ) (l : Option Live) (b : Option Bound) (x : Option Nonce) → KeepsLedger J d s m u i k l b x → (s' ≡ s) ⊎ (s' ≡ true) → KeepsLedger J d s' m u i k l b x
+KeepsLedger-shut J d s s' m u i k l b x h (inl same) = rw same h
+KeepsLedger-shut J d s s' m u i k l b x h (inr shut) = record { read = λ still booted. absurd (true≢false (sym shut ∙ still)); lives = h.lives; doubts = h.doubts }
 
 -- the journal was read again and got no Boot: either it is missing, or it is not known whether it was written
-pub Keeps-unbooted : (J : List Rec) (d : Option Rec) (s m : Bool) (u : List NoteKind) (i k : ℕ) (l : Option Live) (b : Option Bound) (x : Option Nonce)
-    → (m ≡ false → s ≡ true) → (m ≡ false → IsLive J l) → IsDoubted d x → Keeps J d s m u i k l b x
-Keeps-unbooted J d s m u i k l b x shut lives doubts = record { read = λ still booted. absurd (true≢false (sym (shut booted) ∙ still)); lives = lives; doubts = doubts }
+pub KeepsLedger-unbooted : (J : List Rec) (d : Option Rec) (s m : Bool) (u : List NoteKind) (i k : ℕ) (l : Option Live) (b : Option Bound) (x : Option Nonce)
+    → (m ≡ false → s ≡ true) → (m ≡ false → IsLive J l) → IsDoubted d x → KeepsLedger J d s m u i k l b x
+KeepsLedger-unbooted J d s m u i k l b x shut lives doubts = record { read = λ still booted. absurd (true≢false (sym (shut booted) ∙ still)); lives = lives; doubts = doubts }
 
--- a list that was read again has the kept one at its front, and at most one record more
+-- a list that was read again begins with the kept one, and has at most one record more
 pub front-possible : (J K : List Rec) (d : Option Rec) → IsPossible J d K → take (length J) K ≡ J
 front-possible J K d (inl is) = rw is (take-length J)
 front-possible J K d (inr (r, doubt, is)) = rw is (take-append_seam J (r ∷ []))
@@ -305,7 +305,7 @@ doubts-possible J K d x (inl is) doubts = rw is (none (record_at J (length J + 1
     none (Some r) e = let w = record_at-within J (length J + 1) r e in absurd (omega (arith, w.1))
 doubts-possible J K d x (inr (r, doubt, is)) doubts = rw (is, record_at-pushed J r) (rw doubt at doubts)
 
--- a list that is longer than a front of it by one record
+-- a list that is longer than a prefix of it by one record
 pub front-record : (K : List Rec) (n : ℕ) (r : Rec) → slice_get K n ≡ Some r → length K ≤ n + 1 → (K ≡ take n K ++ r ∷ []) × (length (take n K) ≡ n)
 front-record K n r e le =
     let within = slice_get_within K n r e in
@@ -318,10 +318,10 @@ last-at K n r at = let up : n + 1 ≡ suc n = omega arith in ap (record_at K) up
 pub found-issue : (K : List Rec) (n number word : ℕ) (r : Rec) (d : Option Nonce) (x : Nonce) → slice_get K n ≡ Some r → r ≡ Issue number word → length K ≤ n + 1 → IsDoubted (record_at K (n + 1)) d → d ≡ Some x
     → IsLive K (Some (record { place = n + 1; nonce = x }))
 found-issue K n number word r d x at is le doubts kept =
-    let front = front-record K n r at le in
-    let lives : live_of K ≡ Some (length (take n K) + 1) = ap live_of front.0 ∙ (live_of-push (take n K) r ∙ rw is refl) in
+    let prefix = front-record K n r at le in
+    let lives : live_of K ≡ Some (length (take n K) + 1) = ap live_of prefix.0 ∙ (live_of-push (take n K) r ∙ rw is refl) in
     let there : record_at K (n + 1) ≡ Some r = last-at K n r at in
-    (lives ∙ ap (λ k. Some (k + 1)) front.1, rw (there, is) (sym ((rw (there, is) at doubts) (record { text = nonce_text number word; number = number }) refl) ∙ kept))
+    (lives ∙ ap (λ k. Some (k + 1)) prefix.1, rw (there, is) (sym ((rw (there, is) at doubts) (record { text = nonce_text number word; number = number }) refl) ∙ kept))
 
 -- the nonce of an issue in doubt is kept
 pub kept-issue : (K : List Rec) (n number word : ℕ) (r : Rec) (d : Option Nonce) → slice_get K n ≡ Some r → r ≡ Issue number word → IsDoubted (record_at K (n + 1)) d → d ≡ None → ⊥
@@ -334,8 +334,8 @@ kept-issue K n number word r d at is doubts none =
 pub found-plain : (K : List Rec) (n : ℕ) (r : Rec) (l : Option Live) → slice_get K n ≡ Some r → length K ≤ n + 1
     → ((number word : ℕ) → r ≡ Issue number word → ⊥) → (r ≡ Clear → ⊥) → (r ≡ Expire → ⊥) → ((p : Places) → r ≡ Boot p → ⊥) → IsLive (take n K) l → IsLive K l
 found-plain K n r l at le issue clear expire boot lives =
-    let front = front-record K n r at le in
-    rw front.0 (lives-plain (take n K) r l lives (λ k o. keeps r issue clear expire boot k o))
+    let prefix = front-record K n r at le in
+    rw prefix.0 (lives-plain (take n K) r l lives (λ k o. keeps r issue clear expire boot k o))
   where
     keeps : (r : Rec) → ((number word : ℕ) → r ≡ Issue number word → ⊥) → (r ≡ Clear → ⊥) → (r ≡ Expire → ⊥) → ((p : Places) → r ≡ Boot p → ⊥) → (k : ℕ) (o : Option ℕ) → live_after k o r ≡ o
     keeps (Issue number word) issue clear expire boot k o = absurd (issue number word refl)

@@ -4,11 +4,11 @@ use Rattle.std.specs.declared.option.Option.{Option}
 use Rattle.xfs_base.specs.Causes.{IfTold}
 use Rattle.xfs_base.specs.declared.counts.Places.{Places}
 use Rattle.xfs_base.specs.declared.money.NoteKind.{NoteKind}
-use Rattle.xfs_mech.specs.Mechanism.{Grows}
+use Rattle.xfs_mech.specs.Mechanism.{AddsEntry}
 use Rattle.xfs_mech.specs.declared.motion.Motion.{Motion}
 use Rattle.xfs_disk.specs.Disk.{LeavesOnly}
 use Rattle.xfs_disk.specs.declared.disk.Disk.{Ghosts}
-use Rattle.xfs_journal.specs.Image.{IsImage, Stands}
+use Rattle.xfs_journal.specs.Image.{IsImage, StandsFor}
 use Rattle.xfs_journal.specs.JournalView.{IsPossible, HasPossible, StandsForEither}
 use Rattle.xfs_journal.specs.Paging.{IsOldOrShort, IsQuiet}
 use Rattle.xfs_journal.specs.declared.record.Rec.{Rec}
@@ -17,7 +17,7 @@ use Rattle.xfs_journal.proofs.Emptying.{short_stands}
 use Rattle.xfs_journal.proofs.Moments.{started, weaken, joins}
 use Rattle.xfs_journal.proofs.Told.{on_told, from_told}
 use Rattle.xfs_guard.specs.declared.open.Open.{Open}
-use Rattle.xfs_guard.specs.Left.{EachStands, IsOldOrBooted, Leaves, MayMove, StandsRecorded, StandsThrough}
+use Rattle.xfs_guard.specs.CrashOutcomes.{EachStands, IsOldOrBooted, Leaves, MayMove, StandsRecorded, StandsThrough}
 use Rattle.xfs_guard.specs.Recorded.{IsRecorded}
 use Rattle.xfs_guard.specs.Sound.{IsSound}
 use Rattle.xfs_guard.specs.Stored.{IsStored, MayLeave}
@@ -65,17 +65,17 @@ module _ {D : Type 0} (g : Ghosts D) where
   -- a call of the mechanism, which may add such an entry
   pub left-through : (d : D) (v : View) (MayAdd : Motion → Type 0) → ((c : List ℕ) → g.images_since d (g.moment d) c → g.images d c) → IsStored g d v.records v.in_doubt
       → (is_some (g.held d) ≡ true → (J : List Rec) → IsPossible v.records v.in_doubt J → IsRecorded v.key v.units J v.motions)
-      → (is_some (g.held d) ≡ true → (J : List Rec) → IsPossible v.records v.in_doubt J → (entry : Motion) (now : Option (List Motion)) → MayAdd entry → Grows v.motions entry now → IsRecorded v.key v.units J now)
+      → (is_some (g.held d) ≡ true → (J : List Rec) → IsPossible v.records v.in_doubt J → (entry : Motion) (now : Option (List Motion)) → MayAdd entry → AddsEntry v.motions entry now → IsRecorded v.key v.units J now)
       → IfTold (g.held d) (λ _. LeavesOnly g.moment g.images_since d d (StandsThrough v MayAdd))
   left-through d v MayAdd only_now stored before after = left-same d (StandsThrough v MayAdd) only_now (on_told (g.held d) (λ _. (c : List ℕ) → g.images d c → StandsThrough v MayAdd c) (λ all told c left.
       let has = from_told (g.held d) (λ _. (c : List ℕ) → g.images d c → HasPossible v.records v.in_doubt c) stored all told c left in
       record { records = has.0; stands = inl has.2; before = before (ap is_some told) has.0 has.1; after = after (ap is_some told) has.0 has.1 }))
 
 -- the list of records stays recorded with the entry that the written order adds
-pub recorded-moved : (v : View) (entry : Motion) (now : Option (List Motion)) → IsSound v → v.disk_told ≡ true → MayMove v entry → Grows v.motions entry now → IsRecorded v.key v.units v.records now
+pub recorded-moved : (v : View) (entry : Motion) (now : Option (List Motion)) → IsSound v → v.disk_told ≡ true → MayMove v entry → AddsEntry v.motions entry now → IsRecorded v.key v.units v.records now
 recorded-moved v entry now s is may grows =
     let stands = rw may.written at s.stands in
-    let grown = subst (λ (e : Motion). Grows v.motions e now) may.entry_is grows in
+    let grown = subst (λ (e : Motion). AddsEntry v.motions e now) may.entry_is grows in
     recorded-ties (acted_view v may.kind may.moved may.diverted may.failed now v.places v.faults) now (s.numbered is)
     (told-act v may.kind may.counts may.moved may.diverted may.failed v.motions now now v.places v.faults s.budget may.written stands.0 stands.1 stands.2 may.carried (told-at v.disk_told v v.motions is s.told) grown)
 
@@ -89,7 +89,7 @@ one-possible J d K none (inr doubt) = absurd (never doubt.0 (sym none ∙ doubt.
 
 -- a crash leaves it
 pub leaves-kept : {D : Type 0} (g : Ghosts D) (disk : D) (J : List Rec) (d : Option Rec) → d ≡ None → IsStored g disk J d → Leaves g disk J
-leaves-kept g disk J d none stored = on_told (g.held disk) (λ _. (c : List ℕ) → g.images disk c → Stands c J) (λ all told c left.
+leaves-kept g disk J d none stored = on_told (g.held disk) (λ _. (c : List ℕ) → g.images disk c → StandsFor c J) (λ all told c left.
     let has = from_told (g.held disk) (λ _. (c : List ℕ) → g.images disk c → HasPossible J d c) stored all told c left in
     inl (subst (λ (K : List Rec). IsImage c K) (one-possible J d has.0 none has.1) has.2))
 
@@ -107,11 +107,11 @@ module _ {D : Type 0} (g : Ghosts D) (old mid : D) (p : Places)
       (from_told (g.held old) (λ all. LeavesOnly g.moment g.images_since old mid (IsOldOrShort (g.images old) all)) mounted all told))
 
   -- a mount, and then the append of the Boot
-  pub left-booted : (new : D) (J : List Rec) → is_some (g.held mid) ≡ is_some (g.held old) → IfTold (g.held old) (λ all. Stands all J)
+  pub left-booted : (new : D) (J : List Rec) → is_some (g.held mid) ≡ is_some (g.held old) → IfTold (g.held old) (λ all. StandsFor all J)
       → IfTold (g.held mid) (λ _. LeavesOnly g.moment g.images_since mid new (StandsForEither J (Boot p))) → IfTold (g.held old) (λ all. LeavesOnly g.moment g.images_since old new (IsOldOrBooted (g.images old) all p))
   left-booted new J told stands appended = on_told (g.held old) (λ all. LeavesOnly g.moment g.images_since old new (IsOldOrBooted (g.images old) all p)) (λ all is.
       let still = tells (g.held mid) (told ∙ ap is_some is) in
-      let found = from_told (g.held old) (λ all. Stands all J) stands all is in
+      let found = from_told (g.held old) (λ all. StandsFor all J) stands all is in
       weaken g.moment g.images_since old new (λ c. IsOldOrBooted (g.images old) all p c ⊎ StandsForEither J (Boot p) c) (IsOldOrBooted (g.images old) all p) (λ c either. ⊎_elim (λ was. was) (λ is. inr (J, found, is)) either)
       (joins g.moment g.images_since old mid new (IsOldOrBooted (g.images old) all p) (StandsForEither J (Boot p))
       (from_told (g.held old) (λ all. LeavesOnly g.moment g.images_since old mid (IsOldOrBooted (g.images old) all p)) left-mounted all is)
@@ -137,14 +137,14 @@ left-boot g old new key u m p as_read recorded moments = on_told (g.held old) (�
 
 -- a boot that never called its disk leaves it as it was
 module _ {D : Type 0} (g : Ghosts D) (d : D) (only_now : (c : List ℕ) → g.images_since d (g.moment d) c → g.images d c) where
-  pub unread-either : (p : Places) → IfTold (g.held d) (λ _. (J : List Rec) → ((c : List ℕ) → g.images d c → Stands c J) → (c : List ℕ) → g.images d c → StandsForEither J (Boot p) c)
-  unread-either p = on_told (g.held d) (λ _. (J : List Rec) → ((c : List ℕ) → g.images d c → Stands c J) → (c : List ℕ) → g.images d c → StandsForEither J (Boot p) c) (λ all told J each c now. inl (each c now))
+  pub unread-either : (p : Places) → IfTold (g.held d) (λ _. (J : List Rec) → ((c : List ℕ) → g.images d c → StandsFor c J) → (c : List ℕ) → g.images d c → StandsForEither J (Boot p) c)
+  unread-either p = on_told (g.held d) (λ _. (J : List Rec) → ((c : List ℕ) → g.images d c → StandsFor c J) → (c : List ℕ) → g.images d c → StandsForEither J (Boot p) c) (λ all told J each c now. inl (each c now))
 
   pub unread-quiet : IsQuiet g.held g.images g.moment g.images_since g.faults d d
   unread-quiet = record { same = refl; adds_none = λ c now. now; moments = started g.moment g.images_since d (g.images d) only_now; later = omega arith }
 
-  pub unread-unlisted : IfTold (g.held d) (λ all. ((J : List Rec) → ¬ Stands all J) → IsQuiet g.held g.images g.moment g.images_since g.faults d d)
-  unread-unlisted = on_told (g.held d) (λ all. ((J : List Rec) → ¬ Stands all J) → IsQuiet g.held g.images g.moment g.images_since g.faults d d) (λ all told none. unread-quiet)
+  pub unread-unlisted : IfTold (g.held d) (λ all. ((J : List Rec) → ¬ StandsFor all J) → IsQuiet g.held g.images g.moment g.images_since g.faults d d)
+  unread-unlisted = on_told (g.held d) (λ all. ((J : List Rec) → ¬ StandsFor all J) → IsQuiet g.held g.images g.moment g.images_since g.faults d d) (λ all told none. unread-quiet)
 
   pub unread-short : IfTold (g.held d) (λ all. LeavesOnly g.moment g.images_since d d (IsOldOrShort (g.images d) all))
   unread-short = on_told (g.held d) (λ all. LeavesOnly g.moment g.images_since d d (IsOldOrShort (g.images d) all)) (λ all told.

@@ -32,7 +32,7 @@ rises n (Order kind counts ∷ rs) = rises n rs
 rises n (Done moved diverted ∷ rs) = rises n rs
 rises n (Load unit count ∷ rs) = rises n rs
 
-below : (n : ℕ) (front more : List Rec) (number word : ℕ) → Walk next_number CarriesNumber n (front ++ Issue number word ∷ more) → number < fold next_number n (front ++ Issue number word ∷ more)
+below : (n : ℕ) (prefix more : List Rec) (number word : ℕ) → Walk next_number CarriesNumber n (prefix ++ Issue number word ∷ more) → number < fold next_number n (prefix ++ Issue number word ∷ more)
 below n [] more number word walk = let le = rises (n + 1) more in omega (arith, le, walk.0)
 below n (r ∷ rs) more number word walk = below (next_number n r) rs more number word walk.1
 

@@ -24,10 +24,10 @@ use Rattle.xfs_guard.specs.View.{View}
 use Rattle.xfs_guard.specs.Nonce.{nonce_of, live_nonce}
 use Rattle.xfs_guard.specs.Presented.{presented_in, pending}
 use Rattle.xfs_guard.specs.Budget.{IsFunded}
-use Rattle.xfs_guard.specs.Sound.{IsSound, Stands}
+use Rattle.xfs_guard.specs.Sound.{IsSound, OpenIsNewest}
 use Rattle.xfs_guard.specs.Refusals.{notes_of, asked_kind, asked_counts, over_budget, order_refusal, order_refusal_at, stack_refusal}
 use Rattle.xfs_token.proofs.AmountBounds.{amount-small}
-use Rattle.xfs_guard.proofs.BudgetLaws.{passed-none, amount-is, amount_in-none}
+use Rattle.xfs_guard.proofs.BudgetLaws.{over_budget-none, amount-is, amount_in-none}
 use Rattle.xfs_guard.proofs.RecordLaws.{longer, IsSound-order, released-order}
 
 -- a live nonce is that of a live issue
@@ -86,7 +86,7 @@ funded-stack v c a p b bound fits f = record {
   kept = f.kept;
   enough = λ cur.
       let same : f.amounts ≡ a = (let e : Some f.amounts ≡ Some a = sym f.kept ∙ bound in cc) in
-      let within = passed-none v.units v.records v.places.transport a c fits cur in
+      let within = over_budget-none v.units v.records v.places.transport a c fits cur in
       let whole = amount-is f.token f.amounts cur f.amounts_are in
       let there = ap (λ x. amount_in x cur) same in
       omega (arith, within, whole, there);
@@ -175,7 +175,7 @@ small-done v Stack m d failed s acted is c = cc
 small-done v Reject m d failed s acted is c = cc
 small-done v Retract m d failed s acted is c = cc
 small-done v Present m d failed s acted is c =
-    let stands : Stands (Acted Present m d failed) v.records v.places = rw acted at s.stands in
+    let stands : OpenIsNewest (Acted Present m d failed) v.records v.places = rw acted at s.stands in
     let r = stands.2 in
     let f = s.budget.funded r.place r.bytes r.lives r.bound in
     let e = rw acted at (f.enough c) in

@@ -30,10 +30,10 @@ use Rattle.xfs_guard.specs.declared.open.Open.TheVariants.{No, Written, Acted}
 use Rattle.xfs_guard.specs.Nonce.{Ends, live_nonce}
 use Rattle.xfs_guard.specs.View.{View}
 use Rattle.xfs_guard.specs.Agrees.{MayFollow, IsOrder, IsNoOrder}
-use Rattle.xfs_guard.specs.Within.{Carries, shown, shown_by}
+use Rattle.xfs_guard.specs.Within.{IsOfNonce, shown, shown_by}
 use Rattle.xfs_guard.specs.Presented.{done_worth, presented_in, unsettled}
 use Rattle.xfs_guard.specs.Budget.{IsFunded}
-use Rattle.xfs_guard.specs.Sound.{IsReleased, IfPresent, Stands, HasActed, Ties, where_told, IsSound}
+use Rattle.xfs_guard.specs.Sound.{IsReleased, IfPresent, OpenIsNewest, HasActed, Ties, where_told, IsSound}
 use Rattle.xfs_guard.proofs.AgreesLaws.{Agrees-record, numbers_within}
 use Rattle.xfs_guard.proofs.PresentedLaws.{presented_in-push}
 use Rattle.xfs_guard.proofs.WithinLaws.{Within-record, shown-record, carries-record}
@@ -144,7 +144,7 @@ IsSound-done v k m d failed s acted = record {
     live : (p : ℕ) → live_of (v.records ++ Done m d ∷ []) ≡ Some p → live_of v.records ≡ Some p
     live p lives = sym (live_of-push v.records (Done m d)) ∙ lives
 
-    stands : Stands (Acted k m d failed) v.records v.places
+    stands : OpenIsNewest (Acted k m d failed) v.records v.places
     stands = rw acted at s.stands
 
     worth : (cur : List ℕ) → presented_in v.units (v.records ++ Done m d ∷ []) cur ≡ presented_in v.units v.records cur + unsettled v.units (Acted k m d failed) cur
@@ -314,7 +314,7 @@ no-binding J p e = of (binding_of J p) e
 
 -- a token is bound to the live nonce, which had none
 pub IsSound-bind : (v : View) (p : ℕ) (b : List ℕ) (t : Parts) (amounts : List (List ℕ × ℕ)) → IsSound v → v.open_order ≡ No → live_of v.records ≡ Some p → token_of v.records p ≡ None
-    → Carries v.key v.records p b t → amounts_of t ≡ Some amounts → ((c : List ℕ) → value v.units v.places.transport c ≤ amount t c)
+    → IsOfNonce v.key v.records p b t → amounts_of t ≡ Some amounts → ((c : List ℕ) → value v.units v.places.transport c ≤ amount t c)
     → IsSound (longer v (Bind b) (Some amounts) No)
 IsSound-bind v p b t amounts s none lives unbound carries are enough = record {
   numbered = λ told. Walk-push next_number CarriesNumber 1 v.records (Bind b) (s.numbered told) tt;

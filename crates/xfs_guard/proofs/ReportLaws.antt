@@ -14,7 +14,7 @@ use Rattle.xfs_base.proofs.MoneyLaws.{value_from-le}
 use Rattle.xfs_mech.specs.declared.motion.Motion.{Motion}
 use Rattle.xfs_mech.specs.declared.motion.Motion.TheVariants.{Moved, Taken, Loaded}
 use Rattle.xfs_mech.specs.Motions.{NumberIs, PlacesOf}
-use Rattle.xfs_mech.specs.Mechanism.{Grows, Reports, source_of}
+use Rattle.xfs_mech.specs.Mechanism.{AddsEntry, Reports, source_of}
 use Rattle.xfs_mech.proofs.MotionLaws.{all-append}
 use Rattle.xfs_journal.specs.declared.record.Rec.{Rec}
 use Rattle.xfs_guard.specs.declared.open.Open.{Open}
@@ -26,7 +26,7 @@ use Rattle.xfs_guard.specs.Budget.{Budget}
 use Rattle.xfs_guard.specs.Recorded.{IsRecorded}
 use Rattle.xfs_guard.specs.Orders.{kind_unacted}
 use Rattle.xfs_guard.specs.Kept.{HasRoom, HasLimits}
-use Rattle.xfs_guard.specs.Sound.{Stands, HasActed, Ties, where_told, IsSound}
+use Rattle.xfs_guard.specs.Sound.{OpenIsNewest, HasActed, Ties, where_told, IsSound}
 use Rattle.xfs_guard.specs.Continues.{Continues}
 use Rattle.xfs_guard.proofs.CrashedLaws.{begins-same}
 use Rattle.xfs_mech.proofs.MoveLaws.{Moves-same, Moves-entry}
@@ -48,7 +48,7 @@ IsReport (Loaded u n) = ⊤
 abbrev pub LeavesSource : Open → Places → Places → Type 0
 LeavesSource o P Q = (k : Kind) → kind_unacted o ≡ Some k → LiesIn (source_of k P) (source_of k Q)
 
-stands-report : (o : Open) (J : List Rec) (P Q : Places) → LeavesSource o P Q → Stands o J P → Stands o J Q
+stands-report : (o : Open) (J : List Rec) (P Q : Places) → LeavesSource o P Q → OpenIsNewest o J P → OpenIsNewest o J Q
 stands-report No J P Q leaves s = s
 stands-report (Written k c) J P Q leaves s = (s.0, λ u. omega (arith, s.1 u, leaves k refl u), s.2)
 stands-report (Acted k m d failed) J P Q leaves s = s
@@ -137,11 +137,11 @@ told-same : (v : View) (now : Option (List Motion)) (Q : Places) (f : ℕ) (told
 told-same v now Q f None t = tt
 told-same v now Q f (Some L) t = ties-same v now Q f L t
 
-told-report : (v : View) (now was is : Option (List Motion)) (Q : Places) (f : ℕ) (e : Motion) → IsReport e → IfTold was (Ties v) → Grows was e is → IfTold is (Ties (reported_view v now Q f))
+told-report : (v : View) (now was is : Option (List Motion)) (Q : Places) (f : ℕ) (e : Motion) → IsReport e → IfTold was (Ties v) → AddsEntry was e is → IfTold is (Ties (reported_view v now Q f))
 told-report v now None is Q f e of t grows = rw grows tt
 told-report v now (Some L) is Q f e of t grows = rw grows (ties-report v now Q f L e of t)
 
-sound-entry : (v : View) (e : Motion) (now : Option (List Motion)) (Q : Places) (f : ℕ) → IsSound v → IsReport e → Grows v.motions e now → PlacesOf v.places (e ∷ []) Q → LeavesSource v.open_order v.places Q
+sound-entry : (v : View) (e : Motion) (now : Option (List Motion)) (Q : Places) (f : ℕ) → IsSound v → IsReport e → AddsEntry v.motions e now → PlacesOf v.places (e ∷ []) Q → LeavesSource v.open_order v.places Q
     → IsSound (reported_view v now Q f)
 sound-entry v e now Q f s is grows places leaves = record {
   numbered = s.numbered;
@@ -213,14 +213,14 @@ loaded-leaves o unit count P Q places Reject is u = omega (arith, places.transpo
 loaded-leaves o unit count P Q places Retract is u = omega (arith, places.outlet u)
 
 -- a list of records agrees with what the mechanism did, also with an entry more that no order asked for
-pub IsRecorded-entry : (key : List ℕ) (u : List NoteKind) (J : List Rec) (e : Motion) (was now : Option (List Motion)) → IsReport e → Grows was e now → IsRecorded key u J was → IsRecorded key u J now
+pub IsRecorded-entry : (key : List ℕ) (u : List NoteKind) (J : List Rec) (e : Motion) (was now : Option (List Motion)) → IsReport e → AddsEntry was e now → IsRecorded key u J was → IsRecorded key u J now
 IsRecorded-entry key u J e was now is g h = record { numbered = h.numbered; agrees = agrees was h.agrees g; within = within was h.within g }
   where
-    agrees : (was : Option (List Motion)) → IfTold was (Agrees J) → Grows was e now → IfTold now (Agrees J)
+    agrees : (was : Option (List Motion)) → IfTold was (Agrees J) → AddsEntry was e now → IfTold now (Agrees J)
     agrees None a g = rw g tt
     agrees (Some L) a g = rw g (Agrees-report J L e is a)
 
-    within : (was : Option (List Motion)) → IfTold was (Within key u J) → Grows was e now → IfTold now (Within key u J)
+    within : (was : Option (List Motion)) → IfTold was (Within key u J) → AddsEntry was e now → IfTold now (Within key u J)
     within None a g = rw g tt
     within (Some L) a g = rw g (Within-quiet key u J L e (λ p cur. shown_by-report u J p cur e is) (within-report key u J (L ++ e ∷ []) e is) a)
 

@@ -12,8 +12,8 @@ use Rattle.xfs_journal.specs.declared.record.Rec.{Rec}
 use Rattle.xfs_journal.specs.declared.record.Rec.TheVariants.{Boot}
 use Rattle.xfs_journal.proofs.Moments.{weaken, joins}
 use Rattle.xfs_journal.proofs.Told.{on_told, from_told}
-use Rattle.xfs_guard.specs.Crashed.{IsLeftAt, StandsLeft, StandsReread, LeavesBehind}
-use Rattle.xfs_guard.specs.Left.{StandsRecorded}
+use Rattle.xfs_guard.specs.Crashed.{IsCrashOutcomeAt, StandsLeft, StandsReread, LeavesBehind}
+use Rattle.xfs_guard.specs.CrashOutcomes.{StandsRecorded}
 use Rattle.xfs_guard.specs.Recorded.{IsRecorded}
 use Rattle.xfs_guard.specs.Stored.{IsStored}
 use Rattle.xfs_guard.specs.View.{View, GuardView}
@@ -43,17 +43,17 @@ module _ {D : Type 0} (g : Ghosts D) where
 
   -- what was left goes on from the records before
   pub behind-reread : (old new : GuardView D) (p : Places) → is_some (g.held new.disk) ≡ is_some (g.held old.disk)
-      → IfTold (g.held old.disk) (λ _. LeavesOnly g.moment g.images_since old.disk new.disk (λ bytes. g.images old.disk bytes ⊎ StandsReread old.state.records old.state.in_doubt p (IsLeftAt new.state) bytes))
+      → IfTold (g.held old.disk) (λ _. LeavesOnly g.moment g.images_since old.disk new.disk (λ bytes. g.images old.disk bytes ⊎ StandsReread old.state.records old.state.in_doubt p (IsCrashOutcomeAt new.state) bytes))
       → LeavesBehind g old new
   behind-reread old new p told leaves = record {
     told = told;
     moments = on_told (g.held old.disk) (λ _. LeavesOnly g.moment g.images_since old.disk new.disk (λ bytes. g.images old.disk bytes ⊎ StandsLeft old.state new.state bytes)) (λ all is.
-        weaken g.moment g.images_since old.disk new.disk (λ bytes. g.images old.disk bytes ⊎ StandsReread old.state.records old.state.in_doubt p (IsLeftAt new.state) bytes)
+        weaken g.moment g.images_since old.disk new.disk (λ bytes. g.images old.disk bytes ⊎ StandsReread old.state.records old.state.in_doubt p (IsCrashOutcomeAt new.state) bytes)
         (λ bytes. g.images old.disk bytes ⊎ StandsLeft old.state new.state bytes) (λ bytes e. ⊎_elim (λ was. inl was) (λ read. inr (from bytes read read.either)) e)
-        (from_told (g.held old.disk) (λ _. LeavesOnly g.moment g.images_since old.disk new.disk (λ bytes. g.images old.disk bytes ⊎ StandsReread old.state.records old.state.in_doubt p (IsLeftAt new.state) bytes)) leaves all is));
+        (from_told (g.held old.disk) (λ _. LeavesOnly g.moment g.images_since old.disk new.disk (λ bytes. g.images old.disk bytes ⊎ StandsReread old.state.records old.state.in_doubt p (IsCrashOutcomeAt new.state) bytes)) leaves all is));
   }
     where
-      from : (bytes : List ℕ) (read : StandsReread old.state.records old.state.in_doubt p (IsLeftAt new.state) bytes) → StandsForEither read.list (Boot p) bytes → StandsLeft old.state new.state bytes
+      from : (bytes : List ℕ) (read : StandsReread old.state.records old.state.in_doubt p (IsCrashOutcomeAt new.state) bytes) → StandsForEither read.list (Boot p) bytes → StandsLeft old.state new.state bytes
       from bytes read (inl is) = record { list = read.list; stands = is; begins = begins-possible old.state.records old.state.in_doubt read.list read.possible; left = read.without }
       from bytes read (inr is) = record {
         list = read.list ++ Boot p ∷ [];

@@ -6,7 +6,7 @@ use Rattle.std.specs.declared.result.Result.{Result}
 use Rattle.xfs_base.specs.declared.money.NoteKind.{NoteKind}
 use Rattle.xfs_base.specs.declared.counts.Places.{Places}
 use Rattle.xfs_mech.specs.declared.motion.Motion.{Motion}
-use Rattle.xfs_journal.specs.JournalView.{IsPossible, passes}
+use Rattle.xfs_journal.specs.JournalView.{IsPossible, exceeds}
 use Rattle.xfs_journal.specs.declared.record.Rec.{Rec}
 use Rattle.xfs_journal.specs.declared.record.Rec.TheVariants.{Boot}
 use Rattle.xfs_guard.specs.declared.fail.BootFault.{BootFault}
@@ -54,7 +54,7 @@ MayRestore old new p = (new ≡ shut_now old new) ⊎ ((J : List Rec) × IsPossi
 
 pub restored : {T D : Type 0} (res : Result T BootFault) (old new : LedgerView D) (p : Places) (told : Type 0) → res ≢ Err Memory
     → OnOk res ((J : List Rec) × IsPossible old.records old.in_doubt J × (new ≡ booted_now old new p J))
-    → (res ≡ Err Full → (J : List Rec) × IsPossible old.records old.in_doubt J × (passes old.limits (J ++ Boot p ∷ []) ≡ true) × (new ≡ missing_now old new J))
+    → (res ≡ Err Full → (J : List Rec) × IsPossible old.records old.in_doubt J × (exceeds old.limits (J ++ Boot p ∷ []) ≡ true) × (new ≡ missing_now old new J))
     → (res ≡ Err Disk → (new ≡ shut_now old new) ⊎ ((J : List Rec) × IsPossible old.records old.in_doubt J × (new ≡ doubted_now old new p J)))
     → IfErr res (λ f. (at : ℕ) → f ≡ NotJournal at → told × (new ≡ shut_now old new))
     → MayRestore old new p
@@ -70,7 +70,7 @@ restored (Err (NotJournal at)) old new p told other ok full disk silent = inl (s
 pub may-restore : {T D : Type 0} (res : Result T BootFault) (old new : LedgerView D) (p : Places) (told : Type 0)
     → OnOk res ((J : List Rec) × IsPossible old.records old.in_doubt J × (new ≡ booted_now old new p J))
     → (res ≡ Err Memory → new ≡ untouched old new)
-    → (res ≡ Err Full → (J : List Rec) × IsPossible old.records old.in_doubt J × (passes old.limits (J ++ Boot p ∷ []) ≡ true) × (new ≡ missing_now old new J))
+    → (res ≡ Err Full → (J : List Rec) × IsPossible old.records old.in_doubt J × (exceeds old.limits (J ++ Boot p ∷ []) ≡ true) × (new ≡ missing_now old new J))
     → (res ≡ Err Disk → (new ≡ shut_now old new) ⊎ ((J : List Rec) × IsPossible old.records old.in_doubt J × (new ≡ doubted_now old new p J)))
     → IfErr res (λ f. (at : ℕ) → f ≡ NotJournal at → told × (new ≡ shut_now old new))
     → (new ≡ untouched old new) ⊎ MayRestore old new p

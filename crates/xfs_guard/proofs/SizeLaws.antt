@@ -8,7 +8,7 @@ use Rattle.xfs_base.specs.declared.counts.Kind.{Kind}
 use Rattle.xfs_journal.specs.Image.{counts_bytes, body, framed, blocks, magic, size}
 use Rattle.xfs_journal.proofs.Decoding.{length-numbers}
 use Rattle.xfs_journal.specs.declared.record.Rec.TheVariants.{Order, Done}
-use Rattle.xfs_journal.specs.JournalView.{passes}
+use Rattle.xfs_journal.specs.JournalView.{exceeds}
 use Rattle.xfs_journal.specs.declared.limits.Limits.{Limits}
 use Rattle.xfs_journal.specs.declared.record.Rec.{Rec}
 use Rattle.xfs_guard.specs.declared.deny.Deny.{Deny}
@@ -56,7 +56,7 @@ fit-parts v e = go v.shut v.boot_missing (is_short v) e
     go false false false e = (refl, refl, refl)
 
 -- it takes one more record of up to 1,025 bytes
-pub takes-one : (limits : Limits) (J : List Rec) (r : Rec) → (nat_lt (limits.records - length J) 3 || nat_lt (limits.bytes - size J) 2048) ≡ false → length (body r) ≤ 1025 → passes limits (J ++ r ∷ []) ≡ false
+pub takes-one : (limits : Limits) (J : List Rec) (r : Rec) → (nat_lt (limits.records - length J) 3 || nat_lt (limits.bytes - size J) 2048) ≡ false → length (body r) ≤ 1025 → exceeds limits (J ++ r ∷ []) ≡ false
 takes-one limits J r free short =
     let parts = neither (nat_lt (limits.records - length J) 3) (nat_lt (limits.bytes - size J) 2048) free in
     let many = ltb-false (limits.records - length J) 3 parts.0 in
@@ -70,8 +70,8 @@ pub fit-at : {D : Type 0} (a b : GuardView D) → a ≡ b → unfit b.state ≡ 
 fit-at a b e fit = fit-parts a.state (rw e fit)
 
 -- a ledger that is open and takes one more record refuses none
-pub may-write : {D : Type 0} (l : LedgerView D) (r : Rec) → l.shut ≡ false → l.boot_missing ≡ false → passes l.limits (l.records ++ r ∷ []) ≡ false → write_refusal l r ≡ None
-may-write l r e m f = go l.shut l.boot_missing (passes l.limits (l.records ++ r ∷ [])) e m f
+pub may-write : {D : Type 0} (l : LedgerView D) (r : Rec) → l.shut ≡ false → l.boot_missing ≡ false → exceeds l.limits (l.records ++ r ∷ []) ≡ false → write_refusal l r ≡ None
+may-write l r e m f = go l.shut l.boot_missing (exceeds l.limits (l.records ++ r ∷ [])) e m f
   where
     go : (s b p : Bool) → s ≡ false → b ≡ false → p ≡ false → (if s then Some Deny.Shut else if b then Some Deny.Full else if p then Some Deny.Full else None) ≡ None
     go true b p e m f = cc
@@ -81,7 +81,7 @@ may-write l r e m f = go l.shut l.boot_missing (passes l.limits (l.records ++ r 
 
 -- a ledger that refuses no record is open
 pub write-open : {D : Type 0} (a b : LedgerView D) (r : Rec) → a ≡ b → write_refusal b r ≡ None → (a.shut ≡ false) × (a.boot_missing ≡ false)
-write-open a b r same none = go a.shut a.boot_missing (passes a.limits (a.records ++ r ∷ [])) (rw same none)
+write-open a b r same none = go a.shut a.boot_missing (exceeds a.limits (a.records ++ r ∷ [])) (rw same none)
   where
     go : (s m p : Bool) → (if s then Some Deny.Shut else if m then Some Deny.Full else if p then Some Deny.Full else None) ≡ None → (s ≡ false) × (m ≡ false)
     go true m p e = cc
@@ -95,7 +95,7 @@ done-short : (m d : Counts) → length m.0 ≡ 8 → length d.0 ≡ 8 → length
 done-short m d e f = omega (arith, length-append (counts_bytes m) (counts_bytes d), length-numbers m.0, length-numbers d.0, e, f)
 
 -- the limits leave an open order its Done
-pub takes-done : (limits : Limits) (J : List Rec) (m d : Counts) → length m.0 ≡ 8 → length d.0 ≡ 8 → (length J + 1 ≤ limits.records) × (size J + 68 ≤ limits.bytes) → passes limits (J ++ Done m d ∷ []) ≡ false
+pub takes-done : (limits : Limits) (J : List Rec) (m d : Counts) → length m.0 ≡ 8 → length d.0 ≡ 8 → (length J + 1 ≤ limits.records) × (size J + 68 ≤ limits.bytes) → exceeds limits (J ++ Done m d ∷ []) ≡ false
 takes-done limits J m d e f room =
     both (nat_lt limits.records (length (J ++ Done m d ∷ []))) (nat_lt limits.bytes (size (J ++ Done m d ∷ [])))
     (not-under limits.records (length (J ++ Done m d ∷ [])) (omega (arith, room.0, length-append J (Done m d ∷ []))))

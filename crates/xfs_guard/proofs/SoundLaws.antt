@@ -18,7 +18,7 @@ use Rattle.xfs_journal.specs.Journal.{record_at, live_of}
 use Rattle.xfs_mech.specs.Motions.{PlacesOf}
 use Rattle.xfs_base.specs.Causes.{IfTold}
 use Rattle.xfs_base.specs.Counts.{LiesIn}
-use Rattle.xfs_mech.specs.Mechanism.{Grows, source_of, Carries as MayCarry}
+use Rattle.xfs_mech.specs.Mechanism.{AddsEntry, source_of, MayCarry}
 use Rattle.xfs_guard.specs.Within.{Within, shown}
 use Rattle.xfs_guard.specs.View.{View}
 use Rattle.xfs_guard.specs.Presented.{presented_in, pending, unsettled}
@@ -107,7 +107,7 @@ counted-act v Present c m d failed L written released t p cur lives =
 
 pub told-act : (v : View) (k : Kind) (c m d : Counts) (failed : Bool) (was now seen : Option (List Motion)) (Q : Places) (f : ℕ) → Budget v → v.open_order ≡ Written k c
     → record_at v.records (length v.records) ≡ Some (Order k c) → LiesIn c (source_of k v.places) → IfPresent k (IsReleased v.records)
-    → MayCarry k c m d failed → IfTold was (Ties v) → Grows was (Moved (length v.records) k m d) now
+    → MayCarry k c m d failed → IfTold was (Ties v) → AddsEntry was (Moved (length v.records) k m d) now
     → IfTold now (Ties (acted_view v k m d failed seen Q f))
 told-act v k c m d failed None now seen Q f budget written last lies released may told grows = rw grows tt
 told-act v k c m d failed (Some L) now seen Q f budget written last lies released may t grows = rw grows (record {
@@ -118,13 +118,13 @@ told-act v k c m d failed (Some L) now seen Q f budget written last lies release
 })
 
 -- a list that stands beside a journal that isn't told is not told
-pub grows-told : (b : Bool) (was now : Option (List Motion)) (m : Motion) → Grows was m now → Grows (where_told b was) m (where_told b now)
+pub grows-told : (b : Bool) (was now : Option (List Motion)) (m : Motion) → AddsEntry was m now → AddsEntry (where_told b was) m (where_told b now)
 grows-told true was now m g = g
 grows-told false was now m g = refl
 
 -- carrying out the order
 pub IsSound-act : (v : View) (k : Kind) (c m d : Counts) (failed : Bool) (now : Option (List Motion)) (Q : Places) (f : ℕ) → IsSound v → v.open_order ≡ Written k c
-    → MayCarry k c m d failed → Grows v.motions (Moved (length v.records) k m d) now → PlacesOf v.places (Moved (length v.records) k m d ∷ []) Q
+    → MayCarry k c m d failed → AddsEntry v.motions (Moved (length v.records) k m d) now → PlacesOf v.places (Moved (length v.records) k m d ∷ []) Q
     → IsSound (acted_view v k m d failed now Q f)
 IsSound-act v k c m d failed now Q f s written may grows places =
     let stands = rw written at s.stands in record {

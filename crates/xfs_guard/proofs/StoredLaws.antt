@@ -7,7 +7,7 @@ use Rattle.xfs_base.specs.Causes.{IfTold}
 use Rattle.xfs_base.specs.declared.counts.Places.{Places}
 use Rattle.xfs_disk.specs.Disk.{LeavesOnly}
 use Rattle.xfs_disk.specs.declared.disk.Disk.{Ghosts}
-use Rattle.xfs_journal.specs.Image.{Stands}
+use Rattle.xfs_journal.specs.Image.{StandsFor}
 use Rattle.xfs_journal.specs.JournalView.{IsPossible, HasPossible, StandsForEither}
 use Rattle.xfs_journal.specs.Paging.{IsOldOrShort, IsQuiet}
 use Rattle.xfs_journal.specs.declared.record.Rec.{Rec}
@@ -29,16 +29,16 @@ pub at_told : {T : Type 0} (held : Option T) (P : T → Type 0) (all : T) → he
 at_told held P all known fact = rw known at fact
 
 -- a list that an image stands for is one of those that the image was said to stand for
-pub one_of_either : (kept : List Rec) (r : Rec) (c : List ℕ) (J : List Rec) → StandsForEither kept r c → Stands c J → (J ≡ kept) ⊎ (J ≡ kept ++ r ∷ [])
+pub one_of_either : (kept : List Rec) (r : Rec) (c : List ℕ) (J : List Rec) → StandsForEither kept r c → StandsFor c J → (J ≡ kept) ⊎ (J ≡ kept ++ r ∷ [])
 one_of_either kept r c J (inl before) stands = inl (stands_for_one c J kept stands before)
 one_of_either kept r c J (inr after) stands = inr (stands_for_one c J (kept ++ r ∷ []) stands after)
 
 -- what a disk that tells has now is a list that it may leave
 pub MayLeave-held : {D : Type 0} (g : Ghosts D) (d : D) (J : List Rec) → ((d : D) (all : List ℕ) → g.held d ≡ Some all → g.images d all)
-    → is_some (g.held d) ≡ true → IfTold (g.held d) (λ all. Stands all J) → MayLeave g d J
+    → is_some (g.held d) ≡ true → IfTold (g.held d) (λ all. StandsFor all J) → MayLeave g d J
 MayLeave-held g d J as_read told stands =
     let known = tells (g.held d) told in
-    record { told = told; bytes = known.0; left = as_read d known.0 known.1; stands = at_told (g.held d) (λ all. Stands all J) known.0 known.1 stands }
+    record { told = told; bytes = known.0; left = as_read d known.0 known.1; stands = at_told (g.held d) (λ all. StandsFor all J) known.0 known.1 stands }
 
 -- the disk was not mounted: a crash leaves what it left before
 pub WasLeft-mount : {D : Type 0} (g : Ghosts D) (old new : D) (places : Places)
@@ -58,7 +58,7 @@ WasLeft-mount g old new places as_read counts_now same moments J may =
 -- the Boot was not written, or it is not known whether it was
 pub WasLeft-append : {D : Type 0} (g : Ghosts D) (old mid new end : D) (places : Places) (kept : List Rec)
     → ((d : D) (all : List ℕ) → g.held d ≡ Some all → g.images d all) → is_some (g.held mid) ≡ is_some (g.held old) → is_some (g.held new) ≡ is_some (g.held mid) → end ≡ new
-    → IfTold (g.held old) (λ all. Stands all kept) → IfTold (g.held mid) (λ _. (c : List ℕ) → g.images new c → StandsForEither kept (Boot places) c)
+    → IfTold (g.held old) (λ all. StandsFor all kept) → IfTold (g.held mid) (λ _. (c : List ℕ) → g.images new c → StandsForEither kept (Boot places) c)
     → (J : List Rec) → MayLeave g end J → WasLeft g old places J
 WasLeft-append g old mid new end places kept as_read mounted appended ended stands either J may =
     let after : is_some (g.held new) ≡ true = rw ended at may.told in
@@ -84,23 +84,23 @@ left-possible g d kept in_doubt stored J may =
 pub stays-mount : {D : Type 0} (g : Ghosts D) (old new : D) (places : Places)
     → ((d : D) (all : List ℕ) → g.held d ≡ Some all → g.images d all) → ((d : D) (t : ℕ) (c : List ℕ) → t ≤ g.moment d → g.images d c → g.images_since d t c)
     → IfTold (g.held old) (λ all. LeavesOnly g.moment g.images_since old new (IsOldOrShort (g.images old) all))
-    → IfTold (g.held old) (λ _. (J : List Rec) → ((c : List ℕ) → g.images old c → Stands c J) → (c : List ℕ) → g.images new c → StandsForEither J (Boot places) c)
+    → IfTold (g.held old) (λ _. (J : List Rec) → ((c : List ℕ) → g.images old c → StandsFor c J) → (c : List ℕ) → g.images new c → StandsForEither J (Boot places) c)
 stays-mount g old new places as_read counts_now moments = go (g.held old) refl moments
   where
     go : (h : Option (List ℕ)) → g.held old ≡ h → IfTold h (λ all. LeavesOnly g.moment g.images_since old new (IsOldOrShort (g.images old) all))
-        → IfTold h (λ _. (J : List Rec) → ((c : List ℕ) → g.images old c → Stands c J) → (c : List ℕ) → g.images new c → StandsForEither J (Boot places) c)
+        → IfTold h (λ _. (J : List Rec) → ((c : List ℕ) → g.images old c → StandsFor c J) → (c : List ℕ) → g.images new c → StandsForEither J (Boot places) c)
     go None is m = tt
     go (Some all) is m = λ J each c now. inl (settles (g.images old) all J (as_read old all is) each c (m.each c (counts_now new (g.moment old) c m.later now)))
 
 -- a Boot that is refused leaves it with the Boot or without
 pub stays-append : {D : Type 0} (g : Ghosts D) (old mid new end : D) (places : Places) (kept : List Rec)
     → ((d : D) (all : List ℕ) → g.held d ≡ Some all → g.images d all) → is_some (g.held mid) ≡ is_some (g.held old) → end ≡ new
-    → IfTold (g.held old) (λ all. Stands all kept) → IfTold (g.held mid) (λ _. (c : List ℕ) → g.images new c → StandsForEither kept (Boot places) c)
-    → IfTold (g.held old) (λ _. (J : List Rec) → ((c : List ℕ) → g.images old c → Stands c J) → (c : List ℕ) → g.images end c → StandsForEither J (Boot places) c)
+    → IfTold (g.held old) (λ all. StandsFor all kept) → IfTold (g.held mid) (λ _. (c : List ℕ) → g.images new c → StandsForEither kept (Boot places) c)
+    → IfTold (g.held old) (λ _. (J : List Rec) → ((c : List ℕ) → g.images old c → StandsFor c J) → (c : List ℕ) → g.images end c → StandsForEither J (Boot places) c)
 stays-append g old mid new end places kept as_read mounted ended stands either = go (g.held old) refl stands
   where
-    go : (h : Option (List ℕ)) → g.held old ≡ h → IfTold h (λ all. Stands all kept)
-        → IfTold h (λ _. (J : List Rec) → ((c : List ℕ) → g.images old c → Stands c J) → (c : List ℕ) → g.images end c → StandsForEither J (Boot places) c)
+    go : (h : Option (List ℕ)) → g.held old ≡ h → IfTold h (λ all. StandsFor all kept)
+        → IfTold h (λ _. (J : List Rec) → ((c : List ℕ) → g.images old c → StandsFor c J) → (c : List ℕ) → g.images end c → StandsForEither J (Boot places) c)
     go None is s = tt
     go (Some all) is s = λ J each c now.
         let same : kept ≡ J = stands_for_one all kept J s (each all (as_read old all is)) in
@@ -112,19 +112,19 @@ stays-append g old mid new end places kept as_read mounted ended stands either =
 -- a refused mount leaves a disk that stands for no list as it was
 pub unlisted-mount : {D : Type 0} (g : Ghosts D) (old new : D)
     → IfTold (g.held old) (λ all. 9 < length all → IsQuiet g.held g.images g.moment g.images_since g.faults old new)
-    → IfTold (g.held old) (λ all. ((J : List Rec) → ¬ Stands all J) → IsQuiet g.held g.images g.moment g.images_since g.faults old new)
+    → IfTold (g.held old) (λ all. ((J : List Rec) → ¬ StandsFor all J) → IsQuiet g.held g.images g.moment g.images_since g.faults old new)
 unlisted-mount g old new long = go (g.held old) long
   where
     go : (h : Option (List ℕ)) → IfTold h (λ all. 9 < length all → IsQuiet g.held g.images g.moment g.images_since g.faults old new)
-        → IfTold h (λ all. ((J : List Rec) → ¬ Stands all J) → IsQuiet g.held g.images g.moment g.images_since g.faults old new)
+        → IfTold h (λ all. ((J : List Rec) → ¬ StandsFor all J) → IsQuiet g.held g.images g.moment g.images_since g.faults old new)
     go None l = tt
     go (Some all) l = λ none. by_length none (nat_lt 9 (length all)) refl
       where
-        by_length : ((J : List Rec) → ¬ Stands all J) → (b : Bool) → nat_lt 9 (length all) ≡ b → IsQuiet g.held g.images g.moment g.images_since g.faults old new
+        by_length : ((J : List Rec) → ¬ StandsFor all J) → (b : Bool) → nat_lt 9 (length all) ≡ b → IsQuiet g.held g.images g.moment g.images_since g.faults old new
         by_length none true is = l (ltb-true 9 (length all) is)
         by_length none false is = absurd (none [] (short_stands all (ltb-false 9 (length all) is)))
 
 -- a disk that was mounted stands for a list
-pub unlisted-booted : (held : Option (List ℕ)) (kept : List Rec) (P : Type 0) → IfTold held (λ all. Stands all kept) → IfTold held (λ all. ((J : List Rec) → ¬ Stands all J) → P)
+pub unlisted-booted : (held : Option (List ℕ)) (kept : List Rec) (P : Type 0) → IfTold held (λ all. StandsFor all kept) → IfTold held (λ all. ((J : List Rec) → ¬ StandsFor all J) → P)
 unlisted-booted None kept P stands = tt
 unlisted-booted (Some all) kept P stands = λ none. absurd (none kept stands)

@@ -15,7 +15,7 @@ use Rattle.xfs_journal.specs.declared.record.Rec.{Rec}
 use Rattle.xfs_journal.specs.declared.record.Rec.TheVariants.{Order}
 use Rattle.xfs_journal.specs.Journal.{record_at, live_at, is_place, token_of}
 use Rattle.xfs_mech.specs.Motions.{NumberIs}
-use Rattle.xfs_guard.specs.Within.{shown_by, shown, HasNonce, Carries, IsCovered, IsPaidFor, IsWithin, Within}
+use Rattle.xfs_guard.specs.Within.{shown_by, shown, HasNonce, IsOfNonce, IsCovered, IsPaidFor, IsWithin, Within}
 use Rattle.xfs_journal.proofs.JournalLaws.{record_at-push, record_at-within, live_at-push, token_of-kept, eqb-same, eqb-no}
 use Rattle.xfs_mech.proofs.MotionLaws.{all-append, all-map}
 use Rattle.xfs_token.specs.Token.{Parts}
@@ -51,7 +51,7 @@ nonce-within J (suc i) t h = elim (cases_lt i (length J)) [
 nonce-record : (J : List Rec) (r : Rec) (p : ℕ) (t : List ℕ) → HasNonce (record_at J p) t → HasNonce (record_at (J ++ r ∷ []) p) t
 nonce-record J r p t h = rw (record_at-push J r p (nonce-within J p t h)) h
 
-pub carries-record : (key : List ℕ) (J : List Rec) (r : Rec) (p : ℕ) (b : List ℕ) (t : Parts) → Carries key J p b t → Carries key (J ++ r ∷ []) p b t
+pub carries-record : (key : List ℕ) (J : List Rec) (r : Rec) (p : ℕ) (b : List ℕ) (t : Parts) → IsOfNonce key J p b t → IsOfNonce key (J ++ r ∷ []) p b t
 carries-record key J r p b t h = record { genuine = h.genuine; nonce = nonce-record J r p t.nonce h.nonce }
 
 covered-record : (key : List ℕ) (u : List NoteKind) (J : List Rec) (r : Rec) (L : List Motion) (p : ℕ) (b : List ℕ) → AllByRecursion (NumberIs (λ n. n ≤ length J)) L
@@ -137,7 +137,7 @@ shown_by-own u J p n c m d e = rw (e, eqb-same p) refl
 -- (c) a present that the budget covers keeps Within
 pub Within-present : (key : List ℕ) (u : List NoteKind) (J : List Rec) (L : List Motion) (n p : ℕ) (b : List ℕ) (t : Parts) (c m d : Counts)
     → record_at J n ≡ Some (Order Present c) → live_at J n ≡ Some p → token_of J p ≡ Some b
-    → Carries key J p b t → ((cur : List ℕ) → shown u J L p cur + value u m cur ≤ amount t cur)
+    → IsOfNonce key J p b t → ((cur : List ℕ) → shown u J L p cur + value u m cur ≤ amount t cur)
     → Within key u J L → Within key u J (L ++ Moved n Present m d ∷ [])
 Within-present key u J L n p b t c m d ordered lives bound carries enough w =
     Within-motion key u J L (Moved n Present m d) keeps (record { counts = c; ordered = ordered; place = p; lives = lives; bytes = b; bound = bound; covered = own }) w

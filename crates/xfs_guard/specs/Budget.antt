@@ -6,12 +6,12 @@ use Rattle.xfs_token.specs.Amounts.{amount, amounts_of}
 use Rattle.xfs_journal.specs.Journal.{live_of, token_of}
 use Rattle.xfs_guard.specs.View.{View}
 use Rattle.xfs_guard.specs.Presented.{presented_in, unsettled, pending}
-use Rattle.xfs_guard.specs.Within.{Carries}
+use Rattle.xfs_guard.specs.Within.{IsOfNonce}
 
 -- the token that is bound to the live nonce has these amounts, and covers what was put out, what lies ready, and what is ordered
 pub record IsFunded (v : View) (p : ℕ) (bytes : List ℕ) : Type 0 where
   pub token : Parts
-  pub carries : Carries v.key v.records p bytes token
+  pub carries : IsOfNonce v.key v.records p bytes token
   pub amounts : List (List ℕ × ℕ)
   pub amounts_are : amounts_of token ≡ Some amounts
   pub kept : v.bound ≡ Some amounts

@@ -8,7 +8,7 @@ use Rattle.xfs_journal.specs.JournalView.{IsPossible}
 use Rattle.xfs_journal.specs.declared.record.Rec.{Rec}
 use Rattle.xfs_mech.specs.Motions.{NumberIs}
 use Rattle.xfs_mech.specs.Moves.{Moves}
-use Rattle.xfs_guard.specs.Crashed.{IsLeftAt}
+use Rattle.xfs_guard.specs.Crashed.{IsCrashOutcomeAt}
 use Rattle.xfs_guard.specs.Lives.{BeginsWith}
 use Rattle.xfs_guard.specs.View.{View}
 use Rattle.xfs_guard.specs.Follows.{Follows}
@@ -33,7 +33,7 @@ pub record Comes (old new : View) (records : List Rec) : Type 0 where
 
 -- what happened from one state of a guard to another
 pub record Continues (old new : View) : Type 0 where
-  pub leads : (J : List Rec) → IsPossible new.records new.in_doubt J → Comes old new J
+  pub leads : (records : List Rec) → IsPossible new.records new.in_doubt records → Comes old new records
   pub key : new.key ≡ old.key
   pub seed : new.seed ≡ old.seed
   pub units : new.units ≡ old.units
@@ -42,4 +42,4 @@ pub record Continues (old new : View) : Type 0 where
   pub limits : new.limits ≡ old.limits
   pub grew : BeginsWith new.records old.records
   -- a list that a crash left on the way there was left on the way here
-  pub left : (J : List Rec) → IsLeftAt old J → IsLeftAt new J
+  pub left : (list : List Rec) → IsCrashOutcomeAt old list → IsCrashOutcomeAt new list

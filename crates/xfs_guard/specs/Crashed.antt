@@ -7,7 +7,7 @@ use Rattle.xfs_disk.specs.Disk.{LeavesOnly}
 use Rattle.xfs_disk.specs.declared.disk.Disk.{Ghosts}
 use Rattle.xfs_mech.specs.declared.motion.Motion.{Motion}
 use Rattle.xfs_mech.specs.Motions.{NumberIs}
-use Rattle.xfs_journal.specs.Image.{Stands}
+use Rattle.xfs_journal.specs.Image.{StandsFor}
 use Rattle.xfs_journal.specs.Journal.{record_at}
 use Rattle.xfs_base.specs.declared.counts.Places.{Places}
 use Rattle.xfs_journal.specs.JournalView.{longest, IsPossible, StandsForEither}
@@ -17,32 +17,32 @@ use Rattle.xfs_guard.specs.Agrees.{IsNoOrder}
 use Rattle.xfs_guard.specs.Lives.{BeginsWith}
 use Rattle.xfs_guard.specs.View.{View, GuardView}
 
--- A list that is a front of the records but for its last record. What stands in that one's place now, or is in doubt there, is the same record, or no order; where nothing stands there, the journal takes no record but a Boot.
-pub record IsLoose (records : List Rec) (in_doubt : Option Rec) (closed : Bool) (list : List Rec) : Type 0 where
-  pub front : List Rec
+-- A list that is a prefix of the records but for its last record. What stands in that one's place now, or is in doubt there, is the same record, or no order; where nothing stands there, the journal takes no record but a Boot.
+pub record IsTorn (records : List Rec) (in_doubt : Option Rec) (closed : Bool) (list : List Rec) : Type 0 where
+  pub prefix : List Rec
   pub last : Rec
-  pub split : list ≡ front ++ last ∷ []
-  pub kept : BeginsWith records front
+  pub split : list ≡ prefix ++ last ∷ []
+  pub kept : BeginsWith records prefix
   pub replaced : (r : Rec) → record_at (longest records in_doubt) (length list) ≡ Some r → (last ≡ r) ⊎ IsNoOrder (Some r)
   pub closed_there : length records < length list → closed ≡ true
 
--- a crash left this list on the way to these records: it is a front of them, but perhaps for its last record
-abbrev pub IsLeft : List Rec → Option Rec → Bool → List Rec → Type 0
-IsLeft records in_doubt closed list = BeginsWith records list ⊎ IsLoose records in_doubt closed list
+-- a crash left this list on the way to these records: it is a prefix of them, but perhaps for its last record
+abbrev pub IsCrashOutcome : List Rec → Option Rec → Bool → List Rec → Type 0
+IsCrashOutcome records in_doubt closed list = BeginsWith records list ⊎ IsTorn records in_doubt closed list
 
 -- the journal takes no record before it is mounted again
 abbrev pub is_closed : View → Bool
 is_closed v = v.shut || v.boot_missing
 
-abbrev pub IsLeftAt : View → List Rec → Type 0
-IsLeftAt v list = IsLeft v.records v.in_doubt (is_closed v) list
+abbrev pub IsCrashOutcomeAt : View → List Rec → Type 0
+IsCrashOutcomeAt v list = IsCrashOutcome v.records v.in_doubt (is_closed v) list
 
--- the bytes stand for a list that begins with the earlier records, and was left on the way to the later state
+-- the bytes stand for a list that begins with the earlier records, a crash outcome on the way to the later state
 pub record StandsLeft (old new : View) (bytes : List ℕ) : Type 0 where
   pub list : List Rec
-  pub stands : Stands bytes list
+  pub stands : StandsFor bytes list
   pub begins : BeginsWith list old.records
-  pub left : IsLeftAt new list
+  pub left : IsCrashOutcomeAt new list
 
 -- a possible list was read again, and the bytes stand for it, or for it with this Boot; both were left on the way to what is kept now
 pub record StandsReread (kept : List Rec) (in_doubt : Option Rec) (places : Places) (IsLeftNow : List Rec → Type 0) (bytes : List ℕ) : Type 0 where
@@ -57,10 +57,10 @@ pub record LeavesBehind {D : Type 0} (g : Ghosts D) (old new : GuardView D) : Ty
   pub told : is_some (g.held new.disk) ≡ is_some (g.held old.disk)
   pub moments : IfTold (g.held old.disk) (λ _. LeavesOnly g.moment g.images_since old.disk new.disk (λ bytes. g.images old.disk bytes ⊎ StandsLeft old.state new.state bytes))
 
--- without its last record the list is a front of the records, and no motion has that record's number
+-- without its last record the list is a prefix of the records, and no motion has that record's number
 pub record IsLost (records : List Rec) (motions : Option (List Motion)) (list : List Rec) : Type 0 where
-  pub front : List Rec
+  pub prefix : List Rec
   pub last : Rec
-  pub split : list ≡ front ++ last ∷ []
-  pub kept : BeginsWith records front
+  pub split : list ≡ prefix ++ last ∷ []
+  pub kept : BeginsWith records prefix
   pub unmoved : IfTold motions (AllByRecursion (NumberIs (λ n. n ≢ length list)))

@@ -8,13 +8,13 @@ use Rattle.xfs_journal.specs.declared.record.Rec.{Rec}
 use Rattle.xfs_journal.specs.declared.record.Rec.TheVariants.{Boot}
 use Rattle.xfs_journal.specs.Journal.{record_at}
 
--- a boot record of this number has the places after some front of the motions: those of lower numbers, none of higher
+-- a boot record of this number has the places after some prefix of the motions: those of lower numbers, none of higher
 pub record BootFits (old : Places) (motions : List Motion) (n : ℕ) (places : Places) : Type 0 where
-  pub front : List Motion
+  pub prefix : List Motion
   pub back : List Motion
-  pub split : motions ≡ front ++ back
-  pub reached : PlacesOf old front places
-  pub before : AllByRecursion (NumberIs (λ k. k ≤ n)) front
+  pub split : motions ≡ prefix ++ back
+  pub reached : PlacesOf old prefix places
+  pub before : AllByRecursion (NumberIs (λ k. k ≤ n)) prefix
   pub after : AllByRecursion (NumberIs (λ k. n ≤ k)) back
 
 pub record Follows (records : List Rec) (motions : List Motion) (places : Places) (records' : List Rec) (motions' : List Motion) (places' : Places) : Type 0 where

@@ -6,7 +6,7 @@ use Rattle.xfs_disk.specs.declared.disk.Disk.{Ghosts}
 use Rattle.xfs_mech.specs.declared.motion.Motion.{Motion}
 use Rattle.xfs_guard.specs.Continues.{Continues}
 use Rattle.xfs_guard.specs.Crashed.{LeavesBehind}
-use Rattle.xfs_guard.specs.Left.{StandsThrough}
+use Rattle.xfs_guard.specs.CrashOutcomes.{StandsThrough}
 use Rattle.xfs_guard.specs.View.{GuardView}
 
 -- What happened from one state of a guard to a later one: it goes on from it, no count of faults fell, and what a crash left in between was there before or stands for a list on the way.

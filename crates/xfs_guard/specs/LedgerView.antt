@@ -4,7 +4,7 @@ use Rattle.std.specs.declared.option.Option.{Option}
 use Rattle.std.specs.declared.result.Result.{Result}
 use Rattle.xfs_base.specs.declared.money.NoteKind.{NoteKind}
 use Rattle.xfs_token.specs.Amounts.{has_currency}
-use Rattle.xfs_journal.specs.JournalView.{passes}
+use Rattle.xfs_journal.specs.JournalView.{exceeds}
 use Rattle.xfs_journal.specs.declared.limits.Limits.{Limits}
 use Rattle.xfs_journal.specs.declared.record.Rec.{Rec}
 use Rattle.xfs_guard.specs.declared.deny.Deny.{Deny}
@@ -65,14 +65,14 @@ Wrote (Ok x) old new r bound = Writes old new r bound
 Wrote (Err Disk) old new r bound = Doubts old new r
 Wrote (Err e) old new r bound = IsSame old new
 
--- why a record isn't taken: the journal is shut, its Boot is missing, or a limit would be passed
+-- why a record isn't taken: the journal is shut, its Boot is missing, or a limit would be exceeded
 abbrev pub write_refusal : {D : Type 0} → LedgerView D → Rec → Option Deny
-write_refusal l r = if l.shut then Some Shut else if l.boot_missing then Some Full else (if passes l.limits (l.records ++ r ∷ []) then Some Full else None)
+write_refusal l r = if l.shut then Some Shut else if l.boot_missing then Some Full else (if exceeds l.limits (l.records ++ r ∷ []) then Some Full else None)
 
 -- why a record that nothing refuses isn't written
 abbrev pub IsWriteFault : Deny → Type 0
 IsWriteFault e = (e ≡ Memory) ⊎ (e ≡ Disk)
 
 -- in a currency of which the bound amounts have nothing, nothing was presented
-abbrev pub IsTold : {D : Type 0} → LedgerView D → Type 0
-IsTold l = (c : List ℕ) → has_currency c (unwrap_or l.bound []) ≡ false → presented_in l.units l.records c ≡ 0
+abbrev pub IsPresentedBound : {D : Type 0} → LedgerView D → Type 0
+IsPresentedBound l = (c : List ℕ) → has_currency c (unwrap_or l.bound []) ≡ false → presented_in l.units l.records c ≡ 0

@@ -11,11 +11,11 @@ pub mod Keeps
 pub mod Kept
 pub mod Ledger
 pub mod LedgerView
-pub mod Left
+pub mod CrashOutcomes
 pub mod Lives
 pub mod Nonce
 pub mod Orders
-pub mod Passed
+pub mod OverBudget
 pub mod Pays
 pub mod Presented
 pub mod Recorded

@@ -15,9 +15,9 @@ pub record Run : Type 0 where
   pub left : List Rec
 
 -- a list begins with another
-pub record BeginsWith (records front : List Rec) : Type 0 where
+pub record BeginsWith (records prefix : List Rec) : Type 0 where
   pub more : List Rec
-  pub is : records ≡ front ++ more
+  pub is : records ≡ prefix ++ more
 
 -- the answered number is that of the last record then, an Issue, and the list later begins with the list then
 pub record IsKeptIn (records : List Rec) (a : Answered) : Type 0 where

@@ -5,7 +5,7 @@ use Rattle.xfs_base.specs.declared.counts.Counts.{Counts}
 use Rattle.xfs_base.specs.declared.counts.Kind.{Kind}
 use Rattle.xfs_mech.specs.declared.motion.Motion.TheVariants.{Moved}
 use Rattle.xfs_mech.specs.Motions.{PlacesOf}
-use Rattle.xfs_mech.specs.Mechanism.{Grows, Carries as MayCarry}
+use Rattle.xfs_mech.specs.Mechanism.{AddsEntry, MayCarry}
 use Rattle.xfs_journal.specs.declared.record.Rec.TheVariants.{Done}
 use Rattle.xfs_guard.specs.declared.open.Open.{Open}
 use Rattle.xfs_guard.specs.declared.open.Open.TheVariants.{No, Written, Acted}
@@ -34,7 +34,7 @@ pub record Acts (old new : View) (moved diverted : Counts) (failed : Bool) : Typ
   pub carried : MayCarry kind counts moved diverted failed
   pub moved_eight : length moved.0 ≡ 8
   pub diverted_eight : length diverted.0 ≡ 8
-  pub motions : Grows old.motions (Moved (length old.records) kind moved diverted) new.motions
+  pub motions : AddsEntry old.motions (Moved (length old.records) kind moved diverted) new.motions
   pub places : PlacesOf old.places (Moved (length old.records) kind moved diverted ∷ []) new.places
   pub same : new ≡ record old { open_order = Acted kind moved diverted failed; motions = new.motions; places = new.places; faults = new.faults }
 

@@ -15,7 +15,7 @@ Fits units kind moved None = ⊤
 Fits units kind moved (Some b) = kind ≡ Present → (i : ℕ) (a : List ℕ × ℕ) → slice_get b.amounts i ≡ Some a → slice_index b.presented i + value units moved a.0 < 2 ^ 64
 
 -- the sums grow by what was presented
-pub record Grows (units : List NoteKind) (kind : Kind) (moved : Counts) (old new : Bound) : Type 0 where
+pub record AddsPresented (units : List NoteKind) (kind : Kind) (moved : Counts) (old new : Bound) : Type 0 where
   pub place : new.place ≡ old.place
   pub amounts : new.amounts ≡ old.amounts
   pub present : kind ≡ Present → (i : ℕ) (a : List ℕ × ℕ) → slice_get old.amounts i ≡ Some a → slice_index new.presented i ≡ slice_index old.presented i + value units moved a.0
@@ -23,7 +23,7 @@ pub record Grows (units : List NoteKind) (kind : Kind) (moved : Counts) (old new
 
 abbrev pub Pays : List NoteKind → Kind → Counts → Option Bound → Option Bound → Type 0
 Pays units kind moved None None = ⊤
-Pays units kind moved (Some old) (Some new) = Grows units kind moved old new
+Pays units kind moved (Some old) (Some new) = AddsPresented units kind moved old new
 Pays units kind moved old new = ⊥
 
 -- the sum at the place of an amount in this currency

@@ -24,12 +24,12 @@ use Rattle.xfs_guard.specs.declared.ask.Ask.{Ask}
 use Rattle.xfs_guard.specs.declared.ask.Ask.TheVariants.{Stack as AskStack, Present as AskPresent, Reject as AskReject, Retract as AskRetract}
 use Rattle.xfs_guard.specs.View.{View}
 use Rattle.xfs_guard.specs.Nonce.{live_nonce}
-use Rattle.xfs_guard.specs.Passed.{passed_in}
+use Rattle.xfs_guard.specs.OverBudget.{over_budget_in}
 use Rattle.xfs_guard.specs.Fits.{unfit}
 
--- OverBudget, for the first currency in which the counts pass the amounts, with what is left before them
+-- OverBudget, for the first currency in which the counts exceed the amounts, with what is left before them
 abbrev pub over_budget : View → List (List ℕ × ℕ) → Counts → Option Deny
-over_budget v amounts counts = passed_in v.units v.records v.places.transport amounts counts
+over_budget v amounts counts = over_budget_in v.units v.records v.places.transport amounts counts
 
 -- the token that is bound to the live nonce, and the number of its Bind
 abbrev pub bound_token : List Rec → Option (List ℕ)

@@ -36,10 +36,10 @@ IfPresent Present P = P
 IfPresent k P = ⊤
 
 -- the open order is the newest record
-abbrev pub Stands : Open → List Rec → Places → Type 0
-Stands No records places = IsNoOrder (record_at records (length records))
-Stands (Written kind counts) records places = (record_at records (length records) ≡ Some (Order kind counts)) × LiesIn counts (source_of kind places) × IfPresent kind (IsReleased records)
-Stands (Acted kind moved diverted failed) records places = (counts : Counts) × (record_at records (length records) ≡ Some (Order kind counts)) × IfPresent kind (IsReleased records)
+abbrev pub OpenIsNewest : Open → List Rec → Places → Type 0
+OpenIsNewest No records places = IsNoOrder (record_at records (length records))
+OpenIsNewest (Written kind counts) records places = (record_at records (length records) ≡ Some (Order kind counts)) × LiesIn counts (source_of kind places) × IfPresent kind (IsReleased records)
+OpenIsNewest (Acted kind moved diverted failed) records places = (counts : Counts) × (record_at records (length records) ≡ Some (Order kind counts)) × IfPresent kind (IsReleased records)
 
 -- the mechanism's list against the open order
 abbrev pub HasActed : Open → List Rec → List Motion → Type 0
@@ -62,6 +62,6 @@ where_told false motions = None
 -- what a guard keeps while its journal isn't shut and has its Boot
 pub record IsSound (v : View) : Type 0 where
   pub numbered : v.disk_told ≡ true → Numbered v.records
-  pub stands : Stands v.open_order v.records v.places
+  pub stands : OpenIsNewest v.open_order v.records v.places
   pub budget : Budget v
   pub told : IfTold (where_told v.disk_told v.motions) (Ties v)

@@ -4,7 +4,7 @@ use Rattle.std.specs.declared.option.Option.{Option}
 use Rattle.xfs_base.specs.Causes.{IfTold}
 use Rattle.xfs_base.specs.declared.counts.Places.{Places}
 use Rattle.xfs_disk.specs.declared.disk.Disk.{Ghosts}
-use Rattle.xfs_journal.specs.Image.{Stands}
+use Rattle.xfs_journal.specs.Image.{StandsFor}
 use Rattle.xfs_journal.specs.JournalView.{HasPossible}
 use Rattle.xfs_journal.specs.declared.record.Rec.{Rec}
 use Rattle.xfs_journal.specs.declared.record.Rec.TheVariants.{Boot}
@@ -18,7 +18,7 @@ pub record MayLeave {D : Type 0} (g : Ghosts D) (disk : D) (records : List Rec) 
   pub told : is_some (g.held disk) ≡ true
   pub bytes : List ℕ
   pub left : g.images disk bytes
-  pub stands : Stands bytes records
+  pub stands : StandsFor bytes records
 
 -- a crash may have left this list before, or this list without its Boot
 pub record WasLeft {D : Type 0} (g : Ghosts D) (disk : D) (places : Places) (records : List Rec) : Type 0 where

@@ -10,11 +10,11 @@ use Rattle.xfs_guard.specs.declared.nonce.Nonce.{Nonce}
 use Rattle.xfs_guard.specs.declared.open.Open.TheVariants.{No}
 use Rattle.xfs_guard.specs.Budget.{Budget}
 use Rattle.xfs_guard.specs.Crashed.{is_closed}
-use Rattle.xfs_guard.specs.Left.{StandsRecorded}
+use Rattle.xfs_guard.specs.CrashOutcomes.{StandsRecorded}
 use Rattle.xfs_guard.specs.Nonce.{live_in, nonce_of}
 use Rattle.xfs_guard.specs.Presented.{presented_in, unsettled}
 use Rattle.xfs_guard.specs.Refusals.{bound_place, bound_token}
-use Rattle.xfs_guard.specs.Sound.{Stands, where_told}
+use Rattle.xfs_guard.specs.Sound.{OpenIsNewest, where_told}
 use Rattle.xfs_guard.specs.Stored.{IsStored}
 use Rattle.xfs_guard.specs.View.{View, GuardView}
 use Rattle.xfs_guard.specs.Within.{shown}
@@ -42,7 +42,7 @@ pub record IsUpheld {D : Type 0} (g : Ghosts D) (now : GuardView D) : Type 0 whe
   pub recorded : IfTold (g.held now.disk) (λ _. (bytes : List ℕ) → g.images now.disk bytes → StandsRecorded now.state.key now.state.units now.state.motions bytes)
   pub clean : now.state.shut ≡ false → now.state.in_doubt ≡ None
   pub closed : is_closed now.state ≡ true → now.state.open_order ≡ No
-  pub order : is_closed now.state ≡ false → Stands now.state.open_order now.state.records now.state.places
+  pub order : is_closed now.state ≡ false → OpenIsNewest now.state.open_order now.state.records now.state.places
   pub budget : is_closed now.state ≡ false → Budget now.state
   pub counted : is_closed now.state ≡ false → IsCounted now.state
   pub issue : (n : Nonce) → live_in now.state.boot_missing now.state.records ≡ Some n → HasIssue now.state.records n

@@ -30,14 +30,14 @@ HasNonce (Some (Issue number word)) text = text ≡ nonce_text number word
 HasNonce _ text = ⊥
 
 -- a token is genuine and carries the nonce of the issue at p
-pub record Carries (key : List ℕ) (records : List Rec) (p : ℕ) (bytes : List ℕ) (t : Parts) : Type 0 where
+pub record IsOfNonce (key : List ℕ) (records : List Rec) (p : ℕ) (bytes : List ℕ) (t : Parts) : Type 0 where
   pub genuine : Genuine key t bytes
   pub nonce : HasNonce (record_at records p) t.nonce
 
 -- the bytes are of a genuine token with the nonce of the issue at p, and what was put out since then is worth no more
 pub record IsCovered (key : List ℕ) (units : List NoteKind) (records : List Rec) (motions : List Motion) (p : ℕ) (bytes : List ℕ) : Type 0 where
   pub token : Parts
-  pub carries : Carries key records p bytes token
+  pub carries : IsOfNonce key records p bytes token
   pub enough : (currency : List ℕ) → shown units records motions p currency ≤ amount token currency
 
 -- notes put out: on an order to present, in a segment with a token, which covers all that was put out in it

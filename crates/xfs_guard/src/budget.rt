@@ -1,8 +1,8 @@
-//! Whether counts pass the amounts of a token.
+//! Whether counts exceed the amounts of a token.
 
 ghost use Rattle.std.specs.Prelude.{◌≡◌, ◌<◌, ◌^◌};
-ghost use Rattle.xfs_guard.specs.Passed.{spent, is_over, earlier, first_currency, passed_in};
-ghost use Rattle.xfs_guard.specs.LedgerView.{IsOpen, IsTold};
+ghost use Rattle.xfs_guard.specs.OverBudget.{spent, is_over, earlier, first_currency, over_budget_in};
+ghost use Rattle.xfs_guard.specs.LedgerView.{IsOpen, IsPresentedBound};
 
 use crate::Deny;
 use crate::ledger::Ledger;
@@ -10,16 +10,16 @@ use xfs_base::{Counts, Currency, Milli};
 use xfs_disk::Disk;
 use xfs_token::Amounts;
 
-/// `OverBudget`, for the first currency, in the order of letters, in which the counts pass the amounts.
-pub fn passed<D: Disk>(
+/// `OverBudget`, for the first currency, in the order of letters, in which the counts exceed the amounts.
+pub fn over_budget<D: Disk>(
     ledger: &Ledger<D>,
     transport: &Counts,
     amounts: &Amounts,
     counts: &Counts,
 ) -> Option<Deny>
     requires open_still { IsOpen ledger.now }
-    requires told { IsTold ledger.now }
-    ensures { result ≡ passed_in ledger.now.units ledger.now.records transport.now amounts.now counts.now }
+    requires told { IsPresentedBound ledger.now }
+    ensures { result ≡ over_budget_in ledger.now.units ledger.now.records transport.now amounts.now counts.now }
 {
     let currency = first_over(ledger, transport, amounts, counts)?;
     let left = u128::from(amounts.of(currency).0).saturating_sub(spent(
@@ -31,7 +31,7 @@ pub fn passed<D: Disk>(
     })
 }
 
-// The first currency, in the order of letters, in which the counts pass the amounts.
+// The first currency, in the order of letters, in which the counts exceed the amounts.
 fn first_over<D: Disk>(
     ledger: &Ledger<D>,
     transport: &Counts,
@@ -39,7 +39,7 @@ fn first_over<D: Disk>(
     counts: &Counts,
 ) -> Option<Currency>
     requires open_still { IsOpen ledger.now }
-    requires told { IsTold ledger.now }
+    requires told { IsPresentedBound ledger.now }
     ensures { result ≡ first_currency (is_over ledger.now.units ledger.now.records transport.now amounts.now counts.now) ledger.now.units }
 {
     let kinds = ledger.units().kinds();
@@ -57,7 +57,7 @@ fn first_over<D: Disk>(
 // What was presented since the live issue, and what lies on the transport.
 fn spent<D: Disk>(ledger: &Ledger<D>, transport: &Counts, currency: Currency) -> u128
     requires open_still { IsOpen ledger.now }
-    requires told { IsTold ledger.now }
+    requires told { IsPresentedBound ledger.now }
     ensures worth { result ≡ spent ledger.now.units ledger.now.records transport.now currency }
     ensures small { result < 2 ^ 66 }
 {

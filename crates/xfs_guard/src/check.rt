@@ -10,13 +10,13 @@ ghost use Rattle.xfs_guard.specs.declared.open.Open.TheVariants.{No};
 ghost use Rattle.xfs_guard.specs.Nonce.{live_nonce};
 ghost use Rattle.xfs_base.specs.Causes.{Rose};
 ghost use Rattle.xfs_guard.specs.Keeps.{Keeps, NoEntry};
-ghost use Rattle.xfs_guard.specs.Left.{Leaves};
+ghost use Rattle.xfs_guard.specs.CrashOutcomes.{Leaves};
 ghost use Rattle.xfs_guard.specs.View.{shut_at};
 ghost use Rattle.xfs_guard.specs.Fits.{unfit};
 ghost use Rattle.xfs_guard.specs.LedgerView.{IsWriteFault};
 ghost use Rattle.xfs_guard.specs.Refusals.{Answers, Passes, TokenRefused, Binds, claim_refusal, bind_refusal, bound_token, over_budget};
 
-use crate::budget::passed;
+use crate::budget::over_budget;
 use crate::signer::Signer;
 use crate::{Claim, Deny, Guard, Permit};
 use std::alloc::{AllocError, Global};
@@ -124,7 +124,7 @@ impl<M: Mechanism, D: Disk> Guard<M, D> {
         // Its clause tells what stands now.
         let _upheld = self.unfit();
         let transport = self.mech.survey().transport;
-        if let Some(deny) = passed(&self.ledger, &transport, &claim.amounts, counts) {
+        if let Some(deny) = over_budget(&self.ledger, &transport, &claim.amounts, counts) {
             return Err(deny);
         }
         self.bind_once(claim)?;
@@ -179,6 +179,6 @@ fn due(key: &Signer, bytes: &[u8]) -> [u8; 32]
     requires { 76 ≤ length bytes.now }
     ensures { result ≡ hmac key.now (take (length bytes.now - 76) bytes.now) }
 {
-    let (front, _) = bytes.split_at(bytes.len() - 76);
-    key.mac(front)
+    let (prefix, _) = bytes.split_at(bytes.len() - 76);
+    key.mac(prefix)
 }

@@ -31,7 +31,7 @@ pub enum Deny {
     OtherBound { since: u64 },
     /// Notes lie on the transport, and no token is bound that would cover them.
     NotEmpty { notes: u64 },
-    /// The token's amount of this currency is passed; `left` is what it has before the counts.
+    /// The token's amount of this currency is exceeded; `left` is what it has before the counts.
     OverBudget { currency: Currency, left: Milli },
     /// No token is bound to the live nonce.
     Unbound { since: u64 },

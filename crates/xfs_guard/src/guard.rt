@@ -10,15 +10,15 @@ ghost use Rattle.xfs_guard.specs.View.{shut_at};
 ghost use Rattle.xfs_guard.specs.Upheld.{IsUpheld};
 ghost use Rattle.xfs_guard.specs.Word.{issue_word};
 ghost use Rattle.xfs_guard.specs.Fits.{fit_of, unfit};
-ghost use Rattle.xfs_guard.specs.Left.{EachStands, IsOldOrBooted, Leaves, MayMove, StandsRecorded};
+ghost use Rattle.xfs_guard.specs.CrashOutcomes.{EachStands, IsOldOrBooted, Leaves, MayMove, StandsRecorded};
 ghost use Rattle.xfs_guard.specs.Keeps.{Keeps, NoEntry};
 ghost use Rattle.xfs_guard.specs.LedgerView.{IsWriteFault};
 ghost use Rattle.xfs_guard.specs.Lives.{Run, IsLife, answered_in};
 ghost use Rattle.xfs_guard.specs.Stored.{IsStored, MayLeave};
 ghost use Rattle.xfs_guard.specs.Recorded.{IsRecorded};
 ghost use Rattle.xfs_guard.specs.declared.fail.BootFault.TheVariants.{NotJournal, Disk as BootDisk, Full as BootFull};
-ghost use Rattle.xfs_journal.specs.Image.{Stands};
-ghost use Rattle.xfs_journal.specs.JournalView.{IsPossible, StandsForEither, passes};
+ghost use Rattle.xfs_journal.specs.Image.{StandsFor};
+ghost use Rattle.xfs_journal.specs.JournalView.{IsPossible, StandsForEither, exceeds};
 ghost use Rattle.xfs_disk.specs.Disk.{LeavesOnly};
 ghost use Rattle.xfs_journal.specs.Paging.{CeasesAt, IsOldOrShort, IsQuiet};
 ghost use Rattle.xfs_journal.specs.declared.record.Rec.{Rec};
@@ -27,8 +27,8 @@ ghost use Rattle.xfs_guard.specs.Orders.{IsWritten, IsActed, Acts, Settles, Unse
 ghost use Rattle.xfs_guard.specs.Refusals.{Answers, IsAsk, order_refusal, nothing_refusal, notes_of, asked_kind, asked_counts};
 ghost use Rattle.xfs_guard.specs.declared.ask.Ask.TheVariants.{Stack as AskStack, Present as AskPresent};
 
-use crate::budget::passed;
-use crate::ledger::{Ledger, Unbooted};
+use crate::budget::over_budget;
+use crate::ledger::{Ledger, RefusedLedger};
 use crate::nonce::word_of;
 use crate::signer::Signer;
 use crate::{Ask, BootFail, BootFault, Deny, Fit, Nonce, Open};
@@ -86,7 +86,7 @@ impl<M: Mechanism, D: Disk> Guard<M, D> {
     ) -> Result<Guard<M, D>, BootFail<M, D>>
         requires units { M.units mech ≡ units }
         requires recorded { (records : List Rec) → MayLeave D.Disk disk records → IsRecorded key units records (M.motions mech) }
-        ensures ok { IfOk result (λ g. (records : List Rec) × IfTold (D.held disk) (λ all. Stands all records) × (g.state ≡ record {
+        ensures ok { IfOk result (λ g. (records : List Rec) × IfTold (D.held disk) (λ all. StandsFor all records) × (g.state ≡ record {
           key = key;
           seed = seed;
           units = units;
@@ -102,17 +102,17 @@ impl<M: Mechanism, D: Disk> Guard<M, D> {
           in_doubt = None;
           disk_told = is_some (D.held disk);
         })) }
-        ensures fits { IfOk result (λ g. passes limits g.state.records ≡ false) }
+        ensures fits { IfOk result (λ g. exceeds limits g.state.records ≡ false) }
         ensures continues { IfOk result (λ g. (records : List Rec) → g.state.records ≡ records ++ Boot (M.places mech) ∷ [] → Continues (record g.state { records = records }) g.state) }
 
         ensures mech { IfErr result (λ f. f.mech ≡ mech) }
-        ensures not_journal { IfErr result (λ f. (at : ℕ) → f.why ≡ NotJournal at → IfTold (D.held disk) (λ all. CeasesAt all at × ((records : List Rec) → ¬ Stands all records))) }
+        ensures not_journal { IfErr result (λ f. (at : ℕ) → f.why ≡ NotJournal at → IfTold (D.held disk) (λ all. CeasesAt all at × ((records : List Rec) → ¬ StandsFor all records))) }
         ensures refused { IfErr result (λ f. (at : ℕ) → f.why ≡ NotJournal at → IsQuiet D.held D.images D.moment D.images_since D.faults disk f.disk) }
-        ensures full { IfErr result (λ f. f.why ≡ BootFull → (records : List Rec) × IfTold (D.held disk) (λ all. Stands all records) × (passes limits (records ++ Boot (M.places mech) ∷ []) ≡ true)) }
+        ensures full { IfErr result (λ f. f.why ≡ BootFull → (records : List Rec) × IfTold (D.held disk) (λ all. StandsFor all records) × (exceeds limits (records ++ Boot (M.places mech) ∷ []) ≡ true)) }
         ensures disk { IfErr result (λ f. f.why ≡ BootDisk → Rose (D.faults disk) (D.faults f.disk)) }
         ensures left { IfErr result (λ f. (records : List Rec) → MayLeave D.Disk f.disk records → IsRecorded key units records (M.motions mech)) }
-        ensures either { IfErr result (λ f. IfTold (D.held disk) (λ _. (records : List Rec) → ((image : List ℕ) → D.images disk image → Stands image records) → (image : List ℕ) → D.images f.disk image → StandsForEither records (Boot (M.places mech)) image)) }
-        ensures unlisted { IfErr result (λ f. IfTold (D.held disk) (λ all. ((records : List Rec) → ¬ Stands all records) → IsQuiet D.held D.images D.moment D.images_since D.faults disk f.disk)) }
+        ensures either { IfErr result (λ f. IfTold (D.held disk) (λ _. (records : List Rec) → ((image : List ℕ) → D.images disk image → StandsFor image records) → (image : List ℕ) → D.images f.disk image → StandsForEither records (Boot (M.places mech)) image)) }
+        ensures unlisted { IfErr result (λ f. IfTold (D.held disk) (λ all. ((records : List Rec) → ¬ StandsFor all records) → IsQuiet D.held D.images D.moment D.images_since D.faults disk f.disk)) }
         ensures unwritten { IfErr result (λ f. f.why ≢ BootDisk → IfTold (D.held disk) (λ all. LeavesOnly D.moment D.images_since disk f.disk (IsOldOrShort (D.images disk) all))) }
         ensures faults { MatchResult result (λ g. D.faults disk ≤ D.faults g.disk) (λ f. D.faults disk ≤ D.faults f.disk) }
         ensures told { IfErr result (λ f. is_some (D.held f.disk) ≡ is_some (D.held disk)) }
@@ -146,7 +146,7 @@ impl<M: Mechanism, D: Disk> Guard<M, D> {
                 seed,
                 open_order: Open::No,
             }),
-            Err(Unbooted { why, disk }) => Err(BootFail { why, mech, disk }),
+            Err(RefusedLedger { why, disk }) => Err(BootFail { why, mech, disk }),
         }
     }
 
@@ -395,7 +395,7 @@ impl<M: Mechanism, D: Disk> Guard<M, D> {
         };
         let places = self.mech.survey();
         let counts = notes_of(self.ledger.units(), unit, count);
-        if let Some(deny) = passed(&self.ledger, &places.transport, amounts, &counts) {
+        if let Some(deny) = over_budget(&self.ledger, &places.transport, amounts, &counts) {
             return Err(deny);
         }
         if places.units.0[usize::from(unit) - 1] < count {

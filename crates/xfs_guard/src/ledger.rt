@@ -6,21 +6,21 @@ ghost use Rattle.xfs_base.specs.Causes.{IfTold, Rose};
 ghost use Rattle.xfs_base.specs.Money.{value};
 ghost use Rattle.xfs_base.specs.declared.counts.Counts.{Counts};
 ghost use Rattle.xfs_base.specs.declared.counts.Kind.TheVariants.{Present};
-ghost use Rattle.xfs_journal.specs.Image.{HasUnit, Stands, size};
+ghost use Rattle.xfs_journal.specs.Image.{HasUnit, StandsFor, size};
 ghost use Rattle.xfs_journal.specs.Paging.{CeasesAt, IsOldOrShort, IsQuiet};
 ghost use Rattle.xfs_journal.specs.declared.record.Rec.{Rec};
 ghost use Rattle.xfs_guard.specs.declared.fail.BootFault.TheVariants.{NotJournal, Disk as BootDisk, Full as BootFull, Memory as BootMemory};
-ghost use Rattle.xfs_journal.specs.JournalView.{passes, refusal, IsPossible, StandsForEither};
+ghost use Rattle.xfs_journal.specs.JournalView.{exceeds, refusal, IsPossible, StandsForEither};
 ghost use Rattle.xfs_disk.specs.Disk.{LeavesOnly};
 ghost use Rattle.xfs_journal.specs.declared.record.Rec.TheVariants.{Issue, Clear, Boot, Bind, Order, Done, Load};
 ghost use Rattle.xfs_journal.specs.Journal.{record_at, live_of, token_of, last_mark, next_issue, nonce_text};
 ghost use Rattle.xfs_guard.specs.Nonce.{Ends, live_in, nonce_of};
 ghost use Rattle.xfs_guard.specs.Refusals.{bound_token, bound_place};
 ghost use Rattle.xfs_guard.specs.Presented.{presented_in};
-ghost use Rattle.xfs_guard.specs.LedgerView.{IsOpen, IsWriteFault, Wrote, IsSame, IsTold, write_refusal};
+ghost use Rattle.xfs_guard.specs.LedgerView.{IsOpen, IsWriteFault, Wrote, IsSame, IsPresentedBound, write_refusal};
 ghost use Rattle.xfs_guard.specs.Ledger.{IsLive, IsDoubted};
-ghost use Rattle.xfs_guard.specs.Left.{IsOldOrBooted, Leaves};
-ghost use Rattle.xfs_guard.specs.Crashed.{IsLeft, StandsReread};
+ghost use Rattle.xfs_guard.specs.CrashOutcomes.{IsOldOrBooted, Leaves};
+ghost use Rattle.xfs_guard.specs.Crashed.{IsCrashOutcome, StandsReread};
 ghost use Rattle.xfs_guard.specs.Stored.{IsStored, MayLeave, WasLeft};
 ghost use Rattle.xfs_guard.specs.Pays.{Fits, Pays, IsSumOf};
 
@@ -51,7 +51,7 @@ pub struct Ledger<D: Disk> {
 
 impl<D: Disk> Model for Ledger<D> {
     ghost use Rattle.xfs_guard.specs.LedgerView.{LedgerView};
-    ghost use Rattle.xfs_guard.specs.Ledger.{Keeps, amounts_kept};
+    ghost use Rattle.xfs_guard.specs.Ledger.{KeepsLedger, amounts_kept};
 
     ghost Value = { LedgerView D };
 
@@ -67,12 +67,12 @@ impl<D: Disk> Model for Ledger<D> {
       disk = l.journal.disk;
     } };
 
-    ghost invariant = { λ l. Keeps l.journal.records l.journal.in_doubt l.journal.shut l.boot_missing l.units l.issues l.mark l.live l.bound l.doubted };
+    ghost invariant = { λ l. KeepsLedger l.journal.records l.journal.in_doubt l.journal.shut l.boot_missing l.units l.issues l.mark l.live l.bound l.doubted };
 }
 
 /// A refused boot, with the disk.
 #[derive(Drop)]
-pub struct Unbooted<D: Disk> {
+pub struct RefusedLedger<D: Disk> {
     pub why: BootFault,
     pub disk: D,
 }
@@ -85,19 +85,19 @@ impl<D: Disk> Ledger<D> {
         limits: Limits,
         units: UnitTable,
         places: Survey,
-    ) -> Result<Ledger<D>, Unbooted<D>>
-        ensures records { IfOk result (λ l. (records : List Rec) × IfTold (D.held disk) (λ all. Stands all records) × (l.records ≡ records ++ Boot places ∷ [])) }
-        ensures fits { IfOk result (λ l. passes limits l.records ≡ false) }
+    ) -> Result<Ledger<D>, RefusedLedger<D>>
+        ensures records { IfOk result (λ l. (records : List Rec) × IfTold (D.held disk) (λ all. StandsFor all records) × (l.records ≡ records ++ Boot places ∷ [])) }
+        ensures fits { IfOk result (λ l. exceeds limits l.records ≡ false) }
         ensures opened { IfOk result (λ l. (l.shut ≡ false) × (l.in_doubt ≡ None) × (l.bound ≡ None) × (l.boot_missing ≡ false)) }
         ensures same { IfOk result (λ l. (l.limits ≡ limits) × (l.units ≡ units)) }
         ensures told { MatchResult result (λ l. is_some (D.held l.disk) ≡ is_some (D.held disk)) (λ f. is_some (D.held f.disk) ≡ is_some (D.held disk)) }
-        ensures not_journal { IfErr result (λ f. (at : ℕ) → f.why ≡ NotJournal at → IfTold (D.held disk) (λ all. CeasesAt all at × ((records : List Rec) → ¬ Stands all records))) }
+        ensures not_journal { IfErr result (λ f. (at : ℕ) → f.why ≡ NotJournal at → IfTold (D.held disk) (λ all. CeasesAt all at × ((records : List Rec) → ¬ StandsFor all records))) }
         ensures refused { IfErr result (λ f. (at : ℕ) → f.why ≡ NotJournal at → IsQuiet D.held D.images D.moment D.images_since D.faults disk f.disk) }
-        ensures full { IfErr result (λ f. f.why ≡ BootFull → (records : List Rec) × IfTold (D.held disk) (λ all. Stands all records) × (passes limits (records ++ Boot places ∷ []) ≡ true)) }
+        ensures full { IfErr result (λ f. f.why ≡ BootFull → (records : List Rec) × IfTold (D.held disk) (λ all. StandsFor all records) × (exceeds limits (records ++ Boot places ∷ []) ≡ true)) }
         ensures disk { IfErr result (λ f. f.why ≡ BootDisk → Rose (D.faults disk) (D.faults f.disk)) }
         ensures left { IfErr result (λ f. (records : List Rec) → MayLeave D.Disk f.disk records → WasLeft D.Disk disk places records) }
-        ensures either { IfErr result (λ f. IfTold (D.held disk) (λ _. (records : List Rec) → ((image : List ℕ) → D.images disk image → Stands image records) → (image : List ℕ) → D.images f.disk image → StandsForEither records (Boot places) image)) }
-        ensures unlisted { IfErr result (λ f. IfTold (D.held disk) (λ all. ((records : List Rec) → ¬ Stands all records) → IsQuiet D.held D.images D.moment D.images_since D.faults disk f.disk)) }
+        ensures either { IfErr result (λ f. IfTold (D.held disk) (λ _. (records : List Rec) → ((image : List ℕ) → D.images disk image → StandsFor image records) → (image : List ℕ) → D.images f.disk image → StandsForEither records (Boot places) image)) }
+        ensures unlisted { IfErr result (λ f. IfTold (D.held disk) (λ all. ((records : List Rec) → ¬ StandsFor all records) → IsQuiet D.held D.images D.moment D.images_since D.faults disk f.disk)) }
         ensures unwritten { IfErr result (λ f. f.why ≢ BootDisk → IfTold (D.held disk) (λ all. LeavesOnly D.moment D.images_since disk f.disk (IsOldOrShort (D.images disk) all))) }
         ensures any_moment { IfTold (D.held disk) (λ all. MatchResult result
             (λ l. LeavesOnly D.moment D.images_since disk l.disk (IsOldOrBooted (D.images disk) all places))
@@ -107,7 +107,7 @@ impl<D: Disk> Ledger<D> {
         let mut journal = match Journal::mount(alloc, disk, limits) {
             Ok(journal) => journal,
             Err(MountFail { why, disk }) => {
-                return Err(Unbooted {
+                return Err(RefusedLedger {
                     why: BootFault::from(why),
                     disk,
                 });
@@ -126,7 +126,7 @@ impl<D: Disk> Ledger<D> {
                 boot_missing: false,
                 doubted: None,
             }),
-            Err(why) => Err(Unbooted {
+            Err(why) => Err(RefusedLedger {
                 why,
                 disk: journal.end(),
             }),
@@ -249,7 +249,7 @@ impl<D: Disk> Ledger<D> {
     /// What was presented since the last mark in a currency, in thousandths.
     pub fn presented(&self, currency: Currency) -> u64
         requires open_still { IsOpen self.now }
-        requires told { IsTold self.now }
+        requires told { IsPresentedBound self.now }
         ensures { result ≡ presented_in self.now.units self.now.records currency }
     {
         match &self.bound {
@@ -411,10 +411,10 @@ impl<D: Disk> Ledger<D> {
           room = self.new.room;
           disk = self.new.disk;
         })) }
-        ensures fits { OnOk result (passes self.old.limits self.new.records ≡ false) }
-        ensures stands { OnOk result (IfTold (D.held self.old.disk) (λ all. (records : List Rec) × Stands all records × (self.new.records ≡ records ++ Boot places ∷ []))) }
+        ensures fits { OnOk result (exceeds self.old.limits self.new.records ≡ false) }
+        ensures stands { OnOk result (IfTold (D.held self.old.disk) (λ all. (records : List Rec) × StandsFor all records × (self.new.records ≡ records ++ Boot places ∷ []))) }
         ensures memory { result ≡ Err BootMemory → self.new ≡ record self.old { disk = self.new.disk } }
-        ensures full { result ≡ Err BootFull → (records : List Rec) × IsPossible self.old.records self.old.in_doubt records × (passes self.old.limits (records ++ Boot places ∷ []) ≡ true) × (self.new ≡ record self.old {
+        ensures full { result ≡ Err BootFull → (records : List Rec) × IsPossible self.old.records self.old.in_doubt records × (exceeds self.old.limits (records ++ Boot places ∷ []) ≡ true) × (self.new ≡ record self.old {
           records = records;
           bound = None;
           shut = false;
@@ -423,7 +423,7 @@ impl<D: Disk> Ledger<D> {
           room = self.new.room;
           disk = self.new.disk;
         }) }
-        ensures found { result ≡ Err BootFull → IfTold (D.held self.old.disk) (λ all. Stands all self.new.records) }
+        ensures found { result ≡ Err BootFull → IfTold (D.held self.old.disk) (λ all. StandsFor all self.new.records) }
         ensures disk { result ≡ Err BootDisk → (self.new ≡ record self.old { shut = true; disk = self.new.disk }) ⊎ ((records : List Rec) × IsPossible self.old.records self.old.in_doubt records × (self.new ≡ record self.old {
           records = records;
           bound = None;
@@ -438,7 +438,7 @@ impl<D: Disk> Ledger<D> {
         ensures told { is_some (D.held self.new.disk) ≡ is_some (D.held self.old.disk) }
         ensures possible { IsStored D.Disk self.old.disk self.old.records self.old.in_doubt }
         ensures any_moment { IfTold (D.held self.old.disk) (λ _. LeavesOnly D.moment D.images_since self.old.disk self.new.disk
-            (λ bytes. D.images self.old.disk bytes ⊎ StandsReread self.old.records self.old.in_doubt places (IsLeft self.new.records self.new.in_doubt (self.new.shut || self.new.boot_missing)) bytes)) }
+            (λ bytes. D.images self.old.disk bytes ⊎ StandsReread self.old.records self.old.in_doubt places (IsCrashOutcome self.new.records self.new.in_doubt (self.new.shut || self.new.boot_missing)) bytes)) }
     {
         let before = self.journal.records().len();
         if let Err(why) = self.journal.remount() {
@@ -513,8 +513,8 @@ fn append_boot<D: Disk>(journal: &mut Journal<D>, places: Survey) -> Result<u64,
     requires { journal.old.shut ≡ false }
     ensures number { IfOk result (λ n. n ≡ length journal.old.records + 1) }
     ensures ok { OnOk result ((journal.new.records ≡ journal.old.records ++ Boot places ∷ []) × (journal.new.shut ≡ false) × (journal.new.in_doubt ≡ None)) }
-    ensures fits { OnOk result (passes journal.old.limits journal.new.records ≡ false) }
-    ensures full { result ≡ Err BootFull → passes journal.old.limits (journal.old.records ++ Boot places ∷ []) ≡ true }
+    ensures fits { OnOk result (exceeds journal.old.limits journal.new.records ≡ false) }
+    ensures full { result ≡ Err BootFull → exceeds journal.old.limits (journal.old.records ++ Boot places ∷ []) ≡ true }
     ensures disk { result ≡ Err BootDisk → Rose (D.faults journal.old.disk) (D.faults journal.new.disk) }
     ensures images { IfTold (D.held journal.old.disk) (λ _. (image : List ℕ) → D.images journal.new.disk image → StandsForEither journal.old.records (Boot places) image) }
     ensures any_moment { IfTold (D.held journal.old.disk) (λ _. LeavesOnly D.moment D.images_since journal.old.disk journal.new.disk (StandsForEither journal.old.records (Boot places))) }

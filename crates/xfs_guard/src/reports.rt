@@ -14,7 +14,7 @@ ghost use Rattle.xfs_guard.specs.Fits.{unfit};
 ghost use Rattle.xfs_guard.specs.Refusals.{Answers};
 ghost use Rattle.xfs_guard.specs.Reports.{HasReported};
 ghost use Rattle.xfs_guard.specs.Keeps.{Keeps, NoEntry};
-ghost use Rattle.xfs_guard.specs.Left.{Leaves, MayTake};
+ghost use Rattle.xfs_guard.specs.CrashOutcomes.{Leaves, MayTake};
 
 use crate::{Deny, Guard};
 use xfs_base::Memory;

@@ -2,8 +2,8 @@
 
 ghost use Rattle.std.specs.Prelude.{◌≡◌, ◌≤◌, ◌⊎◌, ℕ, true, false, List, [], ◌∷◌, ◌++◌, Some, None, Err, OnOk, IfErr};
 ghost use Rattle.xfs_base.specs.Causes.{IfTold, Rose};
-ghost use Rattle.xfs_journal.specs.Image.{Stands};
-ghost use Rattle.xfs_journal.specs.JournalView.{IsPossible, passes};
+ghost use Rattle.xfs_journal.specs.Image.{StandsFor};
+ghost use Rattle.xfs_journal.specs.JournalView.{IsPossible, exceeds};
 ghost use Rattle.xfs_journal.specs.declared.record.Rec.{Rec};
 ghost use Rattle.xfs_journal.specs.declared.record.Rec.TheVariants.{Boot};
 ghost use Rattle.xfs_guard.specs.declared.fail.BootFault.TheVariants.{NotJournal, Disk as BootDisk, Full as BootFull, Memory as BootMemory};
@@ -24,11 +24,11 @@ impl<M: Mechanism, D: Disk> Guard<M, D> {
     /// as `NotJournal`.
     pub fn restore(&mut self) -> Result<(), BootFault>
         ensures ok { OnOk result ((records : List Rec) × IsPossible self.old.state.records self.old.state.in_doubt records × (self.new.state ≡ restarted self.old.state records)) }
-        ensures fits { OnOk result (passes self.old.state.limits self.new.state.records ≡ false) }
-        ensures stands { OnOk result (IfTold (D.held self.old.disk) (λ all. (records : List Rec) × Stands all records × (self.new.state.records ≡ records ++ Boot self.old.state.places ∷ []))) }
+        ensures fits { OnOk result (exceeds self.old.state.limits self.new.state.records ≡ false) }
+        ensures stands { OnOk result (IfTold (D.held self.old.disk) (λ all. (records : List Rec) × StandsFor all records × (self.new.state.records ≡ records ++ Boot self.old.state.places ∷ []))) }
         ensures memory { result ≡ Err BootMemory → self.new.state ≡ self.old.state }
-        ensures full { result ≡ Err BootFull → (records : List Rec) × IsPossible self.old.state.records self.old.state.in_doubt records × (passes self.old.state.limits (records ++ Boot self.old.state.places ∷ []) ≡ true) × (self.new.state ≡ reread self.old.state records) }
-        ensures found { result ≡ Err BootFull → IfTold (D.held self.old.disk) (λ all. Stands all self.new.state.records) }
+        ensures full { result ≡ Err BootFull → (records : List Rec) × IsPossible self.old.state.records self.old.state.in_doubt records × (exceeds self.old.state.limits (records ++ Boot self.old.state.places ∷ []) ≡ true) × (self.new.state ≡ reread self.old.state records) }
+        ensures found { result ≡ Err BootFull → IfTold (D.held self.old.disk) (λ all. StandsFor all self.new.state.records) }
         ensures disk { result ≡ Err BootDisk → (self.new.state ≡ unread self.old.state) ⊎ ((records : List Rec) × IsPossible self.old.state.records self.old.state.in_doubt records × (self.new.state ≡ unbooted self.old.state records)) }
         ensures not_journal { IfErr result (λ f. (at : ℕ) → f ≡ NotJournal at → (D.held self.old.disk ≡ None) × (self.new.state ≡ unread self.old.state)) }
         ensures untold { IfErr result (λ f. (at : ℕ) → f ≡ NotJournal at → self.old.state.disk_told ≡ false) }

@@ -18,7 +18,7 @@ use Rattle.xfs_journal.proofs.Told.{from_told}
 two_back : (y z : ℕ) → y < 256 → z < 256 → to_be_bytes w16 (from_be_bytes w16 (y ∷ z ∷ [])) ≡ y ∷ z ∷ []
 two_back y z fits_y fits_z = ap₂ (λ (a b : ℕ). a ∷ b ∷ []) (omega (arith, fits_y, fits_z)) (omega (arith, fits_y, fits_z))
 
--- the front of what stands there
+-- the first bytes of what stands there
 module _ (l o : List ℕ) (k : ℕ) (is : o ≡ take k l) where
   pub front_at : (i : ℕ) → i < k → slice_index l i ≡ slice_index o i
   front_at i lt = sym (ap (λ (x : List ℕ). slice_index x i) is ∙ get_or-take k l i 0 lt)
@@ -54,7 +54,7 @@ module _ (l : List ℕ) (some : 1 ≤ length l) (opens : slice_index l 0 ≡ 1) 
   pub broken_body : IsNoBody (take (size_in l) (drop 3 l)) → IsBroken l
   broken_body none = broken_from l some opens (λ r of_table more same. none r of_table (sym (told_body r of_table more l same)))
 
--- a front of it
+-- a prefix of it
 module _ (l o : List ℕ) (is : o ≡ take (length o) l) where
   pub some_of : 1 ≤ length o → 1 ≤ length l
   some_of le = omega (arith, le, ap length is, length-take (length o) l)
@@ -107,5 +107,5 @@ module _ (h : Option (List ℕ)) (b : List ℕ) (known : h ≡ Some b) (p : Page
 
   pub none_found : IsNoBody (drop 3 o) → IsBroken (drop at b)
   none_found none = subst (λ (n : ℕ). IsBroken (drop n b)) is (
-      let front = since_front h p gate o since b known in
-      broken_body (drop gate b) (some_of (drop gate b) o front (omega (arith, whole))) opens (subst IsNoBody (sym (body_of (drop gate b) o front whole)) none))
+      let prefix = since_front h p gate o since b known in
+      broken_body (drop gate b) (some_of (drop gate b) o prefix (omega (arith, whole))) opens (subst IsNoBody (sym (body_of (drop gate b) o prefix whole)) none))

@@ -1,7 +1,7 @@
 -- Bytes that cease to be a journal are the image of no list.
 use Rattle.std.proofs.Common.{◌≡◌, ◌≢◌, inl, inr, ℕ, ◌+◌, ◌<◌, ◌≤◌, List, [], ◌∷◌, ◌++◌, length, take, refl, sym, ◌∙◌, ap, arith, append_assoc, append-nil, length-append, take_at}
 use Rattle.std.specs.List.{AllByRecursion}
-use Rattle.xfs_journal.specs.Image.{IsImage, IsRecord, Stands, blocks, framed, front, magic}
+use Rattle.xfs_journal.specs.Image.{IsImage, IsRecord, StandsFor, blocks, framed, contents, magic}
 use Rattle.xfs_journal.specs.Paging.{IsBroken, CeasesAt, MayCease}
 use Rattle.xfs_journal.specs.declared.record.Rec.{Rec}
 use Rattle.xfs_journal.proofs.Unique.{one_block, second_part, head_of, tail_of}
@@ -29,15 +29,15 @@ no_image c at (inr (K, rest, all, is, broken, place)) J image =
     (second_part magic (blocks K ++ rest) magic (blocks J ++ image.gate ∷ image.rest) refl
     (sym (append_assoc magic (blocks K) rest) ∙ sym is ∙ image.bytes_are ∙ append_assoc magic (blocks J) (image.gate ∷ image.rest)))
 
-pub no_list : (c : List ℕ) (at : ℕ) → CeasesAt c at → 9 < length c → (J : List Rec) → ¬ Stands c J
+pub no_list : (c : List ℕ) (at : ℕ) → CeasesAt c at → 9 < length c → (J : List Rec) → ¬ StandsFor c J
 no_list c at ceases long J (inl image) = no_image c at ceases J image
 no_list c at ceases long J (inr (none, short, other)) = omega (arith, long, short)
 
 pub image_long : (c : List ℕ) (J : List Rec) → IsImage c J → 9 + length (blocks J) ≤ length c
-image_long c J image = omega (arith, ap length image.bytes_are, length-append (front J) (image.gate ∷ image.rest), length-append magic (blocks J))
+image_long c J image = omega (arith, ap length image.bytes_are, length-append (contents J) (image.gate ∷ image.rest), length-append magic (blocks J))
 
 -- at most 9 bytes stand for no other list than the empty one
-pub short_empty : (c : List ℕ) (J : List Rec) → length c ≤ 9 → Stands c J → J ≡ []
+pub short_empty : (c : List ℕ) (J : List Rec) → length c ≤ 9 → StandsFor c J → J ≡ []
 short_empty c [] short stands = refl
 short_empty c (j ∷ J) short (inl image) = absurd (omega (arith, short, image_long c (j ∷ J) image))
 short_empty c (j ∷ J) short (inr (none, le, other)) = none
@@ -47,5 +47,5 @@ pub ceases_at_start : MayCease 0
 ceases_at_start = ([], inl ((λ same. absurd (omega (arith, ap length same))), refl))
 
 -- bytes may cease behind any records
-pub ceases_behind : (J : List Rec) → AllByRecursion IsRecord J → MayCease (length (front J))
-ceases_behind J all = (front J, inr (J, [], all, sym (append-nil (front J)), inl refl, refl))
+pub ceases_behind : (J : List Rec) → AllByRecursion IsRecord J → MayCease (length (contents J))
+ceases_behind J all = (contents J, inr (J, [], all, sym (append-nil (contents J)), inl refl, refl))

@@ -8,7 +8,7 @@ use Rattle.std.proofs.lemmas.Option.{none-some, same_Some}
 use Rattle.xfs_base.specs.Causes.{IfTold}
 use Rattle.xfs_disk.specs.Disk.{overlaid, Only}
 use Rattle.xfs_journal.specs.Gate.{MayBecome}
-use Rattle.xfs_journal.specs.Image.{IsImage, Stands, framed, magic}
+use Rattle.xfs_journal.specs.Image.{IsImage, StandsFor, framed, magic}
 use Rattle.xfs_journal.specs.JournalView.{IsAtRest, IsKept}
 use Rattle.xfs_journal.specs.Paging.{IsOldOrShort}
 use Rattle.xfs_journal.specs.declared.record.Rec.{Rec}
@@ -18,7 +18,7 @@ use Rattle.xfs_journal.proofs.Told.{on_told, from_told}
 no_record : (rest : List ℕ) → rest ≡ [] → (r : Rec) → (more : List ℕ) → rest ≢ framed r ++ more
 no_record rest none r more same = absurd (omega (arith, ap length none, ap length same))
 
-behind_magic : (c rest : List ℕ) → c ≡ magic ++ rest → length rest ≤ 1 → Stands c []
+behind_magic : (c rest : List ℕ) → c ≡ magic ++ rest → length rest ≤ 1 → StandsFor c []
 behind_magic c [] is le = inr (refl, omega (arith, ap length is), no_image c 8 (inr ([], [], tt, is, inl refl, refl)))
 behind_magic c (g ∷ rest) is le = elim (cases_eq g 1) [
   | inl open_gate ↦ inr (refl, omega (arith, ap length is, le), no_image c 8 (inr ([], g ∷ rest, tt, is, inr (rest, ap (λ k. k ∷ rest) open_gate, λ r of_table. no_record rest (empty g rest le) r), refl)))
@@ -29,10 +29,10 @@ behind_magic c (g ∷ rest) is le = elim (cases_eq g 1) [
     empty g [] few = refl
     empty g (x ∷ xs) few = absurd (omega (arith, few))
 
-pub short_stands : (c : List ℕ) → length c ≤ 9 → Stands c []
+pub short_stands : (c : List ℕ) → length c ≤ 9 → StandsFor c []
 short_stands c short = by_magic (pointwise nat_eq (take 8 c) magic) refl
   where
-    by_magic : (b : Bool) → b ≡ pointwise nat_eq (take 8 c) magic → Stands c []
+    by_magic : (b : Bool) → b ≡ pointwise nat_eq (take 8 c) magic → StandsFor c []
     by_magic true same = behind_magic c (drop 8 c) (sym (take-append-drop 8 c) ∙ ap (λ (l : List ℕ). l ++ drop 8 c) (same_text (take 8 c) magic same)) (omega (arith, length-drop 8 c, short))
     by_magic false other = inr (refl, short, no_image c 0 (inl (other_text (take 8 c) magic other, refl)))
 
@@ -55,6 +55,6 @@ kept_empty h h2 images2 written durable = record {
     image_of (Some all) c same = subst (λ (l : List ℕ). IsImage l []) (same_Some (overlaid all 0 (magic ++ 0 ∷ [])) c same) (emptied all)
 
 -- one of the old images, or at most 9 bytes where the file had no more, stands for the list that each old image stands for
-pub settles : (images : List ℕ → Type 0) (all : List ℕ) (J : List Rec) → images all → ((c : List ℕ) → images c → Stands c J) → (c : List ℕ) → IsOldOrShort images all c → Stands c J
+pub settles : (images : List ℕ → Type 0) (all : List ℕ) (J : List Rec) → images all → ((c : List ℕ) → images c → StandsFor c J) → (c : List ℕ) → IsOldOrShort images all c → StandsFor c J
 settles images all J here each c (inl was) = each c was
-settles images all J here each c (inr (short, few)) = subst (λ (l : List Rec). Stands c l) (sym (short_empty all J short (each all here))) (short_stands c few)
+settles images all J here each c (inr (short, few)) = subst (λ (l : List Rec). StandsFor c l) (sym (short_empty all J short (each all here))) (short_stands c few)

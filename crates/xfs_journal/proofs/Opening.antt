@@ -24,8 +24,8 @@ module _ (f x : List ℕ) (g : ℕ) (rest : List ℕ) (p : ℕ) (size : length f
   tail : drop (p + 1) file ≡ rest
   tail = ap (λ (l : List ℕ). drop (p + 1) l) split ∙ drop_at (f ++ g ∷ []) rest (p + 1) head_size
 
-  front : take p file ≡ f
-  front = take_at f (g ∷ rest) p size
+  prefix : take p file ≡ f
+  prefix = take_at f (g ∷ rest) p size
 
   -- the gate stands in each outcome of a write behind it
   pub torn_behind : (n : ℕ) (c : List ℕ) → g ≢ 1 → Torn (p + 1) n file c → IsClosed f c
@@ -41,10 +41,10 @@ module _ (f x : List ℕ) (g : ℕ) (rest : List ℕ) (p : ℕ) (size : length f
   torn_gate c torn =
       let long : p + 1 ≤ length c = omega (arith, torn.no_shorter, length-append f (g ∷ rest), size) in
       let h = get_or c p 0 in
-      (h, sym (take-append-drop p c) ∙ ap (λ (l : List ℕ). l ++ drop p c) (torn.before ∙ front) ∙ ap (λ (l : List ℕ). f ++ l) (drop_more c p 0 (omega (arith, long)) ∙ ap (λ (l : List ℕ). h ∷ l) (torn.after ∙ tail)))
+      (h, sym (take-append-drop p c) ∙ ap (λ (l : List ℕ). l ++ drop p c) (torn.before ∙ prefix) ∙ ap (λ (l : List ℕ). f ++ l) (drop_more c p 0 (omega (arith, long)) ∙ ap (λ (l : List ℕ). h ∷ l) (torn.after ∙ tail)))
 
   pub written_gate : overlaid file p (1 ∷ []) ≡ f ++ 1 ∷ rest
-  written_gate = ap (λ (l : List ℕ). l ++ (1 ∷ []) ++ drop (p + 1) file) front ∙ ap (λ (l : List ℕ). f ++ (1 ∷ []) ++ l) tail ∙ append_assoc f (1 ∷ []) rest
+  written_gate = ap (λ (l : List ℕ). l ++ (1 ∷ []) ++ drop (p + 1) file) prefix ∙ ap (λ (l : List ℕ). f ++ (1 ∷ []) ++ l) tail ∙ append_assoc f (1 ∷ []) rest
 
 pub either : (f x rest : List ℕ) (h : ℕ) (c : List ℕ) → c ≡ f ++ h ∷ (x ++ rest) → IsEither f x c
 either f x rest h c is = elim (cases_eq h 1) [

@@ -3,7 +3,7 @@ use Rattle.std.proofs.Common.{◌≡◌, ◌≢◌, inl, inr, ℕ, ◌<◌, ◌^
 use Rattle.std.specs.Int.{to_be_bytes, from_be_bytes, w16}
 use Rattle.std.specs.List.{AllByRecursion}
 use Rattle.std.proofs.lemmas.Nat.{from_be_bytes-to_be_bytes_2}
-use Rattle.xfs_journal.specs.Image.{IsImage, IsRecord, Stands, body, framed, blocks, magic}
+use Rattle.xfs_journal.specs.Image.{IsImage, IsRecord, StandsFor, body, framed, blocks, magic}
 use Rattle.xfs_journal.specs.declared.record.Rec.{Rec}
 use Rattle.xfs_journal.proofs.Decoding.{no_two_bodies, body-short}
 
@@ -55,7 +55,7 @@ at_most_one bytes J K of_j of_k =
     same_blocks J K of_j.gate of_k.gate of_j.rest of_k.rest of_j.of_table of_k.of_table of_j.closed of_k.closed behind
 
 -- bytes stand for at most one list
-pub stands_for_one : (bytes : List ℕ) (J K : List Rec) → Stands bytes J → Stands bytes K → J ≡ K
+pub stands_for_one : (bytes : List ℕ) (J K : List Rec) → StandsFor bytes J → StandsFor bytes K → J ≡ K
 stands_for_one bytes J K (inl of_j) (inl of_k) = at_most_one bytes J K of_j of_k
 stands_for_one bytes J K (inl of_j) (inr (none, le, other)) = absurd (other J of_j)
 stands_for_one bytes J K (inr (none, le, other)) (inl of_k) = absurd (other K of_k)

@@ -66,12 +66,12 @@ abbrev pub magic : List ℕ
 magic = 0x58 ∷ 0x46 ∷ 0x53 ∷ 0x4A ∷ 0x52 ∷ 0x4E ∷ 0x4C ∷ 0x31 ∷ []
 
 -- the magic and the records
-abbrev pub front : List Rec → List ℕ
-front records = magic ++ blocks records
+abbrev pub contents : List Rec → List ℕ
+contents records = magic ++ blocks records
 
 -- the bytes up to and with the closing gate byte
 abbrev pub size : List Rec → ℕ
-size records = length (front records) + 1
+size records = length (contents records) + 1
 
 -- the bytes are those of the list: its records, a closed gate byte, and whatever follows
 pub record IsImage (bytes : List ℕ) (records : List Rec) : Type 0 where
@@ -79,8 +79,8 @@ pub record IsImage (bytes : List ℕ) (records : List Rec) : Type 0 where
   pub gate : ℕ
   pub rest : List ℕ
   pub closed : gate ≢ 1
-  pub bytes_are : bytes ≡ front records ++ gate ∷ rest
+  pub bytes_are : bytes ≡ contents records ++ gate ∷ rest
 
 -- the bytes stand for the list: they are its image, or they are at most 9, no list has them as its image, and the list is empty
-abbrev pub Stands : List ℕ → List Rec → Type 0
-Stands bytes records = IsImage bytes records ⊎ ((records ≡ []) × (length bytes ≤ 9) × ((J : List Rec) → ¬ IsImage bytes J))
+abbrev pub StandsFor : List ℕ → List Rec → Type 0
+StandsFor bytes records = IsImage bytes records ⊎ ((records ≡ []) × (length bytes ≤ 9) × ((other : List Rec) → ¬ IsImage bytes other))

@@ -4,7 +4,7 @@ use Rattle.std.specs.declared.option.Option.{Option}
 use Rattle.std.specs.List.{AllByRecursion}
 use Rattle.xfs_base.specs.Causes.{IfTold}
 use Rattle.xfs_disk.specs.Disk.{Only}
-use Rattle.xfs_journal.specs.Image.{IsImage, IsRecord, Stands, front, size}
+use Rattle.xfs_journal.specs.Image.{IsImage, IsRecord, StandsFor, contents, size}
 use Rattle.xfs_journal.specs.Paging.{MayCease}
 use Rattle.xfs_journal.specs.declared.faults.AppendFault.{AppendFault}
 use Rattle.xfs_journal.specs.declared.faults.AppendFault.TheVariants.{Shut, Full}
@@ -27,21 +27,21 @@ pub record IsAtRest (images : List ℕ → Type 0) (records : List Rec) (bytes :
   pub durable : Only bytes images
 
 pub record IsKept (held : Option (List ℕ)) (images : List ℕ → Type 0) (records : List Rec) (shut : Bool) (end : ℕ) : Type 0 where
-  pub place : end ≡ length (front records)
+  pub place : end ≡ length (contents records)
   pub of_table : AllByRecursion IsRecord records
   pub at_rest : shut ≡ false → IfTold held (IsAtRest images records)
 
--- a limit is passed by this list
-abbrev pub passes : Limits → List Rec → Bool
-passes limits records = nat_lt limits.records (length records) || nat_lt limits.bytes (size records)
+-- this list exceeds a limit
+abbrev pub exceeds : Limits → List Rec → Bool
+exceeds limits records = nat_lt limits.records (length records) || nat_lt limits.bytes (size records)
 
 -- the first refusal that applies, in the order in which they are looked at
 abbrev pub refusal : {D : Type 0} → JournalView D → Rec → Option AppendFault
-refusal j r = if j.shut then Some Shut else (if passes j.limits (j.records ++ r ∷ []) then Some Full else None)
+refusal j r = if j.shut then Some Shut else (if exceeds j.limits (j.records ++ r ∷ []) then Some Full else None)
 
 -- the bytes stand for the list, or for the list with the record
 abbrev pub StandsForEither : List Rec → Rec → List ℕ → Type 0
-StandsForEither records r bytes = Stands bytes records ⊎ Stands bytes (records ++ r ∷ [])
+StandsForEither records r bytes = StandsFor bytes records ⊎ StandsFor bytes (records ++ r ∷ [])
 
 -- one of the lists that the disk may have: the kept one, or that one with the record in doubt
 abbrev pub IsPossible : List Rec → Option Rec → List Rec → Type 0
@@ -66,7 +66,7 @@ longest kept (Some r) = kept ++ r ∷ []
 abbrev pub DiffersAt : List Rec → Option Rec → List Rec → ℕ → Type 0
 DiffersAt kept in_doubt records at = (n : ℕ)
     × (take n records ≡ take n (longest kept in_doubt)) × (slice_get records n ≢ slice_get (longest kept in_doubt) n)
-    × (at ≡ length (front (take n records)))
+    × (at ≡ length (contents (take n records)))
 
 -- some list that was found is none of the possible ones and parts from them there, or some bytes cease to be a journal there
 abbrev pub MayPartAt : List Rec → Option Rec → ℕ → Type 0

@@ -5,7 +5,7 @@ use Rattle.std.specs.declared.option.Option.{Option}
 use Rattle.std.specs.List.{AllByRecursion}
 use Rattle.xfs_base.specs.Causes.{IfTold}
 use Rattle.xfs_disk.specs.Disk.{AddsNone, LeavesOnly}
-use Rattle.xfs_journal.specs.Image.{IsRecord, body, framed, front, magic}
+use Rattle.xfs_journal.specs.Image.{IsRecord, body, framed, contents, magic}
 use Rattle.xfs_journal.specs.declared.record.Rec.{Rec}
 
 -- the next bytes from a place on, and the length of the whole
@@ -58,7 +58,7 @@ IsBroken bytes = (bytes ≡ []) ⊎ ((rest : List ℕ) × (bytes ≡ 1 ∷ rest)
 -- The place from which bytes are no journal: 0 where they don't begin as one, else that behind the last whole record, where no closed gate byte stands.
 abbrev pub CeasesAt : List ℕ → ℕ → Type 0
 CeasesAt bytes at = ((take 8 bytes ≢ magic) × (at ≡ 0))
-    ⊎ ((records : List Rec) × (rest : List ℕ) × AllByRecursion IsRecord records × (bytes ≡ front records ++ rest) × IsBroken rest × (at ≡ length (front records)))
+    ⊎ ((records : List Rec) × (rest : List ℕ) × AllByRecursion IsRecord records × (bytes ≡ contents records ++ rest) × IsBroken rest × (at ≡ length (contents records)))
 
 -- some bytes cease to be a journal there
 abbrev pub MayCease : ℕ → Type 0

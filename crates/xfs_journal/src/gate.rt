@@ -1,8 +1,8 @@
 //! Writing behind a closed gate byte, and then opening it.
 ghost use Rattle.std.specs.Prelude.{◌≡◌, List, ℕ, ◌+◌, ◌<◌, ◌≤◌, ◌^◌, [], ◌∷◌, ◌++◌, true, false, Some, None, is_some, option_map, length, take, OnOk, OnErr};
 ghost use Rattle.xfs_base.specs.Causes.{HasCause, IfTold};
-ghost use Rattle.xfs_disk.specs.Disk.{overlaid, Torn, Follows, Only, LeavesOnly};
-ghost use Rattle.xfs_journal.specs.Image.{IsRecord, Stands, framed};
+ghost use Rattle.xfs_disk.specs.Disk.{overlaid, Torn, ImagesFollow, Only, LeavesOnly};
+ghost use Rattle.xfs_journal.specs.Image.{IsRecord, StandsFor, framed};
 ghost use Rattle.xfs_journal.specs.JournalView.{IsKept, IsInDoubt, StandsForEither};
 ghost use Rattle.xfs_journal.specs.Gate.{IsClosed, IsOpened, IsEither, MayBecome};
 
@@ -16,7 +16,7 @@ pub(crate) fn write_synced<D: Disk>(disk: &mut D, at: u64, bytes: &[u8]) -> Resu
     ensures written { OnOk result (D.held disk.new ≡ option_map (λ all. overlaid all at bytes.now) (D.held disk.old)) }
     ensures durable { OnOk result (IfTold (D.held disk.new) (λ all. Only all (D.images disk.new))) }
     ensures told { is_some (D.held disk.new) ≡ is_some (D.held disk.old) }
-    ensures crash { Follows (Torn at (length bytes.now)) (D.images disk.old) (D.images disk.new) }
+    ensures crash { ImagesFollow (Torn at (length bytes.now)) (D.images disk.old) (D.images disk.new) }
     ensures any_moment { LeavesOnly D.moment D.images_since disk.old disk.new (MayBecome (D.images disk.old) at (length bytes.now)) }
     ensures cause { HasCause (D.faults disk.old) (D.faults disk.new) result }
 {
@@ -56,7 +56,7 @@ pub(crate) fn write_record<D: Disk>(
     ensures images { IfTold (D.held disk.old) (λ _. (c : List ℕ) → D.images disk.new c → StandsForEither records.now rec.now c) }
     ensures in_doubt { IsInDoubt (D.held disk.new) (D.images disk.new) records.now true (Some rec.now) }
     ensures none_in_doubt { OnOk result (IsInDoubt (D.held disk.new) (D.images disk.new) (records.now ++ rec.now ∷ []) false None) }
-    ensures acknowledged { OnOk result (IfTold (D.held disk.new) (λ _. (c : List ℕ) → D.images disk.new c → Stands c (records.now ++ rec.now ∷ []))) }
+    ensures acknowledged { OnOk result (IfTold (D.held disk.new) (λ _. (c : List ℕ) → D.images disk.new c → StandsFor c (records.now ++ rec.now ∷ []))) }
     ensures cause { HasCause (D.faults disk.old) (D.faults disk.new) result }
 {
     write_behind(disk, end, bytes)

@@ -2,8 +2,8 @@
 ghost use Rattle.std.specs.Prelude.{MatchResult, ◌≡◌, ◌≢◌, ◌⊎◌, ℕ, List, ◌+◌, ◌-◌, ◌≤◌, ◌<◌, ◌||◌, nat_lt, [], ◌∷◌, ◌++◌, is_some, length, true, false, Some, None, Err, IfOk, IfErr, OnOk, OnErr, IfSome};
 ghost use Rattle.xfs_base.specs.Causes.{IfTold, Rose};
 ghost use Rattle.xfs_disk.specs.Disk.{LeavesOnly};
-ghost use Rattle.xfs_journal.specs.Image.{HasUnit, Stands, framed, front, size};
-ghost use Rattle.xfs_journal.specs.JournalView.{passes, refusal, IsPossible, HasPossible, StandsForEither, MayPartAt};
+ghost use Rattle.xfs_journal.specs.Image.{HasUnit, StandsFor, framed, contents, size};
+ghost use Rattle.xfs_journal.specs.JournalView.{exceeds, refusal, IsPossible, HasPossible, StandsForEither, MayPartAt};
 ghost use Rattle.xfs_journal.specs.declared.faults.AppendFault.TheVariants.{Disk as DiskFault, Memory as NoMemory};
 ghost use Rattle.xfs_journal.specs.Paging.{CeasesAt, IsOldOrShort, IsQuiet};
 ghost use Rattle.xfs_journal.specs.declared.faults.MountFault.TheVariants.{NotJournal, Disk as MountDisk, Memory as MountMemory};
@@ -62,8 +62,8 @@ impl<D: Disk> Journal<D> {
     /// Syncs the disk and reads its journal. At most 9 bytes that are no journal are made an empty one; a longer file
     /// is not written, and the disk is handed back with what hindered it.
     pub fn mount(alloc: Global, disk: D, limits: Limits) -> Result<Journal<D>, MountFail<D>>
-        ensures ok { IfOk result (λ j. IfTold (D.held disk) (λ all. Stands all j.records)) }
-        ensures not_journal { IfErr result (λ f. (at : ℕ) → f.why ≡ NotJournal at → IfTold (D.held disk) (λ all. CeasesAt all at × ((J : List Rec) → ¬ Stands all J))) }
+        ensures ok { IfOk result (λ j. IfTold (D.held disk) (λ all. StandsFor all j.records)) }
+        ensures not_journal { IfErr result (λ f. (at : ℕ) → f.why ≡ NotJournal at → IfTold (D.held disk) (λ all. CeasesAt all at × ((records : List Rec) → ¬ StandsFor all records))) }
         ensures disk { IfErr result (λ f. f.why ≡ MountDisk → Rose (D.faults disk) (D.faults f.disk)) }
         ensures shut { IfOk result (λ j. j.shut ≡ false) }
         ensures limits { IfOk result (λ j. j.limits ≡ limits) }
@@ -81,7 +81,7 @@ impl<D: Disk> Journal<D> {
         ensures any_moment { IfTold (D.held disk) (λ all. MatchResult result
             (λ j. LeavesOnly D.moment D.images_since disk j.disk (IsOldOrShort (D.images disk) all))
             (λ f. LeavesOnly D.moment D.images_since disk f.disk (IsOldOrShort (D.images disk) all))) }
-        ensures acknowledged { IfOk result (λ j. IfTold (D.held j.disk) (λ _. (c : List ℕ) → D.images j.disk c → Stands c j.records)) }
+        ensures acknowledged { IfOk result (λ j. IfTold (D.held j.disk) (λ _. (c : List ℕ) → D.images j.disk c → StandsFor c j.records)) }
     {
         let mut disk = disk;
         let Ok(mut buffer) = Vec::with_capacity(alloc, MOST) else {
@@ -172,11 +172,11 @@ impl<D: Disk> Journal<D> {
         // A disk that tells has one of the two lists, so it isn't refused as no journal, nor written: a crash at any
         // moment of the call leaves what it might have left before, and after `Ok` the list.
         ensures possible { IfTold (D.held self.old.disk) (λ _. (c : List ℕ) → D.images self.old.disk c → HasPossible self.old.records self.old.in_doubt c) }
-        ensures stands { OnOk result (IfTold (D.held self.old.disk) (λ all. Stands all self.new.records)) }
+        ensures stands { OnOk result (IfTold (D.held self.old.disk) (λ all. StandsFor all self.new.records)) }
         ensures not_journal { IfErr result (λ f. (at : ℕ) → f ≡ NotJournal at → D.held self.old.disk ≡ None) }
         ensures place { IfErr result (λ f. (at : ℕ) → f ≡ NotJournal at → MayPartAt self.old.records self.old.in_doubt at) }
         ensures any_moment { IfTold (D.held self.old.disk) (λ _. IsQuiet D.held D.images D.moment D.images_since D.faults self.old.disk self.new.disk) }
-        ensures acknowledged { OnOk result (IfTold (D.held self.new.disk) (λ _. (c : List ℕ) → D.images self.new.disk c → Stands c self.new.records)) }
+        ensures acknowledged { OnOk result (IfTold (D.held self.new.disk) (λ _. (c : List ℕ) → D.images self.new.disk c → StandsFor c self.new.records)) }
     {
         match reload(
             self.alloc,
@@ -227,7 +227,7 @@ impl<D: Disk> Journal<D> {
         ensures any_moment { self.old.shut ≡ false → IfTold (D.held self.old.disk) (λ _. LeavesOnly D.moment D.images_since self.old.disk self.new.disk
             (StandsForEither self.old.records rec)) }
         ensures images { self.old.shut ≡ false → IfTold (D.held self.old.disk) (λ _. (c : List ℕ) → D.images self.new.disk c → StandsForEither self.old.records rec c) }
-        ensures acknowledged { OnOk result (IfTold (D.held self.new.disk) (λ _. (c : List ℕ) → D.images self.new.disk c → Stands c self.new.records)) }
+        ensures acknowledged { OnOk result (IfTold (D.held self.new.disk) (λ _. (c : List ℕ) → D.images self.new.disk c → StandsFor c self.new.records)) }
     {
         if self.shut {
             return Err(AppendFault::Shut);
@@ -250,11 +250,11 @@ impl<D: Disk> Journal<D> {
     }
 }
 
-// Whether the record whose bytes these are passes a limit.
+// Whether the record whose bytes these are exceeds a limit.
 fn is_full(limits: Limits, records: &[Rec], rec: &Rec, end: u64, bytes: &[u8]) -> bool
-    requires place { end ≡ length (front records.now) }
+    requires place { end ≡ length (contents records.now) }
     requires bytes { bytes.now ≡ framed rec.now ++ 0 ∷ [] }
-    ensures full { result ≡ passes limits (records.now ++ rec.now ∷ []) }
+    ensures full { result ≡ exceeds limits (records.now ++ rec.now ∷ []) }
     ensures small { result ≡ false → end + length bytes.now < limits.bytes }
 {
     passes_by(limits, records.len() as u64, end, bytes.len() as u64)

@@ -3,7 +3,7 @@ ghost use Rattle.std.specs.Prelude.{◌⊎◌, ◌∷◌, ◌++◌, ◌≡◌, �
 ghost use Rattle.std.specs.List.{AllByRecursion};
 ghost use Rattle.xfs_base.specs.Causes.{IfTold, Rose};
 ghost use Rattle.xfs_disk.specs.Disk.{LeavesOnly, Only};
-ghost use Rattle.xfs_journal.specs.Image.{IsImage, IsRecord, Stands, front};
+ghost use Rattle.xfs_journal.specs.Image.{IsImage, IsRecord, StandsFor, contents};
 ghost use Rattle.xfs_journal.specs.JournalView.{IsKept};
 ghost use Rattle.xfs_journal.specs.Paging.{IsQuiet, IsOldOrShort, CeasesAt, MayCease};
 ghost use Rattle.xfs_journal.specs.declared.faults.MountFault.TheVariants.{NotJournal, Disk as DiskFault, Memory as NoMemory};
@@ -31,7 +31,7 @@ pub(crate) fn read_all<D: Disk>(
 ) -> Result<Listed, MountFault>
     requires room { 1028 ≤ vec_capacity block.old }
     requires len { IfTold (D.held disk.old) (λ all. length all ≡ len) }
-    ensures place { IfOk result (λ l. (l.end ≡ length (front l.records.items)) × AllByRecursion IsRecord l.records.items) }
+    ensures place { IfOk result (λ l. (l.end ≡ length (contents l.records.items)) × AllByRecursion IsRecord l.records.items) }
     ensures image { IfOk result (λ l. IfTold (D.held disk.old) (λ all. IsImage all l.records.items)) }
     ensures broken { IfErr result (λ f. (x : ℕ) → f ≡ NotJournal x → IfTold (D.held disk.old) (λ all. CeasesAt all x)) }
     ensures ceases { IfErr result (λ f. (x : ℕ) → f ≡ NotJournal x → MayCease x) }
@@ -92,7 +92,7 @@ fn read_or_empty<D: Disk>(
     requires len { IfTold (D.held disk.old) (λ all. length all ≡ len) }
     requires durable { IfTold (D.held disk.old) (λ all. Only all (D.images disk.old)) }
     ensures kept { IfOk result (λ l. IsKept (D.held disk.new) (D.images disk.new) l.records.items false l.end) }
-    ensures stands { IfOk result (λ l. IfTold (D.held disk.old) (λ all. Stands all l.records.items)) }
+    ensures stands { IfOk result (λ l. IfTold (D.held disk.old) (λ all. StandsFor all l.records.items)) }
     ensures refused { IfErr result (λ f. (at : ℕ) → f ≡ NotJournal at → IfTold (D.held disk.old) (λ all. (9 < length all) × CeasesAt all at)) }
     ensures unwritten { IfErr result (λ f. f ≢ DiskFault → IsQuiet D.held D.images D.moment D.images_since D.faults disk.old disk.new) }
     ensures long { IfTold (D.held disk.old) (λ all. 9 < length all → IsQuiet D.held D.images D.moment D.images_since D.faults disk.old disk.new) }
@@ -116,7 +116,7 @@ pub(crate) fn load<D: Disk>(
 ) -> Result<Listed, MountFault>
     requires room { 1028 ≤ vec_capacity block.old }
     ensures kept { IfOk result (λ l. IsKept (D.held disk.new) (D.images disk.new) l.records.items false l.end) }
-    ensures stands { IfOk result (λ l. IfTold (D.held disk.old) (λ all. Stands all l.records.items)) }
+    ensures stands { IfOk result (λ l. IfTold (D.held disk.old) (λ all. StandsFor all l.records.items)) }
     ensures refused { IfErr result (λ f. (at : ℕ) → f ≡ NotJournal at → IfTold (D.held disk.old) (λ all. (9 < length all) × CeasesAt all at)) }
     ensures unwritten { IfErr result (λ f. f ≢ DiskFault → IsQuiet D.held D.images D.moment D.images_since D.faults disk.old disk.new) }
     ensures long { IfTold (D.held disk.old) (λ all. 9 < length all → IsQuiet D.held D.images D.moment D.images_since D.faults disk.old disk.new) }

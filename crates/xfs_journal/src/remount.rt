@@ -28,7 +28,7 @@ fn read_again<D: Disk>(
     requires room { 1028 ≤ vec_capacity block.old }
     requires len { IfTold (D.held disk.old) (λ all. length all ≡ len) }
     requires durable { IfTold (D.held disk.old) (λ all. Only all (D.images disk.old)) }
-    requires image { IfTold (D.held disk.old) (λ all. (J : List Rec) × IsImage all J) }
+    requires image { IfTold (D.held disk.old) (λ all. (records : List Rec) × IsImage all records) }
     ensures kept { IfOk result (λ l. IsKept (D.held disk.new) (D.images disk.new) l.records.items false l.end) }
     ensures image { IfOk result (λ l. IfTold (D.held disk.old) (λ all. IsImage all l.records.items)) }
     ensures silent { IfErr result (λ f. (at : ℕ) → f ≡ NotJournal at → D.held disk.old ≡ None) }

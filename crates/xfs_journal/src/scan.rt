@@ -2,7 +2,7 @@
 ghost use Rattle.std.specs.Prelude.{◌≡◌, ◌≢◌, ◌+◌, ◌<◌, ◌≤◌, List, ℕ, [], ◌∷◌, ◌++◌, length, take, drop, vec_capacity, IfOk, IfErr, OnOk};
 ghost use Rattle.std.specs.List.{AllByRecursion};
 ghost use Rattle.xfs_base.specs.Causes.{IfTold, Rose};
-ghost use Rattle.xfs_journal.specs.Image.{IsImage, IsRecord, front, magic};
+ghost use Rattle.xfs_journal.specs.Image.{IsImage, IsRecord, contents, magic};
 ghost use Rattle.xfs_journal.specs.Paging.{Shows, IsQuiet, CeasesAt, MayCease};
 ghost use Rattle.xfs_journal.specs.declared.faults.MountFault.TheVariants.{NotJournal, Disk as DiskFault, Memory as NoMemory};
 
@@ -48,7 +48,7 @@ pub(crate) fn read_records<D: Disk>(
     requires room { (1028 ≤ vec_capacity block.old) × (1025 ≤ vec_capacity spare.old) }
     requires start { page.old.at ≡ 0 }
     requires shows { IfTold (D.held disk.old) (λ all. Shows all page.old) }
-    ensures place { IfOk result (λ records. page.new.at ≡ length (front records.items) + 1) }
+    ensures place { IfOk result (λ records. page.new.at ≡ length (contents records.items) + 1) }
     ensures of_table { IfOk result (λ records. AllByRecursion IsRecord records.items) }
     ensures image { IfOk result (λ records. IfTold (D.held disk.old) (λ all. IsImage all records.items)) }
     ensures broken { IfErr result (λ f. (x : ℕ) → f ≡ NotJournal x → IfTold (D.held disk.old) (λ all. CeasesAt all x)) }

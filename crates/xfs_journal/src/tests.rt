@@ -192,8 +192,8 @@ fn a_file_that_is_cut_is_refused_at_the_record_that_is_not_whole(
         (225, 226, Ok(2)),
     ] {
         for len in from..to {
-            let front = file.get(..len).ok_or("shorter")?;
-            assert_eq!(rt; count_in(alloc, front)?, answer, "cut to {len}");
+            let prefix = file.get(..len).ok_or("shorter")?;
+            assert_eq!(rt; count_in(alloc, prefix)?, answer, "cut to {len}");
         }
     }
     assert_eq!(rt; count_in(alloc, &[0xFF; 9])?, Ok(0));

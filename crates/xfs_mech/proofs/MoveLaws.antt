@@ -5,7 +5,7 @@ use Rattle.std.specs.declared.option.Option.{Option}
 use Rattle.std.specs.Prelude.{is_some}
 use Rattle.xfs_base.specs.declared.counts.Places.{Places}
 use Rattle.xfs_mech.specs.declared.motion.Motion.{Motion}
-use Rattle.xfs_mech.specs.Mechanism.{Grows}
+use Rattle.xfs_mech.specs.Mechanism.{AddsEntry}
 use Rattle.xfs_mech.specs.Motions.{PlacesOf}
 use Rattle.xfs_mech.specs.Moves.{GrowsBy, Moves, AddsUp, IsNewer}
 use Rattle.xfs_mech.proofs.MotionLaws.{PlacesOf-same, PlacesOf-append}
@@ -19,7 +19,7 @@ GrowsBy-append : (E F : List Motion) (a b c : Option (List Motion)) → GrowsBy 
 GrowsBy-append E F None b c p q = rw p at q
 GrowsBy-append E F (Some list) b c p q = rw (append_assoc list E F) at (rw p at q)
 
-GrowsBy-entry : (e : Motion) (before now : Option (List Motion)) → Grows before e now → GrowsBy (e ∷ []) before now
+GrowsBy-entry : (e : Motion) (before now : Option (List Motion)) → AddsEntry before e now → GrowsBy (e ∷ []) before now
 GrowsBy-entry e None now g = g
 GrowsBy-entry e (Some list) now g = g
 
@@ -34,7 +34,7 @@ Moves-trans a b c P Q R m n = record {
 }
 
 -- one more entry
-pub Moves-entry : (e : Motion) (before now : Option (List Motion)) (P Q : Places) → Grows before e now → PlacesOf P (e ∷ []) Q → Moves before now P Q
+pub Moves-entry : (e : Motion) (before now : Option (List Motion)) (P Q : Places) → AddsEntry before e now → PlacesOf P (e ∷ []) Q → Moves before now P Q
 Moves-entry e before now P Q grows places = record { entries = e ∷ []; grown = GrowsBy-entry e before now grows; reached = places }
 
 pub AddsUp-Moves : (before now : Option (List Motion)) (P Q : Places) → Moves before now P Q → AddsUp before now P Q

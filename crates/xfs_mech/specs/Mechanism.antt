@@ -11,9 +11,9 @@ use Rattle.xfs_mech.specs.declared.motion.Motion.{Motion}
 use Rattle.xfs_mech.specs.Motions.{PlacesOf}
 
 -- a list that is told grows by one entry; a list that isn't told stays untold
-abbrev pub Grows : Option (List Motion) → Motion → Option (List Motion) → Type 0
-Grows None m new = new ≡ None
-Grows (Some old) m new = new ≡ Some (old ++ m ∷ [])
+abbrev pub AddsEntry : Option (List Motion) → Motion → Option (List Motion) → Type 0
+AddsEntry None m new = new ≡ None
+AddsEntry (Some old) m new = new ≡ Some (old ++ m ∷ [])
 
 -- where a kind of order takes its notes from
 abbrev pub source_of : Kind → Places → Counts
@@ -29,14 +29,14 @@ pub record PlacesFit (units : List NoteKind) (p : Places) : Type 0 where
   pub past : (u : ℕ) → length units ≤ u → all_notes p u ≡ 0
 
 -- what an order may do: never more than its counts, all of them where it doesn't fail, and notes are diverted only from a unit
-pub record Carries (kind : Kind) (counts moved diverted : Counts) (failed : Bool) : Type 0 where
+pub record MayCarry (kind : Kind) (counts moved diverted : Counts) (failed : Bool) : Type 0 where
   pub within : (u : ℕ) → at moved u + at diverted u ≤ at counts u
   pub full : failed ≡ false → (moved ≡ counts) × IsZero diverted
   pub straight : kind ≢ Stack → IsZero diverted
 
 -- a report that doesn't fail adds this one entry; one that fails adds none and moves nothing
 pub record Reports (entry : Motion) (moved diverted : Counts) (failed : Bool) (before now : Option (List Motion)) (was is : Places) (spare left : ℕ) : Type 0 where
-  pub grown : failed ≡ false → Grows before entry now
+  pub grown : failed ≡ false → AddsEntry before entry now
   pub places : failed ≡ false → PlacesOf was (entry ∷ []) is
   pub room : failed ≡ false → left + 1 ≡ spare
   pub nothing : failed ≡ true → (now ≡ before) × (is ≡ was) × (left ≡ spare) × IsZero moved

@@ -1,7 +1,7 @@
 ghost use Rattle.std.specs.Prelude.{◌≡◌, is_some, IfSome, true, false};
 ghost use Rattle.xfs_base.specs.Counts.{IsZero};
 ghost use Rattle.xfs_mech.specs.Faults.{fault_at, StopsAt};
-ghost use Rattle.xfs_mech.specs.Mechanism.{Carries};
+ghost use Rattle.xfs_mech.specs.Mechanism.{MayCarry};
 
 use crate::Outcome;
 use crate::counts::{front, minus};
@@ -26,7 +26,7 @@ pub(crate) fn fault_of(faults: &[Fault], call: u64) -> Option<Fault>
 
 // What the fault leaves of an order.
 fn stopped(fault: Fault, kind: Kind, counts: &Counts) -> Outcome
-    ensures carried { Carries kind counts.now result.moved result.diverted result.failed }
+    ensures carried { MayCarry kind counts.now result.moved result.diverted result.failed }
     ensures failed { result.failed ≡ true }
     ensures stopped { StopsAt fault kind counts.now result.moved result.diverted }
 {
@@ -46,7 +46,7 @@ fn stopped(fault: Fault, kind: Kind, counts: &Counts) -> Outcome
 
 // What an order does: all that it says, or what the fault leaves of it.
 pub(crate) fn outcome_of(fault: Option<Fault>, kind: Kind, counts: &Counts) -> Outcome
-    ensures carried { Carries kind counts.now result.moved result.diverted result.failed }
+    ensures carried { MayCarry kind counts.now result.moved result.diverted result.failed }
     ensures failed { result.failed ≡ is_some fault }
     ensures stopped { IfSome fault (λ f. StopsAt f kind counts.now result.moved result.diverted) }
 {

@@ -8,7 +8,7 @@ ghost use Rattle.xfs_mech.specs.declared.motion.Motion.{Motion};
 ghost use Rattle.xfs_mech.specs.declared.motion.Motion.TheVariants.{Moved, Taken, Loaded};
 ghost use Rattle.xfs_mech.specs.Orders.{number_of, kind_of, counts_of};
 ghost use Rattle.xfs_mech.specs.Motions.{PlacesOf};
-ghost use Rattle.xfs_mech.specs.Mechanism.{Grows, source_of, PlacesFit, Carries, Reports, CanLoad, Loads};
+ghost use Rattle.xfs_mech.specs.Mechanism.{AddsEntry, source_of, PlacesFit, MayCarry, Reports, CanLoad, Loads};
 
 use crate::{Order, Outcome};
 use xfs_base::{Memory, Places};
@@ -47,8 +47,8 @@ pub trait Mechanism: Drop {
         requires room { 0 < room self.old }
         requires lie { LiesIn (counts_of order) (source_of (kind_of order) (places self.old)) }
         ensures room { room self.new + 1 ≡ room self.old }
-        ensures carried { Carries (kind_of order) (counts_of order) result.moved result.diverted result.failed }
-        ensures motions { Grows (motions self.old) (Moved (number_of order) (kind_of order) result.moved result.diverted) (motions self.new) }
+        ensures carried { MayCarry (kind_of order) (counts_of order) result.moved result.diverted result.failed }
+        ensures motions { AddsEntry (motions self.old) (Moved (number_of order) (kind_of order) result.moved result.diverted) (motions self.new) }
         ensures places { PlacesOf (places self.old) (Moved (number_of order) (kind_of order) result.moved result.diverted ∷ []) (places self.new) }
         ensures units { units self.new ≡ units self.old }
         ensures later { faults self.old ≤ faults self.new }

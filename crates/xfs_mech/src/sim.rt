@@ -106,7 +106,7 @@ impl Mechanism for SimMech {
     ghost use Rattle.xfs_mech.specs.declared.motion.Motion.TheVariants.{Moved, Taken, Loaded};
     ghost use Rattle.xfs_mech.specs.Orders.{number_of, kind_of, counts_of};
     ghost use Rattle.xfs_mech.specs.Motions.{PlacesOf};
-    ghost use Rattle.xfs_mech.specs.Mechanism.{source_of, PlacesFit, Carries, Reports, CanLoad, Loads, Grows};
+    ghost use Rattle.xfs_mech.specs.Mechanism.{source_of, PlacesFit, MayCarry, Reports, CanLoad, Loads, AddsEntry};
     ghost use Rattle.xfs_mech.specs.Faults.{StopsAt};
     ghost use Rattle.xfs_mech.specs.Sim.{units_of, places_of, motions_of, room_of, failures_of, due, Counted, Uncounted};
 
@@ -138,7 +138,7 @@ impl Mechanism for SimMech {
         requires room { 0 < room_of self.old }
         requires lie { LiesIn (counts_of order) (source_of (kind_of order) (places_of self.old)) }
         ensures room { room_of self.new + 1 ≡ room_of self.old }
-        ensures carried { Carries (kind_of order) (counts_of order) result.moved result.diverted result.failed }
+        ensures carried { MayCarry (kind_of order) (counts_of order) result.moved result.diverted result.failed }
         ensures motions { motions_of self.new ≡ motions_of self.old ++ Moved (number_of order) (kind_of order) result.moved result.diverted ∷ [] }
         ensures places { PlacesOf (places_of self.old) (Moved (number_of order) (kind_of order) result.moved result.diverted ∷ []) (places_of self.new) }
         ensures units { units_of self.new ≡ units_of self.old }

@@ -6,7 +6,7 @@ ghost use Rattle.xfs_mech.specs.Sim.{units_of, motions_of};
 ghost use Rattle.xfs_disk.specs.Disk.{Only};
 ghost use Rattle.xfs_disk.specs.MemDisk.{IsImage as MayBe, bytes_of, steps_of};
 ghost use Rattle.xfs_disk.specs.Wrapped.{failing_inner};
-ghost use Rattle.xfs_journal.specs.Image.{IsImage, Stands};
+ghost use Rattle.xfs_journal.specs.Image.{IsImage, StandsFor};
 ghost use Rattle.xfs_journal.specs.declared.record.Rec.{Rec};
 ghost use Rattle.xfs_guard.specs.Recorded.{IsRecorded};
 ghost use Rattle.xfs_guard.specs.declared.open.Open.TheVariants.{No};
@@ -29,7 +29,7 @@ pub fn units() -> Result<UnitTable, Fail> {
 // A disk of ten bytes that are no journal.
 fn no_journal(alloc: Global) -> Result<MemDisk, Fail>
     ensures settled { IfOk result (λ m. steps_of m ≡ []) }
-    ensures none { IfOk result (λ m. (J : List Rec) → ¬ IsImage (bytes_of m) J) }
+    ensures none { IfOk result (λ m. (records : List Rec) → ¬ IsImage (bytes_of m) records) }
 {
     let bytes = Vec::from_slice(alloc, &[0xff; 10])?;
     Ok(MemDisk::new(alloc, bytes))
@@ -43,13 +43,13 @@ pub fn failing_core<M: Mechanism>(
     limits: Limits,
     failing: Vec<u64>,
 ) -> Core<M, FailDisk>
-    requires fresh { IfTold (M.motions mech) (λ L. L ≡ []) }
+    requires fresh { IfTold (M.motions mech) (λ motions. motions ≡ []) }
     requires units { M.units mech ≡ units }
     requires settled { steps_of disk ≡ [] }
-    requires none { (J : List Rec) → ¬ IsImage (bytes_of disk) J }
+    requires none { (records : List Rec) → ¬ IsImage (bytes_of disk) records }
     ensures disk { failing_inner result.disk ≡ disk }
     ensures units { M.units result.mech ≡ result.units }
-    ensures starts { (c : List ℕ) → MayBe (failing_inner result.disk) c → (J : List Rec) → Stands c J → IsRecorded result.key result.units J (M.motions result.mech) }
+    ensures starts { (c : List ℕ) → MayBe (failing_inner result.disk) c → (records : List Rec) → StandsFor c records → IsRecorded result.key result.units records (M.motions result.mech) }
     ensures at_rest { Only (bytes_of (failing_inner result.disk)) (MayBe (failing_inner result.disk)) }
 {
     Core {
@@ -65,7 +65,7 @@ pub fn failing_core<M: Mechanism>(
 /// A guard over a core whose disk was written by nobody.
 pub fn booted<M: Mechanism, D: Disk>(alloc: Global, core: Core<M, D>) -> Result<Guard<M, D>, Fail>
     requires units { M.units core.mech ≡ core.units }
-    requires starts { (c : List ℕ) → D.images core.disk c → (J : List Rec) → Stands c J → IsRecorded core.key core.units J (M.motions core.mech) }
+    requires starts { (c : List ℕ) → D.images core.disk c → (records : List Rec) → StandsFor c records → IsRecorded core.key core.units records (M.motions core.mech) }
     ensures { IfOk result (λ g. g.state.open_order ≡ No) }
 {
     let Core {
@@ -172,7 +172,7 @@ fn guard_with<M: Mechanism>(
     units: UnitTable,
     limits: Limits,
 ) -> Result<Written, Fail>
-    requires fresh { IfTold (M.motions mech) (λ L. L ≡ []) }
+    requires fresh { IfTold (M.motions mech) (λ motions. motions ≡ []) }
     requires units { M.units mech ≡ units }
 {
     let mut source = MemSource::new(listed(alloc, script)?, Vec::new(alloc));

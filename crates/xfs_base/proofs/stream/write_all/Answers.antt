@@ -1,5 +1,5 @@
 use Rattle.std.proofs.Common.{arith, length-drop}
-use Rattle.xfs_base.proofs.Written.{Appends-tail, Appends-front, tail_is}
+use Rattle.xfs_base.proofs.Written.{Appends-tail, Appends-prefix, tail_is}
 use Rattle.xfs_base.proofs.stream.write_all.Goals as goal
 
 pub loop-at-preserved : goal.loop-at-preserved
@@ -11,4 +11,4 @@ loop-at-preserved g c = record {
 
 pub returns-in-Err-clause-err : goal.returns-in-Err-clause-err
 returns-in-Err-clause-err g c =
-    Appends-front (g.K.Sink.held c.args.sink.now) (g.K.Sink.held c.loop-at.sink) (g.K.Sink.held c.write.new.self) c.args.bytes.now c.loop-at.at c.loop-at.invariant.taken c.in-Err.ensures.bytes
+    Appends-prefix (g.K.Sink.held c.args.sink.now) (g.K.Sink.held c.loop-at.sink) (g.K.Sink.held c.write.new.self) c.args.bytes.now c.loop-at.at c.loop-at.invariant.taken c.in-Err.ensures.bytes

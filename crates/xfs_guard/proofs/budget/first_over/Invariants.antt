@@ -1,5 +1,5 @@
 use Rattle.std.proofs.Common.{◌≡◌, ◌-◌, drop, length}
-use Rattle.xfs_guard.specs.Passed.{is_over, first_currency}
+use Rattle.xfs_guard.specs.OverBudget.{is_over, first_currency}
 use Rattle.xfs_guard.proofs.budget.first_over.Given as goal
 
 -- the first of the currencies that were looked at, from the last on

@@ -11,8 +11,8 @@ returns-then-size-gt1025-clause-broken g c = λ x e. (
   on_told _ _ (λ b known.
       let l = drop c.args.gate b in
       let o = c.need.new.out.items in
-      let front = since_front _ _ _ o c.in_ok-need.ensures.since b known in
+      let prefix = since_front _ _ _ o c.in_ok-need.ensures.since b known in
       let size : c.from-size.result ≡ size_in o = search rules in
-      broken_long l (some_of l o front (omega (arith, c.in_ok-need.ensures.count))) (from_told _ _ c.requires.open b known)
-      (omega (arith, c.if-size-gt1025.true, size, front_size l o _ front (omega (arith, c.in_ok-need.ensures.count))))),
+      broken_long l (some_of l o prefix (omega (arith, c.in_ok-need.ensures.count))) (from_told _ _ c.requires.open b known)
+      (omega (arith, c.if-size-gt1025.true, size, front_size l o _ prefix (omega (arith, c.in_ok-need.ensures.count))))),
 )

@@ -1,12 +1,12 @@
 use Rattle.std.proofs.Common.{◌≡◌, ◌≤◌, ◌-◌, length, take, vec_capacity}
-use Rattle.xfs_journal.specs.Image.{front}
+use Rattle.xfs_journal.specs.Image.{contents}
 use Rattle.xfs_journal.proofs.differ.common.Given as goal
 
 abbrev pub invariant-loop-count : goal.invariant-loop-count
 invariant-loop-count l = record {
   within : (l.count ≤ length l.found) × (l.count ≤ length l.kept);
   same : take l.count l.found ≡ take l.count l.kept;
-  place : l.at ≡ length (front (take l.count l.found));
+  place : l.at ≡ length (contents (take l.count l.found));
   room : (1028 ≤ vec_capacity l.first) × (1028 ≤ vec_capacity l.second);
 }
 

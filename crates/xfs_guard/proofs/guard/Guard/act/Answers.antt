@@ -1,7 +1,7 @@
 use Rattle.std.proofs.Common.{refl, ◌≡◌, ◌∙◌, length, ap, arith}
 use Rattle.xfs_guard.proofs.ContinueLaws.{Continues-act}
 use Rattle.xfs_guard.proofs.KeptLaws.{IsKept-acted, still-open}
-use Rattle.xfs_guard.specs.Left.{MayMove}
+use Rattle.xfs_guard.specs.CrashOutcomes.{MayMove}
 use Rattle.xfs_guard.proofs.KeepsLaws.{Keeps-moved}
 use Rattle.xfs_guard.proofs.LeftLaws.{left-through, one-possible, recorded-moved}
 use Rattle.xfs_guard.proofs.guard.Guard.act.Goals as goal

@@ -5,11 +5,11 @@ use Rattle.xfs_guard.proofs.OrderLaws.{live-place, told-live}
 use Rattle.xfs_guard.proofs.SizeLaws.{fit-at}
 use Rattle.xfs_guard.proofs.guard.Guard.allow.Goals as goal
 
-pub passed-requires : goal.passed-requires
-passed-requires g c =
+pub over_budget-requires : goal.over_budget-requires
+over_budget-requires g c =
     let fit = fit-at _ _ c.self.view_is c.requires.passes.fit in
     let live = live-place c.self.inside.ledger.records c.in-Some.nonce (nonce-open c.self.inside.ledger.boot_missing c.self.inside.ledger.records c.in-Some.nonce fit.2 (sym c.in-Some.ensures)) in
     record { open_still = (fit.0, fit.2); told = told-live _ live.0 (c.self.invariant.sound fit.0 fit.2) live.1 }
 
-pub returns-in-Some-passed-clause-keeps : goal.returns-in-Some-passed-clause-keeps
-returns-in-Some-passed-clause-keeps g c = Keeps-same g.D.Disk _ g.met.D.Disk.only_now c.unfit-upheld.ensures.upheld
+pub returns-in-Some-over_budget-clause-keeps : goal.returns-in-Some-over_budget-clause-keeps
+returns-in-Some-over_budget-clause-keeps g c = Keeps-same g.D.Disk _ g.met.D.Disk.only_now c.unfit-upheld.ensures.upheld

@@ -2,7 +2,7 @@ use Rattle.std.proofs.Common.{◌∙◌, refl, arith}
 use Rattle.xfs_mech.specs.declared.motion.Motion.TheVariants.{Taken}
 use Rattle.xfs_guard.proofs.ReportLaws.{IsSound-report, IsRecorded-entry, IsRecorded-report, HasRoom-report, HasLimits-report, Continues-report, taken-leaves}
 use Rattle.xfs_guard.proofs.ContinueLaws.{Continues-same}
-use Rattle.xfs_guard.specs.Left.{MayTake}
+use Rattle.xfs_guard.specs.CrashOutcomes.{MayTake}
 use Rattle.xfs_guard.proofs.KeepsLaws.{Keeps-moved}
 use Rattle.xfs_guard.proofs.LeftLaws.{left-through}
 use Rattle.xfs_guard.proofs.guard.Guard.taken.Goals as goal

@@ -1,6 +1,6 @@
 use Rattle.std.proofs.Common.{refl}
 use Rattle.xfs_journal.specs.declared.record.Rec.TheVariants.{Boot}
-use Rattle.xfs_guard.proofs.LedgerLaws.{IsRead-mark, Keeps-read}
+use Rattle.xfs_guard.proofs.LedgerLaws.{IsRead-mark, KeepsLedger-read}
 use Rattle.xfs_guard.proofs.StoredLaws.{WasLeft-mount, WasLeft-append, stays-mount, stays-append, unlisted-mount, unlisted-booted}
 use Rattle.xfs_guard.proofs.LeftLaws.{left-mounted, left-booted}
 use Rattle.xfs_guard.proofs.ledger.Ledger.boot.Goals as goal
@@ -8,7 +8,7 @@ use Rattle.xfs_guard.proofs.ledger.Ledger.boot.Goals as goal
 pub invariant_of-result : goal.invariant_of-result
 invariant_of-result g c =
     let w = c.in-Ok-append_boot.ensures in
-    rw (w.ok.0, w.number) (Keeps-read _ _ _ _ _ _ _ _ _ _
+    rw (w.ok.0, w.number) (KeepsLedger-read _ _ _ _ _ _ _ _ _ _
     (IsRead-mark _ _ _ (Boot c.args.places) (rw c.records.ensures at c.issues_of-issues.ensures.issues) (rw c.records.ensures at c.issues_of-issues.ensures.few) (λ k. refl) (λ k x. refl) (λ k x. refl)) w.ok.2)
 
 pub returns-in-Err-clause-left : goal.returns-in-Err-clause-left

@@ -1,4 +1,4 @@
-use Rattle.xfs_guard.proofs.LedgerLaws.{IsRead-load, Keeps-read}
+use Rattle.xfs_guard.proofs.LedgerLaws.{IsRead-load, KeepsLedger-read}
 use Rattle.xfs_guard.proofs.SizeLaws.{write-open}
 use Rattle.xfs_guard.proofs.ledger.Ledger.load.Goals as goal
 
@@ -6,4 +6,4 @@ pub invariant_of-self-2 : goal.invariant_of-self-2
 invariant_of-self-2 g c =
     let was = write-open _ _ _ c.self.view_is c.requires.fits in
     let w = c.in_ok-append.ensures.ok in
-    rw w.0 (Keeps-read _ _ _ _ _ _ _ _ _ _ (IsRead-load _ _ _ _ _ _ c.args.unit c.args.count (c.self.invariant.read was.0 was.1)) w.2)
+    rw w.0 (KeepsLedger-read _ _ _ _ _ _ _ _ _ _ (IsRead-load _ _ _ _ _ _ c.args.unit c.args.count (c.self.invariant.read was.0 was.1)) w.2)

@@ -1,14 +1,14 @@
 use Rattle.std.proofs.Common.{inl, inr, Err, ap, refl}
 use Rattle.xfs_journal.specs.declared.record.Rec.TheVariants.{Boot}
-use Rattle.xfs_guard.proofs.LedgerLaws.{IsRead-mark, Keeps-read}
-use Rattle.xfs_guard.proofs.CrashedLaws.{begins-same, begins-push, IsLoose-missing, IsLoose-in_doubt}
+use Rattle.xfs_guard.proofs.LedgerLaws.{IsRead-mark, KeepsLedger-read}
+use Rattle.xfs_guard.proofs.CrashedLaws.{begins-same, begins-push, IsTorn-missing, IsTorn-in_doubt}
 use Rattle.xfs_guard.proofs.RereadLaws.{reread-append}
 use Rattle.xfs_guard.proofs.ledger.Ledger.restore.Goals as goal
 
 pub invariant_of-self-in-Ok : goal.invariant_of-self-in-Ok
 invariant_of-self-in-Ok g c =
     let w = c.in-Ok.ensures in
-    rw (w.ok.0, w.number) (Keeps-read _ _ _ _ _ _ _ _ _ _
+    rw (w.ok.0, w.number) (KeepsLedger-read _ _ _ _ _ _ _ _ _ _
     (IsRead-mark _ _ _ (Boot c.args.places) (rw c.records-2.ensures at c.issues_of-issues.ensures.issues) (rw c.records-2.ensures at c.issues_of-issues.ensures.few) (λ k. refl) (λ k x. refl) (λ k x. refl)) w.ok.2)
 
 pub returns-in-Err-Full-clause-full : goal.returns-in-Err-Full-clause-full
@@ -39,7 +39,7 @@ returns-in-Err-Full-clause-any_moment g c =
     let e = c.in-Err-Full.ensures in
     let m = e.mounted (ap Err c.in-Err-Full.field-0-is) in
     rw (← c.self.view_is) (reread-append g.D.Disk _ c.remount.new.self.disk _ J (Boot c.args.places) _ c.remount.ensures.told c.remount.ensures.any_moment c.append_boot.ensures.any_moment
-    (λ bytes either. record { list = J; possible = c.in_default.ensures.ok; either = either; without = inl (rw e.same (begins-same J)); booted = inr (rw (e.same, m.0, m.1, c.in_default.ensures.opened.1) (IsLoose-missing J (Boot c.args.places))) }))
+    (λ bytes either. record { list = J; possible = c.in_default.ensures.ok; either = either; without = inl (rw e.same (begins-same J)); booted = inr (rw (e.same, m.0, m.1, c.in_default.ensures.opened.1) (IsTorn-missing J (Boot c.args.places))) }))
 
 pub returns-in-Err-Disk-clause-any_moment : goal.returns-in-Err-Disk-clause-any_moment
 returns-in-Err-Disk-clause-any_moment g c =
@@ -47,4 +47,4 @@ returns-in-Err-Disk-clause-any_moment g c =
     let e = c.in-Err-Disk.ensures in
     let m = e.in_doubt (ap Err c.in-Err-Disk.field-0-is) in
     rw (← c.self.view_is) (reread-append g.D.Disk _ c.remount.new.self.disk _ J (Boot c.args.places) _ c.remount.ensures.told c.remount.ensures.any_moment c.append_boot.ensures.any_moment
-    (λ bytes either. record { list = J; possible = c.in_default.ensures.ok; either = either; without = inl (rw e.same (begins-same J)); booted = inr (rw (e.same, m.0, m.1) (IsLoose-in_doubt J (Boot c.args.places))) }))
+    (λ bytes either. record { list = J; possible = c.in_default.ensures.ok; either = either; without = inl (rw e.same (begins-same J)); booted = inr (rw (e.same, m.0, m.1) (IsTorn-in_doubt J (Boot c.args.places))) }))

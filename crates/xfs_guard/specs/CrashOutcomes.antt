@@ -7,10 +7,10 @@ use Rattle.xfs_base.specs.declared.counts.Counts.{Counts}
 use Rattle.xfs_base.specs.declared.counts.Kind.{Kind}
 use Rattle.xfs_base.specs.declared.counts.Places.{Places}
 use Rattle.xfs_base.specs.declared.money.NoteKind.{NoteKind}
-use Rattle.xfs_mech.specs.Mechanism.{Grows, Carries as MayCarry}
+use Rattle.xfs_mech.specs.Mechanism.{AddsEntry, MayCarry}
 use Rattle.xfs_mech.specs.declared.motion.Motion.{Motion}
 use Rattle.xfs_mech.specs.declared.motion.Motion.TheVariants.{Moved, Taken}
-use Rattle.xfs_journal.specs.Image.{Stands}
+use Rattle.xfs_journal.specs.Image.{StandsFor}
 use Rattle.xfs_journal.specs.JournalView.{StandsForEither}
 use Rattle.xfs_journal.specs.declared.record.Rec.{Rec}
 use Rattle.xfs_journal.specs.declared.record.Rec.TheVariants.{Boot}
@@ -21,24 +21,24 @@ use Rattle.xfs_guard.specs.View.{View}
 
 -- where the disk tells, a crash leaves this list
 abbrev pub Leaves : {D : Type 0} → Ghosts D → D → List Rec → Type 0
-Leaves g disk records = IfTold (g.held disk) (λ _. (c : List ℕ) → g.images disk c → Stands c records)
+Leaves g disk records = IfTold (g.held disk) (λ _. (c : List ℕ) → g.images disk c → StandsFor c records)
 
 -- each image stands for some list
 abbrev pub EachStands : (List ℕ → Type 0) → Type 0
-EachStands images = (c : List ℕ) → images c → (records : List Rec) × Stands c records
+EachStands images = (c : List ℕ) → images c → (records : List Rec) × StandsFor c records
 
 -- the bytes stand for a list of records that is recorded with the mechanism's list
 pub record StandsRecorded (key : List ℕ) (units : List NoteKind) (motions : Option (List Motion)) (bytes : List ℕ) : Type 0 where
   pub records : List Rec
-  pub stands : Stands bytes records
+  pub stands : StandsFor bytes records
   pub recorded : IsRecorded key units records motions
 
 -- the bytes stand for a list of records that is recorded with the mechanism's list, and with that list and one such entry more
 pub record StandsThrough (v : View) (MayAdd : Motion → Type 0) (bytes : List ℕ) : Type 0 where
   pub records : List Rec
-  pub stands : Stands bytes records
+  pub stands : StandsFor bytes records
   pub before : IsRecorded v.key v.units records v.motions
-  pub after : (entry : Motion) (now : Option (List Motion)) → MayAdd entry → Grows v.motions entry now → IsRecorded v.key v.units records now
+  pub after : (entry : Motion) (now : Option (List Motion)) → MayAdd entry → AddsEntry v.motions entry now → IsRecorded v.key v.units records now
 
 -- an entry that the mechanism may add when it carries out the written order
 pub record MayMove (v : View) (entry : Motion) : Type 0 where
@@ -59,4 +59,4 @@ pub record MayTake (v : View) (entry : Motion) : Type 0 where
 
 -- one of the images before, or the bytes stand for the list that was found, with this Boot or without it
 abbrev pub IsOldOrBooted : (List ℕ → Type 0) → List ℕ → Places → List ℕ → Type 0
-IsOldOrBooted images all places bytes = images bytes ⊎ ((found : List Rec) × Stands all found × StandsForEither found (Boot places) bytes)
+IsOldOrBooted images all places bytes = images bytes ⊎ ((found : List Rec) × StandsFor all found × StandsForEither found (Boot places) bytes)

@@ -1,4 +1,4 @@
--- In which currency counts pass the amounts of a token.
+-- In which currency counts exceed the amounts of a token.
 use Rattle.std.specs.Prelude.{ℕ, ◌+◌, ◌-◌, nat_lt, Bool, List, [], ◌∷◌, Some, None, if◌then◌else◌}
 use Rattle.std.specs.declared.option.Option.{Option}
 use Rattle.std.specs.Option.{option_map}
@@ -31,7 +31,7 @@ abbrev pub first_currency : (List ℕ → Bool) → List NoteKind → Option (Li
 first_currency test [] = None
 first_currency test (k ∷ ks) = if test k.currency then Some (earlier k.currency (first_currency test ks)) else first_currency test ks
 
--- OverBudget, for the first currency in which the counts pass the amounts, with what is left before them
-abbrev pub passed_in : List NoteKind → List Rec → Counts → List (List ℕ × ℕ) → Counts → Option Deny
-passed_in units records transport amounts counts =
+-- OverBudget, for the first currency in which the counts exceed the amounts, with what is left before them
+abbrev pub over_budget_in : List NoteKind → List Rec → Counts → List (List ℕ × ℕ) → Counts → Option Deny
+over_budget_in units records transport amounts counts =
     option_map (λ c. OverBudget c (record { 0 = amount_in amounts c - spent units records transport c })) (first_currency (is_over units records transport amounts counts) units)
