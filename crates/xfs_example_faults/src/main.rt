@@ -6,7 +6,7 @@ ghost use Rattle.std.specs.Prelude.{◌≡◌, ℕ, List, Some, IfSome, replicat
 ghost use Rattle.xfs_disk.specs.Disk.{Only};
 ghost use Rattle.xfs_disk.specs.MemDisk.{IsImage as MayBe, bytes_of};
 ghost use Rattle.xfs_guard.specs.Recorded.{IsRecorded};
-ghost use Rattle.xfs_journal.specs.Image.{Stands};
+ghost use Rattle.xfs_journal.specs.Image.{StandsFor};
 ghost use Rattle.xfs_journal.specs.declared.record.Rec.{Rec};
 ghost use Rattle.xfs_mech.specs.Sim.{units_of, motions_of};
 
@@ -67,7 +67,7 @@ fn cut<K: Sink>(alloc: Global, sink: &mut K) -> Option<()> {
 // The machine that comes back: its mechanism has done what it has done, and of its disk all is lost that wasn't synced.
 fn cut_off<K: Sink>(alloc: Global, sink: &mut K) -> Option<Core<SimMech, MemDisk>>
     ensures units { IfSome result (λ core. units_of core.mech ≡ core.units) }
-    ensures starts { IfSome result (λ core. (image : List ℕ) → MayBe core.disk image → (records : List Rec) → Stands image records → IsRecorded core.key core.units records (Some (motions_of core.mech))) }
+    ensures starts { IfSome result (λ core. (image : List ℕ) → MayBe core.disk image → (records : List Rec) → StandsFor image records → IsRecorded core.key core.units records (Some (motions_of core.mech))) }
     ensures at_rest { IfSome result (λ core. Only (bytes_of core.disk) (MayBe core.disk)) }
 {
     let units = units()?;
