@@ -29,12 +29,15 @@ grow : (P : List Rec → Type 0) → ((J : List Rec) (r : Rec) → P J → P (J 
 grow P step J [] h = subst P (sym (append-nil J)) h
 grow P step J (r ∷ rs) h = subst P (append_assoc J (r ∷ []) rs) (grow P step (J ++ r ∷ []) rs (step J r h))
 
+marked-boot : (J : List Rec) (p : Places) → 0 < last_mark (J ++ Boot p ∷ [])
+marked-boot J p = rw last_mark-push (omega arith)
+
 -- a list with a Boot has a mark
 pub boot-marked : (b : Places) (J : List Rec) → Contains J (Boot b) → 0 < last_mark J
 boot-marked b J = grow (λ (K : List Rec). Contains K (Boot b) → 0 < last_mark K) step [] J (λ none. absurd (omega (arith, none.1)))
   where
     step : (K : List Rec) (r : Rec) → (Contains K (Boot b) → 0 < last_mark K) → Contains (K ++ r ∷ []) (Boot b) → 0 < last_mark (K ++ r ∷ [])
-    step K r h there = ⊎_elim (λ old. marked-push K r (h old)) (λ is. rw (is, last_mark-push) (omega arith)) (Contains-push_cases K r (Boot b) there)
+    step K r h there = ⊎_elim (λ old. marked-push K r (h old)) (λ is. subst (λ (x : Rec). 0 < last_mark (K ++ x ∷ [])) (sym is) (marked-boot K b)) (Contains-push_cases K r (Boot b) there)
 
 -- a record of a list stays at its place
 still : (J : List Rec) (r x : Rec) (n : ℕ) → record_at J n ≡ Some x → record_at (J ++ r ∷ []) n ≡ Some x
