@@ -2,11 +2,12 @@
 //! over a disk that dies in the middle of a dispense, and on the machine that comes back from that.
 #![tactic(auto)]
 
-ghost use Rattle.std.specs.Prelude.{◌≡◌, ℕ, List, Some, IfSome, replicate};
+ghost use Rattle.std.specs.Prelude.{◌≡◌, ℕ, List, [], Some, IfSome, replicate};
 ghost use Rattle.xfs_disk.specs.Disk.{Only};
-ghost use Rattle.xfs_disk.specs.MemDisk.{IsImage as MayBe, bytes_of};
+ghost use Rattle.xfs_disk.specs.MemDisk.{IsImage as MayBe, bytes_of, steps_of};
+ghost use Rattle.xfs_disk.specs.Wrapped.{fuse_inner};
 ghost use Rattle.xfs_guard.specs.Recorded.{IsRecorded};
-ghost use Rattle.xfs_journal.specs.Image.{StandsFor};
+ghost use Rattle.xfs_journal.specs.Image.{IsImage, StandsFor};
 ghost use Rattle.xfs_journal.specs.declared.record.Rec.{Rec};
 ghost use Rattle.xfs_mech.specs.Sim.{units_of, motions_of};
 
@@ -72,7 +73,7 @@ fn cut_off<K: Sink>(alloc: Global, sink: &mut K) -> Option<Core<SimMech, MemDisk
 {
     let units = units()?;
     let mech = mechanism(alloc, &units, Vec::new(alloc))?;
-    let core = core_of(mech, units.copied(), FuseDisk::new(empty(alloc), CALLS_BEFORE_THE_CUT));
+    let core = dying(mech, units.copied(), empty(alloc));
     let mut source = lines(alloc, WITHDRAWAL)?;
     let ended = run(alloc, words(alloc)?.as_slice(), &mut source, sink, core);
     let places = ended.mech.survey();
@@ -83,6 +84,21 @@ fn cut_off<K: Sink>(alloc: Global, sink: &mut K) -> Option<Core<SimMech, MemDisk
     motions.extend_from_slice(ended.mech.motions()).ok()?;
     let mech = SimMech::resume(alloc, units.copied(), places, motions);
     Some(core_of(mech, units, ended.disk.inner().crash(0)))
+}
+
+// The machine over an empty disk that dies in the dispense.
+fn dying(mech: SimMech, units: UnitTable, disk: MemDisk) -> Core<SimMech, FuseDisk>
+    requires fresh { motions_of mech ≡ [] }
+    requires units { units_of mech ≡ units }
+    requires settled { steps_of disk ≡ [] }
+    requires none { (records : List Rec) → ¬ IsImage (bytes_of disk) records }
+    ensures disk { fuse_inner result.disk ≡ disk }
+    ensures units { (units_of result.mech ≡ result.units) × (result.units ≡ units) }
+    ensures key { result.key ≡ replicate 32 0x0b }
+    ensures starts { (image : List ℕ) → MayBe (fuse_inner result.disk) image → (records : List Rec) → StandsFor image records → IsRecorded result.key result.units records (Some (motions_of result.mech)) }
+    ensures at_rest { Only (bytes_of (fuse_inner result.disk)) (MayBe (fuse_inner result.disk)) }
+{
+    core_of(mech, units, FuseDisk::new(disk, CALLS_BEFORE_THE_CUT))
 }
 
 fn core_of<M: Mechanism, D: Disk>(mech: M, units: UnitTable, disk: D) -> Core<M, D>
