@@ -21,13 +21,15 @@ use Rattle.xfs_guard.specs.declared.deny.Deny.{Deny}
 use Rattle.xfs_guard.specs.declared.deny.Deny.TheVariants.{Disk, Memory}
 use Rattle.xfs_script.specs.Guard.{IsGuardLine}
 use Rattle.xfs_script.specs.declared.guard_line.GuardLine.{GuardLine}
-use Rattle.xfs_script.specs.declared.guard_line.GuardLine.TheVariants.{Restart}
+use Rattle.xfs_script.specs.declared.guard_line.GuardLine.TheVariants.{Skip, Issue, Mint, Dispense, Fill, Present, Reject, Retract, Take, Restart, Show}
+use Rattle.xfs_script.specs.declared.guard_line.GuardLine.TheVariants as Verb
+use Rattle.xfs_script.specs.Answered.{lines_text, Tells}
 use Rattle.xfs_cli.specs.Begun.{AllOrNothing, IsBegun, IsPartDispensed, IsPartFilled, LeavesOfVerb, StacksFirst}
 use Rattle.xfs_cli.specs.DispenseAnswers.{Dispenses, IsPermitted}
 use Rattle.xfs_cli.specs.OrderAnswers.{CarriesOut, MechCalled, Stacks, nothing_stacked, with_stacked}
 use Rattle.xfs_cli.specs.Refused.{refusal_text}
 use Rattle.xfs_cli.specs.Seen.{Seen, Becomes, seen}
-use Rattle.xfs_cli.specs.VerbAnswers.{AreAnswer, Clears, Fills, IsLoaded, Mints}
+use Rattle.xfs_cli.specs.VerbAnswers.{AreAnswer, Clears, Fills, IsAnswer, IsLoaded, Mints}
 use Rattle.xfs_cli.specs.declared.refused.Refusal.{Refusal}
 use Rattle.xfs_cli.specs.declared.refused.Refusal.TheVariants.{NoToken, NoUnit, StorageFull, Counts, Deny as Denied}
 use Rattle.xfs_cli.proofs.SeenLaws.{err-same, seen-same, told-some, wrote-kept, stacks-unit, stacks-zero, some-within}
@@ -79,16 +81,31 @@ denied-or-nothing faults old new last Answer deny same told =
 pub verb-leaves : (s end : Seen) (verb given : GuardLine) → given ≡ verb → LeavesOfVerb s verb end → LeavesOfVerb s given end
 verb-leaves s end verb given is leaves = rw is leaves
 
+-- a line that answers a verb is all of its answer
+one-line : (s next : Seen) (verb : GuardLine) (line : List ℕ) → IsAnswer s verb line next → AreAnswer s verb (line ∷ []) next
+one-line s next Skip line is = absurd is
+one-line s next Issue line is = record { line = line; is = is; only = refl }
+one-line s next Verb.Clear line is = record { line = line; is = is; only = refl }
+one-line s next (Mint amounts) line is = record { line = line; is = is; only = refl }
+one-line s next (Dispense token counts) line is = record { line = line; is = is; only = refl }
+one-line s next (Fill unit count) line is = record { line = line; is = is; only = refl }
+one-line s next Present line is = record { line = line; is = is; only = refl }
+one-line s next Reject line is = record { line = line; is = is; only = refl }
+one-line s next Retract line is = record { line = line; is = is; only = refl }
+one-line s next Take line is = record { line = line; is = is; only = refl }
+one-line s next Restart line is = record { line = line; is = is; only = refl }
+one-line s next Show line is = absurd is
+
+-- its bytes, where it is ended by a line feed
+pub tells-line : (s next : Seen) (verb given : GuardLine) (line bytes : List ℕ) → given ≡ verb → IsAnswer s verb line next → bytes ≡ lines_text (line ∷ []) → Tells (AreAnswer s given) bytes next
+tells-line s next verb given line bytes is answer text = rw is (record { output = line ∷ []; answer = one-line s next verb line answer; text = text })
+
 -- what is left of a verb is left of the line that reads as it
 pub begun-line : (s end : Seen) (text : List ℕ) (verb : GuardLine) → IsGuardLine text verb → length text ≤ 70000 → LeavesOfVerb s verb end → IsBegun s text end
 begun-line s end text verb reads short (inl (inl same)) = inl same
 begun-line s end text verb reads short (inl (inr told)) =
-    let answer : AreAnswer s verb (told.0 ∷ []) end = told.1 in inr (inl (record { output = told.0 ∷ []; answered = record { verb = verb; reads = reads; short = short; answer = answer } }))
+    inr (inl (record { output = told.0 ∷ []; answered = record { verb = verb; reads = reads; short = short; answer = one-line s end verb told.0 told.1 } }))
 begun-line s end text verb reads short (inr part) = inr (inr (record { verb = verb; reads = reads; short = short; part = part }))
-
--- a restart that wants memory
-pub begun-restart : (s end : Seen) (text : List ℕ) → text ≡ codes "restart" → Becomes s s.guard end → IsBegun s text end
-begun-restart s end text is becomes = inr (inr (record { verb = Restart; reads = is; short = rw is (omega arith); part = becomes }))
 
 -- a load that isn't noted for want of memory
 pub part-filled : {D : Type 0} (faults : D → ℕ) (old loaded new : GuardView D) (last : Option (List ℕ)) (unit count : ℕ) (outcome : Outcome) → CanLoad old.state.units old.state.places unit count → unfit old.state ≡ None

@@ -246,14 +246,10 @@ presents-full s next line c calm m =
 
 dispense-answer : (s next : Seen) (output : List (List ℕ)) (given : Given) (counts : CountsOf) (bytes : List ℕ) → length counts.0 ≡ 8 → AreAnswer s (Dispense given counts) output next
     → named s.last given ≡ Some bytes → CanDispense s.guard bytes counts → IsCalm s next → IsDispensed s counts output next
-dispense-answer s next [] given counts bytes eight a is c calm = (let e = a.0 in cc)
-dispense-answer s next (line ∷ []) given counts bytes eight a is c calm = dispenses-full s next (named s.last given) bytes line counts eight is c calm a
-dispense-answer s next (line ∷ other ∷ more) given counts bytes eight a is c calm = absurd a
+dispense-answer s next output given counts bytes eight a is c calm = rw a.only (dispenses-full s next (named s.last given) bytes a.line counts eight is c calm a.is)
 
 present-answer : (s next : Seen) (output : List (List ℕ)) → AreAnswer s Present output next → CanPresent s.guard → IsCalm s next → IsPresented s output next
-present-answer s next [] a c calm = (let e = a.0 in cc)
-present-answer s next (line ∷ []) a c calm = presents-full s next line c calm a
-present-answer s next (line ∷ other ∷ more) a c calm = absurd a
+present-answer s next output a c calm = rw a.only (presents-full s next a.line c calm a.is)
 
 -- a line tells eight counts
 length-units : (counts : List ℕ) (units : List (ℕ × ℕ)) → length (fold with_unit counts units) ≡ length counts

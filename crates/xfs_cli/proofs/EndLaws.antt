@@ -9,30 +9,16 @@ use Rattle.xfs_journal.specs.Paging.{CeasesAt}
 use Rattle.xfs_journal.specs.declared.limits.Limits.{Limits}
 use Rattle.xfs_journal.specs.declared.record.Rec.{Rec}
 use Rattle.xfs_journal.proofs.Unique.{stands_for_one}
-use Rattle.xfs_script.specs.Lines.{first_line, rest}
+use Rattle.xfs_script.specs.Lines.{behind, first_line, rest, AllLines, StopsAtLine}
+use Rattle.xfs_script.specs.Reading.{GaveAll}
 use Rattle.xfs_script.specs.declared.guard_line.GuardLine.TheVariants.{Skip}
-use Rattle.xfs_script.specs.declared.line.LineFault.{LineFault}
-use Rattle.xfs_script.specs.declared.line.LineFault.TheVariants.{Read, Quota, TooLong, Memory}
 use Rattle.xfs_guard.specs.declared.fail.BootFault.{BootFault}
 use Rattle.xfs_guard.specs.declared.fail.BootFault.TheVariants.{NotJournal, Disk, Full, Memory as NoMemory}
 use Rattle.xfs_cli.specs.Boots.{BootExceeds, IsNoJournal, boot_status}
-use Rattle.xfs_cli.specs.GuardLines.{IsLine, behind}
-use Rattle.xfs_cli.specs.Run.{AllLines, StopsAtLine, GaveAll, status_of}
+use Rattle.xfs_cli.specs.GuardLines.{IsLine}
+use Rattle.xfs_cli.proofs.EndingLaws.{status-boot}
 use Rattle.xfs_cli.specs.Seen.{Seen}
 use Rattle.xfs_cli.specs.Statuses.{HasFullRestart, IsStatus, IsUnhindered, IsFinished}
-
--- the statuses of the faults of the input and of a refused boot are of the table
-pub status-fault : (fault : LineFault) → IsStatus (status_of fault)
-status-fault Read = inr (inr (inl refl))
-status-fault Quota = inr (inr (inr (inr (inr (inr (inr (inr (inl refl))))))))
-status-fault (TooLong number) = inr (inr (inr (inl refl)))
-status-fault Memory = inr (inr (inr (inr (inr (inr (inr (inl refl)))))))
-
-pub status-boot : (fault : BootFault) → IsStatus (boot_status fault)
-status-boot (NotJournal at) = inr (inr (inr (inr (inr (inr (inl refl))))))
-status-boot Disk = inr (inr (inr (inr (inr (inl refl)))))
-status-boot Full = inr (inr (inr (inr (inr (inr (inr (inr (inr (inl refl)))))))))
-status-boot NoMemory = inr (inr (inr (inr (inr (inr (inr (inl refl)))))))
 
 -- behind the end of a text there is nothing
 behind-end : (many more : ℕ) (text : List ℕ) → behind many text ≡ [] → behind (many + more) text ≡ []
@@ -64,7 +50,7 @@ pub record HasCauses (IsStartOf Ends : Seen → Type 0) (status : ℕ) (left lef
   pub one : IsStatus status
   pub words : status ≡ 2 → ⊥
   pub read : status ≡ 3 → source
-  pub line : status ≡ 4 → IfTold left StopsAtLine
+  pub line : status ≡ 4 → IfTold left (StopsAtLine IsLine)
   pub write : status ≡ 5 → sink
   pub disk_fault : status ≡ 6 → disk
   pub journal : status ≡ 7 → IfTold held IsNoJournal
@@ -142,7 +128,7 @@ full-restart IsStartOf Ends (Some text) (Some bytes) limits places has = λ J st
 -- a run whose boot was not refused has the cause of its status
 pub causes-served : (IsStartOf Ends : Seen → Type 0) (status : ℕ) (left left' held : Option (List ℕ)) (limits : Limits) (places : Places) (source sink disk : Type 0) → IsStatus status
     → (status ≡ 2 → ⊥) → (status ≡ 6 → disk) → (status ≡ 7 → held ≡ None) → (status ≡ 12 → IfTold left (HasFullRestart IsStartOf Ends))
-    → (status ≡ 3 → source) → (status ≡ 4 → IfTold left StopsAtLine) → (status ≡ 5 → sink) → (status ≡ 10 → GaveAll left left')
+    → (status ≡ 3 → source) → (status ≡ 4 → IfTold left (StopsAtLine IsLine)) → (status ≡ 5 → sink) → (status ≡ 10 → GaveAll left left')
     → HasCauses IsStartOf Ends status left left' held limits places source sink disk
 causes-served IsStartOf Ends status left left' held limits places source sink disk one two six seven twelve read line write quota = record {
   one = one;

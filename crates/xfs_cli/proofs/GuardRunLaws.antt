@@ -9,27 +9,21 @@ use Rattle.xfs_journal.specs.JournalView.{HasPossible}
 use Rattle.xfs_journal.specs.Image.{StandsFor}
 use Rattle.xfs_journal.specs.declared.record.Rec.{Rec}
 use Rattle.xfs_journal.specs.declared.record.Rec.TheVariants.{Boot}
-use Rattle.xfs_guard.specs.Continues.{Continues}
 use Rattle.xfs_guard.specs.View.{View, GuardView}
-use Rattle.xfs_guard.proofs.ContinueLaws.{Continues-same, only-possible}
-use Rattle.xfs_script.specs.Lines.{first_line}
-use Rattle.xfs_script.specs.declared.line.LineFault.{LineFault}
-use Rattle.xfs_script.specs.declared.line.LineFault.TheVariants.{Read, Quota, TooLong, Memory}
-use Rattle.xfs_cli.specs.GuardLines.{behind}
-use Rattle.xfs_cli.specs.Run.{status_of}
-use Rattle.xfs_cli.specs.Answers.{WritesAll, WritesFront, WritesUntil}
+use Rattle.xfs_guard.proofs.ContinueLaws.{only-possible}
 use Rattle.xfs_cli.specs.Boots.{EndsFailed, BootExceeds, EndsFull, WritesBoot, boot_status}
 use Rattle.xfs_journal.specs.declared.limits.Limits.{Limits}
-use Rattle.xfs_cli.specs.Statuses.{HasFullRestart, IsOneOf}
+use Rattle.xfs_cli.specs.Statuses.{HasFullRestart}
 use Rattle.xfs_guard.specs.declared.fail.BootFault.{BootFault}
 use Rattle.xfs_guard.specs.declared.fail.BootFault.TheVariants.{NotJournal, Disk, Full, Memory as BootMemory}
-use Rattle.xfs_cli.specs.RestartAnswers.{HasNoRoom, IsFull, RestartCause, RestartFails}
-use Rattle.xfs_cli.specs.GuardRuns.{AtEntry, FromBoot, IsStart, opened, IsEnd, IsFullAtEnd, IsOfBoot, IsStop, IsUnbooted}
-use Rattle.xfs_cli.specs.VerbAnswers.{AnswersGuard}
-use Rattle.xfs_cli.specs.Begun.{IsBegun}
-use Rattle.xfs_cli.specs.Seen.{Seen, Becomes, IsLater, IsStill, seen}
-use Rattle.xfs_cli.proofs.BegunLaws.{begun-restart}
-use Rattle.xfs_cli.proofs.SeenLaws.{later-same}
+use Rattle.xfs_cli.specs.RestartAnswers.{HasNoRoom, IsFull, RestartCause}
+use Rattle.xfs_cli.specs.GuardRuns.{AtEntry, FromBoot, IsStart, opened, IsEnd, IsFullAtEnd, IsUnbooted}
+use Rattle.xfs_cli.specs.GuardCommand.{guard_lines}
+use Rattle.xfs_cli.specs.Served.{EndsUnbooted, Serves, status_of}
+use Rattle.xfs_script.specs.Endings.{AnswersInput}
+use Rattle.xfs_script.specs.declared.answerer.Ending.TheVariants.{Ended}
+use Rattle.xfs_cli.proofs.EndingLaws.{is-boot}
+use Rattle.xfs_cli.specs.Seen.{Seen, IsStill, seen}
 
 -- the last state is that of a guard which is over
 pub ends-at : {D : Type 0} (faults : D → ℕ) (g : GuardView D) (last : Option (List ℕ)) (motions : Option (List Motion)) (places : Places) (mech : ℕ) (disk : D) (held : Option (List ℕ)) (images : List ℕ → Type 0)
@@ -44,59 +38,9 @@ pub still-at : {D : Type 0} (faults : D → ℕ) (g : GuardView D) (last : Optio
     → (end s : Seen) → end ≡ seen faults g last → IsStill end.guard.motions end.guard.places end.guard.faults end.disk_faults s → IsStill motions places mech (faults disk) s
 still-at faults g last motions places mech disk m p f d end s is still = rw (m, p, f, d) (rw is at still)
 
--- a run that ends between two lines, under no status of a boot
-pub stops-input : (status plain : ℕ) (s end : Seen) → status ≡ plain → (plain ≢ 6) × (plain ≢ 7) × (plain ≢ 12) → s ≡ end → (line : List ℕ) → IsStop (λ e. e ≡ end) status line s
-stops-input status plain s end is (six, seven, twelve) same line = record {
-  end = end;
-  ends = refl;
-  continues = rw same (Continues-same end.guard);
-  later = rw same (later-same end);
-  ended = λ one. same;
-  begun = λ eight. inl (sym same);
-  still = λ boot. absurd (none boot);
-  restart = λ boot. absurd (none boot);
-  failed = λ e. absurd (six (sym is ∙ e));
-  untold = λ e. absurd (seven (sym is ∙ e));
-  full = λ e. absurd (twelve (sym is ∙ e));
-}
-  where
-    none : IsOfBoot status → ⊥
-    none (inl e) = six (sym is ∙ e)
-    none (inr (inl e)) = seven (sym is ∙ e)
-    none (inr (inr e)) = twelve (sym is ∙ e)
-
--- a run that ends within a line for want of memory
-pub stops-memory : (s end : Seen) (line : List ℕ) → Continues s.guard end.guard → IsLater s end → IsBegun s line end → IsStop (λ e. e ≡ end) 8 line s
-stops-memory s end line continues later begun = record {
-  end = end;
-  ends = refl;
-  continues = continues;
-  later = later;
-  ended = λ one. absurd (input one);
-  begun = λ eight. begun;
-  still = λ boot. absurd (none boot);
-  restart = λ boot. absurd (none boot);
-  failed = λ e. absurd (omega (arith, e));
-  untold = λ e. absurd (omega (arith, e));
-  full = λ e. absurd (omega (arith, e));
-}
-  where
-    input : IsOneOf (3 ∷ 4 ∷ 10 ∷ []) 8 → ⊥
-    input (inl e) = omega (arith, e)
-    input (inr (inl e)) = omega (arith, e)
-    input (inr (inr (inl e))) = omega (arith, e)
-    input (inr (inr (inr none))) = none
-
-    none : IsOfBoot 8 → ⊥
-    none (inl e) = omega (arith, e)
-    none (inr (inl e)) = omega (arith, e)
-    none (inr (inr e)) = omega (arith, e)
-
-pub fault-plain : (fault : LineFault) → (status_of fault ≢ 6) × (status_of fault ≢ 7) × (status_of fault ≢ 12)
-fault-plain Read = (λ e. omega (arith, e), λ e. omega (arith, e), λ e. omega (arith, e))
-fault-plain Quota = (λ e. omega (arith, e), λ e. omega (arith, e), λ e. omega (arith, e))
-fault-plain (TooLong n) = (λ e. omega (arith, e), λ e. omega (arith, e), λ e. omega (arith, e))
-fault-plain Memory = (λ e. omega (arith, e), λ e. omega (arith, e), λ e. omega (arith, e))
+-- a count that rose in a part rose in the whole
+pub rose-later : (a b c : ℕ) → a ≤ b → Rose b c → Rose a c
+rose-later a b c le rose = omega (arith, le, rose)
 
 -- the causes of the statuses of a restart that is refused
 pub failed-then : (status : ℕ) (why : BootFault) (s end : Seen) → status ≡ boot_status why → RestartCause s why end → status ≡ 6 → Rose s.disk_faults end.disk_faults
@@ -117,40 +61,19 @@ full-then status Disk s end is cause twelve = absurd (omega (arith, is, twelve))
 full-then status Full s end is cause twelve = cause
 full-then status BootMemory s end is cause twelve = absurd (omega (arith, is, twelve))
 
-pub wants-then : (status : ℕ) (why : BootFault) (s end : Seen) → status ≡ boot_status why → RestartCause s why end → status ≡ 8 → Becomes s s.guard end
-wants-then status (NotJournal at) s end is cause eight = absurd (omega (arith, is, eight))
-wants-then status Disk s end is cause eight = absurd (omega (arith, is, eight))
-wants-then status Full s end is cause eight = absurd (omega (arith, is, eight))
-wants-then status BootMemory s end is cause eight = cause
+-- a run that ended at a refused restart, by its status
+pub failed-end : {A : Type 0} (Keeps : A → A → Type 0) (state : A → Seen) (start : A) (status : ℕ) (end : Seen) → ((a b : A) → Keeps a b → (state a).disk_faults ≤ (state b).disk_faults) → EndsUnbooted Keeps state guard_lines start status end
+    → status ≡ 6 → Rose (state start).disk_faults end.disk_faults
+failed-end Keeps state start status end later u six =
+    rose-later _ _ _ (later start u.after.before u.after.keeps) (failed-then status u.why (state u.after.before) end u.status_is u.after.ends.fails.cause six)
 
--- a run that ends at a restart
-pub stops-restart : (status : ℕ) (why : BootFault) (line : List ℕ) (s end : Seen) → status ≡ boot_status why → Continues s.guard end.guard → IsLater s end
-    → (line ≡ codes "restart") × RestartFails s why end → IsStop (λ e. e ≡ end) status line s
-stops-restart status why line s end is continues later fails = record {
-  end = end;
-  ends = refl;
-  continues = continues;
-  later = later;
-  ended = λ one. absurd (input why (rw is at one));
-  begun = λ eight. begun-restart s end line fails.0 (wants-then status why s end is fails.1.cause eight);
-  still = λ boot. fails.1.still;
-  restart = λ boot. fails.0;
-  failed = failed-then status why s end is fails.1.cause;
-  untold = untold-then status why s end is fails.1.cause;
-  full = λ twelve. (full-then status why s end is fails.1.cause twelve).0;
-}
-  where
-    least : (why : BootFault) → (6 ≤ boot_status why) × (boot_status why ≢ 10)
-    least (NotJournal at) = (omega arith, λ e. omega (arith, e))
-    least Disk = (omega arith, λ e. omega (arith, e))
-    least Full = (omega arith, λ e. omega (arith, e))
-    least BootMemory = (omega arith, λ e. omega (arith, e))
+pub untold-end : {A : Type 0} (Keeps : A → A → Type 0) (state : A → Seen) (start : A) (status : ℕ) (end : Seen) → ((a b : A) → Keeps a b → (state b).guard.disk_told ≡ (state a).guard.disk_told) → EndsUnbooted Keeps state guard_lines start status end
+    → status ≡ 7 → (state start).guard.disk_told ≡ false
+untold-end Keeps state start status end told u seven =
+    sym (told start u.after.before u.after.keeps) ∙ untold-then status u.why (state u.after.before) end u.status_is u.after.ends.fails.cause seven
 
-    input : (why : BootFault) → IsOneOf (3 ∷ 4 ∷ 10 ∷ []) (boot_status why) → ⊥
-    input why (inl e) = let low = (least why).0 in omega (arith, low, e)
-    input why (inr (inl e)) = let low = (least why).0 in omega (arith, low, e)
-    input why (inr (inr (inl e))) = (least why).1 e
-    input why (inr (inr (inr none))) = none
+pub left-full : {A : Type 0} (Keeps : A → A → Type 0) (state : A → Seen) (start : A) (status : ℕ) (end : Seen) → EndsUnbooted Keeps state guard_lines start status end → status ≡ 12 → IsFull end.guard
+left-full Keeps state start status end u twelve = (full-then status u.why (state u.after.before) end u.status_is u.after.ends.fails.cause twelve).1
 
 -- a guard whose Boot has no room leaves a disk that reads as its list
 pub full-end : (v : View) (limits : Limits) (places : Places) (held : Option (List ℕ)) (images : List ℕ → Type 0) → v.limits ≡ limits → places ≡ v.places
@@ -163,46 +86,6 @@ full-end v limits places held images l p read stored full = record { records = v
         let kept = stored bytes (read bytes refl) in
         let here : StandsFor bytes kept.0 = inl kept.2 in
         rw (only-possible v.records kept.0 v.in_doubt full.clear kept.1) at here
-
--- what is said of the end of a run follows from what was said of it
-pub stops-at : (E E' : Seen → Type 0) → ((s : Seen) → E s → E' s) → (status : ℕ) (line : List ℕ) (s : Seen) → IsStop E status line s → IsStop E' status line s
-stops-at E E' more status line s stop = record {
-  end = stop.end;
-  ends = more stop.end stop.ends;
-  continues = stop.continues;
-  later = stop.later;
-  ended = stop.ended;
-  begun = stop.begun;
-  still = stop.still;
-  restart = stop.restart;
-  failed = stop.failed;
-  untold = stop.untold;
-  full = stop.full;
-}
-
--- what is said of the last state follows from what was said of it
-pub all-ends : {S : Type 0} (A : S → List ℕ → List (List ℕ) → S → Type 0) (E E' : S → Type 0) (start : S) (old new : Option (List ℕ)) (text : List ℕ)
-    → ((s : S) → E s → E' s) → WritesAll A E start old new text → WritesAll A E' start old new text
-all-ends A E E' start old new text more w =
-    record { many = w.many; output = w.output; answers = record { last = w.answers.last; each = w.answers.each; ends = more w.answers.last w.answers.ends }; whole = w.whole; written = w.written }
-
-pub front-ends : {S : Type 0} (A : S → List ℕ → List (List ℕ) → S → Type 0) (E E' : S → Type 0) (start : S) (old new : Option (List ℕ)) (text : List ℕ)
-    → ((s : S) → E s → E' s) → WritesFront A E start old new text → WritesFront A E' start old new text
-front-ends A E E' start old new text more w =
-    record { many = w.many; output = w.output; answers = record { last = w.answers.last; each = w.answers.each; ends = more w.answers.last w.answers.ends }; written = w.written }
-
-pub until-stops : {S : Type 0} (L : List ℕ → Type 0) (A : S → List ℕ → List (List ℕ) → S → Type 0) (E E' : ℕ → List ℕ → S → Type 0) (start : S) (status : ℕ) (left old new : Option (List ℕ)) (text : List ℕ)
-    → ((n : ℕ) (l : List ℕ) (s : S) → E n l s → E' n l s) → WritesUntil L A E start status left old new text → WritesUntil L A E' start status left old new text
-until-stops L A E E' start status left old new text more w = record {
-  many = w.many;
-  output = w.output;
-  answers = record { last = w.answers.last; each = w.answers.each; ends = more status (first_line (behind w.many text)) w.answers.last w.answers.ends };
-  none = w.none;
-  limit = w.limit;
-  at = w.at;
-  front = w.front;
-  written = w.written;
-}
 
 -- a fact of what a source tells gives another
 pub told-more : {T : Type 0} (held : Option T) (P Q : T → Type 0) → ((x : T) → P x → Q x) → IfTold held P → IfTold held Q
@@ -227,10 +110,6 @@ from-boot faults g e J Writes stands is later writes = record { start = seen fau
 pub refused-boot : (why : BootFault) (status : ℕ) (left left' before after : Option (List ℕ)) → status ≡ boot_status why → left' ≡ left → WritesBoot why before after → IsUnbooted status left left' before after
 refused-boot why status left left' before after is unread written = record { why = why; status_is = is; unread = unread; written = written }
 
--- a count that rose in a part rose in the whole
-pub rose-later : (a b c : ℕ) → a ≤ b → Rose b c → Rose a c
-rose-later a b c le rose = omega (arith, le, rose)
-
 pub none-told : {T : Type 0} (held : Option T) → is_some held ≡ false → held ≡ None
 none-told None e = refl
 none-told (Some x) e = cc
@@ -252,18 +131,22 @@ ends-full Full limits places held before after status is written full twelve = l
 ends-full BootMemory limits places held before after status is written full twelve = absurd (omega (arith, is, twelve))
 
 -- under status 12 a restart found no room for its Boot
-pub full-line : (IsStartOf Ends Still : Seen → Type 0) (L : List ℕ → Type 0) (start : Seen) (status : ℕ) (source left old new : Option (List ℕ)) → IsStartOf start
-    → ((end s : Seen) → Ends end → IsStill end.guard.motions end.guard.places end.guard.faults end.disk_faults s → Still s)
-    → IfTold source (WritesUntil L AnswersGuard (IsStop Ends) start status left old new) → status ≡ 12 → IfTold source (HasFullRestart IsStartOf Still)
-full-line IsStartOf Ends Still L start status None left old new begins more h twelve = tt
-full-line IsStartOf Ends Still L start status (Some text) left old new begins more h twelve = let stop = h.answers.ends in record {
-  start = start;
-  begins = begins;
-  many = h.many;
-  output = h.output;
-  last = h.answers.last;
-  each = h.answers.each;
-  line = stop.restart (inr (inr twelve));
-  full = stop.full twelve;
-  ends = more stop.end h.answers.last stop.ends (stop.still (inr (inr twelve)));
-}
+pub full-line : (IsStartOf Still : Seen → Type 0) (start end : Seen) (status : ℕ) (source left old new : Option (List ℕ)) → IsStartOf start
+    → ((s : Seen) → IsStill end.guard.motions end.guard.places end.guard.faults end.disk_faults s → Still s)
+    → IfTold source (Serves guard_lines start end status left old new) → status ≡ 12 → IfTold source (HasFullRestart IsStartOf Still)
+full-line IsStartOf Still start end status None left old new begins more h twelve = tt
+full-line IsStartOf Still start end status (Some text) left old new begins more h twelve =
+    let e = is-boot h.ending (inr (inr (sym h.status_is ∙ twelve))) in
+    let a : AnswersInput guard_lines (Ended e.0) start end left old h.answered text = rw e.1 at h.answers in
+    let full = full-then status e.0 a.last end (h.status_is ∙ ap status_of e.1) a.ends.0.fails.cause twelve in
+    record {
+      start = start;
+      begins = begins;
+      many = a.many;
+      output = a.output;
+      last = a.last;
+      each = a.each;
+      line = a.ends.0.restart;
+      full = full.0;
+      ends = more a.last a.ends.0.fails.still;
+    }

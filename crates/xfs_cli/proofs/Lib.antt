@@ -1,12 +1,11 @@
-pub mod AnswerLaws
 pub mod BegunLaws
 pub mod CompleteLaws
 pub mod CompleteOrders
 pub mod CompleteStacks
 pub mod DispenseLaws
 pub mod EndLaws
+pub mod EndingLaws
 pub mod GuardRunLaws
-pub mod LineLaws
 pub mod MomentLaws
 pub mod NumberLaws
 pub mod RunLaws

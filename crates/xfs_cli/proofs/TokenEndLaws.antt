@@ -4,29 +4,28 @@ use Rattle.std.specs.Prelude.{◌≢◌}
 use Rattle.std.specs.declared.option.Option.{Option}
 use Rattle.xfs_base.specs.Causes.{IfTold}
 use Rattle.xfs_script.specs.declared.token_line.TokenLine.TheVariants.{Skip}
-use Rattle.xfs_cli.specs.Answers.{AnyStop, WritesUntil}
-use Rattle.xfs_cli.specs.Run.{AllLines, GaveAll}
+use Rattle.xfs_script.specs.Lines.{AllLines, StopsAtLine}
+use Rattle.xfs_script.specs.Reading.{GaveAll}
 use Rattle.xfs_cli.specs.Statuses.{IsStatus, IsFinished}
-use Rattle.xfs_cli.specs.TokenAnswers.{AnswersToken, IsLineOfToken}
+use Rattle.xfs_cli.specs.TokenAnswers.{IsLineOfToken}
 use Rattle.xfs_cli.proofs.EndLaws.{lines-all, short-all}
 
 empty-line : IsLineOfToken []
 empty-line = record { verb = Skip; reads = tt; short = omega arith }
 
-pub token-finishes : (key : List ℕ) (status : ℕ) (left left' old new : Option (List ℕ)) (source sink : Type 0) → IsStatus status
+pub token-finishes : (status : ℕ) (left left' : Option (List ℕ)) (source sink : Type 0) → IsStatus status
     → (status ≡ 2 → ⊥) → (status ≢ 6) × (status ≢ 7) × (status ≢ 12) → (status ≡ 3 → source) → (status ≡ 5 → sink) → (status ≡ 10 → GaveAll left left')
-    → (status ≢ 0 → status ≢ 5 → IfTold left (WritesUntil IsLineOfToken AnswersToken AnyStop key status left' old new))
+    → (status ≡ 4 → IfTold left (StopsAtLine IsLineOfToken))
     → ¬ source → ¬ sink → IfTold left (λ text. AllLines IsLineOfToken text → length text < 67108864 → IsFinished status)
-token-finishes key status None left' old new source sink one two unbooted read write quota until no_source no_sink = tt
-token-finishes key status (Some text) left' old new source sink one two unbooted read write quota until no_source no_sink = λ lines short. by_status lines short one
+token-finishes status None left' source sink one two unbooted read write quota line no_source no_sink = tt
+token-finishes status (Some text) left' source sink one two unbooted read write quota line no_source no_sink = λ lines short. by_status lines short one
   where
     by_status : AllLines IsLineOfToken text → length text < 67108864 → IsStatus status → IsFinished status
     by_status lines short (inl is) = inl is
     by_status lines short (inr (inl is)) = absurd (two is)
     by_status lines short (inr (inr (inl is))) = absurd (no_source (read is))
     by_status lines short (inr (inr (inr (inl is)))) =
-        let w = until (λ e. omega (arith, is, e)) (λ e. omega (arith, is, e)) in
-        absurd (lines-all IsLineOfToken text w.many empty-line lines (w.none is))
+        let stops = line is in absurd (lines-all IsLineOfToken text stops.many empty-line lines stops.none)
     by_status lines short (inr (inr (inr (inr (inl is))))) = absurd (no_sink (write is))
     by_status lines short (inr (inr (inr (inr (inr (inl is)))))) = absurd (unbooted.0 is)
     by_status lines short (inr (inr (inr (inr (inr (inr (inl is))))))) = absurd (unbooted.1 is)

@@ -3,7 +3,9 @@ use Rattle.std.proofs.Common.{◌≡◌, ℕ, ◌+◌, ◌<◌, ◌≤◌, List,
 use Rattle.std.specs.Prelude.{codes, slice_get}
 use Rattle.std.proofs.lemmas.List.{take_more, length-take-le}
 use Rattle.std.proofs.lemmas.Option.{slice_get_within, get_or_from_slice_get}
-use Rattle.xfs_cli.specs.TokenAnswers.{thousandths_text, joined_amounts}
+use Rattle.xfs_script.specs.Answered.{lines_text, Tells}
+use Rattle.xfs_script.specs.declared.token_line.TokenLine.{TokenLine}
+use Rattle.xfs_cli.specs.TokenAnswers.{AreAnswer, IsAnswer, thousandths_text, joined_amounts}
 
 -- a front with one more
 take-push : {X : Type 0} (xs : List X) (i : ℕ) (x : X) → slice_get xs i ≡ Some x → take (i + 1) xs ≡ take i xs ++ x ∷ []
@@ -26,3 +28,7 @@ amounts-step amounts i a start text comma new low e text_is comma_is new_is =
     let more : joined_amounts (take (i + 1) amounts) ≡ joined_amounts (take i amounts) ++ 44 ∷ thousandths_text a = ap joined_amounts (take-push amounts i a e) ∙ joined-push (take i amounts) a some in
     rw (new_is, comma_is, text_is, more)
     (append_assoc (start ++ joined_amounts (take i amounts)) (codes ",") (thousandths_text a) ∙ append_assoc start (joined_amounts (take i amounts)) (44 ∷ thousandths_text a))
+
+-- a line that answers, with its line feed
+pub tells-line : (key : List ℕ) (verb given : TokenLine) (line bytes : List ℕ) → given ≡ verb → IsAnswer key verb line → bytes ≡ lines_text (line ∷ []) → Tells (λ output next. AreAnswer key given output) bytes key
+tells-line key verb given line bytes is answer text = rw is (record { output = line ∷ []; answer = answer; text = text })

@@ -12,11 +12,11 @@ use Rattle.xfs_journal.specs.declared.record.Rec.{Rec}
 use Rattle.xfs_journal.specs.declared.record.Rec.TheVariants.{Boot}
 use Rattle.xfs_guard.specs.declared.fail.BootFault.{BootFault}
 use Rattle.xfs_guard.specs.declared.fail.BootFault.TheVariants.{NotJournal, Disk, Full}
-use Rattle.xfs_cli.specs.Answers.{lines_text}
+use Rattle.xfs_script.specs.Answered.{lines_text}
 pub use Rattle.xfs_cli.specs.BootLines.{boot_status, boot_line}
 use Rattle.xfs_cli.specs.declared.status.TheConstants.{DISK_FAULT, NO_MEMORY}
 
--- the sink took a front of the last line
+-- the sink took a prefix of the last line
 abbrev pub WritesBoot : BootFault → Option (List ℕ) → Option (List ℕ) → Type 0
 WritesBoot fault before after = TookPrefix before after (lines_text (boot_line fault))
 

@@ -1,5 +1,5 @@
 -- What the lines of `guard` are answered: the notes that were moved or taken, and the six places of each unit.
-use Rattle.std.specs.Prelude.{ℕ, zero, suc, ◌+◌, ◌==◌, if◌then◌else◌, Bool, true, false, List, [], ◌++◌, codes, decimal}
+use Rattle.std.specs.Prelude.{ℕ, zero, suc, ◌+◌, Bool, true, false, List, [], ◌∷◌, ◌++◌, codes, decimal}
 use Rattle.xfs_base.specs.Counts.{at}
 use Rattle.xfs_base.specs.declared.counts.Places.{Places}
 use Rattle.xfs_mech.specs.declared.motion.Outcome.{Outcome}
@@ -28,11 +28,7 @@ unit_counts p u =
 abbrev pub unit_line : Places → ℕ → List ℕ
 unit_line p u = codes "unit" ++ decimal (u + 1) ++ unit_counts p u
 
--- a line feed in front of every line but the first
-abbrev pub separator : ℕ → List ℕ
-separator u = if u == 0 then [] else codes "\n"
-
 -- the lines of so many units
-abbrev pub show_text : ℕ → Places → List ℕ
-show_text zero p = []
-show_text (suc u) p = show_text u p ++ separator u ++ unit_line p u
+abbrev pub show_lines : ℕ → Places → List (List ℕ)
+show_lines zero p = []
+show_lines (suc u) p = show_lines u p ++ unit_line p u ∷ []

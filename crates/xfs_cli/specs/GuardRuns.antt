@@ -1,7 +1,7 @@
 -- A run of `guard`: the session that its boot begins, and what its last state says of the mechanism and the disk that come back.
-use Rattle.std.specs.Prelude.{◌≡◌, ◌≤◌, ◌⊎◌, ℕ, false, List, [], ◌∷◌, ◌++◌, codes, is_some, None}
+use Rattle.std.specs.Prelude.{◌≡◌, ◌≤◌, ◌⊎◌, ℕ, false, List, [], ◌∷◌, ◌++◌, is_some, None}
 use Rattle.std.specs.declared.option.Option.{Option}
-use Rattle.xfs_base.specs.Causes.{IfTold, Rose}
+use Rattle.xfs_base.specs.Causes.{IfTold}
 use Rattle.xfs_base.specs.declared.counts.Places.{Places}
 use Rattle.xfs_base.specs.declared.money.NoteKind.{NoteKind}
 use Rattle.xfs_mech.specs.declared.motion.Motion.{Motion}
@@ -11,17 +11,15 @@ use Rattle.xfs_journal.specs.declared.limits.Limits.{Limits}
 use Rattle.xfs_journal.specs.declared.record.Rec.{Rec}
 use Rattle.xfs_journal.specs.declared.record.Rec.TheVariants.{Boot}
 use Rattle.xfs_guard.specs.Balance.{no_notes}
-use Rattle.xfs_guard.specs.Continues.{Continues}
 use Rattle.xfs_guard.specs.View.{View}
 use Rattle.xfs_guard.specs.declared.machine_core.Core.{Core}
 use Rattle.xfs_guard.specs.declared.fail.BootFault.{BootFault}
 use Rattle.xfs_guard.specs.declared.open.Open.TheVariants.{No}
-use Rattle.xfs_cli.specs.Begun.{IsBegun}
 use Rattle.xfs_cli.specs.Boots.{BootExceeds, WritesBoot, boot_status}
-use Rattle.xfs_cli.specs.RestartAnswers.{HasNoRoom}
-use Rattle.xfs_cli.specs.Seen.{Seen, IsLater, IsStill}
-use Rattle.xfs_cli.specs.Statuses.{IsOneOf}
-use Rattle.xfs_cli.specs.declared.status.TheConstants.{DISK_FAULT, INPUT_TOO_LONG, JOURNAL_FULL, NOT_A_JOURNAL, NOT_A_LINE, NO_MEMORY, READ_FAULT}
+use Rattle.xfs_cli.specs.GuardCommand.{guard_lines}
+use Rattle.xfs_cli.specs.Seen.{Seen}
+use Rattle.xfs_cli.specs.Served.{Serves}
+use Rattle.xfs_cli.specs.declared.status.TheConstants.{DISK_FAULT, JOURNAL_FULL, NOT_A_JOURNAL}
 
 -- what a command finds at its entry: the key, the seed, the table of the units, the journal's limits, what the mechanism tells, the disk's bytes where it tells them, and how often the disk failed
 pub record AtEntry : Type 0 where
@@ -97,22 +95,11 @@ pub record IsEnd (motions : Option (List Motion)) (places : Places) (mech_faults
 abbrev pub IsOfBoot : ℕ → Type 0
 IsOfBoot status = (status ≡ DISK_FAULT) ⊎ ((status ≡ NOT_A_JOURNAL) ⊎ (status ≡ JOURNAL_FULL))
 
--- a run ended under this status at this line, behind the last state that was answered, in a state of which Ends tells: under a status of a boot the line is `restart`, and the disk failed, doesn't tell its bytes, or has no room
-pub record IsStop (Ends : Seen → Type 0) (status : ℕ) (line : List ℕ) (last : Seen) : Type 0 where
+-- the lines are served from a state on, until one of which Ends tells
+pub record ServesUntil (Ends : Seen → Type 0) (start : Seen) (status : ℕ) (left before after : Option (List ℕ)) (text : List ℕ) : Type 0 where
   pub end : Seen
   pub ends : Ends end
-  pub continues : Continues last.guard end.guard
-  pub later : IsLater last end
-  -- where the input ended the run, nothing came behind the last state
-  pub ended : IsOneOf (READ_FAULT ∷ NOT_A_LINE ∷ INPUT_TOO_LONG ∷ []) status → last ≡ end
-  -- want of memory may come behind a part of the line, or before its answer is written
-  pub begun : status ≡ NO_MEMORY → IsBegun last line end
-  -- a refused restart moves nothing
-  pub still : IsOfBoot status → IsStill end.guard.motions end.guard.places end.guard.faults end.disk_faults last
-  pub restart : IsOfBoot status → line ≡ codes "restart"
-  pub failed : status ≡ DISK_FAULT → Rose last.disk_faults end.disk_faults
-  pub untold : status ≡ NOT_A_JOURNAL → last.guard.disk_told ≡ false
-  pub full : status ≡ JOURNAL_FULL → HasNoRoom last.guard
+  pub serves : Serves guard_lines start end status left before after text
 
 -- the disk reads as a list behind which a Boot of these places passes a limit
 pub record IsFullAtEnd (limits : Limits) (places : Places) (held : Option (List ℕ)) : Type 0 where
@@ -120,7 +107,7 @@ pub record IsFullAtEnd (limits : Limits) (places : Places) (held : Option (List 
   pub stands : IfTold held (λ bytes. StandsFor bytes records)
   pub exceeds_limit : BootExceeds limits places records
 
--- the boot was refused: nothing was read of the input, and the sink took a front of the last line
+-- the boot was refused: nothing was read of the input, and the sink took a prefix of the last line
 pub record IsUnbooted (status : ℕ) (left left' before after : Option (List ℕ)) : Type 0 where
   pub why : BootFault
   pub status_is : status ≡ boot_status why

@@ -1,10 +1,10 @@
-pub mod Answers
 pub mod Begun
 pub mod BootLines
 pub mod Boots
 pub mod Complete
 pub mod DispenseAnswers
 pub mod GuardAnswers
+pub mod GuardCommand
 pub mod GuardLines
 pub mod GuardRuns
 pub mod LineAnswers
@@ -14,6 +14,7 @@ pub mod Refused
 pub mod RestartAnswers
 pub mod Run
 pub mod Seen
+pub mod Served
 pub mod Statuses
 pub mod TokenAnswers
 pub mod Upholds

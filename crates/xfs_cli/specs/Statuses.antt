@@ -4,10 +4,9 @@ use Rattle.xfs_base.specs.declared.counts.Places.{Places}
 use Rattle.xfs_journal.specs.declared.limits.Limits.{Limits}
 use Rattle.xfs_journal.specs.declared.record.Rec.{Rec}
 use Rattle.xfs_cli.specs.Boots.{BootExceeds}
-use Rattle.xfs_script.specs.Lines.{first_line}
-use Rattle.xfs_cli.specs.GuardLines.{IsLine, behind}
-use Rattle.xfs_cli.specs.Run.{AllLines}
-use Rattle.xfs_cli.specs.Answers.{AnswersEach, first_lines}
+use Rattle.xfs_script.specs.Answered.{AnswersEach}
+use Rattle.xfs_script.specs.Lines.{behind, first_line, first_lines, AllLines}
+use Rattle.xfs_cli.specs.GuardLines.{IsLine}
 use Rattle.xfs_cli.specs.RestartAnswers.{HasNoRoom}
 use Rattle.xfs_cli.specs.Seen.{Seen}
 use Rattle.xfs_cli.specs.VerbAnswers.{AnswersGuard}

@@ -9,9 +9,11 @@ use Rattle.xfs_token.specs.Fault.{IsFault}
 use Rattle.xfs_token.specs.Amounts.{amounts_of, IsMade}
 use Rattle.xfs_token.specs.declared.faults.TokenFault.{TokenFault}
 use Rattle.xfs_token.specs.declared.faults.TokenFault.TheVariants.{TooLong, KeyNoValue, Format, Memory}
+use Rattle.xfs_script.specs.Commands.{Command}
 use Rattle.xfs_script.specs.TokenLines.{IsTokenLine}
 use Rattle.xfs_script.specs.declared.token_line.TokenLine.{TokenLine}
 use Rattle.xfs_script.specs.declared.token_line.TokenLine.TheVariants.{Skip, Read, Make, Mac}
+use Rattle.xfs_guard.specs.declared.fail.BootFault.{BootFault}
 
 -- a currency and its thousandths
 abbrev pub thousandths_text : List ℕ × ℕ → List ℕ
@@ -90,3 +92,11 @@ pub record AnswersToken (key text : List ℕ) (output : List (List ℕ)) (next :
   pub short : length text ≤ 70000
   pub answer : AreAnswer key verb output
   pub same : next ≡ key
+
+-- the command `token` over its lines: want of memory leaves nothing of one, and it ends at none
+abbrev pub token_lines : Command (List ℕ) BootFault
+token_lines = record { IsLine = IsLineOfToken; Answers = AnswersToken; Leaves = λ key text end. end ≡ key; EndsAt = λ key text why end. ⊥ }
+
+-- what is answered is a line
+pub is-line : (key next text : List ℕ) (output : List (List ℕ)) → AnswersToken key text output next → IsLineOfToken text
+is-line key next text output a = record { verb = a.verb; reads = a.reads; short = a.short }

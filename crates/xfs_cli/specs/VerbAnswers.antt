@@ -18,7 +18,7 @@ use Rattle.xfs_guard.specs.declared.nonce.Nonce.{Nonce}
 use Rattle.xfs_script.specs.Guard.{IsGuardLine}
 use Rattle.xfs_script.specs.declared.guard_line.GuardLine.{GuardLine}
 use Rattle.xfs_script.specs.declared.guard_line.GuardLine.TheVariants.{Skip, Issue, Clear, Mint, Dispense, Fill, Present, Reject, Retract, Take, Restart, Show}
-use Rattle.xfs_cli.specs.GuardAnswers.{outcome_text, show_text}
+use Rattle.xfs_cli.specs.GuardAnswers.{outcome_text, show_lines}
 use Rattle.xfs_cli.specs.Seen.{Seen}
 use Rattle.xfs_cli.specs.LineAnswers.{IsRefused, WritesOne, WritesNone}
 use Rattle.xfs_cli.specs.OrderAnswers.{MechCalled, Moves}
@@ -95,7 +95,7 @@ pub record IsLoaded (s : Seen) (unit count : ℕ) (line : List ℕ) (next : Seen
 abbrev pub Fills : Seen → ℕ → ℕ → List ℕ → Seen → Type 0
 Fills s unit count line next = IsUnfilled s unit count line next ⊎ IsLoaded s unit count line next
 
--- the answer to a verb
+-- the line that answers a verb; a skipped line has none, and `show` more than one
 abbrev pub IsAnswer : Seen → GuardLine → List ℕ → Seen → Type 0
 IsAnswer s Skip line next = ⊥
 IsAnswer s Issue line next = Issues s line next
@@ -108,13 +108,19 @@ IsAnswer s Reject line next = Moves s Ask.Reject line next
 IsAnswer s Retract line next = Moves s Ask.Retract line next
 IsAnswer s Take line next = Takes s line next
 IsAnswer s Restart line next = Restarts s line next
-IsAnswer s Show line next = (line ≡ show_text (length s.guard.units) s.guard.places) × (next ≡ s)
+IsAnswer s Show line next = ⊥
 
--- the text that answers a verb; none for a skipped line
+-- one line, of which this is so
+pub record IsOneLine (IsText : List ℕ → Type 0) (output : List (List ℕ)) : Type 0 where
+  pub line : List ℕ
+  pub is : IsText line
+  pub only : output ≡ line ∷ []
+
+-- the lines that answer a verb: none for a skipped line, a line a unit for `show`, and else one
 abbrev pub AreAnswer : Seen → GuardLine → List (List ℕ) → Seen → Type 0
-AreAnswer s verb [] next = (verb ≡ Skip) × (next ≡ s)
-AreAnswer s verb (line ∷ []) next = IsAnswer s verb line next
-AreAnswer s verb (line ∷ other ∷ more) next = ⊥
+AreAnswer s Skip output next = (output ≡ []) × (next ≡ s)
+AreAnswer s Show output next = (output ≡ show_lines (length s.guard.units) s.guard.places) × (next ≡ s)
+AreAnswer s verb output next = IsOneLine (λ line. IsAnswer s verb line next) output
 
 -- a line of `guard`, what answers it, and the session then
 pub record AnswersGuard (s : Seen) (text : List ℕ) (output : List (List ℕ)) (next : Seen) : Type 0 where

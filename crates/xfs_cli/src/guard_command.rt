@@ -8,30 +8,28 @@ ghost use Rattle.xfs_disk.specs.Moments.{LeavesOnly};
 ghost use Rattle.xfs_cli.specs.Moments.{WasOnTheWay};
 ghost use Rattle.xfs_journal.specs.Image.{StandsFor};
 ghost use Rattle.xfs_journal.specs.declared.record.Rec.{Rec};
-ghost use Rattle.xfs_guard.specs.declared.open.Open.TheVariants.{No};
-ghost use Rattle.xfs_guard.specs.Keeps.{Proceeds};
 ghost use Rattle.xfs_guard.specs.Recorded.{IsRecorded};
 ghost use Rattle.xfs_guard.specs.Stored.{IsStored, MayLeave};
-ghost use Rattle.xfs_cli.specs.Run.{IsGuard, AllLines, StopsAtLine, GaveAll};
-ghost use Rattle.xfs_cli.specs.Answers.{WritesAll, WritesFront, WritesUntil, WritesUsage};
+ghost use Rattle.xfs_script.specs.Lines.{AllLines, StopsAtLine};
+ghost use Rattle.xfs_script.specs.Reading.{GaveAll};
+ghost use Rattle.xfs_cli.specs.Run.{IsGuard};
+ghost use Rattle.xfs_cli.specs.Served.{WritesUsage};
 ghost use Rattle.xfs_cli.specs.GuardLines.{IsLine};
-ghost use Rattle.xfs_cli.specs.GuardRuns.{FromBoot, IsEnd, IsFullAtEnd, IsStart, IsStop, IsUnbooted, at_entry};
-ghost use Rattle.xfs_cli.specs.Seen.{IsStill, seen};
-ghost use Rattle.xfs_cli.specs.RestartAnswers.{IsFull};
-ghost use Rattle.xfs_cli.specs.VerbAnswers.{AnswersGuard};
+ghost use Rattle.xfs_cli.specs.GuardRuns.{FromBoot, IsEnd, IsFullAtEnd, IsStart, IsUnbooted, ServesUntil, at_entry};
+ghost use Rattle.xfs_cli.specs.Seen.{IsStill};
 ghost use Rattle.xfs_cli.specs.Complete.{IsComplete};
 ghost use Rattle.xfs_cli.specs.Boots.{EndsFailed, EndsUnread, EndsFull, BootExceeds, IsDue, IsNoJournal, IsUnwritten};
 ghost use Rattle.xfs_cli.specs.Upholds.{Upholds};
 ghost use Rattle.xfs_cli.specs.Statuses.{IsStatus, IsUnhindered, IsFinished};
 ghost use Rattle.xfs_mech.specs.Moves.{AddsUp, IsNewer};
 
-use crate::answer::Turn;
 use crate::ended::Ended;
-use crate::last_line::{faulty, not_a_line, unbooted, usage};
+use crate::last_line::{unbooted, usage};
+use crate::serve::serve;
 use crate::session::Session;
 use crate::status::{
-    DISK_FAULT, INPUT_TOO_LONG, JOURNAL_FULL, NO_MEMORY, NOT_A_JOURNAL, NOT_A_LINE, READ_FAULT,
-    READ_TO_END, USAGE, WRITE_FAULT,
+    DISK_FAULT, INPUT_TOO_LONG, JOURNAL_FULL, NOT_A_JOURNAL, NOT_A_LINE, READ_FAULT, READ_TO_END,
+    USAGE, WRITE_FAULT,
 };
 use crate::words::is_word;
 use std::alloc::Global;
@@ -39,7 +37,6 @@ use xfs_base::{Sink, Source};
 use xfs_disk::Disk;
 use xfs_guard::{BootFail, Core, Guard};
 use xfs_mech::Mechanism;
-use xfs_script::Lines;
 
 /// Reads guard lines and answers each of them, before the next line is read.
 pub fn guard<S: Source, K: Sink, M: Mechanism, D: Disk>(
@@ -63,18 +60,14 @@ pub fn guard<S: Source, K: Sink, M: Mechanism, D: Disk>(
     ensures whole { result.status ≡ READ_TO_END → IsAtEnd (S.left source.new) }
     ensures fewer { result.status ≡ READ_TO_END → IfTold (S.left source.old) (λ text. length text < 67108864) }
     ensures lines { result.status ≡ READ_TO_END → IfTold (S.left source.old) (AllLines IsLine) }
-    ensures not_a_line { result.status ≡ NOT_A_LINE → IfTold (S.left source.old) StopsAtLine }
+    ensures not_a_line { result.status ≡ NOT_A_LINE → IfTold (S.left source.old) (StopsAtLine IsLine) }
     ensures quota { result.status ≡ INPUT_TOO_LONG → GaveAll (S.left source.old) (S.left source.new) }
     ensures read { result.status ≡ READ_FAULT → Rose (S.faults source.old) (S.faults source.new) }
     ensures write { result.status ≡ WRITE_FAULT → Rose (K.faults sink.old) (K.faults sink.new) }
 
-    // What is written: the answers of the lines, and at most one last line.
-    ensures answers { result.status ≡ READ_TO_END → IfTold (S.left source.old) (λ text. FromBoot (at_entry M.motions M.places M.faults D.held D.faults core)
-        (λ start. WritesAll AnswersGuard (IsEnd (M.motions result.mech) (M.places result.mech) (M.faults result.mech) (D.faults result.disk) (D.held result.disk) (D.images result.disk)) start (K.held sink.old) (K.held sink.new) text)) }
-    ensures front { result.status ≡ WRITE_FAULT → IfTold (S.left source.old) (λ text. FromBoot (at_entry M.motions M.places M.faults D.held D.faults core)
-        (λ start. WritesFront AnswersGuard (IsEnd (M.motions result.mech) (M.places result.mech) (M.faults result.mech) (D.faults result.disk) (D.held result.disk) (D.images result.disk)) start (K.held sink.old) (K.held sink.new) text)) }
-    ensures until { result.status ≢ READ_TO_END → result.status ≢ USAGE → result.status ≢ WRITE_FAULT → IfTold (S.left source.old) (λ text. IsUnbooted result.status (S.left source.old) (S.left source.new) (K.held sink.old) (K.held sink.new) ⊎ FromBoot (at_entry M.motions M.places M.faults D.held D.faults core)
-        (λ start. WritesUntil IsLine AnswersGuard (IsStop (IsEnd (M.motions result.mech) (M.places result.mech) (M.faults result.mech) (D.faults result.disk) (D.held result.disk) (D.images result.disk))) start result.status (S.left source.new) (K.held sink.old) (K.held sink.new) text)) }
+    // What is written: the answers of the lines from the boot on, and at most one last line.
+    ensures serves { result.status ≢ USAGE → IfTold (S.left source.old) (λ text. IsUnbooted result.status (S.left source.old) (S.left source.new) (K.held sink.old) (K.held sink.new) ⊎ FromBoot (at_entry M.motions M.places M.faults D.held D.faults core)
+        (λ start. ServesUntil (IsEnd (M.motions result.mech) (M.places result.mech) (M.faults result.mech) (D.faults result.disk) (D.held result.disk) (D.images result.disk)) start result.status (S.left source.new) (K.held sink.old) (K.held sink.new) text)) }
 
     // Of these answers: a dispense that its token covers, and a present behind it, are done in full where nothing fails.
     ensures complete { IsComplete }
@@ -121,7 +114,7 @@ pub fn guard<S: Source, K: Sink, M: Mechanism, D: Disk>(
                 key,
                 last: None,
             };
-            let status = serve(&mut session, source, sink);
+            let status = serve(alloc, &mut session, source, sink);
             let (mech, disk) = ended(session);
             Ended { status, mech, disk }
         }
@@ -151,47 +144,4 @@ fn ended<M: Mechanism, D: Disk>(session: Session<M, D>) -> (M, D)
         last: _,
     } = session;
     guard.end()
-}
-
-// Answers one line after another, until the input ends or something fails.
-fn serve<S: Source, K: Sink, M: Mechanism, D: Disk>(
-    session: &mut Session<M, D>,
-    source: &mut S,
-    sink: &mut K,
-) -> u8
-    requires none { session.old.guard.state.open_order ≡ No }
-    requires key { session.old.key ≡ session.old.guard.state.key }
-    ensures answers { result ≡ READ_TO_END → IfTold (S.left source.old) (WritesAll AnswersGuard (λ last. last ≡ seen D.faults session.new.guard session.new.last) (seen D.faults session.old.guard session.old.last) (K.held sink.old) (K.held sink.new)) }
-    ensures front { result ≡ WRITE_FAULT → IfTold (S.left source.old) (WritesFront AnswersGuard (λ last. last ≡ seen D.faults session.new.guard session.new.last) (seen D.faults session.old.guard session.old.last) (K.held sink.old) (K.held sink.new)) }
-    ensures until { result ≢ READ_TO_END → result ≢ WRITE_FAULT → IfTold (S.left source.old) (WritesUntil IsLine AnswersGuard (IsStop (λ end. end ≡ seen D.faults session.new.guard session.new.last)) (seen D.faults session.old.guard session.old.last) result (S.left source.new) (K.held sink.old) (K.held sink.new)) }
-    ensures proceeds { Proceeds D.Disk session.old.guard session.new.guard }
-    ensures usage { result ≢ USAGE }
-    ensures failed { result ≡ DISK_FAULT → Rose (D.faults session.old.guard.disk) (D.faults session.new.guard.disk) }
-    ensures untold { result ≡ NOT_A_JOURNAL → session.old.guard.state.disk_told ≡ false }
-    ensures full { result ≡ JOURNAL_FULL → IsFull session.new.guard.state }
-    ensures whole { result ≡ READ_TO_END → IsAtEnd (S.left source.new) }
-    ensures fewer { result ≡ READ_TO_END → IfTold (S.left source.old) (λ text. length text < 67108864) }
-    ensures lines { result ≡ READ_TO_END → IfTold (S.left source.old) (AllLines IsLine) }
-    ensures not_a_line { result ≡ NOT_A_LINE → IfTold (S.left source.old) StopsAtLine }
-    ensures quota { result ≡ INPUT_TOO_LONG → GaveAll (S.left source.old) (S.left source.new) }
-    ensures read { result ≡ READ_FAULT → Rose (S.faults source.old) (S.faults source.new) }
-    ensures write { result ≡ WRITE_FAULT → Rose (K.faults sink.old) (K.faults sink.new) }
-    ensures statuses { IsStatus result }
-{
-    let mut lines = Lines::new(session.alloc);
-    for _ in 0..u64::MAX {
-        match lines.next(source) {
-            Ok(None) => return READ_TO_END,
-            Ok(Some(line)) => match session.line(&line, sink) {
-                Turn::More => {}
-                Turn::NotALine => return not_a_line(session.alloc, sink, line.number),
-                Turn::Write => return WRITE_FAULT,
-                Turn::Unbooted(fault) => return unbooted(session.alloc, sink, fault),
-                Turn::Memory => return NO_MEMORY,
-            },
-            Err(fault) => return faulty(session.alloc, sink, fault),
-        }
-    }
-    // No input has so many lines.
-    NO_MEMORY
 }

@@ -1,42 +1,48 @@
 //! The last line of the output, and the status that goes with it.
 
-ghost use Rattle.std.specs.Prelude.{◌≡◌, ◌∷◌, [], IfOk};
+ghost use Rattle.std.specs.Prelude.{◌≡◌, ◌≤◌, ◌∷◌, [], IfOk};
 ghost use Rattle.xfs_base.specs.Causes.{TookPrefix};
-ghost use Rattle.xfs_cli.specs.Run.{status_of};
 ghost use Rattle.xfs_guard.specs.declared.fail.BootFault.TheVariants.{NotJournal};
 ghost use Rattle.xfs_cli.specs.Boots.{boot_status, boot_line, WritesBoot};
-ghost use Rattle.xfs_cli.specs.Answers.{lines_text, no_line_text, fault_line, WritesUsage};
+ghost use Rattle.xfs_script.specs.Answered.{lines_text};
+ghost use Rattle.xfs_cli.specs.Served.{last_line, no_line_text, status_of, WritesUsage};
 
 use crate::say::{say, say_line};
 use crate::status::{
     DISK_FAULT, INPUT_TOO_LONG, JOURNAL_FULL, NO_MEMORY, NOT_A_JOURNAL, NOT_A_LINE, READ_FAULT,
+    READ_TO_END, WRITE_FAULT,
 };
 use std::alloc::{AllocError, Global};
 use xfs_base::Sink;
 use xfs_guard::BootFault;
-use xfs_script::LineFault;
+use xfs_script::Ending;
 
-/// The status of a fault of the input, once its line was written.
-pub fn faulty<K: Sink>(alloc: Global, sink: &mut K, fault: LineFault) -> u8
-    ensures status { result ≡ status_of fault }
-    ensures written { TookPrefix (K.held sink.old) (K.held sink.new) (lines_text (fault_line fault)) }
+/// The status of an ending, once its last line was written, if it has one.
+pub fn finish<K: Sink>(alloc: Global, sink: &mut K, ending: Ending<BootFault>) -> u8
+    ensures status { result ≡ status_of ending }
+    ensures written { TookPrefix (K.held sink.old) (K.held sink.new) (lines_text (last_line ending)) }
+    ensures later { K.faults sink.old ≤ K.faults sink.new }
 {
-    match fault {
-        LineFault::Read => READ_FAULT,
-        LineFault::Quota => {
+    match ending {
+        Ending::AtEnd => READ_TO_END,
+        Ending::Read => READ_FAULT,
+        Ending::Quota => {
             let _ = say(alloc, sink, b"input: too long", b"");
             INPUT_TOO_LONG
         }
-        LineFault::TooLong { number } => not_a_line(alloc, sink, number),
-        LineFault::Memory => NO_MEMORY,
+        Ending::NotALine { number } => not_a_line(alloc, sink, number),
+        Ending::Write => WRITE_FAULT,
+        Ending::Memory => NO_MEMORY,
+        Ending::Ended(why) => unbooted(alloc, sink, why),
     }
 }
 
-/// The status of a line that is none, once that was written. A last line that can't be written
-/// leaves the status as it is.
-pub fn not_a_line<K: Sink>(alloc: Global, sink: &mut K, number: u64) -> u8
+// The status of a line that is none, once that was written. A last line that can't be written
+// leaves the status as it is.
+fn not_a_line<K: Sink>(alloc: Global, sink: &mut K, number: u64) -> u8
     ensures status { result ≡ NOT_A_LINE }
     ensures written { TookPrefix (K.held sink.old) (K.held sink.new) (lines_text (no_line_text number ∷ [])) }
+    ensures later { K.faults sink.old ≤ K.faults sink.new }
 {
     if let Ok(line) = no_line(alloc, number) {
         let _ = say_line(sink, line);
@@ -55,6 +61,7 @@ fn no_line(alloc: Global, number: u64) -> Result<Vec<u8>, AllocError>
 pub fn unbooted<K: Sink>(alloc: Global, sink: &mut K, fault: BootFault) -> u8
     ensures status { result ≡ boot_status fault }
     ensures written { WritesBoot fault (K.held sink.old) (K.held sink.new) }
+    ensures later { K.faults sink.old ≤ K.faults sink.new }
 {
     match fault {
         BootFault::NotJournal { at } => {

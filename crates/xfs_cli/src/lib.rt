@@ -7,6 +7,7 @@ mod guard_command;
 mod last_line;
 mod refused;
 mod say;
+mod serve;
 mod session;
 pub mod status;
 mod text;

@@ -3,7 +3,7 @@
 ghost use Rattle.std.specs.Prelude.{◌≡◌, ◌≤◌, ◌++◌, ◌∷◌, [], Err, OnOk};
 ghost use Rattle.std.specs.Io.KnownBytes.{Appends};
 ghost use Rattle.xfs_base.specs.Causes.{Rose, TookPrefix};
-ghost use Rattle.xfs_cli.specs.Answers.{lines_text};
+ghost use Rattle.xfs_script.specs.Answered.{lines_text};
 
 use std::alloc::{AllocError, AllocFailed, Global};
 use xfs_base::{Sink, write_all};

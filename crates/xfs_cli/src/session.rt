@@ -10,9 +10,9 @@ ghost use Rattle.xfs_guard.specs.Nonce.{live_nonce, live_in};
 ghost use Rattle.xfs_guard.specs.Refusals.{Answers, IsAsk, order_refusal};
 ghost use Rattle.xfs_guard.specs.declared.deny.Deny.TheVariants.{Memory as NoMemory};
 ghost use Rattle.xfs_mix.specs.Asked.{is_none};
-ghost use Rattle.xfs_cli.specs.Answers.{lines_in};
+ghost use Rattle.xfs_script.specs.Answered.{lines_text, Tells};
 ghost use Rattle.xfs_cli.specs.Begun.{AllOrNothing, IsPartDispensed, IsPartFilled, LeavesOfVerb, StacksFirst};
-ghost use Rattle.xfs_cli.specs.GuardAnswers.{show_text};
+ghost use Rattle.xfs_cli.specs.GuardAnswers.{show_lines};
 ghost use Rattle.xfs_cli.specs.Seen.{seen};
 ghost use Rattle.xfs_cli.specs.OrderAnswers.{CarriesOut, Moves, Stacks, nothing_stacked};
 ghost use Rattle.xfs_cli.specs.DispenseAnswers.{Dispenses, IsForbidden, IsPermitted, named};
@@ -23,7 +23,7 @@ ghost use Rattle.xfs_script.specs.declared.guard_line.GuardLine.TheVariants.{Res
 ghost use Rattle.xfs_cli.specs.declared.refused.Refusal.TheVariants.{Deny as Denied};
 
 use crate::refused::{Refusal, refusal_text};
-use crate::text::{joined, outcome_text, show_text};
+use crate::text::{ended, joined, outcome_text, show_text};
 use std::alloc::{AllocError, AllocFailed, Global};
 use xfs_base::{Bytes, Counts, Memory};
 use xfs_disk::Disk;
@@ -73,11 +73,11 @@ pub struct Session<M: Mechanism, D: Disk> {
 }
 
 impl<M: Mechanism, D: Disk> Session<M, D> {
-    /// What a verb is answered, without the line feed. None where it has no answer.
-    pub fn answer(&mut self, verb: &GuardLine) -> Result<Option<Vec<u8>>, AnswerFault>
+    /// What a verb is answered: the lines of the answer, a line feed behind each.
+    pub fn answer_verb(&mut self, verb: &GuardLine) -> Result<Vec<u8>, AnswerFault>
         requires none { self.old.guard.state.open_order ≡ No }
         requires key { self.old.key ≡ self.old.guard.state.key }
-        ensures answer { IfOk result (λ a. AreAnswer (seen D.faults self.old.guard self.old.last) verb.now (lines_in (option_map (λ v. v.items) a)) (seen D.faults self.new.guard self.new.last)) }
+        ensures answer { IfOk result (λ text. Tells (AreAnswer (seen D.faults self.old.guard self.old.last) verb.now) text.items (seen D.faults self.new.guard self.new.last)) }
         ensures memory { result ≡ Err AnswerFault.Memory → LeavesOfVerb (seen D.faults self.old.guard self.old.last) verb.now (seen D.faults self.new.guard self.new.last) }
         ensures unbooted { (fault : BootFault) → result ≡ Err (AnswerFault.Unbooted fault) → (verb.now ≡ Restart) × RestartFails (seen D.faults self.old.guard self.old.last) fault (seen D.faults self.new.guard self.new.last) }
         ensures proceeds { Proceeds D.Disk self.old.guard self.new.guard }
@@ -85,18 +85,18 @@ impl<M: Mechanism, D: Disk> Session<M, D> {
         ensures key { self.new.key ≡ self.new.guard.state.key }
     {
         match verb {
-            GuardLine::Skip => Ok(None),
-            GuardLine::Issue => Ok(Some(self.issue()?)),
-            GuardLine::Clear => Ok(Some(self.clear()?)),
-            GuardLine::Mint(amounts) => Ok(Some(self.mint(amounts)?)),
-            GuardLine::Dispense { token, counts } => Ok(Some(self.dispense(token, counts)?)),
-            GuardLine::Present => Ok(Some(self.moved(Ask::Present)?)),
-            GuardLine::Reject => Ok(Some(self.moved(Ask::Reject)?)),
-            GuardLine::Retract => Ok(Some(self.moved(Ask::Retract)?)),
-            GuardLine::Take => Ok(Some(self.take()?)),
-            GuardLine::Fill { unit, count } => Ok(Some(self.fill(*unit, *count)?)),
-            GuardLine::Show => Ok(Some(self.show()?)),
-            GuardLine::Restart => Ok(Some(self.restart()?)),
+            GuardLine::Skip => Ok(Vec::new(self.alloc)),
+            GuardLine::Issue => Ok(ended(self.issue()?)?),
+            GuardLine::Clear => Ok(ended(self.clear()?)?),
+            GuardLine::Mint(amounts) => Ok(ended(self.mint(amounts)?)?),
+            GuardLine::Dispense { token, counts } => Ok(ended(self.dispense(token, counts)?)?),
+            GuardLine::Present => Ok(ended(self.moved(Ask::Present)?)?),
+            GuardLine::Reject => Ok(ended(self.moved(Ask::Reject)?)?),
+            GuardLine::Retract => Ok(ended(self.moved(Ask::Retract)?)?),
+            GuardLine::Take => Ok(ended(self.take()?)?),
+            GuardLine::Fill { unit, count } => Ok(ended(self.fill(*unit, *count)?)?),
+            GuardLine::Show => Ok(self.show()?),
+            GuardLine::Restart => Ok(ended(self.restart()?)?),
         }
     }
 
@@ -222,7 +222,7 @@ impl<M: Mechanism, D: Disk> Session<M, D> {
     }
 
     fn show(&mut self) -> Result<Vec<u8>, Memory>
-        ensures answer { IfOk result (λ text. text.items ≡ show_text (length self.old.guard.state.units) self.old.guard.state.places) }
+        ensures answer { IfOk result (λ text. text.items ≡ lines_text (show_lines (length self.old.guard.state.units) self.old.guard.state.places)) }
         ensures same { self.new ≡ self.old }
     {
         show_text(self.alloc, self.guard.units().len(), &self.guard.places())

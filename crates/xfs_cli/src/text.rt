@@ -1,7 +1,8 @@
 //! Texts of answers.
 
-ghost use Rattle.std.specs.Prelude.{◌≡◌, ◌<◌, ◌≤◌, ◌++◌, IfOk, OnOk};
-ghost use Rattle.xfs_cli.specs.GuardAnswers.{outcome_text, show_text, unit_line, unit_counts, count_text, separator};
+ghost use Rattle.std.specs.Prelude.{◌≡◌, ◌<◌, ◌≤◌, [], ◌∷◌, ◌++◌, IfOk, OnOk};
+ghost use Rattle.xfs_script.specs.Answered.{lines_text};
+ghost use Rattle.xfs_cli.specs.GuardAnswers.{outcome_text, show_lines, unit_line, unit_counts, count_text};
 
 use itoa::Buffer;
 use std::alloc::{AllocError, Global};
@@ -37,10 +38,18 @@ pub fn outcome_text(alloc: Global, verb: &[u8], outcome: &Outcome) -> Result<Vec
     Ok(text)
 }
 
+/// The line that answers, with its line feed.
+pub fn ended(mut line: Vec<u8>) -> Result<Vec<u8>, Memory>
+    ensures { IfOk result (λ text. text.items ≡ lines_text (line.items ∷ [])) }
+{
+    line.push(b'\n')?;
+    Ok(line)
+}
+
 /// The six places of each unit, a line a unit.
 pub fn show_text(alloc: Global, units: u8, places: &Places) -> Result<Vec<u8>, Memory>
     requires { units ≤ 8 }
-    ensures { IfOk result (λ text. text.items ≡ show_text units places.now) }
+    ensures { IfOk result (λ text. text.items ≡ lines_text (show_lines units places.now)) }
 {
     let mut text = Vec::new(alloc);
     for place in 0..units {
@@ -49,17 +58,16 @@ pub fn show_text(alloc: Global, units: u8, places: &Places) -> Result<Vec<u8>, M
     Ok(text)
 }
 
-// Adds the line of a unit, which counts from 0 here, behind those before it.
+// Adds the line of a unit, which counts from 0 here, and its line feed.
 fn push_unit(text: &mut Vec<u8>, place: u8, places: &Places) -> Result<(), AllocError>
     requires { place < 8 }
-    ensures { OnOk result (text.new.items ≡ text.old.items ++ separator place ++ unit_line places.now place) }
+    ensures { OnOk result (text.new.items ≡ text.old.items ++ unit_line places.now place ++ 10 ∷ []) }
 {
-    if place > 0 {
-        text.push(b'\n')?;
-    }
     text.extend_from_slice(b"unit")?;
     text.extend_from_slice(Buffer::new().format(place + 1).as_bytes())?;
-    push_counts(text, usize::from(place), places)
+    push_counts(text, usize::from(place), places)?;
+    text.push(b'\n')?;
+    Ok(())
 }
 
 // Adds the six counts of a unit.

@@ -1,33 +1,82 @@
 //! The answers of the command `token`.
 
 ghost use Rattle.std.specs.Prelude.{◌≡◌, ◌++◌, codes, decimal, IfOk, OnOk};
-ghost use Rattle.std.specs.Option.{option_map};
 ghost use Rattle.hex.specs.Hex.{encode_lower};
 ghost use Rattle.xfs_hmac.specs.Hmac.{hmac};
 ghost use Rattle.xfs_token.specs.Amounts.{amounts_of};
-ghost use Rattle.xfs_cli.specs.Answers.{lines_in};
+ghost use Rattle.xfs_script.specs.Answered.{Tells};
 ghost use Rattle.xfs_cli.specs.TokenAnswers.{AreAnswer, IsFaultText, TellsMade, TellsRead, thousandths_text, amounts_text, joined_amounts, token_text};
 ghost use Rattle.xfs_cli.specs.TokenAnswers as answers;
 
-use crate::text::joined;
+use crate::text::{ended, joined};
 use itoa::Buffer;
 use std::alloc::{AllocError, Global};
 use xfs_base::{Currency, Memory, Milli};
+use xfs_guard::BootFault;
 use xfs_hmac::mac;
-use xfs_script::TokenLine;
+use xfs_script::{Answerer, ScriptFault, TokenLine, Unanswered, read_token};
 use xfs_token::{Amounts, Token, TokenFault, amounts, genuine, make, read};
 
-/// The answer to a verb; none for a line that is skipped.
-pub fn answer(alloc: Global, key: &[u8; 32], verb: &TokenLine) -> Result<Option<Vec<u8>>, Memory>
-    ensures { IfOk result (λ a. AreAnswer key.now verb.now (lines_in (option_map (λ v. v.items) a))) }
+/// The key under which tokens are read and made.
+#[derive(Drop)]
+pub struct Tokens {
+    pub alloc: Global,
+    pub key: [u8; 32],
+}
+
+impl Answerer for Tokens {
+    ghost use Rattle.std.specs.Prelude.{◌≡◌, ℕ, List, ⊤};
+    ghost use Rattle.std.proofs.Common.{refl, ◌∙◌};
+    ghost use Rattle.xfs_cli.specs.TokenAnswers.{token_lines, is-line};
+
+    type End = BootFault;
+
+    ghost State = { List ℕ };
+
+    ghost state = { λ t. t.key };
+
+    ghost command = { token_lines };
+
+    ghost IsReady = { λ t. ⊤ };
+
+    ghost Keeps = { λ old new. new ≡ old };
+
+    fn answer(&mut self, line: &[u8]) -> Result<Vec<u8>, Unanswered<BootFault>> {
+        let verb = match read_token(self.alloc, line) {
+            Ok(verb) => verb,
+            Err(ScriptFault::NotALine) => return Err(Unanswered::NotALine),
+            Err(ScriptFault::Memory) => return Err(Unanswered::Memory),
+        };
+        match verb_text(self.alloc, &self.key, &verb) {
+            Ok(text) => Ok(text),
+            Err(_) => Err(Unanswered::Memory),
+        }
+    }
+
+    ghost keeps_same = { λ t. refl };
+
+    ghost keeps_then = { λ a b c first then. then ∙ first };
+
+    ghost leaves_same = { λ key line. refl };
+
+    ghost is_short = { λ line is. is.short };
+
+    ghost is_line = { is-line };
+}
+
+// The lines that answer a verb, a line feed behind each.
+fn verb_text(alloc: Global, key: &[u8; 32], verb: &TokenLine) -> Result<Vec<u8>, Memory>
+    ensures { IfOk result (λ text. Tells (λ output next. AreAnswer key.now verb.now output) text.items key.now) }
 {
     match verb {
-        TokenLine::Skip => Ok(None),
-        TokenLine::Read(bytes) => Ok(Some(read_answer(alloc, key, bytes.list())?)),
+        TokenLine::Skip => Ok(Vec::new(alloc)),
+        TokenLine::Read(bytes) => Ok(ended(read_answer(alloc, key, bytes.list())?)?),
         TokenLine::Make { nonce, amounts } => {
-            Ok(Some(make_answer(alloc, key, nonce.list(), amounts)?))
+            Ok(ended(make_answer(alloc, key, nonce.list(), amounts)?)?)
         }
-        TokenLine::Mac { key, message } => Ok(Some(mac_answer(alloc, key.list(), message.list())?)),
+        TokenLine::Mac { key, message } => {
+            Ok(ended(mac_answer(alloc, key.list(), message.list())?)?)
+        }
     }
 }
 

@@ -9,18 +9,19 @@ ghost use Rattle.xfs_cli.specs.Moments.{WasOnTheWay};
 ghost use Rattle.xfs_journal.specs.Image.{StandsFor};
 ghost use Rattle.xfs_journal.specs.declared.record.Rec.{Rec};
 ghost use Rattle.xfs_guard.specs.Recorded.{IsRecorded};
-ghost use Rattle.xfs_cli.specs.Run.{IsGuard, IsToken, IsCommand, AllLines, StopsAtLine, GaveAll};
+ghost use Rattle.xfs_script.specs.Lines.{AllLines, StopsAtLine};
+ghost use Rattle.xfs_script.specs.Reading.{GaveAll};
+ghost use Rattle.xfs_cli.specs.Run.{IsGuard, IsToken, IsCommand};
 ghost use Rattle.xfs_cli.specs.Upholds.{Upholds};
 ghost use Rattle.xfs_cli.specs.Statuses.{IsStatus, IsUnhindered, IsFinished};
 ghost use Rattle.xfs_mech.specs.Moves.{AddsUp, IsNewer};
 ghost use Rattle.xfs_cli.specs.Boots.{EndsFailed, EndsUnread, EndsFull, BootExceeds, IsDue, IsNoJournal, IsUnwritten};
-ghost use Rattle.xfs_cli.specs.Answers.{Unsaid, AnyStop, WritesAll, WritesUntil, WritesFront, WritesUsage};
+ghost use Rattle.xfs_cli.specs.Served.{Serves, WritesUsage};
 ghost use Rattle.xfs_cli.specs.GuardLines.{IsLine};
 ghost use Rattle.xfs_cli.specs.Seen.{IsStill};
-ghost use Rattle.xfs_cli.specs.GuardRuns.{FromBoot, IsEnd, IsFullAtEnd, IsStart, IsStop, IsUnbooted, at_entry};
+ghost use Rattle.xfs_cli.specs.GuardRuns.{FromBoot, IsEnd, IsFullAtEnd, IsStart, IsUnbooted, ServesUntil, at_entry};
 ghost use Rattle.xfs_cli.specs.Complete.{IsComplete};
-ghost use Rattle.xfs_cli.specs.VerbAnswers.{AnswersGuard};
-ghost use Rattle.xfs_cli.specs.TokenAnswers.{AnswersToken, IsLineOfToken};
+ghost use Rattle.xfs_cli.specs.TokenAnswers.{IsLineOfToken, token_lines};
 
 use crate::ended::Ended;
 use crate::guard_command::guard;
@@ -82,21 +83,17 @@ pub fn run<S: Source, K: Sink, M: Mechanism, D: Disk>(
 
     // The lines of `guard`, and what is written: their answers from the boot on, and at most one last line.
     ensures lines { IsGuard words.now → result.status ≡ READ_TO_END → IfTold (S.left source.old) (AllLines IsLine) }
-    ensures not_a_line { IsGuard words.now → result.status ≡ NOT_A_LINE → IfTold (S.left source.old) StopsAtLine }
-    ensures guard_answers { IsGuard words.now → result.status ≡ READ_TO_END → IfTold (S.left source.old) (λ text. FromBoot (at_entry M.motions M.places M.faults D.held D.faults core)
-        (λ start. WritesAll AnswersGuard (IsEnd (M.motions result.mech) (M.places result.mech) (M.faults result.mech) (D.faults result.disk) (D.held result.disk) (D.images result.disk)) start (K.held sink.old) (K.held sink.new) text)) }
-    ensures guard_front { IsGuard words.now → result.status ≡ WRITE_FAULT → IfTold (S.left source.old) (λ text. FromBoot (at_entry M.motions M.places M.faults D.held D.faults core)
-        (λ start. WritesFront AnswersGuard (IsEnd (M.motions result.mech) (M.places result.mech) (M.faults result.mech) (D.faults result.disk) (D.held result.disk) (D.images result.disk)) start (K.held sink.old) (K.held sink.new) text)) }
-    ensures guard_until { IsGuard words.now → result.status ≢ READ_TO_END → result.status ≢ WRITE_FAULT → IfTold (S.left source.old) (λ text. IsUnbooted result.status (S.left source.old) (S.left source.new) (K.held sink.old) (K.held sink.new) ⊎ FromBoot (at_entry M.motions M.places M.faults D.held D.faults core)
-        (λ start. WritesUntil IsLine AnswersGuard (IsStop (IsEnd (M.motions result.mech) (M.places result.mech) (M.faults result.mech) (D.faults result.disk) (D.held result.disk) (D.images result.disk))) start result.status (S.left source.new) (K.held sink.old) (K.held sink.new) text)) }
+    ensures not_a_line { IsGuard words.now → result.status ≡ NOT_A_LINE → IfTold (S.left source.old) (StopsAtLine IsLine) }
+    ensures guard_serves { IsGuard words.now → IfTold (S.left source.old) (λ text. IsUnbooted result.status (S.left source.old) (S.left source.new) (K.held sink.old) (K.held sink.new) ⊎ FromBoot (at_entry M.motions M.places M.faults D.held D.faults core)
+        (λ start. ServesUntil (IsEnd (M.motions result.mech) (M.places result.mech) (M.faults result.mech) (D.faults result.disk) (D.held result.disk) (D.images result.disk)) start result.status (S.left source.new) (K.held sink.old) (K.held sink.new) text)) }
 
     // Of the answers of `guard`: a dispense that its token covers, and a present behind it, are done in full where nothing fails.
     ensures complete { IsComplete }
 
     // The lines of `token`, and what is written: their answers, and at most one last line.
-    ensures answers { IsToken words.now → result.status ≡ READ_TO_END → IfTold (S.left source.old) (WritesAll AnswersToken Unsaid core.key (K.held sink.old) (K.held sink.new)) }
-    ensures front { IsToken words.now → result.status ≡ WRITE_FAULT → IfTold (S.left source.old) (WritesFront AnswersToken Unsaid core.key (K.held sink.old) (K.held sink.new)) }
-    ensures until { IsToken words.now → result.status ≢ READ_TO_END → result.status ≢ WRITE_FAULT → IfTold (S.left source.old) (WritesUntil IsLineOfToken AnswersToken AnyStop core.key result.status (S.left source.new) (K.held sink.old) (K.held sink.new)) }
+    ensures token_serves { IsToken words.now → IfTold (S.left source.old) (Serves token_lines core.key core.key result.status (S.left source.new) (K.held sink.old) (K.held sink.new)) }
+    ensures token_lines_all { IsToken words.now → result.status ≡ READ_TO_END → IfTold (S.left source.old) (AllLines IsLineOfToken) }
+    ensures token_not_a_line { IsToken words.now → result.status ≡ NOT_A_LINE → IfTold (S.left source.old) (StopsAtLine IsLineOfToken) }
     ensures same { IsToken words.now → result.mech ≡ core.mech }
     ensures same_disk { IsToken words.now → result.disk ≡ core.disk }
 

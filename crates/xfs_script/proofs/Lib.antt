@@ -1,4 +1,5 @@
 pub mod AmountParts
+pub mod AnswerLaws
 pub mod Blocks
 pub mod Cases
 pub mod Due
@@ -6,6 +7,7 @@ pub mod Ends
 pub mod Faults
 pub mod FieldLists
 pub mod Fills
+pub mod LineLaws
 pub mod Numerals
 pub mod Parts
 pub mod UnitParts

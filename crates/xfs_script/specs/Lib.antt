@@ -1,6 +1,9 @@
 pub mod Answer
+pub mod Answered
+pub mod Commands
 pub mod Counts
 pub mod Dispense
+pub mod Endings
 pub mod Fields
 pub mod Found
 pub mod Guard

@@ -51,3 +51,9 @@ pub record GivesBehind (old new : List ℕ) (place : ℕ) (before after : Option
   pub many : length bytes ≡ count
   pub block : take (place + count) new ≡ take place old ++ bytes
   pub taken : Consumes before after bytes
+
+-- the source gave as many bytes as a command reads
+pub record GaveAll (before after : Option (List ℕ)) : Type 0 where
+  pub bytes : List ℕ
+  pub many : length bytes ≡ 67108864
+  pub taken : Consumes before after bytes

@@ -2,6 +2,10 @@
 #![tactic(auto)]
 
 mod amounts;
+mod answerer;
+mod answering;
+#[cfg(test)]
+mod answering_tests;
 mod counts;
 mod counts_field;
 mod dispense;
@@ -15,6 +19,8 @@ mod tests;
 mod token_line;
 mod word;
 
+pub use answering::answer_lines;
+pub use answerer::{Answerer, Ending, Unanswered};
 pub use counts::counts_text;
 pub use guard_line::{Given, GuardLine, ScriptFault, read_guard};
 pub use line::{Line, LineFault};

@@ -20,7 +20,7 @@ returns-clause-any_moment g c = moments-same g.D.Disk g.met.D.Disk.as_read _ _ _
 pub returns-then-is_word-2-clause-token_finishes : goal.returns-then-is_word-2-clause-token_finishes
 returns-then-is_word-2-clause-token_finishes g c = λ words.
     let end = c.token.ensures in
-    token-finishes _ _ _ _ _ _ _ _ end.statuses (λ two. end.usage.0 two words) end.unbooted end.read end.write end.quota (λ not_zero. end.until not_zero (λ two. end.usage.0 two words))
+    token-finishes _ _ _ _ _ end.statuses (λ two. end.usage.0 two words) end.unbooted end.read end.write end.quota end.not_a_line
 
 pub returns-then-is_word-2-clause-complete : goal.returns-then-is_word-2-clause-complete
 returns-then-is_word-2-clause-complete g c = complete

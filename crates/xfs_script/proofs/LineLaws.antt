@@ -7,19 +7,14 @@ use Rattle.std.specs.declared.result.Result.{Result}
 use Rattle.std.proofs.lemmas.Bool.{ltb-true, ltb-false, leb-false}
 use Rattle.std.proofs.lemmas.List.{take_all, take-append-le}
 use Rattle.std.specs.Io.KnownBytes.{Consumes, IsAtEnd}
-use Rattle.xfs_script.specs.Lines.{has_line_feed, first_line, line_end, without_return, rest}
-use Rattle.xfs_script.specs.Reading.{Reading, Gives, nothing_read}
+use Rattle.xfs_script.specs.Lines.{behind, has_line_feed, first_line, line_end, without_return, NoLineEnds}
+use Rattle.xfs_script.specs.Reading.{GaveAll, Reading, Gives, nothing_read}
 use Rattle.xfs_base.specs.Causes.{IfTold}
 use Rattle.xfs_script.specs.Answer.{answer_of, line_answer, bytes_within, bytes_ahead, IsCutOff, ReadsLine}
 use Rattle.xfs_script.specs.declared.line.Line.{Line}
 use Rattle.xfs_script.specs.declared.line.LineFault.{LineFault}
 use Rattle.xfs_script.specs.declared.line.LineFault.TheVariants.{Read, Quota, TooLong, Memory}
 use Rattle.xfs_script.proofs.Blocks.{Consumes-append, Consumes-same}
-use Rattle.xfs_cli.specs.GuardLines.{IsLine, AreLines, behind}
-use Rattle.xfs_cli.specs.Answers.{NoLineEnds}
-use Rattle.xfs_cli.specs.Run.{AllLines, StopsAtLine, GaveAll, status_of}
-use Rattle.std.proofs.lemmas.Bool.{cases_lt}
-use Rattle.std.proofs.Common.{inl, inr, add-one}
 
 pub Gives-trans : (r s t : Reading) (x y z : Option (List ℕ)) → Gives r s x y → Gives s t y z → Gives r t x z
 Gives-trans r s t x y z a b = record {
@@ -27,10 +22,6 @@ Gives-trans r s t x y z a b = record {
   given = let e = length-append a.bytes b.bytes in omega (arith, a.given, b.given, e);
   taken = Consumes-append x y z a.bytes b.bytes a.taken b.taken;
 }
-
--- so many lines were handed out, all of them lines, and what is to come stands behind them
-abbrev pub HasRead : Reading → Option (List ℕ) → Option (List ℕ) → Type 0
-HasRead r before now = IfTold before (λ text. (bytes_ahead r now ≡ Some (behind r.handed text)) × AreLines IsLine r.handed text)
 
 -- the due answer on three tests
 abbrev due_on : Reading → List ℕ → Bool → Bool → Bool → Result (Option Line) LineFault
@@ -142,63 +133,15 @@ ahead-some r (Some left) text e = (left, refl, some-same e)
 pub told : (P : List ℕ → Type 0) (now : Option (List ℕ)) (left : List ℕ) → now ≡ Some left → IfTold now P → P left
 told P now left is h = rw is at h
 
--- one more line
-pub read-line : (r s : Reading) (x y z : Option (List ℕ)) (line : Line) → HasRead r x y → ReadsLine r s y z (Ok (Some line)) → IsLine line.text → HasRead s x z
-read-line r s None y z line h reads is = tt
-read-line r s (Some text) y z line h reads is =
-    let a = ahead-some r y (behind r.handed text) h.0 in
-    let answer = told _ y a.0 a.1 reads.answer in
-    let rest-is = told _ y a.0 a.1 reads.rest in
-    let first = answer-line r a.0 line answer in (
-      rw (reads.handed, add-one, ← a.2) rest-is,
-      λ i lt. elim (cases_lt i r.handed) [
-        | inl before ↦ h.1 i before
-        | inr past ↦ (let same : i ≡ r.handed = omega (arith, reads.handed) in rw (same, ← a.2, ← first) is)
-      ],
-    )
-
--- the lines are all read
-pub read-end : (r s : Reading) (x y z : Option (List ℕ)) → HasRead r x y → ReadsLine r s y z (Ok None) → IfTold x (AllLines IsLine)
-read-end r s None y z h reads = tt
-read-end r s (Some text) y z h reads =
-    let a = ahead-some r y (behind r.handed text) h.0 in
-    record { many = r.handed; lines = h.1; whole = sym a.2 ∙ answer-none r a.0 (told _ y a.0 a.1 reads.answer) }
-
--- a line that is none
-pub read-stop : (r s : Reading) (x y z : Option (List ℕ)) (line : Line) → HasRead r x y → ReadsLine r s y z (Ok (Some line)) → ¬ (IsLine line.text) → IfTold x StopsAtLine
-read-stop r s None y z line h reads is = tt
-read-stop r s (Some text) y z line h reads is =
-    let a = ahead-some r y (behind r.handed text) h.0 in
-    let first = answer-line r a.0 line (told _ y a.0 a.1 reads.answer) in
-    record { many = r.handed; lines = h.1; none = rw (← a.2, ← first) is }
-
--- a line that is too long
-pub read-fault : (r s : Reading) (x y z : Option (List ℕ)) (fault : LineFault) → HasRead r x y → ReadsLine r s y z (Err fault) → status_of fault ≡ 4 → IfTold x StopsAtLine
-read-fault r s x y z Read h reads is = absurd (omega (arith, is))
-read-fault r s x y z Quota h reads is = absurd (omega (arith, is))
-read-fault r s x y z Memory h reads is = absurd (omega (arith, is))
-read-fault r s None y z (TooLong n) h reads is = tt
-read-fault r s (Some text) y z (TooLong n) h reads is =
-    let a = ahead-some r y (behind r.handed text) h.0 in
-    let long = answer-long r a.0 n (told _ y a.0 a.1 reads.answer) in
-    record { many = r.handed; lines = h.1; none = λ line. (let l = rw a.2 at long in let e = line.short in omega (arith, l, e)) }
-
 -- the source gave as many bytes as there may be
-pub read-quota : (s t : Reading) (x y z : Option (List ℕ)) (fault : LineFault) → Gives nothing_read s x y → ReadsLine s t y z (Err fault) → status_of fault ≡ 10 → GaveAll x z
-read-quota s t x y z Read g reads is = absurd (omega (arith, is))
-read-quota s t x y z (TooLong n) g reads is = absurd (omega (arith, is))
-read-quota s t x y z Memory g reads is = absurd (omega (arith, is))
-read-quota s t x y z Quota g reads is =
+pub read-quota : (s t : Reading) (x y z : Option (List ℕ)) → Gives nothing_read s x y → ReadsLine s t y z (Err Quota) → GaveAll x z
+read-quota s t x y z g reads =
     let all = Gives-trans nothing_read s t x y z g reads.gives in
     record { bytes = all.bytes; many = (let q = reads.quota refl in let n = all.given in omega (arith, q, n)); taken = all.taken }
 
 -- nothing is read at first
 pub Gives-start : (r : Reading) (x : Option (List ℕ)) → r ≡ nothing_read → Gives nothing_read r x x
 Gives-start r x is = rw is (record { bytes = []; given = refl; taken = Consumes-same x })
-
-pub HasRead-start : (r : Reading) (x : Option (List ℕ)) → r ≡ nothing_read → HasRead r x x
-HasRead-start r None is = tt
-HasRead-start r (Some text) is = rw is (refl, λ i lt. absurd (omega arith))
 
 -- where the reading is cut off, no line ends before the bytes that are left
 pub read-limit : (r s : Reading) (y z : Option (List ℕ)) (many : ℕ) (text : List ℕ) (fault : LineFault) → bytes_ahead r y ≡ Some (behind many text) → ReadsLine r s y z (Err fault) → IsCutOff (Err fault) → IfTold z (NoLineEnds many text)

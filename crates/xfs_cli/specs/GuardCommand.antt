@@ -1,0 +1,36 @@
+-- The command `guard` over its lines: what answers them, what want of memory leaves of one, and that it ends at a restart which is refused.
+use Rattle.std.specs.Prelude.{◌≡◌, ℕ, List, codes}
+use Rattle.std.proofs.Common.{arith, inl, refl}
+use Rattle.xfs_guard.proofs.ContinueLaws.{Continues-same}
+use Rattle.xfs_script.specs.Commands.{Command}
+use Rattle.xfs_guard.specs.Continues.{Continues}
+use Rattle.xfs_guard.specs.declared.fail.BootFault.{BootFault}
+use Rattle.xfs_cli.specs.Begun.{IsBegun}
+use Rattle.xfs_cli.specs.GuardLines.{IsLine}
+use Rattle.xfs_cli.specs.RestartAnswers.{RestartFails}
+use Rattle.xfs_cli.specs.Seen.{Seen, IsLater}
+use Rattle.xfs_cli.specs.VerbAnswers.{AnswersGuard}
+
+-- want of memory leaves nothing of a line, or all of it, or a part, and goes on from what stood before it
+pub record LeavesGuard (s : Seen) (text : List ℕ) (end : Seen) : Type 0 where
+  pub begun : IsBegun s text end
+  pub continues : Continues s.guard end.guard
+  pub later : IsLater s end
+
+-- the line is `restart`, which is refused for this, and goes on from what stood before it
+pub record EndsGuard (s : Seen) (text : List ℕ) (why : BootFault) (end : Seen) : Type 0 where
+  pub restart : text ≡ codes "restart"
+  pub fails : RestartFails s why end
+  pub continues : Continues s.guard end.guard
+  pub later : IsLater s end
+
+abbrev pub guard_lines : Command Seen BootFault
+guard_lines = record { IsLine = IsLine; Answers = AnswersGuard; Leaves = LeavesGuard; EndsAt = EndsGuard }
+
+-- want of memory may leave nothing of a line
+pub leaves-nothing : (s : Seen) (text : List ℕ) → LeavesGuard s text s
+leaves-nothing s text = record { begun = inl refl; continues = Continues-same s.guard; later = record { mech = omega arith; disk = omega arith } }
+
+-- what is answered is a line
+pub is-line : (s next : Seen) (text : List ℕ) (output : List (List ℕ)) → AnswersGuard s text output next → IsLine text
+is-line s next text output a = record { verb = a.verb; reads = a.reads; short = a.short }

@@ -1,0 +1,43 @@
+use Rattle.std.proofs.Common.{arith, refl}
+use Rattle.xfs_script.proofs.LineLaws.{Gives-trans, read-quota}
+use Rattle.xfs_script.proofs.AnswerLaws.{answered-line, answered-end, answered-stop, answered-long, all-lines, stops-at_line}
+use Rattle.xfs_script.proofs.answering.answer_lines.Goals as goal
+
+pub returns-in-Ok-None-clause-answers : goal.returns-in-Ok-None-clause-answers
+returns-in-Ok-None-clause-answers g c = answered-end g.A.Answerer.command _ _ _ _ _ _ _ _ _ c.loop.invariant.answered (rw c.in-Ok-None.field-0-is at c.in-Ok-None.ensures.reads)
+
+pub returns-in-Err-clause-answers : goal.returns-in-Err-clause-answers
+returns-in-Err-clause-answers g c =
+    answered-stop g.A.Answerer.command c.in-Err.ending _ _ _ _ _ _ _ _ _ _ _ c.in-Ok-Some.line c.loop.invariant.answered (rw c.in-Ok-Some.field-0-is at c.in-Ok-Some.ensures.reads) c.in-Err.ensures.err
+
+pub returns-in-Err-Quota-clause-quota : goal.returns-in-Err-Quota-clause-quota
+returns-in-Err-Quota-clause-quota g c = λ quota. read-quota _ _ _ _ _ c.loop.invariant.gives (rw c.in-Err-Quota.field-0-is at c.in-Err-Quota.ensures.reads)
+
+pub returns-in-Err-TooLong-clause-answers : goal.returns-in-Err-TooLong-clause-answers
+returns-in-Err-TooLong-clause-answers g c =
+    rw c.in-Err-TooLong.number-is
+    (answered-long g.A.Answerer.command _ _ _ _ _ _ _ _ _ c.in-Err-TooLong.number g.met.A.Answerer.is_short c.loop.invariant.answered (rw c.in-Err-TooLong.field-0-is at c.in-Err-TooLong.ensures.reads))
+
+pub returns-in-Ok-None-clause-lines : goal.returns-in-Ok-None-clause-lines
+returns-in-Ok-None-clause-lines g c = λ end.
+    all-lines g.A.Answerer.command g.met.A.Answerer.is_line _ _ _ _ _ _ _ refl (answered-end g.A.Answerer.command _ _ _ _ _ _ _ _ _ c.loop.invariant.answered (rw c.in-Ok-None.field-0-is at c.in-Ok-None.ensures.reads))
+
+pub returns-in-Err-clause-not_a_line : goal.returns-in-Err-clause-not_a_line
+returns-in-Err-clause-not_a_line g c = λ number is.
+    stops-at_line g.A.Answerer.command g.met.A.Answerer.is_line _ number _ _ _ _ _ _ is
+    (answered-stop g.A.Answerer.command c.in-Err.ending _ _ _ _ _ _ _ _ _ _ _ c.in-Ok-Some.line c.loop.invariant.answered (rw c.in-Ok-Some.field-0-is at c.in-Ok-Some.ensures.reads) c.in-Err.ensures.err)
+
+pub returns-in-Err-TooLong-clause-not_a_line : goal.returns-in-Err-TooLong-clause-not_a_line
+returns-in-Err-TooLong-clause-not_a_line g c = λ number is.
+    stops-at_line g.A.Answerer.command g.met.A.Answerer.is_line _ c.in-Err-TooLong.number _ _ _ _ _ _ refl
+    (answered-long g.A.Answerer.command _ _ _ _ _ _ _ _ _ c.in-Err-TooLong.number g.met.A.Answerer.is_short c.loop.invariant.answered (rw c.in-Err-TooLong.field-0-is at c.in-Err-TooLong.ensures.reads))
+
+pub loop-preserved : goal.loop-preserved
+loop-preserved g c = record {
+  ready = c.in-Ok.ensures.ready;
+  keeps = g.met.A.Answerer.keeps_then _ _ _ c.loop.invariant.keeps c.in-Ok.ensures.keeps;
+  source_later = omega (arith, c.loop.invariant.source_later, c.next.ensures.later);
+  sink_later = omega (arith, c.loop.invariant.sink_later, c.answer_line.ensures.later);
+  gives = Gives-trans _ _ _ _ _ _ c.loop.invariant.gives c.in-Ok-Some.ensures.reads.gives;
+  answered = answered-line g.A.Answerer.command _ _ _ _ _ _ _ _ _ _ _ c.in-Ok-Some.line c.loop.invariant.answered (rw c.in-Ok-Some.field-0-is at c.in-Ok-Some.ensures.reads) c.in-Ok.ensures.ok;
+}

@@ -1,0 +1,80 @@
+ghost use Rattle.std.specs.Prelude.{◌≡◌, ◌<◌, ◌≤◌, List, ℕ, length, OnOk, IfErr};
+ghost use Rattle.std.specs.Io.KnownBytes.{IsAtEnd};
+ghost use Rattle.xfs_base.specs.Causes.{IfTold, Rose};
+ghost use Rattle.xfs_script.specs.Lines.{AllLines, StopsAtLine};
+ghost use Rattle.xfs_script.specs.Reading.{GaveAll};
+ghost use Rattle.xfs_script.specs.Endings.{AnswersInput, BreaksAtLine, EndsAfter, WritesAnswer};
+ghost use Rattle.xfs_script.specs.declared.answerer.Ending.TheVariants as Ending;
+
+use crate::answerer::{Answerer, Ending, Unanswered};
+use crate::line::{Line, LineFault};
+use crate::lines::Lines;
+use std::alloc::Global;
+use xfs_base::{Sink, Source, write_all};
+
+/// Has each line of the input answered, and writes its answer before the next line is read, until the
+/// input ends, a line has no answer, or something fails.
+pub fn answer_lines<S: Source, K: Sink, A: Answerer>(
+    alloc: Global,
+    answerer: &mut A,
+    source: &mut S,
+    sink: &mut K,
+) -> Ending<A::End>
+    requires { A.IsReady answerer.old }
+    ensures ready { A.IsReady answerer.new }
+    ensures keeps { A.Keeps answerer.old answerer.new }
+    ensures answers { IfTold (S.left source.old) (AnswersInput A.command result (A.state answerer.old) (A.state answerer.new) (S.left source.new) (K.held sink.old) (K.held sink.new)) }
+    ensures lines { result ≡ Ending.AtEnd → IfTold (S.left source.old) (AllLines A.command.IsLine) }
+    ensures not_a_line { (number : ℕ) → result ≡ Ending.NotALine number → IfTold (S.left source.old) (StopsAtLine A.command.IsLine) }
+    ensures ended { (why : A.End) → result ≡ Ending.Ended why → EndsAfter A.Keeps A.state A.command answerer.old why (A.state answerer.new) }
+    ensures whole { result ≡ Ending.AtEnd → IsAtEnd (S.left source.new) }
+    ensures fewer { result ≡ Ending.AtEnd → IfTold (S.left source.old) (λ text. length text < 67108864) }
+    ensures quota { result ≡ Ending.Quota → GaveAll (S.left source.old) (S.left source.new) }
+    ensures read { result ≡ Ending.Read → Rose (S.faults source.old) (S.faults source.new) }
+    ensures write { result ≡ Ending.Write → Rose (K.faults sink.old) (K.faults sink.new) }
+{
+    let mut lines = Lines::new(alloc);
+    for _ in 0..u64::MAX {
+        match lines.next(source) {
+            Ok(None) => return Ending::AtEnd,
+            Ok(Some(line)) => match answer_line(answerer, &line, sink) {
+                Ok(()) => {}
+                Err(ending) => return ending,
+            },
+            Err(LineFault::Read) => return Ending::Read,
+            Err(LineFault::Quota) => return Ending::Quota,
+            Err(LineFault::TooLong { number }) => return Ending::NotALine { number },
+            Err(LineFault::Memory) => return Ending::Memory,
+        }
+    }
+    // No input has so many lines.
+    Ending::Memory
+}
+
+// Has a line answered, and writes the answer.
+fn answer_line<K: Sink, A: Answerer>(
+    answerer: &mut A,
+    line: &Line,
+    sink: &mut K,
+) -> Result<(), Ending<A::End>>
+    requires ready { A.IsReady answerer.old }
+    requires short { length line.now.text ≤ 70000 }
+    ensures ready { A.IsReady answerer.new }
+    ensures keeps { A.Keeps answerer.old answerer.new }
+    ensures ok { OnOk result (WritesAnswer (A.command.Answers (A.state answerer.old) line.now.text) (A.state answerer.new) (K.held sink.old) (K.held sink.new)) }
+    ensures err { IfErr result (λ ending. BreaksAtLine A.command ending line.now.number line.now.text (A.state answerer.old) (A.state answerer.new) (K.held sink.old) (K.held sink.new)) }
+    ensures later { K.faults sink.old ≤ K.faults sink.new }
+    ensures cause { IfErr result (λ ending. ending ≡ Ending.Write → Rose (K.faults sink.old) (K.faults sink.new)) }
+{
+    match answerer.answer(line.text.list()) {
+        Ok(text) => match write_all(sink, &text) {
+            Ok(()) => Ok(()),
+            Err(_) => Err(Ending::Write),
+        },
+        Err(Unanswered::NotALine) => Err(Ending::NotALine {
+            number: line.number,
+        }),
+        Err(Unanswered::Memory) => Err(Ending::Memory),
+        Err(Unanswered::Ends(end)) => Err(Ending::Ended(end)),
+    }
+}
