@@ -153,7 +153,8 @@ fn one_round(handshake: MidHandshake<ServerHandshake<TcpStream, NoCallback>>) ->
     }
 }
 
-fn is_broken(error: &io::Error) -> bool {
+/// Whether an accept failed because of the listener itself.
+pub fn is_broken(error: &io::Error) -> bool {
     match error.raw_os_error() {
         Some(code) => BROKEN.contains(&code),
         None => false,

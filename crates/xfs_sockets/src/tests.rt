@@ -1,6 +1,9 @@
+use crate::entrance::{Entrance, Port, is_broken};
 use crate::{Ports, SocketLink, TcpDoors};
-use std::io::{Read, Write};
+use std::io;
+use std::io::{ErrorKind, Read, Write};
 use std::net::{Net, Shutdown, TcpListener, TcpStream};
+use std::os::fd::OwnedFd;
 use std::random::RandomSource;
 use std::sync::atomic::{AtomicU64, Ordering};
 use std::thread;
@@ -280,6 +283,69 @@ fn a_handshake_that_is_cut_or_slow_keeps_nobody_out(rt: HostRuntime) {
     assert!(rt; matches!(doors.next(), Door::Quiet));
     assert!(rt; !matches!(late.read(&mut [0u8; 8]), Ok(count) if count > 0));
     assert!(rt; matches!(doors.next(), Door::Quiet));
+}
+
+// A peer that says nothing, whose handshake is under way.
+fn silent_peer<'a, R: Net<Listener = TcpListener, Stream = TcpStream> + RandomSource + Sync>(
+    rt: &'a R,
+    doors: &mut TcpDoors<'a, R, SetClock>,
+) -> Option<TcpStream> {
+    let peer = TcpStream::connect(rt, ("127.0.0.1", doors.ports().card)).ok()?;
+    peer.set_nonblocking(true).ok()?;
+    match doors.next() {
+        Door::Quiet => Some(peer),
+        _ => None,
+    }
+}
+
+// Whether the stream of a peer to which nothing was written is open.
+fn is_open(peer: &mut TcpStream) -> bool {
+    match peer.read(&mut [0u8; 8]) {
+        Ok(_) => false,
+        Err(error) => error.kind() == ErrorKind::WouldBlock,
+    }
+}
+
+#[test]
+fn of_more_than_64_handshakes_the_oldest_is_let_go(rt: HostRuntime) {
+    let clock = clock();
+    let mut doors = TcpDoors::open(&rt, rt.alloc(), &clock, ANY).expect(&rt, "ports");
+    let mut first = silent_peer(&rt, &mut doors).expect(&rt, "the first peer");
+    let mut second = silent_peer(&rt, &mut doors).expect(&rt, "the second peer");
+    let mut others = Vec::new(rt.alloc());
+    for _ in 2..64 {
+        let peer = silent_peer(&rt, &mut doors).expect(&rt, "one more peer");
+        others.push(peer).expect(&rt, "memory");
+    }
+    assert!(rt; is_open(&mut first) && is_open(&mut second));
+    let _latest = silent_peer(&rt, &mut doors).expect(&rt, "the latest peer");
+    assert!(rt; !is_open(&mut first) && is_open(&mut second));
+    assert!(rt; second.write_all(REQUEST).is_ok());
+    assert!(rt; next_link(&mut doors).is_some());
+}
+
+#[test]
+fn doors_fail_where_a_listener_is_broken_and_nowhere_else(rt: HostRuntime) {
+    // a connected stream is no listener: accept(2) answers EINVAL
+    let alloc = rt.alloc();
+    let listener = TcpListener::bind(&rt, ("127.0.0.1", 0)).expect(&rt, "a listener");
+    let port = listener.local_addr().expect(&rt, "an address").port();
+    let stream = TcpStream::connect(&rt, ("127.0.0.1", port)).expect(&rt, "a stream");
+    let mut ports = Vec::new(alloc);
+    ports
+        .push(Port {
+            service: Service::Card,
+            listener: TcpListener::from(OwnedFd::from(stream)),
+        })
+        .expect(&rt, "memory");
+    let mut entrance = Entrance::new(alloc, ports).expect(&rt, "memory");
+    for _ in 0..2 {
+        assert!(rt; matches!(entrance.next(alloc, Moment(0)), Door::Failed));
+    }
+    // EPERM, EINTR, EAGAIN, ENOMEM, ENFILE, EMFILE, EPROTO, ECONNABORTED, ECONNRESET and ENOBUFS
+    for code in [1, 4, 11, 12, 23, 24, 71, 103, 104, 105] {
+        assert!(rt; !is_broken(&io::Error::from_raw_os_error(code)));
+    }
 }
 
 // Asks over a dialled link, and answers whether the same text comes back.
