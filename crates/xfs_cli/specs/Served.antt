@@ -41,9 +41,9 @@ last_line Write = []
 last_line Memory = []
 last_line (Ended why) = boot_line why
 
--- the sink took all of some last lines, or nothing of them, or failed and took a prefix of them
+-- the sink took all of some last lines, or failed and took a prefix of them
 abbrev pub WritesLast : List (List ℕ) → ℕ → ℕ → Option (List ℕ) → Option (List ℕ) → Type 0
-WritesLast lines faults now before after = Appends before after (lines_text lines) ⊎ ((after ≡ before) ⊎ (Rose faults now × TookPrefix before after (lines_text lines)))
+WritesLast lines faults now before after = Appends before after (lines_text lines) ⊎ (Rose faults now × TookPrefix before after (lines_text lines))
 
 -- the first lines of the input are answered from a state on, each in its turn, until this ending; then comes its last line, and the status is the ending's
 pub record Serves {S : Type 0} (c : Command S BootFault) (start end : S) (status : ℕ) (io : Streams) (text : List ℕ) : Type 0 where

@@ -59,7 +59,7 @@ pub fn guard<S: Source, K: Sink, M: Mechanism, D: Disk>(
         limits,
     } = core;
     if !is_word(words, "guard") {
-        usage(alloc, sink);
+        usage(sink);
         return Ended {
             status: USAGE,
             mech,
@@ -79,7 +79,7 @@ pub fn guard<S: Source, K: Sink, M: Mechanism, D: Disk>(
             Ended { status, mech, disk }
         }
         Err(BootFail { why, mech, disk }) => Ended {
-            status: unbooted(alloc, sink, why),
+            status: unbooted(sink, why),
             mech,
             disk,
         },

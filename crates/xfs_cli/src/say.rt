@@ -1,27 +1,35 @@
 //! The last line of the output.
 
-ghost use Rattle.std.specs.Prelude.{◌≤◌, ◌∷◌, []};
+ghost use Rattle.std.specs.Prelude.{◌≤◌, ◌∷◌, [], ◌++◌, OnOk, OnErr};
+ghost use Rattle.std.specs.Io.KnownBytes.{Appends};
+ghost use Rattle.xfs_base.specs.Causes.{HasCause, TookPrefix};
+ghost use Rattle.xfs_script.specs.Answered.{lines_text};
 ghost use Rattle.xfs_cli.specs.Served.{WritesLast};
 
-use std::alloc::Global;
-use xfs_base::{Sink, write_all};
+use xfs_base::{Sink, WriteFault, write_all};
 
-/// Writes a line and its line feed, in one piece. Where there is no memory for it, it is left out.
-pub fn say<K: Sink>(alloc: Global, sink: &mut K, text: &[u8])
-    ensures written { WritesLast (text.now ∷ []) (K.faults sink.old) (K.faults sink.new) (K.held sink.old) (K.held sink.new) }
+/// Writes a last line of three parts, and its line feed. It takes no memory; the first fault of the
+/// sink ends it.
+pub fn say<K: Sink>(sink: &mut K, first: &[u8], second: &[u8], third: &[u8])
+    ensures written { WritesLast ((first.now ++ second.now ++ third.now) ∷ []) (K.faults sink.old) (K.faults sink.new) (K.held sink.old) (K.held sink.new) }
     ensures later { K.faults sink.old ≤ K.faults sink.new }
 {
-    if let Ok(line) = Vec::from_slice(alloc, text) {
-        say_line(sink, line);
-    }
+    let _ = write_parts(sink, first, second, third);
 }
 
-/// The same of a line that is made already.
-pub fn say_line<K: Sink>(sink: &mut K, mut line: Vec<u8>)
-    ensures written { WritesLast (line.items ∷ []) (K.faults sink.old) (K.faults sink.new) (K.held sink.old) (K.held sink.new) }
-    ensures later { K.faults sink.old ≤ K.faults sink.new }
+// Writes three parts and a line feed, up to the first fault.
+fn write_parts<K: Sink>(
+    sink: &mut K,
+    first: &[u8],
+    second: &[u8],
+    third: &[u8],
+) -> Result<(), WriteFault>
+    ensures ok { OnOk result (Appends (K.held sink.old) (K.held sink.new) (lines_text ((first.now ++ second.now ++ third.now) ∷ []))) }
+    ensures err { OnErr result (TookPrefix (K.held sink.old) (K.held sink.new) (lines_text ((first.now ++ second.now ++ third.now) ∷ []))) }
+    ensures cause { HasCause (K.faults sink.old) (K.faults sink.new) result }
 {
-    if line.push(b'\n').is_ok() {
-        let _ = write_all(sink, &line);
-    }
+    write_all(sink, first)?;
+    write_all(sink, second)?;
+    write_all(sink, third)?;
+    write_all(sink, b"\n")
 }

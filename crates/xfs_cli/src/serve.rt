@@ -34,5 +34,5 @@ pub fn serve<S: Source, K: Sink, A: Answerer<End = BootFault>>(
     ensures causes { IsCaused result (streams S.Source K.Sink source.old source.new sink.old sink.new) }
 {
     let ending = answer_lines(alloc, answerer, source, sink);
-    finish(alloc, sink, ending)
+    finish(sink, ending)
 }

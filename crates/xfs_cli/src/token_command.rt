@@ -43,7 +43,7 @@ pub fn token<S: Source, K: Sink, M: Mechanism, D: Disk>(
         limits: _,
     } = core;
     if !is_word(words, "token") {
-        usage(alloc, sink);
+        usage(sink);
         return Ended {
             status: USAGE,
             mech,

@@ -70,7 +70,7 @@ pub fn run<S: Source, K: Sink, M: Mechanism, D: Disk>(
     if is_word(words, "token") {
         return token(alloc, words, source, sink, core);
     }
-    usage(alloc, sink);
+    usage(sink);
     Ended {
         status: USAGE,
         mech: core.mech,
