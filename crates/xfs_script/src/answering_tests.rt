@@ -162,7 +162,7 @@ impl<'a> Source for Watching<'a> {
         if self.taken.get() < self.given {
             self.early = true;
         }
-        if self.given == 5 || into.len() < 2 {
+        if self.given >= 5 || into.len() < 2 {
             return Ok(0);
         }
         self.given += 1;
