@@ -10,9 +10,7 @@ ghost use Rattle.xfs_cli.specs.Served.{EndsUnbooted, Serves};
 ghost use Rattle.xfs_cli.specs.Statuses.{IsStatus};
 
 use crate::last_line::finish;
-use crate::status::{
-    INPUT_TOO_LONG, NOT_A_LINE, READ_FAULT, READ_TO_END, USAGE, WRITE_FAULT,
-};
+use crate::status::{INPUT_TOO_LONG, NOT_A_LINE, READ_FAULT, READ_TO_END, USAGE, WRITE_FAULT};
 use std::alloc::Global;
 use xfs_base::{Sink, Source};
 use xfs_guard::BootFault;
