@@ -41,9 +41,9 @@ returns-in-Ok-clause-runs g c = λ guard.
     let back = c.ended-mech.result in
     let over : Ended g.row.M.Denot g.row.D.Denot = record { status = c.serve-status.result; mech = back.0; disk = back.1 } in
     let failed : c.serve-status.result ≡ 6 → Rose (faults at_entry.disk) (faults back.1) = λ six.
-        rw e.disk (rose-later _ _ _ later (failed-end _ _ _ _ _ (λ a b keeps. keeps.disk_faults) (s.unbooted (inl six)) six)) in
+    rw e.disk (rose-later _ _ _ later (failed-end _ _ _ _ _ (λ a b keeps. keeps.disk_faults) (s.unbooted (inl six)) six)) in
     let untold : c.serve-status.result ≡ 7 → g.D.Disk.held at_entry.disk ≡ None = λ seven.
-        (let quiet : c.in-Ok.guard.state.disk_told ≡ false = untold-end _ _ _ _ _ (λ a b keeps. keeps.continues.disk_told) (s.unbooted (inr (inl seven))) seven in none-told _ (rw ok.2 at quiet)) in
+    (let quiet : c.in-Ok.guard.state.disk_told ≡ false = untold-end _ _ _ _ _ (λ a b keeps. keeps.continues.disk_told) (s.unbooted (inr (inl seven))) seven in none-told _ (rw ok.2 at quiet)) in
     record {
       serves = told-more _ _ _ (λ text serves. inr (from-boot faults c.in-Ok.guard _ ok.0 _ ok.1 ok.2 later (record {
         end = end;
@@ -115,4 +115,3 @@ returns-in-Err-clause-any_moment g c =
 pub returns-in-Ok-clause-units : goal.returns-in-Ok-clause-units
 returns-in-Ok-clause-units g c =
     c.ended-mech.ensures.units ∙ (c.serve-status.ensures.keeps.continues.units ∙ ap (λ (v : View). v.units) c.in-Ok.ensures.ok.2)
-
