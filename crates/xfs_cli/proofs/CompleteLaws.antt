@@ -40,8 +40,8 @@ use Rattle.xfs_cli.specs.Seen.{Seen}
 use Rattle.xfs_cli.specs.OrderAnswers.{Moves, Tells, nothing_stacked, refusal_of}
 use Rattle.xfs_cli.specs.DispenseAnswers.{Dispenses, IsForbidden, IsOrdered, IsPermitted, IsUnmoved, counts_refusal, named}
 use Rattle.xfs_cli.specs.GuardAnswers.{outcome_text}
-use Rattle.xfs_cli.specs.VerbAnswers.{AreAnswer}
-use Rattle.xfs_cli.specs.Complete.{CanDispense, CanPresent, IsBindable, IsCalm, IsComplete, IsCoveredBy, IsDispensed, IsGood, IsPresented, moved_line}
+use Rattle.xfs_cli.specs.VerbAnswers.{AnswersGuard, AreAnswer}
+use Rattle.xfs_cli.specs.Complete.{AnswersInFull, CanDispense, CanPresent, IsBindable, IsCalm, IsCoveredBy, IsDispensed, IsGood, IsPresented, moved_line}
 use Rattle.xfs_cli.specs.declared.refused.Refusal.{Refusal}
 use Rattle.xfs_cli.specs.declared.refused.Refusal.TheVariants.{Deny as Denied}
 use Rattle.xfs_cli.proofs.CompleteOrders.{carries-full, present-places, calm-rest, IsGrown}
@@ -259,9 +259,12 @@ length-units counts (u ∷ units) = length-units (with_unit counts u) units ∙ 
 eight-counts : (text : List ℕ) (given : Given) (counts : CountsOf) → IsDispense text given counts → length counts.0 ≡ 8
 eight-counts text given counts d = ap length d.has.spells.is ∙ length-units (replicate 8 0) d.has.spells.units
 
--- what is answered where nothing stands against it
-pub complete : IsComplete
-complete = record {
-  dispense = λ s next text output given counts bytes a verb is c calm. dispense-answer s next output given counts bytes (eight-counts text given counts (rw verb at a.reads)) (rw verb at a.answer) is c calm;
-  present = λ s next text output a verb c calm. present-answer s next output (rw verb at a.answer) c calm;
+-- what is answered is done in full where nothing stands against it
+pub in-full : (s next : Seen) (text : List ℕ) (output : List (List ℕ)) → AnswersGuard s text output next → AnswersInFull s text output next
+in-full s next text output a = record {
+  answers = a;
+  complete = record {
+    dispense = λ given counts bytes verb is c calm. dispense-answer s next output given counts bytes (eight-counts text given counts (rw verb at a.reads)) (rw verb at a.answer) is c calm;
+    present = λ verb c calm. present-answer s next output (rw verb at a.answer) c calm;
+  };
 }

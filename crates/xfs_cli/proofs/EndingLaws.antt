@@ -4,8 +4,7 @@ use Rattle.xfs_script.specs.declared.answerer.Ending.{Ending}
 use Rattle.xfs_script.specs.declared.answerer.Ending.TheVariants.{AtEnd, Read, Quota, NotALine, Write, Memory, Ended}
 use Rattle.xfs_guard.specs.declared.fail.BootFault.{BootFault}
 use Rattle.xfs_guard.specs.declared.fail.BootFault.TheVariants.{NotJournal, Disk, Full, Memory as BootMemory}
-use Rattle.xfs_cli.specs.Boots.{boot_status}
-use Rattle.xfs_cli.specs.GuardRuns.{IsOfBoot}
+use Rattle.xfs_cli.specs.BootLines.{boot_status, IsOfBoot}
 use Rattle.xfs_cli.specs.Served.{status_of}
 use Rattle.xfs_cli.specs.Statuses.{IsStatus}
 
@@ -26,7 +25,7 @@ status-ending Memory = inr (inr (inr (inr (inr (inr (inr (inl refl)))))))
 status-ending (Ended why) = status-boot why
 
 -- what no status of a refused boot is
-boot-least : (why : BootFault) → (6 ≤ boot_status why) × (boot_status why ≢ 10)
+pub boot-least : (why : BootFault) → (6 ≤ boot_status why) × (boot_status why ≢ 10)
 boot-least (NotJournal at) = (omega arith, λ e. omega (arith, e))
 boot-least Disk = (omega arith, λ e. omega (arith, e))
 boot-least Full = (omega arith, λ e. omega (arith, e))

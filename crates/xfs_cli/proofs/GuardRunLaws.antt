@@ -17,7 +17,12 @@ use Rattle.xfs_cli.specs.Statuses.{HasFullRestart}
 use Rattle.xfs_guard.specs.declared.fail.BootFault.{BootFault}
 use Rattle.xfs_guard.specs.declared.fail.BootFault.TheVariants.{NotJournal, Disk, Full, Memory as BootMemory}
 use Rattle.xfs_cli.specs.RestartAnswers.{HasNoRoom, IsFull, RestartCause}
-use Rattle.xfs_cli.specs.GuardRuns.{AtEntry, FromBoot, IsStart, opened, IsEnd, IsFullAtEnd, IsUnbooted}
+use Rattle.xfs_cli.specs.GuardStarts.{AtEntry, FromBoot, IsStart, opened}
+use Rattle.xfs_cli.specs.GuardRuns.{IsEnd, IsFullAtEnd, IsStillAt}
+use Rattle.xfs_cli.specs.Streams.{Streams}
+use Rattle.xfs_cli.specs.declared.ended.Ended.{Ended as EndedOf}
+use Rattle.xfs_disk.specs.declared.disk.Disk.{Ghosts as Disks}
+use Rattle.xfs_mech.specs.declared.mechanism.Mechanism.{Ghosts as Mechanisms}
 use Rattle.xfs_cli.specs.GuardCommand.{guard_lines}
 use Rattle.xfs_cli.specs.Served.{EndsUnbooted, Serves, status_of}
 use Rattle.xfs_script.specs.Endings.{AnswersInput}
@@ -26,17 +31,18 @@ use Rattle.xfs_cli.proofs.EndingLaws.{is-boot}
 use Rattle.xfs_cli.specs.Seen.{Seen, IsStill, seen}
 
 -- the last state is that of a guard which is over
-pub ends-at : {D : Type 0} (faults : D → ℕ) (g : GuardView D) (last : Option (List ℕ)) (motions : Option (List Motion)) (places : Places) (mech : ℕ) (disk : D) (held : Option (List ℕ)) (images : List ℕ → Type 0)
-    → motions ≡ g.state.motions → places ≡ g.state.places → mech ≡ g.state.faults → disk ≡ g.disk → IfTold held (λ _. (bytes : List ℕ) → images bytes → HasPossible g.state.records g.state.in_doubt bytes)
-    → (s : Seen) → s ≡ seen faults g last → IsEnd motions places mech (faults disk) held images s
-ends-at faults g last motions places mech disk held images m p f d stored s is =
-    rw is (record { motions_are = sym m; places_are = sym p; mech_is = sym f; disk_is = ap faults (sym d); stored = stored })
+pub ends-at : {M D : Type 0} (m : Mechanisms M) (d : Disks D) (g : GuardView D) (last : Option (List ℕ)) (result : EndedOf M D)
+    → m.motions result.mech ≡ g.state.motions → m.places result.mech ≡ g.state.places → m.faults result.mech ≡ g.state.faults → result.disk ≡ g.disk
+    → IfTold (d.held result.disk) (λ _. (bytes : List ℕ) → d.images result.disk bytes → HasPossible g.state.records g.state.in_doubt bytes)
+    → (s : Seen) → s ≡ seen d.faults g last → IsEnd m d result s
+ends-at m d g last result motions places faults disk stored s is =
+    rw is (record { motions = sym motions; places = sym places; mech_faults = sym faults; disk_faults = ap d.faults (sym disk); stored = stored })
 
 -- such a guard leaves the mechanism as it stood in an earlier state, where it is still so
-pub still-at : {D : Type 0} (faults : D → ℕ) (g : GuardView D) (last : Option (List ℕ)) (motions : Option (List Motion)) (places : Places) (mech : ℕ) (disk : D)
-    → motions ≡ g.state.motions → places ≡ g.state.places → mech ≡ g.state.faults → disk ≡ g.disk
-    → (end s : Seen) → end ≡ seen faults g last → IsStill end.guard.motions end.guard.places end.guard.faults end.disk_faults s → IsStill motions places mech (faults disk) s
-still-at faults g last motions places mech disk m p f d end s is still = rw (m, p, f, d) (rw is at still)
+pub still-at : {M D : Type 0} (m : Mechanisms M) (d : Disks D) (g : GuardView D) (last : Option (List ℕ)) (result : EndedOf M D)
+    → m.motions result.mech ≡ g.state.motions → m.places result.mech ≡ g.state.places → m.faults result.mech ≡ g.state.faults → result.disk ≡ g.disk
+    → (end s : Seen) → end ≡ seen d.faults g last → IsStill end.guard.motions end.guard.places end.guard.faults end.disk_faults s → IsStillAt m d result s
+still-at m d g last result motions places faults disk end s is still = rw (motions, places, faults, disk) (rw is at still)
 
 -- a count that rose in a part rose in the whole
 pub rose-later : (a b c : ℕ) → a ≤ b → Rose b c → Rose a c
@@ -106,47 +112,45 @@ pub from-boot : {D : Type 0} (faults : D → ℕ) (g : GuardView D) (e : AtEntry
     → IfTold e.held (λ bytes. StandsFor bytes J) → g.state ≡ opened e (J ++ Boot e.places ∷ []) → e.disk_faults ≤ faults g.disk → Writes (seen faults g None) → FromBoot e Writes
 from-boot faults g e J Writes stands is later writes = record { start = seen faults g None; begins = starts-run faults g e J stands is later; writes = writes }
 
--- a refused boot
-pub refused-boot : (why : BootFault) (status : ℕ) (left left' before after : Option (List ℕ)) → status ≡ boot_status why → left' ≡ left → WritesBoot why before after → IsUnbooted status left left' before after
-refused-boot why status left left' before after is unread written = record { why = why; status_is = is; unread = unread; written = written }
-
 pub none-told : {T : Type 0} (held : Option T) → is_some held ≡ false → held ≡ None
 none-told None e = refl
 none-told (Some x) e = cc
 
 -- a refused boot whose disk failed
-pub ends-failed : (why : BootFault) (faults now : ℕ) (before after : Option (List ℕ)) (status : ℕ) → status ≡ boot_status why → WritesBoot why before after → (why ≡ Disk → Rose faults now)
-    → status ≡ 6 → EndsFailed faults now before after
-ends-failed (NotJournal at) faults now before after status is written failed six = absurd (omega (arith, is, six))
-ends-failed Disk faults now before after status is written failed six = record { cause = failed refl; written = written }
-ends-failed Full faults now before after status is written failed six = absurd (omega (arith, is, six))
-ends-failed BootMemory faults now before after status is written failed six = absurd (omega (arith, is, six))
+pub ends-failed : (why : BootFault) (faults now : ℕ) (io : Streams) (status : ℕ) → status ≡ boot_status why → WritesBoot why io → (why ≡ Disk → Rose faults now)
+    → status ≡ 6 → EndsFailed faults now io
+ends-failed (NotJournal at) faults now io status is written failed six = absurd (omega (arith, is, six))
+ends-failed Disk faults now io status is written failed six = record { cause = failed refl; written = written }
+ends-failed Full faults now io status is written failed six = absurd (omega (arith, is, six))
+ends-failed BootMemory faults now io status is written failed six = absurd (omega (arith, is, six))
 
 -- a refused boot whose Boot passes a limit
-pub ends-full : (why : BootFault) (limits : Limits) (places : Places) (held before after : Option (List ℕ)) (status : ℕ) → status ≡ boot_status why → WritesBoot why before after
-    → (why ≡ Full → (J : List Rec) × IfTold held (λ bytes. StandsFor bytes J) × BootExceeds limits places J) → status ≡ 12 → EndsFull limits places held before after
-ends-full (NotJournal at) limits places held before after status is written full twelve = absurd (omega (arith, is, twelve))
-ends-full Disk limits places held before after status is written full twelve = absurd (omega (arith, is, twelve))
-ends-full Full limits places held before after status is written full twelve = let f = full refl in record { records = f.0; stands = f.1; exceeds_limit = f.2; written = written }
-ends-full BootMemory limits places held before after status is written full twelve = absurd (omega (arith, is, twelve))
+pub ends-full : (why : BootFault) (limits : Limits) (places : Places) (held : Option (List ℕ)) (io : Streams) (status : ℕ) → status ≡ boot_status why → WritesBoot why io
+    → (why ≡ Full → (J : List Rec) × IfTold held (λ bytes. StandsFor bytes J) × BootExceeds limits places J) → status ≡ 12 → EndsFull limits places held io
+ends-full (NotJournal at) limits places held io status is written full twelve = absurd (omega (arith, is, twelve))
+ends-full Disk limits places held io status is written full twelve = absurd (omega (arith, is, twelve))
+ends-full Full limits places held io status is written full twelve = let f = full refl in record { records = f.0; stands = f.1; exceeds_limit = f.2; written = written }
+ends-full BootMemory limits places held io status is written full twelve = absurd (omega (arith, is, twelve))
 
 -- under status 12 a restart found no room for its Boot
-pub full-line : (IsStartOf Still : Seen → Type 0) (start end : Seen) (status : ℕ) (source left old new : Option (List ℕ)) → IsStartOf start
+pub full-line : (IsStartOf Still : Seen → Type 0) (start end : Seen) (status : ℕ) (io : Streams) → IsStartOf start
     → ((s : Seen) → IsStill end.guard.motions end.guard.places end.guard.faults end.disk_faults s → Still s)
-    → IfTold source (Serves guard_lines start end status left old new) → status ≡ 12 → IfTold source (HasFullRestart IsStartOf Still)
-full-line IsStartOf Still start end status None left old new begins more h twelve = tt
-full-line IsStartOf Still start end status (Some text) left old new begins more h twelve =
-    let e = is-boot h.ending (inr (inr (sym h.status_is ∙ twelve))) in
-    let a : AnswersInput guard_lines (Ended e.0) start end left old h.answered text = rw e.1 at h.answers in
-    let full = full-then status e.0 a.last end (h.status_is ∙ ap status_of e.1) a.ends.0.fails.cause twelve in
-    record {
-      start = start;
-      begins = begins;
-      many = a.many;
-      output = a.output;
-      last = a.last;
-      each = a.each;
-      line = a.ends.0.restart;
-      full = full.0;
-      ends = more a.last a.ends.0.fails.still;
-    }
+    → IfTold io.input (Serves guard_lines start end status io) → status ≡ 12 → IfTold io.input (HasFullRestart IsStartOf Still)
+full-line IsStartOf Still start end status io begins more h twelve = told-more io.input _ _ (λ text h. go text h) h
+  where
+    go : (text : List ℕ) → Serves guard_lines start end status io text → HasFullRestart IsStartOf Still text
+    go text h =
+        let e = is-boot h.ending (inr (inr (sym h.status_is ∙ twelve))) in
+        let a : AnswersInput guard_lines (Ended e.0) start end io.left io.output h.answered text = rw e.1 at h.answers in
+        let full = full-then status e.0 a.last end (h.status_is ∙ ap status_of e.1) a.ends.0.fails.cause twelve in
+        record {
+          start = start;
+          begins = begins;
+          many = a.many;
+          output = a.output;
+          last = a.last;
+          each = a.each;
+          line = a.ends.0.restart;
+          full = full.0;
+          ends = more a.last a.ends.0.fails.still;
+        }

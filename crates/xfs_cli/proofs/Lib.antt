@@ -6,6 +6,7 @@ pub mod DispenseLaws
 pub mod EndLaws
 pub mod EndingLaws
 pub mod GuardRunLaws
+pub mod LastLaws
 pub mod MomentLaws
 pub mod NumberLaws
 pub mod RunLaws

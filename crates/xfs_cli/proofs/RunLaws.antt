@@ -26,6 +26,7 @@ use Rattle.xfs_guard.proofs.FollowsLaws.{Follows-same, Follows-record}
 use Rattle.xfs_guard.specs.declared.fail.BootFault.{BootFault}
 use Rattle.xfs_guard.specs.declared.fail.BootFault.TheVariants.{NotJournal, Disk, Full, Memory}
 use Rattle.xfs_cli.specs.Boots.{BootExceeds, EndsUnread, IsDue, IsNoJournal, WritesBoot, boot_status}
+use Rattle.xfs_cli.specs.Streams.{Streams}
 use Rattle.xfs_cli.specs.Upholds.{Upholds, FollowsWhereTold}
 
 follows-same : (J : List Rec) (L : Option (List Motion)) (P : Places) → FollowsWhereTold J L P J L P
@@ -129,12 +130,12 @@ journal-run J0 None X stood = tt
 journal-run J0 (Some bytes) X stood = λ none. absurd (none J0 stood)
 
 -- the status of a file that is no journal
-pub ends-unread : (why : BootFault) (held before after : Option (List ℕ)) (status : ℕ) → status ≡ boot_status why → WritesBoot why before after
-    → ((at : ℕ) → why ≡ NotJournal at → IfTold held (λ bytes. CeasesAt bytes at × IsNoJournal bytes)) → status ≡ 7 → EndsUnread held before after
-ends-unread (NotJournal at) held before after status is written ceases seven = record { at = at; ceases = ceases at refl; written = written }
-ends-unread Disk held before after status is written ceases seven = absurd (omega (arith, is, seven))
-ends-unread Full held before after status is written ceases seven = absurd (omega (arith, is, seven))
-ends-unread Memory held before after status is written ceases seven = absurd (omega (arith, is, seven))
+pub ends-unread : (why : BootFault) (held : Option (List ℕ)) (io : Streams) (status : ℕ) → status ≡ boot_status why → WritesBoot why io
+    → ((at : ℕ) → why ≡ NotJournal at → IfTold held (λ bytes. CeasesAt bytes at × IsNoJournal bytes)) → status ≡ 7 → EndsUnread held io
+ends-unread (NotJournal at) held io status is written ceases seven = record { at = at; ceases = ceases at refl; written = written }
+ends-unread Disk held io status is written ceases seven = absurd (omega (arith, is, seven))
+ends-unread Full held io status is written ceases seven = absurd (omega (arith, is, seven))
+ends-unread Memory held io status is written ceases seven = absurd (omega (arith, is, seven))
 
 -- the status of a refused boot whose record passes a limit
 pub due-full : (why : BootFault) (held : Option (List ℕ)) (limits : Limits) (P : Places) (status : ℕ) → status ≡ boot_status why
@@ -145,3 +146,12 @@ due-full (NotJournal at) (Some bytes) limits P status is ceases = λ J stands ov
 due-full Disk (Some bytes) limits P status is ceases = λ J stands over. inr (inl is)
 due-full Full (Some bytes) limits P status is ceases = λ J stands over. inl is
 due-full Memory (Some bytes) limits P status is ceases = λ J stands over. inr (inr is)
+
+-- the status of a refused boot over bytes that are no journal
+pub due-unread : (why : BootFault) (held : Option (List ℕ)) (status : ℕ) → status ≡ boot_status why → {X : List Rec → Type 0}
+    → (why ≡ Full → (J : List Rec) × IfTold held (λ bytes. StandsFor bytes J) × X J) → IfTold held (λ bytes. IsNoJournal bytes → IsDue 7 status)
+due-unread why None status is full = tt
+due-unread (NotJournal at) (Some bytes) status is full = λ none. inl is
+due-unread Disk (Some bytes) status is full = λ none. inr (inl is)
+due-unread Full (Some bytes) status is full = λ none. absurd (let f = full refl in none f.0 f.1)
+due-unread Memory (Some bytes) status is full = λ none. inr (inr is)

@@ -1,5 +1,5 @@
 -- The status of a refused boot and its last line.
-use Rattle.std.specs.Prelude.{ℕ, List, [], ◌∷◌, ◌++◌, codes, decimal}
+use Rattle.std.specs.Prelude.{◌≡◌, ◌⊎◌, ℕ, List, [], ◌∷◌, ◌++◌, codes, decimal}
 use Rattle.xfs_guard.specs.declared.fail.BootFault.{BootFault}
 use Rattle.xfs_guard.specs.declared.fail.BootFault.TheVariants.{NotJournal, Disk, Full, Memory}
 use Rattle.xfs_cli.specs.declared.status.TheConstants.{DISK_FAULT, JOURNAL_FULL, NOT_A_JOURNAL, NO_MEMORY}
@@ -17,3 +17,7 @@ boot_line (NotJournal at) = (codes "boot: not a journal at " ++ decimal at) ∷ 
 boot_line Disk = codes "boot: disk" ∷ []
 boot_line Full = codes "boot: journal full" ∷ []
 boot_line Memory = []
+
+-- the statuses of a refused boot that has a last line
+abbrev pub IsOfBoot : ℕ → Type 0
+IsOfBoot status = (status ≡ DISK_FAULT) ⊎ ((status ≡ NOT_A_JOURNAL) ⊎ (status ≡ JOURNAL_FULL))

@@ -1,7 +1,7 @@
 -- How a command ends whose boot is refused: status 6, 7, 8 or 12, and its last line.
 use Rattle.std.specs.Prelude.{◌≡◌, ◌⊎◌, ℕ, true, List, [], ◌∷◌, ◌++◌}
 use Rattle.std.specs.declared.option.Option.{Option}
-use Rattle.xfs_base.specs.Causes.{Rose, IfTold, TookPrefix}
+use Rattle.xfs_base.specs.Causes.{Rose, IfTold}
 use Rattle.xfs_base.specs.declared.counts.Places.{Places}
 use Rattle.xfs_disk.specs.Disk.{AddsNone}
 use Rattle.xfs_journal.specs.Image.{StandsFor}
@@ -12,39 +12,40 @@ use Rattle.xfs_journal.specs.declared.record.Rec.{Rec}
 use Rattle.xfs_journal.specs.declared.record.Rec.TheVariants.{Boot}
 use Rattle.xfs_guard.specs.declared.fail.BootFault.{BootFault}
 use Rattle.xfs_guard.specs.declared.fail.BootFault.TheVariants.{NotJournal, Disk, Full}
-use Rattle.xfs_script.specs.Answered.{lines_text}
+use Rattle.xfs_cli.specs.Served.{WritesLast}
+use Rattle.xfs_cli.specs.Streams.{Streams}
 pub use Rattle.xfs_cli.specs.BootLines.{boot_status, boot_line}
 use Rattle.xfs_cli.specs.declared.status.TheConstants.{DISK_FAULT, NO_MEMORY}
 
--- the sink took a prefix of the last line
-abbrev pub WritesBoot : BootFault → Option (List ℕ) → Option (List ℕ) → Type 0
-WritesBoot fault before after = TookPrefix before after (lines_text (boot_line fault))
+-- the last line of a refused boot is written
+abbrev pub WritesBoot : BootFault → Streams → Type 0
+WritesBoot fault io = WritesLast (boot_line fault) io.write_faults io.write_faults_now io.output io.output_now
 
 -- no list of records stands for the bytes
 abbrev pub IsNoJournal : List ℕ → Type 0
 IsNoJournal bytes = (records : List Rec) → ¬ StandsFor bytes records
 
 -- the disk's bytes are no journal from a place on, which the last line tells
-pub record EndsUnread (held before after : Option (List ℕ)) : Type 0 where
+pub record EndsUnread (held : Option (List ℕ)) (io : Streams) : Type 0 where
   pub at : ℕ
   pub ceases : IfTold held (λ bytes. CeasesAt bytes at × IsNoJournal bytes)
-  pub written : WritesBoot (NotJournal at) before after
+  pub written : WritesBoot (NotJournal at) io
 
 -- the disk failed in the boot, and the last line says so
-pub record EndsFailed (faults now : ℕ) (before after : Option (List ℕ)) : Type 0 where
+pub record EndsFailed (faults now : ℕ) (io : Streams) : Type 0 where
   pub cause : Rose faults now
-  pub written : WritesBoot Disk before after
+  pub written : WritesBoot Disk io
 
 -- the Boot of these places passes a limit behind these records
 abbrev pub BootExceeds : Limits → Places → List Rec → Type 0
 BootExceeds limits places records = exceeds limits (records ++ Boot places ∷ []) ≡ true
 
 -- the Boot passes a limit behind the records that the disk has, and the last line says so
-pub record EndsFull (limits : Limits) (places : Places) (held before after : Option (List ℕ)) : Type 0 where
+pub record EndsFull (limits : Limits) (places : Places) (held : Option (List ℕ)) (io : Streams) : Type 0 where
   pub records : List Rec
   pub stands : IfTold held (λ bytes. StandsFor bytes records)
   pub exceeds_limit : BootExceeds limits places records
-  pub written : WritesBoot Full before after
+  pub written : WritesBoot Full io
 
 -- the status is the one that is due, unless the disk failed or memory ran out before it was found
 abbrev pub IsDue : ℕ → ℕ → Type 0

@@ -6,6 +6,7 @@ use Rattle.xfs_base.specs.declared.counts.Counts.{Counts as CountsOf}
 pub use Rattle.xfs_guard.specs.Covered.{HasSpace, IsGood, IsFree, IsBindable, IsCoveredBy, CanDispense, CanPresent}
 use Rattle.xfs_script.specs.Counts.{counts_text}
 use Rattle.xfs_script.specs.declared.guard_line.Given.{Given}
+use Rattle.xfs_script.specs.declared.guard_line.GuardLine.{GuardLine}
 use Rattle.xfs_script.specs.declared.guard_line.GuardLine.TheVariants.{Dispense, Present}
 use Rattle.xfs_cli.specs.Seen.{Seen}
 use Rattle.xfs_cli.specs.DispenseAnswers.{named}
@@ -34,9 +35,13 @@ pub record IsPresented (s : Seen) (output : List (List ℕ)) (next : Seen) : Typ
   pub gained : (u : ℕ) → at next.guard.places.outlet u ≡ at s.guard.places.outlet u + at s.guard.places.transport u
   pub left : IsZero next.guard.places.transport
 
--- what is answered to a dispense and to a present that nothing stands against, where no count of faults rises
-pub record IsComplete : Type 0 where
-  pub dispense : (s next : Seen) (text : List ℕ) (output : List (List ℕ)) (given : Given) (counts : CountsOf) (bytes : List ℕ) (a : AnswersGuard s text output next)
-      → a.verb ≡ Dispense given counts → named s.last given ≡ Some bytes → CanDispense s.guard bytes counts → IsCalm s next → IsDispensed s counts output next
-  pub present : (s next : Seen) (text : List ℕ) (output : List (List ℕ)) (a : AnswersGuard s text output next)
-      → a.verb ≡ Present → CanPresent s.guard → IsCalm s next → IsPresented s output next
+-- a dispense and a present that nothing stands against are answered in full, where no count of faults rises
+pub record IsComplete (s : Seen) (verb : GuardLine) (output : List (List ℕ)) (next : Seen) : Type 0 where
+  pub dispense : (given : Given) (counts : CountsOf) (bytes : List ℕ) → verb ≡ Dispense given counts → named s.last given ≡ Some bytes → CanDispense s.guard bytes counts → IsCalm s next
+      → IsDispensed s counts output next
+  pub present : verb ≡ Present → CanPresent s.guard → IsCalm s next → IsPresented s output next
+
+-- a line of `guard`, what answers it, in full where nothing stands against it, and the session then
+pub record AnswersInFull (s : Seen) (text : List ℕ) (output : List (List ℕ)) (next : Seen) : Type 0 where
+  pub answers : AnswersGuard s text output next
+  pub complete : IsComplete s answers.verb output next

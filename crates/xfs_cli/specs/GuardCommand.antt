@@ -9,7 +9,7 @@ use Rattle.xfs_cli.specs.Begun.{IsBegun}
 use Rattle.xfs_cli.specs.GuardLines.{IsLine}
 use Rattle.xfs_cli.specs.RestartAnswers.{RestartFails}
 use Rattle.xfs_cli.specs.Seen.{Seen, IsLater}
-use Rattle.xfs_cli.specs.VerbAnswers.{AnswersGuard}
+use Rattle.xfs_cli.specs.Complete.{AnswersInFull}
 
 -- want of memory leaves nothing of a line, or all of it, or a part, and goes on from what stood before it
 pub record LeavesGuard (s : Seen) (text : List ℕ) (end : Seen) : Type 0 where
@@ -25,12 +25,12 @@ pub record EndsGuard (s : Seen) (text : List ℕ) (why : BootFault) (end : Seen)
   pub later : IsLater s end
 
 abbrev pub guard_lines : Command Seen BootFault
-guard_lines = record { IsLine = IsLine; Answers = AnswersGuard; Leaves = LeavesGuard; EndsAt = EndsGuard }
+guard_lines = record { IsLine = IsLine; Answers = AnswersInFull; Leaves = LeavesGuard; EndsAt = EndsGuard }
 
 -- want of memory may leave nothing of a line
 pub leaves-nothing : (s : Seen) (text : List ℕ) → LeavesGuard s text s
 leaves-nothing s text = record { begun = inl refl; continues = Continues-same s.guard; later = record { mech = omega arith; disk = omega arith } }
 
 -- what is answered is a line
-pub is-line : (s next : Seen) (text : List ℕ) (output : List (List ℕ)) → AnswersGuard s text output next → IsLine text
-is-line s next text output a = record { verb = a.verb; reads = a.reads; short = a.short }
+pub is-line : (s next : Seen) (text : List ℕ) (output : List (List ℕ)) → AnswersInFull s text output next → IsLine text
+is-line s next text output a = record { verb = a.answers.verb; reads = a.answers.reads; short = a.answers.short }

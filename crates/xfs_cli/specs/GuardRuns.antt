@@ -1,105 +1,51 @@
--- A run of `guard`: the session that its boot begins, and what its last state says of the mechanism and the disk that come back.
-use Rattle.std.specs.Prelude.{◌≡◌, ◌≤◌, ◌⊎◌, ℕ, false, List, [], ◌∷◌, ◌++◌, is_some, None}
+-- A run of `guard`: what it writes, its statuses with their causes, and what the mechanism and the disk that come back are.
+use Rattle.std.specs.Prelude.{◌≡◌, ◌⊎◌, ℕ, List, length, None}
 use Rattle.std.specs.declared.option.Option.{Option}
-use Rattle.xfs_base.specs.Causes.{IfTold}
+use Rattle.xfs_base.specs.Causes.{IfTold, Rose}
 use Rattle.xfs_base.specs.declared.counts.Places.{Places}
-use Rattle.xfs_base.specs.declared.money.NoteKind.{NoteKind}
-use Rattle.xfs_mech.specs.declared.motion.Motion.{Motion}
+use Rattle.xfs_disk.specs.declared.disk.Disk.{Ghosts as Disks}
+use Rattle.xfs_mech.specs.Moves.{IsNewer}
+use Rattle.xfs_mech.specs.declared.mechanism.Mechanism.{Ghosts as Mechanisms}
 use Rattle.xfs_journal.specs.JournalView.{HasPossible}
 use Rattle.xfs_journal.specs.Image.{StandsFor}
 use Rattle.xfs_journal.specs.declared.limits.Limits.{Limits}
 use Rattle.xfs_journal.specs.declared.record.Rec.{Rec}
-use Rattle.xfs_journal.specs.declared.record.Rec.TheVariants.{Boot}
-use Rattle.xfs_guard.specs.Balance.{no_notes}
-use Rattle.xfs_guard.specs.View.{View}
 use Rattle.xfs_guard.specs.declared.machine_core.Core.{Core}
 use Rattle.xfs_guard.specs.declared.fail.BootFault.{BootFault}
-use Rattle.xfs_guard.specs.declared.open.Open.TheVariants.{No}
-use Rattle.xfs_cli.specs.Boots.{BootExceeds, WritesBoot, boot_status}
+use Rattle.xfs_script.specs.Lines.{AllLines, StopsAtLine}
+use Rattle.xfs_cli.specs.Boots.{BootExceeds, EndsFailed, EndsFull, EndsUnread, IsDue, IsNoJournal, IsUnwritten, WritesBoot, boot_status}
 use Rattle.xfs_cli.specs.GuardCommand.{guard_lines}
-use Rattle.xfs_cli.specs.Seen.{Seen}
+use Rattle.xfs_cli.specs.GuardLines.{IsLine}
+use Rattle.xfs_cli.specs.GuardStarts.{FromBoot, IsStart, at_entry}
+use Rattle.xfs_cli.specs.Seen.{IsStill, Seen}
 use Rattle.xfs_cli.specs.Served.{Serves}
-use Rattle.xfs_cli.specs.declared.status.TheConstants.{DISK_FAULT, JOURNAL_FULL, NOT_A_JOURNAL}
-
--- what a command finds at its entry: the key, the seed, the table of the units, the journal's limits, what the mechanism tells, the disk's bytes where it tells them, and how often the disk failed
-pub record AtEntry : Type 0 where
-  pub key : List ℕ
-  pub seed : List ℕ
-  pub units : List NoteKind
-  pub limits : Limits
-  pub motions : Option (List Motion)
-  pub places : Places
-  pub faults : ℕ
-  pub held : Option (List ℕ)
-  pub disk_faults : ℕ
-
--- the same of the core that it is handed
-abbrev pub at_entry : {M D : Type 0} → (M → Option (List Motion)) → (M → Places) → (M → ℕ) → (D → Option (List ℕ)) → (D → ℕ) → Core M D → AtEntry
-at_entry motions places faults held disk_faults core = record {
-  key = core.key;
-  seed = core.seed;
-  units = core.units;
-  limits = core.limits;
-  motions = motions core.mech;
-  places = places core.mech;
-  faults = faults core.mech;
-  held = held core.disk;
-  disk_faults = disk_faults core.disk;
-}
-
--- the guard of a boot whose journal has these records then
-abbrev pub opened : AtEntry → List Rec → View
-opened e records = record {
-  key = e.key;
-  seed = e.seed;
-  units = e.units;
-  records = records;
-  bound = None;
-  open_order = No;
-  motions = e.motions;
-  places = e.places;
-  booted = e.places;
-  loaded = no_notes;
-  faults = e.faults;
-  limits = e.limits;
-  shut = false;
-  boot_missing = false;
-  in_doubt = None;
-  disk_told = is_some e.held;
-}
-
--- the session that the boot begins: the list that the disk had, with a Boot of the mechanism's places behind it; no token was minted
-pub record IsStart (e : AtEntry) (start : Seen) : Type 0 where
-  pub records : List Rec
-  pub stands : IfTold e.held (λ bytes. StandsFor bytes records)
-  pub guard_is : start.guard ≡ opened e (records ++ Boot e.places ∷ [])
-  pub later : e.disk_faults ≤ start.disk_faults
-  pub none : start.last ≡ None
-
--- the lines are answered from there on
-pub record FromBoot (e : AtEntry) (Writes : Seen → Type 0) : Type 0 where
-  pub start : Seen
-  pub begins : IsStart e start
-  pub writes : Writes start
+use Rattle.xfs_cli.specs.Statuses.{IsFinished, IsUnhindered}
+use Rattle.xfs_cli.specs.Streams.{Streams}
+use Rattle.xfs_cli.specs.declared.ended.Ended.{Ended}
+use Rattle.xfs_cli.specs.declared.status.TheConstants.{DISK_FAULT, JOURNAL_FULL, NOT_A_JOURNAL, NOT_A_LINE, READ_TO_END}
 
 -- the mechanism and the disk that come back are those of the last state
-pub record IsEnd (motions : Option (List Motion)) (places : Places) (mech_faults disk_faults : ℕ) (held : Option (List ℕ)) (images : List ℕ → Type 0) (last : Seen) : Type 0 where
-  pub motions_are : last.guard.motions ≡ motions
-  pub places_are : last.guard.places ≡ places
-  pub mech_is : last.guard.faults ≡ mech_faults
-  pub disk_is : last.disk_faults ≡ disk_faults
+pub record IsEnd {M D : Type 0} (m : Mechanisms M) (d : Disks D) (result : Ended M D) (last : Seen) : Type 0 where
+  pub motions : last.guard.motions ≡ m.motions result.mech
+  pub places : last.guard.places ≡ m.places result.mech
+  pub mech_faults : last.guard.faults ≡ m.faults result.mech
+  pub disk_faults : last.disk_faults ≡ d.faults result.disk
   -- each image of the disk is that of the last state's list, or of that list with its record in doubt
-  pub stored : IfTold held (λ _. (bytes : List ℕ) → images bytes → HasPossible last.guard.records last.guard.in_doubt bytes)
+  pub stored : IfTold (d.held result.disk) (λ _. (bytes : List ℕ) → d.images result.disk bytes → HasPossible last.guard.records last.guard.in_doubt bytes)
 
--- the statuses of a refused boot that has a last line
-abbrev pub IsOfBoot : ℕ → Type 0
-IsOfBoot status = (status ≡ DISK_FAULT) ⊎ ((status ≡ NOT_A_JOURNAL) ⊎ (status ≡ JOURNAL_FULL))
-
--- the lines are served from a state on, until one of which Ends tells
-pub record ServesUntil (Ends : Seen → Type 0) (start : Seen) (status : ℕ) (left before after : Option (List ℕ)) (text : List ℕ) : Type 0 where
+-- the lines are served from a state on, until that of the mechanism and the disk that come back
+pub record ServesUntil {M D : Type 0} (m : Mechanisms M) (d : Disks D) (result : Ended M D) (io : Streams) (text : List ℕ) (start : Seen) : Type 0 where
   pub end : Seen
-  pub ends : Ends end
-  pub serves : Serves guard_lines start end status left before after text
+  pub ends : IsEnd m d result end
+  pub serves : Serves guard_lines start end result.status io text
+
+-- the boot was refused: nothing was read of the input, the last line is the boot's, and the mechanism is as it was
+pub record IsUnbooted {M D : Type 0} (core : Core M D) (result : Ended M D) (io : Streams) : Type 0 where
+  pub why : BootFault
+  pub status_is : result.status ≡ boot_status why
+  pub unread : io.left ≡ io.input
+  pub written : WritesBoot why io
+  pub unmoved : result.mech ≡ core.mech
 
 -- the disk reads as a list behind which a Boot of these places passes a limit
 pub record IsFullAtEnd (limits : Limits) (places : Places) (held : Option (List ℕ)) : Type 0 where
@@ -107,9 +53,42 @@ pub record IsFullAtEnd (limits : Limits) (places : Places) (held : Option (List 
   pub stands : IfTold held (λ bytes. StandsFor bytes records)
   pub exceeds_limit : BootExceeds limits places records
 
--- the boot was refused: nothing was read of the input, and the sink took a prefix of the last line
-pub record IsUnbooted (status : ℕ) (left left' before after : Option (List ℕ)) : Type 0 where
-  pub why : BootFault
-  pub status_is : status ≡ boot_status why
-  pub unread : left' ≡ left
-  pub written : WritesBoot why before after
+-- so of the list of records that the disk's bytes stand for at entry, where it tells them
+abbrev pub AtEntryList : {D : Type 0} → Disks D → D → (List Rec → Type 0) → Type 0
+AtEntryList d disk P = IfTold (d.held disk) (λ bytes. (records : List Rec) → StandsFor bytes records → P records)
+
+-- so where the disk's bytes at entry are told and are no journal
+abbrev pub WhereNoJournal : {D : Type 0} → Disks D → D → Type 0 → Type 0
+WhereNoJournal d disk P = IfTold (d.held disk) (λ bytes. IsNoJournal bytes → P)
+
+-- neither the source failed, nor the sink, nor the disk
+pub record NothingFailed (io : Streams) (disk_faults now : ℕ) : Type 0 where
+  pub source : ¬ (Rose io.read_faults io.read_faults_now)
+  pub sink : ¬ (Rose io.write_faults io.write_faults_now)
+  pub disk : ¬ (Rose disk_faults now)
+
+-- the mechanism that comes back is still as a session has it
+abbrev pub IsStillAt : {M D : Type 0} → Mechanisms M → Disks D → Ended M D → Seen → Type 0
+IsStillAt m d result = IsStill (m.motions result.mech) (m.places result.mech) (m.faults result.mech) (d.faults result.disk)
+
+pub record RunsGuard {M D : Type 0} (m : Mechanisms M) (d : Disks D) (core : Core M D) (result : Ended M D) (io : Streams) : Type 0 where
+  -- what is written: the answers of the lines from the boot on, and at most one last line
+  pub serves : IfTold io.input (λ text. IsUnbooted core result io ⊎ FromBoot (at_entry m d core) (ServesUntil m d result io text))
+  pub lines : result.status ≡ READ_TO_END → IfTold io.input (AllLines IsLine)
+  pub not_a_line : result.status ≡ NOT_A_LINE → IfTold io.input (StopsAtLine IsLine)
+  -- the statuses of a boot are those of a refused one, or of a restart that found the same
+  pub disk_fault : result.status ≡ DISK_FAULT → EndsFailed (d.faults core.disk) (d.faults result.disk) io ⊎ FromBoot (at_entry m d core) (λ _. Rose (d.faults core.disk) (d.faults result.disk))
+  pub not_journal : result.status ≡ NOT_A_JOURNAL → EndsUnread (d.held core.disk) io ⊎ FromBoot (at_entry m d core) (λ _. d.held core.disk ≡ None)
+  pub full : result.status ≡ JOURNAL_FULL
+      → EndsFull core.limits (m.places core.mech) (d.held core.disk) io ⊎ FromBoot (at_entry m d core) (λ _. IsFullAtEnd core.limits (m.places result.mech) (d.held result.disk))
+  -- a disk that is no journal is due its status, and stays as it was, and so does the mechanism
+  pub unread : WhereNoJournal d core.disk (IsDue NOT_A_JOURNAL result.status)
+  pub unwritten : WhereNoJournal d core.disk (IsUnwritten (d.held core.disk) (d.held result.disk) (d.images core.disk) (d.images result.disk))
+  pub unmoved : WhereNoJournal d core.disk (result.mech ≡ core.mech)
+  -- a journal that has no room for the Boot is due its status
+  pub overfull : AtEntryList d core.disk (λ records. BootExceeds core.limits (m.places core.mech) records → IsDue JOURNAL_FULL result.status)
+  -- the mechanism's new numbers lie behind the journal's
+  pub newer : AtEntryList d core.disk (λ records. IsNewer (length records) (m.motions core.mech) (m.motions result.mech))
+  -- a run that nothing hinders ends with its input
+  pub finishes : NothingFailed io (d.faults core.disk) (d.faults result.disk) → IfTold io.input (λ text. AtEntryList d core.disk (λ records.
+      IsUnhindered (IsStart (at_entry m d core)) (IsStillAt m d result) text core.limits (m.places core.mech) records → IsFinished result.status))

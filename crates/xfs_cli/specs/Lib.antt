@@ -7,6 +7,7 @@ pub mod GuardAnswers
 pub mod GuardCommand
 pub mod GuardLines
 pub mod GuardRuns
+pub mod GuardStarts
 pub mod LineAnswers
 pub mod Moments
 pub mod OrderAnswers
@@ -16,6 +17,8 @@ pub mod Run
 pub mod Seen
 pub mod Served
 pub mod Statuses
+pub mod Streams
 pub mod TokenAnswers
+pub mod TokenRuns
 pub mod Upholds
 pub mod VerbAnswers

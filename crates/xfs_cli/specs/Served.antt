@@ -1,7 +1,8 @@
 -- How a command over the lines of its input ends: their answers, at most one last line, and the status.
-use Rattle.std.specs.Prelude.{◌≡◌, ℕ, List, [], ◌∷◌, ◌++◌, codes, decimal}
+use Rattle.std.specs.Prelude.{◌≡◌, ◌⊎◌, ℕ, List, [], ◌∷◌, ◌++◌, codes, decimal}
 use Rattle.std.specs.declared.option.Option.{Option}
-use Rattle.xfs_base.specs.Causes.{TookPrefix}
+use Rattle.std.specs.Io.KnownBytes.{Appends}
+use Rattle.xfs_base.specs.Causes.{Rose, TookPrefix}
 use Rattle.xfs_script.specs.Answered.{lines_text}
 use Rattle.xfs_script.specs.Commands.{Command}
 use Rattle.xfs_script.specs.Endings.{AnswersInput, EndsAfter}
@@ -9,15 +10,12 @@ use Rattle.xfs_script.specs.declared.answerer.Ending.{Ending}
 use Rattle.xfs_script.specs.declared.answerer.Ending.TheVariants.{AtEnd, Read, Quota, NotALine, Write, Memory, Ended}
 use Rattle.xfs_guard.specs.declared.fail.BootFault.{BootFault}
 use Rattle.xfs_cli.specs.BootLines.{boot_status, boot_line}
+use Rattle.xfs_cli.specs.Streams.{Streams}
 use Rattle.xfs_cli.specs.declared.status.TheConstants.{INPUT_TOO_LONG, NOT_A_LINE, NO_MEMORY, READ_FAULT, READ_TO_END, WRITE_FAULT}
 
 -- the line that tells the words that there are
 abbrev pub usage_line : List ℕ
 usage_line = codes "usage: xfs guard | token"
-
--- the sink took a prefix of that
-abbrev pub WritesUsage : Option (List ℕ) → Option (List ℕ) → Type 0
-WritesUsage before after = TookPrefix before after (lines_text (usage_line ∷ []))
 
 -- the line that tells of one that is none
 abbrev pub no_line_text : ℕ → List ℕ
@@ -43,13 +41,17 @@ last_line Write = []
 last_line Memory = []
 last_line (Ended why) = boot_line why
 
--- the first lines of the input are answered from a state on, each in its turn, until this ending; the sink took their answers and then a prefix of the last line, and the status is the ending's
-pub record Serves {S : Type 0} (c : Command S BootFault) (start end : S) (status : ℕ) (left before after : Option (List ℕ)) (text : List ℕ) : Type 0 where
+-- the sink took all of some last lines, or failed and took a prefix of them
+abbrev pub WritesLast : List (List ℕ) → ℕ → ℕ → Option (List ℕ) → Option (List ℕ) → Type 0
+WritesLast lines faults now before after = Appends before after (lines_text lines) ⊎ (Rose faults now × TookPrefix before after (lines_text lines))
+
+-- the first lines of the input are answered from a state on, each in its turn, until this ending; then comes its last line, and the status is the ending's
+pub record Serves {S : Type 0} (c : Command S BootFault) (start end : S) (status : ℕ) (io : Streams) (text : List ℕ) : Type 0 where
   pub ending : Ending BootFault
   pub status_is : status ≡ status_of ending
   pub answered : Option (List ℕ)
-  pub answers : AnswersInput c ending start end left before answered text
-  pub last : TookPrefix answered after (lines_text (last_line ending))
+  pub answers : AnswersInput c ending start end io.left io.output answered text
+  pub last : WritesLast (last_line ending) io.write_faults io.write_faults_now answered io.output_now
 
 -- the command ended at a line as a refused boot does
 pub record EndsUnbooted {A S : Type 0} (Keeps : A → A → Type 0) (state : A → S) (c : Command S BootFault) (start : A) (status : ℕ) (end : S) : Type 0 where

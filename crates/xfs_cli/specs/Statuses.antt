@@ -1,15 +1,19 @@
 -- The statuses of the program, and when a run of `guard` ends with its input: where every line is one, the input is short enough, the journal has room for each Boot, and nothing failed.
 use Rattle.std.specs.Prelude.{◌≡◌, ◌⊎◌, ℕ, ◌<◌, List, [], ◌∷◌, length, codes}
+use Rattle.std.specs.Io.KnownBytes.{IsAtEnd}
+use Rattle.xfs_base.specs.Causes.{IfTold, Rose}
 use Rattle.xfs_base.specs.declared.counts.Places.{Places}
 use Rattle.xfs_journal.specs.declared.limits.Limits.{Limits}
 use Rattle.xfs_journal.specs.declared.record.Rec.{Rec}
 use Rattle.xfs_cli.specs.Boots.{BootExceeds}
 use Rattle.xfs_script.specs.Answered.{AnswersEach}
 use Rattle.xfs_script.specs.Lines.{behind, first_line, first_lines, AllLines}
+use Rattle.xfs_script.specs.Reading.{GaveAll}
 use Rattle.xfs_cli.specs.GuardLines.{IsLine}
 use Rattle.xfs_cli.specs.RestartAnswers.{HasNoRoom}
 use Rattle.xfs_cli.specs.Seen.{Seen}
-use Rattle.xfs_cli.specs.VerbAnswers.{AnswersGuard}
+use Rattle.xfs_cli.specs.Complete.{AnswersInFull}
+use Rattle.xfs_cli.specs.Streams.{Streams}
 use Rattle.xfs_cli.specs.declared.status.TheConstants.{DISK_FAULT, INPUT_TOO_LONG, JOURNAL_FULL, NOT_A_JOURNAL, NOT_A_LINE, NO_MEMORY, READ_FAULT, READ_TO_END, USAGE, WRITE_FAULT}
 
 -- a number is one of these
@@ -20,6 +24,14 @@ IsOneOf (x ∷ xs) n = (n ≡ x) ⊎ IsOneOf xs n
 abbrev pub IsStatus : ℕ → Type 0
 IsStatus status = IsOneOf (READ_TO_END ∷ USAGE ∷ READ_FAULT ∷ NOT_A_LINE ∷ WRITE_FAULT ∷ DISK_FAULT ∷ NOT_A_JOURNAL ∷ NO_MEMORY ∷ INPUT_TOO_LONG ∷ JOURNAL_FULL ∷ []) status
 
+-- each status of the input and the output has its cause
+pub record IsCaused (status : ℕ) (io : Streams) : Type 0 where
+  pub whole : status ≡ READ_TO_END → IsAtEnd io.left
+  pub fewer : status ≡ READ_TO_END → IfTold io.input (λ text. length text < 67108864)
+  pub read : status ≡ READ_FAULT → Rose io.read_faults io.read_faults_now
+  pub write : status ≡ WRITE_FAULT → Rose io.write_faults io.write_faults_now
+  pub quota : status ≡ INPUT_TOO_LONG → GaveAll io.input io.left
+
 -- a line of the text is `restart`, and finds no room for its Boot behind the state that the lines before it left, answered from the start of the run on; Ends tells of that state
 pub record HasFullRestart (IsStartOf Ends : Seen → Type 0) (text : List ℕ) : Type 0 where
   pub start : Seen
@@ -27,7 +39,7 @@ pub record HasFullRestart (IsStartOf Ends : Seen → Type 0) (text : List ℕ) :
   pub many : ℕ
   pub output : List (List ℕ)
   pub last : Seen
-  pub each : AnswersEach AnswersGuard start (first_lines many text) output last
+  pub each : AnswersEach AnswersInFull start (first_lines many text) output last
   pub line : first_line (behind many text) ≡ codes "restart"
   pub full : HasNoRoom last.guard
   pub ends : Ends last

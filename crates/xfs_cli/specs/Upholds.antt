@@ -4,11 +4,16 @@ use Rattle.std.specs.declared.option.Option.{Option}
 use Rattle.xfs_base.specs.Causes.{IfTold}
 use Rattle.xfs_base.specs.declared.money.NoteKind.{NoteKind}
 use Rattle.xfs_base.specs.declared.counts.Places.{Places}
+use Rattle.xfs_disk.specs.Disk.{Only}
+use Rattle.xfs_disk.specs.declared.disk.Disk.{Ghosts as Disks}
+use Rattle.xfs_mech.specs.declared.mechanism.Mechanism.{Ghosts as Mechanisms}
 use Rattle.xfs_mech.specs.declared.motion.Motion.{Motion}
 use Rattle.xfs_journal.specs.Image.{StandsFor}
 use Rattle.xfs_journal.specs.declared.record.Rec.{Rec}
 use Rattle.xfs_guard.specs.Follows.{Follows}
 use Rattle.xfs_guard.specs.Recorded.{IsRecorded}
+use Rattle.xfs_guard.specs.declared.machine_core.Core.{Core}
+use Rattle.xfs_cli.specs.declared.ended.Ended.{Ended}
 
 -- the records, the mechanism's list and the places follow those at entry, where the mechanism tells its list
 abbrev pub FollowsWhereTold : List Rec → Option (List Motion) → Places → List Rec → Option (List Motion) → Places → Type 0
@@ -20,3 +25,16 @@ pub record Upholds (key : List ℕ) (units : List NoteKind) (entry : List Rec) (
   pub stands : StandsFor bytes records
   pub recorded : IsRecorded key units records motions'
   pub follows : FollowsWhereTold entry motions places records motions' places'
+
+-- the condition at entry: each list of records that an image of the disk stands for is numbered, agrees with the mechanism's list, and puts out no more than its tokens cover
+abbrev pub Starts : {M D : Type 0} → Mechanisms M → Disks D → Core M D → Type 0
+Starts m d core = IfTold (d.held core.disk) (λ _. (image : List ℕ) → d.images core.disk image → (records : List Rec) → StandsFor image records → IsRecorded core.key core.units records (m.motions core.mech))
+
+-- a crash leaves what the disk reads as
+abbrev pub AtRest : {D : Type 0} → Disks D → D → Type 0
+AtRest d disk = IfTold (d.held disk) (λ bytes. Only bytes (d.images disk))
+
+-- so of each image of the disk that comes back, from the list of records that the disk's bytes stood for
+abbrev pub UpholdsAll : {M D : Type 0} → Mechanisms M → Disks D → Core M D → Ended M D → Type 0
+UpholdsAll m d core result = IfTold (d.held core.disk) (λ bytes. (records : List Rec) → StandsFor bytes records → IfTold (d.held result.disk) (λ _. (image : List ℕ) → d.images result.disk image
+    → Upholds core.key core.units records (m.motions core.mech) (m.places core.mech) image (m.motions result.mech) (m.places result.mech)))

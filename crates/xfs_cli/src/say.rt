@@ -1,73 +1,35 @@
-//! Lines of the output.
+//! The last line of the output.
 
-ghost use Rattle.std.specs.Prelude.{◌≡◌, ◌≤◌, ◌++◌, ◌∷◌, [], Err, OnOk};
+ghost use Rattle.std.specs.Prelude.{◌≤◌, ◌∷◌, [], ◌++◌, OnOk, OnErr};
 ghost use Rattle.std.specs.Io.KnownBytes.{Appends};
-ghost use Rattle.xfs_base.specs.Causes.{Rose, TookPrefix};
+ghost use Rattle.xfs_base.specs.Causes.{HasCause, TookPrefix};
 ghost use Rattle.xfs_script.specs.Answered.{lines_text};
+ghost use Rattle.xfs_cli.specs.Served.{WritesLast};
 
-use std::alloc::{AllocError, AllocFailed, Global};
-use xfs_base::{Sink, write_all};
+use xfs_base::{Sink, WriteFault, write_all};
 
-/// Why a line wasn't written.
-#[derive(Clone, Copy, Debug, PartialEq, Eq)]
-pub enum SayFault {
-    Write,
-    Memory,
+/// Writes a last line of three parts, and its line feed. It takes no memory; the first fault of the
+/// sink ends it.
+pub fn say<K: Sink>(sink: &mut K, first: &[u8], second: &[u8], third: &[u8])
+    ensures written { WritesLast ((first.now ++ second.now ++ third.now) ∷ []) (K.faults sink.old) (K.faults sink.new) (K.held sink.old) (K.held sink.new) }
+    ensures later { K.faults sink.old ≤ K.faults sink.new }
+{
+    let _ = write_parts(sink, first, second, third);
 }
 
-impl<T: Drop> From<AllocFailed<T>> for SayFault {
-    ghost use Rattle.xfs_cli.specs.declared.say.SayFault.TheVariants.{Memory};
-
-    ghost from_gives = { λ _ e. e ≡ Memory };
-
-    fn from(_: AllocFailed<T>) -> Self {
-        SayFault::Memory
-    }
-}
-
-impl From<AllocError> for SayFault {
-    ghost use Rattle.xfs_cli.specs.declared.say.SayFault.TheVariants.{Memory};
-
-    ghost from_gives = { λ _ e. e ≡ Memory };
-
-    fn from(_: AllocError) -> Self {
-        SayFault::Memory
-    }
-}
-
-/// Writes a line of two parts in one piece, and its line feed.
-pub fn say<K: Sink>(
-    alloc: Global,
+// Writes three parts and a line feed, up to the first fault.
+fn write_parts<K: Sink>(
     sink: &mut K,
     first: &[u8],
     second: &[u8],
-) -> Result<(), SayFault>
-    ensures later { K.faults sink.old ≤ K.faults sink.new }
-    ensures cause { result ≡ Err SayFault.Write → Rose (K.faults sink.old) (K.faults sink.new) }
-    ensures ok { OnOk result (Appends (K.held sink.old) (K.held sink.new) (lines_text ((first.now ++ second.now) ∷ []))) }
-    ensures front { TookPrefix (K.held sink.old) (K.held sink.new) (lines_text ((first.now ++ second.now) ∷ [])) }
-    ensures memory { result ≡ Err SayFault.Memory → sink.new ≡ sink.old }
+    third: &[u8],
+) -> Result<(), WriteFault>
+    ensures ok { OnOk result (Appends (K.held sink.old) (K.held sink.new) (lines_text ((first.now ++ second.now ++ third.now) ∷ []))) }
+    ensures err { OnErr result (TookPrefix (K.held sink.old) (K.held sink.new) (lines_text ((first.now ++ second.now ++ third.now) ∷ []))) }
+    ensures cause { HasCause (K.faults sink.old) (K.faults sink.new) result }
 {
-    let mut line = Vec::with_capacity(
-        alloc,
-        first.len().saturating_add(second.len()).saturating_add(1),
-    )?;
-    line.extend_from_slice(first)?;
-    line.extend_from_slice(second)?;
-    say_line(sink, line)
-}
-
-/// Writes a line and its line feed, in one piece.
-pub fn say_line<K: Sink>(sink: &mut K, mut line: Vec<u8>) -> Result<(), SayFault>
-    ensures later { K.faults sink.old ≤ K.faults sink.new }
-    ensures cause { result ≡ Err SayFault.Write → Rose (K.faults sink.old) (K.faults sink.new) }
-    ensures ok { OnOk result (Appends (K.held sink.old) (K.held sink.new) (lines_text (line.items ∷ []))) }
-    ensures front { TookPrefix (K.held sink.old) (K.held sink.new) (lines_text (line.items ∷ [])) }
-    ensures memory { result ≡ Err SayFault.Memory → sink.new ≡ sink.old }
-{
-    line.push(b'\n')?;
-    match write_all(sink, &line) {
-        Ok(()) => Ok(()),
-        Err(_) => Err(SayFault::Write),
-    }
+    write_all(sink, first)?;
+    write_all(sink, second)?;
+    write_all(sink, third)?;
+    write_all(sink, b"\n")
 }

@@ -1,16 +1,15 @@
 //! The lines of a command, answered to their end.
 
-ghost use Rattle.std.specs.Prelude.{◌≡◌, ◌≢◌, ◌<◌, length};
-ghost use Rattle.std.specs.Io.KnownBytes.{IsAtEnd};
-ghost use Rattle.xfs_base.specs.Causes.{Rose, IfTold};
+ghost use Rattle.std.specs.Prelude.{◌≡◌, ◌≢◌};
+ghost use Rattle.xfs_base.specs.Causes.{IfTold};
 ghost use Rattle.xfs_script.specs.Lines.{AllLines, StopsAtLine};
-ghost use Rattle.xfs_script.specs.Reading.{GaveAll};
-ghost use Rattle.xfs_cli.specs.GuardRuns.{IsOfBoot};
+ghost use Rattle.xfs_cli.specs.BootLines.{IsOfBoot};
 ghost use Rattle.xfs_cli.specs.Served.{EndsUnbooted, Serves};
-ghost use Rattle.xfs_cli.specs.Statuses.{IsStatus};
+ghost use Rattle.xfs_cli.specs.Statuses.{IsCaused, IsStatus};
+ghost use Rattle.xfs_cli.specs.Streams.{streams};
 
 use crate::last_line::finish;
-use crate::status::{INPUT_TOO_LONG, NOT_A_LINE, READ_FAULT, READ_TO_END, USAGE, WRITE_FAULT};
+use crate::status::{NOT_A_LINE, READ_TO_END, USAGE};
 use std::alloc::Global;
 use xfs_base::{Sink, Source};
 use xfs_guard::BootFault;
@@ -26,18 +25,14 @@ pub fn serve<S: Source, K: Sink, A: Answerer<End = BootFault>>(
     requires { A.IsReady answerer.old }
     ensures ready { A.IsReady answerer.new }
     ensures keeps { A.Keeps answerer.old answerer.new }
-    ensures serves { IfTold (S.left source.old) (Serves A.command (A.state answerer.old) (A.state answerer.new) result (S.left source.new) (K.held sink.old) (K.held sink.new)) }
+    ensures serves { IfTold (S.left source.old) (Serves A.command (A.state answerer.old) (A.state answerer.new) result (streams S.Source K.Sink source.old source.new sink.old sink.new)) }
     ensures unbooted { IsOfBoot result → EndsUnbooted A.Keeps A.state A.command answerer.old result (A.state answerer.new) }
     ensures lines { result ≡ READ_TO_END → IfTold (S.left source.old) (AllLines A.command.IsLine) }
     ensures not_a_line { result ≡ NOT_A_LINE → IfTold (S.left source.old) (StopsAtLine A.command.IsLine) }
-    ensures whole { result ≡ READ_TO_END → IsAtEnd (S.left source.new) }
-    ensures fewer { result ≡ READ_TO_END → IfTold (S.left source.old) (λ text. length text < 67108864) }
-    ensures quota { result ≡ INPUT_TOO_LONG → GaveAll (S.left source.old) (S.left source.new) }
-    ensures read { result ≡ READ_FAULT → Rose (S.faults source.old) (S.faults source.new) }
-    ensures write { result ≡ WRITE_FAULT → Rose (K.faults sink.old) (K.faults sink.new) }
     ensures usage { result ≢ USAGE }
     ensures statuses { IsStatus result }
+    ensures causes { IsCaused result (streams S.Source K.Sink source.old source.new sink.old sink.new) }
 {
     let ending = answer_lines(alloc, answerer, source, sink);
-    finish(alloc, sink, ending)
+    finish(sink, ending)
 }

@@ -32,6 +32,7 @@ pub fn answer_lines<S: Source, K: Sink, A: Answerer>(
     ensures quota { result ≡ Ending.Quota → GaveAll (S.left source.old) (S.left source.new) }
     ensures read { result ≡ Ending.Read → Rose (S.faults source.old) (S.faults source.new) }
     ensures write { result ≡ Ending.Write → Rose (K.faults sink.old) (K.faults sink.new) }
+    ensures sink_later { K.faults sink.old ≤ K.faults sink.new }
 {
     let mut lines = Lines::new(alloc);
     for _ in 0..u64::MAX {

@@ -3,8 +3,18 @@ use Rattle.xfs_guard.proofs.KeepsLaws.{Proceeds-same}
 use Rattle.xfs_cli.specs.GuardCommand.{leaves-nothing}
 use Rattle.xfs_cli.specs.Seen.{seen}
 use Rattle.xfs_cli.proofs.BegunLaws.{begun-line}
+use Rattle.xfs_cli.proofs.CompleteLaws.{in-full}
 use Rattle.xfs_cli.proofs.SeenLaws.{later-seen, restart-line}
 use Rattle.xfs_cli.proofs.answer.SessionAnswerer.answer.Goals as goal
+
+pub returns-in-Ok-answer_verb-clause-answer : goal.returns-in-Ok-answer_verb-clause-answer
+returns-in-Ok-answer_verb-clause-answer g c =
+    let told = c.in-Ok-answer_verb.ensures.answer in
+    record {
+      output = told.output;
+      answer = in-full _ _ _ _ (record { verb = c.in-Ok.verb; reads = c.in-Ok.ensures.ok; short = c.requires.short; answer = told.answer });
+      text = told.text;
+    }
 
 pub returns-in-Err-NotALine-clause-keeps : goal.returns-in-Err-NotALine-clause-keeps
 returns-in-Err-NotALine-clause-keeps g c = Proceeds-same g.D.Disk _ g.met.D.Disk.only_now

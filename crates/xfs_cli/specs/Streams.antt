@@ -1,0 +1,29 @@
+-- The input and the output of a run, before it and after it.
+use Rattle.std.specs.Prelude.{ℕ, List}
+use Rattle.std.specs.declared.option.Option.{Option}
+use Rattle.xfs_base.specs.declared.stream.Source.{Ghosts as Sources}
+use Rattle.xfs_base.specs.declared.stream.Sink.{Ghosts as Sinks}
+
+-- the bytes of the input and those that are left of it, what the output held and what it holds now, where they tell them; and how often each failed, before and now
+pub record Streams : Type 0 where
+  pub input : Option (List ℕ)
+  pub left : Option (List ℕ)
+  pub read_faults : ℕ
+  pub read_faults_now : ℕ
+  pub output : Option (List ℕ)
+  pub output_now : Option (List ℕ)
+  pub write_faults : ℕ
+  pub write_faults_now : ℕ
+
+-- those of a source and a sink, each before and now
+abbrev pub streams : {S K : Type 0} → Sources S → Sinks K → S → S → K → K → Streams
+streams s k source source' sink sink' = record {
+  input = s.left source;
+  left = s.left source';
+  read_faults = s.faults source;
+  read_faults_now = s.faults source';
+  output = k.held sink;
+  output_now = k.held sink';
+  write_faults = k.faults sink;
+  write_faults_now = k.faults sink';
+}
