@@ -39,7 +39,7 @@ pub fn run<S: Source, K: Sink, M: Mechanism, D: Disk>(
     // The headline: what was put out is within the tokens, whatever a crash leaves of the disk.
     ensures upholds { UpholdsAll M.Mechanism D.Disk core result }
 
-    // A crash at any moment of the run leaves a list that begins with the records at entry, and is a front of those at
+    // A crash at any moment of the run leaves a list that begins with the records at entry, and is a prefix of those at
     // the end but for its last record, whose number then no motion has.
     ensures any_moment { WasOnTheWayAll M.Mechanism D.Disk core result }
 
