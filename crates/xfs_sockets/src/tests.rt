@@ -1,12 +1,11 @@
 use crate::entrance::{Entrance, Port, is_broken};
 use crate::{Ports, SocketLink, TcpDoors};
-use std::io;
 use std::io::{ErrorKind, Read, Write};
 use std::net::{Net, Shutdown, TcpListener, TcpStream};
 use std::os::fd::OwnedFd;
 use std::random::RandomSource;
 use std::sync::atomic::{AtomicU64, Ordering};
-use std::thread;
+use std::{io, thread};
 use xfs_base::{Clock, Moment, Service};
 use xfs_server::{DialFault, Door, Doors, GiveFault, Link, Taking};
 

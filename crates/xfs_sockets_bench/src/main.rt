@@ -55,9 +55,7 @@ fn serve(rt: &HostRuntime, alloc: Global) -> Option<u64> {
 }
 
 // Asks and answers in two threads: how many texts came back.
-fn ask<
-    R: Net<Listener = TcpListener, Stream = TcpStream> + RandomSource + Clock + Threads + Sync,
->(
+fn ask<R: Net<Listener = TcpListener, Stream = TcpStream> + RandomSource + Clock + Threads + Sync>(
     rt: &R,
     alloc: Global,
     texts: u32,
