@@ -1,0 +1,11 @@
+mod Calls
+mod Changes
+mod Keeping
+mod Lists
+mod Machines
+mod Pendings
+mod Queues
+mod Runs
+mod Steps
+mod Talks
+mod Working
