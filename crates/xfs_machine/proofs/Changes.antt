@@ -84,13 +84,13 @@ changed_begins f same a q idle is =
       | inr n ↦ rw n (and_left _ _ h.1)
     ]) q (λ i j d lt within. (is.ids i j d lt within, none i d (omega arith), none j d within))) is
 
-same_some : {X : Type 0} (x y : X) → Some x ≡ Some y → x ≡ y
+pub same_some : {X : Type 0} (x y : X) → Some x ≡ Some y → x ≡ y
 same_some x y e = cc
 
-head_pairs : {X : Type 0} (R : X → X → Type 0) (x : X) (xs : List X) → AllPairs R (x ∷ xs) → All (R x) xs
+pub head_pairs : {X : Type 0} (R : X → X → Type 0) (x : X) (xs : List X) → AllPairs R (x ∷ xs) → All (R x) xs
 head_pairs R x xs all = λ k d within. all zero (suc k) d (omega arith) (omega (arith, within))
 
-tail_pairs : {X : Type 0} (R : X → X → Type 0) (x : X) (xs : List X) → AllPairs R (x ∷ xs) → AllPairs R xs
+pub tail_pairs : {X : Type 0} (R : X → X → Type 0) (x : X) (xs : List X) → AllPairs R (x ∷ xs) → AllPairs R xs
 tail_pairs R x xs all = λ i j d lt within. all (suc i) (suc j) d (omega arith) (omega (arith, within))
 
 pub found_all : {X : Type 0} (P : X → Type 0) (p : X → Bool) (xs : List X) (x : X) → find p xs ≡ Some x → All P xs → P x
@@ -106,7 +106,7 @@ at_itself t =
     let id : (t.id == t.id) ≡ true = eq-eqb t.id t.id refl in
     rw client id
 
-turned : (b c : Command Job) → is_at (ticket_of c) b ≡ true → is_at (ticket_of b) c ≡ true
+pub turned : (b c : Command Job) → is_at (ticket_of c) b ≡ true → is_at (ticket_of b) c ≡ true
 turned b c at = sym (same_ticket (ticket_of c) (ticket_of b) (ticket_of c) at) ∙ at_itself (ticket_of c)
 
 -- what stands at the ticket of a running command runs

@@ -1,5 +1,7 @@
 mod Calls
+mod Caused
 mod Changes
+mod Codes
 mod Keeping
 mod Lists
 mod Machines

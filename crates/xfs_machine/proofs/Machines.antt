@@ -65,7 +65,7 @@ abbrev Rising : Connection → Connection → Type 0
 Rising a b = a.client.0 < b.client.0
 
 -- a machine with the same connections and commands
-aside : (s t : State) → t.connections ≡ s.connections → t.queues ≡ s.queues → t.given ≡ s.given → IsMachine s → IsMachine t
+pub aside : (s t : State) → t.connections ≡ s.connections → t.queues ≡ s.queues → t.given ≡ s.given → IsMachine s → IsMachine t
 aside s t ks qs given is = record {
   room = rw ks is.room;
   rising = rw ks is.rising;

@@ -27,7 +27,7 @@ use Rattle.xfs_machine.specs.Guards.{Expires, NonceCommand, is_live}
 use Rattle.xfs_machine.specs.Results.{changed, outcome, plain, with_plan, with_result}
 use Rattle.xfs_machine.specs.State.{Ask, issue, clear, cash, card, entry, bad, Ending, Job, Outcome, State, queue_at}
 use Rattle.xfs_machine.specs.Touches.{running_at}
-use Rattle.xfs_machine.specs.Work.{Case, order, expire, answer, nonce, overdue, stop, go_on, begin, rest, is_overdue}
+use Rattle.xfs_machine.specs.Work.{Case, order, expire, answer, nonce, overdue, stop, go_on, begin, rest, is_overdue, is_stopped}
 
 -- the command has its result
 abbrev pub resulting : State → Service → Command Job → Outcome → State
@@ -98,7 +98,7 @@ pub record IsTooLate (s : State) (service : Service) (new : State) : Type 0 wher
 -- the running command is stopped: it is canceled, or its deadline has come; its device forgets it
 pub record Stops (s : State) (service : Service) (new : State) : Type 0 where
   pub command : Command Job
-  pub runs : running_at s service ≡ Some command
+  pub first : find (is_stopped s) (queue_at s service) ≡ Some command
   pub is : new ≡ device_stopped (resulting s service command (plain (if command.marked then Canceled else TimeOut))) service
 
 -- what its checks make of a command of the dispenser: it has its result, or a plan

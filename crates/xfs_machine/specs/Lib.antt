@@ -1,4 +1,5 @@
 pub mod Cases
+pub mod Causes
 pub mod Commands
 pub mod Connections
 pub mod Conversations

@@ -6,6 +6,7 @@ ghost use Rattle.std.specs.Prelude.{◌≡◌, ◌++◌, ℕ, List, Some};
 ghost use Rattle.xfs_base.specs.declared.moment.ClientId.{ClientId};
 ghost use Rattle.xfs_conversation.specs.Once.{IsOnce};
 ghost use Rattle.xfs_dispenser.specs.Seen.{Seen};
+ghost use Rattle.xfs_machine.specs.Causes.{HasCauses};
 ghost use Rattle.xfs_machine.specs.Connections.{connection_at};
 ghost use Rattle.xfs_machine.specs.Conversations.{IsTalk, Keeps};
 ghost use Rattle.xfs_machine.specs.Events.{Answer, Event};
@@ -45,4 +46,10 @@ pub fn commands_complete_once()
 /// call of the guard keeps.
 pub fn steps_call_the_guard_once()
     ensures { (old new : State) (event : Event) (answer : Answer) → IsPlain event → Step old event answer new → AtMostOneCall old.seen new.seen }
+{}
+
+/// Each step keeps that a command with the result `canceled` is marked, and that one with the result
+/// `timeOut` has a timeout whose deadline has come.
+pub fn results_have_their_causes()
+    ensures { (old new : State) (event : Event) (answer : Answer) → IsMachine old → Step old event answer new → HasCauses old → HasCauses new }
 {}
