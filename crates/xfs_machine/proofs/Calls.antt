@@ -1,5 +1,5 @@
 -- A step calls the guard at most once.
-use Rattle.std.proofs.Common.{◌≡◌, ℕ, Bool, true, false, MatchBool, MatchOption, List, [], ◌∷◌, Option, None, Some, Result, Ok, Err, map, refl, ap, ◌∙◌, inl, inr}
+use Rattle.std.proofs.Common.{◌≡◌, ℕ, Bool, true, false, MatchBool, MatchOption, List, [], Option, None, Some, Result, Ok, Err, map, refl, ap, ◌∙◌, inl, inr}
 use Rattle.xfs_base.specs.declared.moment.Moment.{Moment}
 use Rattle.xfs_base.specs.declared.moment.Service.{Service}
 use Rattle.xfs_base.specs.declared.moment.Service.TheVariants.{Publisher, Card, Keys, Cash}
@@ -26,7 +26,7 @@ use Rattle.xfs_machine.specs.Commands.{line_of}
 use Rattle.xfs_machine.specs.Connections.{announced, connection_of, left, without_mail}
 use Rattle.xfs_machine.specs.Devices.{Saying, card_says, device_stopped, keyboard_says, with_keypad, with_slot}
 use Rattle.xfs_machine.specs.Events.{Answer, Event, join, post, touch, work, outbox, leave, restart, end_, finish, joined, full, done, handed, ended}
-use Rattle.xfs_machine.specs.GuardCalls.{AtMostOneCall, GuardCall, IsPlain, checked, marked, missed, took as taken_, worked}
+use Rattle.xfs_machine.specs.GuardCalls.{AtMostOneCall, IsPlain, checked, marked, missed, took as taken_, worked}
 use Rattle.xfs_machine.specs.Guards.{Expires, NonceCommand, cleared_, ended as over, issued, none_to_clear, refused, uncleared, unended, unissued}
 use Rattle.xfs_machine.specs.Pendings.{pending_in}
 use Rattle.xfs_machine.specs.Posts.{Accepts, Refuses, Takes, TakesOn, is_crowded}

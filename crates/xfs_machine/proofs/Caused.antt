@@ -1,15 +1,13 @@
 -- Each result has its cause, and keeps it.
-use Rattle.std.proofs.Common.{◌≡◌, ℕ, ◌+◌, ◌≤◌, ◌==◌, ◌&&◌, ◌||◌, not, nat_le, Bool, true, false, cond, MatchBool, MatchOption, List, [], ◌∷◌, ◌++◌, Option, None, Some, Result, Ok, Err, length, get_or, map, filter, find, All, AllPairs, codes, refl, ap, sym, ◌∙◌, inl, inr, arith}
+use Rattle.std.proofs.Common.{◌≡◌, ℕ, ◌≤◌, ◌==◌, ◌&&◌, ◌||◌, not, nat_le, Bool, true, false, cond, MatchBool, MatchOption, List, [], ◌∷◌, Option, None, Some, Result, Ok, Err, length, get_or, map, find, All, AllPairs, codes, refl, ap, sym, ◌∙◌, inl, inr, arith}
 use Rattle.std.specs.List.{list_any}
 use Rattle.std.specs.Option.{IfSome}
 use Rattle.std.specs.Str.{bytes_eq}
-use Rattle.std.proofs.lemmas.Bool.{cases_Bool, and_parts, eqb-true, false≢true, leb-true, le-leb}
+use Rattle.std.proofs.lemmas.Bool.{cases_Bool, and_parts, false≢true, leb-true, le-leb}
 use Rattle.std.proofs.lemmas.List.Elements.{All-cons, All-filter, All-map, All-nil, All-push}
 use Rattle.xfs_base.specs.declared.moment.Moment.{Moment}
-use Rattle.xfs_base.specs.declared.moment.ClientId.{ClientId}
 use Rattle.xfs_base.specs.declared.moment.Service.{Service}
 use Rattle.xfs_base.specs.declared.moment.Service.TheVariants.{Publisher, Card, Keys, Cash}
-use Rattle.xfs_envelope.specs.declared.code.Code.{Code}
 use Rattle.xfs_envelope.specs.declared.code.Code.TheVariants.{Canceled, TimeOut}
 use Rattle.xfs_queue.specs.declared.command.Command.{Command}
 use Rattle.xfs_queue.specs.Commands.{ticket_of, is_at, is_due, deadline}
@@ -41,8 +39,8 @@ use Rattle.xfs_queue.specs.declared.command.Ids.{Ids}
 use Rattle.xfs_queue.specs.declared.command.Line.{Line}
 use Rattle.xfs_queue.specs.declared.command.Line.TheVariants.{Nonce, Device}
 use Rattle.xfs_queue.specs.Commands.{is_of, is_ready, is_running, is_waiting, waits_on}
-use Rattle.xfs_queue.specs.Queue.{canceled, is_named, mark, offered, without, without_client}
-use Rattle.xfs_machine.specs.Cases.{AnswersFirst, BeginsAs, BeginsFirst, Does, DoesNonce, EndsLife, IsTooLate, Stops, TakesNonce, WorksOnPlan, resulting, with_start, with_went}
+use Rattle.xfs_queue.specs.Queue.{canceled, is_named, mark, without, without_client}
+use Rattle.xfs_machine.specs.Cases.{AnswersFirst, BeginsAs, Does, DoesNonce, Stops, TakesNonce, WorksOnPlan, resulting, with_start, with_went}
 use Rattle.xfs_machine.specs.Commands.{line_of}
 use Rattle.xfs_machine.specs.Connections.{announced, connection_of, is_service, left, sent, with_queue_at, without_mail}
 use Rattle.xfs_machine.specs.Devices.{Hears, Saying, card_says, device_stopped, keyboard_says, with_keypad, with_saying, with_slot}
@@ -51,10 +49,10 @@ use Rattle.xfs_machine.specs.Guards.{NonceCommand, cleared_, issued, none_to_cle
 use Rattle.xfs_machine.specs.Immediate.{AtOnce, canceling, done_at_once, ids_of, stop, stopped, told_of}
 use Rattle.xfs_machine.specs.Kept.{IsMachine}
 use Rattle.xfs_machine.specs.Pendings.{pending_in}
-use Rattle.xfs_machine.specs.Posts.{Accepts, DoesAtOnce, Refuses, Takes, TakesOn, is_crowded, job_of}
+use Rattle.xfs_machine.specs.Posts.{Accepts, Refuses, Takes, TakesOn, is_crowded}
 use Rattle.xfs_machine.specs.Results.{changed, closing, error, plain, success, with_plan, with_result}
-use Rattle.xfs_machine.specs.State.{Ask, issue, clear, cash, card, entry, bad, Connection, Job, Outcome, Pass, State, bare, queue_at, queue_of}
-use Rattle.xfs_machine.specs.Step.{Happens, Hands, Joins, Leaves, Posts, Step, at_moment, happens, wanting}
+use Rattle.xfs_machine.specs.State.{Ask, issue, clear, cash, card, entry, bad, Connection, Job, Outcome, Pass, State, bare, queue_at}
+use Rattle.xfs_machine.specs.Step.{Happens, Hands, Leaves, Posts, Step, at_moment, happens, wanting}
 use Rattle.xfs_machine.specs.Touches.{CardSays, IsHeard, TakesNotes, Touches, TouchesCard, TouchesKeys, failed, running_at, shut, took}
 use Rattle.xfs_machine.specs.Work as working
 use Rattle.xfs_machine.specs.Work.{case_of, is_overdue, is_stopped}

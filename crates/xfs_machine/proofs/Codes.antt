@@ -1,5 +1,5 @@
 -- The devices never answer that a command was canceled, or that its time was over.
-use Rattle.std.proofs.Common.{◌≡◌, ℕ, Bool, true, false, cond, List, [], ◌∷◌, Option, None, Some, Result, Ok, Err, refl, ap, sym, ◌∙◌, subst, inl, inr}
+use Rattle.std.proofs.Common.{◌≡◌, Bool, true, false, cond, List, [], ◌∷◌, Option, None, Some, Result, Ok, Err, refl, sym, subst, inl, inr}
 use Rattle.std.specs.Option.{IfSome}
 use Rattle.xfs_base.specs.declared.counts.Counts.{Counts}
 use Rattle.xfs_base.specs.declared.money.NoteKind.{NoteKind}
@@ -11,7 +11,7 @@ use Rattle.xfs_card.specs.declared.state.CardEvent.TheVariants.{Begin, Inserted,
 use Rattle.xfs_dispenser.specs.Answers.{Answer, Start, told, planned, Went, more, done, denial, answer_of, plain}
 use Rattle.xfs_dispenser.specs.Begins.{Begins, IsTold, StartsUnless, StartsWith}
 use Rattle.xfs_dispenser.specs.Seen.{Seen}
-use Rattle.xfs_dispenser.specs.Steps.{DoesFirst, DoesPart, IsDenied, Notes, Orders, Restores, Works, WorksOn, onward, settled}
+use Rattle.xfs_dispenser.specs.Steps.{DoesFirst, DoesPart, IsDenied, Works, WorksOn, onward, settled}
 use Rattle.xfs_dispenser.specs.declared.ask.CashAsk.{CashAsk}
 use Rattle.xfs_dispenser.specs.declared.ask.CashAsk.TheVariants.{Denominate, Dispense, Present, Reject, Reset, Retract, StartExchange, SetStorage, EndExchange}
 use Rattle.xfs_dispenser.specs.declared.part.Part.{Part}
@@ -20,7 +20,7 @@ use Rattle.xfs_dispenser.specs.declared.plan.Plan.{Plan}
 use Rattle.xfs_dispenser.specs.declared.refusal.Refusal.{Refusal}
 use Rattle.xfs_dispenser.specs.declared.refusal.Refusal.TheVariants as refusal
 use Rattle.xfs_envelope.specs.declared.code.Code.{Code}
-use Rattle.xfs_envelope.specs.declared.code.Code.TheVariants.{Success, CommandErrorCode, Canceled, TimeOut, DeviceNotReady, HardwareError, InvalidCommand, InvalidData, UnsupportedData, SequenceError, AuthorisationRequired, NoCommandNonce, InvalidToken, InvalidTokenNonce, InvalidTokenHmac, InvalidTokenFormat, InvalidTokenKeyNoValue, NotEnoughSpace, InternalError, UnsupportedCommand, UserError, FraudAttempt}
+use Rattle.xfs_envelope.specs.declared.code.Code.TheVariants.{Canceled, TimeOut, HardwareError}
 use Rattle.xfs_guard.specs.declared.deny.Deny.{Deny}
 use Rattle.xfs_guard.specs.declared.deny.Deny.TheVariants.{Shut, Full, TooLong, KeyNoValue, Format, NoNonce, WrongNonce, WrongMac, NoAmounts, OtherBound, NotEmpty, OverBudget, Unbound, Nothing, OutletFull, Short, Disk, Memory}
 use Rattle.xfs_guard.specs.declared.open.Open.{Open}

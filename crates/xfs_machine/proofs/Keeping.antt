@@ -1,5 +1,5 @@
 -- Each step keeps every conversation.
-use Rattle.std.proofs.Common.{◌≡◌, ℕ, ◌+◌, ◌≤◌, ◌==◌, ◌&&◌, ◌||◌, not, Bool, true, false, cond, MatchBool, MatchOption, List, [], ◌∷◌, ◌++◌, Option, None, Some, Result, Ok, Err, map, find, filter, All, refl, ap, sym, ◌∙◌, inl, inr, arith}
+use Rattle.std.proofs.Common.{◌≡◌, ℕ, ◌+◌, ◌≤◌, ◌==◌, not, Bool, true, false, cond, MatchBool, MatchOption, List, [], ◌∷◌, ◌++◌, Option, None, Some, Result, Ok, Err, map, find, All, refl, ap, sym, ◌∙◌, inl, inr, arith}
 use Rattle.std.specs.Option.{IfSome, option_or}
 use Rattle.std.proofs.lemmas.Bool.{cases_Bool, and_parts, eqb-true, eq-eqb, ne_eqb, cases_eq, false≢true}
 use Rattle.std.proofs.lemmas.List.{append-nil}
@@ -8,9 +8,7 @@ use Rattle.std.proofs.lemmas.List.Folds.{find-append}
 use Rattle.xfs_base.specs.declared.moment.ClientId.{ClientId}
 use Rattle.xfs_base.specs.declared.moment.Moment.{Moment}
 use Rattle.xfs_base.specs.declared.moment.Service.{Service}
-use Rattle.xfs_base.specs.declared.moment.Service.TheVariants.{Publisher, Card, Keys, Cash}
 use Rattle.xfs_conversation.specs.Conversation.{Acknowledges, misread, misnumbered, crowded, accepted, Conversation, joined as begun, posted}
-use Rattle.xfs_conversation.specs.Immediate.{IsImmediate}
 use Rattle.xfs_conversation.specs.Pending.{is_wrong_id, pending_of as known_as}
 use Rattle.xfs_conversation.proofs.Immediate.{completed_at_once}
 use Rattle.xfs_envelope.specs.Commands.{command_in}
@@ -24,17 +22,17 @@ use Rattle.xfs_queue.specs.Queue.{offered, without_client}
 use Rattle.xfs_machine.specs.Commands.{line_of}
 use Rattle.xfs_machine.specs.Connections.{connection_at, connection_of, is_at, is_client, is_service, left, sent, with_queue_at, without_mail}
 use Rattle.xfs_machine.specs.Conversations.{Talks, IsTalk, Keeps, texts_after, frames_after, is_pass_of}
-use Rattle.xfs_machine.specs.Events.{Event, Answer, join, post, outbox, joined, done, handed}
+use Rattle.xfs_machine.specs.Events.{join, post, outbox, joined, done, handed}
 use Rattle.xfs_machine.specs.Immediate.{done_at_once}
 use Rattle.xfs_machine.specs.Kept.{IsMachine}
 use Rattle.xfs_machine.specs.Pendings.{pending_in}
 use Rattle.xfs_machine.specs.Posts.{Accepts, Takes, TakesOn, Refuses, DoesAtOnce, is_crowded, job_of}
-use Rattle.xfs_machine.specs.State.{Connection, Job, Pass, State, queue_at, queue_of}
+use Rattle.xfs_machine.specs.State.{Connection, Job, Pass, State, queue_at}
 use Rattle.xfs_machine.specs.Step.{Hands, Joins, Leaves, Posts, at_moment}
 use Rattle.xfs_machine.proofs.Lists.{found_passes, find-filter, find-dropped, IfSome-same}
 use Rattle.xfs_machine.proofs.Pendings.{pending_at_once, pending_push_mine, pending_push_other, pending_without_client}
 use Rattle.xfs_machine.proofs.Queues.{itself, queue_here, queue_same, queue_there}
-use Rattle.xfs_machine.proofs.Talks.{talk_after, talk_at_desk, sent_alone, other_way}
+use Rattle.xfs_machine.proofs.Talks.{talk_after, talk_at_desk, sent_alone}
 
 some_injective : {X : Type 0} (x y : X) → Some x ≡ Some y → x ≡ y
 some_injective x y e = cc
@@ -54,7 +52,7 @@ pub record IsOpen (s : State) (pass : Pass) (k : Connection) : Type 0 where
 none_some : {X : Type 0} (x : X) → None ≡ Some x → ⊥
 none_some x e = cc
 
-is_open : (s : State) (pass : Pass) (k : Connection) (b : Bool) → (s.boot == pass.boot) ≡ b → cond b (connection_at s pass.client) None ≡ Some k → IsOpen s pass k
+pub is_open : (s : State) (pass : Pass) (k : Connection) (b : Bool) → (s.boot == pass.boot) ≡ b → cond b (connection_at s pass.client) None ≡ Some k → IsOpen s pass k
 is_open s pass k true same found = record { boot = same; found = found; named = eqb-true _ _ (found_passes (is_client pass.client) s.connections k found) }
 is_open s pass k false same found = absurd (none_some k found)
 

@@ -5,6 +5,7 @@ mod Codes
 mod Keeping
 mod Lists
 mod Machines
+mod Marks
 mod Pendings
 mod Queues
 mod Runs

@@ -1,8 +1,8 @@
 -- Each step keeps what the machine keeps.
-use Rattle.std.proofs.Common.{◌≡◌, ℕ, ◌+◌, ◌<◌, ◌≤◌, ◌==◌, ◌&&◌, ◌||◌, not, nat_le, Bool, true, false, cond, MatchBool, MatchOption, List, [], ◌∷◌, ◌++◌, Option, None, Some, Result, Ok, Err, length, get_or, map, filter, find, count_by, All, AllPairs, codes, refl, ap, sym, ◌∙◌, inl, inr, arith}
+use Rattle.std.proofs.Common.{◌≡◌, ℕ, ◌+◌, ◌<◌, ◌≤◌, ◌==◌, ◌&&◌, not, nat_le, Bool, true, false, cond, MatchBool, MatchOption, List, [], ◌∷◌, ◌++◌, Option, None, Some, Result, Ok, Err, length, map, count_by, All, codes, refl, ap, sym, ◌∙◌, inl, inr, arith}
 use Rattle.std.specs.List.{list_any}
 use Rattle.std.specs.Str.{bytes_eq}
-use Rattle.std.proofs.lemmas.Bool.{cases_Bool, and_left, and_right, or_parts}
+use Rattle.std.proofs.lemmas.Bool.{cases_Bool, and_right, or_parts}
 use Rattle.std.proofs.lemmas.List.{length-append, length-map}
 use Rattle.std.proofs.lemmas.List.Elements.{All-filter, All-map, All-nil, All-push}
 use Rattle.std.proofs.lemmas.List.Kept.{AllPairs-filter}
@@ -39,7 +39,7 @@ use Rattle.xfs_queue.specs.declared.command.Line.{Line}
 use Rattle.xfs_queue.specs.Commands.{is_at, is_due, is_of, is_running, is_waiting, ticket_of}
 use Rattle.xfs_queue.specs.Queue.{IsQueue, canceled, is_named, offer_fault, offered, without, without_client}
 use Rattle.xfs_queue.proofs.Kept.{queue_after_filter, queue_after_push, queue_canceled, queue_without_client}
-use Rattle.xfs_machine.specs.Cases.{AnswersFirst, BeginsAs, BeginsFirst, Does, DoesNonce, EndsLife, IsTooLate, Stops, TakesNonce, WorksOnPlan, resulting, with_start, with_went}
+use Rattle.xfs_machine.specs.Cases.{AnswersFirst, BeginsAs, Does, DoesNonce, EndsLife, Stops, TakesNonce, WorksOnPlan, resulting, with_start, with_went}
 use Rattle.xfs_machine.specs.Commands.{line_of}
 use Rattle.xfs_machine.specs.Connections.{announced, connection_at, connection_of, is_at as is_at_, is_client, is_service, left, sent, with_mail, with_queue_at, without_mail}
 use Rattle.xfs_machine.specs.Devices.{Hears, Saying, card_says, device_stopped, keyboard_says, with_keypad, with_saying, with_slot}
@@ -47,16 +47,14 @@ use Rattle.xfs_machine.specs.Events.{Answer, Event, join, post, touch, work, out
 use Rattle.xfs_machine.specs.Immediate.{AtOnce, canceling, done_at_once, ids_of, stop, stopped, told_of}
 use Rattle.xfs_machine.specs.Kept.{IsMachine}
 use Rattle.xfs_machine.specs.Pendings.{pending_in}
-use Rattle.xfs_machine.specs.Posts.{Accepts, DoesAtOnce, Refuses, Takes, TakesOn, is_crowded, job_of}
+use Rattle.xfs_machine.specs.Posts.{Accepts, Refuses, Takes, TakesOn, is_crowded, job_of}
 use Rattle.xfs_machine.specs.Results.{changed, error, plain, success, with_result}
-use Rattle.xfs_machine.specs.State.{Ask, issue, clear, cash, card, entry, bad, Connection, Job, Outcome, Pass, State, bare, queue_at, queue_of}
+use Rattle.xfs_machine.specs.State.{Ask, issue, clear, cash, card, entry, bad, Connection, Job, Outcome, Pass, State, bare, queue_at}
 use Rattle.xfs_machine.specs.Step.{Happens, Hands, Joins, Leaves, Posts, Step, at_moment, happens, wanting}
 use Rattle.xfs_machine.specs.Touches.{CardSays, IsHeard, TakesNotes, Touches, TouchesCard, TouchesKeys, failed, running_at, shut, took}
 use Rattle.xfs_machine.specs.Work as working
 use Rattle.xfs_machine.specs.Work.{case_of}
 use Rattle.xfs_machine.proofs.Changes.{AllPairs-map, KeepsTicket, NotBoth, changed_begins, changed_ends, changed_runs, clients_changed, each, found_all, queue_after_map}
-use Rattle.xfs_machine.proofs.Keeping.{new_number}
-use Rattle.xfs_machine.proofs.Lists.{found_passes}
 use Rattle.xfs_machine.proofs.Pendings.{is_pending_there}
 use Rattle.xfs_machine.proofs.Queues.{queue_here, queue_there}
 use Rattle.xfs_machine.proofs.Talks.{client_with_mail}
@@ -351,7 +349,7 @@ leaves_at old k h =
     let q : List (Command Job) = without_client (queue_at old k.service) k.client in
     let stays = λ (j : Connection). not (is_client k.client j) in
     let t = with_queue_ old k.service q (queue_without_client k.client (queue_at old k.service) (h.queues k.service))
-        (All-map (λ a. a.client.0 ≤ old.given) _ _ (All-filter _ (λ a. a.client.0 ≤ old.given) (queue_at old k.service) (h.commands k.service))) h in
+    (All-map (λ a. a.client.0 ≤ old.given) _ _ (All-filter _ (λ a. a.client.0 ≤ old.given) (queue_at old k.service) (h.commands k.service))) h in
     record {
       room = omega (arith, h.room, length-filter stays old.connections, count_by-le-length stays old.connections);
       rising = AllPairs-filter Rising stays old.connections h.rising;

@@ -12,7 +12,7 @@ use Rattle.xfs_queue.specs.declared.command.Ticket.{Ticket}
 use Rattle.xfs_queue.specs.declared.command.Ids.{Ids}
 use Rattle.xfs_queue.specs.Commands.{is_at, is_of, is_running, is_waiting}
 use Rattle.xfs_queue.specs.Queue.{canceled, is_named, without, without_client}
-use Rattle.xfs_conversation.specs.Pending.{has_id, is_pending, without_id}
+use Rattle.xfs_conversation.specs.Pending.{is_pending, without_id}
 use Rattle.xfs_common.specs.Cancel.{request_ids}
 use Rattle.xfs_common.specs.Payloads.{nothing}
 use Rattle.xfs_common.specs.declared.error.ErrorCode.TheVariants.{NoMatchingRequestIds}

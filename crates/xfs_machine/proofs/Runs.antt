@@ -1,8 +1,6 @@
 -- Whole runs.
-use Rattle.std.proofs.Common.{◌≡◌, ℕ, List, [], ◌++◌, Option, Some, None}
-use Rattle.std.specs.Option.{IfSome}
+use Rattle.std.proofs.Common.{◌≡◌, ℕ, List, ◌++◌, Some}
 use Rattle.xfs_base.specs.declared.moment.ClientId.{ClientId}
-use Rattle.xfs_conversation.specs.Conversation.{Conversation}
 use Rattle.xfs_conversation.specs.Once.{IsOnce}
 use Rattle.xfs_conversation.proofs.Once.{once_of}
 use Rattle.xfs_dispenser.specs.Seen.{Seen}

@@ -1,8 +1,6 @@
 -- Each step keeps every conversation, and each run.
-use Rattle.std.proofs.Common.{◌≡◌, ℕ, List, inl, inr}
-use Rattle.xfs_base.specs.declared.moment.ClientId.{ClientId}
-use Rattle.xfs_machine.specs.Conversations.{IsTalk, Keeps}
-use Rattle.xfs_machine.specs.Events.{Event, join, post, touch, work, outbox, leave, restart, end_, finish, Answer, joined, full, done, taken, fault, closed, touched, did, idle, handed, restarted, unrestarted, ended, unsettled, memory}
+use Rattle.xfs_machine.specs.Conversations.{Keeps}
+use Rattle.xfs_machine.specs.Events.{Event, join, post, touch, work, outbox, leave, restart, end_, finish, Answer, joined, full, done, handed, restarted, unrestarted, ended, unsettled, memory}
 use Rattle.xfs_machine.specs.Kept.{IsMachine}
 use Rattle.xfs_machine.specs.State.{State}
 use Rattle.xfs_machine.specs.Step.{Happens, MayWant, Step, at_moment, happens, wanting}

@@ -1,13 +1,11 @@
 -- Each case of the work, and each touch, keeps every conversation.
-use Rattle.std.proofs.Common.{◌≡◌, ℕ, ◌||◌, Bool, true, false, MatchBool, List, [], ◌∷◌, ◌++◌, Option, None, Some, find, refl, ap, sym, ◌∙◌, inl, inr}
-use Rattle.serde_json.specs.Data.{string}
+use Rattle.std.proofs.Common.{◌≡◌, ℕ, Bool, true, false, MatchBool, List, [], ◌∷◌, Option, None, Some, find, refl}
 use Rattle.xfs_base.specs.declared.moment.ClientId.{ClientId}
 use Rattle.xfs_base.specs.declared.moment.Service.{Service}
 use Rattle.xfs_base.specs.declared.moment.Service.TheVariants.{Publisher, Card, Keys, Cash}
 use Rattle.xfs_card.specs.Table as card_reader
 use Rattle.xfs_card.specs.declared.state.CardEvent.{CardEvent}
 use Rattle.xfs_card.specs.declared.state.CardEvent.TheVariants as card_event
-use Rattle.xfs_common.specs.Payloads.{only}
 use Rattle.xfs_dispenser.specs.Answers.{Start, told, planned, Went, more, done}
 use Rattle.xfs_dispenser.specs.declared.plan.Plan.{Plan}
 use Rattle.xfs_envelope.specs.declared.code.Code.TheVariants.{TimeOut}
@@ -17,20 +15,20 @@ use Rattle.xfs_keyboard.specs.declared.state.KeyEvent.TheVariants as key_event
 use Rattle.xfs_mech.specs.declared.touch.Touch.{Touch}
 use Rattle.xfs_mech.specs.declared.touch.Touch.TheVariants.{CardIn, CardTaken, CardFault, Key, KeyFault, NotesTaken}
 use Rattle.xfs_queue.specs.declared.command.Command.{Command}
-use Rattle.xfs_queue.specs.declared.command.Line.TheVariants.{Nonce, Device}
+use Rattle.xfs_queue.specs.declared.command.Line.TheVariants.{Device}
 use Rattle.xfs_queue.specs.Commands.{is_due, is_ready, is_running, ticket_of, waits_on}
 use Rattle.xfs_queue.specs.Queue.{without}
-use Rattle.xfs_machine.specs.Cases.{AnswersFirst, BeginsAs, BeginsFirst, Does, DoesNonce, EndsLife, IsTooLate, Stops, TakesNonce, WorksOnPlan, resulting, with_start, with_went}
+use Rattle.xfs_machine.specs.Cases.{AnswersFirst, BeginsAs, Does, DoesNonce, EndsLife, IsTooLate, Stops, TakesNonce, WorksOnPlan, resulting, with_start, with_went}
 use Rattle.xfs_machine.specs.Connections.{announced, sent, with_queue_at}
 use Rattle.xfs_machine.specs.Conversations.{IsTalk}
 use Rattle.xfs_machine.specs.Devices.{Hears, Saying, card_says, device_stopped, keyboard_says, with_keypad, with_saying, with_slot}
 use Rattle.xfs_machine.specs.Events.{Answer}
-use Rattle.xfs_machine.specs.Frames.{Announces, IsRemoval}
-use Rattle.xfs_machine.specs.Pendings.{known_to, pending_in}
+use Rattle.xfs_machine.specs.Frames.{Announces}
+use Rattle.xfs_machine.specs.Pendings.{known_to}
 use Rattle.xfs_machine.specs.Results.{changed, plain, with_result}
 use Rattle.xfs_machine.specs.State.{Ask, issue, clear, cash, card, entry, bad, Ending, Job, Outcome, State, queue_at}
 use Rattle.xfs_machine.specs.Touches.{CardSays, IsHeard, TakesNotes, Touches, TouchesCard, TouchesKeys, failed, running_at, shut, took}
-use Rattle.xfs_machine.specs.Work.{Case, order, expire, answer, nonce, overdue, stop, go_on, begin, rest, is_overdue}
+use Rattle.xfs_machine.specs.Work.{Case, order, expire, answer, nonce, overdue, stop, go_on, begin, rest}
 use Rattle.xfs_machine.proofs.Pendings.{pending_changed}
 use Rattle.xfs_machine.proofs.Talks.{talk_announced, talk_completed, talk_heard, talk_requeued}
 

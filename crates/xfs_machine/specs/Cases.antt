@@ -1,5 +1,5 @@
 -- What each case of the work does.
-use Rattle.std.specs.Prelude.{◌≡◌, ℕ, ◌&&◌, ◌||◌, not, Bool, false, true, List, ◌∷◌, [], find, Option, None, Some, MatchBool, if◌then◌else◌}
+use Rattle.std.specs.Prelude.{◌≡◌, ℕ, ◌&&◌, ◌||◌, not, Bool, false, List, ◌∷◌, [], find, Option, None, Some, MatchBool, if◌then◌else◌}
 use Rattle.xfs_base.specs.declared.moment.Moment.{Moment}
 use Rattle.xfs_base.specs.declared.moment.Service.{Service}
 use Rattle.xfs_base.specs.declared.moment.Service.TheVariants.{Cash}
@@ -11,13 +11,12 @@ use Rattle.xfs_dispenser.specs.Seen.{Seen}
 use Rattle.xfs_dispenser.specs.Steps.{Works}
 use Rattle.xfs_dispenser.specs.declared.ask.CashAsk.{CashAsk}
 use Rattle.xfs_dispenser.specs.declared.plan.Plan.{Plan}
-use Rattle.xfs_envelope.specs.declared.code.Code.{Code}
 use Rattle.xfs_envelope.specs.declared.code.Code.TheVariants.{Canceled, InvalidData, TimeOut}
 use Rattle.xfs_keyboard.specs.Keyboard as keyboard
 use Rattle.xfs_keyboard.specs.declared.state.KeyEvent.TheVariants as key_event
 use Rattle.xfs_queue.specs.declared.command.Command.{Command}
 use Rattle.xfs_queue.specs.declared.command.Line.TheVariants.{Nonce, Device}
-use Rattle.xfs_queue.specs.Commands.{is_due, is_ready, is_running, ticket_of, waits_on}
+use Rattle.xfs_queue.specs.Commands.{is_due, is_ready, ticket_of, waits_on}
 use Rattle.xfs_queue.specs.Queue.{without}
 use Rattle.xfs_machine.specs.Connections.{announced, sent, with_queue_at}
 use Rattle.xfs_machine.specs.Devices.{Hears, card_says, device_stopped, keyboard_says, with_keypad, with_slot}
@@ -25,7 +24,7 @@ use Rattle.xfs_machine.specs.Events.{Answer, did, idle}
 use Rattle.xfs_machine.specs.Frames.{Announces, IsCompletion}
 use Rattle.xfs_machine.specs.Guards.{Expires, NonceCommand, is_live}
 use Rattle.xfs_machine.specs.Results.{changed, outcome, plain, with_plan, with_result}
-use Rattle.xfs_machine.specs.State.{Ask, issue, clear, cash, card, entry, bad, Ending, Job, Outcome, State, queue_at}
+use Rattle.xfs_machine.specs.State.{Ask, cash, card, entry, bad, Ending, Job, Outcome, State, queue_at}
 use Rattle.xfs_machine.specs.Touches.{running_at}
 use Rattle.xfs_machine.specs.Work.{Case, order, expire, answer, nonce, overdue, stop, go_on, begin, rest, is_overdue, is_stopped}
 

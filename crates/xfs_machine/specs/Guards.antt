@@ -1,5 +1,5 @@
 -- What the machine has its guard do beside the plans of the dispenser's commands: each is one call of the guard.
-use Rattle.std.specs.Prelude.{◌≡◌, ◌≢◌, ◌≤◌, ◌⊎◌, ℕ, Bool, true, false, List, [], ◌∷◌, ◌++◌, Option, None, Some, is_some, is_none}
+use Rattle.std.specs.Prelude.{◌≡◌, ◌≤◌, ◌⊎◌, ℕ, Bool, true, false, List, [], ◌∷◌, ◌++◌, Option, None, Some, is_some, is_none}
 use Rattle.xfs_base.specs.Causes.{Rose}
 use Rattle.xfs_base.specs.Counts.{LiesIn}
 use Rattle.xfs_base.specs.declared.counts.Counts.{Counts}
@@ -23,7 +23,6 @@ use Rattle.xfs_journal.specs.JournalView.{IsPossible, exceeds}
 use Rattle.xfs_journal.specs.declared.record.Rec.{Rec}
 use Rattle.xfs_journal.specs.declared.record.Rec.TheVariants.{Issue, Clear, Expire, Boot}
 use Rattle.xfs_mech.specs.declared.motion.Motion.TheVariants.{Taken}
-use Rattle.xfs_mech.specs.declared.motion.Outcome as mechanism
 use Rattle.xfs_machine.specs.State.{State, Ask, issue, clear, Ending, cleared, expired, Outcome}
 use Rattle.xfs_machine.specs.Results.{plain, success}
 

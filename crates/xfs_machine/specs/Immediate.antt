@@ -1,8 +1,7 @@
 -- The commands that are done at once: none of them changes the guard or a device, and a Cancel alone changes other commands.
-use Rattle.std.specs.Prelude.{ℕ, List, map, codes, Bool, ◌&&◌, Option, None, Some, Result, Ok, Err, if◌then◌else◌}
+use Rattle.std.specs.Prelude.{ℕ, List, map, codes, ◌&&◌, Option, None, Some, Result, Ok, Err, if◌then◌else◌}
 use Rattle.std.specs.List.{list_any}
 use Rattle.std.specs.Str.{bytes_eq}
-use Rattle.serde_json.specs.Data.{Data}
 use Rattle.xfs_base.specs.declared.moment.ClientId.{ClientId}
 use Rattle.xfs_base.specs.declared.moment.Service.{Service}
 use Rattle.xfs_base.specs.declared.moment.Service.TheVariants.{Publisher, Cash}

@@ -1,5 +1,5 @@
 -- What the machine keeps: at most 64 connections, whose client numbers rise, and in each service's queue differing ids of a client and at most one running command.
-use Rattle.std.specs.Prelude.{ℕ, ◌<◌, ◌≤◌, All, AllPairs, length}
+use Rattle.std.specs.Prelude.{◌<◌, ◌≤◌, All, AllPairs, length}
 use Rattle.xfs_base.specs.declared.moment.Service.{Service}
 use Rattle.xfs_queue.specs.Queue.{IsQueue}
 use Rattle.xfs_machine.specs.State.{State, queue_at}

@@ -1,5 +1,5 @@
 -- What becomes of a text that a client says.
-use Rattle.std.specs.Prelude.{◌≡◌, ℕ, ◌||◌, ◌++◌, nat_le, Bool, false, List, [], ◌∷◌, length, count_by, Option, Some, None, Result, Ok, Err, MatchBool, MatchOption}
+use Rattle.std.specs.Prelude.{◌≡◌, ℕ, ◌||◌, ◌++◌, nat_le, Bool, false, List, [], ◌∷◌, length, count_by, Option, Some, None, Result, Ok, Err, MatchBool}
 use Rattle.xfs_base.specs.declared.moment.ClientId.{ClientId}
 use Rattle.xfs_envelope.specs.Commands.{command_in}
 use Rattle.xfs_envelope.specs.Commands as envelope

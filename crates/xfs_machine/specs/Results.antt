@@ -1,5 +1,5 @@
 -- The results of commands, and where they stand in a queue.
-use Rattle.std.specs.Prelude.{ℕ, List, map, Bool, Option, Some, None, if◌then◌else◌}
+use Rattle.std.specs.Prelude.{List, map, Bool, Some, None, if◌then◌else◌}
 use Rattle.serde_json.specs.Data.{Data}
 use Rattle.xfs_common.specs.Errors.{error_text}
 use Rattle.xfs_common.specs.Payloads.{nothing, error_payload}
@@ -10,7 +10,7 @@ use Rattle.xfs_queue.specs.declared.command.Command.{Command}
 use Rattle.xfs_queue.specs.declared.command.Stage.TheVariants.{Running, Ready}
 use Rattle.xfs_queue.specs.Commands.{ticket_of, is_at}
 use Rattle.xfs_dispenser.specs.declared.plan.Plan.{Plan}
-use Rattle.xfs_machine.specs.State.{Ending, reset, Outcome, Job}
+use Rattle.xfs_machine.specs.State.{reset, Outcome, Job}
 
 -- a code and a payload, and no nonce ended
 abbrev pub outcome : Code → Data → Outcome

@@ -6,10 +6,10 @@ use Rattle.xfs_dispenser.specs.Seen.{Seen}
 use Rattle.xfs_envelope.specs.Commands.{command_in}
 use Rattle.xfs_machine.specs.Cases.{Does, told_by}
 use Rattle.xfs_machine.specs.Connections.{connection_of, left, without_mail}
-use Rattle.xfs_machine.specs.Events.{Event, join, post, touch, work, outbox, leave, restart, end_, finish, Answer, joined, full, done, did, idle, handed, restarted, unrestarted, ended, unsettled, memory}
+use Rattle.xfs_machine.specs.Events.{Event, join, post, touch, work, outbox, leave, restart, end_, finish, Answer, joined, full, done, handed, restarted, unrestarted, ended, unsettled, memory}
 use Rattle.xfs_machine.specs.Guards.{Closes, IsUnbooted, Reboots}
 use Rattle.xfs_machine.specs.Posts.{Takes}
-use Rattle.xfs_machine.specs.State.{Connection, Pass, State, bare}
+use Rattle.xfs_machine.specs.State.{Pass, State, bare}
 use Rattle.xfs_machine.specs.Touches.{Touches}
 use Rattle.xfs_machine.specs.Work.{case_of}
 

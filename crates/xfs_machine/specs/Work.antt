@@ -1,5 +1,5 @@
 -- A step of a service's work is the first of these cases that applies.
-use Rattle.std.specs.Prelude.{ℕ, ◌+◌, ◌==◌, ◌&&◌, ◌||◌, not, nat_le, Bool, true, false, if◌then◌else◌}
+use Rattle.std.specs.Prelude.{◌+◌, ◌==◌, ◌&&◌, ◌||◌, not, nat_le, Bool, true, false, if◌then◌else◌}
 use Rattle.std.specs.List.{list_any}
 use Rattle.xfs_base.specs.declared.moment.Service.{Service}
 use Rattle.xfs_base.specs.declared.moment.Service.TheVariants.{Cash}

@@ -6,7 +6,7 @@ ghost use Rattle.std.specs.Prelude.{◌≡◌, ◌++◌, ℕ, List, Some};
 ghost use Rattle.xfs_base.specs.declared.moment.ClientId.{ClientId};
 ghost use Rattle.xfs_conversation.specs.Once.{IsOnce};
 ghost use Rattle.xfs_dispenser.specs.Seen.{Seen};
-ghost use Rattle.xfs_machine.specs.Causes.{HasCauses};
+ghost use Rattle.xfs_machine.specs.Causes.{HasCauses, MarksHaveCauses};
 ghost use Rattle.xfs_machine.specs.Connections.{connection_at};
 ghost use Rattle.xfs_machine.specs.Conversations.{IsTalk, Keeps};
 ghost use Rattle.xfs_machine.specs.Events.{Answer, Event};
@@ -52,4 +52,11 @@ pub fn steps_call_the_guard_once()
 /// `timeOut` has a timeout whose deadline has come.
 pub fn results_have_their_causes()
     ensures { (old new : State) (event : Event) (answer : Answer) → IsMachine old → Step old event answer new → HasCauses old → HasCauses new }
+{}
+
+/// A command that is marked behind a step was marked before it, or the step is a Cancel that its own
+/// client posts and that names it, or its client leaves. So a result `canceled` that a client hears
+/// comes of a Cancel of its own.
+pub fn marks_have_their_causes()
+    ensures { (old new : State) (event : Event) (answer : Answer) → Step old event answer new → MarksHaveCauses old event new }
 {}
