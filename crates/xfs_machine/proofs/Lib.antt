@@ -7,7 +7,9 @@ mod Lists
 mod Machines
 mod Marks
 mod Pendings
+mod Places
 mod Queues
+mod Replies
 mod Runs
 mod Steps
 mod Talks

@@ -3,6 +3,7 @@ pub mod Causes
 pub mod Commands
 pub mod Connections
 pub mod Conversations
+pub mod Desks
 pub mod Devices
 pub mod Events
 pub mod Frames

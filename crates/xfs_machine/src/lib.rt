@@ -2,6 +2,11 @@
 //! laws of these definitions.
 #![tactic(auto)]
 
+mod connection;
+mod desk;
+mod pass;
+mod reply;
+
 ghost use Rattle.std.specs.Prelude.{◌≡◌, ◌++◌, ℕ, List, Some};
 ghost use Rattle.xfs_base.specs.declared.moment.ClientId.{ClientId};
 ghost use Rattle.xfs_conversation.specs.Once.{IsOnce};
@@ -16,6 +21,9 @@ ghost use Rattle.xfs_machine.specs.Pendings.{pending_in};
 ghost use Rattle.xfs_machine.specs.Runs.{Run};
 ghost use Rattle.xfs_machine.specs.State.{Connection, State, bare, queue_at};
 ghost use Rattle.xfs_machine.specs.Step.{Step};
+
+pub use desk::Desk;
+pub use pass::{JoinFault, Pass};
 
 /// Each step keeps the conversation of every connection, and begins that of a connection that joins.
 pub fn steps_keep_conversations()
@@ -42,8 +50,8 @@ pub fn commands_complete_once()
         → connection_at now mine ≡ Some k → IsOnce texts (frames ++ k.waiting) (pending_in k.client (queue_at now k.service)) }
 {}
 
-/// A step that is no restart and no finish makes at most one call of the guard, so it keeps what every
-/// call of the guard keeps.
+/// A step that is no restart and no finish makes at most one call of the guard, so that what each of
+/// these calls keeps is kept.
 pub fn steps_call_the_guard_once()
     ensures { (old new : State) (event : Event) (answer : Answer) → IsPlain event → Step old event answer new → AtMostOneCall old.seen new.seen }
 {}
@@ -60,3 +68,6 @@ pub fn results_have_their_causes()
 pub fn marks_have_their_causes()
     ensures { (old new : State) (event : Event) (answer : Answer) → Step old event answer new → MarksHaveCauses old event new }
 {}
+
+#[cfg(test)]
+mod tests;
