@@ -1,12 +1,12 @@
 -- The publisher's part of a machine: its connections, and no pending command.
-use Rattle.std.specs.Prelude.{◌≡◌, ℕ, ◌==◌, ◌<◌, ◌≤◌, All, AllPairs, List, [], ◌∷◌, position, Option, None, if◌then◌else◌}
+use Rattle.std.specs.Prelude.{MatchOption, ◌≡◌, ℕ, ◌==◌, ◌<◌, ◌≤◌, All, AllPairs, List, [], ◌∷◌, position, Option, None, if◌then◌else◌}
 use Rattle.serde_json.specs.Data.{Data}
 use Rattle.xfs_base.specs.declared.moment.ClientId.{ClientId}
 use Rattle.xfs_base.specs.declared.moment.Service.TheVariants.{Publisher}
 use Rattle.xfs_common.specs.Cancel.{request_ids}
 use Rattle.xfs_envelope.specs.Commands.{command_in}
 use Rattle.xfs_envelope.specs.Commands as envelope
-use Rattle.xfs_machine.specs.Connections.{is_client, sent}
+use Rattle.xfs_machine.specs.Connections.{connection_of, is_client, sent}
 use Rattle.xfs_machine.specs.Frames.{IsCompletion}
 use Rattle.xfs_machine.specs.Immediate.{canceling, done_at_once, told_of}
 use Rattle.xfs_machine.specs.Posts.{Takes}
@@ -66,3 +66,7 @@ frames_of (Done first last) = first ∷ last ∷ []
 -- where the connection of a pass stands; a pass of another boot has none
 abbrev pub place_of : DeskView → Pass → Option ℕ
 place_of d pass = if d.boot == pass.boot then position (is_client pass.client) d.connections else None
+
+-- a text of an open connection is taken as at every such machine; a pass that isn't open changes nothing
+abbrev pub PostsAt : DeskView → Pass → List ℕ → DeskView → Type 0
+PostsAt old pass text new = (s : State) → Shows old s → MatchOption (connection_of s pass) (new ≡ old) (λ k. Takes s k (command_in text) (with_desk s new))

@@ -1,9 +1,7 @@
-ghost use Rattle.std.specs.Prelude.{◌≡◌, [], IfOk, OnErr, OnOk, Err, MatchOption, position};
+ghost use Rattle.std.specs.Prelude.{◌≡◌, [], IfOk, OnErr, OnOk, Err, position};
 ghost use Rattle.xfs_base.specs.declared.moment.Service.TheVariants.{Publisher};
-ghost use Rattle.xfs_machine.specs.Connections.{connection_of, is_client};
-ghost use Rattle.xfs_envelope.specs.Commands.{command_in};
-ghost use Rattle.xfs_machine.specs.Desks.{Shows, place_of, with_desk};
-ghost use Rattle.xfs_machine.specs.Posts.{Takes};
+ghost use Rattle.xfs_machine.specs.Connections.{is_client};
+ghost use Rattle.xfs_machine.specs.Desks.{PostsAt, Shows, place_of, with_desk};
 ghost use Rattle.xfs_machine.specs.State.{State};
 ghost use Rattle.xfs_machine.specs.Step.{Hands, IsFull, Joins};
 ghost use Rattle.xfs_machine.specs.declared.pass.JoinFault.TheVariants as JoinFault;
@@ -75,7 +73,7 @@ impl Desk {
 
     /// Answers a text of an open connection. A pass that isn't open changes nothing.
     pub fn post(&mut self, pass: &Pass, text: &[u8]) -> Result<(), Memory>
-        ensures ok { OnOk result ((s : State) → Shows self.old s → MatchOption (connection_of s pass.now) (self.new ≡ self.old) (λ k. Takes s k (command_in text.now) (with_desk s self.new))) }
+        ensures ok { OnOk result (PostsAt self.old pass.now text.now self.new) }
         ensures err { OnErr result (self.new ≡ self.old) }
     {
         let Some(at) = self.place(pass) else {

@@ -10,16 +10,15 @@ mod reply;
 ghost use Rattle.std.specs.Prelude.{◌≡◌, ◌++◌, ℕ, List, Some};
 ghost use Rattle.xfs_base.specs.declared.moment.ClientId.{ClientId};
 ghost use Rattle.xfs_conversation.specs.Once.{IsOnce};
-ghost use Rattle.xfs_dispenser.specs.Seen.{Seen};
 ghost use Rattle.xfs_machine.specs.Causes.{HasCauses, MarksHaveCauses};
 ghost use Rattle.xfs_machine.specs.Connections.{connection_at};
 ghost use Rattle.xfs_machine.specs.Conversations.{IsTalk, Keeps};
 ghost use Rattle.xfs_machine.specs.Events.{Answer, Event};
 ghost use Rattle.xfs_machine.specs.GuardCalls.{AtMostOneCall, IsPlain};
 ghost use Rattle.xfs_machine.specs.Kept.{IsMachine};
-ghost use Rattle.xfs_machine.specs.Pendings.{pending_in};
-ghost use Rattle.xfs_machine.specs.Runs.{Run};
-ghost use Rattle.xfs_machine.specs.State.{Connection, State, bare, queue_at};
+ghost use Rattle.xfs_machine.specs.Pendings.{pending_at};
+ghost use Rattle.xfs_machine.specs.Runs.{IsReached};
+ghost use Rattle.xfs_machine.specs.State.{Connection, State};
 ghost use Rattle.xfs_machine.specs.Step.{Step};
 
 pub use desk::Desk;
@@ -39,15 +38,15 @@ pub fn steps_keep_the_machine()
 /// From a boot on, what a client posted since its join and what it was handed, with what waits for it
 /// and is pending, is a conversation, as long as it is connected.
 pub fn runs_are_conversations()
-    ensures { (seen : Seen) (life boot : ℕ) (mine : ClientId) (now : State) (texts frames : List (List ℕ)) → Run (bare seen life boot) mine now texts frames → IsTalk now mine texts frames }
+    ensures { (mine : ClientId) (now : State) (texts frames : List (List ℕ)) → IsReached mine now texts frames → IsTalk now mine texts frames }
 {}
 
 /// From a boot on, each text of a connected client has one acknowledge, and each command that was
 /// accepted at most one completion. A later state of the run is such a state too, with more frames:
 /// no step adds a second completion.
 pub fn commands_complete_once()
-    ensures { (seen : Seen) (life boot : ℕ) (mine : ClientId) (now : State) (texts frames : List (List ℕ)) (k : Connection) → Run (bare seen life boot) mine now texts frames
-        → connection_at now mine ≡ Some k → IsOnce texts (frames ++ k.waiting) (pending_in k.client (queue_at now k.service)) }
+    ensures { (mine : ClientId) (now : State) (texts frames : List (List ℕ)) (k : Connection) → IsReached mine now texts frames
+        → connection_at now mine ≡ Some k → IsOnce texts (frames ++ k.waiting) (pending_at now k) }
 {}
 
 /// A step that is no restart and no finish makes at most one call of the guard, so that what each of
