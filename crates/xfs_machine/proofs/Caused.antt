@@ -95,6 +95,7 @@ changed_caused now f p a q found is step all =
 -- a result of its own
 pub own_result : (now : Moment) (result : Outcome) (a : Command Job) → IsOwn result.code → IsCaused now (with_result result a)
 own_result now result a own = record {
+  ready = λ y. refl;
   canceled = λ r is code. absurd (false≢true (sym own ∙ ap is_stopping (code_of result r a is ∙ code)));
   late = λ r is code. absurd (false≢true (sym own ∙ ap is_stopping (code_of result r a is ∙ code)));
 }
@@ -134,6 +135,7 @@ moment_is false old now = refl
 
 pub later_causes : (s : State) (now : Moment) → HasCauses s → HasCauses (at_moment s now)
 later_causes s now h = λ service. each (IsCaused s.now) (IsCaused (at_moment s now).now) (λ a is. rw (moment_is (nat_le s.now.0 now.0) s.now now) record {
+  ready = is.ready;
   canceled = is.canceled;
   late = λ result has code. later_due s.now now a (is.late result has code);
 }) (queue_at s service) (h service)
@@ -141,13 +143,14 @@ later_causes s now h = λ service. each (IsCaused s.now) (IsCaused (at_moment s 
 -- the marks of a queue are no results
 marked_caused : (now : Moment) (m : Command Job → Bool) (q : List (Command Job)) → All (IsCaused now) q → All (IsCaused now) (map (λ a. mark (m a) a) q)
 marked_caused now m q all = All-map (IsCaused now) (λ a. mark (m a) a) q (each (IsCaused now) (λ a. IsCaused now (mark (m a) a)) (λ a is. record {
+  ready = is.ready;
   canceled = λ result has code. rw (is.canceled result has code) refl;
   late = is.late;
 }) q all)
 
 -- a command that runs on keeps its cause
 with_plan_caused : (now : Moment) (plan : Plan) (b : Bool) (a : Command Job) → IsCaused now a → IsCaused now (with_plan plan b a)
-with_plan_caused now plan b a is = record { canceled = is.canceled; late = is.late }
+with_plan_caused now plan b a is = record { ready = λ y. absurd (false≢true y); canceled = is.canceled; late = is.late }
 
 went_caused : (now : Moment) (plan : Plan) (b : Bool) (went : Went) (a : Command Job) → WentOwn went → IsCaused now a → IsCaused now (with_went plan b went a)
 went_caused now plan b more a own is = with_plan_caused now plan b a is
@@ -161,7 +164,7 @@ abbrev SayingOwn : Saying → Type 0
 SayingOwn saying = IfSome saying.result (λ (r : Outcome). IsOwn r.code)
 
 saying_caused : (now : Moment) (result : Option Outcome) (a : Command Job) → IfSome result (λ (r : Outcome). IsOwn r.code) → IsCaused now a → IsCaused now (with_saying result a)
-saying_caused now None a own is = record { canceled = is.canceled; late = is.late }
+saying_caused now None a own is = record { ready = λ y. absurd (false≢true y); canceled = is.canceled; late = is.late }
 saying_caused now (Some r) a own is = own_result now r a own
 
 card_saying_own : (effect : card_reader.Effect) → EffectOwn effect → SayingOwn (card_says effect)
@@ -187,13 +190,13 @@ nonce_own s ask result next moment (none_to_clear fit dead) = refl
 
 -- a command that was canceled, or is too late
 canceled_result : (now : Moment) (a : Command Job) → a.marked ≡ true → IsCaused now (with_result (plain Canceled) a)
-canceled_result now a marked = record { canceled = λ r is code. marked; late = λ r is code. absurd (not_late (ap (λ (o : Outcome). o.code) (same_some (closing a.job (plain Canceled)) r is) ∙ code)) }
+canceled_result now a marked = record { ready = λ y. refl; canceled = λ r is code. marked; late = λ r is code. absurd (not_late (ap (λ (o : Outcome). o.code) (same_some (closing a.job (plain Canceled)) r is) ∙ code)) }
   where
     not_late : Canceled ≡ TimeOut → ⊥
     not_late e = cc
 
 late_result : (now : Moment) (a : Command Job) → is_due now a ≡ true → IsCaused now (with_result (plain TimeOut) a)
-late_result now a due = record { canceled = λ r is code. absurd (not_canceled (ap (λ (o : Outcome). o.code) (same_some (closing a.job (plain TimeOut)) r is) ∙ code)); late = λ r is code. due }
+late_result now a due = record { ready = λ y. refl; canceled = λ r is code. absurd (not_canceled (ap (λ (o : Outcome). o.code) (same_some (closing a.job (plain TimeOut)) r is) ∙ code)); late = λ r is code. due }
   where
     not_canceled : TimeOut ≡ Canceled → ⊥
     not_canceled e = cc
@@ -304,7 +307,7 @@ module _ (s new : State) (machine : IsMachine s) (h : HasCauses s) where
     where
       of_room : (b : Bool) → MatchBool b (Refuses s k (Some c.id) (Some c.name) TooManyRequests new) (Accepts s k line c new) → HasCauses new
       of_room true is = rw (is.is) h
-      of_room false is = rw (is.is) (with_queue_ s k.service _ (All-push (IsCaused s.now) (queue_at s k.service) _ (h k.service) (record { canceled = λ r has code. absurd (none_some r has); late = λ r has code. absurd (none_some r has) })) h)
+      of_room false is = rw (is.is) (with_queue_ s k.service _ (All-push (IsCaused s.now) (queue_at s k.service) _ (h k.service) (record { ready = λ y. absurd (false≢true y); canceled = λ r has code. absurd (none_some r has); late = λ r has code. absurd (none_some r has) })) h)
 
   takes : (k : Connection) (says : Result envelope.Command Refuse) → Takes s k says new → HasCauses new
   takes k (Err refuse) is = rw (is.is) h

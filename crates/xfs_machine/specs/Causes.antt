@@ -1,5 +1,5 @@
 -- Why a command has its result, and why it is marked.
-use Rattle.std.specs.Prelude.{◌≡◌, ◌&&◌, ℕ, Bool, true, List, All, codes, Option, Some, Ok}
+use Rattle.std.specs.Prelude.{◌≡◌, ◌&&◌, ℕ, Bool, true, List, All, codes, Option, Some, is_some, Ok}
 use Rattle.std.specs.List.{list_any}
 use Rattle.xfs_base.specs.declared.moment.Moment.{Moment}
 use Rattle.xfs_base.specs.declared.moment.Service.{Service}
@@ -9,13 +9,14 @@ use Rattle.xfs_envelope.specs.Commands as envelope
 use Rattle.xfs_envelope.specs.declared.code.Code.TheVariants.{Canceled, TimeOut}
 use Rattle.xfs_queue.specs.declared.command.Command.{Command}
 use Rattle.xfs_queue.specs.declared.command.Ticket.{Ticket}
-use Rattle.xfs_queue.specs.Commands.{is_at, is_due, names, ticket_of}
+use Rattle.xfs_queue.specs.Commands.{is_at, is_due, is_ready, names, ticket_of}
 use Rattle.xfs_machine.specs.Events.{Event, leave, post}
 use Rattle.xfs_machine.specs.Immediate.{ids_of}
 use Rattle.xfs_machine.specs.State.{Job, Outcome, Pass, State, queue_at}
 
--- one that was canceled is marked, and one that timed out has a timeout, and its deadline has come
+-- one that is ready has its result; one that was canceled is marked, and one that timed out has a timeout, and its deadline has come
 pub record IsCaused (now : Moment) (a : Command Job) : Type 0 where
+  pub ready : is_ready a.stage ≡ true → is_some a.job.outcome ≡ true
   pub canceled : (result : Outcome) → a.job.outcome ≡ Some result → result.code ≡ Canceled → a.marked ≡ true
   pub late : (result : Outcome) → a.job.outcome ≡ Some result → result.code ≡ TimeOut → is_due now a ≡ true
 

@@ -55,7 +55,7 @@ pub fn steps_call_the_guard_once()
     ensures { (old new : State) (event : Event) (answer : Answer) → IsPlain event → Step old event answer new → AtMostOneCall old.seen new.seen }
 {}
 
-/// Each step keeps that a command with the result `canceled` is marked, and that one with the result
+/// Each step keeps that a ready command has its result, that one with the result `canceled` is marked, and that one with the result
 /// `timeOut` has a timeout whose deadline has come.
 pub fn results_have_their_causes()
     ensures { (old new : State) (event : Event) (answer : Answer) → IsMachine old → Step old event answer new → HasCauses old → HasCauses new }
