@@ -1,3 +1,14 @@
+mod BeginLaws
+mod CommandLaws
+mod CompleteLaws
 mod CurrencyLaws
+mod DenyLaws
+mod LeaveLaws
+mod PayloadLaws
+mod PlanLaws
+mod StackLaws
+mod StepLaws
 mod StorageLaws
+mod TurnLaws
 mod UnitLaws
+mod WorkLaws

@@ -1,3 +1,11 @@
+pub mod Answers
 pub mod Asks
+pub mod Begins
+pub mod Checks
+pub mod Complete
+pub mod Denominations
 pub mod Named
 pub mod Notes
+pub mod Plans
+pub mod Seen
+pub mod Steps

@@ -2,12 +2,32 @@
 #![tactic(auto)]
 
 mod ask;
+mod begun;
+mod commands;
+mod denominate;
+mod laws;
+mod leave;
 mod named;
 mod notes;
+mod part;
+mod payload;
+mod plan;
+mod progress;
+mod refusal;
+mod steps;
 
 pub use ask::{CashAsk, CashFail, read_ask};
+pub use begun::Begun;
+pub use commands::begin;
+pub use laws::dispenses_are_complete;
+pub use leave::{Leave, leave_to_stack};
 pub use named::Named;
 pub use notes::Notes;
+pub use part::Part;
+pub use plan::Plan;
+pub use progress::Progress;
+pub use refusal::Refusal;
+pub use steps::work;
 
 #[cfg(test)]
 mod tests;

@@ -40,7 +40,8 @@ fn unit_of(alloc: Global, kind: &NoteKind, count: u32) -> Result<Value, Memory>
     Ok(json!(in alloc; {"count": count, "currency": currency, "value": kind.value})?)
 }
 
-fn text_of(letters: &[u8; 3]) -> &str
+/// The letters of a currency as a text.
+pub fn text_of(letters: &[u8; 3]) -> &str
     requires { IsCurrency letters.now }
     ensures { result.now ≡ letters.now }
 {

@@ -1,0 +1,274 @@
+-- A plan that a command begins with can be worked on.
+use Rattle.std.proofs.Common.{◌≡◌, ◌≢◌, ◌≤◌, ◌<◌, ◌+◌, ◌-◌, ◌*◌, ◌==◌, ◌⊎◌, ℕ, zero, suc, Bool, true, false, List, [], ◌∷◌, ◌++◌, length, get_or, drop, None, Some, Ok, Err, inl, inr, refl, sym, ◌∙◌, ap, arith, true≢false}
+use Rattle.std.specs.Prelude.{◌&&◌, not, nat_lt, sum, slice_index, slice_get, position, zip, if◌then◌else◌}
+use Rattle.std.specs.Option.{option_map, option_map_or}
+use Rattle.std.specs.declared.option.Option.{Option}
+use Rattle.std.specs.declared.result.Result.{Result}
+use Rattle.std.proofs.lemmas.Bool.{ne_eqb, le-ltb}
+use Rattle.std.proofs.lemmas.List.{get_or-drop}
+use Rattle.std.proofs.lemmas.Option.{slice_get_past}
+use Rattle.std.specs.Str.{bytes_eq}
+use Rattle.xfs_base.specs.Counts.{at}
+use Rattle.xfs_base.specs.Money.{value, value_from}
+use Rattle.xfs_base.specs.declared.counts.Counts.{Counts}
+use Rattle.xfs_base.specs.declared.money.NoteKind.{NoteKind}
+use Rattle.xfs_mix.specs.Asked.{count_fault, is_none, first_short}
+use Rattle.xfs_mix.specs.Mix.{IsMix, usable}
+use Rattle.xfs_mix.specs.declared.asked.CountFault.{CountFault}
+use Rattle.xfs_mix.specs.declared.asked.CountFault.TheVariants.{Empty, TooMany, Short}
+use Rattle.xfs_guard.specs.View.{View}
+use Rattle.xfs_guard.specs.Refusals.{Binds, bound_token, over_budget}
+use Rattle.xfs_guard.specs.declared.deny.Deny.{Deny as Denial}
+use Rattle.xfs_guard.specs.declared.ask.Ask.{Ask}
+use Rattle.xfs_guard.specs.declared.ask.Ask.TheVariants as Ask
+use Rattle.xfs_guard.specs.declared.open.Open.TheVariants.{No}
+use Rattle.xfs_dispenser.specs.Answers.{Answer, Start, told, planned}
+use Rattle.xfs_dispenser.specs.Begins.{Begins, HasRoom, IsDispensed, IsStorageSet, IsTold, RoomChecks, StartsUnless, StartsWith, StorageChecks, added_refusal, are_few, unit_refusal}
+use Rattle.xfs_dispenser.specs.Checks.{Grant, IsPermitted, IsUnbound, IsTokenPassed, Permits, TokenChecks, LeaveChecks, active_refusal, inactive_refusal, unfit_refusal, granted_unless, within_budget}
+use Rattle.xfs_dispenser.specs.Denominations.{FirstOf, denominated, MixGiven, NotesGiven, count_refusal, currency_refusal, given_unless, members_refusal}
+use Rattle.xfs_dispenser.specs.Plans.{CanBeginAll, IsPlanned, KeepsOutcome, dispense_plan, loads, order_plan, reset_plan, stacks, storage_plan}
+use Rattle.xfs_dispenser.specs.Seen.{Seen}
+use Rattle.xfs_dispenser.specs.declared.ask.CashAsk.{CashAsk}
+use Rattle.xfs_dispenser.specs.declared.ask.CashAsk.TheVariants.{Denominate, Dispense, Present, Reject, Reset, Retract, StartExchange, SetStorage, EndExchange}
+use Rattle.xfs_dispenser.specs.declared.leave.Leave.{Leave}
+use Rattle.xfs_dispenser.specs.declared.named.Named.{Named}
+use Rattle.xfs_dispenser.specs.declared.named.Named.TheVariants.{These, OtherName}
+use Rattle.xfs_dispenser.specs.declared.notes.Notes.{Notes}
+use Rattle.xfs_dispenser.specs.declared.notes.Notes.TheVariants.{Least, Individual}
+use Rattle.xfs_dispenser.specs.declared.part.Part.{Part}
+use Rattle.xfs_dispenser.specs.declared.plan.Plan.{Plan}
+use Rattle.xfs_dispenser.specs.declared.refusal.Refusal.{Refusal}
+use Rattle.xfs_dispenser.specs.declared.refusal.Refusal.TheVariants.{InvalidData, Error}
+use Rattle.xfs_dispenser.proofs.PlanLaws.{stacks-begin, loads-begin}
+
+-- checks of which none refused came to what the later ones came to
+pub none-first : {T : Type 0} (refusal : Option Refusal) (Later : Result T Refusal → Type 0) (x : T) → FirstOf refusal Later (Ok x) → (refusal ≡ None) × Later (Ok x)
+none-first (Some r) Later x first = absurd (no first)
+  where
+    no : Ok x ≡ Err r → ⊥
+    no e = cc
+none-first None Later x first = (refl, first)
+
+-- a list of counts is 0 everywhere where it has none
+pub none-at : (xs : List ℕ) (w : ℕ) → is_none xs ≡ true → get_or xs w 0 ≡ 0
+none-at [] w none = refl
+none-at (zero ∷ xs) zero none = refl
+none-at (zero ∷ xs) (suc w) none = none-at xs w none
+none-at (suc n ∷ xs) w none = absurd (never (suc n == 0) (is_none xs) (ne_eqb (suc n) 0 (λ e. omega (arith, e))) none)
+  where
+    never : (a b : Bool) → a ≡ false → (a && b) ≡ true → ⊥
+    never a b e f = (let g = rw e at f in cc)
+
+-- an amount has no notes of units past the table
+usable-past : (units : List NoteKind) (have : Counts) (currency : List ℕ) (w : ℕ) → length units ≤ w → usable units have currency w ≡ 0
+usable-past units have currency w high = rw (slice_get_past units w high) refl
+
+pub mix-past : (units : List NoteKind) (have : Counts) (currency : List ℕ) (amount : ℕ) (n : Counts) (w : ℕ) → IsMix units have currency amount n → length units ≤ w → get_or n.0 w 0 ≡ 0
+mix-past units have currency amount n w mix high = (let e = mix.within w in let f = usable-past units have currency w high in omega (arith, e, f))
+
+-- counts that have no fault
+no-fault : (counts : Counts) (fault : Option CountFault) (given : Counts) → Ok given ≡ given_unless counts fault → (fault ≡ None) × (given ≡ counts)
+no-fault counts None given e = (refl, cc)
+no-fault counts (Some f) given e = absurd (no e)
+  where
+    no : Ok given ≡ Err (count_refusal f) → ⊥
+    no e = cc
+
+unfaulted : (units : List NoteKind) (have counts : Counts) → count_fault units have counts ≡ None → (is_none counts.0 ≡ false) × (is_none (drop (length units) counts.0) ≡ true)
+unfaulted units have counts none = go (is_none counts.0) (is_none (drop (length units) counts.0)) _ none
+  where
+    go : (a b : Bool) (rest : Option CountFault) → (if a then Some Empty else if not b then Some Empty else rest) ≡ None → (a ≡ false) × (b ≡ true)
+    go true b rest e = absurd (let f : Some Empty ≡ None = e in cc)
+    go false true rest e = (refl, refl)
+    go false false rest e = absurd (let f : Some Empty ≡ None = e in cc)
+
+-- the notes that are given are of units of the table
+pub given-past : (units : List NoteKind) (have : Counts) (notes : Notes) (counts : Counts) → NotesGiven units have notes (Ok counts) → (w : ℕ) → length units ≤ w → get_or counts.0 w 0 ≡ 0
+given-past units have (Least currency amount) counts given w high =
+    let mix = none-first (currency_refusal units currency) (MixGiven units have currency amount) counts given in
+    mix-past units have currency amount counts w mix.1.0 high
+given-past units have (Individual OtherName) counts given w high = absurd (no given)
+  where
+    no : {e : Refusal} → Ok counts ≡ Err e → ⊥
+    no e = cc
+given-past units have (Individual (These asked)) counts given w high =
+    let fault = no-fault asked (count_fault units have asked) counts given in
+    let past = (unfaulted units have asked fault.0).1 in
+    let at_w = none-at (drop (length units) asked.0) (w - length units) past in
+    let e = get_or-drop (length units) asked.0 (w - length units) 0 in
+    let f : length units + (w - length units) ≡ w = omega (arith, high) in
+    rw fault.1 (rw f at (sym e) ∙ at_w)
+
+-- nothing is worth nothing
+pub worth-none : (units : List NoteKind) (i : ℕ) (xs currency : List ℕ) → is_none xs ≡ true → value_from units i xs currency ≡ 0
+worth-none [] i xs currency none = refl
+worth-none (k ∷ ks) i xs currency none = rw (none-at xs i none, worth-none ks (i + 1) xs currency none) (zero-worth (bytes_eq k.currency currency) k.value)
+  where
+    zero-worth : (b : Bool) (v : ℕ) → (if b then 1000 * v * 0 else 0) + 0 ≡ 0
+    zero-worth true v = omega arith
+    zero-worth false v = omega arith
+
+in-range : (amount : ℕ) → (if nat_lt 0 amount && nat_lt amount 1000001 then None else Some InvalidData) ≡ None → 1 ≤ amount
+in-range zero e = absurd (let f : Some InvalidData ≡ None = e in cc)
+in-range (suc n) e = omega arith
+
+-- a mix for an amount has some notes
+pub some-mix : (units : List NoteKind) (have : Counts) (currency : List ℕ) (amount : ℕ) (n : Counts) → 1 ≤ amount → IsMix units have currency amount n → is_none n.0 ≡ false
+some-mix units have currency amount n low mix = go (is_none n.0) refl
+  where
+    go : (b : Bool) → is_none n.0 ≡ b → is_none n.0 ≡ false
+    go false e = e
+    go true e = (let z = worth-none units 0 n.0 currency e in let worth = mix.worth in absurd (omega (arith, z, worth, low)))
+
+-- and there are some
+pub given-some : (units : List NoteKind) (have : Counts) (notes : Notes) (counts : Counts) → members_refusal notes ≡ None → NotesGiven units have notes (Ok counts) → is_none counts.0 ≡ false
+given-some units have (Least currency amount) counts members given =
+    let mix = none-first (currency_refusal units currency) (MixGiven units have currency amount) counts given in
+    some-mix units have currency amount counts (in-range amount members) mix.1.0
+given-some units have (Individual OtherName) counts members given = absurd (no given)
+  where
+    no : {e : Refusal} → Ok counts ≡ Err e → ⊥
+    no e = cc
+given-some units have (Individual (These asked)) counts members given =
+    let fault = no-fault asked (count_fault units have asked) counts given in
+    rw fault.1 (unfaulted units have asked fault.0).0
+
+-- some notes make some parts
+pub stacks-left : (issue u : ℕ) (xs : List ℕ) → is_none xs ≡ false → stacks issue u xs ≢ []
+stacks-left issue u [] some e = absurd (true≢false some)
+stacks-left issue u (zero ∷ xs) some e = stacks-left issue (u + 1) xs some e
+stacks-left issue u (suc n ∷ xs) some e = cc
+
+pub loads-left : (u : ℕ) (xs : List ℕ) → is_none xs ≡ false → loads u xs ≢ []
+loads-left u [] some e = absurd (true≢false some)
+loads-left u (zero ∷ xs) some e = loads-left (u + 1) xs some e
+loads-left u (suc n ∷ xs) some e = cc
+
+-- what a bind leaves of units, places and order
+pub bound-same : (old new : View) (bytes : List ℕ) (amounts : List (List ℕ × ℕ)) → Binds old new bytes amounts → (new.units ≡ old.units) × (new.places ≡ old.places) × (new.open_order ≡ old.open_order)
+bound-same old new bytes amounts b = go (bound_token old.records) refl
+  where
+    go : (t : Option (List ℕ)) → bound_token old.records ≡ t → (new.units ≡ old.units) × (new.places ≡ old.places) × (new.open_order ≡ old.open_order)
+    go None e = (let same = b.first e in (ap (λ (v : View). v.units) same, ap (λ (v : View). v.places) same, ap (λ (v : View). v.open_order) same))
+    go (Some t) e = (let same = b.again (λ f. let g : Some t ≡ None = sym e ∙ f in cc) in (ap (λ (v : View). v.units) same, ap (λ (v : View). v.places) same, ap (λ (v : View). v.open_order) same))
+
+ok-same : {T : Type 0} (x y : T) (a : Result T Refusal) → a ≡ Ok x → a ≡ Ok y → x ≡ y
+ok-same {T} x y a e f = (let g : ◌≡◌ {A = Result T Refusal} (Ok x) (Ok y) = sym e ∙ f in cc)
+
+ok-err : {T : Type 0} (x : T) (r : Refusal) (a : Result T Refusal) → a ≡ Ok x → a ≡ Err r → ⊥
+ok-err {T} x r a e f = (let g : ◌≡◌ {A = Result T Refusal} (Ok x) (Err r) = sym e ∙ f in cc)
+
+-- a plan is no answer
+told-plan : (refusal : Refusal) (plan : Plan) → IsTold refusal (planned plan) → ⊥
+told-plan refusal plan t = (let e = t.is in cc)
+
+answer-plan : (answer : Answer) (plan : Plan) → planned plan ≡ told answer → ⊥
+answer-plan answer plan e = cc
+
+same-plan : (a b : Plan) → planned a ≡ planned b → a ≡ b
+same-plan a b e = cc
+
+granted-one : (g grant : Grant) (o : Option Denial) → ◌≡◌ {A = Result Grant Refusal} (Ok grant) (granted_unless g o) → grant ≡ g
+granted-one g grant None e = ok-same grant g (Ok grant) refl e
+granted-one g grant (Some d) e = absurd (ok-err grant _ (Ok grant) refl e)
+
+-- what was granted is what was given
+granted-given : (v : View) (token : List ℕ) (amounts : List (List ℕ × ℕ)) (given : Result Counts Refusal) (grant : Grant) → Ok grant ≡ within_budget v token amounts given → given ≡ Ok grant.counts
+granted-given v token amounts (Err r) grant e = absurd (ok-err grant r (Ok grant) refl e)
+granted-given v token amounts (Ok counts) grant e =
+    let same : grant ≡ record { token = token; amounts = amounts; counts = counts } = granted-one (record { token = token; amounts = amounts; counts = counts }) grant (over_budget v amounts counts) e in
+    ap (λ (g : Grant). Ok g.counts) (sym same)
+
+-- the notes of a granted dispense are those of its denomination
+pub granted-notes : (v : View) (exchange : Bool) (notes : Notes) (token : Option (List ℕ)) (grant : Grant)
+    → FirstOf (members_refusal notes) (FirstOf (active_refusal exchange) (FirstOf (unfit_refusal v) (TokenChecks v notes token))) (Ok grant)
+    → (members_refusal notes ≡ None) × NotesGiven v.units v.places.units notes (Ok grant.counts)
+granted-notes v exchange notes token grant checks =
+    let a = none-first (members_refusal notes) (FirstOf (active_refusal exchange) (FirstOf (unfit_refusal v) (TokenChecks v notes token))) grant checks in
+    let b = none-first (active_refusal exchange) (FirstOf (unfit_refusal v) (TokenChecks v notes token)) grant a.1 in
+    let c = none-first (unfit_refusal v) (TokenChecks v notes token) grant b.1 in
+    (a.0, go token c.1)
+  where
+    go : (t : Option (List ℕ)) → TokenChecks v notes t (Ok grant) → NotesGiven v.units v.places.units notes (Ok grant.counts)
+    go None e = absurd (ok-err grant _ (Ok grant) refl e)
+    go (Some bytes) (inl r) = absurd (ok-err grant _ (Ok grant) refl r.is)
+    go (Some bytes) (inr p) = rw (granted-given v bytes p.amounts p.given grant p.is) at p.gives
+
+-- a plan with no order open, whose parts can be begun
+planned-parts : (v : View) (plan : Plan) → v.open_order ≡ No → plan.parts.items ≢ [] → CanBeginAll v plan.parts.items → IsPlanned v plan
+planned-parts v plan none some parts = record { some_left = λ e. some; outcome = rw none tt; parts = parts }
+
+pub dispense-planned : (s : Seen) (exchange : Bool) (notes : Notes) (token : Option (List ℕ)) (next : Seen) (plan : Plan) → s.guard.open_order ≡ No
+    → IsDispensed s exchange notes token next (planned plan) → IsPlanned next.guard plan
+dispense-planned s exchange notes token next plan none d = leave d.leave refl d.starts
+  where
+    checked : (c : Result Grant Refusal) (l : Leave) → d.checked ≡ c → Permits s c (Ok l) next → IsPlanned next.guard (dispense_plan l.issue l.counts)
+    checked (Err r) l e p = absurd (ok-err l r (Ok l) refl p.0)
+    checked (Ok grant) l e (inr u) = absurd (ok-err l _ (Ok l) refl u.is)
+    checked (Ok grant) l e (inl p) =
+        let same = bound-same s.guard next.guard grant.token grant.amounts p.binds in
+        let notes_of = granted-notes s.guard exchange notes token grant (rw e at d.checks) in
+        let counts : l.counts ≡ grant.counts = ap (λ (x : Leave). x.counts) (ok-same l _ (Ok l) refl p.is) in
+        planned-parts next.guard (dispense_plan l.issue l.counts) (same.2 ∙ none)
+        (rw counts (stacks-left l.issue 1 grant.counts.0 (given-some s.guard.units s.guard.places.units notes grant.counts notes_of.0 notes_of.1)))
+        (rw counts (stacks-begin next.guard l.issue 0 grant.counts.0 (λ w high. let h = rw same.0 at high in given-past s.guard.units s.guard.places.units notes grant.counts notes_of.1 w (omega (arith, h)))))
+
+    leave : (r : Result Leave Refusal) → d.leave ≡ r → StartsWith r (λ (l : Leave). planned (dispense_plan l.issue l.counts)) (planned plan) → IsPlanned next.guard plan
+    leave (Err r) e t = absurd (told-plan r plan t)
+    leave (Ok l) e t = rw (same-plan plan (dispense_plan l.issue l.counts) t) (checked d.checked l refl (rw e at d.permits))
+
+pub storage-planned : (v : View) (exchange : Bool) (added : Named) (plan : Plan) → v.open_order ≡ No → IsStorageSet v exchange added (planned plan) → IsPlanned v plan
+storage-planned v exchange added plan none d = go d.checked d.checks d.starts
+  where
+    some : (counts : Counts) → added_refusal (These counts) ≡ None → is_none counts.0 ≡ false
+    some counts e = test (is_none counts.0) (are_few counts.0) e
+      where
+        test : (a b : Bool) → (if not a && b then None else Some InvalidData) ≡ None → a ≡ false
+        test false b e = refl
+        test true b e = absurd (let f : Some InvalidData ≡ None = e in cc)
+
+    room : (a : Named) (counts : Counts) → added_refusal a ≡ None → RoomChecks v a (Ok counts) → IsPlanned v (storage_plan counts)
+    room OtherName counts e r = absurd r
+    room (These asked) counts e r =
+        rw r.0 (planned-parts v (storage_plan asked) none (loads-left 1 asked.0 (some asked e)) (loads-begin v 0 asked.0 (λ w more. rw (shift w) (r.1 w more))))
+      where
+        shift : (w : ℕ) → 0 + w + 1 ≡ w + 1
+        shift w = omega arith
+
+    go : (c : Result Counts Refusal) → StorageChecks v exchange added c → StartsWith c (λ counts. planned (storage_plan counts)) (planned plan) → IsPlanned v plan
+    go (Err r) checks t = absurd (told-plan r plan t)
+    go (Ok counts) checks t =
+        let a = none-first (added_refusal added) (FirstOf (inactive_refusal exchange) (FirstOf (unfit_refusal v) (FirstOf (unit_refusal v.units added) (RoomChecks v added)))) counts checks in
+        let b = none-first (inactive_refusal exchange) (FirstOf (unfit_refusal v) (FirstOf (unit_refusal v.units added) (RoomChecks v added))) counts a.1 in
+        let c = none-first (unfit_refusal v) (FirstOf (unit_refusal v.units added) (RoomChecks v added)) counts b.1 in
+        let d = none-first (unit_refusal v.units added) (RoomChecks v added) counts c.1 in
+        rw (same-plan plan (storage_plan counts) t) (room added counts a.0 d.1)
+
+-- a plan unless it is refused
+unless-plan : (refusal : Option Refusal) (otherwise plan : Plan) → StartsUnless refusal (planned otherwise) (planned plan) → plan ≡ otherwise
+unless-plan (Some r) otherwise plan t = absurd (told-plan r plan t)
+unless-plan None otherwise plan e = same-plan plan otherwise e
+
+unless-answer : (refusal : Option Refusal) (answer : Answer) (plan : Plan) → StartsUnless refusal (told answer) (planned plan) → ⊥
+unless-answer (Some r) answer plan t = told-plan r plan t
+unless-answer None answer plan e = answer-plan answer plan e
+
+order-planned : (v : View) (ask : Ask) (exchange : Bool) (plan : Plan) → v.open_order ≡ No → CanBeginAll v (order_plan ask).parts.items → StartsUnless (active_refusal exchange) (planned (order_plan ask)) (planned plan) → IsPlanned v plan
+order-planned v ask exchange plan none can starts = rw (unless-plan (active_refusal exchange) (order_plan ask) plan starts) (planned-parts v (order_plan ask) none (λ e. cc) can)
+
+-- a plan with which a command begins can be worked on
+pub begin-planned : (s : Seen) (exchange : Bool) (ask : CashAsk) (next : Seen) (after : Bool) (plan : Plan) → s.guard.open_order ≡ No → Begins s exchange ask next after (planned plan) → IsPlanned next.guard plan
+begin-planned s exchange (Denominate notes) next after plan none (same, kept, d) = absurd (go d.given d.starts)
+  where
+    go : (g : Result Counts Refusal) → StartsWith g (λ counts. told (denominated s.guard.units counts)) (planned plan) → ⊥
+    go (Err r) t = told-plan r plan t
+    go (Ok counts) t = answer-plan _ plan t
+begin-planned s exchange (Dispense notes token) next after plan none (kept, d) = dispense-planned s exchange notes token next plan none d
+begin-planned s exchange Present next after plan none (same, kept, starts) = rw same (order-planned s.guard Ask.Present exchange plan none (tt, tt, tt) starts)
+begin-planned s exchange Reject next after plan none (same, kept, starts) = rw same (order-planned s.guard Ask.Reject exchange plan none (tt, tt, tt) starts)
+begin-planned s exchange Retract next after plan none (same, kept, starts) = rw same (order-planned s.guard Ask.Retract exchange plan none (tt, tt, tt) starts)
+begin-planned s exchange Reset next after plan none (same, kept, starts) =
+    rw (same, unless-plan (active_refusal exchange) reset_plan plan starts) (planned-parts s.guard reset_plan none (λ e. cc) (tt, tt, tt))
+begin-planned s exchange StartExchange next after plan none (same, kept, starts) = absurd (unless-answer (active_refusal exchange) _ plan starts)
+begin-planned s exchange EndExchange next after plan none (same, kept, starts) = absurd (unless-answer (inactive_refusal exchange) _ plan starts)
+begin-planned s exchange (SetStorage added) next after plan none (same, kept, d) = rw same (storage-planned s.guard exchange added plan none d)

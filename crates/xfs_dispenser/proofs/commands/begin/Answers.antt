@@ -1,0 +1,68 @@
+use Rattle.xfs_dispenser.specs.Begins.{IsDispensed, IsStorageSet}
+use Rattle.xfs_dispenser.specs.Seen.{seen}
+use Rattle.xfs_guard.proofs.KeepsLaws.{Keeps-same, Proceeds-same}
+use Rattle.xfs_dispenser.proofs.BeginLaws.{dispense-planned, storage-planned}
+use Rattle.xfs_dispenser.proofs.CommandLaws.{at-plan}
+use Rattle.xfs_dispenser.proofs.commands.begin.Goals as goal
+
+pub returns-in-Denominate-clause-proceeds : goal.returns-in-Denominate-clause-proceeds
+returns-in-Denominate-clause-proceeds g c = Proceeds-same g.D.Disk _ g.met.D.Disk.only_now
+
+pub returns-in-Denominate-clause-keeps : goal.returns-in-Denominate-clause-keeps
+returns-in-Denominate-clause-keeps g c = λ upheld. Keeps-same g.D.Disk _ g.met.D.Disk.only_now upheld
+
+pub returns-in-Present-clause-proceeds : goal.returns-in-Present-clause-proceeds
+returns-in-Present-clause-proceeds g c = Proceeds-same g.D.Disk _ g.met.D.Disk.only_now
+
+pub returns-in-Present-clause-keeps : goal.returns-in-Present-clause-keeps
+returns-in-Present-clause-keeps g c = λ upheld. Keeps-same g.D.Disk _ g.met.D.Disk.only_now upheld
+
+pub returns-in-Reject-clause-proceeds : goal.returns-in-Reject-clause-proceeds
+returns-in-Reject-clause-proceeds g c = Proceeds-same g.D.Disk _ g.met.D.Disk.only_now
+
+pub returns-in-Reject-clause-keeps : goal.returns-in-Reject-clause-keeps
+returns-in-Reject-clause-keeps g c = λ upheld. Keeps-same g.D.Disk _ g.met.D.Disk.only_now upheld
+
+pub returns-in-Retract-clause-proceeds : goal.returns-in-Retract-clause-proceeds
+returns-in-Retract-clause-proceeds g c = Proceeds-same g.D.Disk _ g.met.D.Disk.only_now
+
+pub returns-in-Retract-clause-keeps : goal.returns-in-Retract-clause-keeps
+returns-in-Retract-clause-keeps g c = λ upheld. Keeps-same g.D.Disk _ g.met.D.Disk.only_now upheld
+
+pub returns-in-Reset-clause-proceeds : goal.returns-in-Reset-clause-proceeds
+returns-in-Reset-clause-proceeds g c = Proceeds-same g.D.Disk _ g.met.D.Disk.only_now
+
+pub returns-in-Reset-clause-keeps : goal.returns-in-Reset-clause-keeps
+returns-in-Reset-clause-keeps g c = λ upheld. Keeps-same g.D.Disk _ g.met.D.Disk.only_now upheld
+
+pub returns-in-SetStorage-clause-proceeds : goal.returns-in-SetStorage-clause-proceeds
+returns-in-SetStorage-clause-proceeds g c = Proceeds-same g.D.Disk _ g.met.D.Disk.only_now
+
+pub returns-in-SetStorage-clause-keeps : goal.returns-in-SetStorage-clause-keeps
+returns-in-SetStorage-clause-keeps g c = λ upheld. Keeps-same g.D.Disk _ g.met.D.Disk.only_now upheld
+
+pub returns-in-StartExchange-clause-proceeds : goal.returns-in-StartExchange-clause-proceeds
+returns-in-StartExchange-clause-proceeds g c = Proceeds-same g.D.Disk _ g.met.D.Disk.only_now
+
+pub returns-in-StartExchange-clause-keeps : goal.returns-in-StartExchange-clause-keeps
+returns-in-StartExchange-clause-keeps g c = λ upheld. Keeps-same g.D.Disk _ g.met.D.Disk.only_now upheld
+
+pub returns-in-EndExchange-clause-proceeds : goal.returns-in-EndExchange-clause-proceeds
+returns-in-EndExchange-clause-proceeds g c = Proceeds-same g.D.Disk _ g.met.D.Disk.only_now
+
+pub returns-in-EndExchange-clause-keeps : goal.returns-in-EndExchange-clause-keeps
+returns-in-EndExchange-clause-keeps g c = λ upheld. Keeps-same g.D.Disk _ g.met.D.Disk.only_now upheld
+
+pub returns-in-Dispense-clause-planned : goal.returns-in-Dispense-clause-planned
+returns-in-Dispense-clause-planned g c = λ plan is.
+    let s = seen g.D.Disk c.args.guard.now in
+    let next = seen g.D.Disk c.dispense.new.guard in
+    let notes = c.in-Dispense.notes in
+    let token = c.in-Dispense.token in
+    dispense-planned s c.args.exchange.now notes token next plan c.requires (at-plan (λ start. IsDispensed s c.args.exchange.now notes token next start) c.dispense.result plan c.dispense.ensures.dispensed is)
+
+pub returns-in-SetStorage-clause-planned : goal.returns-in-SetStorage-clause-planned
+returns-in-SetStorage-clause-planned g c = λ plan is.
+    let v = c.args.guard.now.state in
+    let added = c.in-SetStorage.added in
+    storage-planned v c.args.exchange.now added plan c.requires (at-plan (λ start. IsStorageSet v c.args.exchange.now added start) c.set_storage.result plan c.set_storage.ensures is)

@@ -1,0 +1,96 @@
+-- What a command of the dispenser completes with.
+use Rattle.std.specs.Prelude.{◌≡◌, ℕ, Some, None}
+use Rattle.std.specs.Option.{option_map}
+use Rattle.std.specs.declared.option.Option.{Option}
+use Rattle.serde_json.specs.Data.{Data}
+use Rattle.serde_json.specs.View.{view}
+use Rattle.serde_json.specs.declared.value.Value.{Value}
+use Rattle.xfs_common.specs.Errors.{error_text}
+use Rattle.xfs_common.specs.Payloads.{nothing, error_payload, record_payload}
+use Rattle.xfs_common.specs.declared.error.ErrorCode.{ErrorCode}
+use Rattle.xfs_common.specs.declared.error.ErrorCode.TheVariants.{NoItems, NotDispensable}
+use Rattle.xfs_envelope.specs.declared.code.Code.{Code}
+use Rattle.xfs_envelope.specs.declared.code.Code.TheVariants as Code
+use Rattle.xfs_guard.specs.declared.deny.Deny.{Deny}
+use Rattle.xfs_guard.specs.declared.deny.Deny.TheVariants.{Shut, Full, TooLong, KeyNoValue, Format, NoNonce, WrongNonce, WrongMac, NoAmounts, OtherBound, NotEmpty, OverBudget, Unbound, Nothing, OutletFull, Short, Disk, Memory}
+use Rattle.xfs_dispenser.specs.declared.begun.Begun.{Begun}
+use Rattle.xfs_dispenser.specs.declared.begun.Begun.TheVariants as begun
+use Rattle.xfs_dispenser.specs.declared.plan.Plan.{Plan}
+use Rattle.xfs_dispenser.specs.declared.progress.Progress.{Progress}
+use Rattle.xfs_dispenser.specs.declared.progress.Progress.TheVariants as progress
+use Rattle.xfs_dispenser.specs.declared.refusal.Refusal.{Refusal}
+use Rattle.xfs_dispenser.specs.declared.refusal.Refusal.TheVariants as refusal
+
+-- a completion code, and the payload
+pub record Answer : Type 0 where
+  pub code : Code
+  pub payload : Data
+
+-- a code with a payload as it was made
+abbrev pub answered : Code → Value → Answer
+answered code payload = record { code = code; payload = view payload }
+
+-- with the payload {}
+abbrev pub plain : Code → Answer
+plain code = record { code = code; payload = nothing }
+
+-- an error of the command
+abbrev pub error : ErrorCode → Answer
+error fault = record { code = Code.CommandErrorCode; payload = error_payload (error_text fault) }
+
+-- with the number of the record that explains it
+abbrev pub noted : Code → ℕ → Answer
+noted code since = record { code = code; payload = record_payload since }
+
+-- what a refusal of the guard is answered; want of memory is no answer
+abbrev pub denial : Deny → Option Answer
+denial Shut = Some (plain Code.DeviceNotReady)
+denial Full = Some (plain Code.DeviceNotReady)
+denial Disk = Some (plain Code.DeviceNotReady)
+denial TooLong = Some (plain Code.NotEnoughSpace)
+denial (KeyNoValue at) = Some (plain Code.InvalidTokenKeyNoValue)
+denial (Format at) = Some (plain Code.InvalidTokenFormat)
+denial (NoNonce since) = Some (noted Code.NoCommandNonce since)
+denial (WrongNonce since) = Some (noted Code.InvalidTokenNonce since)
+denial (WrongMac due) = Some (plain Code.InvalidTokenHmac)
+denial NoAmounts = Some (plain Code.InvalidTokenFormat)
+denial (OtherBound since) = Some (plain Code.InvalidToken)
+denial (NotEmpty notes) = Some (plain Code.SequenceError)
+denial (OverBudget currency left) = Some (plain Code.InvalidToken)
+denial (Unbound since) = Some (plain Code.AuthorisationRequired)
+denial Nothing = Some (error NoItems)
+denial (OutletFull notes) = Some (plain Code.SequenceError)
+denial (Short unit) = Some (error NotDispensable)
+denial Memory = None
+
+-- what a refusal is answered
+abbrev pub answer_of : Refusal → Option Answer
+answer_of refusal.InvalidData = Some (plain Code.InvalidData)
+answer_of refusal.NoToken = Some (plain Code.AuthorisationRequired)
+answer_of (refusal.Error fault) = Some (error fault)
+answer_of (refusal.Deny deny) = denial deny
+answer_of refusal.Memory = None
+
+-- what a command has begun with, its payload seen as its value: its answer, or its plan
+pub data Start : Type 0 where
+  told : Answer → Start
+  planned : Plan → Start
+
+abbrev pub start_of : Begun → Start
+start_of (begun.Result code payload) = told (answered code payload)
+start_of (begun.Plan plan) = planned plan
+
+-- what a step has come to: there is more to do, or the answer
+pub data Went : Type 0 where
+  more : Went
+  done : Answer → Went
+
+abbrev pub went_of : Progress → Went
+went_of progress.More = more
+went_of (progress.Result code payload) = done (answered code payload)
+
+-- the answer is that of a refusal of the guard
+pub record IsDenial (deny : Deny) (went : Went) : Type 0 where
+  pub answer : Answer
+  pub due : denial deny ≡ Some answer
+  pub is : went ≡ done answer

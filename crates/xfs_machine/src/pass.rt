@@ -1,0 +1,27 @@
+use std::marker::Model;
+use xfs_base::{ClientId, Service};
+
+/// What a connection is told by: its client, its service, and the number of the Boot record of the boot in
+/// which it joined.
+#[derive(Debug, Drop)]
+pub struct Pass {
+    pub(crate) client: ClientId,
+    pub(crate) service: Service,
+    pub(crate) boot: u64,
+}
+
+impl Model for Pass {
+    ghost use Rattle.xfs_machine.specs.State.{Pass as PassView};
+
+    ghost Value = { PassView };
+
+    ghost view = { λ p. record { client = p.client; service = p.service; boot = p.boot } };
+}
+
+/// Why a connection was not taken.
+#[derive(Clone, Copy, Debug, PartialEq, Eq)]
+pub enum JoinFault {
+    /// 64 connections are open, or all client numbers were given.
+    Full,
+    Memory,
+}
