@@ -243,32 +243,3 @@ storage-planned v exchange added plan none d = go d.checked d.checks d.starts
         let c = none-first (unfit_refusal v) (FirstOf (unit_refusal v.units added) (RoomChecks v added)) counts b.1 in
         let d = none-first (unit_refusal v.units added) (RoomChecks v added) counts c.1 in
         rw (same-plan plan (storage_plan counts) t) (room added counts a.0 d.1)
-
--- a plan unless it is refused
-unless-plan : (refusal : Option Refusal) (otherwise plan : Plan) → StartsUnless refusal (planned otherwise) (planned plan) → plan ≡ otherwise
-unless-plan (Some r) otherwise plan t = absurd (told-plan r plan t)
-unless-plan None otherwise plan e = same-plan plan otherwise e
-
-unless-answer : (refusal : Option Refusal) (answer : Answer) (plan : Plan) → StartsUnless refusal (told answer) (planned plan) → ⊥
-unless-answer (Some r) answer plan t = told-plan r plan t
-unless-answer None answer plan e = answer-plan answer plan e
-
-order-planned : (v : View) (ask : Ask) (exchange : Bool) (plan : Plan) → v.open_order ≡ No → CanBeginAll v (order_plan ask).parts.items → StartsUnless (active_refusal exchange) (planned (order_plan ask)) (planned plan) → IsPlanned v plan
-order-planned v ask exchange plan none can starts = rw (unless-plan (active_refusal exchange) (order_plan ask) plan starts) (planned-parts v (order_plan ask) none (λ e. cc) can)
-
--- a plan with which a command begins can be worked on
-pub begin-planned : (s : Seen) (exchange : Bool) (ask : CashAsk) (next : Seen) (after : Bool) (plan : Plan) → s.guard.open_order ≡ No → Begins s exchange ask next after (planned plan) → IsPlanned next.guard plan
-begin-planned s exchange (Denominate notes) next after plan none (same, kept, d) = absurd (go d.given d.starts)
-  where
-    go : (g : Result Counts Refusal) → StartsWith g (λ counts. told (denominated s.guard.units counts)) (planned plan) → ⊥
-    go (Err r) t = told-plan r plan t
-    go (Ok counts) t = answer-plan _ plan t
-begin-planned s exchange (Dispense notes token) next after plan none (kept, d) = dispense-planned s exchange notes token next plan none d
-begin-planned s exchange Present next after plan none (same, kept, starts) = rw same (order-planned s.guard Ask.Present exchange plan none (tt, tt, tt) starts)
-begin-planned s exchange Reject next after plan none (same, kept, starts) = rw same (order-planned s.guard Ask.Reject exchange plan none (tt, tt, tt) starts)
-begin-planned s exchange Retract next after plan none (same, kept, starts) = rw same (order-planned s.guard Ask.Retract exchange plan none (tt, tt, tt) starts)
-begin-planned s exchange Reset next after plan none (same, kept, starts) =
-    rw (same, unless-plan (active_refusal exchange) reset_plan plan starts) (planned-parts s.guard reset_plan none (λ e. cc) (tt, tt, tt))
-begin-planned s exchange StartExchange next after plan none (same, kept, starts) = absurd (unless-answer (active_refusal exchange) _ plan starts)
-begin-planned s exchange EndExchange next after plan none (same, kept, starts) = absurd (unless-answer (inactive_refusal exchange) _ plan starts)
-begin-planned s exchange (SetStorage added) next after plan none (same, kept, d) = rw same (storage-planned s.guard exchange added plan none d)

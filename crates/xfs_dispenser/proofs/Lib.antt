@@ -1,4 +1,4 @@
-mod BeginLaws
+pub mod BeginLaws
 mod CommandLaws
 mod CompleteLaws
 mod CurrencyLaws
@@ -7,8 +7,8 @@ mod LeaveLaws
 mod PayloadLaws
 mod PlanLaws
 mod StackLaws
-mod StepLaws
+pub mod StepLaws
 mod StorageLaws
-mod TurnLaws
+pub mod TurnLaws
 mod UnitLaws
-mod WorkLaws
+pub mod WorkLaws

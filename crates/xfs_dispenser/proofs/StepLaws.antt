@@ -1,5 +1,5 @@
 -- What a step of a plan keeps: the parts behind it can still be begun, and it adds no other entry than the one that it may.
-use Rattle.std.proofs.Common.{◌≡◌, ◌≢◌, ◌≤◌, ◌<◌, ◌+◌, ◌-◌, ◌==◌, ◌⊎◌, ℕ, zero, suc, Bool, true, false, List, [], ◌∷◌, ◌++◌, length, None, Some, inl, inr, refl, sym, ◌∙◌, ap, arith}
+use Rattle.std.proofs.Common.{◌≡◌, ◌≢◌, ◌≤◌, ◌<◌, ◌+◌, ◌-◌, ◌==◌, ◌⊎◌, ℕ, zero, suc, Bool, true, false, List, [], ◌∷◌, ◌++◌, length, None, Some, inl, inr, refl, sym, subst, ◌∙◌, ap, arith}
 use Rattle.std.specs.Prelude.{⊤, if◌then◌else◌}
 use Rattle.std.specs.List.{AllByRecursion}
 use Rattle.std.proofs.lemmas.Bool.{ne_eqb}
@@ -18,7 +18,7 @@ use Rattle.xfs_journal.proofs.Told.{on_told, from_told}
 use Rattle.xfs_mech.specs.Mechanism.{CanLoad}
 use Rattle.xfs_mech.specs.Motions.{PlacesOf}
 use Rattle.xfs_mech.specs.declared.motion.Motion.{Motion}
-use Rattle.xfs_mech.specs.declared.motion.Motion.TheVariants.{Moved, Loaded}
+use Rattle.xfs_mech.specs.declared.motion.Motion.TheVariants.{Moved, Loaded, Taken}
 use Rattle.xfs_mech.proofs.SumLaws.{Adds-PlacesOf}
 use Rattle.xfs_guard.specs.CrashOutcomes.{MayMove, StandsThrough}
 use Rattle.xfs_guard.specs.Keeps.{Keeps, NoEntry}
@@ -27,7 +27,7 @@ use Rattle.xfs_guard.specs.View.{View, GuardView}
 use Rattle.xfs_guard.specs.declared.ask.Ask.TheVariants as Ask
 use Rattle.xfs_guard.specs.declared.open.Open.{Open}
 use Rattle.xfs_guard.specs.declared.open.Open.TheVariants.{No, Written, Acted}
-use Rattle.xfs_dispenser.specs.Plans.{CanBegin, CanBeginAll, IsApart, IsNoLoadOf}
+use Rattle.xfs_dispenser.specs.Plans.{CanBegin, CanBeginAll, IsNoLoadOf, IsPlanned, KeepsOutcome}
 use Rattle.xfs_dispenser.specs.Steps.{LoadsEntry, MayWork}
 use Rattle.xfs_dispenser.specs.declared.part.Part.{Part}
 use Rattle.xfs_dispenser.specs.declared.part.Part.TheVariants.{Order, Restore, Load, Note}
@@ -156,3 +156,18 @@ begin-loaded v w unit count (part ∷ parts) same places apart c = (
   c.1,
   begin-loaded v w unit count parts same places apart.1 c.2,
 )
+
+-- the customer took notes
+pub taken-room : (before now : Places) (counts : Counts) → PlacesOf before (Taken counts ∷ []) now → (unit : ℕ) → HasAsMuchRoom before now unit
+taken-room before now counts places unit = record {
+  units = let e = places.units (unit - 1) in omega (arith, e);
+  notes = let e = (Adds-PlacesOf before now (Taken counts ∷ []) places) (unit - 1) in omega (arith, e);
+}
+
+-- whatever happens to the guard between two steps, a plan can be worked on where the open order and the units stay and no unit has less room
+pub planned-still : (v w : View) (plan : Plan) → w.open_order ≡ v.open_order → w.units ≡ v.units → ((unit : ℕ) → HasAsMuchRoom v.places w.places unit) → IsPlanned v plan → IsPlanned w plan
+planned-still v w plan orders units room p = record {
+  some_left = λ e. p.some_left (sym orders ∙ e);
+  outcome = subst (λ o. KeepsOutcome o plan.failed) (sym orders) p.outcome;
+  parts = begin-still v w plan.parts.items units room p.parts;
+}

@@ -103,6 +103,14 @@ pub record IsStorageSet (v : View) (exchange : Bool) (added : Named) (start : St
 abbrev pub StartsOrder : Asked → Bool → Start → Type 0
 StartsOrder ask exchange start = StartsUnless (active_refusal exchange) (planned (order_plan ask)) start
 
+-- StartExchange: it is active then
+abbrev pub StartsExchange : Bool → Bool → Start → Type 0
+StartsExchange exchange after start = (after ≡ true) × StartsUnless (active_refusal exchange) (told (plain Code.Success)) start
+
+-- EndExchange: none is
+abbrev pub EndsExchange : Bool → Bool → Start → Type 0
+EndsExchange exchange after start = (after ≡ false) × StartsUnless (inactive_refusal exchange) (told (plain Code.Success)) start
+
 -- what begins of what is asked, by command: what is seen of the guard and whether an exchange is active, before and after
 abbrev pub Begins : Seen → Bool → CashAsk → Seen → Bool → Start → Type 0
 Begins s exchange (Denominate notes) next after start = (next ≡ s) × (after ≡ exchange) × IsDenominated s.guard notes start
@@ -111,6 +119,6 @@ Begins s exchange Present next after start = (next ≡ s) × (after ≡ exchange
 Begins s exchange Reject next after start = (next ≡ s) × (after ≡ exchange) × StartsOrder Ask.Reject exchange start
 Begins s exchange Retract next after start = (next ≡ s) × (after ≡ exchange) × StartsOrder Ask.Retract exchange start
 Begins s exchange Reset next after start = (next ≡ s) × (after ≡ exchange) × StartsUnless (active_refusal exchange) (planned reset_plan) start
-Begins s exchange StartExchange next after start = (next ≡ s) × (after ≡ true) × StartsUnless (active_refusal exchange) (told (plain Code.Success)) start
-Begins s exchange EndExchange next after start = (next ≡ s) × (after ≡ false) × StartsUnless (inactive_refusal exchange) (told (plain Code.Success)) start
+Begins s exchange StartExchange next after start = (next ≡ s) × StartsExchange exchange after start
+Begins s exchange EndExchange next after start = (next ≡ s) × EndsExchange exchange after start
 Begins s exchange (SetStorage added) next after start = (next ≡ s) × (after ≡ exchange) × IsStorageSet s.guard exchange added start

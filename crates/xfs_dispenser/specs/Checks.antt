@@ -1,6 +1,7 @@
 -- The checks of a dispense in their order, and the leave to stack its notes.
 use Rattle.std.specs.Prelude.{◌≡◌, ◌≤◌, ◌⊎◌, ℕ, Bool, true, false, List, Some, None, Ok, Err, if◌then◌else◌}
 use Rattle.std.specs.Option.{option_map}
+use Rattle.std.specs.Borrow.{Bor}
 use Rattle.std.specs.declared.option.Option.{Option}
 use Rattle.std.specs.declared.result.Result.{Result}
 use Rattle.xfs_base.specs.declared.counts.Counts.{Counts}
@@ -24,6 +25,10 @@ use Rattle.xfs_dispenser.specs.declared.refusal.Refusal.TheVariants.{NoToken, Er
 abbrev pub denied : Denial → Refusal
 denied NoMemory = Memory
 denied deny = Deny deny
+
+-- the text of a token that was handed in
+abbrev pub text_of : Option (Bor (List ℕ)) → Option (List ℕ)
+text_of token = option_map (λ (t : Bor (List ℕ)). t.now) token
 
 -- an exchange is active
 abbrev pub active_refusal : Bool → Option Refusal

@@ -22,13 +22,14 @@ use Rattle.xfs_guard.specs.declared.ask.Ask.{Ask}
 use Rattle.xfs_guard.specs.declared.deny.Deny.{Deny}
 use Rattle.xfs_guard.specs.declared.open.Open.{Open}
 use Rattle.xfs_guard.specs.declared.open.Open.TheVariants.{No, Written, Acted}
-use Rattle.xfs_dispenser.specs.Answers.{Answer, Went, more, done, plain, denial}
+use Rattle.xfs_dispenser.specs.Answers.{Answer, Went, more, done, plain, denial, went_of}
 use Rattle.xfs_dispenser.specs.Denominations.{denominated}
 use Rattle.xfs_dispenser.specs.Plans.{emptying, with_parts}
 use Rattle.xfs_dispenser.specs.Seen.{Seen, Becomes, Fails, MechCalled}
 use Rattle.xfs_dispenser.specs.declared.part.Part.{Part}
 use Rattle.xfs_dispenser.specs.declared.part.Part.TheVariants.{Order, Restore, Load, Note}
 use Rattle.xfs_dispenser.specs.declared.plan.Plan.{Plan}
+use Rattle.xfs_dispenser.specs.declared.progress.Progress.{Progress}
 
 -- what an order is refused for
 abbrev pub refusal_of : View → Ask → Option Deny
@@ -161,10 +162,18 @@ abbrev pub DoesFirst : List Part → Seen → Plan → Seen → Plan → Went �
 DoesFirst [] s plan next after went = ⊥
 DoesFirst (part ∷ rest) s plan next after went = DoesPart part rest s plan next after went
 
+-- a part is done as the first of those that are left
+abbrev pub DoesAs : Part → Seen → Plan → Seen → Plan → Progress → Type 0
+DoesAs part s plan next after progress = (rest : List Part) → plan.parts.items ≡ part ∷ rest → DoesPart part rest s plan next after (went_of progress)
+
+-- the acted order is settled, or the disk fails at its Done
+abbrev pub SettlesOrder : Seen → Plan → Bool → Seen → Went → Type 0
+SettlesOrder s plan failed next went = IsSettled s plan failed next went ⊎ IsUnsettled s next went
+
 -- by the order that is open
 abbrev pub WorksOn : Open → Seen → Plan → Seen → Plan → Went → Type 0
 WorksOn (Written kind counts) s plan next after went = IsActed s plan next after went
-WorksOn (Acted kind moved diverted failed) s plan next after went = (after ≡ plan) × (IsSettled s plan failed next went ⊎ IsUnsettled s next went)
+WorksOn (Acted kind moved diverted failed) s plan next after went = (after ≡ plan) × SettlesOrder s plan failed next went
 WorksOn No s plan next after went = DoesFirst plan.parts.items s plan next after went
 
 -- one step of a plan: what is seen of the guard and the plan, before and after, and what the step has come to

@@ -9,7 +9,7 @@ ghost use Rattle.xfs_guard.specs.declared.open.Open.TheVariants.{No};
 ghost use Rattle.xfs_envelope.specs.declared.code.Code.TheVariants as Code;
 ghost use Rattle.xfs_mix.specs.Asked.{is_none};
 ghost use Rattle.xfs_dispenser.specs.Answers.{plain as plain_answer, start_of, told};
-ghost use Rattle.xfs_dispenser.specs.Begins.{Begins, HasRoom, IsDenominated, IsDispensed, IsStorageSet, IsTold, RoomChecks, StartsOrder, StartsUnless, StorageChecks, Takes, added_refusal, are_added, are_few, unit_refusal};
+ghost use Rattle.xfs_dispenser.specs.Begins.{Begins, EndsExchange, HasRoom, IsDenominated, IsDispensed, IsStorageSet, IsTold, RoomChecks, StartsExchange, StartsOrder, StartsUnless, StorageChecks, Takes, added_refusal, are_added, are_few, unit_refusal};
 ghost use Rattle.xfs_dispenser.specs.Checks.{active_refusal, inactive_refusal};
 ghost use Rattle.xfs_dispenser.specs.Denominations.{Denominates};
 ghost use Rattle.xfs_dispenser.specs.Plans.{IsPlanned};
@@ -115,7 +115,7 @@ fn ordered(alloc: Global, exchange: bool, ask: Ask) -> Result<Begun, Memory>
 }
 
 fn start_exchange(alloc: Global, exchange: &mut bool) -> Result<Begun, Memory>
-    ensures starts { IfOk result (λ b. (exchange.new ≡ true) × StartsUnless (active_refusal exchange.old) (told (plain_answer Code.Success)) (start_of b)) }
+    ensures starts { IfOk result (λ b. StartsExchange exchange.old exchange.new (start_of b)) }
     ensures memory { OnErr result (exchange.new ≡ exchange.old) }
 {
     if *exchange {
@@ -126,7 +126,7 @@ fn start_exchange(alloc: Global, exchange: &mut bool) -> Result<Begun, Memory>
 }
 
 fn end_exchange(alloc: Global, exchange: &mut bool) -> Result<Begun, Memory>
-    ensures starts { IfOk result (λ b. (exchange.new ≡ false) × StartsUnless (inactive_refusal exchange.old) (told (plain_answer Code.Success)) (start_of b)) }
+    ensures starts { IfOk result (λ b. EndsExchange exchange.old exchange.new (start_of b)) }
     ensures memory { OnErr result (exchange.new ≡ exchange.old) }
 {
     if !*exchange {

@@ -1,11 +1,10 @@
 //! The leave to stack notes: the checks of a dispense from the guard's fit on, in their order.
 
 ghost use Rattle.std.specs.Prelude.{◌≡◌, ◌≢◌, Err, IfErr, None};
-ghost use Rattle.std.specs.Option.{option_map};
 ghost use Rattle.xfs_guard.specs.Keeps.{Keeps, NoEntry};
 ghost use Rattle.xfs_guard.specs.declared.open.Open.TheVariants.{No};
 ghost use Rattle.xfs_guard.specs.declared.deny.Deny.TheVariants.{Disk};
-ghost use Rattle.xfs_dispenser.specs.Checks.{IsLeave};
+ghost use Rattle.xfs_dispenser.specs.Checks.{IsLeave, text_of};
 ghost use Rattle.xfs_dispenser.specs.Denominations.{members_refusal};
 ghost use Rattle.xfs_dispenser.specs.Seen.{seen};
 ghost use Rattle.xfs_dispenser.specs.declared.refusal.Refusal.TheVariants as Refusal;
@@ -36,7 +35,7 @@ pub fn leave_to_stack<M: Mechanism, D: Disk>(
 ) -> Result<Leave, Refusal>
     requires none { guard.old.state.open_order ≡ No }
     requires members { members_refusal notes.now ≡ None }
-    ensures leave { result ≢ Err Refusal.Memory → IsLeave (seen D.Disk guard.old) notes.now (option_map (λ t. t.now) token.entry) result (seen D.Disk guard.new) }
+    ensures leave { result ≢ Err Refusal.Memory → IsLeave (seen D.Disk guard.old) notes.now (text_of token.entry) result (seen D.Disk guard.new) }
     ensures same { IfErr result (λ r. r ≢ Refusal.Deny Disk → guard.new ≡ guard.old) }
     ensures none { guard.new.state.open_order ≡ No }
     ensures keeps { Keeps D.Disk NoEntry guard.old guard.new }

@@ -9,13 +9,12 @@ ghost use Rattle.xfs_guard.specs.Refusals.{IsAsk};
 ghost use Rattle.xfs_guard.specs.Upheld.{IsUpheld};
 ghost use Rattle.xfs_guard.specs.declared.deny.Deny.TheVariants.{Disk};
 ghost use Rattle.xfs_guard.specs.declared.open.Open.TheVariants.{No};
-ghost use Rattle.xfs_journal.specs.declared.record.Rec.TheVariants as Rec;
 ghost use Rattle.xfs_mech.specs.Mechanism.{CanLoad};
 ghost use Rattle.xfs_mech.specs.declared.motion.Motion.TheVariants.{Loaded};
 ghost use Rattle.xfs_dispenser.specs.Answers.{IsDenial, done, plain, went_of};
 ghost use Rattle.xfs_dispenser.specs.Plans.{IsPlanned};
 ghost use Rattle.xfs_dispenser.specs.Seen.{seen};
-ghost use Rattle.xfs_dispenser.specs.Steps.{IsActed, IsSettled, IsUnsettled, Loads, MayWork, Notes, Orders, Restores, Works, onward, settled};
+ghost use Rattle.xfs_dispenser.specs.Steps.{DoesAs, IsActed, MayWork, Restores, SettlesOrder, Works, onward, settled};
 ghost use Rattle.xfs_dispenser.specs.declared.part.Part.{Part};
 ghost use Rattle.xfs_dispenser.specs.declared.part.Part.TheVariants as Part;
 ghost use Rattle.xfs_dispenser.specs.declared.progress.Progress.TheVariants as Progress;
@@ -97,7 +96,7 @@ fn settle<M: Mechanism, D: Disk>(
     plan: &Plan,
 ) -> Result<Progress, Memory>
     requires { IsActedOrder guard.old.state.open_order }
-    ensures settles { IfOk result (λ p. IsSettled (seen D.Disk guard.old) plan.now plan.now.failed (seen D.Disk guard.new) (went_of p) ⊎ IsUnsettled (seen D.Disk guard.old) (seen D.Disk guard.new) (went_of p)) }
+    ensures settles { IfOk result (λ p. SettlesOrder (seen D.Disk guard.old) plan.now plan.now.failed (seen D.Disk guard.new) (went_of p)) }
     ensures memory { OnErr result (guard.new ≡ guard.old) }
     ensures proceeds { Proceeds D.Disk guard.old guard.new }
     ensures keeps { OnOk result (Keeps D.Disk NoEntry guard.old guard.new) }
@@ -167,7 +166,7 @@ fn order<M: Mechanism, D: Disk>(
     requires none { guard.old.state.open_order ≡ No }
     requires asked { IsAsk guard.old.state ask }
     requires left { 0 < array_vec_len plan.old.parts }
-    ensures orders { IfOk result (λ p. (rest : List Part) → plan.old.parts.items ≡ Part.Order ask ∷ rest → Orders ask rest (seen D.Disk guard.old) plan.old (seen D.Disk guard.new) plan.new (went_of p)) }
+    ensures orders { IfOk result (λ p. DoesAs (Part.Order ask) (seen D.Disk guard.old) plan.old (seen D.Disk guard.new) plan.new p) }
     ensures memory { OnErr result ((guard.new ≡ guard.old) × (plan.new ≡ plan.old)) }
     ensures keeps { Keeps D.Disk NoEntry guard.old guard.new }
 {
@@ -214,7 +213,7 @@ fn load<M: Mechanism, D: Disk>(
 ) -> Result<Progress, Memory>
     requires room { CanLoad guard.old.state.units guard.old.state.places unit count }
     requires left { 0 < array_vec_len plan.old.parts }
-    ensures loads { IfOk result (λ p. (rest : List Part) → plan.old.parts.items ≡ Part.Load unit count ∷ rest → Loads unit count rest (seen D.Disk guard.old) plan.old (seen D.Disk guard.new) plan.new (went_of p)) }
+    ensures loads { IfOk result (λ p. DoesAs (Part.Load unit count) (seen D.Disk guard.old) plan.old (seen D.Disk guard.new) plan.new p) }
     ensures memory { OnErr result ((guard.new.state ≡ guard.old.state) × (plan.new ≡ plan.old)) }
     ensures proceeds { Proceeds D.Disk guard.old guard.new }
     ensures keeps { OnOk result (Keeps D.Disk (λ entry. entry ≡ Loaded unit count) guard.old guard.new) }
@@ -241,7 +240,7 @@ fn note<M: Mechanism, D: Disk>(
     requires low { 1 ≤ unit }
     requires high { unit ≤ length guard.old.state.units }
     requires left { 0 < array_vec_len plan.old.parts }
-    ensures notes { IfOk result (λ p. (rest : List Part) → plan.old.parts.items ≡ Part.Note unit count ∷ rest → Notes (Rec.Load unit count) rest (seen D.Disk guard.old) plan.old (seen D.Disk guard.new) plan.new (went_of p)) }
+    ensures notes { IfOk result (λ p. DoesAs (Part.Note unit count) (seen D.Disk guard.old) plan.old (seen D.Disk guard.new) plan.new p) }
     ensures memory { OnErr result ((guard.new ≡ guard.old) × (plan.new ≡ plan.old)) }
     ensures proceeds { Proceeds D.Disk guard.old guard.new }
     ensures keeps { OnOk result (Keeps D.Disk NoEntry guard.old guard.new) }
