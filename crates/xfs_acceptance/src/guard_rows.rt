@@ -101,6 +101,43 @@ fn a_comment_of_70001_bytes_is_no_line(rt: HostRuntime) -> Result<(), Fail> {
 }
 
 #[test]
+fn a_token_of_a_dispense_has_at_most_2000_bytes(rt: HostRuntime) -> Result<(), Fail> {
+    let rows: [(usize, u8, &str); 5] = [
+        (1, 0, "refused invalidTokenFormat\n"),
+        (1_024, 0, "refused invalidTokenFormat\n"),
+        (1_025, 0, "refused notEnoughSpace\n"),
+        (2_000, 0, "refused notEnoughSpace\n"),
+        (2_001, 4, "line 1: not a script line\n"),
+    ];
+    for (count, status, text) in rows {
+        let mut script = Vec::from_slice(rt.alloc(), b"dispense ")?;
+        push_times(&mut script, b'A', count)?;
+        script.extend_from_slice(b" unit1:1\n")?;
+        let written = run_on(rt.alloc(), &["guard"], &script, &[], &[])?;
+        assert_eq!(rt; written.status, status, "status of {count} bytes");
+        assert_eq!(rt; written.text.as_slice(), text.as_bytes(), "{count} bytes");
+    }
+    Ok(())
+}
+
+#[test]
+fn a_run_goes_on_to_the_first_line_that_is_none(rt: HostRuntime) -> Result<(), Fail> {
+    let rows: [(usize, &str, u8, &str); 2] = [
+        (1_233, "isue\n", 4, "line 1234: not a script line\n"),
+        (100_000, "take\n", 0, "taken none\n"),
+    ];
+    for (skipped, line, status, text) in rows {
+        let mut script = Vec::new(rt.alloc());
+        push_times(&mut script, b'\n', skipped)?;
+        script.extend_from_slice(line.as_bytes())?;
+        let written = run_on(rt.alloc(), &["guard"], &script, &[], &[])?;
+        assert_eq!(rt; written.status, status);
+        assert_eq!(rt; written.text.as_slice(), text.as_bytes());
+    }
+    Ok(())
+}
+
+#[test]
 fn an_input_of_67108864_bytes_is_too_long(rt: HostRuntime) -> Result<(), Fail> {
     let mut script = Vec::new(rt.alloc());
     for _ in 0..1024 {
@@ -115,9 +152,14 @@ fn an_input_of_67108864_bytes_is_too_long(rt: HostRuntime) -> Result<(), Fail> {
 
 // A comment line of so many bytes.
 fn comment_of(script: &mut Vec<u8>, count: usize) -> Result<(), Fail> {
-    for _ in 0..count {
-        script.push(b'#')?;
-    }
+    push_times(script, b'#', count)?;
     script.push(b'\n')?;
+    Ok(())
+}
+
+fn push_times(script: &mut Vec<u8>, byte: u8, count: usize) -> Result<(), Fail> {
+    for _ in 0..count {
+        script.push(byte)?;
+    }
     Ok(())
 }

@@ -33,8 +33,8 @@ const SCRIPTS: [(&str, &str); 30] = [
     ),
     // Units are filled within their limits.
     (
-        "take/fill unit1 9901/fill unit1 9900/fill unit1 1/fill unit5 1/fill unit4 10/show",
-        "taken none/refused storageFull/filled/refused storageFull/refused invalidUnit/filled/unit1 10000 0 0 0 0 0/unit2 100 0 0 0 0 0/unit3 100 0 0 0 0 0/unit4 110 0 0 0 0 0",
+        "take/fill unit1 9901/fill unit1 9900/fill unit1 1/fill unit5 1/fill unit8 1/fill unit4 10/show",
+        "taken none/refused storageFull/filled/refused storageFull/refused invalidUnit/refused invalidUnit/filled/unit1 10000 0 0 0 0 0/unit2 100 0 0 0 0 0/unit3 100 0 0 0 0 0/unit4 110 0 0 0 0 0",
     ),
     // Exactly the amount, and one note over.
     (
@@ -90,8 +90,8 @@ const SCRIPTS: [(&str, &str); 30] = [
     ),
     // Counts that can't be dispensed, before the amount is looked at.
     (
-        "issue/mint 1EUR/dispense @ unit5:1/dispense @ unit1:0/dispense @ unit1:61/dispense @ unit1:30,unit2:31/dispense @ unit1:1",
-        "N/T/refused invalidDenomination/refused invalidDenomination/refused tooManyItems/refused tooManyItems/refused invalidToken left 1000",
+        "issue/mint 1EUR/dispense @ unit5:1/dispense @ unit8:1/dispense @ unit1:0/dispense @ unit1:61/dispense @ unit1:30,unit2:31/dispense @ unit1:1",
+        "N/T/refused invalidDenomination/refused invalidDenomination/refused invalidDenomination/refused tooManyItems/refused tooManyItems/refused invalidToken left 1000",
     ),
     (
         "issue/mint 999999EUR/dispense @ unit1:60/dispense @ unit1:41/dispense @ unit1:40",

@@ -7,7 +7,7 @@ use xfs_testbench::run_on;
 fn each_line_has_its_answer(rt: HostRuntime) -> Result<(), Fail> {
     // The two HMACs are cases 1 and 2 of RFC 4231. Those of the tokens that are made are those of
     // Python's hmac and hashlib under the key of 32 bytes 0x0b.
-    let rows: [(&str, &str); 13] = [
+    let rows: [(&str, &str); 18] = [
         (
             "mac 0b0b0b0b0b0b0b0b0b0b0b0b0b0b0b0b0b0b0b0b 4869205468657265",
             "mac b0344c61d8db38535ca8afceaf0bf12b881dc200c9833da726e9376c2e32cff7",
@@ -57,6 +57,27 @@ fn each_line_has_its_answer(rt: HostRuntime) -> Result<(), Fail> {
             "read NONCE=254611E63B2531576314E86527338D61,TOKENFORMAT=1,TOKENLENGTH=0388,DISPENSE1=999999999.999AUD,DISPENSE2=999999999.999CAD,DISPENSE3=999999999.999CHF,DISPENSE4=999999999.999EUR,DISPENSE5=999999999.999GBP,DISPENSE6=999999999.999JPY,DISPENSE7=999999999.999NZD,DISPENSE8=999999999.999SEK,DISPENSE9=999999999.999USD,HMACSHA256=E5FD67C9CB39029660FFA6F09A19E47B914F6E963EDCAC33339E5BA9C77C0BB5",
             "ok nonce=254611E63B2531576314E86527338D61 amounts=AUD:999999999999,CAD:999999999999,CHF:999999999999,EUR:999999999999,GBP:999999999999,JPY:999999999999,NZD:999999999999,SEK:999999999999,USD:999999999999 genuine=yes",
         ),
+        // Nonces of 1 and of 128 digits, and ten pairs, of which nine are amounts.
+        (
+            "make F 1EUR",
+            "token NONCE=F,TOKENFORMAT=1,TOKENLENGTH=0132,DISPENSE1=1.00EUR,HMACSHA256=D9A92B4D30319D838E3538A7DC135AE8FF2A20185D21AB40773F385999C8911B",
+        ),
+        (
+            "make 0123456789ABCDEF0123456789ABCDEF0123456789ABCDEF0123456789ABCDEF0123456789ABCDEF0123456789ABCDEF0123456789ABCDEF0123456789ABCDEF 1EUR",
+            "token NONCE=0123456789ABCDEF0123456789ABCDEF0123456789ABCDEF0123456789ABCDEF0123456789ABCDEF0123456789ABCDEF0123456789ABCDEF0123456789ABCDEF,TOKENFORMAT=1,TOKENLENGTH=0259,DISPENSE1=1.00EUR,HMACSHA256=4BA8C5753695C723582338CC2D9A4ADB500F2A5F4D38D198FA664E132F8D9773",
+        ),
+        (
+            "read NONCE=F,TOKENFORMAT=1,TOKENLENGTH=0132,DISPENSE1=1.00EUR,HMACSHA256=D9A92B4D30319D838E3538A7DC135AE8FF2A20185D21AB40773F385999C8911B",
+            "ok nonce=F amounts=EUR:1000 genuine=yes",
+        ),
+        (
+            "read NONCE=0123456789ABCDEF0123456789ABCDEF0123456789ABCDEF0123456789ABCDEF0123456789ABCDEF0123456789ABCDEF0123456789ABCDEF0123456789ABCDEF,TOKENFORMAT=1,TOKENLENGTH=0259,DISPENSE1=1.00EUR,HMACSHA256=4BA8C5753695C723582338CC2D9A4ADB500F2A5F4D38D198FA664E132F8D9773",
+            "ok nonce=0123456789ABCDEF0123456789ABCDEF0123456789ABCDEF0123456789ABCDEF0123456789ABCDEF0123456789ABCDEF0123456789ABCDEF0123456789ABCDEF amounts=EUR:1000 genuine=yes",
+        ),
+        (
+            "read NONCE=254611E63B2531576314E86527338D61,TOKENFORMAT=1,TOKENLENGTH=0326,DISPENSE1=1.00AUD,DISPENSE2=1.00CAD,DISPENSE3=1.00CHF,DISPENSE4=1.00EUR,DISPENSE5=1.00GBP,DISPENSE6=1.00JPY,DISPENSE7=1.00NZD,DISPENSE8=1.00SEK,DISPENSE9=1.00USD,DISPENSE10=1.00ZAR,HMACSHA256=970E4783B5C729BA8A16377AC36483CD62E676832651BA47E47B44D7418BBB83",
+            "ok nonce=254611E63B2531576314E86527338D61 amounts=AUD:1000,CAD:1000,CHF:1000,EUR:1000,GBP:1000,JPY:1000,NZD:1000,SEK:1000,USD:1000 genuine=yes",
+        ),
     ];
     for (line, answer) in rows {
         let text = format!(in rt.alloc(); "{answer}\n")?;
@@ -73,7 +94,7 @@ fn each_line_has_its_answer(rt: HostRuntime) -> Result<(), Fail> {
 
 #[test]
 fn lines_are_answered_in_order_up_to_the_end(rt: HostRuntime) -> Result<(), Fail> {
-    let rows: [(&str, u8, &str); 5] = [
+    let rows: [(&str, u8, &str); 8] = [
         ("", 0, ""),
         (
             "# a comment\r\n\nread x\nmac - -\r\n",
@@ -91,6 +112,17 @@ fn lines_are_answered_in_order_up_to_the_end(rt: HostRuntime) -> Result<(), Fail
             "fault Format 0\nline 2: not a script line\n",
         ),
         ("make 1f 1EUR\n", 4, "line 1: not a script line\n"),
+        (
+            "make 0123456789ABCDEF0123456789ABCDEF0123456789ABCDEF0123456789ABCDEF0123456789ABCDEF0123456789ABCDEF0123456789ABCDEF0123456789ABCDEF0 1EUR\n",
+            4,
+            "line 1: not a script line\n",
+        ),
+        (
+            "make F 1AUD,1CAD,1CHF,1EUR,1GBP,1JPY,1NZD,1SEK,1USD,1ZAR\n",
+            4,
+            "line 1: not a script line\n",
+        ),
+        ("make  1EUR\n", 4, "line 1: not a script line\n"),
     ];
     for (script, status, text) in rows {
         let written = run_on(rt.alloc(), &["token"], script.as_bytes(), &[], &[])?;
@@ -153,6 +185,26 @@ fn a_token_has_at_most_1024_bytes(rt: HostRuntime) -> Result<(), Fail> {
 fn push_times(text: &mut Vec<u8>, byte: u8, count: usize) -> Result<(), Fail> {
     for _ in 0..count {
         text.push(byte)?;
+    }
+    Ok(())
+}
+
+#[test]
+fn bytes_that_are_no_text_are_read_as_bytes(rt: HostRuntime) -> Result<(), Fail> {
+    let rows: [(&[u8], u8, &[u8]); 4] = [
+        (b"read \xff", 0, b"fault Format 0\n"),
+        (
+            b"read NONCE=F,TOKENFORMAT=1,TOKENLENGTH=0109,\xc3\xa9=1",
+            0,
+            b"fault Format 39\n",
+        ),
+        (b"\xff\n", 4, b"line 1: not a script line\n"),
+        (b"# \xff\nre\xe4d x\n", 4, b"line 2: not a script line\n"),
+    ];
+    for (script, status, text) in rows {
+        let written = run_on(rt.alloc(), &["token"], script, &[], &[])?;
+        assert_eq!(rt; written.status, status);
+        assert_eq!(rt; written.text.as_slice(), text);
     }
     Ok(())
 }
