@@ -1,44 +1,37 @@
 -- A plan that a command begins with can be worked on.
-use Rattle.std.proofs.Common.{◌≡◌, ◌≢◌, ◌≤◌, ◌<◌, ◌+◌, ◌-◌, ◌*◌, ◌==◌, ◌⊎◌, ℕ, zero, suc, Bool, true, false, List, [], ◌∷◌, ◌++◌, length, get_or, drop, None, Some, Ok, Err, inl, inr, refl, sym, ◌∙◌, ap, arith, true≢false}
-use Rattle.std.specs.Prelude.{◌&&◌, not, nat_lt, sum, slice_index, slice_get, position, zip, if◌then◌else◌}
-use Rattle.std.specs.Option.{option_map, option_map_or}
+use Rattle.std.proofs.Common.{◌≡◌, ◌≢◌, ◌≤◌, ◌+◌, ◌-◌, ◌*◌, ◌==◌, ℕ, zero, suc, Bool, true, false, List, [], ◌∷◌, length, get_or, drop, None, Some, Ok, Err, inl, inr, refl, sym, ◌∙◌, ap, arith, true≢false}
+use Rattle.std.specs.Prelude.{◌&&◌, not, nat_lt, if◌then◌else◌}
 use Rattle.std.specs.declared.option.Option.{Option}
 use Rattle.std.specs.declared.result.Result.{Result}
-use Rattle.std.proofs.lemmas.Bool.{ne_eqb, le-ltb}
+use Rattle.std.proofs.lemmas.Bool.{ne_eqb}
 use Rattle.std.proofs.lemmas.List.{get_or-drop}
 use Rattle.std.proofs.lemmas.Option.{slice_get_past}
 use Rattle.std.specs.Str.{bytes_eq}
-use Rattle.xfs_base.specs.Counts.{at}
-use Rattle.xfs_base.specs.Money.{value, value_from}
+use Rattle.xfs_base.specs.Money.{value_from}
 use Rattle.xfs_base.specs.declared.counts.Counts.{Counts}
 use Rattle.xfs_base.specs.declared.money.NoteKind.{NoteKind}
-use Rattle.xfs_mix.specs.Asked.{count_fault, is_none, first_short}
+use Rattle.xfs_mix.specs.Asked.{count_fault, is_none}
 use Rattle.xfs_mix.specs.Mix.{IsMix, usable}
 use Rattle.xfs_mix.specs.declared.asked.CountFault.{CountFault}
-use Rattle.xfs_mix.specs.declared.asked.CountFault.TheVariants.{Empty, TooMany, Short}
+use Rattle.xfs_mix.specs.declared.asked.CountFault.TheVariants.{Empty}
 use Rattle.xfs_guard.specs.View.{View}
 use Rattle.xfs_guard.specs.Refusals.{Binds, bound_token, over_budget}
 use Rattle.xfs_guard.specs.declared.deny.Deny.{Deny as Denial}
-use Rattle.xfs_guard.specs.declared.ask.Ask.{Ask}
-use Rattle.xfs_guard.specs.declared.ask.Ask.TheVariants as Ask
 use Rattle.xfs_guard.specs.declared.open.Open.TheVariants.{No}
-use Rattle.xfs_dispenser.specs.Answers.{Answer, Start, told, planned}
-use Rattle.xfs_dispenser.specs.Begins.{Begins, HasRoom, IsDispensed, IsStorageSet, IsTold, RoomChecks, StartsUnless, StartsWith, StorageChecks, added_refusal, are_few, unit_refusal}
-use Rattle.xfs_dispenser.specs.Checks.{Grant, IsPermitted, IsUnbound, IsTokenPassed, Permits, TokenChecks, LeaveChecks, active_refusal, inactive_refusal, unfit_refusal, granted_unless, within_budget}
-use Rattle.xfs_dispenser.specs.Denominations.{FirstOf, denominated, MixGiven, NotesGiven, count_refusal, currency_refusal, given_unless, members_refusal}
-use Rattle.xfs_dispenser.specs.Plans.{CanBeginAll, IsPlanned, KeepsOutcome, dispense_plan, loads, order_plan, reset_plan, stacks, storage_plan}
+use Rattle.xfs_dispenser.specs.Answers.{Answer, told, planned}
+use Rattle.xfs_dispenser.specs.Begins.{IsDispensed, IsStorageSet, IsTold, RoomChecks, StartsWith, StorageChecks, added_refusal, are_few, unit_refusal}
+use Rattle.xfs_dispenser.specs.Checks.{Grant, Permits, TokenChecks, active_refusal, inactive_refusal, unfit_refusal, granted_unless, within_budget}
+use Rattle.xfs_dispenser.specs.Denominations.{FirstOf, MixGiven, NotesGiven, count_refusal, currency_refusal, given_unless, members_refusal}
+use Rattle.xfs_dispenser.specs.Plans.{CanBeginAll, IsPlanned, dispense_plan, loads, stacks, storage_plan}
 use Rattle.xfs_dispenser.specs.Seen.{Seen}
-use Rattle.xfs_dispenser.specs.declared.ask.CashAsk.{CashAsk}
-use Rattle.xfs_dispenser.specs.declared.ask.CashAsk.TheVariants.{Denominate, Dispense, Present, Reject, Reset, Retract, StartExchange, SetStorage, EndExchange}
 use Rattle.xfs_dispenser.specs.declared.leave.Leave.{Leave}
 use Rattle.xfs_dispenser.specs.declared.named.Named.{Named}
 use Rattle.xfs_dispenser.specs.declared.named.Named.TheVariants.{These, OtherName}
 use Rattle.xfs_dispenser.specs.declared.notes.Notes.{Notes}
 use Rattle.xfs_dispenser.specs.declared.notes.Notes.TheVariants.{Least, Individual}
-use Rattle.xfs_dispenser.specs.declared.part.Part.{Part}
 use Rattle.xfs_dispenser.specs.declared.plan.Plan.{Plan}
 use Rattle.xfs_dispenser.specs.declared.refusal.Refusal.{Refusal}
-use Rattle.xfs_dispenser.specs.declared.refusal.Refusal.TheVariants.{InvalidData, Error}
+use Rattle.xfs_dispenser.specs.declared.refusal.Refusal.TheVariants.{InvalidData}
 use Rattle.xfs_dispenser.proofs.PlanLaws.{stacks-begin, loads-begin}
 
 -- checks of which none refused came to what the later ones came to

@@ -4,18 +4,16 @@ use Rattle.std.specs.Prelude.{IfOk}
 use Rattle.std.specs.declared.option.Option.{Option}
 use Rattle.std.specs.declared.result.Result.{Result}
 use Rattle.xfs_base.specs.declared.faults.Memory.{Memory}
-use Rattle.xfs_dispenser.specs.Answers.{Answer, Start, answer_of, planned, start_of}
+use Rattle.xfs_dispenser.specs.Answers.{Start, answer_of, planned, start_of}
 use Rattle.xfs_dispenser.specs.Begins.{IsDispensed, IsTold}
 use Rattle.xfs_dispenser.specs.Checks.{Grant, IsLeave, LeaveChecks, active_refusal}
 use Rattle.xfs_dispenser.specs.Denominations.{FirstOf, members_refusal}
 use Rattle.xfs_dispenser.specs.Seen.{Seen}
 use Rattle.xfs_dispenser.specs.declared.begun.Begun.{Begun}
-use Rattle.xfs_dispenser.specs.declared.begun.Begun.TheVariants as Begun
 use Rattle.xfs_dispenser.specs.declared.leave.Leave.{Leave}
 use Rattle.xfs_dispenser.specs.declared.notes.Notes.{Notes}
 use Rattle.xfs_dispenser.specs.declared.plan.Plan.{Plan}
 use Rattle.xfs_dispenser.specs.declared.refusal.Refusal.{Refusal}
-use Rattle.xfs_dispenser.specs.declared.refusal.Refusal.TheVariants as Refusal
 
 -- the amount of a dispense is out of its range
 pub dispense-invalid : (s : Seen) (exchange : Bool) (notes : Notes) (token : Option (List ℕ)) (refusal : Refusal) (start : Start) → members_refusal notes ≡ Some refusal → IsTold refusal start → IsDispensed s exchange notes token s start

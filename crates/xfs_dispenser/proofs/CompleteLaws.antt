@@ -1,12 +1,12 @@
 -- Nothing stands against a dispense that its token covers, nor against a present behind it.
-use Rattle.std.proofs.Common.{◌≡◌, ◌≢◌, ◌≤◌, ◌<◌, ◌+◌, ◌-◌, ◌*◌, ◌==◌, ◌⊎◌, ℕ, zero, suc, Bool, true, false, List, [], ◌∷◌, ◌++◌, length, drop, get_or, None, Some, Ok, Err, inl, inr, refl, sym, subst, ◌∙◌, ap, arith, true≢false}
-use Rattle.std.specs.Prelude.{◌&&◌, ◌||◌, nat_lt, not, sum, zip, take, slice_get, if◌then◌else◌}
-use Rattle.std.specs.List.{prefix_len, list_any}
+use Rattle.std.proofs.Common.{◌≡◌, ◌≢◌, ◌≤◌, ◌+◌, ◌*◌, ◌==◌, ◌⊎◌, ℕ, zero, suc, Bool, true, false, List, [], ◌∷◌, ◌++◌, length, drop, get_or, None, Some, Ok, Err, inl, inr, refl, sym, subst, ◌∙◌, ap, arith, true≢false}
+use Rattle.std.specs.Prelude.{◌||◌, nat_lt, not, sum, zip, slice_get, if◌then◌else◌}
+use Rattle.std.specs.List.{prefix_len}
 use Rattle.std.specs.Str.{bytes_eq}
-use Rattle.std.specs.Option.{option_map, option_or, option_map_or}
+use Rattle.std.specs.Option.{option_map, option_map_or}
 use Rattle.std.specs.declared.option.Option.{Option}
 use Rattle.std.specs.declared.result.Result.{Result}
-use Rattle.std.proofs.lemmas.Bool.{le-ltb, lt-ltb, eq-eqb, ne_eqb}
+use Rattle.std.proofs.lemmas.Bool.{le-ltb, lt-ltb, ne_eqb}
 use Rattle.std.proofs.lemmas.Slice.Eq.{bytes_eq-Decides}
 use Rattle.std.proofs.lemmas.List.{get_or-drop}
 use Rattle.std.proofs.lemmas.List.Folds.{sum_by-zero}
@@ -14,18 +14,17 @@ use Rattle.xfs_base.specs.Counts.{at}
 use Rattle.xfs_base.specs.Money.{value, value_from}
 use Rattle.xfs_base.specs.declared.counts.Counts.{Counts as CountsOf}
 use Rattle.xfs_base.specs.declared.money.NoteKind.{NoteKind}
-use Rattle.xfs_token.specs.declared.faults.TokenFault.{TokenFault}
 use Rattle.xfs_token.proofs.Whole.{one_token, no_fault}
 use Rattle.xfs_mix.specs.Asked.{count_fault, is_none}
-use Rattle.xfs_mix.specs.Mix.{IsMix, IsLeast, usable}
+use Rattle.xfs_mix.specs.Mix.{IsMix, usable}
 use Rattle.xfs_mix.specs.declared.asked.CountFault.TheVariants.{Empty, TooMany, Short as ShortCount}
-use Rattle.xfs_common.specs.declared.error.ErrorCode.TheVariants.{InvalidCurrency, InvalidDenomination, NotDispensable, TooManyItems}
+use Rattle.xfs_common.specs.declared.error.ErrorCode.TheVariants.{NotDispensable, TooManyItems}
 use Rattle.xfs_journal.specs.declared.record.Rec.TheVariants.{Bind}
-use Rattle.xfs_guard.specs.Covered.{CanDispense, CanPresent, IsBindable, IsCoveredBy, IsGood}
+use Rattle.xfs_guard.specs.Covered.{CanPresent, IsBindable, IsCoveredBy, IsGood}
 use Rattle.xfs_guard.specs.Fits.{unfit}
 use Rattle.xfs_guard.specs.Nonce.{live_nonce}
 use Rattle.xfs_guard.specs.Presented.{presented_in}
-use Rattle.xfs_guard.specs.Refusals.{Binds, Passes, TokenRefused, bound_token, claim_refusal, over_budget}
+use Rattle.xfs_guard.specs.Refusals.{Binds, TokenRefused, claim_refusal}
 use Rattle.xfs_guard.specs.TokenDeny.{deny_of}
 use Rattle.xfs_guard.specs.View.{View}
 use Rattle.xfs_guard.specs.declared.ask.Ask.TheVariants as Ask
@@ -37,9 +36,8 @@ use Rattle.xfs_guard.proofs.CoveredLaws.{IsAhead, IsOpenFor, budget-none, can-fi
 use Rattle.xfs_guard.proofs.PresentedLaws.{presented_in-push}
 use Rattle.xfs_guard.proofs.RecordLaws.{length-pushed}
 use Rattle.xfs_guard.proofs.SizeLaws.{size-longer}
-use Rattle.xfs_mech.specs.declared.motion.Motion.TheVariants.{Moved}
 use Rattle.xfs_dispenser.specs.Answers.{Answer, Start, Went, denial, done, planned}
-use Rattle.xfs_dispenser.specs.Begins.{Begins, IsDispensed, IsTold, StartsWith}
+use Rattle.xfs_dispenser.specs.Begins.{IsDispensed, IsTold, StartsWith}
 use Rattle.xfs_dispenser.specs.Checks.{Grant, DispenseChecks, IsPermitted, IsTokenPassed, IsUnbound, Permits, TokenChecks, active_refusal, granted_unless, unfit_refusal, within_budget}
 use Rattle.xfs_dispenser.specs.Complete.{AreAsked, CanGive, IsBegunInFull, IsCalm, IsComplete, IsGiven, IsPresented, Turns}
 use Rattle.xfs_dispenser.specs.Plans.{dispense_plan, order_plan, stacks}

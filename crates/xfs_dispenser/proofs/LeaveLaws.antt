@@ -1,5 +1,5 @@
 -- What the guard says of a token and of its budget is what the leave to stack is refused for.
-use Rattle.std.proofs.Common.{◌≡◌, ◌≢◌, ◌≤◌, ◌⊎◌, ℕ, List, Some, None, Ok, Err, inl, inr, refl, sym, subst, ◌∙◌, ap}
+use Rattle.std.proofs.Common.{◌≡◌, ◌≢◌, ◌≤◌, ℕ, List, Some, None, Ok, Err, inl, inr, refl, sym, subst, ◌∙◌, ap}
 use Rattle.std.proofs.Common.{Bor}
 use Rattle.std.specs.Prelude.{IsErrAnd}
 use Rattle.std.specs.Option.{option_map}
@@ -19,7 +19,7 @@ use Rattle.xfs_guard.specs.View.{GuardView, View, shut_at}
 use Rattle.xfs_guard.specs.declared.deny.Deny.{Deny as Denial}
 use Rattle.xfs_guard.specs.declared.deny.Deny.TheVariants.{Disk, Memory as NoMemory}
 use Rattle.xfs_guard.specs.declared.nonce.Nonce.{Nonce}
-use Rattle.xfs_dispenser.specs.Checks.{Grant, IsLeave, LeaveChecks, TokenChecks, denied, granted_unless, unfit_refusal}
+use Rattle.xfs_dispenser.specs.Checks.{Grant, IsLeave, LeaveChecks, TokenChecks, denied, granted_unless}
 use Rattle.xfs_dispenser.specs.Denominations.{FirstOf, NotesGiven}
 use Rattle.xfs_dispenser.specs.Seen.{Seen, seen}
 use Rattle.xfs_dispenser.specs.declared.leave.Leave.{Leave}

@@ -1,15 +1,13 @@
 -- The parts of a plan: how they are listed, and that each can be begun.
-use Rattle.std.proofs.Common.{◌≡◌, ◌≢◌, ◌≤◌, ◌<◌, ◌+◌, ◌⊎◌, ℕ, zero, suc, Bool, true, false, List, [], ◌∷◌, ◌++◌, length, get_or, drop, inl, inr, refl, sym, ◌∙◌, ap, arith, append_assoc}
+use Rattle.std.proofs.Common.{◌≡◌, ◌≤◌, ◌<◌, ◌+◌, ◌⊎◌, ℕ, zero, suc, List, [], ◌∷◌, ◌++◌, length, get_or, drop, inl, inr, refl, sym, ◌∙◌, ap, arith, append_assoc}
 use Rattle.std.specs.List.{AllByRecursion}
 use Rattle.std.proofs.Math.Seq.{drop-cons}
 use Rattle.std.proofs.lemmas.List.{append-nil, drop_all}
 use Rattle.std.proofs.lemmas.Bool.{cases_lt}
 use Rattle.xfs_mech.specs.Mechanism.{CanLoad}
 use Rattle.xfs_guard.specs.View.{View}
-use Rattle.xfs_guard.specs.declared.ask.Ask.TheVariants.{Stack}
 use Rattle.xfs_dispenser.specs.Plans.{stacks, loads, CanBeginAll, IsNoLoadOf}
 use Rattle.xfs_dispenser.specs.declared.part.Part.{Part}
-use Rattle.xfs_dispenser.specs.declared.part.Part.TheVariants.{Load, Note}
 
 -- the counts from one on, the first of which is this
 pub drop-here : (counts : List ℕ) (i n : ℕ) → i < length counts → get_or counts i 0 ≡ n → drop i counts ≡ n ∷ drop (i + 1) counts

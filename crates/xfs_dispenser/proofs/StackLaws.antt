@@ -1,16 +1,14 @@
 -- Counts that a token covers are stacked in full, unit by unit, where no count of faults rises.
-use Rattle.std.proofs.Common.{◌≡◌, ◌≢◌, ◌≤◌, ◌<◌, ◌+◌, ◌-◌, ◌*◌, ℕ, zero, suc, Bool, true, false, List, [], ◌∷◌, ◌++◌, length, set, get_or, None, Some, inl, inr, refl, sym, subst, ◌∙◌, ap, arith, append_assoc, add-one, length-append}
+use Rattle.std.proofs.Common.{◌≡◌, ◌≤◌, ◌<◌, ◌+◌, ◌-◌, ◌*◌, ℕ, zero, suc, List, [], ◌∷◌, ◌++◌, length, refl, subst, ◌∙◌, ap, arith, length-append}
 use Rattle.std.specs.Prelude.{slice_index}
 use Rattle.std.specs.Option.{option_map}
 use Rattle.std.specs.declared.option.Option.{Option}
 use Rattle.std.proofs.lemmas.List.{length-set}
 use Rattle.xfs_base.specs.Counts.{at, IsZero}
-use Rattle.xfs_base.specs.Money.{value, value_from}
 use Rattle.xfs_base.specs.declared.counts.Counts.{Counts}
 use Rattle.xfs_base.specs.declared.counts.Kind.TheVariants.{Stack, Present}
 use Rattle.xfs_base.specs.declared.counts.Places.{Places}
 use Rattle.xfs_base.proofs.MoneyLaws.{value_from-plus}
-use Rattle.xfs_token.specs.Amounts.{amount_in}
 use Rattle.xfs_journal.specs.Image.{size}
 use Rattle.xfs_journal.specs.declared.record.Rec.TheVariants.{Order as OrderRecord, Done}
 use Rattle.xfs_mech.specs.Motions.{PlacesOf}
@@ -24,14 +22,14 @@ use Rattle.xfs_guard.specs.declared.nonce.Nonce.{Nonce}
 use Rattle.xfs_guard.specs.declared.open.Open.TheVariants.{No}
 use Rattle.xfs_guard.proofs.CoveredLaws.{ahead, ahead-zero, ahead-none, ahead-split, IsAhead, IsOpenFor, nonce-push, free-order, done-short, presented-after}
 use Rattle.xfs_guard.proofs.SizeLaws.{size-longer, order-short}
-use Rattle.xfs_dispenser.specs.Answers.{Went, more, done}
+use Rattle.xfs_dispenser.specs.Answers.{Went, done}
 use Rattle.xfs_dispenser.specs.Complete.{IsCalm, Turns, FollowsTurn}
 use Rattle.xfs_dispenser.specs.Plans.{stacks}
 use Rattle.xfs_dispenser.specs.Seen.{Seen}
 use Rattle.xfs_dispenser.specs.Steps.{onward, success_of}
 use Rattle.xfs_dispenser.specs.declared.part.Part.{Part}
 use Rattle.xfs_dispenser.specs.declared.plan.Plan.{Plan}
-use Rattle.xfs_dispenser.proofs.TurnLaws.{IsCarried, IsFull, IsLater, calm-rest, carried-full, follows-later, later-trans}
+use Rattle.xfs_dispenser.proofs.TurnLaws.{IsFull, calm-rest, carried-full}
 
 -- what all notes of an order from a unit, and of one to present, leave in the places
 pub stack-places : (p q : Places) (n : ℕ) (m d : Counts) → PlacesOf p (Moved n Stack m d ∷ []) q → IsZero d → (w : ℕ)

@@ -1,8 +1,8 @@
 -- An order of a plan that isn't refused is carried out in full by three steps, where no count of faults rises.
-use Rattle.std.proofs.Common.{◌≡◌, ◌≤◌, ◌+◌, ◌⊎◌, ℕ, zero, suc, Bool, true, false, List, [], ◌∷◌, ◌++◌, length, None, Some, inl, inr, refl, sym, subst, ◌∙◌, ap, arith}
+use Rattle.std.proofs.Common.{◌≡◌, ◌≤◌, ◌⊎◌, ℕ, zero, suc, Bool, true, false, List, [], ◌∷◌, ◌++◌, length, None, Some, inl, inr, refl, sym, subst, ◌∙◌, ap, arith}
 use Rattle.std.specs.declared.option.Option.{Option}
 use Rattle.xfs_base.specs.Causes.{Rose}
-use Rattle.xfs_base.specs.Counts.{at, IsZero}
+use Rattle.xfs_base.specs.Counts.{IsZero}
 use Rattle.xfs_base.specs.declared.counts.Counts.{Counts}
 use Rattle.xfs_base.specs.declared.counts.Kind.{Kind}
 use Rattle.xfs_base.specs.declared.counts.Places.{Places}
@@ -18,11 +18,11 @@ use Rattle.xfs_guard.specs.declared.ask.Ask.{Ask}
 use Rattle.xfs_guard.specs.declared.deny.Deny.{Deny}
 use Rattle.xfs_guard.specs.declared.open.Open.{Open}
 use Rattle.xfs_guard.specs.declared.open.Open.TheVariants.{No, Written, Acted}
-use Rattle.xfs_dispenser.specs.Answers.{Answer, Went, more, done}
-use Rattle.xfs_dispenser.specs.Complete.{IsCalm, Turn, Turns, FollowsTurn}
+use Rattle.xfs_dispenser.specs.Answers.{Went, more, done}
+use Rattle.xfs_dispenser.specs.Complete.{IsCalm, Turns, FollowsTurn}
 use Rattle.xfs_dispenser.specs.Plans.{with_parts}
-use Rattle.xfs_dispenser.specs.Seen.{Seen, Becomes, Fails, MechCalled}
-use Rattle.xfs_dispenser.specs.Steps.{Works, WorksOn, DoesFirst, DoesPart, Orders, Restores, Notes, IsActed, IsSettled, IsUnsettled, IsDenied, IsUnwritten, IsWritten, onward, order_record, ordered, refusal_of, settled}
+use Rattle.xfs_dispenser.specs.Seen.{Seen, Becomes}
+use Rattle.xfs_dispenser.specs.Steps.{Works, WorksOn, DoesFirst, DoesPart, Orders, Restores, Notes, IsActed, IsSettled, IsUnsettled, IsDenied, IsUnwritten, IsWritten, onward, order_record, ordered, refusal_of}
 use Rattle.xfs_dispenser.specs.declared.part.Part.{Part}
 use Rattle.xfs_dispenser.specs.declared.part.Part.TheVariants.{Order, Restore, Load, Note}
 use Rattle.xfs_dispenser.specs.declared.plan.Plan.{Plan}

@@ -1,11 +1,9 @@
 -- A step that leaves more to do leaves a plan that can be worked on, and an answer leaves no order open.
-use Rattle.std.proofs.Common.{◌≡◌, ◌≢◌, ◌≤◌, ◌⊎◌, ℕ, Bool, true, false, List, [], ◌∷◌, ◌++◌, drop, get_or, None, Some, Ok, Err, inl, inr, refl, sym, subst, ◌∙◌, ap}
+use Rattle.std.proofs.Common.{◌≡◌, ◌≢◌, ◌⊎◌, ℕ, Bool, true, false, List, [], ◌∷◌, ◌++◌, drop, get_or, Ok, Err, inl, inr, refl, sym, subst, ◌∙◌, ap}
 use Rattle.std.specs.Prelude.{◌==◌, IfOk, sum, if◌then◌else◌}
 use Rattle.std.specs.declared.option.Option.{Option}
 use Rattle.std.specs.declared.result.Result.{Result}
 use Rattle.xfs_base.specs.declared.counts.Counts.{Counts}
-use Rattle.xfs_base.specs.declared.counts.Kind.{Kind}
-use Rattle.xfs_base.specs.declared.counts.Places.{Places}
 use Rattle.xfs_base.specs.declared.faults.Memory.{Memory}
 use Rattle.xfs_base.specs.declared.money.NoteKind.{NoteKind}
 use Rattle.xfs_journal.specs.declared.record.Rec.{Rec}
@@ -25,7 +23,6 @@ use Rattle.xfs_dispenser.specs.declared.part.Part.{Part}
 use Rattle.xfs_dispenser.specs.declared.part.Part.TheVariants.{Order, Restore, Load, Note}
 use Rattle.xfs_dispenser.specs.declared.plan.Plan.{Plan}
 use Rattle.xfs_dispenser.specs.declared.progress.Progress.{Progress}
-use Rattle.xfs_dispenser.specs.declared.progress.Progress.TheVariants as Progress
 use Rattle.xfs_dispenser.proofs.StepLaws.{begin-loaded, begin-still, moved-room, same-room}
 
 never : (answer : Answer) → more ≡ done answer → ⊥

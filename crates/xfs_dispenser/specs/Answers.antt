@@ -1,6 +1,5 @@
 -- What a command of the dispenser completes with.
 use Rattle.std.specs.Prelude.{◌≡◌, ℕ, Some, None}
-use Rattle.std.specs.Option.{option_map}
 use Rattle.std.specs.declared.option.Option.{Option}
 use Rattle.serde_json.specs.Data.{Data}
 use Rattle.serde_json.specs.View.{view}
@@ -10,7 +9,6 @@ use Rattle.xfs_common.specs.Payloads.{nothing, error_payload, record_payload}
 use Rattle.xfs_common.specs.declared.error.ErrorCode.{ErrorCode}
 use Rattle.xfs_common.specs.declared.error.ErrorCode.TheVariants.{NoItems, NotDispensable}
 use Rattle.xfs_envelope.specs.declared.code.Code.{Code}
-use Rattle.xfs_envelope.specs.declared.code.Code.TheVariants as Code
 use Rattle.xfs_guard.specs.declared.deny.Deny.{Deny}
 use Rattle.xfs_guard.specs.declared.deny.Deny.TheVariants.{Shut, Full, TooLong, KeyNoValue, Format, NoNonce, WrongNonce, WrongMac, NoAmounts, OtherBound, NotEmpty, OverBudget, Unbound, Nothing, OutletFull, Short, Disk, Memory}
 use Rattle.xfs_dispenser.specs.declared.begun.Begun.{Begun}

@@ -1,6 +1,5 @@
 -- A dispense that its token covers, and a present behind it, are begun and done in full, where no count of faults rises.
-use Rattle.std.specs.Prelude.{◌≡◌, ◌≤◌, ◌+◌, ◌*◌, ℕ, zero, suc, Bool, false, List, [], ◌∷◌, length, sum, Some, None, Ok}
-use Rattle.std.specs.declared.option.Option.{Option}
+use Rattle.std.specs.Prelude.{◌≡◌, ◌≤◌, ◌+◌, ◌*◌, ℕ, zero, suc, Bool, false, List, length, sum, Some, Ok}
 use Rattle.xfs_base.specs.Causes.{Rose}
 use Rattle.xfs_base.specs.Counts.{at, IsZero}
 use Rattle.xfs_base.specs.declared.counts.Counts.{Counts as CountsOf}
@@ -10,7 +9,7 @@ use Rattle.xfs_guard.specs.View.{View}
 use Rattle.xfs_guard.specs.declared.ask.Ask.TheVariants as Ask
 use Rattle.xfs_guard.specs.declared.open.Open.TheVariants.{No}
 use Rattle.xfs_mix.specs.Mix.{IsMix}
-use Rattle.xfs_dispenser.specs.Answers.{Answer, Start, Went, planned, more, done, plain}
+use Rattle.xfs_dispenser.specs.Answers.{Start, Went, planned, more, done, plain}
 use Rattle.xfs_dispenser.specs.Begins.{Begins}
 use Rattle.xfs_dispenser.specs.Denominations.{NotesGiven, denominated}
 use Rattle.xfs_dispenser.specs.Plans.{dispense_plan, order_plan}

@@ -2,16 +2,15 @@
 use Rattle.std.specs.Prelude.{◌≡◌, ◌≢◌, ◌≤◌, ℕ, zero, suc, ◌+◌, ◌==◌, Bool, false, List, [], ◌∷◌, ◌++◌, length, sum, ⊤, Some, None, if◌then◌else◌}
 use Rattle.std.specs.List.{AllByRecursion}
 use Rattle.std.specs.declared.option.Option.{Option}
-use Rattle.xfs_base.specs.Counts.{at}
 use Rattle.xfs_base.specs.declared.counts.Counts.{Counts}
 use Rattle.xfs_base.specs.declared.counts.Places.{Places}
 use Rattle.xfs_mech.specs.Mechanism.{CanLoad}
 use Rattle.xfs_guard.specs.View.{View}
 use Rattle.xfs_guard.specs.Refusals.{IsAsk}
 use Rattle.xfs_guard.specs.declared.ask.Ask.{Ask}
-use Rattle.xfs_guard.specs.declared.ask.Ask.TheVariants.{Stack, Present, Reject, Retract}
+use Rattle.xfs_guard.specs.declared.ask.Ask.TheVariants.{Stack, Reject, Retract}
 use Rattle.xfs_guard.specs.declared.open.Open.{Open}
-use Rattle.xfs_guard.specs.declared.open.Open.TheVariants.{No, Written, Acted}
+use Rattle.xfs_guard.specs.declared.open.Open.TheVariants.{No, Acted}
 use Rattle.xfs_dispenser.specs.declared.part.Part.{Part}
 use Rattle.xfs_dispenser.specs.declared.part.Part.TheVariants.{Order, Restore, Load, Note}
 use Rattle.xfs_dispenser.specs.declared.plan.Plan.{Plan}

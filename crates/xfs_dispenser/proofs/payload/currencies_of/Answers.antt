@@ -1,6 +1,6 @@
-use Rattle.std.proofs.Common.{get_or, refl, sym, ap, arith}
+use Rattle.std.proofs.Common.{refl, arith}
 use Rattle.serde_json.specs.View.{members_view}
-use Rattle.xfs_dispenser.proofs.PayloadLaws.{currencies-end, currencies-step}
+use Rattle.xfs_dispenser.proofs.PayloadLaws.{currencies-step}
 use Rattle.xfs_dispenser.proofs.payload.currencies_of.Goals as goal
 
 pub loop-at-preserved : goal.loop-at-preserved

@@ -1,4 +1,4 @@
-use Rattle.std.proofs.Common.{◌-◌, get_or, refl, sym, ap, arith}
+use Rattle.std.proofs.Common.{◌-◌, get_or, sym, ap, arith}
 use Rattle.serde_json.specs.View.{members_view}
 use Rattle.xfs_dispenser.proofs.PayloadLaws.{values-step}
 use Rattle.xfs_dispenser.proofs.payload.values_of.Goals as goal

@@ -1,4 +1,4 @@
-use Rattle.std.proofs.Common.{get_or, refl, sym, ap, arith}
+use Rattle.std.proofs.Common.{get_or, sym, ap, arith}
 use Rattle.xfs_dispenser.proofs.PlanLaws.{stacks-end, stacks-step}
 use Rattle.xfs_dispenser.proofs.plan.stacks.Goals as goal
 
