@@ -148,8 +148,8 @@ begins_own s exchange Present next after start is = unless_own _ _ start tt is.2
 begins_own s exchange Reject next after start is = unless_own _ _ start tt is.2
 begins_own s exchange Retract next after start is = unless_own _ _ start tt is.2
 begins_own s exchange Reset next after start is = unless_own _ _ start tt is.2
-begins_own s exchange StartExchange next after start is = unless_own _ _ start refl is.2
-begins_own s exchange EndExchange next after start is = unless_own _ _ start refl is.2
+begins_own s exchange StartExchange next after start is = unless_own _ _ start refl is.1.1
+begins_own s exchange EndExchange next after start is = unless_own _ _ start refl is.1.1
 begins_own s exchange (SetStorage added) next after start is = with_own is.2.checked _ start (λ counts. tt) is.2.starts
 
 -- the card reader
