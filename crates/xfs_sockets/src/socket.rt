@@ -11,8 +11,8 @@ const MOST_BYTES: usize = 1_048_576;
 // How many bytes one read asks for.
 const READ_BYTES: usize = 16_384;
 
-// How long a read waits that finds nothing. The kernel makes it two of its ticks at least.
-const READ_MILLIS: u64 = 1;
+/// How long a read waits that finds nothing, while an answer is owed. The kernel makes it two of its ticks at least.
+pub const READ_MILLIS: u64 = 1;
 
 // How long a write waits for a peer that doesn't read.
 const WRITE_MILLIS: u64 = 10_000;

@@ -1,10 +1,11 @@
 //! What a socket's reads and writes find, and when a read waits.
 
-use crate::socket::Socket;
+use crate::socket::{READ_MILLIS, Socket};
 use std::alloc::Global;
 use std::io;
 use std::io::ErrorKind;
 use std::random::RandomSource;
+use std::time::Duration;
 use tungstenite::{Error, Message};
 use xfs_base::Bytes;
 use xfs_server::{GiveFault, Taking};
@@ -15,12 +16,16 @@ const LOOKS: u32 = 16;
 // How many frames answer a text: its acknowledge and its completion.
 const ANSWERS: u32 = 2;
 
+// How long a read waits where no answer is owed: an idle session wakes less often.
+const IDLE_MILLIS: u64 = 16;
+
 /// A socket, and how its reads wait. While an answer is owed the reads come back at once for a while, so
 /// that the board is turned for it; where none is owed a read waits for the peer.
 #[derive(Drop)]
 pub struct Wire<R: RandomSource + Drop> {
     socket: Socket<R>,
     waits: bool,
+    pause: u64,
     owed: u32,
     looks: u32,
 }
@@ -42,16 +47,14 @@ impl<R: RandomSource + Drop> Wire<R> {
         Wire {
             socket,
             waits,
+            pause: READ_MILLIS,
             owed: 0,
             looks: 0,
         }
     }
 
     pub fn take(&mut self, alloc: Global) -> Taking {
-        if self
-            .set_waits(self.owed == 0 || self.looks >= LOOKS)
-            .is_err()
-        {
+        if self.prepare_read().is_err() {
             return Taking::Failed;
         }
         let answer = self.socket.read();
@@ -99,6 +102,28 @@ impl<R: RandomSource + Drop> Wire<R> {
             Ok(()) => Taking::Closed,
             Err(_) => Taking::Failed,
         }
+    }
+
+    // While an answer is owed, reads come back at once for a while, and then wait a little.
+    fn prepare_read(&mut self) -> io::Result<()> {
+        if self.owed == 0 {
+            self.set_pause(IDLE_MILLIS)?;
+        } else if self.looks < LOOKS {
+            return self.set_waits(false);
+        } else {
+            self.set_pause(READ_MILLIS)?;
+        }
+        self.set_waits(true)
+    }
+
+    // How long a read waits that finds nothing. It asks the system only where that changes.
+    fn set_pause(&mut self, millis: u64) -> io::Result<()> {
+        if self.pause != millis {
+            let stream = self.socket.stream();
+            stream.set_read_timeout(Some(Duration::from_millis(millis)))?;
+            self.pause = millis;
+        }
+        Ok(())
     }
 
     // Whether reads and writes wait. It asks the system only where that changes.
