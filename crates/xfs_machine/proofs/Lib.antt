@@ -1,16 +1,2 @@
-mod Calls
-mod Caused
-mod Changes
-mod Codes
-mod Keeping
-mod Lists
-mod Machines
-mod Marks
-mod Pendings
 mod Places
-mod Queues
 mod Replies
-mod Runs
-mod Steps
-mod Talks
-mod Working

@@ -9,12 +9,12 @@ use Rattle.std.proofs.lemmas.Option.{slice_get_read, slice_get_past, none-some}
 use Rattle.xfs_base.specs.declared.moment.ClientId.{ClientId}
 use Rattle.xfs_base.specs.declared.moment.Service.TheVariants.{Publisher}
 use Rattle.xfs_envelope.specs.Commands.{command_in}
-use Rattle.xfs_machine.specs.Connections.{connection_of, is_at, is_client, sent, with_mail, without_mail}
+use Rattle.xfs_model.specs.Connections.{connection_of, is_at, is_client, sent, with_mail, without_mail}
 use Rattle.xfs_machine.specs.Desks.{DeskView, IsDesk, IsReply, Shows, place_of, with_desk}
-use Rattle.xfs_machine.specs.Posts.{Takes}
-use Rattle.xfs_machine.specs.State.{Connection, Pass, State}
-use Rattle.xfs_machine.specs.Step.{Hands}
-use Rattle.xfs_machine.proofs.Changes.{AllPairs-map, each}
+use Rattle.xfs_model.specs.Posts.{Takes}
+use Rattle.xfs_model.specs.State.{Connection, Pass, State}
+use Rattle.xfs_model.specs.Step.{Hands}
+use Rattle.xfs_model.proofs.Changes.{AllPairs-map, each}
 
 some-injective : {X : Type 0} (x y : X) → Some x ≡ Some y → x ≡ y
 some-injective x y e = cc

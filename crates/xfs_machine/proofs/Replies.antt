@@ -9,15 +9,15 @@ use Rattle.xfs_envelope.specs.Commands as envelope
 use Rattle.xfs_envelope.specs.declared.code.Status.TheVariants.{InvalidMessage, InvalidRequestId}
 use Rattle.xfs_envelope.specs.declared.command.Refuse.{Refuse}
 use Rattle.xfs_json.specs.declared.members.Shape.{Shape}
-use Rattle.xfs_machine.specs.Commands.{line_of}
-use Rattle.xfs_machine.specs.Connections.{sent, with_queue_at}
+use Rattle.xfs_model.specs.Commands.{line_of}
+use Rattle.xfs_model.specs.Connections.{sent, with_queue_at}
 use Rattle.xfs_machine.specs.Desks.{IsDone, IsReply}
-use Rattle.xfs_machine.specs.Frames.{IsAcknowledge}
-use Rattle.xfs_machine.specs.Immediate.{AtOnce, canceling, done_at_once, told_of}
-use Rattle.xfs_machine.specs.Pendings.{pending_in}
-use Rattle.xfs_machine.specs.Posts.{DoesAtOnce}
-use Rattle.xfs_machine.specs.State.{Connection, State, queue_at, queue_of}
-use Rattle.xfs_machine.proofs.Talks.{sent_alone}
+use Rattle.xfs_model.specs.Frames.{IsAcknowledge}
+use Rattle.xfs_model.specs.Immediate.{AtOnce, canceling, done_at_once, told_of}
+use Rattle.xfs_model.specs.Pendings.{pending_in}
+use Rattle.xfs_model.specs.Posts.{DoesAtOnce}
+use Rattle.xfs_model.specs.State.{Connection, State, queue_at, queue_of}
+use Rattle.xfs_model.proofs.Talks.{sent_alone}
 
 canceling_none : (client : ClientId) (ids : Result (Option (List ℕ)) Shape) → (canceling [] client ids).queue ≡ []
 canceling_none client (Err shape) = refl

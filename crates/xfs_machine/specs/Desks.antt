@@ -6,11 +6,11 @@ use Rattle.xfs_base.specs.declared.moment.Service.TheVariants.{Publisher}
 use Rattle.xfs_common.specs.Cancel.{request_ids}
 use Rattle.xfs_envelope.specs.Commands.{command_in}
 use Rattle.xfs_envelope.specs.Commands as envelope
-use Rattle.xfs_machine.specs.Connections.{connection_of, is_client, sent}
-use Rattle.xfs_machine.specs.Frames.{IsCompletion}
-use Rattle.xfs_machine.specs.Immediate.{canceling, done_at_once, told_of}
-use Rattle.xfs_machine.specs.Posts.{Takes}
-use Rattle.xfs_machine.specs.State.{Connection, Outcome, Pass, State}
+use Rattle.xfs_model.specs.Connections.{connection_of, is_client, sent}
+use Rattle.xfs_model.specs.Frames.{IsCompletion}
+use Rattle.xfs_model.specs.Immediate.{canceling, done_at_once, told_of}
+use Rattle.xfs_model.specs.Posts.{Takes}
+use Rattle.xfs_model.specs.State.{Connection, Outcome, Pass, State}
 use Rattle.xfs_machine.specs.declared.reply.Reply.{Reply}
 use Rattle.xfs_machine.specs.declared.reply.Reply.TheVariants.{Refused, Done}
 

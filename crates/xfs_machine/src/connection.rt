@@ -14,7 +14,7 @@ pub struct Connection {
 }
 
 impl Model for Connection {
-    ghost use Rattle.xfs_machine.specs.State.{Connection as ConnectionView};
+    ghost use Rattle.xfs_model.specs.State.{Connection as ConnectionView};
 
     ghost Value = { ConnectionView };
 

@@ -1,9 +1,9 @@
 ghost use Rattle.std.specs.Prelude.{◌≡◌, [], IfOk, OnErr, OnOk, Err, position};
 ghost use Rattle.xfs_base.specs.declared.moment.Service.TheVariants.{Publisher};
-ghost use Rattle.xfs_machine.specs.Connections.{is_client};
+ghost use Rattle.xfs_model.specs.Connections.{is_client};
 ghost use Rattle.xfs_machine.specs.Desks.{PostsAt, Shows, place_of, with_desk};
-ghost use Rattle.xfs_machine.specs.State.{State};
-ghost use Rattle.xfs_machine.specs.Step.{Hands, IsFull, Joins};
+ghost use Rattle.xfs_model.specs.State.{State};
+ghost use Rattle.xfs_model.specs.Step.{Hands, IsFull, Joins};
 ghost use Rattle.xfs_machine.specs.declared.pass.JoinFault.TheVariants as JoinFault;
 
 use crate::connection::Connection;

@@ -11,7 +11,7 @@ pub struct Pass {
 }
 
 impl Model for Pass {
-    ghost use Rattle.xfs_machine.specs.State.{Pass as PassView};
+    ghost use Rattle.xfs_model.specs.State.{Pass as PassView};
 
     ghost Value = { PassView };
 

@@ -6,8 +6,8 @@ ghost use Rattle.xfs_envelope.specs.Commands.{said};
 ghost use Rattle.xfs_envelope.specs.Messages.{IsPayload};
 ghost use Rattle.xfs_envelope.specs.declared.code.Status.TheVariants.{InvalidMessage, InvalidRequestId};
 ghost use Rattle.xfs_machine.specs.Desks.{IsCanceling, IsDone, IsOutcome, IsReply, frames_of};
-ghost use Rattle.xfs_machine.specs.Frames.{IsAcknowledge};
-ghost use Rattle.xfs_machine.specs.Results.{outcome};
+ghost use Rattle.xfs_model.specs.Frames.{IsAcknowledge};
+ghost use Rattle.xfs_model.specs.Results.{outcome};
 
 use std::alloc::Global;
 use xfs_base::{Bytes, Memory, Service};

@@ -1,5 +1,5 @@
 use Rattle.serde_json.specs.View.{view}
-use Rattle.xfs_machine.specs.Results.{outcome}
+use Rattle.xfs_model.specs.Results.{outcome}
 use Rattle.xfs_machine.proofs.reply.completed.Goals as goal
 
 pub returns : goal.returns

@@ -1,5 +1,0 @@
-use Rattle.xfs_machine.proofs.Steps.{keeps}
-use Rattle.xfs_machine.proofs.steps_keep_conversations.Goals as goal
-
-pub returns : goal.returns
-returns c = λ old new event answer machine is. keeps old new event answer machine is

@@ -1,0 +1,14 @@
+pub mod Calls
+pub mod Caused
+pub mod Changes
+pub mod Codes
+pub mod Keeping
+pub mod Lists
+pub mod Machines
+pub mod Marks
+pub mod Pendings
+pub mod Queues
+pub mod Runs
+pub mod Steps
+pub mod Talks
+pub mod Working

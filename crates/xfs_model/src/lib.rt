@@ -1,0 +1,61 @@
+//! The machine as definitions: what it is between two calls, what may happen to it, and what each of these changes;
+//! with the laws of these definitions.
+#![tactic(auto)]
+
+ghost use Rattle.std.specs.Prelude.{◌≡◌, ◌++◌, ℕ, List, Some};
+ghost use Rattle.xfs_base.specs.declared.moment.ClientId.{ClientId};
+ghost use Rattle.xfs_conversation.specs.Once.{IsOnce};
+ghost use Rattle.xfs_model.specs.Causes.{HasCauses, MarksHaveCauses};
+ghost use Rattle.xfs_model.specs.Connections.{connection_at};
+ghost use Rattle.xfs_model.specs.Conversations.{IsTalk, Keeps};
+ghost use Rattle.xfs_model.specs.Events.{Answer, Event};
+ghost use Rattle.xfs_model.specs.GuardCalls.{AtMostOneCall, IsPlain};
+ghost use Rattle.xfs_model.specs.Kept.{IsMachine};
+ghost use Rattle.xfs_model.specs.Pendings.{pending_at};
+ghost use Rattle.xfs_model.specs.Runs.{IsReached};
+ghost use Rattle.xfs_model.specs.State.{Connection, State};
+ghost use Rattle.xfs_model.specs.Step.{Step};
+
+/// Each step keeps the conversation of every connection, and begins that of a connection that joins.
+pub fn steps_keep_conversations()
+    ensures { (old new : State) (event : Event) (answer : Answer) → IsMachine old → Step old event answer new → Keeps old event answer new }
+{}
+
+/// Each step keeps that at most 64 connections are open, that their client numbers rise, that the
+/// ids of a client differ while they are pending, and that at most one command of a service runs.
+pub fn steps_keep_the_machine()
+    ensures { (old new : State) (event : Event) (answer : Answer) → IsMachine old → Step old event answer new → IsMachine new }
+{}
+
+/// From a boot on, what a client posted since its join and what it was handed, with what waits for it
+/// and is pending, is a conversation, as long as it is connected.
+pub fn runs_are_conversations()
+    ensures { (mine : ClientId) (now : State) (texts frames : List (List ℕ)) → IsReached mine now texts frames → IsTalk now mine texts frames }
+{}
+
+/// From a boot on, each text of a connected client has one acknowledge, and each command that was
+/// accepted at most one completion. A later state of the run is such a state too, with more frames:
+/// no step adds a second completion.
+pub fn commands_complete_once()
+    ensures { (mine : ClientId) (now : State) (texts frames : List (List ℕ)) (k : Connection) → IsReached mine now texts frames
+        → connection_at now mine ≡ Some k → IsOnce texts (frames ++ k.waiting) (pending_at now k) }
+{}
+
+/// A step that is no restart and no finish makes at most one call of the guard, so that what each of
+/// these calls keeps is kept.
+pub fn steps_call_the_guard_once()
+    ensures { (old new : State) (event : Event) (answer : Answer) → IsPlain event → Step old event answer new → AtMostOneCall old.seen new.seen }
+{}
+
+/// Each step keeps that a ready command has its result, that one with the result `canceled` is marked, and that one with the result
+/// `timeOut` has a timeout whose deadline has come.
+pub fn results_have_their_causes()
+    ensures { (old new : State) (event : Event) (answer : Answer) → IsMachine old → Step old event answer new → HasCauses old → HasCauses new }
+{}
+
+/// A command that is marked behind a step was marked before it, or the step is a Cancel that its own
+/// client posts and that names it, or its client leaves. So a result `canceled` that a client hears
+/// comes of a Cancel of its own.
+pub fn marks_have_their_causes()
+    ensures { (old new : State) (event : Event) (answer : Answer) → Step old event answer new → MarksHaveCauses old event new }
+{}
