@@ -14,6 +14,7 @@ pub mod LedgerLaws
 pub mod LeftLaws
 pub mod LifeLaws
 pub mod MarkLaws
+pub mod NamedLaws
 pub mod OrderLaws
 pub mod PresentedLaws
 pub mod RecordLaws

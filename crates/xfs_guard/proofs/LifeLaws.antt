@@ -1,19 +1,29 @@
 -- A number that was answered stands in every later list, so it is below the next one.
-use Rattle.std.proofs.Common.{◌≡◌, ℕ, ◌+◌, ◌<◌, ◌≤◌, List, [], ◌∷◌, ◌++◌, sym, ◌∙◌, ap, subst, arith, append_assoc}
+use Rattle.std.proofs.Common.{◌≡◌, inl, inr, refl, ℕ, ◌+◌, ◌<◌, ◌≤◌, List, [], ◌∷◌, ◌++◌, sym, ◌∙◌, ap, subst, arith, append_assoc}
 use Rattle.std.specs.Prelude.{fold, map, All}
 use Rattle.std.specs.List.{Contains}
+use Rattle.std.specs.declared.option.Option.{Option}
 use Rattle.std.proofs.lemmas.List.{append-nil}
 use Rattle.std.proofs.lemmas.List.Elements.{All-append, All-map, All-nil, All-weaker, All-contains}
 use Rattle.xfs_journal.specs.declared.record.Rec.{Rec}
 use Rattle.xfs_journal.specs.declared.record.Rec.TheVariants.{Issue, Clear, Expire, Boot, Bind, Order, Done, Load}
 use Rattle.xfs_journal.specs.Journal.{Walk, next_number, next_issue, CarriesNumber, Numbered}
+use Rattle.xfs_journal.specs.JournalView.{IsPossible}
 use Rattle.xfs_guard.specs.Lives.{Answered, Run, BeginsWith, IsKeptIn, IsLife, answered_in}
 
-begins-same : (J : List Rec) → BeginsWith J J
+pub begins-same : (J : List Rec) → BeginsWith J J
 begins-same J = record { more = []; is = sym (append-nil J) }
 
-begins-trans : (J K L : List Rec) → BeginsWith K J → BeginsWith L K → BeginsWith L J
+pub begins-trans : (J K L : List Rec) → BeginsWith K J → BeginsWith L K → BeginsWith L J
 begins-trans J K L p q = record { more = p.more ++ q.more; is = q.is ∙ ap (λ (l : List Rec). l ++ q.more) p.is ∙ append_assoc J p.more q.more }
+
+pub begins-push : (J : List Rec) (r : Rec) → BeginsWith (J ++ r ∷ []) J
+begins-push J r = record { more = r ∷ []; is = refl }
+
+-- each possible list begins with the kept one: behind a restore the records stay
+pub possible-begins : (kept : List Rec) (in_doubt : Option Rec) (records : List Rec) → IsPossible kept in_doubt records → BeginsWith records kept
+possible-begins kept in_doubt records (inl same) = record { more = []; is = same ∙ sym (append-nil kept) }
+possible-begins kept in_doubt records (inr (r, doubt, is)) = record { more = r ∷ []; is = is }
 
 -- what stands now begins with what a life began with
 begins-life : (first : List Rec) (runs : List Run) (now : List Rec) → IsLife first runs now → BeginsWith now first

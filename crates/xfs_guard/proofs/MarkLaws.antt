@@ -1,5 +1,5 @@
 -- The last mark of a list, the Bind of a token and the Issue of the live nonce are records of it.
-use Rattle.std.proofs.Common.{◌≡◌, ⊎_elim, inl, inr, ℕ, ◌+◌, ◌<◌, Bool, true, false, List, [], ◌∷◌, ◌++◌, length, None, Some, refl, sym, ◌∙◌, ap, subst, arith, append_assoc}
+use Rattle.std.proofs.Common.{◌≡◌, ⊎_elim, inl, inr, ℕ, ◌+◌, ◌<◌, ◌≤◌, Bool, true, false, List, [], ◌∷◌, ◌++◌, length, None, Some, refl, sym, ◌∙◌, ap, subst, arith, append_assoc}
 use Rattle.std.specs.Prelude.{◌==◌, if◌then◌else◌}
 use Rattle.std.proofs.lemmas.List.{append-nil}
 use Rattle.std.proofs.lemmas.List.Elements.{Contains-push_cases}
@@ -10,8 +10,9 @@ use Rattle.xfs_base.specs.declared.counts.Places.{Places}
 use Rattle.xfs_journal.specs.Journal.{record_at, is_mark, is_place, live_of, last_mark, Binding, first_of, found_after, binding_of, bind_of}
 use Rattle.xfs_journal.specs.declared.record.Rec.{Rec}
 use Rattle.xfs_journal.specs.declared.record.Rec.TheVariants.{Issue, Clear, Expire, Boot, Bind, Order, Done, Load}
-use Rattle.xfs_journal.proofs.JournalLaws.{record_at-push, record_at-pushed, record_at-within, binding_of-push, last_mark-push}
+use Rattle.xfs_journal.proofs.JournalLaws.{record_at-push, record_at-append, record_at-pushed, record_at-within, record_at-cases, binding_of-push, last_mark-push}
 use Rattle.xfs_guard.specs.declared.nonce.Nonce.{Nonce}
+use Rattle.xfs_guard.specs.Lives.{BeginsWith}
 use Rattle.xfs_guard.specs.Nonce.{live_in, nonce_of}
 use Rattle.xfs_guard.specs.Refusals.{bound_place, bound_token}
 use Rattle.xfs_guard.specs.Upheld.{HasIssue, IsMarkAt, IsBindAt}
@@ -21,7 +22,7 @@ positive true count mark some = omega arith
 positive false count mark some = some
 
 -- a list with a mark has one once it grew
-marked-push : (J : List Rec) (r : Rec) → 0 < last_mark J → 0 < last_mark (J ++ r ∷ [])
+pub marked-push : (J : List Rec) (r : Rec) → 0 < last_mark J → 0 < last_mark (J ++ r ∷ [])
 marked-push J r some = rw last_mark-push (positive (is_mark r) (length J) (last_mark J) some)
 
 -- what one more record keeps holds of a list that grew
@@ -40,8 +41,27 @@ boot-marked b J = grow (λ (K : List Rec). Contains K (Boot b) → 0 < last_mark
     step K r h there = ⊎_elim (λ old. marked-push K r (h old)) (λ is. subst (λ (x : Rec). 0 < last_mark (K ++ x ∷ [])) (sym is) (marked-boot K b)) (Contains-push_cases K r (Boot b) there)
 
 -- a record of a list stays at its place
-still : (J : List Rec) (r x : Rec) (n : ℕ) → record_at J n ≡ Some x → record_at (J ++ r ∷ []) n ≡ Some x
+pub still : (J : List Rec) (r x : Rec) (n : ℕ) → record_at J n ≡ Some x → record_at (J ++ r ∷ []) n ≡ Some x
 still J r x n there = record_at-push J r n (record_at-within J n x there).1 ∙ there
+
+-- and where the list is one that a later one begins with
+pub still-begun : (K J : List Rec) (x : Rec) (n : ℕ) → BeginsWith K J → record_at J n ≡ Some x → record_at K n ≡ Some x
+still-begun K J x n begins there = rw begins.is (record_at-append J begins.more n (record_at-within J n x there).1 ∙ there)
+
+-- so does a mark
+pub mark-still : (J : List Rec) (r : Rec) (n : ℕ) → IsMarkAt J n → IsMarkAt (J ++ r ∷ []) n
+mark-still J r n mark = (mark.0, still J r mark.0 n mark.1, mark.2)
+
+pub mark-begun : (K J : List Rec) (n : ℕ) → BeginsWith K J → IsMarkAt J n → IsMarkAt K n
+mark-begun K J n begins mark = (mark.0, still-begun K J mark.0 n begins mark.1, mark.2)
+
+-- a list with a mark at its end
+pub marked-here : (J : List Rec) (r : Rec) → is_mark r ≡ true → last_mark (J ++ r ∷ []) ≡ length J + 1
+marked-here J r is = last_mark-push J r ∙ rw is refl
+
+-- a later list has a mark where an earlier one has
+pub marked-begun : (K J : List Rec) → BeginsWith K J → 0 < last_mark J → 0 < last_mark K
+marked-begun K J begins some = rw begins.is (grow (λ (L : List Rec). 0 < last_mark L) marked-push J begins.more some)
 
 -- the last mark is one
 pub mark-there : (J : List Rec) → 0 < last_mark J → IsMarkAt J (last_mark J)
@@ -58,6 +78,20 @@ mark-there J = grow (λ (K : List Rec). 0 < last_mark K → IsMarkAt K (last_mar
 
     step : (K : List Rec) (r : Rec) → (0 < last_mark K → IsMarkAt K (last_mark K)) → 0 < last_mark (K ++ r ∷ []) → IsMarkAt (K ++ r ∷ []) (last_mark (K ++ r ∷ []))
     step K r h = by K r (is_mark r) refl h
+
+-- no mark stands behind the last one
+pub mark-last : (J : List Rec) (n : ℕ) → IsMarkAt J n → n ≤ last_mark J
+mark-last J n = grow (λ (K : List Rec). IsMarkAt K n → n ≤ last_mark K) step [] J (λ mark. absurd (omega (arith, (record_at-within [] n mark.0 mark.1).0, (record_at-within [] n mark.0 mark.1).1)))
+  where
+    before : (K : List Rec) (r : Rec) (b : Bool) → n ≤ last_mark K → n ≤ length K → n ≤ (if b then length K + 1 else last_mark K)
+    before K r true le within = omega (arith, within)
+    before K r false le within = le
+
+    at_end : (K : List Rec) (r x : Rec) → n ≡ length K + 1 → r ≡ x → is_mark x ≡ true → n ≤ last_mark (K ++ r ∷ [])
+    at_end K r x is same mark = rw (marked-here K r (ap is_mark same ∙ mark)) (omega (arith, is))
+
+    step : (K : List Rec) (r : Rec) → (IsMarkAt K n → n ≤ last_mark K) → IsMarkAt (K ++ r ∷ []) n → n ≤ last_mark (K ++ r ∷ [])
+    step K r h mark = ⊎_elim (λ old. rw last_mark-push (before K r (is_mark r) (h (mark.0, old.1, mark.2)) old.0)) (λ new. at_end K r mark.0 new.0 new.1 mark.2) (record_at-cases K r n mark.0 mark.1)
 
 -- the Bind that was found is a record
 abbrev IsThere : ℕ → List Rec → Type 0

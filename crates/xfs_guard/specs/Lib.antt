@@ -14,6 +14,7 @@ pub mod Ledger
 pub mod LedgerView
 pub mod CrashOutcomes
 pub mod Lives
+pub mod Named
 pub mod Nonce
 pub mod Orders
 pub mod OverBudget
