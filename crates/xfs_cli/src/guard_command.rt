@@ -18,6 +18,7 @@ use crate::last_line::{unbooted, usage};
 use crate::serve::serve;
 use crate::session::Session;
 use crate::status::USAGE;
+use crate::token_key::TokenKey;
 use crate::words::is_word;
 use std::alloc::Global;
 use xfs_base::{Sink, Source};
@@ -71,7 +72,7 @@ pub fn guard<S: Source, K: Sink, M: Mechanism, D: Disk>(
             let mut session = Session {
                 alloc,
                 guard,
-                key,
+                key: TokenKey::new(key),
                 last: None,
             };
             let status = serve(alloc, &mut session, source, sink);

@@ -13,6 +13,7 @@ pub mod status;
 mod text;
 mod token_answer;
 mod token_command;
+mod token_key;
 mod top;
 mod words;
 

@@ -24,6 +24,7 @@ ghost use Rattle.xfs_cli.specs.declared.refused.Refusal.TheVariants.{Deny as Den
 
 use crate::refused::{Refusal, refusal_text};
 use crate::text::{ended, joined, outcome_text, show_text};
+use crate::token_key::TokenKey;
 use std::alloc::{AllocError, AllocFailed, Global};
 use xfs_base::{Bytes, Counts, Memory};
 use xfs_disk::Disk;
@@ -31,7 +32,7 @@ use xfs_guard::{Ask, BootFault, Deny, Guard, Permit};
 use xfs_mech::{Mechanism, Outcome};
 use xfs_mix::check;
 use xfs_script::{Given, GuardLine};
-use xfs_token::{Amounts, make};
+use xfs_token::Amounts;
 
 /// Why a verb has no answer.
 #[derive(Clone, Copy, Debug, PartialEq, Eq)]
@@ -68,7 +69,7 @@ impl From<Memory> for AnswerFault {
 pub struct Session<M: Mechanism, D: Disk> {
     pub alloc: Global,
     pub guard: Guard<M, D>,
-    pub key: [u8; 32],
+    pub key: TokenKey,
     pub last: Option<Bytes>,
 }
 
@@ -142,7 +143,7 @@ impl<M: Mechanism, D: Disk> Session<M, D> {
             return joined(self.alloc, b"token ", b"none");
         };
         // A live nonce is of the grammar, so what remains is want of memory.
-        let Ok(token) = make(self.alloc, &self.key, &nonce.text, amounts) else {
+        let Ok(token) = self.key.make(self.alloc, &nonce.text, amounts) else {
             return Err(Memory);
         };
         let text = joined(self.alloc, b"token ", &token);

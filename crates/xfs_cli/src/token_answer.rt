@@ -9,19 +9,20 @@ ghost use Rattle.xfs_cli.specs.TokenAnswers.{AreAnswer, IsFaultText, TellsMade, 
 ghost use Rattle.xfs_cli.specs.TokenAnswers as answers;
 
 use crate::text::{ended, joined};
+use crate::token_key::TokenKey;
 use itoa::Buffer;
 use std::alloc::{AllocError, Global};
 use xfs_base::{Currency, Memory, Milli};
 use xfs_guard::BootFault;
 use xfs_hmac::mac;
 use xfs_script::{Answerer, ScriptFault, TokenLine, Unanswered, read_token};
-use xfs_token::{Amounts, Token, TokenFault, amounts, genuine, make, read};
+use xfs_token::{Amounts, Token, TokenFault, amounts, read};
 
 /// The key under which tokens are read and made.
 #[derive(Drop)]
 pub struct Tokens {
     pub alloc: Global,
-    pub key: [u8; 32],
+    pub key: TokenKey,
 }
 
 impl Answerer for Tokens {
@@ -65,7 +66,7 @@ impl Answerer for Tokens {
 }
 
 // The lines that answer a verb, a line feed behind each.
-fn verb_text(alloc: Global, key: &[u8; 32], verb: &TokenLine) -> Result<Vec<u8>, Memory>
+fn verb_text(alloc: Global, key: &TokenKey, verb: &TokenLine) -> Result<Vec<u8>, Memory>
     ensures { IfOk result (λ text. Tells (λ output next. AreAnswer key.now verb.now output) text.items key.now) }
 {
     match verb {
@@ -80,11 +81,11 @@ fn verb_text(alloc: Global, key: &[u8; 32], verb: &TokenLine) -> Result<Vec<u8>,
     }
 }
 
-fn read_answer(alloc: Global, key: &[u8; 32], bytes: &[u8]) -> Result<Vec<u8>, Memory>
+fn read_answer(alloc: Global, key: &TokenKey, bytes: &[u8]) -> Result<Vec<u8>, Memory>
     ensures { IfOk result (λ v. TellsRead key.now bytes.now v.items) }
 {
     match read(alloc, bytes) {
-        Ok(token) => Ok(token_answer(alloc, &token, genuine(key, bytes, &token))?),
+        Ok(token) => Ok(token_answer(alloc, &token, key.is_genuine(bytes, &token))?),
         Err(fault) => fault_answer(alloc, fault),
     }
 }
@@ -163,14 +164,14 @@ fn fault_at(alloc: Global, words: &[u8], at: u32) -> Result<Vec<u8>, AllocError>
 
 fn make_answer(
     alloc: Global,
-    key: &[u8; 32],
+    key: &TokenKey,
     nonce: &[u8],
     amounts: &Amounts,
 ) -> Result<Vec<u8>, Memory>
     ensures { IfOk result (λ v. TellsMade key.now nonce.now amounts.now v.items) }
 {
     // A line's nonce is of the grammar, so what remains is want of memory.
-    let Ok(token) = make(alloc, key, nonce, amounts) else {
+    let Ok(token) = key.make(alloc, nonce, amounts) else {
         return Err(Memory);
     };
     joined(alloc, b"token ", &token)

@@ -11,6 +11,7 @@ use crate::last_line::usage;
 use crate::serve::serve;
 use crate::status::USAGE;
 use crate::token_answer::Tokens;
+use crate::token_key::TokenKey;
 use crate::words::is_word;
 use std::alloc::Global;
 use xfs_base::{Sink, Source};
@@ -50,6 +51,10 @@ pub fn token<S: Source, K: Sink, M: Mechanism, D: Disk>(
             disk,
         };
     }
-    let status = serve(alloc, &mut Tokens { alloc, key }, source, sink);
+    let mut tokens = Tokens {
+        alloc,
+        key: TokenKey::new(key),
+    };
+    let status = serve(alloc, &mut tokens, source, sink);
     Ended { status, mech, disk }
 }

@@ -7,7 +7,7 @@ returns-clause-runs g c = λ words.
     let s = c.serve-status.ensures in
     let unbooted : (c.serve-status.result ≢ 6) × (c.serve-status.result ≢ 7) × (c.serve-status.result ≢ 12) = ((λ six. (s.unbooted (inl six)).after.ends), (λ seven. (s.unbooted (inr (inl seven))).after.ends), (λ twelve. (s.unbooted (inr (inr twelve))).after.ends)) in
     record {
-      serves = rw s.keeps at s.serves;
+      serves = rw (s.keeps, c.new.ensures) at s.serves;
       lines = s.lines;
       not_a_line = s.not_a_line;
       kept = record { mech = refl; disk = refl };

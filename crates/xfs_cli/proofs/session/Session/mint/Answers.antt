@@ -15,5 +15,5 @@ returns-clause-memory g c =
     let v = c.args.self.now.guard.state in
     on-err _ _ (inr (
       codes "token " ++ c.in-Ok.token.items,
-      mints-made (seen g.D.Disk.faults c.args.self.now.guard c.args.self.now.last) (live_in v.boot_missing v.records) c.in-Some.nonce c.args.amounts.now c.args.self.now.key c.in-Ok.token.items c.new.result (sym c.live.ensures ∙ c.in-Some.is) c.requires.key c.in-Ok.ensures.ok c.new.ensures,
+      mints-made (seen g.D.Disk.faults c.args.self.now.guard c.args.self.now.last) (live_in v.boot_missing v.records) c.in-Some.nonce c.args.amounts.now c.args.self.now.key c.in-Ok.token.items c.new.result (sym c.live.ensures ∙ c.in-Some.is) c.requires.key c.in-Ok.ensures c.new.ensures,
     ))
