@@ -2,7 +2,7 @@ use crate::Nonce;
 use xfs_token::Amounts;
 
 /// The live issue: the number of its record, and its nonce.
-#[derive(Clone, Copy, Debug)]
+#[derive(Clone, Copy)]
 pub struct Live {
     pub place: u64,
     pub nonce: Nonce,
@@ -10,7 +10,7 @@ pub struct Live {
 
 /// The token that is bound to the live nonce: the number of its Bind record, its amounts, and for
 /// each of their currencies what was presented since, in thousandths.
-#[derive(Debug, Drop)]
+#[derive(Drop)]
 pub struct Bound {
     pub place: u64,
     pub amounts: Amounts,

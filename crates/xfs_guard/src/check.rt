@@ -155,7 +155,6 @@ impl<M: Mechanism, D: Disk> Guard<M, D> {
             return Ok(());
         }
         let Claim { token, amounts } = claim;
-        let _short = token.bytes().len();
         self.ledger.bind(token, amounts)?;
         Ok(())
     }

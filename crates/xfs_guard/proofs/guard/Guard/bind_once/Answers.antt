@@ -27,7 +27,8 @@ returns-then-is_some-clause-ok g c =
 pub bind-requires-clause-fits : goal.bind-requires-clause-fits
 bind-requires-clause-fits g c =
     let fit = fit-at _ _ c.self.view_is c.requires.passes.fit in
-    let short : length (body (Bind c.claim.inside.token)) ≤ 1025 = omega (arith, c.bytes-short.ensures.high) in
+    let spelled = rw (← c.claim.view_is) at c.requires.passes.spelled in
+    let short : length (body (Bind c.claim.inside.token)) ≤ 1025 = omega (arith, spelled.short) in
     may-write c.self.inside.ledger (Bind c.claim.inside.token) fit.0 fit.2 (takes-one c.self.inside.ledger.limits c.self.inside.ledger.records (Bind c.claim.inside.token) fit.1 short)
 
 pub invariant_of-self : goal.invariant_of-self
