@@ -1,12 +1,8 @@
 -- What every call keeps, by what the call did.
-use Rattle.std.proofs.Common.{◌≡◌, ℕ, ◌≤◌, true, List, None, Some, refl, ap, arith}
-use Rattle.std.specs.Prelude.{is_some}
-use Rattle.std.specs.declared.option.Option.{Option}
+use Rattle.std.proofs.Common.{◌≡◌, ℕ, ◌≤◌, List, refl, arith}
 use Rattle.xfs_base.specs.Causes.{IfTold}
 use Rattle.xfs_disk.specs.Moments.{LeavesOnly}
 use Rattle.xfs_disk.specs.declared.disk.Disk.{Ghosts}
-use Rattle.xfs_journal.specs.JournalView.{IsPossible}
-use Rattle.xfs_journal.specs.declared.record.Rec.{Rec}
 use Rattle.xfs_journal.proofs.Moments.{weaken}
 use Rattle.xfs_journal.proofs.Told.{on_told, from_told}
 use Rattle.xfs_mech.specs.declared.motion.Motion.{Motion}
@@ -14,8 +10,6 @@ use Rattle.xfs_guard.specs.Continues.{Continues}
 use Rattle.xfs_guard.specs.Crashed.{LeavesBehind}
 use Rattle.xfs_guard.specs.Keeps.{Proceeds, Keeps, NoEntry}
 use Rattle.xfs_guard.specs.CrashOutcomes.{StandsRecorded, StandsThrough}
-use Rattle.xfs_guard.specs.Recorded.{IsRecorded}
-use Rattle.xfs_guard.specs.Stored.{IsStored}
 use Rattle.xfs_guard.specs.Upheld.{IsUpheld}
 use Rattle.xfs_guard.specs.View.{View, GuardView}
 use Rattle.xfs_guard.proofs.BehindLaws.{behind-still, behind-trans}

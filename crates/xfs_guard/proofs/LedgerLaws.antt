@@ -6,7 +6,7 @@ use Rattle.std.specs.Option.{option_map}
 use Rattle.xfs_base.specs.declared.money.NoteKind.{NoteKind}
 use Rattle.xfs_journal.specs.declared.record.Rec.{Rec}
 use Rattle.xfs_journal.specs.declared.record.Rec.TheVariants.{Issue, Clear, Expire, Boot, Bind, Order, Done, Load}
-use Rattle.xfs_journal.specs.Journal.{record_at, live_of, last_mark, next_issue, nonce_text, next_number, live_after, mark_after, Finding, found_after, Binding}
+use Rattle.xfs_journal.specs.Journal.{record_at, live_of, last_mark, next_issue, nonce_text, next_number, live_after, mark_after, Finding, found_after}
 use Rattle.xfs_journal.proofs.JournalLaws.{live_of-push, binding_of-push, last_mark-push, next_issue-push, record_at-push, record_at-pushed, record_at-within, eqb-same}
 use Rattle.std.proofs.lemmas.Bool.{cases_lt}
 use Rattle.std.proofs.lemmas.List.{take_all, take_more, length-take-le}

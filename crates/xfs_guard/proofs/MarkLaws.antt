@@ -1,5 +1,5 @@
 -- The last mark of a list, the Bind of a token and the Issue of the live nonce are records of it.
-use Rattle.std.proofs.Common.{◌≡◌, ⊎_elim, inl, inr, ℕ, ◌+◌, ◌<◌, ◌≤◌, Bool, true, false, List, [], ◌∷◌, ◌++◌, length, None, Some, refl, sym, ◌∙◌, ap, subst, arith, append_assoc}
+use Rattle.std.proofs.Common.{◌≡◌, ⊎_elim, ℕ, ◌+◌, ◌<◌, ◌≤◌, Bool, true, false, List, [], ◌∷◌, ◌++◌, length, None, Some, refl, sym, ◌∙◌, ap, subst, arith, append_assoc}
 use Rattle.std.specs.Prelude.{◌==◌, if◌then◌else◌}
 use Rattle.std.proofs.lemmas.List.{append-nil}
 use Rattle.std.proofs.lemmas.List.Elements.{Contains-push_cases}
@@ -14,7 +14,7 @@ use Rattle.xfs_journal.proofs.JournalLaws.{record_at-push, record_at-append, rec
 use Rattle.xfs_guard.specs.declared.nonce.Nonce.{Nonce}
 use Rattle.xfs_guard.specs.Lives.{BeginsWith}
 use Rattle.xfs_guard.specs.Nonce.{live_in, nonce_of}
-use Rattle.xfs_guard.specs.Refusals.{bound_place, bound_token}
+use Rattle.xfs_guard.specs.Refusals.{bound_place}
 use Rattle.xfs_guard.specs.Upheld.{HasIssue, IsMarkAt, IsBindAt}
 
 positive : (b : Bool) (count mark : ℕ) → 0 < mark → 0 < (if b then count + 1 else mark)

@@ -1,11 +1,11 @@
 -- The record that a refusal names: the last mark, or the Bind of the bound token.
-use Rattle.std.proofs.Common.{◌≡◌, ⊎_elim, ℕ, Bool, true, false, List, length, None, Some, Ok, Err, refl, sym, ◌∙◌, ap, subst}
+use Rattle.std.proofs.Common.{◌≡◌, ⊎_elim, ℕ, Bool, true, false, List, length, None, Some, Ok, Err, refl, subst}
 use Rattle.std.specs.Prelude.{◌==◌, ◌-◌, nat_lt, not, is_none, take, sum, ⊤, if◌then◌else◌, IfErr}
 use Rattle.std.specs.Option.{option_and_then, option_map, option_or, unwrap_or}
 use Rattle.std.specs.Str.{bytes_eq}
 use Rattle.std.specs.declared.option.Option.{Option}
 use Rattle.std.specs.declared.result.Result.{Result}
-use Rattle.std.proofs.lemmas.Option.{none-some, same_Some}
+use Rattle.std.proofs.lemmas.Option.{none-some}
 use Rattle.xfs_base.specs.Counts.{at}
 use Rattle.xfs_base.specs.declared.counts.Counts.{Counts}
 use Rattle.xfs_hmac.specs.Hmac.{hmac}

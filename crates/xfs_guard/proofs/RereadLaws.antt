@@ -1,7 +1,6 @@
 -- What a crash leaves at each moment of a restore: the journal is read again, and a Boot is appended.
 use Rattle.std.proofs.Common.{◌≡◌, ◌⊎◌, inl, inr, ⊎_elim, ℕ, true, List, [], ◌∷◌, ◌++◌, refl, ◌∙◌, ap}
 use Rattle.std.specs.Prelude.{is_some}
-use Rattle.std.specs.declared.option.Option.{Option}
 use Rattle.xfs_base.specs.Causes.{IfTold}
 use Rattle.xfs_base.specs.declared.counts.Places.{Places}
 use Rattle.xfs_disk.specs.Moments.{LeavesOnly}

@@ -15,7 +15,6 @@ use Rattle.xfs_guard.specs.declared.open.Open.{Open}
 use Rattle.xfs_guard.specs.declared.open.Open.TheVariants.{No}
 use Rattle.xfs_guard.specs.Balance.{no_notes}
 use Rattle.xfs_guard.specs.View.{View, unread, reread}
-use Rattle.xfs_guard.specs.Recorded.{IsRecorded}
 use Rattle.xfs_guard.specs.Kept.{IsKept}
 use Rattle.xfs_guard.specs.LedgerView.{LedgerView}
 use Rattle.xfs_guard.specs.Continues.{Continues}

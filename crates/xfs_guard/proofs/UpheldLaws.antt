@@ -1,5 +1,5 @@
 -- What stands of a guard between its calls.
-use Rattle.std.proofs.Common.{◌≡◌, ℕ, ◌+◌, Bool, true, false, List, None, Some, refl, sym, ◌∙◌, ap}
+use Rattle.std.proofs.Common.{◌≡◌, ℕ, ◌+◌, Bool, true, false, List, None, Some, refl, ◌∙◌, ap}
 use Rattle.std.specs.Prelude.{is_some, ◌||◌}
 use Rattle.std.specs.declared.option.Option.{Option}
 use Rattle.xfs_base.specs.Causes.{IfTold}
@@ -9,7 +9,6 @@ use Rattle.xfs_journal.specs.Journal.{live_of}
 use Rattle.xfs_journal.specs.JournalView.{HasPossible}
 use Rattle.xfs_journal.proofs.Told.{on_told, from_told}
 use Rattle.xfs_mech.specs.declared.motion.Motion.{Motion}
-use Rattle.xfs_guard.specs.declared.open.Open.{Open}
 use Rattle.xfs_guard.specs.declared.open.Open.TheVariants.{No}
 use Rattle.xfs_guard.specs.Kept.{IsKept}
 use Rattle.xfs_guard.specs.CrashOutcomes.{StandsRecorded}
@@ -17,7 +16,7 @@ use Rattle.xfs_guard.specs.Presented.{presented_in, unsettled}
 use Rattle.xfs_guard.specs.Sound.{Ties, where_told}
 use Rattle.xfs_guard.specs.Stored.{IsStored}
 use Rattle.xfs_guard.specs.Upheld.{IsCounted, IsUpheld}
-use Rattle.xfs_guard.specs.View.{View, GuardView}
+use Rattle.xfs_guard.specs.View.{View}
 use Rattle.xfs_guard.specs.Within.{shown}
 use Rattle.xfs_guard.proofs.LeftLaws.{recorded-possible}
 use Rattle.xfs_guard.proofs.MarkLaws.{boot-marked, mark-there, bound-there, issue-there}

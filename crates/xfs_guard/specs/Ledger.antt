@@ -5,7 +5,7 @@ use Rattle.std.specs.Option.{option_map}
 use Rattle.xfs_base.specs.declared.money.NoteKind.{NoteKind}
 use Rattle.xfs_journal.specs.declared.record.Rec.{Rec}
 use Rattle.xfs_journal.specs.declared.record.Rec.TheVariants.{Bind}
-use Rattle.xfs_journal.specs.Journal.{record_at, live_of, Binding, binding_of, last_mark, next_issue}
+use Rattle.xfs_journal.specs.Journal.{record_at, live_of, binding_of, last_mark, next_issue}
 use Rattle.xfs_guard.specs.declared.bound.Live.{Live}
 use Rattle.xfs_guard.specs.declared.nonce.Nonce.{Nonce}
 use Rattle.xfs_guard.specs.declared.bound.Bound.{Bound}

@@ -1,5 +1,5 @@
 -- Which record of the journal a refusal names.
-use Rattle.std.specs.Prelude.{◌≡◌, ℕ, List, Some, ⊤}
+use Rattle.std.specs.Prelude.{◌≡◌, List, Some, ⊤}
 use Rattle.xfs_journal.specs.Journal.{last_mark}
 use Rattle.xfs_journal.specs.declared.record.Rec.{Rec}
 use Rattle.xfs_guard.specs.declared.deny.Deny.{Deny}

@@ -1,4 +1,4 @@
-use Rattle.std.proofs.Common.{refl, ◌≡◌, ◌∙◌, length, ap, arith}
+use Rattle.std.proofs.Common.{refl, ◌≡◌, ◌∙◌, length, ap}
 use Rattle.xfs_guard.proofs.ContinueLaws.{Continues-act}
 use Rattle.xfs_guard.proofs.KeptLaws.{IsKept-acted, still-open}
 use Rattle.xfs_guard.specs.CrashOutcomes.{MayMove}

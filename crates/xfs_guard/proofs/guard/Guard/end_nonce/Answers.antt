@@ -1,4 +1,4 @@
-use Rattle.std.proofs.Common.{◌≡◌, ◌≤◌, ◌∙◌, sym, length, None, arith, refl}
+use Rattle.std.proofs.Common.{◌≡◌, ◌≤◌, length, None, arith, refl}
 use Rattle.xfs_guard.specs.declared.open.Open.TheVariants.{No}
 use Rattle.xfs_journal.specs.Image.{body}
 use Rattle.xfs_guard.proofs.ContinueLaws.{Continues-written}

@@ -1,4 +1,4 @@
-use Rattle.std.proofs.Common.{◌≡◌, ◌≢◌, ◌∙◌, sym, Err, None, true≢false, refl, arith}
+use Rattle.std.proofs.Common.{◌≡◌, ◌≢◌, ◌∙◌, sym, Err, None, true≢false, arith}
 use Rattle.std.specs.Prelude.{is_some}
 use Rattle.xfs_guard.specs.declared.fail.BootFault.TheVariants.{Memory}
 use Rattle.xfs_guard.proofs.KeepsLaws.{Keeps-same, Keeps-wrote}

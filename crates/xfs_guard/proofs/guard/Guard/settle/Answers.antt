@@ -2,7 +2,7 @@ use Rattle.std.proofs.Common.{refl, arith}
 use Rattle.xfs_guard.specs.declared.open.Open.TheVariants.{No}
 use Rattle.xfs_journal.specs.declared.record.Rec.TheVariants.{Done}
 use Rattle.xfs_guard.proofs.ContinueLaws.{Continues-written, Continues-doubted}
-use Rattle.xfs_guard.proofs.KeepsLaws.{Keeps-same, Keeps-wrote}
+use Rattle.xfs_guard.proofs.KeepsLaws.{Keeps-wrote}
 use Rattle.xfs_guard.proofs.KeptLaws.{IsKept-open, IsKept-doubted, still-acted}
 use Rattle.xfs_guard.proofs.BalanceLaws.{balanced-push}
 use Rattle.xfs_guard.proofs.SizeLaws.{may-write, takes-done}

@@ -1,6 +1,5 @@
-use Rattle.std.proofs.Common.{refl}
 use Rattle.xfs_guard.proofs.LedgerLaws.{IsRead-mark, KeepsLedger-read}
-use Rattle.xfs_guard.proofs.RecordLaws.{ends-unit, ends-number, ends-live, ends-mark}
+use Rattle.xfs_guard.proofs.RecordLaws.{ends-number, ends-live, ends-mark}
 use Rattle.xfs_guard.proofs.SizeLaws.{write-open}
 use Rattle.xfs_guard.proofs.ledger.Ledger.end_nonce.Goals as goal
 
