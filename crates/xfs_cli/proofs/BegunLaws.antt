@@ -28,7 +28,7 @@ use Rattle.xfs_cli.specs.Begun.{AllOrNothing, IsBegun, IsPartDispensed, IsPartFi
 use Rattle.xfs_cli.specs.DispenseAnswers.{Dispenses, IsPermitted}
 use Rattle.xfs_cli.specs.OrderAnswers.{CarriesOut, MechCalled, Stacks, nothing_stacked, with_stacked}
 use Rattle.xfs_cli.specs.Refused.{refusal_text}
-use Rattle.xfs_cli.specs.Seen.{Seen, Becomes, seen}
+use Rattle.xfs_cli.specs.Seen.{Seen, seen}
 use Rattle.xfs_cli.specs.VerbAnswers.{AreAnswer, Clears, Fills, IsAnswer, IsLoaded, Mints}
 use Rattle.xfs_cli.specs.declared.refused.Refusal.{Refusal}
 use Rattle.xfs_cli.specs.declared.refused.Refusal.TheVariants.{NoToken, NoUnit, StorageFull, Counts, Deny as Denied}

@@ -1,18 +1,14 @@
 -- A dispense that its token covers, and a present behind it, are done in full, where no count of faults rises.
 use Rattle.std.proofs.Common.{◌≡◌, ◌≤◌, ◌+◌, ◌-◌, ◌==◌, ℕ, zero, suc, Bool, true, false, List, [], ◌∷◌, ◌++◌, length, drop, get_or, None, Some, Ok, inl, inr, refl, sym, ◌∙◌, ap, arith, true≢false}
-use Rattle.std.specs.Prelude.{◌&&◌, fold, replicate, nat_lt, not, sum, zip, take, codes, if◌then◌else◌}
+use Rattle.std.specs.Prelude.{◌&&◌, fold, replicate, nat_lt, not, sum, zip, codes, if◌then◌else◌}
 use Rattle.std.specs.List.{prefix_len}
-use Rattle.std.specs.Str.{bytes_eq}
-use Rattle.std.specs.Option.{option_map, option_or}
+use Rattle.std.specs.Option.{option_map}
 use Rattle.std.specs.declared.option.Option.{Option}
-use Rattle.std.proofs.lemmas.Bool.{le-ltb, eq-eqb, ne_eqb}
+use Rattle.std.proofs.lemmas.Bool.{le-ltb, ne_eqb}
 use Rattle.std.proofs.lemmas.List.{append-nil, get_or-drop, length-set}
 use Rattle.std.proofs.lemmas.List.Folds.{sum_by-zero}
-use Rattle.std.proofs.lemmas.Slice.Eq.{bytes_eq-Decides}
 use Rattle.xfs_base.specs.Counts.{at}
 use Rattle.xfs_base.specs.declared.counts.Counts.{Counts as CountsOf}
-use Rattle.xfs_hmac.specs.Hmac.{hmac}
-use Rattle.xfs_token.specs.Amounts.{amounts_of}
 use Rattle.xfs_token.specs.declared.faults.TokenFault.{TokenFault}
 use Rattle.xfs_token.proofs.Whole.{one_token, no_fault}
 use Rattle.xfs_mix.specs.Asked.{count_fault, is_none}
@@ -23,7 +19,7 @@ use Rattle.xfs_guard.specs.View.{View}
 use Rattle.xfs_guard.specs.Fits.{unfit}
 use Rattle.xfs_guard.specs.Nonce.{live_nonce}
 use Rattle.xfs_guard.specs.Presented.{presented_in}
-use Rattle.xfs_guard.specs.Refusals.{Passes, TokenRefused, bound_token, bind_refusal, claim_refusal, order_refusal}
+use Rattle.xfs_guard.specs.Refusals.{TokenRefused, claim_refusal}
 use Rattle.xfs_guard.specs.TokenDeny.{deny_of}
 use Rattle.xfs_guard.specs.declared.ask.Ask.TheVariants.{Present as AskPresent}
 use Rattle.xfs_guard.specs.declared.deny.Deny.{Deny}
@@ -37,7 +33,7 @@ use Rattle.xfs_script.specs.declared.guard_line.Given.{Given}
 use Rattle.xfs_script.specs.declared.guard_line.GuardLine.TheVariants.{Dispense, Present}
 use Rattle.xfs_cli.specs.Refused.{refusal_text}
 use Rattle.xfs_cli.specs.Seen.{Seen}
-use Rattle.xfs_cli.specs.OrderAnswers.{Moves, Tells, nothing_stacked, refusal_of}
+use Rattle.xfs_cli.specs.OrderAnswers.{Moves, Tells, nothing_stacked}
 use Rattle.xfs_cli.specs.DispenseAnswers.{Dispenses, IsForbidden, IsOrdered, IsPermitted, IsUnmoved, counts_refusal, named}
 use Rattle.xfs_cli.specs.GuardAnswers.{outcome_text}
 use Rattle.xfs_cli.specs.VerbAnswers.{AnswersGuard, AreAnswer}

@@ -1,43 +1,28 @@
 -- Counts that a token covers are stacked in full, unit by unit, where no count of faults rises.
-use Rattle.std.proofs.Common.{◌≡◌, ◌≢◌, ◌≤◌, ◌<◌, ◌+◌, ◌-◌, ◌*◌, ℕ, zero, suc, Bool, true, false, List, [], ◌∷◌, ◌++◌, length, set, get_or, None, Some, Ok, inl, inr, refl, sym, subst, ◌∙◌, ap, arith, append_assoc, add-one, length-append}
-use Rattle.std.specs.Prelude.{nat_lt, slice_index, if◌then◌else◌, ◌||◌}
-use Rattle.std.specs.Option.{option_map, option_and_then, option_or}
-use Rattle.std.specs.declared.option.Option.{Option}
+use Rattle.std.proofs.Common.{◌≡◌, ◌≤◌, ◌<◌, ◌+◌, ◌-◌, ℕ, zero, suc, Bool, true, false, List, [], ◌∷◌, ◌++◌, length, set, Ok, inl, inr, refl, sym, subst, ◌∙◌, ap, arith, append_assoc, add-one, length-append}
+use Rattle.std.specs.Prelude.{slice_index}
+use Rattle.std.specs.Option.{option_map}
 use Rattle.std.specs.declared.result.Result.{Result}
 use Rattle.std.proofs.Math.Seq.{set-append_seam}
-use Rattle.std.proofs.lemmas.Bool.{le-ltb, cases_eq}
-use Rattle.std.proofs.lemmas.List.{get_or-set_other, length-set}
-use Rattle.std.proofs.lemmas.Grind.{get_or-set_at}
+use Rattle.std.proofs.lemmas.List.{length-set}
 use Rattle.xfs_base.specs.Counts.{at}
-use Rattle.xfs_base.specs.Money.{value, value_from}
 use Rattle.xfs_base.specs.declared.counts.Counts.{Counts}
 use Rattle.xfs_base.specs.declared.counts.Kind.TheVariants.{Stack}
-use Rattle.xfs_base.specs.declared.money.NoteKind.{NoteKind}
-use Rattle.xfs_base.proofs.MoneyLaws.{value_from-plus, value_from-le}
+use Rattle.xfs_base.proofs.MoneyLaws.{value_from-plus}
 use Rattle.xfs_mech.specs.declared.motion.Outcome.{Outcome}
-use Rattle.xfs_token.specs.Amounts.{amount_in}
-use Rattle.xfs_journal.specs.Image.{counts_bytes, body, size}
-use Rattle.xfs_journal.proofs.Decoding.{length-numbers}
-use Rattle.xfs_journal.specs.Journal.{live_of, live_after, record_at}
-use Rattle.xfs_journal.specs.declared.record.Rec.{Rec}
+use Rattle.xfs_journal.specs.Image.{size}
 use Rattle.xfs_journal.specs.declared.record.Rec.TheVariants.{Order, Done}
-use Rattle.xfs_journal.proofs.JournalLaws.{live_of-push, record_at-push, eqb-same}
 use Rattle.xfs_guard.specs.Balance.{no_notes}
 use Rattle.xfs_guard.specs.View.{View}
-use Rattle.xfs_guard.specs.Fits.{unfit}
-use Rattle.xfs_guard.specs.Nonce.{nonce_of, live_nonce}
-use Rattle.xfs_guard.specs.OverBudget.{first_currency, is_over}
-use Rattle.xfs_guard.specs.Presented.{presented_in, done_worth}
-use Rattle.xfs_guard.specs.Refusals.{notes_of, over_budget, order_refusal, order_refusal_at}
+use Rattle.xfs_guard.specs.Nonce.{live_nonce}
+use Rattle.xfs_guard.specs.Presented.{presented_in}
+use Rattle.xfs_guard.specs.Refusals.{notes_of}
 use Rattle.xfs_guard.specs.declared.ask.Ask.TheVariants.{Stack as AskStack}
 use Rattle.xfs_guard.specs.declared.deny.Deny.{Deny}
-use Rattle.xfs_guard.specs.declared.deny.Deny.TheVariants.{Shut, Full}
 use Rattle.xfs_guard.specs.declared.nonce.Nonce.{Nonce}
-use Rattle.xfs_guard.proofs.PresentedLaws.{presented_in-push}
-use Rattle.xfs_guard.proofs.RecordLaws.{last-pushed, lives-within}
 use Rattle.xfs_guard.proofs.SizeLaws.{size-longer, order-short}
 use Rattle.xfs_cli.specs.Seen.{Seen}
-use Rattle.xfs_cli.specs.OrderAnswers.{Stacks, GoesOn, refusal_of, with_stacked}
+use Rattle.xfs_cli.specs.OrderAnswers.{Stacks, GoesOn, with_stacked}
 use Rattle.xfs_cli.specs.Complete.{IsCalm}
 use Rattle.xfs_cli.proofs.CompleteOrders.{IsFull, carries-full, carries-grown, follows-grown, stacks-grown, stack-places, calm-first, calm-rest}
 use Rattle.xfs_guard.proofs.CoveredLaws.{ahead, ahead-zero, ahead-none, ahead-split, notes-here, IsAhead, IsOpenFor, nonce-push, free-order, done-short, presented-after}

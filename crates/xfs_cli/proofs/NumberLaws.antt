@@ -11,10 +11,8 @@ use Rattle.xfs_journal.specs.Image.{StandsFor}
 use Rattle.xfs_journal.specs.declared.record.Rec.{Rec}
 use Rattle.xfs_journal.specs.declared.record.Rec.TheVariants.{Boot}
 use Rattle.xfs_journal.proofs.Unique.{stands_for_one}
-use Rattle.xfs_guard.specs.Agrees.{Agrees}
 use Rattle.xfs_guard.specs.Continues.{Continues, Leads, Led}
 use Rattle.xfs_guard.specs.View.{View}
-use Rattle.xfs_guard.proofs.AgreesLaws.{numbers_within}
 use Rattle.xfs_guard.proofs.ContinueLaws.{only-possible}
 use Rattle.xfs_guard.proofs.RecordLaws.{length-pushed}
 use Rattle.xfs_cli.proofs.RunLaws.{Starts}

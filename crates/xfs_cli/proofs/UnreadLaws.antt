@@ -1,6 +1,4 @@
 -- What a boot leaves of a disk whose bytes are no journal.
-use Rattle.std.proofs.Common.{ℕ, List}
-use Rattle.std.specs.declared.option.Option.{Option}
 use Rattle.xfs_disk.specs.declared.disk.Disk.{Ghosts}
 use Rattle.xfs_base.specs.Causes.{IfTold}
 use Rattle.xfs_journal.specs.Paging.{IsQuiet}

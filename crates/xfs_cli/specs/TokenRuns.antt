@@ -1,5 +1,5 @@
 -- A run of `token`: what it writes, and its statuses; and a run of words that are no command.
-use Rattle.std.specs.Prelude.{◌≡◌, ◌≢◌, ◌<◌, List, [], ◌∷◌, length}
+use Rattle.std.specs.Prelude.{◌≡◌, ◌≢◌, ◌<◌, [], ◌∷◌, length}
 use Rattle.xfs_base.specs.Causes.{IfTold, Rose}
 use Rattle.xfs_guard.specs.declared.machine_core.Core.{Core}
 use Rattle.xfs_script.specs.Lines.{AllLines, StopsAtLine}

@@ -39,12 +39,7 @@ impl TokenKey {
     }
 
     /// A genuine token with the nonce and the amounts.
-    pub fn make(
-        &self,
-        alloc: Global,
-        nonce: &[u8],
-        amounts: &Amounts,
-    ) -> Result<Vec<u8>, MakeFault>
+    pub fn make(&self, alloc: Global, nonce: &[u8], amounts: &Amounts) -> Result<Vec<u8>, MakeFault>
         ensures { IfOk result (λ token. IsMade self.now nonce.now amounts.now token.items) }
     {
         make_under(alloc, &self.prepared, nonce, amounts)

@@ -1,4 +1,4 @@
-use Rattle.xfs_guard.proofs.KeepsLaws.{Proceeds-same, Proceeds-trans}
+use Rattle.xfs_guard.proofs.KeepsLaws.{Proceeds-same}
 use Rattle.xfs_cli.proofs.SeenLaws.{fault-through}
 use Rattle.xfs_cli.proofs.BegunLaws.{tells-line, verb-leaves}
 use Rattle.xfs_cli.proofs.session.Session.answer_verb.Goals as goal

@@ -1,5 +1,5 @@
 use Rattle.std.proofs.Common.{inr, refl, ap}
-use Rattle.xfs_guard.proofs.KeepsLaws.{Proceeds-same, Proceeds-trans}
+use Rattle.xfs_guard.proofs.KeepsLaws.{Proceeds-trans}
 use Rattle.xfs_cli.specs.Seen.{seen}
 use Rattle.xfs_cli.proofs.SeenLaws.{carried-err, stopped-order}
 use Rattle.xfs_cli.proofs.session.Session.carried.Goals as goal

@@ -1,7 +1,7 @@
 use Rattle.std.proofs.Common.{Ok, Err, inl, inr, refl, ap}
 use Rattle.std.specs.Prelude.{codes}
 use Rattle.std.proofs.lemmas.Result.{IfOk-weaker}
-use Rattle.xfs_guard.proofs.KeepsLaws.{Proceeds-same, Proceeds-trans}
+use Rattle.xfs_guard.proofs.KeepsLaws.{Proceeds-trans}
 use Rattle.xfs_cli.proofs.DispenseLaws.{few-permitted}
 use Rattle.xfs_cli.proofs.SeenLaws.{err-same, told-some}
 use Rattle.xfs_cli.specs.Seen.{seen}

@@ -1,4 +1,4 @@
-use Rattle.xfs_guard.proofs.KeepsLaws.{Proceeds-same, Proceeds-trans}
+use Rattle.xfs_guard.proofs.KeepsLaws.{Proceeds-same}
 use Rattle.xfs_cli.proofs.BegunLaws.{loads-fills}
 use Rattle.xfs_cli.proofs.session.Session.fill.Goals as goal
 

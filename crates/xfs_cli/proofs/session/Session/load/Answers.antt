@@ -1,6 +1,6 @@
-use Rattle.std.proofs.Common.{◌≡◌, ◌∙◌, inl, inr, refl, ap, arith}
+use Rattle.std.proofs.Common.{◌∙◌, inl, inr, refl, ap}
 use Rattle.std.proofs.lemmas.Result.{IfOk-weaker}
-use Rattle.xfs_guard.proofs.KeepsLaws.{Proceeds-same, Proceeds-trans}
+use Rattle.xfs_guard.proofs.KeepsLaws.{Proceeds-trans}
 use Rattle.xfs_guard.specs.View.{View}
 use Rattle.xfs_cli.specs.Seen.{seen}
 use Rattle.xfs_cli.proofs.SeenLaws.{wrote-kept, wrote-err, none-err}

@@ -1,5 +1,5 @@
 use Rattle.std.proofs.Common.{List, ℕ, Bor}
-use Rattle.xfs_guard.proofs.KeepsLaws.{Proceeds-same, Proceeds-trans}
+use Rattle.xfs_guard.proofs.KeepsLaws.{Proceeds-same}
 use Rattle.xfs_cli.proofs.DispenseLaws.{forbidden-err, named-is, no-fault}
 use Rattle.xfs_cli.proofs.session.Session.permitted.Goals as goal
 
