@@ -1,10 +1,10 @@
 -- The table before any notes are allowed, and what it says once all are.
-use Rattle.std.proofs.Common.{◌≡◌, ℕ, zero, suc, ◌+◌, ◌*◌, ◌≤◌, ◌<◌, cond, List, [], ◌∷◌, ◌++◌, Option, None, Some, length, get_or, slice_get, replicate, sym, refl, arith, inl, inr}
+use Rattle.std.proofs.Common.{◌≡◌, ℕ, zero, suc, ◌+◌, ◌*◌, ◌≤◌, ◌<◌, cond, List, [], ◌∷◌, Option, None, Some, get_or, slice_get, replicate, refl, arith, inl, inr, Result, Ok, Err, IfOk, Vec, Global}
 use Rattle.std.specs.Option.{option_map_or}
 use Rattle.std.specs.Str.{bytes_eq}
 use Rattle.std.proofs.Math.Nat.{mul-le-mul_left}
-use Rattle.std.proofs.lemmas.Bool.{cases_lt, cases_Bool}
-use Rattle.std.proofs.lemmas.List.{length-append, get_or_append_left, get_or_push}
+use Rattle.std.proofs.lemmas.Bool.{cases_Bool}
+use Rattle.std.proofs.lemmas.List.{length-replicate, get_or-replicate}
 use Rattle.xfs_base.specs.declared.counts.Counts.{Counts}
 use Rattle.xfs_base.specs.declared.money.NoteKind.{NoteKind}
 use Rattle.xfs_base.specs.Counts.{at}
@@ -23,23 +23,22 @@ value_none (k ∷ ks) i cs cur none = rw (none i, value_none ks (i + 1) cs cur n
   | inr n ↦ rw n refl
 ])
 
-none_for_more : (ks : List NoteKind) (cur : List ℕ) (a : ℕ) (m : Counts) → 0 < a → IsWithin ks none_yet cur a m → ⊥
+pub none_for_more : (ks : List NoteKind) (cur : List ℕ) (a : ℕ) (m : Counts) → 0 < a → IsWithin ks none_yet cur a m → ⊥
 none_for_more ks cur a m some is =
     let none = value_none ks 0 m.0 cur (λ w. omega (arith, is.lies w, zeros 8 w)) in
     omega (arith, none, is.worth)
 
-pub table_one : (ks : List NoteKind) (cur : List ℕ) → IsTable ks none_yet cur (Some none_yet ∷ [])
-table_one ks cur zero d within =
-    (refl, record { lies = λ w. omega arith; worth = value_none ks 0 none_yet.0 cur (zeros 8) }, λ m is. omega arith)
-table_one ks cur (suc b) d within = absurd (omega (arith, within))
+pub within_none : (ks : List NoteKind) (cur : List ℕ) → IsWithin ks none_yet cur 0 none_yet
+within_none ks cur = record { lies = λ w. omega arith; worth = value_none ks 0 none_yet.0 cur (zeros 8) }
 
-pub table_push : (ks : List NoteKind) (cur : List ℕ) (xs : List (Option Counts)) → 0 < length xs → IsTable ks none_yet cur xs → IsTable ks none_yet cur (xs ++ None ∷ [])
-table_push ks cur xs some is b d within = elim (cases_lt b (length xs)) [
-  | inl l ↦ rw (get_or_append_left xs (None ∷ []) d b l) (is b d l)
-  | inr g ↦
-      let e : b ≡ length xs = omega (arith, rw length-append at within, g) in
-      rw (get_or_push xs None d b (sym e)) (rw e (λ m h. none_for_more ks cur (length xs) m some h))
-]
+pub table_first : (ks : List NoteKind) (cur : List ℕ) (n : ℕ) → IsTable ks none_yet cur (Some none_yet ∷ replicate n None)
+table_first ks cur n zero d within = (refl, within_none ks cur, λ m is. omega arith)
+table_first ks cur n (suc b) d within =
+    rw (get_or-replicate n b None d (omega (arith, rw length-replicate at within))) (λ m h. none_for_more ks cur (suc b) m (omega arith) h)
+
+pub first_ok : {E : Type 0} → (ks : List NoteKind) (cur : List ℕ) (n : ℕ) (r : Result (Vec (Option Counts) Global) E) → IfOk r (λ t. t.items ≡ Some none_yet ∷ replicate n None) → IfOk r (λ t. IsTable ks none_yet cur t.items)
+first_ok ks cur n (Ok t) is = rw is (table_first ks cur n)
+first_ok ks cur n (Err e) is = tt
 
 -- within limits that are what may be used, counts are mixes
 pub best_is_mix : (ks : List NoteKind) (have limits : Counts) (cur : List ℕ) (a : ℕ) (o : Option Counts) → ((u : ℕ) → at limits u ≡ usable ks have cur u) → IsBest ks limits cur a o → IsBestMix ks have cur a o

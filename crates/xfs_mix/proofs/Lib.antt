@@ -1,4 +1,6 @@
 pub mod Best
 pub mod First
 pub mod Raised
+pub mod ReachLaws
+pub mod Sixty
 pub mod StepLaws

@@ -1,6 +1,6 @@
 -- Amounts counted in steps have the same mixes, and an amount between two steps has none.
-use Rattle.std.proofs.Common.{◌≡◌, ℕ, zero, suc, ◌+◌, ◌*◌, ◌/◌, ◌%◌, ◌≤◌, ◌<◌, Bool, true, false, List, [], ◌∷◌, ◌++◌, Option, None, Some, length, get_or, slice_get, take, if◌then◌else◌, refl, sym, ◌∙◌, ap, arith, inl, inr}
-use Rattle.std.specs.Prelude.{All, map, IfOk, Ok, Err}
+use Rattle.std.proofs.Common.{◌≡◌, ℕ, zero, suc, ◌+◌, ◌*◌, ◌/◌, ◌%◌, ◌≤◌, ◌<◌, Bool, true, false, List, [], ◌∷◌, ◌++◌, length, get_or, slice_get, take, if◌then◌else◌, refl, sym, ◌∙◌, ap, arith, inl, inr}
+use Rattle.std.specs.Prelude.{All, map, Ok, Err}
 use Rattle.std.specs.Int.{◌∣◌, IsGcd}
 use Rattle.std.specs.Option.{option_map_or}
 use Rattle.std.specs.Str.{bytes_eq}
@@ -16,7 +16,8 @@ use Rattle.xfs_base.specs.Money.{value, value_at, value_from}
 use Rattle.xfs_base.specs.Values.{IsNoteValue}
 use Rattle.std.specs.declared.result.Result.{Result}
 use Rattle.xfs_mix.specs.declared.mix.MixFault.{MixFault}
-use Rattle.xfs_mix.specs.Mix.{IsMix, IsBestMix}
+use Rattle.xfs_mix.specs.declared.mix.MixFault.TheVariants.{Nothing, TooMany, Memory}
+use Rattle.xfs_mix.specs.Mix.{IsMix, IsAnswer, AreMany}
 use Rattle.xfs_mix.specs.Steps.{AreMultiples, in_steps}
 
 -- a divisor of the currency's values among the first kinds
@@ -159,13 +160,15 @@ mix_of_steps step cur ks have a m multiples even is =
       worth = w.in_all ∙ ap (λ x. 1000 * (step * x)) same ∙ ap (λ x. 1000 * x) whole;
     }
 
-best_of_steps : (step : ℕ) (cur : List ℕ) (ks : List NoteKind) (have : Counts) (a : ℕ) (o : Option Counts) → 0 < step → AreMultiples step cur ks → a % step ≡ 0
-    → IsBestMix (map (in_steps step cur) ks) have cur (a / step) o → IsBestMix ks have cur a o
-best_of_steps step cur ks have a None some multiples even none = λ m is. none m (mix_in_steps step cur ks have a m some multiples is)
-best_of_steps step cur ks have a (Some n) some multiples even best =
-    (mix_of_steps step cur ks have a n multiples even best.0, λ m is. best.1 m (mix_in_steps step cur ks have a m some multiples is))
+many_of_steps : (step : ℕ) (cur : List ℕ) (ks : List NoteKind) (have : Counts) (a : ℕ) → 0 < step → AreMultiples step cur ks
+    → AreMany (map (in_steps step cur) ks) have cur (a / step) → AreMany ks have cur a
+many_of_steps step cur ks have a some multiples many n is = many n (mix_in_steps step cur ks have a n some multiples is)
 
-pub ok_of_steps : (step : ℕ) (cur : List ℕ) (ks : List NoteKind) (have : Counts) (a : ℕ) (r : Result (Option Counts) MixFault) → 0 < step → AreMultiples step cur ks → a % step ≡ 0
-    → IfOk r (IsBestMix (map (in_steps step cur) ks) have cur (a / step)) → IfOk r (IsBestMix ks have cur a)
-ok_of_steps step cur ks have a (Ok o) some multiples even best = best_of_steps step cur ks have a o some multiples even best
-ok_of_steps step cur ks have a (Err e) some multiples even best = tt
+pub answer_of_steps : (step : ℕ) (cur : List ℕ) (ks : List NoteKind) (have : Counts) (a : ℕ) (r : Result Counts MixFault) → 0 < step → AreMultiples step cur ks → a % step ≡ 0
+    → IsAnswer (map (in_steps step cur) ks) have cur (a / step) r → IsAnswer ks have cur a r
+answer_of_steps step cur ks have a (Ok n) some multiples even best =
+    (mix_of_steps step cur ks have a n multiples even best.0, λ m is. best.1 m (mix_in_steps step cur ks have a m some multiples is), best.2)
+answer_of_steps step cur ks have a (Err Nothing) some multiples even none = λ m is. none m (mix_in_steps step cur ks have a m some multiples is)
+answer_of_steps step cur ks have a (Err TooMany) some multiples even many =
+    ((many.0.0, mix_of_steps step cur ks have a many.0.0 multiples even many.0.1), many_of_steps step cur ks have a some multiples many.1)
+answer_of_steps step cur ks have a (Err Memory) some multiples even free = tt

@@ -1,3 +1,4 @@
 pub mod Asked
 pub mod Mix
+pub mod Reach
 pub mod Steps

@@ -1,12 +1,15 @@
 -- A mix for an amount is counts of notes that lie within what is there, are of one currency, and are worth exactly the amount; it is least where no other has fewer notes.
-use Rattle.std.specs.Prelude.{◌≡◌, ℕ, replicate, true, ◌+◌, ◌*◌, ◌≤◌, ◌<◌, List, length, sum, MatchOption, None, Some, slice_get, slice_index, slice_index_or, slice_set, nat_le, if◌then◌else◌}
+use Rattle.std.specs.Prelude.{◌≡◌, ℕ, ⊤, Ok, Err, All, replicate, true, ◌+◌, ◌*◌, ◌≤◌, ◌<◌, List, length, sum, MatchOption, None, Some, slice_get, slice_index, slice_index_or, slice_set, nat_le, nat_lt, if◌then◌else◌}
 use Rattle.std.specs.declared.option.Option.{Option}
+use Rattle.std.specs.declared.result.Result.{Result}
 use Rattle.std.specs.Option.{option_map_or}
 use Rattle.std.specs.Str.{bytes_eq}
 use Rattle.xfs_base.specs.declared.counts.Counts.{Counts}
 use Rattle.xfs_base.specs.declared.money.NoteKind.{NoteKind}
 use Rattle.xfs_base.specs.Counts.{at, LiesIn}
 use Rattle.xfs_base.specs.Money.{value}
+use Rattle.xfs_mix.specs.declared.mix.MixFault.{MixFault}
+use Rattle.xfs_mix.specs.declared.mix.MixFault.TheVariants.{Nothing, TooMany, Memory}
 
 -- how many notes of a unit, from 0, may be used: those that are there, where the unit is of the currency
 abbrev pub usable : List NoteKind → Counts → List ℕ → ℕ → ℕ
@@ -75,3 +78,29 @@ abbrev pub IsBestMix : List NoteKind → Counts → List ℕ → ℕ → Option 
 IsBestMix units have currency amount best =
     MatchOption best ((m : Counts) → IsMix units have currency amount m → ⊥)
     (λ n. IsMix units have currency amount n × IsLeast units have currency amount n)
+
+-- no value of the currency is above a number
+abbrev pub AreAtMost : ℕ → List ℕ → List NoteKind → Type 0
+AreAtMost most currency kinds = All (λ k. bytes_eq k.currency currency ≡ true → k.value ≤ most) kinds
+
+-- counts of more than 60 notes are none
+abbrev pub without_many : Option Counts → Option Counts
+without_many None = None
+without_many (Some n) = if nat_lt 60 (sum n.0) then None else Some n
+
+-- each mix for an amount has more than 60 notes
+abbrev pub AreMany : List NoteKind → Counts → List ℕ → ℕ → Type 0
+AreMany units have currency amount = (n : Counts) → IsMix units have currency amount n → 60 < sum n.0
+
+-- the least mix for an amount, if it has at most 60 notes
+abbrev pub IsBestOfSixty : List NoteKind → Counts → List ℕ → ℕ → Option Counts → Type 0
+IsBestOfSixty units have currency amount best =
+    MatchOption best (AreMany units have currency amount)
+    (λ n. IsMix units have currency amount n × IsLeast units have currency amount n × (sum n.0 ≤ 60))
+
+-- the least mix for an amount; or there is none, or each has more than 60 notes
+abbrev pub IsAnswer : List NoteKind → Counts → List ℕ → ℕ → Result Counts MixFault → Type 0
+IsAnswer units have currency amount (Ok n) = IsMix units have currency amount n × IsLeast units have currency amount n × (sum n.0 ≤ 60)
+IsAnswer units have currency amount (Err Nothing) = (n : Counts) → IsMix units have currency amount n → ⊥
+IsAnswer units have currency amount (Err TooMany) = ((n : Counts) × IsMix units have currency amount n) × AreMany units have currency amount
+IsAnswer units have currency amount (Err Memory) = ⊤

@@ -3,6 +3,7 @@
 
 mod asked;
 mod mix;
+mod reach;
 #[cfg(test)]
 mod search;
 mod steps;

@@ -1,11 +1,12 @@
-ghost use Rattle.std.specs.Prelude.{◌≡◌, ◌≤◌, ◌<◌, ◌+◌, ◌*◌, ◌^◌, ℕ, IsTrue, IfOk, IfSome, IfErr, Ok, Err, length, sum, true, All, slice_get, Some};
+ghost use Rattle.std.specs.Prelude.{◌≡◌, ◌≤◌, ◌<◌, ◌+◌, ◌*◌, ◌^◌, ℕ, IsTrue, IfOk, IfSome, IfErr, Ok, Err, length, sum, true, All, slice_get, Some, map, min};
 ghost use Rattle.xfs_base.specs.Counts.{at};
-ghost use Rattle.xfs_mix.specs.Mix.{IsMix, IsLeast, IsTable, IsRaised, better_of, none_yet, usable, IsBestMix};
+ghost use Rattle.xfs_mix.specs.Mix.{IsMix, IsLeast, IsTable, IsRaised, better_of, none_yet, usable, IsBestMix, IsAnswer, IsBestOfSixty, AreAtMost, without_many};
 ghost use Rattle.xfs_base.specs.declared.counts.Counts.{Counts};
 ghost use Rattle.xfs_mix.specs.declared.mix.MixFault.TheVariants.{Nothing, TooMany, Memory};
 ghost use Rattle.xfs_base.specs.Values.{IsNoteValue};
 ghost use Rattle.std.specs.Str.{bytes_eq};
 
+use crate::reach::{is_reached, only_first};
 use crate::steps::{in_steps, step_of};
 use std::alloc::{AllocError, Global};
 use thiserror::Error;
@@ -39,10 +40,11 @@ impl From<AllocError> for MixFault {
 /// several the choice is free.
 ///
 /// The cost: amounts are counted in steps of the greatest common divisor of the currency's values.
-/// Where a unit has c notes, they are allowed in about log2 c passes, and each pass goes once over
-/// the steps up to the asked amount. So an amount of 1,000,000 in notes of 10, 20 and 50 has a table
-/// of 100,001 entries, which takes 3.6 MB; it has 36 MB where the divisor is 1. An amount past all
-/// that is there, or between two steps, is refused before.
+/// Mixes are searched for only where 60 of the currency's greatest notes are worth the amount, in a
+/// table of 36 bytes an amount, with at most six passes a unit. Else, or where none is found, one pass
+/// a unit over a table of 8 bytes an amount tells whether there are more notes that make it up. So
+/// an amount of 1,000,000 in notes of 10, 20 and 50 takes 0.8 MB; it takes 36 MB at most. An amount
+/// past all that is there, or between two steps, is refused before.
 #[tactic(auto, using(crate::proofs::First::no_mix_past))]
 pub fn least(
     alloc: Global,
@@ -62,48 +64,112 @@ pub fn least(
     if have.value(units, currency) < 1000 * u128::from(amount) {
         return Err(MixFault::Nothing);
     }
-    match best(alloc, units.kinds(), have, currency, amount)? {
-        None => Err(MixFault::Nothing),
-        Some(mix) if mix.notes() > 60 => Err(MixFault::TooMany),
-        Some(mix) => Ok(mix),
+    least_of(alloc, units.kinds(), have, currency, amount)
+}
+
+fn least_of(
+    alloc: Global,
+    kinds: &[NoteKind],
+    have: &Counts,
+    currency: Currency,
+    amount: u32,
+) -> Result<Counts, MixFault>
+    requires few { length kinds.now ≤ 8 }
+    requires values { All (λ k. IsNoteValue k.value) kinds.now }
+    requires amount { (1 ≤ amount) × (amount ≤ 1000000) }
+    ensures { IsAnswer kinds.now have.now currency amount result }
+{
+    let step = step_of(kinds, currency);
+    if step == 0 || amount % step != 0 {
+        return Err(MixFault::Nothing);
+    }
+    let kinds = in_steps(alloc, kinds, currency, step)?;
+    least_in_steps(alloc, &kinds, have, currency, amount / step)
+}
+
+fn least_in_steps(
+    alloc: Global,
+    kinds: &[NoteKind],
+    have: &Counts,
+    currency: Currency,
+    amount: u32,
+) -> Result<Counts, MixFault>
+    requires few { length kinds.now ≤ 8 }
+    requires values { All (λ k. IsNoteValue k.value) kinds.now }
+    requires amount { amount ≤ 1000000 }
+    ensures { IsAnswer kinds.now have.now currency amount result }
+{
+    if let Some(mix) = least_of_sixty(alloc, kinds, have, currency, amount)? {
+        return Ok(mix);
+    }
+    if is_reached(alloc, kinds, have, currency, amount)? {
+        Err(MixFault::TooMany)
+    } else {
+        Err(MixFault::Nothing)
     }
 }
 
-// The best counts for the amount, however many notes they have.
+// The least mix, where it has at most 60 notes.
+fn least_of_sixty(
+    alloc: Global,
+    kinds: &[NoteKind],
+    have: &Counts,
+    currency: Currency,
+    amount: u32,
+) -> Result<Option<Counts>, AllocError>
+    requires few { length kinds.now ≤ 8 }
+    requires values { All (λ k. IsNoteValue k.value) kinds.now }
+    requires amount { amount ≤ 1000000 }
+    ensures { IfOk result (IsBestOfSixty kinds.now have.now currency amount) }
+{
+    if amount > 60 * greatest_value(kinds, currency) {
+        return Ok(None);
+    }
+    let mix = best(alloc, kinds, &at_most_sixty(have), currency, amount)?;
+    Ok(without_many(mix))
+}
+
+fn without_many(mix: Option<Counts>) -> Option<Counts>
+    ensures { result ≡ without_many mix }
+{
+    match mix {
+        Some(mix) if mix.notes() > 60 => None,
+        other => other,
+    }
+}
+
+fn greatest_value(kinds: &[NoteKind], currency: Currency) -> u32
+    requires { All (λ k. IsNoteValue k.value) kinds.now }
+    ensures all { AreAtMost result currency kinds.now }
+    ensures bound { result ≤ 1000000 }
+{
+    let mut greatest = 0;
+    for kind in kinds {
+        if kind.currency == currency && kind.value > greatest {
+            greatest = kind.value;
+        }
+    }
+    greatest
+}
+
+fn at_most_sixty(have: &Counts) -> Counts
+    ensures { result.0 ≡ map (λ n. min n 60) have.now.0 }
+{
+    Counts(have.0.map(|count| count.min(60)))
+}
+
+// The best counts for the amount, by a table of all amounts up to it.
 fn best(
     alloc: Global,
     kinds: &[NoteKind],
     have: &Counts,
     currency: Currency,
     amount: u32,
-) -> Result<Option<Counts>, MixFault>
-    requires few { length kinds.now ≤ 8 }
-    requires values { All (λ k. IsNoteValue k.value) kinds.now }
-    requires amount { (1 ≤ amount) × (amount ≤ 1000000) }
-    ensures ok { IfOk result (IsBestMix kinds.now have.now currency amount) }
-    ensures err { IfErr result (λ e. e ≡ Memory) }
-{
-    let step = step_of(kinds, currency);
-    if step == 0 || amount % step != 0 {
-        return Ok(None);
-    }
-    let kinds = in_steps(alloc, kinds, currency, step)?;
-    best_in_steps(alloc, &kinds, have, currency, amount / step)
-}
-
-// The same, by a table of all amounts up to the asked one.
-fn best_in_steps(
-    alloc: Global,
-    kinds: &[NoteKind],
-    have: &Counts,
-    currency: Currency,
-    amount: u32,
-) -> Result<Option<Counts>, MixFault>
+) -> Result<Option<Counts>, AllocError>
     requires few { length kinds.now ≤ 8 }
     requires values { All (λ k. IsNoteValue k.value) kinds.now }
     requires amount { amount ≤ 1000000 }
-    ensures ok { IfOk result (IsBestMix kinds.now have.now currency amount) }
-    ensures err { IfErr result (λ e. e ≡ Memory) }
+    ensures { IfOk result (IsBestMix kinds.now have.now currency amount) }
 {
     let mut table = first_table(alloc, kinds, currency, amount as usize + 1)?;
     let limits = add_all(&mut table, kinds, currency, have);
@@ -220,7 +286,6 @@ fn add_all(
 }
 
 // With no notes allowed there is only the amount 0.
-#[tactic(auto, using(crate::proofs::First::table_one, crate::proofs::First::table_push))]
 fn first_table(
     alloc: Global,
     kinds: &[NoteKind],
@@ -231,10 +296,5 @@ fn first_table(
     ensures table { IfOk result (λ t. IsTable kinds.now none_yet currency t.items) }
     ensures len { IfOk result (λ t. length t.items ≡ len) }
 {
-    let mut table = Vec::with_capacity(alloc, len)?;
-    table.push(Some(Counts([0; 8])))?;
-    for _ in 1..len {
-        table.push(None)?;
-    }
-    Ok(table)
+    only_first(alloc, Counts([0; 8]), len)
 }

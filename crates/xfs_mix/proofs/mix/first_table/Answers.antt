@@ -1,6 +1,5 @@
-use Rattle.std.proofs.Common.{refl, arith}
-use Rattle.xfs_mix.proofs.First.{table_one}
+use Rattle.xfs_mix.proofs.First.{first_ok}
 use Rattle.xfs_mix.proofs.mix.first_table.Goals as goal
 
-pub loop-init : goal.loop-init
-loop-init c = rw (c.in_ok-push.ensures.items, c.in_ok-table.ensures.items) (refl, omega arith, table_one c.args.kinds.now c.args.currency)
+pub returns-clause-table : goal.returns-clause-table
+returns-clause-table c = first_ok c.args.kinds.now c.args.currency _ c.only_first.result c.only_first.ensures
