@@ -11,7 +11,7 @@ mod work;
 
 use crate::macs::{KeyedMac, TokenMac};
 use crate::messages::Dispense;
-use crate::mixes::MixSearch;
+use crate::mixes::{Filled, MixSearch};
 use crate::mounting::mounted;
 use crate::tokens::TokenCheck;
 use crate::work::right_rounds;
@@ -19,13 +19,14 @@ use std::alloc::Global;
 use std::process::ExitCode;
 use std::{env, io};
 
-const WORKS: [&str; 7] = [
+const WORKS: [&str; 8] = [
     "tokens",
     "macs",
     "keyed_macs",
     "messages",
     "mixes",
     "worst_mixes",
+    "denominate",
     "mount",
 ];
 
@@ -39,6 +40,7 @@ fn right(alloc: Global, work: &str, count: u64) -> Option<u64> {
         "messages" => Some(right_rounds(alloc, &Dispense, count)),
         "mixes" => Some(right_rounds(alloc, &MixSearch::of_main()?, count)),
         "worst_mixes" => Some(right_rounds(alloc, &MixSearch::of_eight()?, count)),
+        "denominate" => Some(right_rounds(alloc, &Filled::new()?, count)),
         "mount" => mounted(alloc, count),
         _ => None,
     }

@@ -5,8 +5,8 @@ use xfs_mix::{MixFault, least};
 
 const MOST: u32 = 1_000_000;
 
-// The dearest values that a search found for eight units of 10,000 notes.
-const DEAR: [u32; 8] = [169, 29, 10, 187, 3, 9, 5, 107];
+// Values that most amounts have several mixes of, beside the least one of which 60 notes reach MOST.
+const DEAR: [u32; 8] = [169, 29, 10, 187, 3, 9, 5, 16_667];
 
 /// The least mix for an amount, or the reason why there is none.
 #[derive(Drop)]
@@ -50,10 +50,70 @@ impl MixSearch {
 
 impl Work for MixSearch {
     fn is_right(&self, alloc: Global) -> bool {
-        if self.amount < 1 || self.amount > MOST {
-            return false;
+        finds(
+            alloc,
+            &self.units,
+            &self.have,
+            self.currency,
+            self.amount,
+            self.notes,
+        )
+    }
+}
+
+fn finds(
+    alloc: Global,
+    units: &UnitTable,
+    have: &Counts,
+    currency: Currency,
+    amount: u32,
+    notes: Result<u64, MixFault>,
+) -> bool {
+    if amount < 1 || amount > MOST {
+        return false;
+    }
+    let mix = least(alloc, units, have, currency, amount);
+    mix.map(|mix| mix.notes()) == notes
+}
+
+/// EUR 10, 20 and 50 and USD 20 with 10,000 notes each, and the dearest amounts of both: all that is
+/// there, a little less, and where the fewest notes are 60 and 61.
+#[derive(Drop)]
+pub(crate) struct Filled {
+    units: UnitTable,
+    euro: Currency,
+    dollar: Currency,
+}
+
+impl Filled {
+    pub(crate) fn new() -> Option<Filled> {
+        let (euro, dollar) = (Currency::new(b"EUR")?, Currency::new(b"USD")?);
+        let kinds = [(euro, 10), (euro, 20), (euro, 50), (dollar, 20)];
+        let kinds = kinds.map(|(currency, value)| NoteKind { currency, value });
+        Some(Filled {
+            units: UnitTable::new(&kinds)?,
+            euro,
+            dollar,
+        })
+    }
+}
+
+impl Work for Filled {
+    fn is_right(&self, alloc: Global) -> bool {
+        let have = Counts([10_000, 10_000, 10_000, 10_000, 0, 0, 0, 0]);
+        let mut all = true;
+        for (currency, amount, notes) in [
+            (self.euro, 1_000_000, Err(MixFault::Nothing)),
+            (self.euro, 999_990, Err(MixFault::Nothing)),
+            (self.euro, 800_000, Err(MixFault::TooMany)),
+            (self.euro, 799_990, Err(MixFault::TooMany)),
+            (self.euro, 3_010, Err(MixFault::TooMany)),
+            (self.euro, 3_000, Ok(60)),
+            (self.dollar, 200_000, Err(MixFault::TooMany)),
+            (self.dollar, 1_200, Ok(60)),
+        ] {
+            all = finds(alloc, &self.units, &have, currency, amount, notes) && all;
         }
-        let mix = least(alloc, &self.units, &self.have, self.currency, self.amount);
-        mix.map(|mix| mix.notes()) == self.notes
+        all
     }
 }
