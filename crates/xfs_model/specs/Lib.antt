@@ -14,6 +14,7 @@ pub mod Pendings
 pub mod Posts
 pub mod Results
 pub mod Runs
+pub mod Sound
 pub mod State
 pub mod Step
 pub mod Touches
