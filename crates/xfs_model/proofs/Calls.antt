@@ -26,7 +26,7 @@ use Rattle.xfs_model.specs.Commands.{line_of}
 use Rattle.xfs_model.specs.Connections.{announced, connection_of, left, without_mail}
 use Rattle.xfs_model.specs.Devices.{Saying, card_says, device_stopped, keyboard_says, with_keypad, with_slot}
 use Rattle.xfs_model.specs.Events.{Answer, Event, join, post, touch, work, outbox, leave, restart, end_, finish, joined, full, done, handed, ended}
-use Rattle.xfs_model.specs.GuardCalls.{AtMostOneCall, IsPlain, checked, marked, missed, took as taken_, worked}
+use Rattle.xfs_model.specs.GuardCalls.{AtMostOneCall, IsPlain, checked, marked, missed, read, took as taken_, worked}
 use Rattle.xfs_model.specs.Guards.{Expires, NonceCommand, cleared_, ended as over, issued, none_to_clear, refused, uncleared, unended, unissued}
 use Rattle.xfs_model.specs.Pendings.{pending_in}
 use Rattle.xfs_model.specs.Posts.{Accepts, Refuses, Takes, TakesOn, is_crowded}
@@ -36,12 +36,13 @@ use Rattle.xfs_model.specs.Step.{Happens, Hands, Leaves, Posts, Step, at_moment,
 use Rattle.xfs_model.specs.Touches.{CardSays, IsHeard, TakesNotes, Touches, TouchesCard, TouchesKeys, failed, running_at, shut, took}
 use Rattle.xfs_model.specs.Work as working
 use Rattle.xfs_model.specs.Work.{case_of}
+use Rattle.xfs_model.proofs.Wanting.{unmoved}
 
 seen_announced : (s : State) (service : Service) (frame : Option (List ℕ)) → (announced s service frame).seen ≡ s.seen
 seen_announced s service None = refl
 seen_announced s service (Some frame) = refl
 
-seen_stopped : (s : State) (service : Service) → (device_stopped s service).seen ≡ s.seen
+pub seen_stopped : (s : State) (service : Service) → (device_stopped s service).seen ≡ s.seen
 seen_stopped s Publisher = refl
 seen_stopped s Card = refl
 seen_stopped s Keys = refl
@@ -159,7 +160,7 @@ leaves old pass new is = go (connection_of old pass) is
     go None is = rw is refl
     go (Some k) is = rw is refl
 
-calls : (old : State) (event : Event) (told_ : Answer) (new : State) → IsPlain event → Happens old event told_ new → AtMostOneCall old.seen new.seen
+pub calls : (old : State) (event : Event) (told_ : Answer) (new : State) → IsPlain event → Happens old event told_ new → AtMostOneCall old.seen new.seen
 calls old (join service) (joined pass) new plain_ is = rw (is.is) (inl refl)
 calls old (join service) full new plain_ is = rw (is.1) (inl refl)
 calls old (post pass text now) done new plain_ is = inl (posts old pass text now new is)
@@ -174,4 +175,4 @@ calls old event told_ new plain_ is = absurd is
 
 pub one_call : (old new : State) (event : Event) (told_ : Answer) → IsPlain event → Step old event told_ new → AtMostOneCall old.seen new.seen
 one_call old new event told_ plain_ (happens up is) = calls old event told_ new plain_ is
-one_call old new event told_ plain_ (wanting may wants same_) = rw same_ (inl refl)
+one_call old new event told_ plain_ (wanting is_memory wants) = let u = unmoved old new event wants in rw (u.is) (inr (read u.next u.becomes))

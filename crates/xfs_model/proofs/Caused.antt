@@ -61,6 +61,7 @@ use Rattle.xfs_model.proofs.Machines.{aside as same_machine}
 use Rattle.xfs_model.proofs.Queues.{queue_here, queue_there}
 use Rattle.xfs_model.proofs.Changes.{each, found_all, head_pairs, same_some, tail_pairs, turned}
 use Rattle.xfs_model.proofs.Codes.{EffectOwn, IsOwn, StartOwn, WentOwn, begins_own, card_own, is_stopping, works_own}
+use Rattle.xfs_model.proofs.Wanting.{unmoved}
 
 -- the command that is found stands alone at its ticket
 pub only_one : (p : Command Job → Bool) (q : List (Command Job)) (a : Command Job) → find p q ≡ Some a → AllPairs AreApart q → All (λ b. is_at (ticket_of a) b ≡ true → b ≡ a) q
@@ -393,4 +394,4 @@ caused_by old event told_ new is machine h = absurd is
 
 pub causes_kept : (old new : State) (event : Event) (told_ : Answer) → IsMachine old → Step old event told_ new → HasCauses old → HasCauses new
 causes_kept old new event told_ machine (happens up is) h = caused_by old event told_ new is machine h
-causes_kept old new event told_ machine (wanting may wants same) h = rw same h
+causes_kept old new event told_ machine (wanting is_memory wants) h = let u = unmoved old new event wants in rw (u.is) h

@@ -64,7 +64,7 @@ changed_ends f same ends a q is = queue_after_map _ (λ b. ticket_if (is_at (tic
       | inr n ↦ rw n (elim (cases_Bool (is_at (ticket_of a) c)) [ inl z ↦ rw z (and_right _ _ (ends c)) | inr m ↦ rw m h ])
     ]) q is.running) is
 
-none_from_find : {X : Type 0} (p : X → Bool) (xs : List X) → find p xs ≡ None → All (λ x. p x ≡ false) xs
+pub none_from_find : {X : Type 0} (p : X → Bool) (xs : List X) → find p xs ≡ None → All (λ x. p x ≡ false) xs
 none_from_find p [] h = All-nil (λ x. p x ≡ false)
 none_from_find p (x ∷ xs) h = elim (cases_Bool (p x)) [
   | inl y ↦ absurd (none-some x (sym (rw y at h)))
@@ -99,7 +99,7 @@ found_all P p (y ∷ xs) x h all = elim (cases_Bool (p y)) [
   | inr n ↦ found_all P p xs x (rw n at h) (All-tail P y xs all)
 ]
 
-at_itself : (t : Ticket) → is_ticket t t ≡ true
+pub at_itself : (t : Ticket) → is_ticket t t ≡ true
 at_itself t =
     let client : (t.client.0 == t.client.0) ≡ true = eq-eqb t.client.0 t.client.0 refl in
     let id : (t.id == t.id) ≡ true = eq-eqb t.id t.id refl in
@@ -123,11 +123,11 @@ at_running (x ∷ q) a found apart = elim (cases_Bool (is_running x.stage)) [
       (at_running q a later (tail_pairs AreApart x q apart))
 ]
 
-rest_of : (x y : Bool) → x ≡ true → (x && y) ≡ false → y ≡ false
+pub rest_of : (x y : Bool) → x ≡ true → (x && y) ≡ false → y ≡ false
 rest_of true y here other = other
 rest_of false y here other = absurd (false≢true here)
 
-first_of : (x y : Bool) → y ≡ true → (x && y) ≡ false → x ≡ false
+pub first_of : (x y : Bool) → y ≡ true → (x && y) ≡ false → x ≡ false
 first_of false y here other = refl
 first_of true true here other = absurd (false≢true (sym other))
 first_of true false here other = absurd (false≢true here)

@@ -58,6 +58,7 @@ use Rattle.xfs_model.proofs.Changes.{AllPairs-map, KeepsTicket, NotBoth, changed
 use Rattle.xfs_model.proofs.Pendings.{is_pending_there}
 use Rattle.xfs_model.proofs.Queues.{queue_here, queue_there}
 use Rattle.xfs_model.proofs.Talks.{client_with_mail}
+use Rattle.xfs_model.proofs.Wanting.{unmoved}
 
 abbrev Rising : Connection → Connection → Type 0
 Rising a b = a.client.0 < b.client.0
@@ -412,4 +413,4 @@ kept_by old event told_ new is h = absurd is
 
 pub kept : (old new : State) (event : Event) (told_ : Answer) → IsMachine old → Step old event told_ new → IsMachine new
 kept old new event told_ h (happens up is) = kept_by old event told_ new is h
-kept old new event told_ h (wanting may wants same) = rw same h
+kept old new event told_ h (wanting is_memory wants) = let u = unmoved old new event wants in rw (u.is) (aside old _ refl refl refl h)

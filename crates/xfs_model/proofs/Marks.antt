@@ -52,6 +52,7 @@ use Rattle.xfs_model.proofs.Queues.{itself, queue_here, queue_same, queue_there,
 use Rattle.xfs_dispenser.specs.Answers.{Start, told, planned, Went, more, done as over}
 use Rattle.xfs_model.specs.Causes.{IsCancelOf, IsMarked, MarksHaveCauses, before, canceled_by, left_by, was_marked}
 use Rattle.xfs_model.proofs.Changes.{each}
+use Rattle.xfs_model.proofs.Wanting.{unmoved}
 use Rattle.std.proofs.lemmas.Slice.Eq.{bytes_eq-Decides}
 use Rattle.xfs_queue.specs.declared.command.Ticket.{Ticket}
 use Rattle.xfs_queue.specs.Commands.{is_ticket, names}
@@ -375,4 +376,4 @@ marked_by old happening told_ new is = absurd is
 
 pub marks : (old new : State) (event : Event) (told_ : Answer) → Step old event told_ new → MarksHaveCauses old event new
 marks old new event told_ (happens up is) = marked_by old event told_ new is
-marks old new event told_ (wanting may wants same) = from_before old event new (rw same (same_state old))
+marks old new event told_ (wanting is_memory wants) = let u = unmoved old new event wants in from_before old event new (rw (u.is) (same_state old))

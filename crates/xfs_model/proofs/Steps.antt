@@ -1,11 +1,13 @@
 -- Each step keeps every conversation, and each run.
+use Rattle.xfs_dispenser.specs.Seen.{Seen}
 use Rattle.xfs_model.specs.Conversations.{Keeps}
 use Rattle.xfs_model.specs.Events.{Event, join, post, touch, work, outbox, leave, restart, end_, finish, Answer, joined, full, done, handed, restarted, unrestarted, ended, unsettled, memory}
 use Rattle.xfs_model.specs.Kept.{IsMachine}
 use Rattle.xfs_model.specs.State.{State}
-use Rattle.xfs_model.specs.Step.{Happens, MayWant, Step, at_moment, happens, wanting}
+use Rattle.xfs_model.specs.Step.{Happens, Step, at_moment, happens, wanting}
 use Rattle.xfs_model.specs.Work.{case_of}
 use Rattle.xfs_model.proofs.Keeping.{keeps_join, keeps_leave, keeps_outbox, keeps_post}
+use Rattle.xfs_model.proofs.Wanting.{unmoved}
 use Rattle.xfs_model.proofs.Working.{does, touches}
 
 keeps_event : (old : State) (event : Event) (answer : Answer) (new : State) → IsMachine old → Happens old event answer new → Keeps old event answer new
@@ -24,14 +26,17 @@ keeps_event old finish ended new numbers is = λ mine ts fs h. rw (is.is) tt
 keeps_event old finish unsettled new numbers is = λ mine ts fs h. rw (is.is) tt
 keeps_event old event answer new numbers is = absurd is
 
-keeps_memory : (old : State) (event : Event) → MayWant event → Keeps old event memory old
-keeps_memory old (join service) may = λ mine ts fs h. h
-keeps_memory old (post pass text now) may = λ mine ts fs h. h
-keeps_memory old (touch it) may = λ mine ts fs h. h
-keeps_memory old (work service now) may = λ mine ts fs h. h
-keeps_memory old restart may = λ mine ts fs h. h
-keeps_memory old event may = absurd may
+keeps_memory : (old : State) (event : Event) (next : Seen) → Keeps old event memory (record old { seen = next })
+keeps_memory old (join service) next = λ mine ts fs h. h
+keeps_memory old (post pass text now) next = λ mine ts fs h. h
+keeps_memory old (touch it) next = λ mine ts fs h. h
+keeps_memory old (work service now) next = λ mine ts fs h. h
+keeps_memory old (outbox pass) next = λ mine ts fs h. h
+keeps_memory old (leave pass) next = λ mine ts fs h. h
+keeps_memory old restart next = λ mine ts fs h. h
+keeps_memory old end_ next = λ mine ts fs h. h
+keeps_memory old finish next = λ mine ts fs h. h
 
 pub keeps : (old new : State) (event : Event) (answer : Answer) → IsMachine old → Step old event answer new → Keeps old event answer new
 keeps old new event answer numbers (happens up is) = keeps_event old event answer new numbers is
-keeps old new event answer numbers (wanting may wants same) = rw (wants, same) (keeps_memory old event may)
+keeps old new event answer numbers (wanting is_memory wants) = let u = unmoved old new event wants in rw (is_memory, u.is) (keeps_memory old event u.next)

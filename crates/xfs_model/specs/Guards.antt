@@ -108,7 +108,7 @@ pub record ActsOn (old new : Seen) : Type 0 where
 -- the acted order is settled, or the disk fails at its Done
 pub data SettlesOn (old : Seen) : Bool → Seen → Type 0 where
   written : (new : Seen) → Settles old.guard new.guard → old.disk_faults ≤ new.disk_faults → SettlesOn old true new
-  unwritten : (new : Seen) → Unsettles old.guard new.guard → Rose old.disk_faults new.disk_faults → SettlesOn old false new
+  unwritten : (new : Seen) → Unsettles old.guard new.guard → old.disk_faults ≤ new.disk_faults → Rose old.disk_faults new.disk_faults → SettlesOn old false new
 
 pub record ActsAndSettles (old : Seen) (settled : Bool) (new : Seen) : Type 0 where
   pub between : Seen

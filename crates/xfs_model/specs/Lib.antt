@@ -1,3 +1,4 @@
+pub mod Advances
 pub mod Cases
 pub mod Causes
 pub mod Commands
@@ -5,6 +6,7 @@ pub mod Connections
 pub mod Conversations
 pub mod Devices
 pub mod Events
+pub mod Faults
 pub mod Frames
 pub mod GuardCalls
 pub mod Guards
@@ -17,5 +19,6 @@ pub mod Runs
 pub mod Sound
 pub mod State
 pub mod Step
+pub mod Told
 pub mod Touches
 pub mod Work

@@ -2,7 +2,7 @@
 use Rattle.std.specs.Prelude.{◌≡◌, ◌≢◌, ◌⊎◌, ◌<◌, ◌≤◌, ◌+◌, ◌++◌, ℕ, nat_le, List, [], ◌∷◌, length, map, Bool, true, false, ⊤, MatchOption, if◌then◌else◌}
 use Rattle.xfs_base.specs.declared.moment.Moment.{Moment}
 use Rattle.xfs_base.specs.declared.moment.Service.{Service}
-use Rattle.xfs_dispenser.specs.Seen.{Seen}
+use Rattle.xfs_dispenser.specs.Seen.{Seen, Becomes}
 use Rattle.xfs_envelope.specs.Commands.{command_in}
 use Rattle.xfs_model.specs.Cases.{Does, told_by}
 use Rattle.xfs_model.specs.Connections.{connection_of, left, without_mail}
@@ -61,13 +61,21 @@ pub record Finishes (old : State) (settled : Bool) (new : State) : Type 0 where
   pub closes : Closes old.seen.guard.open_order old.seen settled next
   pub is : new ≡ gone old next
 
--- the calls that may want memory
-abbrev pub MayWant : Event → Type 0
-MayWant (outbox pass) = ⊥
-MayWant (leave pass) = ⊥
-MayWant end_ = ⊥
-MayWant finish = ⊥
-MayWant other = ⊤
+-- all is as it was, but that the journal may have been read
+pub record IsUnmoved (old new : State) : Type 0 where
+  pub next : Seen
+  pub becomes : Becomes old.seen old.seen.guard next
+  pub is : new ≡ record old { seen = next }
+
+-- what want of memory leaves: all as it was; a step of work and a restart may have read the journal. The other calls never want it
+abbrev pub Wants : Event → State → State → Type 0
+Wants (outbox pass) old new = ⊥
+Wants (leave pass) old new = ⊥
+Wants end_ old new = ⊥
+Wants finish old new = ⊥
+Wants (work service now) old new = IsUnmoved old new
+Wants restart old new = IsUnmoved old new
+Wants other old new = new ≡ old
 
 -- what an event does, by its answer
 abbrev pub Happens : State → Event → Answer → State → Type 0
@@ -85,7 +93,7 @@ Happens old finish ended new = Finishes old true new
 Happens old finish unsettled new = Finishes old false new
 Happens old event answer new = ⊥
 
--- one event of a machine that is there; or memory ran out, and nothing changed
+-- one event of a machine that is there; or memory ran out
 pub data Step (old : State) (event : Event) (answer : Answer) (new : State) : Type 0 where
   happens : old.boot ≢ 0 → Happens old event answer new → Step old event answer new
-  wanting : MayWant event → answer ≡ memory → new ≡ old → Step old event answer new
+  wanting : answer ≡ memory → Wants event old new → Step old event answer new

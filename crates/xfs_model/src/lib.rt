@@ -2,19 +2,25 @@
 //! with the laws of these definitions.
 #![tactic(auto)]
 
-ghost use Rattle.std.specs.Prelude.{◌≡◌, ◌++◌, ℕ, List, Some};
+ghost use Rattle.std.specs.Prelude.{◌≡◌, ◌++◌, ℕ, All, List, Some};
 ghost use Rattle.xfs_base.specs.declared.moment.ClientId.{ClientId};
 ghost use Rattle.xfs_conversation.specs.Once.{IsOnce};
+ghost use Rattle.xfs_dispenser.specs.Seen.{Seen};
+ghost use Rattle.xfs_guard.specs.declared.open.Open.TheVariants.{No};
+ghost use Rattle.xfs_model.specs.Advances.{Advances};
 ghost use Rattle.xfs_model.specs.Causes.{HasCauses, MarksHaveCauses};
 ghost use Rattle.xfs_model.specs.Connections.{connection_at};
 ghost use Rattle.xfs_model.specs.Conversations.{IsTalk, Keeps};
-ghost use Rattle.xfs_model.specs.Events.{Answer, Event};
+ghost use Rattle.xfs_model.specs.Events.{Answer, Event, handed, outbox};
+ghost use Rattle.xfs_model.specs.Faults.{FaultsHaveCauses, RefusalsHaveCauses};
 ghost use Rattle.xfs_model.specs.GuardCalls.{AtMostOneCall, IsPlain};
 ghost use Rattle.xfs_model.specs.Kept.{IsMachine};
 ghost use Rattle.xfs_model.specs.Pendings.{pending_at};
 ghost use Rattle.xfs_model.specs.Runs.{IsReached};
-ghost use Rattle.xfs_model.specs.State.{Connection, State};
+ghost use Rattle.xfs_model.specs.Sound.{IsSound};
+ghost use Rattle.xfs_model.specs.State.{Connection, Pass, State, bare};
 ghost use Rattle.xfs_model.specs.Step.{Step};
+ghost use Rattle.xfs_model.specs.Told.{HasMark, IsTold, Tells};
 
 /// Each step keeps the conversation of every connection, and begins that of a connection that joins.
 pub fn steps_keep_conversations()
@@ -58,4 +64,42 @@ pub fn results_have_their_causes()
 /// comes of a Cancel of its own.
 pub fn marks_have_their_causes()
     ensures { (old new : State) (event : Event) (answer : Answer) → Step old event answer new → MarksHaveCauses old event new }
+{}
+
+/// Each step keeps the machine sound: what its type keeps from call to call.
+pub fn steps_keep_the_machine_sound()
+    ensures { (old new : State) (event : Event) (answer : Answer) → IsSound old → Step old event answer new → IsSound new }
+{}
+
+/// A machine with no connection and no command is sound, where no order is open.
+pub fn bare_machines_are_sound()
+    ensures { (seen : Seen) (life boot : ℕ) → seen.guard.open_order ≡ No → IsSound (bare seen life boot) }
+{}
+
+/// No step takes back what the guard has: the journal's list only grows, no count of faults falls, and
+/// key, seed, units and limits stay. A restart, an end and a finish are such steps too.
+pub fn steps_advance_the_guard()
+    ensures { (old new : State) (event : Event) (answer : Answer) → Step old event answer new → Advances old.seen new.seen }
+{}
+
+/// Each step keeps what was told of the journal: each frame that waits, and each result, names only
+/// Issues and marks of its list. So does each frame that a client is handed. The guard's list has a mark
+/// from its first Boot on.
+pub fn steps_keep_what_was_told()
+    ensures kept { (old new : State) (event : Event) (answer : Answer) → IsSound old → HasMark old.seen → Step old event answer new → IsTold old → IsTold new }
+    ensures handed { (old new : State) (pass : Pass) (frames : List (List ℕ)) → Step old (outbox pass) (handed frames) new → IsTold old → All (Tells old.seen.guard.records) frames }
+    ensures bare { (seen : Seen) (life boot : ℕ) → IsTold (bare seen life boot) }
+{}
+
+/// A command that has the result hardwareError behind a step had it before, or ran in that step: at the
+/// dispenser while the mechanism's count of faults rose, at the card reader or keyboard while its device
+/// had a fault. So it is of the mark that an order's failure leaves in its plan until it is settled.
+pub fn faults_have_their_causes()
+    ensures { (old new : State) (event : Event) (answer : Answer) → IsSound old → Step old event answer new → FaultsHaveCauses old event new }
+{}
+
+/// A command that has the result deviceNotReady behind a step had it before, or it is of the dispenser,
+/// and in that step the journal took no more records, or its disk failed, or the journal wasn't read again.
+pub fn refusals_have_their_causes()
+    ensures { (old new : State) (event : Event) (answer : Answer) → IsSound old → Step old event answer new → RefusalsHaveCauses old new }
 {}

@@ -1,0 +1,235 @@
+-- Each call of the guard advances it, and so does each step.
+use Rattle.std.proofs.Common.{◌≡◌, ℕ, ◌≤◌, ◌++◌, ◌⊎◌, Bool, true, false, List, [], ◌∷◌, Option, None, Some, Result, Ok, Err, refl, ap, sym, subst, ◌∙◌, inl, inr, arith, append_assoc}
+use Rattle.std.proofs.lemmas.List.{append-nil}
+use Rattle.xfs_base.specs.declared.counts.Counts.{Counts}
+use Rattle.xfs_dispenser.specs.Answers.{Start, Went}
+use Rattle.xfs_dispenser.specs.Begins.{Begins}
+use Rattle.xfs_dispenser.specs.Checks.{Grant, Permits}
+use Rattle.xfs_dispenser.specs.Seen.{Seen, Becomes, Fails, MechCalled}
+use Rattle.xfs_dispenser.specs.Steps.{DoesFirst, DoesPart, IsDenied, IsFull, IsUnknown, IsUnwritten, Restores, Works, WorksOn}
+use Rattle.xfs_dispenser.specs.declared.ask.CashAsk.{CashAsk}
+use Rattle.xfs_dispenser.specs.declared.ask.CashAsk.TheVariants.{Denominate, Dispense, Present, Reject, Reset, Retract, StartExchange, SetStorage, EndExchange}
+use Rattle.xfs_dispenser.specs.declared.leave.Leave.{Leave}
+use Rattle.xfs_dispenser.specs.declared.part.Part.{Part}
+use Rattle.xfs_dispenser.specs.declared.part.Part.TheVariants.{Order, Restore, Load, Note}
+use Rattle.xfs_dispenser.specs.declared.plan.Plan.{Plan}
+use Rattle.xfs_dispenser.specs.declared.refusal.Refusal.{Refusal}
+use Rattle.xfs_guard.specs.Refusals.{Binds, bound_token}
+use Rattle.xfs_guard.specs.View.{View, unbooted, unread}
+use Rattle.xfs_guard.specs.declared.deny.Deny.{Deny}
+use Rattle.xfs_guard.specs.declared.open.Open.{Open}
+use Rattle.xfs_guard.specs.declared.open.Open.TheVariants.{No, Written, Acted}
+use Rattle.xfs_journal.specs.JournalView.{IsPossible}
+use Rattle.xfs_journal.specs.declared.record.Rec.{Rec}
+use Rattle.xfs_model.specs.Advances.{Advances}
+use Rattle.xfs_guard.specs.Lives.{BeginsWith}
+use Rattle.xfs_model.specs.Events.{Answer, Event, join, post, touch, work, outbox, leave, restart, end_, finish, restarted, unrestarted, ended, unsettled}
+use Rattle.xfs_model.specs.GuardCalls.{AtMostOneCall, GuardCall, checked, marked, missed, read, took, worked}
+use Rattle.xfs_model.specs.Guards.{ActsOn, Closes, IsUnbooted, SettlesOn, Takes, unwritten, written}
+use Rattle.xfs_model.specs.State.{State}
+use Rattle.xfs_model.specs.Step.{Happens, Step, happens, wanting}
+use Rattle.xfs_model.proofs.Calls.{calls}
+use Rattle.xfs_model.proofs.Wanting.{unmoved}
+
+-- lists
+no_more : (records : List Rec) → BeginsWith records records
+no_more records = record { more = []; is = sym (append-nil records) }
+
+some_more : (records more : List Rec) → BeginsWith (records ++ more) records
+some_more records more = record { more = more; is = refl }
+
+longer : (a b c : List Rec) → BeginsWith b a → BeginsWith c b → BeginsWith c a
+longer a b c ab bc = record { more = ab.more ++ bc.more; is = bc.is ∙ ap (λ l. l ++ bc.more) ab.is ∙ append_assoc a ab.more bc.more }
+
+possible : (kept : List Rec) (in_doubt : Option Rec) (records : List Rec) → IsPossible kept in_doubt records → BeginsWith records kept
+possible kept in_doubt records (inl e) = rw e (no_more kept)
+possible kept in_doubt records (inr e) = record { more = e.0 ∷ []; is = e.2 }
+
+-- the facts that stay of a view
+record Stays (v w : View) : Type 0 where
+  key : w.key ≡ v.key
+  seed : w.seed ≡ v.seed
+  units : w.units ≡ v.units
+  limits : w.limits ≡ v.limits
+  records : BeginsWith w.records v.records
+  faults : v.faults ≤ w.faults
+
+advance : (old new : Seen) (now : View) → Stays old.guard now → new.guard ≡ now → old.disk_faults ≤ new.disk_faults → Advances old new
+advance old new now stays is later = record {
+  key = ap (λ (v : View). v.key) is ∙ stays.key;
+  seed = ap (λ (v : View). v.seed) is ∙ stays.seed;
+  units = ap (λ (v : View). v.units) is ∙ stays.units;
+  limits = ap (λ (v : View). v.limits) is ∙ stays.limits;
+  records = record { more = stays.records.more; is = ap (λ (v : View). v.records) is ∙ stays.records.is };
+  mech_faults = let f = stays.faults in let e = ap (λ (v : View). v.faults) is in omega (arith, f, e);
+  disk_faults = later;
+}
+
+stays_with : (v w : View) → w.key ≡ v.key → w.seed ≡ v.seed → w.units ≡ v.units → w.limits ≡ v.limits → w.faults ≡ v.faults → BeginsWith w.records v.records → Stays v w
+stays_with v w key seed units limits faults records = record { key = key; seed = seed; units = units; limits = limits; records = records; faults = omega (arith, faults) }
+
+becomes : (old new : Seen) (now : View) → Stays old.guard now → Becomes old now new → Advances old new
+becomes old new now stays is = advance old new now stays is.guard_is is.later
+
+fails : (old new : Seen) (now : View) → Stays old.guard now → Fails old now new → Advances old new
+fails old new now stays is = becomes old new now stays is.becomes
+
+pub still : (s : Seen) → Advances s s
+still s = record { key = refl; seed = refl; units = refl; limits = refl; records = no_more s.guard.records; mech_faults = omega arith; disk_faults = omega arith }
+
+same : (old new : Seen) → new ≡ old → Advances old new
+same old new is = rw is (still old)
+
+pub further : (a b c : Seen) → Advances a b → Advances b c → Advances a c
+further a b c ab bc = record {
+  key = bc.key ∙ ab.key;
+  seed = bc.seed ∙ ab.seed;
+  units = bc.units ∙ ab.units;
+  limits = bc.limits ∙ ab.limits;
+  records = longer a.guard.records b.guard.records c.guard.records ab.records bc.records;
+  mech_faults = let f = ab.mech_faults in let g = bc.mech_faults in omega (arith, f, g);
+  disk_faults = let f = ab.disk_faults in let g = bc.disk_faults in omega (arith, f, g);
+}
+
+-- the mechanism was called, and the journal wasn't
+moved : (old new : Seen) (failed : Bool) → new.guard.key ≡ old.guard.key → new.guard.seed ≡ old.guard.seed → new.guard.units ≡ old.guard.units → new.guard.limits ≡ old.guard.limits → new.guard.records ≡ old.guard.records
+    → MechCalled old failed new → Advances old new
+moved old new failed key seed units limits records called = record {
+  key = key;
+  seed = seed;
+  units = units;
+  limits = limits;
+  records = rw records (no_more old.guard.records);
+  mech_faults = called.later;
+  disk_faults = let e = called.disk_same in omega (arith, e);
+}
+
+took_ : (old new : Seen) (moved_ : Counts) (failed : Bool) → Takes old moved_ failed new → Advances old new
+took_ old new moved_ failed is =
+    let e = is.reported.same in
+    moved old new failed (ap (λ (v : View). v.key) e) (ap (λ (v : View). v.seed) e) (ap (λ (v : View). v.units) e) (ap (λ (v : View). v.limits) e) (ap (λ (v : View). v.records) e) is.called
+
+acted : (old new : Seen) → ActsOn old new → Advances old new
+acted old new is =
+    let e = is.acts.same in
+    moved old new is.failed (ap (λ (v : View). v.key) e) (ap (λ (v : View). v.seed) e) (ap (λ (v : View). v.units) e) (ap (λ (v : View). v.limits) e) (ap (λ (v : View). v.records) e) is.called
+
+-- the Done of an order
+settled : (old new : Seen) (b : Bool) → SettlesOn old b new → Advances old new
+settled old new true (written now is later) = advance old new _ (stays_with old.guard _ refl refl refl refl refl (some_more old.guard.records _)) is.same later
+settled old new false (unwritten now is later rose) = advance old new _ (stays_with old.guard _ refl refl refl refl refl (no_more old.guard.records)) is.same later
+
+closes : (o : Open) (old new : Seen) (b : Bool) → Closes o old b new → Advances old new
+closes No old new b is = same old new is.1
+closes (Written kind counts) old new b is = further old is.between new (acted old is.between is.acts) (settled is.between new b is.settles)
+closes (Acted kind moved_ diverted failed) old new b is = settled old new b is
+
+-- the steps of a plan
+denied : (s : Seen) (refusal : Option Deny) (next : Seen) (went : Went) → IsDenied s refusal next went → Advances s next
+denied s refusal next went is = same s next is.same
+
+unwritten_ : (s : Seen) (refusal : Option Deny) (r : Rec) (next : Seen) (went : Went) → IsUnwritten s refusal r next went → Advances s next
+unwritten_ s refusal r next went is = fails s next _ (stays_with s.guard _ refl refl refl refl refl (no_more s.guard.records)) is.fails
+
+booted : (v : View) (records : List Rec) (r : Rec) → IsPossible v.records v.in_doubt records → BeginsWith (records ++ r ∷ []) v.records
+booted v records r is = longer v.records records (records ++ r ∷ []) (possible v.records v.in_doubt records is) (some_more records (r ∷ []))
+
+full_ : (s next : Seen) → IsFull s next → Advances s next
+full_ s next is = becomes s next _ (stays_with s.guard _ refl refl refl refl refl (possible s.guard.records s.guard.in_doubt is.records is.possible)) is.becomes
+
+unread_ : (s next : Seen) (now : View) → (now ≡ unread s.guard) ⊎ ((records : List Rec) × IsPossible s.guard.records s.guard.in_doubt records × (now ≡ unbooted s.guard records)) → Fails s now next → Advances s next
+unread_ s next now (inl e) is = fails s next (unread s.guard) (stays_with s.guard _ refl refl refl refl refl (no_more s.guard.records)) (subst (λ (v : View). Fails s v next) e is)
+unread_ s next now (inr e) is = fails s next (unbooted s.guard e.0) (stays_with s.guard _ refl refl refl refl refl (possible s.guard.records s.guard.in_doubt e.0 e.1)) (subst (λ (v : View). Fails s v next) e.2 is)
+
+unknown_ : (s next : Seen) → IsUnknown s next → Advances s next
+unknown_ s next is = becomes s next _ (stays_with s.guard _ refl refl refl refl refl (no_more s.guard.records)) is.becomes
+
+unbooted_ : (s next : Seen) → IsUnbooted s next → Advances s next
+unbooted_ s next (inl f) = full_ s next f
+unbooted_ s next (inr (inl u)) = unread_ s next u.now u.is u.fails
+unbooted_ s next (inr (inr u)) = unknown_ s next u
+
+restores : (s : Seen) (plan : Plan) (next : Seen) (after : Plan) (went : Went) → Restores s plan next after went → Advances s next
+restores s plan next after went (inl r) = becomes s next _ (stays_with s.guard _ refl refl refl refl refl (booted s.guard r.records _ r.possible)) r.becomes
+restores s plan next after went (inr (kept, told, how)) = unbooted_ s next how
+
+part : (p : Part) (rest : List Part) (s : Seen) (plan : Plan) (next : Seen) (after : Plan) (went : Went) → DoesPart p rest s plan next after went → Advances s next
+part (Order ask) rest s plan next after went (inl (w, left, is)) = becomes s next _ (stays_with s.guard _ refl refl refl refl refl (some_more s.guard.records _)) w.becomes
+part (Order ask) rest s plan next after went (inr (kept, inl d)) = denied s _ next went d
+part (Order ask) rest s plan next after went (inr (kept, inr u)) = unwritten_ s _ _ next went u
+part Restore rest s plan next after went is = restores s plan next after went is
+part (Load unit count) rest s plan next after went is =
+    let e = is.reported.same in
+    moved s next is.outcome.failed (ap (λ (v : View). v.key) e) (ap (λ (v : View). v.seed) e) (ap (λ (v : View). v.units) e) (ap (λ (v : View). v.limits) e) (ap (λ (v : View). v.records) e) is.called
+part (Note unit count) rest s plan next after went (inl (w, left, is)) = becomes s next _ (stays_with s.guard _ refl refl refl refl refl (some_more s.guard.records _)) w.becomes
+part (Note unit count) rest s plan next after went (inr (kept, inl d)) = denied s _ next went d
+part (Note unit count) rest s plan next after went (inr (kept, inr u)) = unwritten_ s _ _ next went u
+
+works : (s : Seen) (plan : Plan) (next : Seen) (after : Plan) (went : Went) → Works s plan next after went → Advances s next
+works s plan next after went is = go s.guard.open_order is
+  where
+    first : (parts : List Part) → DoesFirst parts s plan next after went → Advances s next
+    first [] is = absurd is
+    first (p ∷ rest) is = part p rest s plan next after went is
+
+    go : (o : Open) → WorksOn o s plan next after went → Advances s next
+    go (Written kind counts) is = acted s next (record { moved = is.outcome.moved; diverted = is.outcome.diverted; failed = is.outcome.failed; acts = is.acts; called = is.called })
+    go (Acted kind moved_ diverted failed) (kept, inl i) = advance s next _ (stays_with s.guard _ refl refl refl refl refl (some_more s.guard.records _)) i.settles.same i.later
+    go (Acted kind moved_ diverted failed) (kept, inr u) = advance s next _ (stays_with s.guard _ refl refl refl refl refl (no_more s.guard.records)) u.unsettles.same u.later
+    go No is = first plan.parts.items is
+
+-- the token of a dispense is bound
+binds : (s next : Seen) (bytes : List ℕ) (amounts : List (List ℕ × ℕ)) → s.disk_faults ≤ next.disk_faults → Binds s.guard next.guard bytes amounts → Advances s next
+binds s next bytes amounts later is = go (bound_token s.guard.records) refl
+  where
+    go : (t : Option (List ℕ)) → bound_token s.guard.records ≡ t → Advances s next
+    go None e = advance s next _ (stays_with s.guard _ refl refl refl refl refl (some_more s.guard.records _)) (is.first e) later
+    go (Some t) e = advance s next s.guard (stays_with s.guard s.guard refl refl refl refl refl (no_more s.guard.records)) (is.again (λ f. let g : Some t ≡ None = sym e ∙ f in cc)) later
+
+permits : (s : Seen) (c : Result Grant Refusal) (leave_ : Result Leave Refusal) (next : Seen) → Permits s c leave_ next → Advances s next
+permits s (Err r) leave_ next is = same s next is.1
+permits s (Ok grant) leave_ next (inl p) = binds s next grant.token grant.amounts p.later p.binds
+permits s (Ok grant) leave_ next (inr u) = fails s next _ (stays_with s.guard _ refl refl refl refl refl (no_more s.guard.records)) u.fails
+
+begins : (s : Seen) (exchange : Bool) (ask : CashAsk) (next : Seen) (after : Bool) (start : Start) → Begins s exchange ask next after start → Advances s next
+begins s exchange (Denominate notes) next after start is = same s next is.0
+begins s exchange (Dispense notes token) next after start is = permits s is.1.checked is.1.leave next is.1.permits
+begins s exchange Present next after start is = same s next is.0
+begins s exchange Reject next after start is = same s next is.0
+begins s exchange Retract next after start is = same s next is.0
+begins s exchange Reset next after start is = same s next is.0
+begins s exchange StartExchange next after start is = same s next is.0
+begins s exchange EndExchange next after start is = same s next is.0
+begins s exchange (SetStorage added) next after start is = same s next is.0
+
+guard_call : (old new : Seen) → GuardCall old new → Advances old new
+guard_call old new (marked mark now is) = becomes old new _ (stays_with old.guard _ refl refl refl refl refl (some_more old.guard.records _)) is
+guard_call old new (missed mark now is) = fails old new _ (stays_with old.guard _ refl refl refl refl refl (no_more old.guard.records)) is
+guard_call old new (checked exchange after ask start now is) = begins old exchange ask new after start is
+guard_call old new (worked plan left went now is) = works old plan new left went is
+guard_call old new (took moved_ failed now is) = took_ old new moved_ failed is
+guard_call old new (read now is) = becomes old new old.guard (stays_with old.guard old.guard refl refl refl refl refl (no_more old.guard.records)) is
+
+one_call : (old new : Seen) → AtMostOneCall old new → Advances old new
+one_call old new (inl is) = same old new is
+one_call old new (inr is) = guard_call old new is
+
+advances_by : (old : State) (event : Event) (told_ : Answer) (new : State) → Happens old event told_ new → Advances old.seen new.seen
+advances_by old restart restarted new is = rw (is.is) (becomes old.seen is.next _ (stays_with old.seen.guard _ refl refl refl refl refl (booted old.seen.guard is.reboots.records _ is.reboots.possible)) is.reboots.becomes)
+advances_by old restart unrestarted new is = rw (is.is) (unbooted_ old.seen is.next is.refused)
+advances_by old finish ended new is = rw (is.is) (closes old.seen.guard.open_order old.seen is.next true is.closes)
+advances_by old finish unsettled new is = rw (is.is) (closes old.seen.guard.open_order old.seen is.next false is.closes)
+advances_by old (join service) told_ new is = one_call old.seen new.seen (calls old (join service) told_ new tt is)
+advances_by old (post pass text now) told_ new is = one_call old.seen new.seen (calls old (post pass text now) told_ new tt is)
+advances_by old (touch it) told_ new is = one_call old.seen new.seen (calls old (touch it) told_ new tt is)
+advances_by old (work service now) told_ new is = one_call old.seen new.seen (calls old (work service now) told_ new tt is)
+advances_by old (outbox pass) told_ new is = one_call old.seen new.seen (calls old (outbox pass) told_ new tt is)
+advances_by old (leave pass) told_ new is = one_call old.seen new.seen (calls old (leave pass) told_ new tt is)
+advances_by old end_ told_ new is = one_call old.seen new.seen (calls old end_ told_ new tt is)
+advances_by old event told_ new is = absurd is
+
+pub advances : (old new : State) (event : Event) (told_ : Answer) → Step old event told_ new → Advances old.seen new.seen
+advances old new event told_ (happens up is) = advances_by old event told_ new is
+advances old new event told_ (wanting is_memory wants) =
+    let u = unmoved old new event wants in
+    rw (u.is) (becomes old.seen u.next old.seen.guard (stays_with old.seen.guard old.seen.guard refl refl refl refl refl (no_more old.seen.guard.records)) u.becomes)

@@ -1,0 +1,13 @@
+-- What no step of the machine takes back: the journal's list only grows, no count of faults falls, and key, seed, units and limits stay.
+use Rattle.std.specs.Prelude.{◌≡◌, ◌≤◌}
+use Rattle.xfs_dispenser.specs.Seen.{Seen}
+use Rattle.xfs_guard.specs.Lives.{BeginsWith}
+
+pub record Advances (old new : Seen) : Type 0 where
+  pub key : new.guard.key ≡ old.guard.key
+  pub seed : new.guard.seed ≡ old.guard.seed
+  pub units : new.guard.units ≡ old.guard.units
+  pub limits : new.guard.limits ≡ old.guard.limits
+  pub records : BeginsWith new.guard.records old.guard.records
+  pub mech_faults : old.guard.faults ≤ new.guard.faults
+  pub disk_faults : old.disk_faults ≤ new.disk_faults
