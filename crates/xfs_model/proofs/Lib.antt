@@ -20,6 +20,7 @@ pub mod Sounds
 pub mod Standings
 pub mod Steps
 pub mod StillPlanned
+pub mod Succeeding
 pub mod Talks
 pub mod Telling
 pub mod Turns

@@ -228,9 +228,9 @@ closed o none is = let e = rw none at is in false≢true e
 pub other_case : (s : State) (case : working.Case) → case_of s Cash ≡ case → (working.order ≡ case → ⊥) → s.seen.guard.open_order ≡ No
 other_case s case is other = no_order s.seen.guard.open_order (by_order (is_ordered s.seen.guard.open_order) _ is)
   where
-    by_order : (b : Bool) (rest : working.Case) → cond {A = working.Case} b working.order rest ≡ case → b ≡ false
-    by_order true rest e = absurd (other e)
-    by_order false rest e = refl
+    by_order : (b : Bool) (other_ : working.Case) → cond {A = working.Case} b working.order other_ ≡ case → b ≡ false
+    by_order true other_ e = absurd (other e)
+    by_order false other_ e = refl
 
 not_stop : working.order ≡ working.stop → ⊥
 not_stop e = cc

@@ -19,6 +19,7 @@ pub mod Runs
 pub mod Sound
 pub mod State
 pub mod Step
+pub mod Successes
 pub mod Told
 pub mod Touches
 pub mod Work

@@ -20,6 +20,7 @@ ghost use Rattle.xfs_model.specs.Runs.{IsReached};
 ghost use Rattle.xfs_model.specs.Sound.{IsSound};
 ghost use Rattle.xfs_model.specs.State.{Connection, Pass, State, bare};
 ghost use Rattle.xfs_model.specs.Step.{Step};
+ghost use Rattle.xfs_model.specs.Successes.{SuccessesHaveCauses};
 ghost use Rattle.xfs_model.specs.Told.{HasMark, IsTold, Tells};
 
 /// Each step keeps the conversation of every connection, and begins that of a connection that joins.
@@ -102,4 +103,10 @@ pub fn faults_have_their_causes()
 /// and in that step the journal took no more records, or its disk failed, or the journal wasn't read again.
 pub fn refusals_have_their_causes()
     ensures { (old new : State) (event : Event) (answer : Answer) → IsSound old → Step old event answer new → RefusalsHaveCauses old new }
+{}
+
+/// A command that has the result success behind a step had it before, or was done at once, or by its
+/// device, or no part of its plan is left and its last order was carried out in full.
+pub fn successes_have_their_causes()
+    ensures { (old new : State) (event : Event) (answer : Answer) → IsSound old → Step old event answer new → SuccessesHaveCauses old new }
 {}
