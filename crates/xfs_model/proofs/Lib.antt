@@ -10,6 +10,7 @@ pub mod Keeping
 pub mod Lists
 pub mod Machines
 pub mod Marks
+pub mod Ordering
 pub mod Payloads
 pub mod Pendings
 pub mod Queues

@@ -20,7 +20,7 @@ ghost use Rattle.xfs_model.specs.Runs.{IsReached};
 ghost use Rattle.xfs_model.specs.Sound.{IsSound};
 ghost use Rattle.xfs_model.specs.State.{Connection, Pass, State, bare};
 ghost use Rattle.xfs_model.specs.Step.{Step};
-ghost use Rattle.xfs_model.specs.Successes.{SuccessesHaveCauses};
+ghost use Rattle.xfs_model.specs.Successes.{OrderFollows, SuccessesHaveCauses};
 ghost use Rattle.xfs_model.specs.Told.{HasMark, IsTold, Tells};
 
 /// Each step keeps the conversation of every connection, and begins that of a connection that joins.
@@ -109,4 +109,11 @@ pub fn refusals_have_their_causes()
 /// device, or no part of its plan is left and its last order was carried out in full.
 pub fn successes_have_their_causes()
     ensures { (old new : State) (event : Event) (answer : Answer) → IsSound old → Step old event answer new → SuccessesHaveCauses old new }
+{}
+
+/// An order that is open behind a step that is no restart and no finish was open before, or it was written
+/// in it, of all the notes of its place, or it was written before and is carried out in it: in full
+/// where the mechanism didn't fail.
+pub fn orders_follow_each_other()
+    ensures { (old new : State) (event : Event) (answer : Answer) → IsPlain event → Step old event answer new → OrderFollows new.seen.guard.open_order old.seen.guard }
 {}
