@@ -3,7 +3,6 @@ use Rattle.std.proofs.Common.{◌≡◌, ◌⊎◌, ◌==◌, ◌-◌, ℕ, Bool
 use Rattle.std.specs.Prelude.{nat_lt, if◌then◌else◌}
 use Rattle.std.specs.Option.{IfSome, option_map, option_or}
 use Rattle.std.specs.Str.{bytes_eq}
-use Rattle.serde_json.specs.Data.{number}
 use Rattle.xfs_base.specs.Causes.{Rose}
 use Rattle.xfs_base.specs.Counts.{at}
 use Rattle.xfs_base.specs.declared.counts.Counts.{Counts}
@@ -13,7 +12,6 @@ use Rattle.xfs_dispenser.specs.Checks.{Grant, Permits, TokenChecks, active_refus
 use Rattle.xfs_dispenser.specs.Denominations.{FirstOf, MixGiven, NotesGiven, count_refusal, currency_refusal, given_unless, members_refusal}
 use Rattle.xfs_dispenser.specs.Seen.{Seen}
 use Rattle.xfs_dispenser.specs.Steps.{refusal_of}
-use Rattle.xfs_dispenser.specs.declared.ask.CashAsk.TheVariants.{Present, Reject, Retract}
 use Rattle.xfs_dispenser.specs.declared.leave.Leave.{Leave}
 use Rattle.xfs_dispenser.specs.declared.named.Named.{Named}
 use Rattle.xfs_dispenser.specs.declared.named.Named.TheVariants.{These, OtherName}

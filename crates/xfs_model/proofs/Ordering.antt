@@ -21,7 +21,7 @@ use Rattle.xfs_guard.specs.declared.ask.Ask.{Ask as Asked}
 use Rattle.xfs_guard.specs.declared.ask.Ask.TheVariants as asked
 use Rattle.xfs_guard.specs.declared.open.Open.{Open}
 use Rattle.xfs_guard.specs.declared.open.Open.TheVariants.{No, Written, Acted}
-use Rattle.xfs_model.specs.Events.{Answer, Event, leave}
+use Rattle.xfs_model.specs.Events.{Answer, Event}
 use Rattle.xfs_model.specs.GuardCalls.{AtMostOneCall, GuardCall, IsPlain, checked, marked, missed, read, took, worked}
 use Rattle.xfs_model.specs.State.{State}
 use Rattle.xfs_model.specs.Step.{Step}

@@ -2,6 +2,7 @@
 use Rattle.std.proofs.Common.{List, ◌⊎◌, ◌≡◌, ◌≢◌, ◌<◌, ℕ, Bool, true, false, MatchOption, Option, None, Some, length, get_or, All, refl, ap, sym, subst, ◌∙◌, inl, inr}
 use Rattle.std.proofs.lemmas.Bool.{false≢true}
 use Rattle.std.proofs.lemmas.List.Elements.{All-nil}
+use Rattle.xfs_base.specs.declared.moment.ClientId.{ClientId}
 use Rattle.xfs_base.specs.declared.moment.Service.{Service}
 use Rattle.xfs_base.specs.declared.moment.Service.TheVariants.{Publisher, Card, Keys, Cash}
 use Rattle.xfs_dispenser.specs.Answers.{Start, told, planned, Went, more, done}
@@ -26,6 +27,7 @@ use Rattle.xfs_model.specs.Devices.{Saying, with_saying}
 use Rattle.xfs_model.specs.Events.{Answer, Event}
 use Rattle.xfs_model.specs.Guards.{IsUnbooted}
 use Rattle.xfs_model.specs.Results.{with_plan, with_result}
+use Rattle.xfs_model.specs.Runs.{Run, begun as begun_, next}
 use Rattle.xfs_model.specs.Sound.{IsFitting, IsFresh, IsOnPlan, IsSound}
 use Rattle.xfs_model.specs.State.{Job, Outcome, State, bare, queue_at}
 use Rattle.xfs_model.specs.Step.{Step}
@@ -214,3 +216,8 @@ pub unbooted_closed : (old new : Seen) → IsUnbooted old new → new.guard.open
 unbooted_closed old new (inl f) = ap (λ (v : View). v.open_order) f.becomes.guard_is
 unbooted_closed old new (inr (inl u)) = ap (λ (v : View). v.open_order) u.fails.becomes.guard_is ∙ unread_closed old.guard u.now u.is
 unbooted_closed old new (inr (inr u)) = ap (λ (v : View). v.open_order) u.becomes.guard_is
+
+-- a run keeps it
+pub sound_runs : (seen : Seen) (life boot : ℕ) (mine : ClientId) → seen.guard.open_order ≡ No → {s : State} {texts frames : List (List ℕ)} → Run (bare seen life boot) mine s texts frames → IsSound s
+sound_runs seen life boot mine none begun_ = sound_bare seen life boot (λ up. none)
+sound_runs seen life boot mine none (next {s = s} before event told_ new is) = sound_kept s new event told_ (sound_runs seen life boot mine none before) is

@@ -463,7 +463,7 @@ module _ (s new : State) (machine : IsMachine s) (h : IsStanding s) where
               let waits : is_awaited s.slot ≡ true = h.devices.slot ∙ some_runs (queue_at s Card) a found in
               touch_awaits s.slot event touch_ ∙ ap (λ b. b && is_none said) waits
               ∙ sym (runs_changed (with_saying said) (λ b. is_running b.stage) a (queue_at s Card) found (machine.queues Card).ids
-                (others_rest (λ b. is_running b.stage) (queue_at s Card) a found (found_passes (λ (b : Command Job). is_running b.stage) (queue_at s Card) a found) (machine.queues Card).running) ∙ saying_runs said a);
+              (others_rest (λ b. is_running b.stage) (queue_at s Card) a found (found_passes (λ (b : Command Job). is_running b.stage) (queue_at s Card) a found) (machine.queues Card).running) ∙ saying_runs said a);
           keypad = h.devices.keypad;
         };
         issued = h.issued;
@@ -502,7 +502,7 @@ module _ (s new : State) (machine : IsMachine s) (h : IsStanding s) where
               let enters : is_some s.keypad ≡ true = h.devices.keypad ∙ some_runs (queue_at s Keys) a found in
               tap_ends s.keypad event tap ∙ ap (λ b. b && is_none said) enters
               ∙ sym (runs_changed (with_saying said) (λ b. is_running b.stage) a (queue_at s Keys) found (machine.queues Keys).ids
-                (others_rest (λ b. is_running b.stage) (queue_at s Keys) a found (found_passes (λ (b : Command Job). is_running b.stage) (queue_at s Keys) a found) (machine.queues Keys).running) ∙ saying_runs said a);
+              (others_rest (λ b. is_running b.stage) (queue_at s Keys) a found (found_passes (λ (b : Command Job). is_running b.stage) (queue_at s Keys) a found) (machine.queues Keys).running) ∙ saying_runs said a);
         };
         issued = h.issued;
       })

@@ -1,6 +1,5 @@
 -- What want of memory leaves.
 use Rattle.std.proofs.Common.{◌≡◌, refl, arith}
-use Rattle.xfs_dispenser.specs.Seen.{Becomes, Seen}
 use Rattle.xfs_model.specs.Events.{Event, join, post, touch, work, outbox, leave, restart, end_, finish}
 use Rattle.xfs_model.specs.State.{State}
 use Rattle.xfs_model.specs.Step.{IsUnmoved, Wants}

@@ -1,5 +1,5 @@
 -- What every call of the machine keeps, and its type has as its invariant.
-use Rattle.std.specs.Prelude.{◌≡◌, ◌≢◌, ◌≤◌, Bool, true, false, ⊤, All, MatchOption, None, is_some}
+use Rattle.std.specs.Prelude.{◌≡◌, ◌≢◌, ◌≤◌, true, false, ⊤, All, MatchOption, None, is_some}
 use Rattle.xfs_base.specs.declared.moment.Service.{Service}
 use Rattle.xfs_base.specs.declared.moment.Service.TheVariants.{Card, Keys, Cash}
 use Rattle.xfs_card.specs.Slot.{is_awaited}

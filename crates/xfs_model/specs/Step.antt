@@ -1,5 +1,5 @@
 -- One step of the machine: from old, an event may have this answer and lead to new.
-use Rattle.std.specs.Prelude.{◌≡◌, ◌≢◌, ◌⊎◌, ◌<◌, ◌≤◌, ◌+◌, ◌++◌, ℕ, nat_le, List, [], ◌∷◌, length, map, Bool, true, false, ⊤, MatchOption, if◌then◌else◌}
+use Rattle.std.specs.Prelude.{◌≡◌, ◌≢◌, ◌⊎◌, ◌<◌, ◌≤◌, ◌+◌, ◌++◌, ℕ, nat_le, List, [], ◌∷◌, length, map, Bool, true, false, MatchOption, if◌then◌else◌}
 use Rattle.xfs_base.specs.declared.moment.Moment.{Moment}
 use Rattle.xfs_base.specs.declared.moment.Service.{Service}
 use Rattle.xfs_dispenser.specs.Seen.{Seen, Becomes}

@@ -59,3 +59,6 @@ OrderFollows No old = ⊤
 OrderFollows (Written kind counts) old = (old.open_order ≡ Written kind counts) ⊎ ((old.open_order ≡ No) × IsOfPlace old kind counts)
 OrderFollows (Acted kind moved diverted failed) old =
     (old.open_order ≡ Acted kind moved diverted failed) ⊎ ((counts : Counts) × (old.open_order ≡ Written kind counts) × MayCarry kind counts moved diverted failed)
+
+abbrev pub OrdersFollow : State → State → Type 0
+OrdersFollow old new = OrderFollows new.seen.guard.open_order old.seen.guard

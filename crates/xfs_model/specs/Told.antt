@@ -42,15 +42,23 @@ payload_in (unsolicited name payload) = Some payload
 abbrev pub Tells : List Rec → List ℕ → Type 0
 Tells records frame = IfSome (option_and_then payload_in (reply_in frame)) (Stands records)
 
+-- so do these frames, of the journal's list
+abbrev pub AllTell : State → List (List ℕ) → Type 0
+AllTell s frames = All (Tells s.seen.guard.records) frames
+
 -- the result of a command, where it is there, tells what stands
 abbrev pub ResultStands : List Rec → Command Job → Type 0
 ResultStands records a = IfSome a.job.outcome (λ (result : Outcome). Stands records result.payload)
 
 -- each frame that waits, and each result, tells what stands in the journal
 pub record IsTold (s : State) : Type 0 where
-  pub frames : All (λ k. All (Tells s.seen.guard.records) k.waiting) s.connections
+  pub frames : All (λ k. AllTell s k.waiting) s.connections
   pub results : (service : Service) → All (ResultStands s.seen.guard.records) (queue_at s service)
 
 -- the journal's list has a mark
 abbrev pub HasMark : Seen → Type 0
 HasMark seen = IsMarkAt seen.guard.records (last_mark seen.guard.records)
+
+-- where the list has a mark, what was told still stands
+abbrev pub KeepsTold : State → State → Type 0
+KeepsTold old new = HasMark old.seen → IsTold old → IsTold new

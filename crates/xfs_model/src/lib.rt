@@ -2,7 +2,7 @@
 //! with the laws of these definitions.
 #![tactic(auto)]
 
-ghost use Rattle.std.specs.Prelude.{◌≡◌, ◌++◌, ℕ, All, List, Some};
+ghost use Rattle.std.specs.Prelude.{◌≡◌, ◌++◌, ℕ, List, Some};
 ghost use Rattle.xfs_base.specs.declared.moment.ClientId.{ClientId};
 ghost use Rattle.xfs_conversation.specs.Once.{IsOnce};
 ghost use Rattle.xfs_dispenser.specs.Seen.{Seen};
@@ -20,8 +20,8 @@ ghost use Rattle.xfs_model.specs.Runs.{IsReached};
 ghost use Rattle.xfs_model.specs.Sound.{IsSound};
 ghost use Rattle.xfs_model.specs.State.{Connection, Pass, State, bare};
 ghost use Rattle.xfs_model.specs.Step.{Step};
-ghost use Rattle.xfs_model.specs.Successes.{OrderFollows, SuccessesHaveCauses};
-ghost use Rattle.xfs_model.specs.Told.{HasMark, IsTold, Tells};
+ghost use Rattle.xfs_model.specs.Successes.{OrdersFollow, SuccessesHaveCauses};
+ghost use Rattle.xfs_model.specs.Told.{AllTell, IsTold, KeepsTold};
 
 /// Each step keeps the conversation of every connection, and begins that of a connection that joins.
 pub fn steps_keep_conversations()
@@ -38,6 +38,11 @@ pub fn steps_keep_the_machine()
 /// and is pending, is a conversation, as long as it is connected.
 pub fn runs_are_conversations()
     ensures { (mine : ClientId) (now : State) (texts frames : List (List ℕ)) → IsReached mine now texts frames → IsTalk now mine texts frames }
+{}
+
+/// From a boot of a guard with no order open, every machine that is reached is sound.
+pub fn runs_are_sound()
+    ensures { (mine : ClientId) (now : State) (texts frames : List (List ℕ)) → (is : IsReached mine now texts frames) → is.seen.guard.open_order ≡ No → IsSound now }
 {}
 
 /// From a boot on, each text of a connected client has one acknowledge, and each command that was
@@ -87,8 +92,8 @@ pub fn steps_advance_the_guard()
 /// Issues and marks of its list. So does each frame that a client is handed. The guard's list has a mark
 /// from its first Boot on.
 pub fn steps_keep_what_was_told()
-    ensures kept { (old new : State) (event : Event) (answer : Answer) → IsSound old → HasMark old.seen → Step old event answer new → IsTold old → IsTold new }
-    ensures handed { (old new : State) (pass : Pass) (frames : List (List ℕ)) → Step old (outbox pass) (handed frames) new → IsTold old → All (Tells old.seen.guard.records) frames }
+    ensures kept { (old new : State) (event : Event) (answer : Answer) → IsSound old → Step old event answer new → KeepsTold old new }
+    ensures handed { (old new : State) (pass : Pass) (frames : List (List ℕ)) → Step old (outbox pass) (handed frames) new → IsTold old → AllTell old frames }
     ensures bare { (seen : Seen) (life boot : ℕ) → IsTold (bare seen life boot) }
 {}
 
@@ -115,5 +120,5 @@ pub fn successes_have_their_causes()
 /// in it, of all the notes of its place, or it was written before and is carried out in it: in full
 /// where the mechanism didn't fail.
 pub fn orders_follow_each_other()
-    ensures { (old new : State) (event : Event) (answer : Answer) → IsPlain event → Step old event answer new → OrderFollows new.seen.guard.open_order old.seen.guard }
+    ensures { (old new : State) (event : Event) (answer : Answer) → IsPlain event → Step old event answer new → OrdersFollow old new }
 {}
