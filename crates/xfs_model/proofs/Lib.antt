@@ -17,6 +17,7 @@ pub mod Queues
 pub mod Refusing
 pub mod Runnings
 pub mod Runs
+pub mod RunsTell
 pub mod Sounds
 pub mod Standings
 pub mod Steps

@@ -66,7 +66,7 @@ still_got [] ys i r h = cc
 still_got (x ∷ xs) ys zero r h = h
 still_got (x ∷ xs) ys (suc i) r h = still_got xs ys i r h
 
-still_at : (xs ys : List Rec) (n : ℕ) (r : Rec) → record_at xs n ≡ Some r → record_at (xs ++ ys) n ≡ Some r
+pub still_at : (xs ys : List Rec) (n : ℕ) (r : Rec) → record_at xs n ≡ Some r → record_at (xs ++ ys) n ≡ Some r
 still_at xs ys zero r h = cc
 still_at xs ys (suc i) r h = still_got xs ys i r h
 

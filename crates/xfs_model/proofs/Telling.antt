@@ -358,7 +358,7 @@ longer_payload : (old new : List Rec) → BeginsWith new old → (o : Option Dat
 longer_payload old new e None h = tt
 longer_payload old new e (Some payload) h = longer_stands old new e payload h
 
-longer_tells : (old new : List Rec) → BeginsWith new old → (frame : List ℕ) → Tells old frame → Tells new frame
+pub longer_tells : (old new : List Rec) → BeginsWith new old → (frame : List ℕ) → Tells old frame → Tells new frame
 longer_tells old new e frame h = longer_payload old new e (option_and_then payload_in (reply_in frame)) h
 
 longer_result : (old new : List Rec) → BeginsWith new old → (a : Command Job) → ResultStands old a → ResultStands new a

@@ -62,3 +62,7 @@ HasMark seen = IsMarkAt seen.guard.records (last_mark seen.guard.records)
 -- where the list has a mark, what was told still stands
 abbrev pub KeepsTold : State → State → Type 0
 KeepsTold old new = HasMark old.seen → IsTold old → IsTold new
+
+-- what waits for clients, all results and these frames tell what stands
+abbrev pub HasToldTruly : State → List (List ℕ) → Type 0
+HasToldTruly s frames = IsTold s × AllTell s frames

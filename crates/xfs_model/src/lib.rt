@@ -16,12 +16,12 @@ ghost use Rattle.xfs_model.specs.Faults.{FaultsHaveCauses, RefusalsHaveCauses};
 ghost use Rattle.xfs_model.specs.GuardCalls.{AtMostOneCall, IsPlain};
 ghost use Rattle.xfs_model.specs.Kept.{IsMachine};
 ghost use Rattle.xfs_model.specs.Pendings.{pending_at};
-ghost use Rattle.xfs_model.specs.Runs.{IsReached};
+ghost use Rattle.xfs_model.specs.Runs.{IsFirm, IsReached};
 ghost use Rattle.xfs_model.specs.Sound.{IsSound};
 ghost use Rattle.xfs_model.specs.State.{Connection, Pass, State, bare};
 ghost use Rattle.xfs_model.specs.Step.{Step};
 ghost use Rattle.xfs_model.specs.Successes.{OrdersFollow, SuccessesHaveCauses};
-ghost use Rattle.xfs_model.specs.Told.{AllTell, IsTold, KeepsTold};
+ghost use Rattle.xfs_model.specs.Told.{AllTell, HasToldTruly, IsTold, KeepsTold};
 
 /// Each step keeps the conversation of every connection, and begins that of a connection that joins.
 pub fn steps_keep_conversations()
@@ -40,9 +40,11 @@ pub fn runs_are_conversations()
     ensures { (mine : ClientId) (now : State) (texts frames : List (List ℕ)) → IsReached mine now texts frames → IsTalk now mine texts frames }
 {}
 
-/// From a boot of a guard with no order open, every machine that is reached is sound.
+/// From a boot of a guard with no order open, every machine that is reached is sound. All that a client
+/// was handed since its join, and all that waits, tells what stands in the journal's list now.
 pub fn runs_are_sound()
-    ensures { (mine : ClientId) (now : State) (texts frames : List (List ℕ)) → (is : IsReached mine now texts frames) → is.seen.guard.open_order ≡ No → IsSound now }
+    ensures sound { (mine : ClientId) (now : State) (texts frames : List (List ℕ)) → (is : IsReached mine now texts frames) → IsFirm is.seen → IsSound now }
+    ensures told { (mine : ClientId) (now : State) (texts frames : List (List ℕ)) → (is : IsReached mine now texts frames) → IsFirm is.seen → HasToldTruly now frames }
 {}
 
 /// From a boot on, each text of a connected client has one acknowledge, and each command that was
