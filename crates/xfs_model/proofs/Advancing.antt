@@ -1,6 +1,5 @@
 -- Each call of the guard advances it, and so does each step.
-use Rattle.std.proofs.Common.{◌≡◌, ℕ, ◌≤◌, ◌++◌, ◌⊎◌, Bool, true, false, List, [], ◌∷◌, Option, None, Some, Result, Ok, Err, refl, ap, sym, subst, ◌∙◌, inl, inr, arith, append_assoc}
-use Rattle.std.proofs.lemmas.List.{append-nil}
+use Rattle.std.proofs.Common.{◌≡◌, ℕ, ◌≤◌, ◌++◌, ◌⊎◌, Bool, true, false, List, [], ◌∷◌, Option, None, Some, Result, Ok, Err, refl, ap, sym, subst, ◌∙◌, inl, inr, arith}
 use Rattle.xfs_base.specs.declared.counts.Counts.{Counts}
 use Rattle.xfs_dispenser.specs.Answers.{Start, Went}
 use Rattle.xfs_dispenser.specs.Begins.{Begins}
@@ -23,6 +22,7 @@ use Rattle.xfs_journal.specs.JournalView.{IsPossible}
 use Rattle.xfs_journal.specs.declared.record.Rec.{Rec}
 use Rattle.xfs_model.specs.Advances.{Advances}
 use Rattle.xfs_guard.specs.Lives.{BeginsWith}
+use Rattle.xfs_guard.proofs.LifeLaws.{begins-push, begins-same, begins-trans, possible-begins}
 use Rattle.xfs_model.specs.Events.{Answer, Event, join, post, touch, work, outbox, leave, restart, end_, finish, restarted, unrestarted, ended, unsettled}
 use Rattle.xfs_model.specs.GuardCalls.{AtMostOneCall, GuardCall, checked, marked, missed, read, took, worked}
 use Rattle.xfs_model.specs.Guards.{ActsOn, Closes, IsUnbooted, SettlesOn, Takes, unwritten, written}
@@ -30,20 +30,6 @@ use Rattle.xfs_model.specs.State.{State}
 use Rattle.xfs_model.specs.Step.{Happens, Step, happens, wanting}
 use Rattle.xfs_model.proofs.Calls.{calls}
 use Rattle.xfs_model.proofs.Wanting.{unmoved}
-
--- lists
-no_more : (records : List Rec) → BeginsWith records records
-no_more records = record { more = []; is = sym (append-nil records) }
-
-some_more : (records more : List Rec) → BeginsWith (records ++ more) records
-some_more records more = record { more = more; is = refl }
-
-longer : (a b c : List Rec) → BeginsWith b a → BeginsWith c b → BeginsWith c a
-longer a b c ab bc = record { more = ab.more ++ bc.more; is = bc.is ∙ ap (λ l. l ++ bc.more) ab.is ∙ append_assoc a ab.more bc.more }
-
-possible : (kept : List Rec) (in_doubt : Option Rec) (records : List Rec) → IsPossible kept in_doubt records → BeginsWith records kept
-possible kept in_doubt records (inl e) = rw e (no_more kept)
-possible kept in_doubt records (inr e) = record { more = e.0 ∷ []; is = e.2 }
 
 -- the facts that stay of a view
 record Stays (v w : View) : Type 0 where
@@ -75,7 +61,7 @@ fails : (old new : Seen) (now : View) → Stays old.guard now → Fails old now 
 fails old new now stays is = becomes old new now stays is.becomes
 
 pub still : (s : Seen) → Advances s s
-still s = record { key = refl; seed = refl; units = refl; limits = refl; records = no_more s.guard.records; mech_faults = omega arith; disk_faults = omega arith }
+still s = record { key = refl; seed = refl; units = refl; limits = refl; records = begins-same s.guard.records; mech_faults = omega arith; disk_faults = omega arith }
 
 same : (old new : Seen) → new ≡ old → Advances old new
 same old new is = rw is (still old)
@@ -86,7 +72,7 @@ further a b c ab bc = record {
   seed = bc.seed ∙ ab.seed;
   units = bc.units ∙ ab.units;
   limits = bc.limits ∙ ab.limits;
-  records = longer a.guard.records b.guard.records c.guard.records ab.records bc.records;
+  records = begins-trans a.guard.records b.guard.records c.guard.records ab.records bc.records;
   mech_faults = let f = ab.mech_faults in let g = bc.mech_faults in omega (arith, f, g);
   disk_faults = let f = ab.disk_faults in let g = bc.disk_faults in omega (arith, f, g);
 }
@@ -99,7 +85,7 @@ moved old new failed key seed units limits records called = record {
   seed = seed;
   units = units;
   limits = limits;
-  records = rw records (no_more old.guard.records);
+  records = rw records (begins-same old.guard.records);
   mech_faults = called.later;
   disk_faults = let e = called.disk_same in omega (arith, e);
 }
@@ -116,8 +102,8 @@ acted old new is =
 
 -- the Done of an order
 settled : (old new : Seen) (b : Bool) → SettlesOn old b new → Advances old new
-settled old new true (written now is later) = advance old new _ (stays_with old.guard _ refl refl refl refl refl (some_more old.guard.records _)) is.same later
-settled old new false (unwritten now is later rose) = advance old new _ (stays_with old.guard _ refl refl refl refl refl (no_more old.guard.records)) is.same later
+settled old new true (written now is later) = advance old new _ (stays_with old.guard _ refl refl refl refl refl (begins-push old.guard.records _)) is.same later
+settled old new false (unwritten now is later rose) = advance old new _ (stays_with old.guard _ refl refl refl refl refl (begins-same old.guard.records)) is.same later
 
 closes : (o : Open) (old new : Seen) (b : Bool) → Closes o old b new → Advances old new
 closes No old new b is = same old new is.1
@@ -129,20 +115,20 @@ denied : (s : Seen) (refusal : Option Deny) (next : Seen) (went : Went) → IsDe
 denied s refusal next went is = same s next is.same
 
 unwritten_ : (s : Seen) (refusal : Option Deny) (r : Rec) (next : Seen) (went : Went) → IsUnwritten s refusal r next went → Advances s next
-unwritten_ s refusal r next went is = fails s next _ (stays_with s.guard _ refl refl refl refl refl (no_more s.guard.records)) is.fails
+unwritten_ s refusal r next went is = fails s next _ (stays_with s.guard _ refl refl refl refl refl (begins-same s.guard.records)) is.fails
 
 booted : (v : View) (records : List Rec) (r : Rec) → IsPossible v.records v.in_doubt records → BeginsWith (records ++ r ∷ []) v.records
-booted v records r is = longer v.records records (records ++ r ∷ []) (possible v.records v.in_doubt records is) (some_more records (r ∷ []))
+booted v records r is = begins-trans v.records records (records ++ r ∷ []) (possible-begins v.records v.in_doubt records is) (begins-push records r)
 
 full_ : (s next : Seen) → IsFull s next → Advances s next
-full_ s next is = becomes s next _ (stays_with s.guard _ refl refl refl refl refl (possible s.guard.records s.guard.in_doubt is.records is.possible)) is.becomes
+full_ s next is = becomes s next _ (stays_with s.guard _ refl refl refl refl refl (possible-begins s.guard.records s.guard.in_doubt is.records is.possible)) is.becomes
 
 unread_ : (s next : Seen) (now : View) → (now ≡ unread s.guard) ⊎ ((records : List Rec) × IsPossible s.guard.records s.guard.in_doubt records × (now ≡ unbooted s.guard records)) → Fails s now next → Advances s next
-unread_ s next now (inl e) is = fails s next (unread s.guard) (stays_with s.guard _ refl refl refl refl refl (no_more s.guard.records)) (subst (λ (v : View). Fails s v next) e is)
-unread_ s next now (inr e) is = fails s next (unbooted s.guard e.0) (stays_with s.guard _ refl refl refl refl refl (possible s.guard.records s.guard.in_doubt e.0 e.1)) (subst (λ (v : View). Fails s v next) e.2 is)
+unread_ s next now (inl e) is = fails s next (unread s.guard) (stays_with s.guard _ refl refl refl refl refl (begins-same s.guard.records)) (subst (λ (v : View). Fails s v next) e is)
+unread_ s next now (inr e) is = fails s next (unbooted s.guard e.0) (stays_with s.guard _ refl refl refl refl refl (possible-begins s.guard.records s.guard.in_doubt e.0 e.1)) (subst (λ (v : View). Fails s v next) e.2 is)
 
 unknown_ : (s next : Seen) → IsUnknown s next → Advances s next
-unknown_ s next is = becomes s next _ (stays_with s.guard _ refl refl refl refl refl (no_more s.guard.records)) is.becomes
+unknown_ s next is = becomes s next _ (stays_with s.guard _ refl refl refl refl refl (begins-same s.guard.records)) is.becomes
 
 unbooted_ : (s next : Seen) → IsUnbooted s next → Advances s next
 unbooted_ s next (inl f) = full_ s next f
@@ -154,14 +140,14 @@ restores s plan next after went (inl r) = becomes s next _ (stays_with s.guard _
 restores s plan next after went (inr (kept, told, how)) = unbooted_ s next how
 
 part : (p : Part) (rest : List Part) (s : Seen) (plan : Plan) (next : Seen) (after : Plan) (went : Went) → DoesPart p rest s plan next after went → Advances s next
-part (Order ask) rest s plan next after went (inl (w, left, is)) = becomes s next _ (stays_with s.guard _ refl refl refl refl refl (some_more s.guard.records _)) w.becomes
+part (Order ask) rest s plan next after went (inl (w, left, is)) = becomes s next _ (stays_with s.guard _ refl refl refl refl refl (begins-push s.guard.records _)) w.becomes
 part (Order ask) rest s plan next after went (inr (kept, inl d)) = denied s _ next went d
 part (Order ask) rest s plan next after went (inr (kept, inr u)) = unwritten_ s _ _ next went u
 part Restore rest s plan next after went is = restores s plan next after went is
 part (Load unit count) rest s plan next after went is =
     let e = is.reported.same in
     moved s next is.outcome.failed (ap (λ (v : View). v.key) e) (ap (λ (v : View). v.seed) e) (ap (λ (v : View). v.units) e) (ap (λ (v : View). v.limits) e) (ap (λ (v : View). v.records) e) is.called
-part (Note unit count) rest s plan next after went (inl (w, left, is)) = becomes s next _ (stays_with s.guard _ refl refl refl refl refl (some_more s.guard.records _)) w.becomes
+part (Note unit count) rest s plan next after went (inl (w, left, is)) = becomes s next _ (stays_with s.guard _ refl refl refl refl refl (begins-push s.guard.records _)) w.becomes
 part (Note unit count) rest s plan next after went (inr (kept, inl d)) = denied s _ next went d
 part (Note unit count) rest s plan next after went (inr (kept, inr u)) = unwritten_ s _ _ next went u
 
@@ -174,8 +160,8 @@ works s plan next after went is = go s.guard.open_order is
 
     go : (o : Open) → WorksOn o s plan next after went → Advances s next
     go (Written kind counts) is = acted s next (record { moved = is.outcome.moved; diverted = is.outcome.diverted; failed = is.outcome.failed; acts = is.acts; called = is.called })
-    go (Acted kind moved_ diverted failed) (kept, inl i) = advance s next _ (stays_with s.guard _ refl refl refl refl refl (some_more s.guard.records _)) i.settles.same i.later
-    go (Acted kind moved_ diverted failed) (kept, inr u) = advance s next _ (stays_with s.guard _ refl refl refl refl refl (no_more s.guard.records)) u.unsettles.same u.later
+    go (Acted kind moved_ diverted failed) (kept, inl i) = advance s next _ (stays_with s.guard _ refl refl refl refl refl (begins-push s.guard.records _)) i.settles.same i.later
+    go (Acted kind moved_ diverted failed) (kept, inr u) = advance s next _ (stays_with s.guard _ refl refl refl refl refl (begins-same s.guard.records)) u.unsettles.same u.later
     go No is = first plan.parts.items is
 
 -- the token of a dispense is bound
@@ -183,13 +169,13 @@ binds : (s next : Seen) (bytes : List ℕ) (amounts : List (List ℕ × ℕ)) �
 binds s next bytes amounts later is = go (bound_token s.guard.records) refl
   where
     go : (t : Option (List ℕ)) → bound_token s.guard.records ≡ t → Advances s next
-    go None e = advance s next _ (stays_with s.guard _ refl refl refl refl refl (some_more s.guard.records _)) (is.first e) later
-    go (Some t) e = advance s next s.guard (stays_with s.guard s.guard refl refl refl refl refl (no_more s.guard.records)) (is.again (λ f. let g : Some t ≡ None = sym e ∙ f in cc)) later
+    go None e = advance s next _ (stays_with s.guard _ refl refl refl refl refl (begins-push s.guard.records _)) (is.first e) later
+    go (Some t) e = advance s next s.guard (stays_with s.guard s.guard refl refl refl refl refl (begins-same s.guard.records)) (is.again (λ f. let g : Some t ≡ None = sym e ∙ f in cc)) later
 
 permits : (s : Seen) (c : Result Grant Refusal) (leave_ : Result Leave Refusal) (next : Seen) → Permits s c leave_ next → Advances s next
 permits s (Err r) leave_ next is = same s next is.1
 permits s (Ok grant) leave_ next (inl p) = binds s next grant.token grant.amounts p.later p.binds
-permits s (Ok grant) leave_ next (inr u) = fails s next _ (stays_with s.guard _ refl refl refl refl refl (no_more s.guard.records)) u.fails
+permits s (Ok grant) leave_ next (inr u) = fails s next _ (stays_with s.guard _ refl refl refl refl refl (begins-same s.guard.records)) u.fails
 
 begins : (s : Seen) (exchange : Bool) (ask : CashAsk) (next : Seen) (after : Bool) (start : Start) → Begins s exchange ask next after start → Advances s next
 begins s exchange (Denominate notes) next after start is = same s next is.0
@@ -203,12 +189,12 @@ begins s exchange EndExchange next after start is = same s next is.0
 begins s exchange (SetStorage added) next after start is = same s next is.0
 
 guard_call : (old new : Seen) → GuardCall old new → Advances old new
-guard_call old new (marked mark now is) = becomes old new _ (stays_with old.guard _ refl refl refl refl refl (some_more old.guard.records _)) is
-guard_call old new (missed mark now is) = fails old new _ (stays_with old.guard _ refl refl refl refl refl (no_more old.guard.records)) is
+guard_call old new (marked mark now is) = becomes old new _ (stays_with old.guard _ refl refl refl refl refl (begins-push old.guard.records _)) is
+guard_call old new (missed mark now is) = fails old new _ (stays_with old.guard _ refl refl refl refl refl (begins-same old.guard.records)) is
 guard_call old new (checked exchange after ask start now is) = begins old exchange ask new after start is
 guard_call old new (worked plan left went now is) = works old plan new left went is
 guard_call old new (took moved_ failed now is) = took_ old new moved_ failed is
-guard_call old new (read now is) = becomes old new old.guard (stays_with old.guard old.guard refl refl refl refl refl (no_more old.guard.records)) is
+guard_call old new (read now is) = becomes old new old.guard (stays_with old.guard old.guard refl refl refl refl refl (begins-same old.guard.records)) is
 
 one_call : (old new : Seen) → AtMostOneCall old new → Advances old new
 one_call old new (inl is) = same old new is
@@ -232,4 +218,4 @@ pub advances : (old new : State) (event : Event) (told_ : Answer) → Step old e
 advances old new event told_ (happens up is) = advances_by old event told_ new is
 advances old new event told_ (wanting is_memory wants) =
     let u = unmoved old new event wants in
-    rw (u.is) (becomes old.seen u.next old.seen.guard (stays_with old.seen.guard old.seen.guard refl refl refl refl refl (no_more old.seen.guard.records)) u.becomes)
+    rw (u.is) (becomes old.seen u.next old.seen.guard (stays_with old.seen.guard old.seen.guard refl refl refl refl refl (begins-same old.seen.guard.records)) u.becomes)

@@ -1,6 +1,6 @@
 -- What the payloads of results tell of the journal.
-use Rattle.std.proofs.Common.{◌≡◌, ◌++◌, ℕ, zero, suc, Bool, true, false, cond, List, [], ◌∷◌, Option, None, Some, Result, Ok, Err, refl, sym, subst, inl, inr}
-use Rattle.std.specs.Prelude.{codes, slice_get}
+use Rattle.std.proofs.Common.{◌≡◌, ℕ, Bool, true, false, cond, List, [], ◌∷◌, Option, None, Some, Result, Ok, Err, refl, sym, subst, inl, inr}
+use Rattle.std.specs.Prelude.{codes}
 use Rattle.std.specs.Option.{IfSome}
 use Rattle.serde_json.specs.Data.{Data, no_members, number, object, unsigned}
 use Rattle.serde_json.specs.Find.{get}
@@ -38,9 +38,10 @@ use Rattle.xfs_guard.specs.declared.deny.Deny.{Deny}
 use Rattle.xfs_guard.specs.declared.deny.Deny.TheVariants.{Shut, Full, TooLong, KeyNoValue, Format, NoNonce, WrongNonce, WrongMac, NoAmounts, OtherBound, NotEmpty, OverBudget, Unbound, Nothing, OutletFull, Short, Disk, Memory}
 use Rattle.xfs_guard.specs.declared.open.Open.{Open}
 use Rattle.xfs_guard.specs.declared.open.Open.TheVariants.{No, Written, Acted}
-use Rattle.xfs_journal.specs.Journal.{last_mark, record_at}
+use Rattle.xfs_journal.specs.Journal.{last_mark}
 use Rattle.xfs_journal.specs.declared.record.Rec.{Rec}
 use Rattle.xfs_guard.specs.Lives.{BeginsWith}
+use Rattle.xfs_guard.proofs.MarkLaws.{mark-begun, still-begun}
 use Rattle.xfs_model.specs.Devices.{Saying, card_says, keyboard_says}
 use Rattle.xfs_model.specs.State.{Outcome}
 use Rattle.xfs_model.proofs.Denials.{IsGood, Since, SinceMark, active_good, denominate_good, inactive_good, leave_good, of_some, own_since, refusal_since, storage_good, unfit_since}
@@ -61,20 +62,11 @@ pub mark_stands : (records : List Rec) (since : ℕ) → IsMarkAt records (last_
 mark_stands records since stands is = record { nonce = tt; mark = record { place = since; stands = rw is stands; is = refl } }
 
 -- what stood in a list stands in a longer one
-still_got : (xs ys : List Rec) (i : ℕ) (r : Rec) → slice_get xs i ≡ Some r → slice_get (xs ++ ys) i ≡ Some r
-still_got [] ys i r h = cc
-still_got (x ∷ xs) ys zero r h = h
-still_got (x ∷ xs) ys (suc i) r h = still_got xs ys i r h
-
-pub still_at : (xs ys : List Rec) (n : ℕ) (r : Rec) → record_at xs n ≡ Some r → record_at (xs ++ ys) n ≡ Some r
-still_at xs ys zero r h = cc
-still_at xs ys (suc i) r h = still_got xs ys i r h
-
 longer_issue : (old new : List Rec) → BeginsWith new old → (d : Data) → IsIssueText old d → IsIssueText new d
-longer_issue old new e d is = record { place = is.place; issue = is.issue; word = is.word; stands = rw (e.is) (still_at old e.more is.place _ is.stands); is = is.is }
+longer_issue old new e d is = record { place = is.place; issue = is.issue; word = is.word; stands = still-begun new old _ is.place e is.stands; is = is.is }
 
 longer_mark : (old new : List Rec) → BeginsWith new old → (d : Data) → IsMarkNumber old d → IsMarkNumber new d
-longer_mark old new e d is = record { place = is.place; stands = (is.stands.0, rw (e.is) (still_at old e.more is.place _ is.stands.1), is.stands.2); is = is.is }
+longer_mark old new e d is = record { place = is.place; stands = mark-begun new old is.place e is.stands; is = is.is }
 
 of_option : {X : Type 0} (P Q : X → Type 0) → ((x : X) → P x → Q x) → (o : Option X) → IfSome o P → IfSome o Q
 of_option P Q step None h = tt

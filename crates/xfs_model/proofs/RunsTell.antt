@@ -1,16 +1,15 @@
 -- What a client was handed in a run tells what stands in the journal now.
-use Rattle.std.proofs.Common.{◌≡◌, ◌+◌, ◌++◌, ℕ, Bool, true, false, cond, List, [], ◌∷◌, Some, length, All, refl, ap, sym, subst, ◌∙◌, append_assoc}
-use Rattle.std.proofs.lemmas.Bool.{cases_Bool}
-use Rattle.std.proofs.lemmas.List.{append-nil}
+use Rattle.std.proofs.Common.{◌<◌, zero, suc, arith, ◌≡◌, ◌++◌, ℕ, Bool, true, false, cond, List, [], All, refl, subst}
+use Rattle.std.proofs.lemmas.Option.{none-some}
 use Rattle.std.proofs.lemmas.List.Elements.{All-append, All-nil}
 use Rattle.xfs_base.specs.declared.moment.ClientId.{ClientId}
 use Rattle.xfs_dispenser.specs.Seen.{Seen}
 use Rattle.xfs_guard.specs.Lives.{BeginsWith}
 use Rattle.xfs_guard.specs.Upheld.{IsMarkAt}
+use Rattle.xfs_guard.proofs.MarkLaws.{mark-there, marked-begun}
 use Rattle.xfs_guard.specs.declared.open.Open.TheVariants.{No}
-use Rattle.xfs_journal.specs.Journal.{is_mark, last_mark, mark_after}
+use Rattle.xfs_journal.specs.Journal.{last_mark}
 use Rattle.xfs_journal.specs.declared.record.Rec.{Rec}
-use Rattle.xfs_journal.proofs.JournalLaws.{last_mark-push, record_at-pushed}
 use Rattle.xfs_model.specs.Conversations.{frames_after, is_pass_of}
 use Rattle.xfs_mech.specs.declared.touch.Touch.{Touch}
 use Rattle.xfs_mech.specs.declared.touch.Touch.TheVariants.{CardIn, CardTaken, CardFault, Key, KeyFault, NotesTaken}
@@ -25,24 +24,16 @@ use Rattle.xfs_model.specs.Work.{Case, order, expire, answer, nonce, overdue, st
 use Rattle.xfs_model.specs.Told.{HasMark, IsTold, Tells}
 use Rattle.xfs_model.proofs.Advancing.{advances}
 use Rattle.xfs_model.proofs.Changes.{each}
-use Rattle.xfs_model.proofs.Payloads.{still_at}
 use Rattle.xfs_model.proofs.Sounds.{sound_bare, sound_kept}
 use Rattle.xfs_model.proofs.Telling.{bare_told, handed_tell, longer_tells, told_kept}
 
 -- a list that has a mark has one behind more records
-mark_push : (J : List Rec) (r : Rec) → IsMarkAt J (last_mark J) → IsMarkAt (J ++ r ∷ []) (last_mark (J ++ r ∷ []))
-mark_push J r h = subst (IsMarkAt (J ++ r ∷ [])) (sym (last_mark-push J r)) (go (is_mark r) refl)
-  where
-    go : (b : Bool) → is_mark r ≡ b → IsMarkAt (J ++ r ∷ []) (cond b (length J + 1) (last_mark J))
-    go true is = (r, record_at-pushed J r, is)
-    go false is = (h.0, still_at J (r ∷ []) (last_mark J) h.0 h.1, h.2)
+some_place : (records : List Rec) (n : ℕ) → IsMarkAt records n → 0 < n
+some_place records zero h = absurd (none-some h.0 h.1)
+some_place records (suc n) h = omega arith
 
-mark_more : (J more : List Rec) → IsMarkAt J (last_mark J) → IsMarkAt (J ++ more) (last_mark (J ++ more))
-mark_more J [] h = subst (λ (l : List Rec). IsMarkAt l (last_mark l)) (sym (append-nil J)) h
-mark_more J (r ∷ more) h = subst (λ (l : List Rec). IsMarkAt l (last_mark l)) (append_assoc J (r ∷ []) more) (mark_more (J ++ r ∷ []) more (mark_push J r h))
-
-mark_kept : (old new : Seen) → BeginsWith new.guard.records old.guard.records → HasMark old → HasMark new
-mark_kept old new grown h = subst (λ (l : List Rec). IsMarkAt l (last_mark l)) (sym grown.is) (mark_more old.guard.records grown.more h)
+pub mark_kept : (old new : Seen) → BeginsWith new.guard.records old.guard.records → HasMark old → HasMark new
+mark_kept old new grown h = mark-there new.guard.records (marked-begun new.guard.records old.guard.records grown (some_place old.guard.records (last_mark old.guard.records) h))
 
 -- what a client has heard behind a step
 module _ (records : List Rec) (old : State) (mine : ClientId) where
