@@ -3,7 +3,7 @@ ghost use Rattle.std.specs.List.{Contains};
 ghost use Rattle.std.specs.Option.{option_or};
 ghost use Rattle.xfs_base.specs.Causes.{IfTold, Rose};
 ghost use Rattle.xfs_journal.specs.declared.record.Rec.TheVariants.{Issue, Clear, Expire, Boot, Bind, Order, Done};
-ghost use Rattle.xfs_journal.specs.Journal.{next_issue};
+ghost use Rattle.xfs_journal.specs.Journal.{next_issue, nonce_text};
 ghost use Rattle.xfs_guard.specs.declared.open.Open.TheVariants.{No, Written};
 ghost use Rattle.xfs_guard.specs.Balance.{no_notes};
 ghost use Rattle.xfs_guard.specs.Nonce.{Ends, live_in, live_nonce};
@@ -36,7 +36,7 @@ use crate::signer::Signer;
 use crate::{Ask, BootFail, BootFault, Deny, Fit, Nonce, Open};
 use std::alloc::Global;
 use std::marker::Model;
-use xfs_base::{Counts, Kind, Places, UnitTable};
+use xfs_base::{Counts, Kind, Memory, Places, UnitTable};
 use xfs_disk::Disk;
 use xfs_journal::{Limits, Rec, Survey};
 use xfs_mech::{Mechanism, Order as MechOrder, Outcome};
@@ -212,6 +212,16 @@ impl<M: Mechanism, D: Disk> Guard<M, D> {
         ensures { result ≡ live_in self.now.state.boot_missing self.now.state.records }
     {
         self.ledger.live()
+    }
+
+    /// The nonce that the next issue gives.
+    pub fn next_nonce(&self) -> Result<Nonce, Memory>
+        requires { unfit self.now.state ≡ None }
+        ensures number { IfOk result (λ n. n.number ≡ next_issue self.now.state.records) }
+        ensures text { IfOk result (λ n. n.text ≡ nonce_text (next_issue self.now.state.records) (issue_word self.now.state.seed (next_issue self.now.state.records))) }
+    {
+        let number = self.ledger.next_issue();
+        Ok(Nonce::of(self.alloc, number, word_of(self.seed, number))?)
     }
 
     /// Whether an order is open.
