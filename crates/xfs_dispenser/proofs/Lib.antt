@@ -6,6 +6,7 @@ mod DenyLaws
 mod LeaveLaws
 mod PayloadLaws
 mod PlanLaws
+mod SendLaws
 mod StackLaws
 pub mod StepLaws
 mod StorageLaws

@@ -78,6 +78,11 @@ abbrev pub start_of : Begun → Start
 start_of (begun.Result code payload) = told (answered code payload)
 start_of (begun.Plan plan) = planned plan
 
+-- the payload that a start tells, where the command is over
+abbrev pub start_payload : Start → Option Data
+start_payload (told answer) = Some answer.payload
+start_payload (planned plan) = None
+
 -- what a step has come to: there is more to do, or the answer
 pub data Went : Type 0 where
   more : Went
@@ -86,6 +91,11 @@ pub data Went : Type 0 where
 abbrev pub went_of : Progress → Went
 went_of progress.More = more
 went_of (progress.Result code payload) = done (answered code payload)
+
+-- the payload that a step tells, where the command is over
+abbrev pub went_payload : Went → Option Data
+went_payload more = None
+went_payload (done answer) = Some answer.payload
 
 -- the answer is that of a refusal of the guard
 pub record IsDenial (deny : Deny) (went : Went) : Type 0 where

@@ -1,14 +1,15 @@
 //! How commands begin.
 
-ghost use Rattle.std.specs.Prelude.{◌≡◌, ◌≢◌, ◌↔◌, true, false, Ok, Err, IfOk, OnErr, None, IsTrue};
+ghost use Rattle.std.specs.Prelude.{◌≡◌, ◌≢◌, ◌↔◌, true, false, Ok, Err, IfOk, IfSome, OnErr, None, IsTrue};
 ghost use Rattle.std.specs.Option.{option_map};
 ghost use Rattle.xfs_guard.specs.Keeps.{Keeps, NoEntry, Proceeds};
 ghost use Rattle.xfs_guard.specs.Upheld.{IsUpheld};
 ghost use Rattle.xfs_guard.specs.declared.deny.Deny.TheVariants.{Disk};
 ghost use Rattle.xfs_guard.specs.declared.open.Open.TheVariants.{No};
+ghost use Rattle.xfs_envelope.specs.Messages.{IsPayload};
 ghost use Rattle.xfs_envelope.specs.declared.code.Code.TheVariants as Code;
 ghost use Rattle.xfs_mix.specs.Asked.{is_none};
-ghost use Rattle.xfs_dispenser.specs.Answers.{plain as plain_answer, start_of, told};
+ghost use Rattle.xfs_dispenser.specs.Answers.{plain as plain_answer, start_of, start_payload, told};
 ghost use Rattle.xfs_dispenser.specs.Begins.{Begins, EndsExchange, HasRoom, IsDenominated, IsDispensed, IsStorageSet, IsTold, RoomChecks, StartsExchange, StartsOrder, StartsUnless, StorageChecks, Takes, added_refusal, are_added, are_few, unit_refusal};
 ghost use Rattle.xfs_dispenser.specs.Checks.{active_refusal, inactive_refusal};
 ghost use Rattle.xfs_dispenser.specs.Denominations.{Denominates};
@@ -47,6 +48,7 @@ pub fn begin<M: Mechanism, D: Disk>(
     requires { guard.old.state.open_order ≡ No }
     ensures begins { IfOk result (λ b. Begins (seen D.Disk guard.old) exchange.old ask.now (seen D.Disk guard.new) exchange.new (start_of b)) }
     ensures planned { (plan : Plan) → result ≡ Ok (Begun.Plan plan) → IsPlanned guard.new.state plan }
+    ensures payload { IfOk result (λ b. IfSome (start_payload (start_of b)) IsPayload) }
     ensures memory { OnErr result ((guard.new ≡ guard.old) × (exchange.new ≡ exchange.old)) }
     ensures none { guard.new.state.open_order ≡ No }
     ensures proceeds { Proceeds D.Disk guard.old guard.new }

@@ -1,7 +1,8 @@
 //! How plans are worked on, one call of the guard a step.
 
-ghost use Rattle.std.specs.Prelude.{◌≡◌, ◌≢◌, ◌<◌, ◌≤◌, ◌⊎◌, List, [], ◌∷◌, length, IfOk, OnErr, OnOk, Ok};
+ghost use Rattle.std.specs.Prelude.{◌≡◌, ◌≢◌, ◌<◌, ◌≤◌, ◌⊎◌, List, [], ◌∷◌, length, IfOk, IfSome, OnErr, OnOk, Ok};
 ghost use Rattle.arrayvec.specs.ArrayVec.{array_vec_len};
+ghost use Rattle.xfs_envelope.specs.Messages.{IsPayload};
 ghost use Rattle.xfs_guard.specs.CrashOutcomes.{MayMove};
 ghost use Rattle.xfs_guard.specs.Keeps.{Keeps, NoEntry, Proceeds};
 ghost use Rattle.xfs_guard.specs.Orders.{IsActed as IsActedOrder, IsWritten as IsWrittenOrder};
@@ -11,7 +12,7 @@ ghost use Rattle.xfs_guard.specs.declared.deny.Deny.TheVariants.{Disk};
 ghost use Rattle.xfs_guard.specs.declared.open.Open.TheVariants.{No};
 ghost use Rattle.xfs_mech.specs.Mechanism.{CanLoad};
 ghost use Rattle.xfs_mech.specs.declared.motion.Motion.TheVariants.{Loaded};
-ghost use Rattle.xfs_dispenser.specs.Answers.{IsDenial, done, plain, went_of};
+ghost use Rattle.xfs_dispenser.specs.Answers.{IsDenial, done, plain, went_of, went_payload};
 ghost use Rattle.xfs_dispenser.specs.Plans.{IsPlanned};
 ghost use Rattle.xfs_dispenser.specs.Seen.{seen};
 ghost use Rattle.xfs_dispenser.specs.Steps.{DoesAs, IsActed, MayWork, Restores, SettlesOrder, Works, onward, settled};
@@ -43,6 +44,7 @@ pub fn work<M: Mechanism, D: Disk>(
     ensures works { IfOk result (λ p. Works (seen D.Disk guard.old) plan.old (seen D.Disk guard.new) plan.new (went_of p)) }
     ensures planned { result ≡ Ok Progress.More → IsPlanned guard.new.state plan.new }
     ensures over { IfOk result (λ p. p ≢ Progress.More → guard.new.state.open_order ≡ No) }
+    ensures payload { IfOk result (λ p. IfSome (went_payload (went_of p)) IsPayload) }
     ensures memory { OnErr result ((guard.new.state ≡ guard.old.state) × (plan.new ≡ plan.old)) }
     ensures proceeds { Proceeds D.Disk guard.old guard.new }
     ensures keeps { OnOk result (Keeps D.Disk (MayWork guard.old.state plan.old) guard.old guard.new) }

@@ -1,8 +1,13 @@
+use Rattle.std.proofs.Common.{refl}
+use Rattle.std.proofs.lemmas.Result.{IfOk-weaker}
+use Rattle.xfs_dispenser.specs.Answers.{start_of}
 use Rattle.xfs_dispenser.specs.Begins.{IsDispensed, IsStorageSet}
 use Rattle.xfs_dispenser.specs.Seen.{seen}
+use Rattle.xfs_dispenser.specs.declared.ask.CashAsk.TheVariants as CashAsk
 use Rattle.xfs_guard.proofs.KeepsLaws.{Keeps-same, Proceeds-same}
 use Rattle.xfs_dispenser.proofs.BeginLaws.{dispense-planned, storage-planned}
 use Rattle.xfs_dispenser.proofs.CommandLaws.{at-plan}
+use Rattle.xfs_dispenser.proofs.SendLaws.{begins-sent, unless-start}
 use Rattle.xfs_dispenser.proofs.commands.begin.Goals as goal
 
 pub returns-in-Denominate-clause-proceeds : goal.returns-in-Denominate-clause-proceeds
@@ -66,3 +71,47 @@ returns-in-SetStorage-clause-planned g c = λ plan is.
     let v = c.args.guard.now.state in
     let added = c.in-SetStorage.added in
     storage-planned v c.args.exchange.now added plan c.requires (at-plan (λ start. IsStorageSet v c.args.exchange.now added start) c.set_storage.result plan c.set_storage.ensures is)
+
+pub returns-in-Denominate-clause-payload : goal.returns-in-Denominate-clause-payload
+returns-in-Denominate-clause-payload g c =
+    let s = seen g.D.Disk c.args.guard.now in
+    IfOk-weaker c.denominate.result _ _ (λ b is. begins-sent s c.args.exchange.now (CashAsk.Denominate c.in-Denominate.notes) s c.args.exchange.now (start_of b) (refl, refl, is)) c.denominate.ensures
+
+pub returns-in-Dispense-clause-payload : goal.returns-in-Dispense-clause-payload
+returns-in-Dispense-clause-payload g c =
+    let s = seen g.D.Disk c.args.guard.now in
+    IfOk-weaker c.dispense.result _ _ (λ b is. begins-sent s c.args.exchange.now (CashAsk.Dispense c.in-Dispense.notes c.in-Dispense.token) (seen g.D.Disk c.dispense.new.guard) c.args.exchange.now (start_of b) (refl, is)) c.dispense.ensures.dispensed
+
+pub returns-in-Present-clause-payload : goal.returns-in-Present-clause-payload
+returns-in-Present-clause-payload g c =
+    let s = seen g.D.Disk c.args.guard.now in
+    IfOk-weaker c.ordered.result _ _ (λ b is. begins-sent s c.args.exchange.now CashAsk.Present s c.args.exchange.now (start_of b) (refl, refl, is)) c.ordered.ensures
+
+pub returns-in-Reject-clause-payload : goal.returns-in-Reject-clause-payload
+returns-in-Reject-clause-payload g c =
+    let s = seen g.D.Disk c.args.guard.now in
+    IfOk-weaker c.ordered-in-Reject.result _ _ (λ b is. begins-sent s c.args.exchange.now CashAsk.Reject s c.args.exchange.now (start_of b) (refl, refl, is)) c.ordered-in-Reject.ensures
+
+pub returns-in-Retract-clause-payload : goal.returns-in-Retract-clause-payload
+returns-in-Retract-clause-payload g c =
+    let s = seen g.D.Disk c.args.guard.now in
+    IfOk-weaker c.ordered-in-Retract.result _ _ (λ b is. begins-sent s c.args.exchange.now CashAsk.Retract s c.args.exchange.now (start_of b) (refl, refl, is)) c.ordered-in-Retract.ensures
+
+pub returns-in-Reset-clause-payload : goal.returns-in-Reset-clause-payload
+returns-in-Reset-clause-payload g c =
+    IfOk-weaker c.started.result _ _ (λ b is. unless-start c.active_refusal.result _ (start_of b) tt is) c.started.ensures
+
+pub returns-in-SetStorage-clause-payload : goal.returns-in-SetStorage-clause-payload
+returns-in-SetStorage-clause-payload g c =
+    let s = seen g.D.Disk c.args.guard.now in
+    IfOk-weaker c.set_storage.result _ _ (λ b is. begins-sent s c.args.exchange.now (CashAsk.SetStorage c.in-SetStorage.added) s c.args.exchange.now (start_of b) (refl, refl, is)) c.set_storage.ensures
+
+pub returns-in-StartExchange-clause-payload : goal.returns-in-StartExchange-clause-payload
+returns-in-StartExchange-clause-payload g c =
+    let s = seen g.D.Disk c.args.guard.now in
+    IfOk-weaker c.start_exchange.result _ _ (λ b is. begins-sent s c.args.exchange.now CashAsk.StartExchange s c.start_exchange.new.exchange (start_of b) (refl, is)) c.start_exchange.ensures.starts
+
+pub returns-in-EndExchange-clause-payload : goal.returns-in-EndExchange-clause-payload
+returns-in-EndExchange-clause-payload g c =
+    let s = seen g.D.Disk c.args.guard.now in
+    IfOk-weaker c.end_exchange.result _ _ (λ b is. begins-sent s c.args.exchange.now CashAsk.EndExchange s c.end_exchange.new.exchange (start_of b) (refl, is)) c.end_exchange.ensures.starts
