@@ -23,6 +23,20 @@ pub struct EntryAsk {
     pub ends: KeySet,
 }
 
+impl EntryAsk {
+    /// The same once more. It takes no memory.
+    pub fn copied(&self) -> EntryAsk
+        ensures { result ≡ self.now }
+    {
+        EntryAsk {
+            max_len: self.max_len,
+            auto_end: self.auto_end,
+            active: self.active.copied(),
+            ends: self.ends.copied(),
+        }
+    }
+}
+
 // Every key, in the order of `KeyName`.
 const KEYS: [KeyName; 14] = [
     KeyName::Zero,

@@ -45,6 +45,13 @@ impl KeySet {
         KeySet { keys }
     }
 
+    /// The same set.
+    pub fn copied(&self) -> KeySet
+        ensures { result ≡ self.now }
+    {
+        KeySet { keys: self.keys }
+    }
+
     /// Whether the key is in the set.
     pub fn has(&self, key: KeyName) -> bool
         ensures { result ≡ has key self.now }
