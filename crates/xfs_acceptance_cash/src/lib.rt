@@ -1,0 +1,13 @@
+//! The dispenser's commands over main's bench, as tests.
+#![tactic(auto)]
+
+#[cfg(test)]
+mod check_rows;
+#[cfg(test)]
+mod counter;
+#[cfg(test)]
+mod denominate_rows;
+#[cfg(test)]
+mod fault_rows;
+#[cfg(test)]
+mod storage_rows;
