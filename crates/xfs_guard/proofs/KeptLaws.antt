@@ -33,6 +33,7 @@ use Rattle.xfs_guard.proofs.CrashedLaws.{begins-same, left-doubt}
 use Rattle.xfs_guard.proofs.ContinueLaws.{Continues-grown, doubted-possible}
 use Rattle.xfs_guard.proofs.SoundLaws.{acted_view, IsSound-act}
 use Rattle.xfs_guard.proofs.RecordLaws.{longer}
+use Rattle.xfs_guard.proofs.SizeLaws.{takes-done}
 
 pub told-at : (b : Bool) (v : View) (m : Option (List Motion)) → b ≡ true → IfTold (where_told b m) (Ties v) → IfTold m (Ties v)
 told-at true v m e t = t
@@ -161,11 +162,11 @@ pub still-open : (shut : Bool) (o : Open) (k : Kind) (c : Counts) → (shut ≡ 
 still-open false o k c closed is = refl
 still-open true o k c closed is = let none : Written k c ≡ No = sym is ∙ closed refl in cc
 
--- the written order was carried out
+-- the written order was carried out, and its outcome counts the notes of eight units
 pub IsKept-acted : (v : View) (k : Kind) (c m d : Counts) (failed : Bool) (now : Option (List Motion)) (Q : Places) (f spare was left : ℕ) (kinds before : List NoteKind)
-    → IsKept v was left before → v.open_order ≡ Written k c → MayCarry k c m d failed → AddsEntry v.motions (Moved (length v.records) k m d) now
+    → IsKept v was left before → v.open_order ≡ Written k c → length m.0 ≡ 8 → length d.0 ≡ 8 → MayCarry k c m d failed → AddsEntry v.motions (Moved (length v.records) k m d) now
     → PlacesOf v.places (Moved (length v.records) k m d ∷ []) Q → kinds ≡ v.units → IsKept (acted_view v k m d failed now Q f) spare left kinds
-IsKept-acted v k c m d failed now Q f spare was left kinds before kept written may grows places units = record {
+IsKept-acted v k c m d failed now Q f spare was left kinds before kept written moved diverted may grows places units = record {
   sound = λ e m. sound;
   clean = kept.clean;
   balanced = balanced-moved v.records v.booted v.loaded v.places Q (length v.records) k m d places kept.balanced;
@@ -173,7 +174,7 @@ IsKept-acted v k c m d failed now Q f spare was left kinds before kept written m
   missing = λ e. absurd (true≢false (sym e ∙ booted));
   recorded = λ told J p. ⊎_elim (λ same. rw same (recorded-sound (acted_view v k m d failed now Q f) sound told)) (λ doubt. absurd (none doubt.0 (sym (kept.clean still) ∙ doubt.1))) p;
   room = (rw written at kept.room).1;
-  limits = rw written at kept.limits;
+  limits = takes-done v.limits v.records m d moved diverted (rw written at kept.limits);
   units = units;
 }
   where

@@ -382,7 +382,6 @@ impl<M: Mechanism, D: Disk> Guard<M, D> {
             return Err(deny);
         }
         let (kind, counts) = self.admitted(ask)?;
-        eight(&counts);
         self.mech.ready()?;
         self.ledger.reserve_two()?;
         self.ledger.order(kind, counts)?;
@@ -470,8 +469,6 @@ impl<M: Mechanism, D: Disk> Guard<M, D> {
         let _possible = self.ledger.shut();
         let number = self.ledger.records().len() as u64;
         let outcome = self.mech.execute(MechOrder::new(number, kind, counts));
-        eight(&outcome.moved);
-        eight(&outcome.diverted);
         self.open_order = Open::Acted {
             kind,
             moved: outcome.moved,
@@ -501,19 +498,10 @@ impl<M: Mechanism, D: Disk> Guard<M, D> {
         else {
             unreachable!()
         };
-        eight(&moved);
-        eight(&diverted);
         self.open_order = Open::No;
         self.ledger.done(kind, moved, diverted)?;
         Ok(())
     }
-}
-
-// Counts are eight.
-fn eight(counts: &Counts)
-    ensures { length counts.now.0 ≡ 8 }
-{
-    let _eight = counts.0.as_slice().len();
 }
 
 // All the notes of a place, where there are some.

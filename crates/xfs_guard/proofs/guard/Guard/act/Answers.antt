@@ -1,4 +1,4 @@
-use Rattle.std.proofs.Common.{refl, ◌≡◌, ◌∙◌, length, ap}
+use Rattle.std.proofs.Common.{refl, ◌≡◌, ◌∙◌, length, ap, arith}
 use Rattle.xfs_guard.proofs.ContinueLaws.{Continues-act}
 use Rattle.xfs_guard.proofs.KeptLaws.{IsKept-acted, still-open}
 use Rattle.xfs_guard.specs.CrashOutcomes.{MayMove}
@@ -12,9 +12,11 @@ invariant_of-self g c =
     let e = rw (c.new.ensures.number, c.new.ensures.kind, c.new.ensures.counts) at c.execute-outcome.ensures in
     let motions = rw number at e.motions in
     let places = rw number at e.places in
+    let moved : length c.execute-outcome.result.moved.0 ≡ 8 = omega arith in
+    let diverted : length c.execute-outcome.result.diverted.0 ≡ 8 = omega arith in
     IsKept-acted _ c.in-Written.kind c.in-Written.counts c.execute-outcome.result.moved c.execute-outcome.result.diverted c.execute-outcome.result.failed
     (g.M.Mechanism.motions c.execute-outcome.new.self) (g.M.Mechanism.places c.execute-outcome.new.self) (g.M.Mechanism.faults c.execute-outcome.new.self)
-    _ _ _ _ _ c.self.invariant c.in-Written.is e.carried motions places (e.units ∙ c.self.invariant.units)
+    _ _ _ _ _ c.self.invariant c.in-Written.is moved diverted e.carried motions places (e.units ∙ c.self.invariant.units)
 
 pub returns-clause-keeps : goal.returns-clause-keeps
 returns-clause-keeps g c =

@@ -16,7 +16,7 @@ pub order-requires-clause-fits : goal.order-requires-clause-fits
 order-requires-clause-fits g c =
     let fit = fit-at _ _ c.self.view_is (sym c.unfit.ensures.first ∙ c.in_default.is) in
     let same = c.in_ok-reserve_two.ensures.same in
-    let eight = order-short c.in_ok-kind.kind c.in_ok-kind.counts c.eight.ensures in
+    let eight = order-short c.in_ok-kind.kind c.in_ok-kind.counts (omega arith) in
     let short : length (body (Order c.in_ok-kind.kind c.in_ok-kind.counts)) ≤ 1025 = omega (arith, eight) in
     may-write c.reserve_two.new.self (Order c.in_ok-kind.kind c.in_ok-kind.counts) (same.shut ∙ fit.0) (same.boot_missing ∙ fit.2)
     (rw (same.limits, same.records) (takes-one c.self.inside.ledger.limits c.self.inside.ledger.records (Order c.in_ok-kind.kind c.in_ok-kind.counts) fit.1 short))
@@ -37,7 +37,8 @@ invariant_of-self-2 g c =
     let none : c.self.inside.open_order ≡ No = rw (← c.self.view_is) at c.requires.none in
     let fit = fit-at _ _ c.self.view_is (sym c.unfit.ensures.first ∙ c.in_default.is) in
     let fine = rw (← c.self.view_is) at c.in_ok-kind.ensures.ok in
-    let eight = rw fine.2 at c.eight.ensures in
+    let long : length c.in_ok-kind.counts.0 ≡ 8 = omega arith in
+    let eight = rw fine.2 at long in
     let same = c.in_ok-reserve_two.ensures.same in
     let w = c.in_ok-order.ensures.wrote in
     let marked = rw (fine.1, fine.2) at (balanced-push c.self.inside.ledger.records (Order c.in_ok-kind.kind c.in_ok-kind.counts) _ _ _ c.self.invariant.balanced) in

@@ -5,7 +5,7 @@ use Rattle.xfs_guard.proofs.ContinueLaws.{Continues-written, Continues-doubted}
 use Rattle.xfs_guard.proofs.KeepsLaws.{Keeps-wrote}
 use Rattle.xfs_guard.proofs.KeptLaws.{IsKept-open, IsKept-doubted, still-acted}
 use Rattle.xfs_guard.proofs.BalanceLaws.{balanced-push}
-use Rattle.xfs_guard.proofs.SizeLaws.{may-write, takes-done}
+use Rattle.xfs_guard.proofs.SizeLaws.{may-write}
 use Rattle.xfs_guard.proofs.RecordLaws.{IsSound-done}
 use Rattle.xfs_guard.proofs.OrderLaws.{small-done}
 use Rattle.xfs_guard.proofs.LeftLaws.{left-written}
@@ -16,9 +16,7 @@ pub done-requires-clause-fits : goal.done-requires-clause-fits
 done-requires-clause-fits g c =
     let still = still-acted _ _ _ _ _ _ c.self.invariant.closed c.in-Acted.is in
     let booted = still-acted _ _ _ _ _ _ c.self.invariant.missing c.in-Acted.is in
-    let room = rw c.in-Acted.is at c.self.invariant.limits in
-    may-write c.self.inside.ledger (Done c.in-Acted.moved c.in-Acted.diverted) still booted
-    (takes-done c.self.inside.ledger.limits c.self.inside.ledger.records c.in-Acted.moved c.in-Acted.diverted c.eight.ensures c.eight-2.ensures room)
+    may-write c.self.inside.ledger (Done c.in-Acted.moved c.in-Acted.diverted) still booted (rw c.in-Acted.is at c.self.invariant.limits)
 
 pub done-requires-clause-small : goal.done-requires-clause-small
 done-requires-clause-small g c =
