@@ -522,7 +522,7 @@ fn notes_of(units: &UnitTable, unit: u8, count: u32) -> Counts
     ensures notes { result ≡ notes_of unit count }
     ensures within { unit ≤ 8 }
 {
-    let _len = units.len();
+    prove!(unit <= units.len());
     let mut counts = [0; 8];
     counts[usize::from(unit) - 1] = count;
     Counts(counts)

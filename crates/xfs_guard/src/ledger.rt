@@ -207,7 +207,7 @@ impl<D: Disk> Ledger<D> {
         requires { IsOpen self.now }
         ensures { result ≡ next_issue self.now.records }
     {
-        let _count = self.journal.records().len();
+        prove!(self.issues <= self.journal.records().len() as u64);
         self.issues + 1
     }
 
@@ -293,7 +293,7 @@ impl<D: Disk> Ledger<D> {
         ensures counted { self.new ≡ record self.old { loaded = with_notes self.old.loaded unit count } }
         ensures few { unit ≤ 8 }
     {
-        let _few = self.units.len();
+        prove!(unit <= self.units.len());
         self.loaded.0[usize::from(unit) - 1] += count;
     }
 

@@ -87,7 +87,7 @@ impl<M: Mechanism, D: Disk> Guard<M, D> {
         if let Some(deny) = self.unfit() {
             return Err(deny);
         }
-        let _few = self.ledger.units().len();
+        prove!(unit <= self.ledger.units().len());
         self.ledger.load(unit, count)?;
         Ok(())
     }

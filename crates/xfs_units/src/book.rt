@@ -35,7 +35,7 @@ impl Book {
         ensures units { result.units ≡ units }
         ensures places { result.places ≡ places }
     {
-        let _few = units.len();
+        prove!(units.len() <= 8);
         Book { units, places }
     }
 
