@@ -39,7 +39,7 @@ impl SimMech {
         ensures calls { calls_of result ≡ 0 }
         ensures failures { failures_of result ≡ 0 }
     {
-        let _few = units.len();
+        prove!(units.len() <= 8);
         SimMech {
             units,
             places,
@@ -61,7 +61,7 @@ impl SimMech {
         ensures calls { calls_of result ≡ 0 }
         ensures failures { failures_of result ≡ 0 }
     {
-        let _few = units.len();
+        prove!(units.len() <= 8);
         SimMech {
             units,
             places,
