@@ -10,6 +10,8 @@ pub mod Fills
 pub mod LineLaws
 pub mod Numerals
 pub mod Parts
+pub mod ReplayFields
+pub mod ReplayWords
 pub mod UnitParts
 pub mod UnitTexts
 pub mod WordLines

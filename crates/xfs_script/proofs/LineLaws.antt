@@ -13,7 +13,7 @@ use Rattle.xfs_base.specs.Causes.{IfTold}
 use Rattle.xfs_script.specs.Answer.{answer_of, line_answer, bytes_within, bytes_ahead, IsCutOff, ReadsLine}
 use Rattle.xfs_script.specs.declared.line.Line.{Line}
 use Rattle.xfs_script.specs.declared.line.LineFault.{LineFault}
-use Rattle.xfs_script.specs.declared.line.LineFault.TheVariants.{Read, Quota, TooLong, Memory}
+use Rattle.xfs_script.specs.declared.line.LineFault.TheVariants.{Quota, TooLong}
 use Rattle.xfs_script.proofs.Blocks.{Consumes-append, Consumes-same}
 
 pub Gives-trans : (r s t : Reading) (x y z : Option (List ℕ)) → Gives r s x y → Gives s t y z → Gives r t x z

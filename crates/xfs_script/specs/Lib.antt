@@ -9,5 +9,6 @@ pub mod Found
 pub mod Guard
 pub mod Lines
 pub mod Reading
+pub mod ReplayLines
 pub mod TokenLines
 pub mod Words

@@ -104,7 +104,7 @@ fn word_of(text: &[u8]) -> Option<GuardLine>
     None
 }
 
-fn read_mint(text: &[u8]) -> Option<Amounts>
+pub(crate) fn read_mint(text: &[u8]) -> Option<Amounts>
     ensures found { IfSome result (IsMint text.now) }
     ensures none { IfNone result ((amounts : List (List ℕ × ℕ)) → ¬ IsMint text.now amounts) }
 {

@@ -14,9 +14,15 @@ mod fill;
 mod guard_line;
 mod line;
 mod lines;
+mod number;
+mod replay_fields;
+mod replay_line;
+#[cfg(test)]
+mod replay_tests;
 #[cfg(test)]
 mod tests;
 mod token_line;
+mod tracks_field;
 mod word;
 
 pub use answerer::{Answerer, Ending, Unanswered};
@@ -25,4 +31,5 @@ pub use counts::counts_text;
 pub use guard_line::{Given, GuardLine, ScriptFault, read_guard};
 pub use line::{Line, LineFault};
 pub use lines::Lines;
+pub use replay_line::{ReplayLine, read_replay};
 pub use token_line::{TokenLine, read_token};

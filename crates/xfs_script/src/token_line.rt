@@ -99,7 +99,7 @@ fn read_hex(alloc: Global, field: &[u8]) -> Result<Bytes, ScriptFault>
     }
 }
 
-fn bytes_of(alloc: Global, text: &[u8]) -> Result<Bytes, ScriptFault>
+pub(crate) fn bytes_of(alloc: Global, text: &[u8]) -> Result<Bytes, ScriptFault>
     ensures ok { IfOk result (λ bytes. bytes ≡ text.now) }
     ensures err { IfErr result (λ e. e ≡ ScriptFault.Memory) }
 {
