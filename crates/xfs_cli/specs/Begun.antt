@@ -14,6 +14,7 @@ use Rattle.xfs_cli.specs.Seen.{Seen, Becomes}
 use Rattle.xfs_cli.specs.OrderAnswers.{MechCalled, Stacks, nothing_stacked}
 use Rattle.xfs_cli.specs.DispenseAnswers.{IsPermitted, named}
 use Rattle.xfs_cli.specs.VerbAnswers.{AnswersGuard, IsAnswer}
+use Rattle.xfs_script.specs.declared.feed.TheConstants.{LONGEST_LINE}
 
 -- nothing was done; or all of it, and the line that answers it was not written
 abbrev pub AllOrNothing : (List ℕ → Seen → Type 0) → Seen → Seen → Type 0
@@ -62,7 +63,7 @@ pub record IsCarriedOut (s : Seen) (text : List ℕ) (end : Seen) : Type 0 where
 pub record IsBrokenOff (s : Seen) (text : List ℕ) (end : Seen) : Type 0 where
   pub verb : GuardLine
   pub reads : IsGuardLine text verb
-  pub short : length text ≤ 70000
+  pub short : length text ≤ LONGEST_LINE
   pub part : IsPartDone s verb end
 
 -- what want of memory leaves of a line: nothing of it was done, or all of it, or a part

@@ -15,6 +15,7 @@ use Rattle.xfs_cli.specs.Seen.{Seen}
 use Rattle.xfs_cli.specs.Complete.{AnswersInFull}
 use Rattle.xfs_cli.specs.Streams.{Streams}
 use Rattle.xfs_cli.specs.declared.status.TheConstants.{DISK_FAULT, INPUT_TOO_LONG, JOURNAL_FULL, NOT_A_JOURNAL, NOT_A_LINE, NO_MEMORY, READ_FAULT, READ_TO_END, USAGE, WRITE_FAULT}
+use Rattle.xfs_script.specs.declared.feed.TheConstants.{QUOTA}
 
 -- a number is one of these
 abbrev pub IsOneOf : List ℕ → ℕ → Type 0
@@ -27,7 +28,7 @@ IsStatus status = IsOneOf (READ_TO_END ∷ USAGE ∷ READ_FAULT ∷ NOT_A_LINE �
 -- each status of the input and the output has its cause
 pub record IsCaused (status : ℕ) (io : Streams) : Type 0 where
   pub whole : status ≡ READ_TO_END → IsAtEnd io.left
-  pub fewer : status ≡ READ_TO_END → IfTold io.input (λ text. length text < 67108864)
+  pub fewer : status ≡ READ_TO_END → IfTold io.input (λ text. length text < QUOTA)
   pub read : status ≡ READ_FAULT → Rose io.read_faults io.read_faults_now
   pub write : status ≡ WRITE_FAULT → Rose io.write_faults io.write_faults_now
   pub quota : status ≡ INPUT_TOO_LONG → GaveAll io.input io.left
@@ -47,7 +48,7 @@ pub record HasFullRestart (IsStartOf Ends : Seen → Type 0) (text : List ℕ) :
 -- every line of the input is a line, the input is short enough, and the Boot passes no limit behind the records of the disk, nor does that of a restart which ends the run
 pub record IsUnhindered (IsStartOf Ends : Seen → Type 0) (text : List ℕ) (limits : Limits) (places : Places) (records : List Rec) : Type 0 where
   pub lines : AllLines IsLine text
-  pub short : length text < 67108864
+  pub short : length text < QUOTA
   pub boots : ¬ (BootExceeds limits places records)
   pub restarts : ¬ (HasFullRestart IsStartOf Ends text)
 

@@ -14,6 +14,7 @@ use Rattle.xfs_script.specs.TokenLines.{IsTokenLine}
 use Rattle.xfs_script.specs.declared.token_line.TokenLine.{TokenLine}
 use Rattle.xfs_script.specs.declared.token_line.TokenLine.TheVariants.{Skip, Read, Make, Mac}
 use Rattle.xfs_guard.specs.declared.fail.BootFault.{BootFault}
+use Rattle.xfs_script.specs.declared.feed.TheConstants.{LONGEST_LINE}
 
 -- a currency and its thousandths
 abbrev pub thousandths_text : List ℕ × ℕ → List ℕ
@@ -83,13 +84,13 @@ AreAnswer key verb (answer ∷ other ∷ more) = ⊥
 pub record IsLineOfToken (text : List ℕ) : Type 0 where
   pub verb : TokenLine
   pub reads : IsTokenLine text verb
-  pub short : length text ≤ 70000
+  pub short : length text ≤ LONGEST_LINE
 
 -- a line of `token` and the lines that answer it; the key stays
 pub record AnswersToken (key text : List ℕ) (output : List (List ℕ)) (next : List ℕ) : Type 0 where
   pub verb : TokenLine
   pub reads : IsTokenLine text verb
-  pub short : length text ≤ 70000
+  pub short : length text ≤ LONGEST_LINE
   pub answer : AreAnswer key verb output
   pub same : next ≡ key
 

@@ -9,6 +9,7 @@ use Rattle.xfs_cli.specs.Streams.{Streams}
 use Rattle.xfs_cli.specs.TokenAnswers.{IsLineOfToken, token_lines}
 use Rattle.xfs_cli.specs.declared.ended.Ended.{Ended}
 use Rattle.xfs_cli.specs.declared.status.TheConstants.{DISK_FAULT, JOURNAL_FULL, NOT_A_JOURNAL, NOT_A_LINE, READ_TO_END}
+use Rattle.xfs_script.specs.declared.feed.TheConstants.{QUOTA}
 
 -- the mechanism and the disk come back as they were
 pub record IsKept {M D : Type 0} (core : Core M D) (result : Ended M D) : Type 0 where
@@ -29,4 +30,4 @@ pub record RunsToken {M D : Type 0} (core : Core M D) (result : Ended M D) (io :
   pub unbooted : (result.status ≢ DISK_FAULT) × (result.status ≢ NOT_A_JOURNAL) × (result.status ≢ JOURNAL_FULL)
   -- a run that nothing hinders ends with its input
   pub finishes : ¬ (Rose io.read_faults io.read_faults_now) → ¬ (Rose io.write_faults io.write_faults_now)
-      → IfTold io.input (λ text. AllLines IsLineOfToken text → length text < 67108864 → IsFinished result.status)
+      → IfTold io.input (λ text. AllLines IsLineOfToken text → length text < QUOTA → IsFinished result.status)

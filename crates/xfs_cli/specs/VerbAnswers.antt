@@ -26,6 +26,7 @@ use Rattle.xfs_cli.specs.DispenseAnswers.{Dispenses, named}
 use Rattle.xfs_cli.specs.RestartAnswers.{Restarts}
 use Rattle.xfs_cli.specs.declared.refused.Refusal.{Refusal}
 use Rattle.xfs_cli.specs.declared.refused.Refusal.TheVariants.{NoUnit, StorageFull, Deny as Denied}
+use Rattle.xfs_script.specs.declared.feed.TheConstants.{LONGEST_LINE}
 
 -- the record of the next nonce: its number, and the seed's word
 abbrev pub next_record : View → Rec
@@ -126,5 +127,5 @@ AreAnswer s verb output next = IsOneLine (λ line. IsAnswer s verb line next) ou
 pub record AnswersGuard (s : Seen) (text : List ℕ) (output : List (List ℕ)) (next : Seen) : Type 0 where
   pub verb : GuardLine
   pub reads : IsGuardLine text verb
-  pub short : length text ≤ 70000
+  pub short : length text ≤ LONGEST_LINE
   pub answer : AreAnswer s verb output next

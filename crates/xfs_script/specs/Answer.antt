@@ -9,20 +9,21 @@ use Rattle.xfs_script.specs.Reading.{Reading, Gives}
 use Rattle.xfs_script.specs.declared.line.Line.{Line}
 use Rattle.xfs_script.specs.declared.line.LineFault.{LineFault}
 use Rattle.xfs_script.specs.declared.line.LineFault.TheVariants.{Read, Quota, TooLong, Memory}
+use Rattle.xfs_script.specs.declared.feed.TheConstants.{LONGEST_LINE, QUOTA}
 
--- a line and its number, or that it has more than 70,000 bytes
+-- a line and its number, or that it is too long
 abbrev pub line_answer : ℕ → List ℕ → Result (Option Line) LineFault
-line_answer number line = if nat_le (length line) 70000 then Ok (Some (record { number = number; text = line })) else Err (TooLong number)
+line_answer number line = if nat_le (length line) LONGEST_LINE then Ok (Some (record { number = number; text = line })) else Err (TooLong number)
 
 -- the bytes to come, of those that a source may give before the limit
 abbrev pub bytes_within : Reading → List ℕ → List ℕ
-bytes_within r left = r.pending ++ take (67108864 - r.given) left
+bytes_within r left = r.pending ++ take (QUOTA - r.given) left
 
 -- of the bytes to come, where the source gives so many in all: the first line that a line feed ends; else that the limit is reached; else the last line; else that there is none
 abbrev pub answer_on : ℕ → List ℕ → ℕ → Result (Option Line) LineFault
 answer_on handed text all =
     if has_line_feed text then line_answer (handed + 1) (first_line text)
-    else if nat_le 67108864 all then Err Quota
+    else if nat_le QUOTA all then Err Quota
     else if nat_lt 0 (length text) then line_answer (handed + 1) (first_line text) else Ok None
 
 -- the answer that is due where this is kept and the source has these bytes left
@@ -40,7 +41,7 @@ IsAnswer (Err (TooLong n)) due = due ≡ Err (TooLong n)
 -- the answer's line is the one behind those that were handed out
 abbrev pub HasNumber : ℕ → Result (Option Line) LineFault → Type 0
 HasNumber handed (Ok None) = Unit {0}
-HasNumber handed (Ok (Some line)) = (line.number ≡ handed + 1) × (length line.text ≤ 70000)
+HasNumber handed (Ok (Some line)) = (line.number ≡ handed + 1) × (length line.text ≤ LONGEST_LINE)
 HasNumber handed (Err Read) = Unit {0}
 HasNumber handed (Err Memory) = Unit {0}
 HasNumber handed (Err Quota) = Unit {0}
@@ -68,6 +69,6 @@ pub record ReadsLine (old new : Reading) (before after : Option (List ℕ)) (res
   pub number : HasNumber old.handed result
   pub handed : new.handed ≡ old.handed + lines_in result
   pub memory : result ≡ Err Memory → IfTold before (λ left. bytes_ahead new after ≡ Some (old.pending ++ left))
-  pub quota : result ≡ Err Quota → new.given ≡ 67108864
+  pub quota : result ≡ Err Quota → new.given ≡ QUOTA
   pub cut_off : IsCutOff result → has_line_feed (old.pending ++ gives.bytes) ≡ false
-  pub end : result ≡ Ok None → (new.pending ≡ []) × IsAtEnd after × (new.given < 67108864)
+  pub end : result ≡ Ok None → (new.pending ≡ []) × IsAtEnd after × (new.given < QUOTA)

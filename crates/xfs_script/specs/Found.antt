@@ -8,6 +8,7 @@ use Rattle.xfs_script.specs.declared.feed.Found.{Found}
 use Rattle.xfs_script.specs.declared.feed.Found.TheVariants.{Feed, End, Long, Quota}
 use Rattle.xfs_script.specs.declared.line.LineFault.{LineFault}
 use Rattle.xfs_script.specs.declared.line.LineFault.TheVariants as Fault
+use Rattle.xfs_script.specs.declared.feed.TheConstants.{LONGEST_LINE, QUOTA}
 
 -- no line feed is kept
 abbrev pub IsOpen : Reading → Type 0
@@ -16,14 +17,14 @@ IsOpen r = line_end r.pending ≡ length r.pending
 -- the kept bytes have their first line feed at n, or none and the source is at its end, or none and they are too many, or none and no more may be read
 abbrev pub IsFound : Reading → Option (List ℕ) → Found → Type 0
 IsFound r left (Feed n) = (line_end r.pending ≡ n) × (n < length r.pending)
-IsFound r left End = IsOpen r × IsAtEnd left × (r.given < 67108864)
-IsFound r left Long = IsOpen r × (70001 < length r.pending)
-IsFound r left Quota = IsOpen r × (r.given ≡ 67108864)
+IsFound r left End = IsOpen r × IsAtEnd left × (r.given < QUOTA)
+IsFound r left Long = IsOpen r × (LONGEST_LINE + 1 < length r.pending)
+IsFound r left Quota = IsOpen r × (r.given ≡ QUOTA)
 
 -- a line whose front was dropped ends, or no more may be read
 abbrev pub IsPassed : Reading → Option (List ℕ) → Bool → Type 0
-IsPassed r left true = (line_end r.pending < length r.pending) ⊎ (IsOpen r × IsAtEnd left × (r.given < 67108864))
-IsPassed r left false = IsOpen r × (r.given ≡ 67108864)
+IsPassed r left true = (line_end r.pending < length r.pending) ⊎ (IsOpen r × IsAtEnd left × (r.given < QUOTA))
+IsPassed r left false = IsOpen r × (r.given ≡ QUOTA)
 
 -- why a line isn't handed out whose front was dropped
 abbrev pub IsRefusal : ℕ → Reading → Option (List ℕ) → LineFault → Type 0

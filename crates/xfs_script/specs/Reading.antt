@@ -3,6 +3,7 @@ use Rattle.std.specs.Prelude.{◌≡◌, ℕ, ◌+◌, List, [], ◌++◌, lengt
 use Rattle.std.specs.declared.option.Option.{Option}
 use Rattle.std.specs.Io.KnownBytes.{Consumes}
 use Rattle.xfs_script.specs.Lines.{line_end}
+use Rattle.xfs_script.specs.declared.feed.TheConstants.{QUOTA}
 
 -- the bytes that were read and aren't handed out, how many bytes the source gave, and how many lines were handed out
 pub record Reading : Type 0 where
@@ -55,5 +56,5 @@ pub record GivesBehind (old new : List ℕ) (place : ℕ) (before after : Option
 -- the source gave as many bytes as a command reads
 pub record GaveAll (before after : Option (List ℕ)) : Type 0 where
   pub bytes : List ℕ
-  pub many : length bytes ≡ 67108864
+  pub many : length bytes ≡ QUOTA
   pub taken : Consumes before after bytes

@@ -1,6 +1,7 @@
 ghost use Rattle.std.specs.Prelude.{◌≡◌, ◌≤◌, ℕ, List, IfOk, IfErr, length};
 ghost use Rattle.xfs_script.specs.Answered.{Tells, IsUnanswered};
 ghost use Rattle.xfs_script.specs.Commands.{Command};
+ghost use Rattle.xfs_script.specs.declared.feed.TheConstants.{LONGEST_LINE};
 
 /// Why a line has no answer.
 #[derive(Debug, Drop, PartialEq, Eq)]
@@ -54,7 +55,7 @@ pub trait Answerer {
     /// Answers a line, given without its end: the lines of the answer, a line feed behind each.
     fn answer(&mut self, line: &[u8]) -> Result<Vec<u8>, Unanswered<Self::End>>
         requires ready { IsReady self.old }
-        requires short { length line.now ≤ 70000 }
+        requires short { length line.now ≤ LONGEST_LINE }
         ensures ready { IsReady self.new }
         ensures keeps { Keeps self.old self.new }
         ensures answer { IfOk result (λ text. Tells (command.Answers (state self.old) line.now) text.items (state self.new)) }
@@ -66,7 +67,7 @@ pub trait Answerer {
 
     ghost leaves_same: { (s : State) (line : List ℕ) → command.Leaves s line s };
 
-    ghost is_short: { (line : List ℕ) → command.IsLine line → length line ≤ 70000 };
+    ghost is_short: { (line : List ℕ) → command.IsLine line → length line ≤ LONGEST_LINE };
 
     ghost is_line: { (s next : State) (line : List ℕ) (output : List (List ℕ)) → command.Answers s line output next → command.IsLine line };
 }

@@ -5,6 +5,7 @@ ghost use Rattle.xfs_script.specs.Lines.{AllLines, StopsAtLine};
 ghost use Rattle.xfs_script.specs.Reading.{GaveAll};
 ghost use Rattle.xfs_script.specs.Endings.{AnswersInput, BreaksAtLine, EndsAfter, WritesAnswer};
 ghost use Rattle.xfs_script.specs.declared.answerer.Ending.TheVariants as Ending;
+ghost use Rattle.xfs_script.specs.declared.feed.TheConstants.{LONGEST_LINE, QUOTA};
 
 use crate::answerer::{Answerer, Ending, Unanswered};
 use crate::line::{Line, LineFault};
@@ -28,7 +29,7 @@ pub fn answer_lines<S: Source, K: Sink, A: Answerer>(
     ensures not_a_line { (number : ℕ) → result ≡ Ending.NotALine number → IfTold (S.left source.old) (StopsAtLine A.command.IsLine) }
     ensures ended { (why : A.End) → result ≡ Ending.Ended why → EndsAfter A.Keeps A.state A.command answerer.old why (A.state answerer.new) }
     ensures whole { result ≡ Ending.AtEnd → IsAtEnd (S.left source.new) }
-    ensures fewer { result ≡ Ending.AtEnd → IfTold (S.left source.old) (λ text. length text < 67108864) }
+    ensures fewer { result ≡ Ending.AtEnd → IfTold (S.left source.old) (λ text. length text < QUOTA) }
     ensures quota { result ≡ Ending.Quota → GaveAll (S.left source.old) (S.left source.new) }
     ensures read { result ≡ Ending.Read → Rose (S.faults source.old) (S.faults source.new) }
     ensures write { result ≡ Ending.Write → Rose (K.faults sink.old) (K.faults sink.new) }
@@ -59,7 +60,7 @@ fn answer_line<K: Sink, A: Answerer>(
     sink: &mut K,
 ) -> Result<(), Ending<A::End>>
     requires ready { A.IsReady answerer.old }
-    requires short { length line.now.text ≤ 70000 }
+    requires short { length line.now.text ≤ LONGEST_LINE }
     ensures ready { A.IsReady answerer.new }
     ensures keeps { A.Keeps answerer.old answerer.new }
     ensures ok { OnOk result (WritesAnswer (A.command.Answers (A.state answerer.old) line.now.text) (A.state answerer.new) (K.held sink.old) (K.held sink.new)) }

@@ -5,6 +5,7 @@ ghost use Rattle.xfs_script.specs.Lines.{line_end, without_return};
 ghost use Rattle.xfs_script.specs.Reading.{nothing_read, line_off, Grows, Drops, GivesBehind};
 ghost use Rattle.xfs_script.specs.Found.{IsFound, IsOpen, IsPassed, IsRefusal};
 ghost use Rattle.xfs_script.specs.Answer.{ReadsLine, IsAnswer, line_answer};
+ghost use Rattle.xfs_script.specs.declared.feed.TheConstants.{LONGEST, QUOTA};
 ghost use Rattle.xfs_script.specs.declared.line.LineFault.TheVariants as LineFault;
 
 use crate::line::{Line, LineFault};
@@ -16,11 +17,14 @@ use xfs_base::{Bytes, Failed, Source};
 /// How many bytes are asked of a source at once.
 const PIECE: usize = 65_536;
 
-/// The bytes of a line that are looked at: 70,000, and a carriage return that may be dropped.
-pub(crate) const LONGEST: usize = 70_001;
+/// The most bytes of a line, without its line feed and the carriage return that is dropped.
+pub const LONGEST_LINE: usize = 70_000;
 
 /// A command reads fewer bytes than these.
-pub(crate) const QUOTA: u64 = 67_108_864;
+pub const QUOTA: u64 = 67_108_864;
+
+// The bytes of a line that are looked at: those that it may have, and a carriage return that may be dropped.
+const LONGEST: usize = LONGEST_LINE + 1;
 
 /// The bytes read and not yet handed out, in one block of memory that is made once.
 #[derive(Drop)]
@@ -48,12 +52,13 @@ pub(crate) enum Found {
 impl Model for Feed {
     ghost use Rattle.std.specs.Prelude.{◌≡◌, ◌≢◌, ◌+◌, ◌-◌, ◌≤◌, take, drop, length};
     ghost use Rattle.xfs_script.specs.Reading.{Reading};
+    ghost use Rattle.xfs_script.specs.declared.feed.TheConstants.{QUOTA};
 
     ghost Value = { Reading };
 
     ghost view = { λ f. record { pending = take (f.end - f.start) (drop f.start f.block.items); given = f.given; handed = f.handed } };
 
-    ghost invariant = { λ f. (f.start ≤ f.end) × (f.end ≤ 135537) × (length f.block.items ≡ 135537) × (f.given ≤ 67108864) × (f.handed + (f.end - f.start) ≤ f.given) };
+    ghost invariant = { λ f. (f.start ≤ f.end) × (f.end ≤ 135537) × (length f.block.items ≡ 135537) × (f.given ≤ QUOTA) × (f.handed + (f.end - f.start) ≤ f.given) };
 }
 
 impl Feed {
@@ -84,20 +89,20 @@ impl Feed {
 
     pub(crate) fn given(&self) -> u64
         ensures is { result ≡ self.now.given }
-        ensures bound { result ≤ 67108864 }
+        ensures bound { result ≤ QUOTA }
     {
         self.given
     }
 
     /// Takes the next piece of the source in behind the bytes that are kept.
     pub(crate) fn fill<S: Source>(&mut self, source: &mut S) -> Result<usize, Failed>
-        requires short { length self.old.pending ≤ 70001 }
-        requires room { self.old.given < 67108864 }
+        requires short { length self.old.pending ≤ LONGEST }
+        requires room { self.old.given < QUOTA }
         ensures grown { Grows self.old self.new (S.left source.old) (S.left source.new) }
         ensures count { IfOk result (λ n. self.new.given ≡ self.old.given + n) }
         ensures end { result ≡ Ok 0 → IsAtEnd (S.left source.new) }
         ensures err { OnErr result (self.new.given ≡ self.old.given) }
-        ensures bound { self.new.given ≤ 67108864 }
+        ensures bound { self.new.given ≤ QUOTA }
         ensures cause { HasCause (S.faults source.old) (S.faults source.new) result }
     {
         move_to_front(&mut self.block, self.start, self.end);
@@ -115,7 +120,7 @@ impl Feed {
         ensures grown { Grows self.old self.new (S.left source.old) (S.left source.new) }
         ensures ok { IfOk result (IsFound self.new (S.left source.new)) }
         ensures err { OnErr result (IsOpen self.new) }
-        ensures bound { self.new.given ≤ 67108864 }
+        ensures bound { self.new.given ≤ QUOTA }
         ensures cause { HasCause (S.faults source.old) (S.faults source.new) result }
     {
         let mut searched = 0;
@@ -143,7 +148,7 @@ impl Feed {
         ensures drops { Drops self.old self.new (S.left source.old) (S.left source.new) }
         ensures ok { IfOk result (IsPassed self.new (S.left source.new)) }
         ensures err { OnErr result (IsOpen self.new) }
-        ensures bound { self.new.given ≤ 67108864 }
+        ensures bound { self.new.given ≤ QUOTA }
         ensures cause { HasCause (S.faults source.old) (S.faults source.new) result }
     {
         self.skip(self.len());
@@ -187,7 +192,7 @@ impl Feed {
     {
         let line = line_of(&self.bytes()[..end]);
         let number = self.handed + 1;
-        if line.len() > 70_000 {
+        if line.len() > LONGEST_LINE {
             return Err(LineFault::TooLong { number });
         }
         let Ok(text) = Vec::from_slice(alloc, line) else {
@@ -205,7 +210,7 @@ impl Feed {
     fn refuse_line<S: Source>(&mut self, source: &mut S) -> LineFault
         requires { IsOpen self.old }
         ensures drops { Drops self.old self.new (S.left source.old) (S.left source.new) }
-        ensures bound { self.new.given ≤ 67108864 }
+        ensures bound { self.new.given ≤ QUOTA }
         ensures is { IsRefusal self.old.handed self.new (S.left source.new) result }
         ensures later { S.faults source.old ≤ S.faults source.new }
         ensures cause { result ≡ LineFault.Read → Rose (S.faults source.old) (S.faults source.new) }

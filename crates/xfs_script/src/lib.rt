@@ -28,6 +28,7 @@ mod word;
 pub use answerer::{Answerer, Ending, Unanswered};
 pub use answering::answer_lines;
 pub use counts::counts_text;
+pub use feed::{LONGEST_LINE, QUOTA};
 pub use guard_line::{Given, GuardLine, ScriptFault, read_guard};
 pub use line::{Line, LineFault};
 pub use lines::Lines;
