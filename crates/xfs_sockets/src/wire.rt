@@ -13,6 +13,9 @@ use xfs_server::{GiveFault, Taking};
 // How many reads come back at once before one waits, while an answer is owed.
 const LOOKS: u32 = 16;
 
+// How many reads such a look makes, so that the board is not turned for each of them.
+const READS: u32 = 4;
+
 // How many frames answer a text: its acknowledge and its completion.
 const ANSWERS: u32 = 2;
 
@@ -57,8 +60,7 @@ impl<R: RandomSource + Drop> Wire<R> {
         if self.prepare_read().is_err() {
             return Taking::Failed;
         }
-        let answer = self.socket.read();
-        match found(alloc, answer) {
+        match self.look(alloc) {
             Heard::Text(text) => {
                 self.owed = self.owed.saturating_add(ANSWERS);
                 self.looks = 0;
@@ -73,6 +75,20 @@ impl<R: RandomSource + Drop> Wire<R> {
             Heard::Failed => Taking::Failed,
             Heard::Memory => Taking::Memory,
         }
+    }
+
+    // What a read finds. One that comes back at once is made again a few times where it found nothing.
+    fn look(&mut self, alloc: Global) -> Heard {
+        let reads = if self.waits { 1 } else { READS };
+        for _ in 1..reads {
+            let answer = self.socket.read();
+            match found(alloc, answer) {
+                Heard::Nothing => {}
+                heard => return heard,
+            }
+        }
+        let answer = self.socket.read();
+        found(alloc, answer)
     }
 
     pub fn give(&mut self, alloc: Global, text: &[u8]) -> Result<(), GiveFault> {
