@@ -9,7 +9,6 @@ use Rattle.xfs_base.specs.declared.counts.Counts.{Counts as CountsOf}
 use Rattle.xfs_mech.specs.Mechanism.{CanLoad}
 use Rattle.xfs_mech.specs.declared.motion.Motion.TheVariants.{Loaded}
 use Rattle.xfs_mech.specs.declared.motion.Outcome.{Outcome}
-use Rattle.xfs_mix.specs.declared.asked.CountFault.TheVariants.{Empty, TooMany, Short as ShortCount}
 use Rattle.xfs_journal.specs.declared.record.Rec.TheVariants.{Clear}
 use Rattle.xfs_token.specs.Amounts.{IsMade}
 use Rattle.xfs_guard.specs.Fits.{unfit}
@@ -25,46 +24,43 @@ use Rattle.xfs_script.specs.declared.guard_line.GuardLine.TheVariants.{Skip, Iss
 use Rattle.xfs_script.specs.declared.guard_line.GuardLine.TheVariants as Verb
 use Rattle.xfs_script.specs.Answered.{lines_text, Tells}
 use Rattle.xfs_cli.specs.Begun.{AllOrNothing, IsBegun, IsPartDispensed, IsPartFilled, LeavesOfVerb, StacksFirst}
-use Rattle.xfs_cli.specs.DispenseAnswers.{Dispenses, IsPermitted}
+use Rattle.xfs_cli.specs.DispenseAnswers.{Dispenses, IsAllowed}
 use Rattle.xfs_cli.specs.OrderAnswers.{CarriesOut, MechCalled, Stacks, nothing_stacked, with_stacked}
 use Rattle.xfs_cli.specs.Refused.{refusal_text}
 use Rattle.xfs_cli.specs.Seen.{Seen, seen}
 use Rattle.xfs_cli.specs.VerbAnswers.{AreAnswer, Clears, Fills, IsAnswer, IsLoaded, Mints}
-use Rattle.xfs_cli.specs.declared.refused.Refusal.{Refusal}
-use Rattle.xfs_cli.specs.declared.refused.Refusal.TheVariants.{NoToken, NoUnit, StorageFull, Counts, Deny as Denied}
+use Rattle.xfs_dispenser.specs.declared.leave.Leave.{Leave}
+use Rattle.xfs_dispenser.specs.declared.refusal.Refusal.{Refusal}
+use Rattle.xfs_dispenser.specs.declared.refusal.Refusal.TheVariants.{Deny as Denied}
 use Rattle.xfs_cli.proofs.SeenLaws.{err-same, seen-same, told-some, wrote-kept, stacks-unit, stacks-zero, some-within}
 
 pub on-err : {T E : Type 0} (result : Result T E) (P : Type 0) → P → OnErr result P
 on-err (Ok x) P p = tt
 on-err (Err e) P p = p
 
--- want of memory alone has no text
-no-text : (r : Refusal) → refusal_text r ≡ None → r ≡ Denied Memory
-no-text (Denied Memory) e = refl
-no-text (Denied deny) e = cc
-no-text (Counts Empty) e = cc
-no-text (Counts TooMany) e = cc
-no-text (Counts (ShortCount unit)) e = cc
-no-text NoToken e = cc
-no-text NoUnit e = cc
-no-text StorageFull e = cc
+-- a refusal of the guard has no text where it is want of memory, and only there
+no-text : (deny : Deny) → refusal_text (Denied deny) ≡ None → deny ≡ Memory
+no-text Memory e = refl
+no-text deny e = cc
 
-pub has-text : (r : Refusal) → (r ≡ Denied Memory) ⊎ ((line : List ℕ) × (refusal_text r ≡ Some line))
-has-text r = go (refusal_text r) refl
+pub denied-text : (deny : Deny) → (deny ≡ Memory) ⊎ ((line : List ℕ) × (refusal_text (Denied deny) ≡ Some line))
+denied-text deny = go (refusal_text (Denied deny)) refl
   where
-    go : (text : Option (List ℕ)) → refusal_text r ≡ text → (r ≡ Denied Memory) ⊎ ((line : List ℕ) × (refusal_text r ≡ Some line))
-    go None e = inl (no-text r e)
+    go : (text : Option (List ℕ)) → refusal_text (Denied deny) ≡ text → (deny ≡ Memory) ⊎ ((line : List ℕ) × (refusal_text (Denied deny) ≡ Some line))
+    go None e = inl (no-text deny e)
     go (Some line) e = inr (line, e)
 
--- a refusal that is want of memory changed nothing, and another one has a line
-pub refused-or-nothing : (Answer : List ℕ → Seen → Type 0) (s end : Seen) (r : Refusal) → (r ≡ Denied Memory → end ≡ s) → ((line : List ℕ) → refusal_text r ≡ Some line → Answer line end) → AllOrNothing Answer s end
-refused-or-nothing Answer s end r same told = elim (has-text r) [
-  | inl is ↦ inl (same is)
-  | inr text ↦ inr (text.0, told text.0 text.1)
-]
+-- a refusal without a text isn't the disk's
+not-disk-told : (r : Refusal) → refusal_text r ≡ None → r ≢ Denied Disk
+not-disk-told r none is = (let e : None ≡ refusal_text (Denied Disk) = sym none ∙ ap refusal_text is in cc)
 
-pub denied-same : {a b : Deny} → Denied a ≡ Denied b → a ≡ b
-denied-same e = cc
+-- a refusal that isn't the disk's changed nothing, and one with a text has its line
+pub refused-or-nothing : (Answer : List ℕ → Seen → Type 0) (s end : Seen) (r : Refusal) → (r ≢ Denied Disk → end ≡ s) → ((line : List ℕ) → refusal_text r ≡ Some line → Answer line end) → AllOrNothing Answer s end
+refused-or-nothing Answer s end r same told = go (refusal_text r) refl
+  where
+    go : (text : Option (List ℕ)) → refusal_text r ≡ text → AllOrNothing Answer s end
+    go None e = inl (same (not-disk-told r e))
+    go (Some line) e = inr (line, told line e)
 
 pub not-disk : (deny : Deny) → deny ≡ Memory → deny ≢ Disk
 not-disk deny memory disk = clash (sym memory ∙ disk)
@@ -76,7 +72,7 @@ not-disk deny memory disk = clash (sym memory ∙ disk)
 pub denied-or-nothing : {D : Type 0} (faults : D → ℕ) (old new : GuardView D) (last : Option (List ℕ)) (Answer : List ℕ → Seen → Type 0) (deny : Deny)
     → (deny ≢ Disk → new ≡ old) → ((line : List ℕ) → refusal_text (Denied deny) ≡ Some line → Answer line (seen faults new last)) → AllOrNothing Answer (seen faults old last) (seen faults new last)
 denied-or-nothing faults old new last Answer deny same told =
-    refused-or-nothing Answer (seen faults old last) (seen faults new last) (Denied deny) (λ is. seen-same faults old new last (same (not-disk deny (denied-same is)))) told
+    refused-or-nothing Answer (seen faults old last) (seen faults new last) (Denied deny) (λ other. seen-same faults old new last (same (λ is. other (ap (λ d. Denied d) is)))) told
 
 pub verb-leaves : (s end : Seen) (verb given : GuardLine) → given ≡ verb → LeavesOfVerb s verb end → LeavesOfVerb s given end
 verb-leaves s end verb given is leaves = rw is leaves
@@ -149,22 +145,19 @@ pub deny-memory : {T : Type 0} (result : Result T Deny) (deny : Deny) → IsErrA
 deny-memory (Ok x) deny err is = absurd err
 deny-memory (Err e) deny err is = sym err ∙ err-same is
 
-pub not-denied-disk : (r : Refusal) → r ≡ Denied Memory → r ≢ Denied Disk
-not-denied-disk r memory disk = not-disk Memory refl (denied-same (sym memory ∙ disk))
-
 -- the orders of a dispense end in a refusal, which may be want of memory
-pub ordered-or-part : (s bound next : Seen) (token : Option (List ℕ)) (counts : CountsOf) (issue : ℕ) (deny : Deny) → IsPermitted s token counts issue bound
-    → (◌≡◌ {A = Result Outcome Deny} (Err deny) (Err Memory) → StacksFirst issue counts.0 bound next)
-    → (◌≢◌ {A = Result Outcome Deny} (Err deny) (Err Memory) → Stacks issue counts.0 0 nothing_stacked bound (Err deny) next)
+pub ordered-or-part : (s bound next : Seen) (token : Option (List ℕ)) (counts : CountsOf) (leave : Leave) (deny : Deny) → IsAllowed s token counts (Ok leave) bound
+    → (◌≡◌ {A = Result Outcome Deny} (Err deny) (Err Memory) → StacksFirst leave.issue leave.counts.0 bound next)
+    → (◌≢◌ {A = Result Outcome Deny} (Err deny) (Err Memory) → Stacks leave.issue leave.counts.0 0 nothing_stacked bound (Err deny) next)
     → AllOrNothing (Dispenses s token counts) s next ⊎ IsPartDispensed s token counts next
-ordered-or-part s bound next token counts issue deny permitted part stacked = elim (has-text (Denied deny)) [
-  | inl is ↦ inr (record { issue = issue; bound = bound; permitted = permitted; first = part (ap (λ d. Err d) (denied-same is)) })
+ordered-or-part s bound next token counts leave deny allowed part stacked = elim (denied-text deny) [
+  | inl is ↦ inr (record { leave = leave; bound = bound; allowed = allowed; first = part (ap (λ d. Err d) is) })
   | inr text ↦ inl (inr (
     text.0,
     inr (record {
-      issue = issue;
+      leave = leave;
       bound = bound;
-      permitted = permitted;
+      allowed = allowed;
       result = Err deny;
       stacked = stacked (λ e. told-some (Denied deny) text.0 text.1 (ap (λ d. Denied d) (err-same e)));
       told = text.1;

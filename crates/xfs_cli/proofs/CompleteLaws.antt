@@ -1,15 +1,15 @@
 -- A dispense that its token covers, and a present behind it, are done in full, where no count of faults rises.
-use Rattle.std.proofs.Common.{◌≡◌, ◌≤◌, ◌+◌, ◌-◌, ◌==◌, ℕ, zero, suc, Bool, true, false, List, [], ◌∷◌, ◌++◌, length, drop, get_or, None, Some, Ok, inl, inr, refl, sym, ◌∙◌, ap, arith, true≢false}
+use Rattle.std.proofs.Common.{◌≡◌, ◌≤◌, ◌+◌, ◌-◌, ◌==◌, ℕ, zero, suc, Bool, true, false, List, [], ◌∷◌, ◌++◌, length, drop, get_or, None, Some, Ok, Err, inl, inr, refl, sym, subst, ◌∙◌, ap, arith, true≢false}
 use Rattle.std.specs.Prelude.{◌&&◌, fold, replicate, nat_lt, not, sum, zip, codes, if◌then◌else◌}
 use Rattle.std.specs.List.{prefix_len}
 use Rattle.std.specs.Option.{option_map}
 use Rattle.std.specs.declared.option.Option.{Option}
+use Rattle.std.specs.declared.result.Result.{Result}
 use Rattle.std.proofs.lemmas.Bool.{le-ltb, ne_eqb}
 use Rattle.std.proofs.lemmas.List.{append-nil, get_or-drop, length-set}
 use Rattle.std.proofs.lemmas.List.Folds.{sum_by-zero}
 use Rattle.xfs_base.specs.Counts.{at}
 use Rattle.xfs_base.specs.declared.counts.Counts.{Counts as CountsOf}
-use Rattle.xfs_token.specs.declared.faults.TokenFault.{TokenFault}
 use Rattle.xfs_token.proofs.Whole.{one_token, no_fault}
 use Rattle.xfs_mix.specs.Asked.{count_fault, is_none}
 use Rattle.xfs_mix.specs.declared.asked.CountFault.TheVariants.{Empty, TooMany, Short as ShortCount}
@@ -19,10 +19,11 @@ use Rattle.xfs_guard.specs.View.{View}
 use Rattle.xfs_guard.specs.Fits.{unfit}
 use Rattle.xfs_guard.specs.Nonce.{live_nonce}
 use Rattle.xfs_guard.specs.Presented.{presented_in}
-use Rattle.xfs_guard.specs.Refusals.{TokenRefused, claim_refusal}
+use Rattle.xfs_guard.specs.Refusals.{TokenRefused, claim_refusal, over_budget}
 use Rattle.xfs_guard.specs.TokenDeny.{deny_of}
 use Rattle.xfs_guard.specs.declared.ask.Ask.TheVariants.{Present as AskPresent}
 use Rattle.xfs_guard.specs.declared.deny.Deny.{Deny}
+use Rattle.xfs_guard.specs.declared.deny.Deny.TheVariants.{Memory}
 use Rattle.xfs_guard.specs.declared.nonce.Nonce.{Nonce}
 use Rattle.xfs_guard.proofs.PresentedLaws.{presented_in-push}
 use Rattle.xfs_guard.proofs.SizeLaws.{size-longer}
@@ -32,14 +33,21 @@ use Rattle.xfs_script.specs.Dispense.{IsDispense}
 use Rattle.xfs_script.specs.declared.guard_line.Given.{Given}
 use Rattle.xfs_script.specs.declared.guard_line.GuardLine.TheVariants.{Dispense, Present}
 use Rattle.xfs_cli.specs.Refused.{refusal_text}
-use Rattle.xfs_cli.specs.Seen.{Seen}
+use Rattle.xfs_cli.specs.Seen.{Seen, guard_of}
 use Rattle.xfs_cli.specs.OrderAnswers.{Moves, Tells, nothing_stacked}
-use Rattle.xfs_cli.specs.DispenseAnswers.{Dispenses, IsForbidden, IsOrdered, IsPermitted, IsUnmoved, counts_refusal, named}
+use Rattle.xfs_cli.specs.DispenseAnswers.{Dispenses, IsAllowed, IsOrdered, named}
 use Rattle.xfs_cli.specs.GuardAnswers.{outcome_text}
 use Rattle.xfs_cli.specs.VerbAnswers.{AnswersGuard, AreAnswer}
 use Rattle.xfs_cli.specs.Complete.{AnswersInFull, CanDispense, CanPresent, IsBindable, IsCalm, IsCoveredBy, IsDispensed, IsGood, IsPresented, moved_line}
-use Rattle.xfs_cli.specs.declared.refused.Refusal.{Refusal}
-use Rattle.xfs_cli.specs.declared.refused.Refusal.TheVariants.{Deny as Denied}
+use Rattle.xfs_dispenser.specs.Checks.{Grant, LeaveChecks, Permits, TokenChecks, granted_unless, within_budget}
+use Rattle.xfs_dispenser.specs.Denominations.{FirstOf, given_unless}
+use Rattle.xfs_dispenser.specs.declared.leave.Leave.{Leave}
+use Rattle.xfs_dispenser.specs.declared.named.Named.TheVariants.{These}
+use Rattle.xfs_dispenser.specs.declared.notes.Notes.TheVariants.{Individual}
+use Rattle.xfs_dispenser.specs.declared.refusal.Refusal.{Refusal}
+use Rattle.xfs_dispenser.specs.declared.refusal.Refusal.TheVariants.{Deny as Denied}
+use Rattle.xfs_cli.proofs.DispenseLaws.{IsLet, is-let}
+use Rattle.xfs_cli.proofs.SeenLaws.{told-some}
 use Rattle.xfs_cli.proofs.CompleteOrders.{carries-full, present-places, calm-rest, IsGrown}
 use Rattle.xfs_cli.proofs.CompleteStacks.{stacks-full}
 use Rattle.xfs_guard.proofs.CoveredLaws.{IsAhead, IsOpenFor, budget-none, nonce-push, claim-none, same-amounts, can-fit, present-free}
@@ -98,13 +106,12 @@ fault-none v amounts counts c =
         → (if a then Some Empty else if not b then Some Empty else if c then Some TooMany else option_map (λ at. ShortCount (at + 1)) (if d then Some n else None)) ≡ None
     go a b c d n e f g h = rw (e, f, g, h) refl
 
-no-memory : (f : TokenFault) (deny : Deny) (line : List ℕ) → f ≡ TokenFault.Memory → deny ≡ deny_of f → refusal_text (Denied deny) ≡ Some line → ⊥
-no-memory f deny line e d told = let none = rw (d, e) at told in cc
-
 token-unrefused : (v : View) (bytes : List ℕ) (amounts : List (List ℕ × ℕ)) (deny : Deny) (line : List ℕ) → unfit v ≡ None → IsGood v bytes amounts → IsBindable v bytes
     → refusal_text (Denied deny) ≡ Some line → TokenRefused v bytes deny → ⊥
 token-unrefused v bytes amounts deny line fit g b told (inl e) = (let f : None ≡ Some deny = sym fit ∙ e in cc)
-token-unrefused v bytes amounts deny line fit g b told (inr (e, inl m)) = no-memory m.fault deny line (no_fault g.token bytes m.fault g.genuine.spelled m.is) m.denied told
+token-unrefused v bytes amounts deny line fit g b told (inr (e, inl m)) =
+    let is : deny ≡ Memory = m.denied ∙ ap deny_of (no_fault g.token bytes m.fault g.genuine.spelled m.is) in
+    told-some (Denied deny) line told (ap (λ d. Denied d) is)
 token-unrefused v bytes amounts deny line fit g b told (inr (e, inr r)) =
     let one = one_token r.token g.token bytes r.spelled g.genuine.spelled in
     let f : None ≡ Some deny = sym (ap (claim_refusal v bytes) one ∙ claim-none v bytes amounts g b) ∙ r.first in
@@ -113,39 +120,52 @@ token-unrefused v bytes amounts deny line fit g b told (inr (e, inr r)) =
 named-same : (token : Option (List ℕ)) (a b : List ℕ) → token ≡ Some a → token ≡ Some b → b ≡ a
 named-same token a b e f = (let g : Some a ≡ Some b = sym e ∙ f in cc)
 
-counts-none : (v : View) (amounts : List (List ℕ × ℕ)) (counts : CountsOf) → IsCoveredBy v amounts counts → counts_refusal v amounts counts ≡ None
-counts-none v amounts counts c = rw (fault-none v amounts counts c, budget-none v amounts counts c.enough) refl
+-- no check stands against it
+checks-passed : (v : View) (token : Option (List ℕ)) (bytes line : List ℕ) (counts : CountsOf) (refusal : Refusal) → token ≡ Some bytes → CanDispense v bytes counts → refusal_text refusal ≡ Some line
+    → LeaveChecks v (Individual (These counts)) token (Err refusal) → ⊥
+checks-passed v token bytes line counts refusal is c told checks =
+    by-token (subst (λ t. TokenChecks v (Individual (These counts)) t (Err refusal)) is (subst (λ o. FirstOf (option_map (λ d. Denied d) o) (TokenChecks v (Individual (These counts)) token) (Err refusal)) fit checks))
+  where
+    fit : unfit v ≡ None
+    fit = can-fit v bytes counts c
 
-unmoved-no : (v : View) (token : Option (List ℕ)) (bytes line : List ℕ) (counts : CountsOf) (refusal : Refusal) → token ≡ Some bytes → CanDispense v bytes counts
-    → refusal_text refusal ≡ Some line → IsUnmoved v token counts refusal → ⊥
-unmoved-no v token bytes line counts refusal is c told (inl e) =
-    let f : None ≡ Some refusal = sym (ap (option_map (λ d. Denied d)) (can-fit v bytes counts c)) ∙ e in
-    cc
-unmoved-no v token bytes line counts refusal is c told (inr (inl (fit, none, e))) = (let f : Some bytes ≡ None = sym is ∙ none in cc)
-unmoved-no v token bytes line counts refusal is c told (inr (inr (inl (fit, r)))) =
-    let same = named-same token bytes r.bytes is r.is_named in
-    token-unrefused v bytes c.amounts r.deny line fit c.good c.binding (rw r.is at told) (rw same at r.refused)
-unmoved-no v token bytes line counts refusal is c told (inr (inr (inr r))) =
-    let same = named-same token bytes r.bytes is r.admitted.is_named in
-    let amounts = same-amounts v bytes c.amounts r.amounts c.good (rw same at r.admitted.passes) in
-    let f : None ≡ Some refusal = sym (counts-none v c.amounts counts c.covered) ∙ (ap (λ a. counts_refusal v a counts) (sym amounts) ∙ r.refused) in
-    cc
+    same-err : {a b : Refusal} → ◌≡◌ {A = Result Grant Refusal} (Err a) (Err b) → a ≡ b
+    same-err e = cc
+
+    by-token : TokenChecks v (Individual (These counts)) (Some bytes) (Err refusal) → ⊥
+    by-token (inl r) = token-unrefused v bytes c.amounts r.deny line fit c.good c.binding (rw (same-err r.is) at told) r.refused
+    by-token (inr p) =
+        let amounts = same-amounts v bytes c.amounts p.amounts c.good p.passes in
+        let given : p.given ≡ Ok counts = p.gives ∙ ap (given_unless counts) (fault-none v c.amounts counts c.covered) in
+        let over : over_budget v p.amounts counts ≡ None = ap (λ a. over_budget v a counts) amounts ∙ budget-none v c.amounts counts c.covered.enough in
+        let all = p.is ∙ (ap (within_budget v bytes p.amounts) given ∙ ap (granted_unless (record { token = bytes; amounts = p.amounts; counts = counts })) over) in
+        cc
+
+-- nor does a disk that doesn't fail
+allowed-no : (s : Seen) (token : Option (List ℕ)) (bytes line : List ℕ) (counts : CountsOf) (refusal : Refusal) (next : Seen) → token ≡ Some bytes → CanDispense s.guard bytes counts → IsCalm s next
+    → refusal_text refusal ≡ Some line → IsAllowed s token counts (Err refusal) next → ⊥
+allowed-no s token bytes line counts refusal next is c calm told a = go a.leave.checked a.leave.checks a.leave.permits
+  where
+    go : (r : Result Grant Refusal) → LeaveChecks s.guard (Individual (These counts)) token r → Permits (guard_of s) r (Err refusal) (guard_of next) → ⊥
+    go (Err r) checks (e, same) = (let f : refusal ≡ r = cc in checks-passed s.guard token bytes line counts refusal is c told (subst (λ x. LeaveChecks s.guard (Individual (These counts)) token (Err x)) (sym f) checks))
+    go (Ok grant) checks (inl p) = (let e : ◌≡◌ {A = Result Leave Refusal} (Err refusal) (Ok (record { issue = p.issue; counts = grant.counts })) = p.is in cc)
+    go (Ok grant) checks (inr u) = calm.disk u.fails.cause
 
 -- the session whose token is bound
-permitted-open : (s : Seen) (token : Option (List ℕ)) (bytes : List ℕ) (counts : CountsOf) (issue : ℕ) (bound : Seen) (c : CanDispense s.guard bytes counts) → token ≡ Some bytes → IsPermitted s token counts issue bound
-    → IsOpenFor bound.guard issue c.amounts 8 × IsAhead bound.guard c.amounts counts.0 × (bound.guard.places ≡ s.guard.places)
-permitted-open s token bytes counts issue bound c is p = go c.binding
+allowed-open : (s : Seen) (token : Option (List ℕ)) (bytes : List ℕ) (counts : CountsOf) (leave : Leave) (bound : Seen) (c : CanDispense s.guard bytes counts) → token ≡ Some bytes → IsLet s token counts leave bound
+    → IsOpenFor bound.guard leave.issue c.amounts 8 × IsAhead bound.guard c.amounts counts.0 × (bound.guard.places ≡ s.guard.places)
+allowed-open s token bytes counts leave bound c is p = go c.binding
   where
     same : p.bytes ≡ bytes
-    same = named-same token bytes p.bytes is p.admitted.is_named
+    same = named-same token bytes p.bytes is p.is_named
 
     amounts : p.amounts ≡ c.amounts
-    amounts = same-amounts s.guard bytes c.amounts p.amounts c.good (rw same at p.admitted.passes)
+    amounts = same-amounts s.guard bytes c.amounts p.amounts c.good (rw same at p.passes)
 
     short : length bytes ≤ 1024
     short = c.good.genuine.spelled.short
 
-    go : IsBindable s.guard bytes → IsOpenFor bound.guard issue c.amounts 8 × IsAhead bound.guard c.amounts counts.0 × (bound.guard.places ≡ s.guard.places)
+    go : IsBindable s.guard bytes → IsOpenFor bound.guard leave.issue c.amounts 8 × IsAhead bound.guard c.amounts counts.0 × (bound.guard.places ≡ s.guard.places)
     go (inl b) =
         let now : bound.guard ≡ s.guard = p.binds.again (λ none. let e : Some bytes ≡ None = sym b ∙ none in cc) in
         rw now (
@@ -188,12 +208,13 @@ told-all outcome counts fine moved = rw (fine, moved) refl
 ordered-full : (s next : Seen) (token : Option (List ℕ)) (bytes line : List ℕ) (counts : CountsOf) → length counts.0 ≡ 8 → token ≡ Some bytes → CanDispense s.guard bytes counts → IsCalm s next
     → IsOrdered s token counts line next → IsDispensed s counts (line ∷ []) next
 ordered-full s next token bytes line counts eight is c calm o =
-    let ready = permitted-open s token bytes counts o.issue o.bound c is o.permitted in
+    let ready = allowed-open s token bytes counts o.leave o.bound c is l in
     let calm-on = calm-rest s o.bound next (bound-grown c.binding) calm in
-    let all = stacks-full o.issue c.amounts counts.0 0 [] nothing_stacked o.bound o.result next refl (omega (arith, eight)) refl (rw eight refl)
-    (rw eight ready.0) ready.1 calm-on o.stacked in
+    let stacked = rw l.counts_are at o.stacked in
+    let all = stacks-full o.leave.issue c.amounts counts.0 0 [] nothing_stacked o.bound o.result next refl (omega (arith, eight)) refl (rw eight refl)
+    (rw eight ready.0) ready.1 calm-on stacked in
     let told : Tells (codes "moved") (Ok all.outcome) line = rw all.is at o.told in
-    let lives = some-nonce (live_nonce next.guard.records) o.issue all.open_for.lives in
+    let lives = some-nonce (live_nonce next.guard.records) o.leave.issue all.open_for.lives in
     let gained : (u : ℕ) → at next.guard.places.transport u ≡ at s.guard.places.transport u + at counts u = (λ u. rw ready.2 at (all.transport u)) in
     record {
       text = ap (λ l. l ∷ []) (told ∙ told-all all.outcome counts all.fine all.moved);
@@ -211,24 +232,23 @@ ordered-full s next token bytes line counts eight is c calm o =
       };
     }
   where
+    l : IsLet s token counts o.leave o.bound
+    l = is-let s token counts o.leave o.bound o.allowed
+
     bound-grown : IsBindable s.guard bytes → IsGrown s o.bound
     bound-grown (inl b) =
-        let now : o.bound.guard ≡ s.guard = o.permitted.binds.again (λ none. let e : Some bytes ≡ None = sym b ∙ none in cc) in
+        let now : o.bound.guard ≡ s.guard = l.binds.again (λ none. let e : Some bytes ≡ None = sym b ∙ none in cc) in
         let faults : o.bound.guard.faults ≡ s.guard.faults = ap (λ (v : View). v.faults) now in
-        record { mech = omega (arith, faults); disk = o.permitted.later; more = []; grown = ap (λ (v : View). v.records) now ∙ sym (append-nil s.guard.records) }
+        record { mech = omega (arith, faults); disk = l.later; more = []; grown = ap (λ (v : View). v.records) now ∙ sym (append-nil s.guard.records) }
     bound-grown (inr f) =
-        let now = o.permitted.binds.first f.none in
+        let now = l.binds.first f.none in
         let faults : o.bound.guard.faults ≡ s.guard.faults = ap (λ (v : View). v.faults) now in
-        record { mech = omega (arith, faults); disk = o.permitted.later; more = Bind o.permitted.bytes ∷ []; grown = ap (λ (v : View). v.records) now }
+        record { mech = omega (arith, faults); disk = l.later; more = Bind l.bytes ∷ []; grown = ap (λ (v : View). v.records) now }
 
 dispenses-full : (s next : Seen) (token : Option (List ℕ)) (bytes line : List ℕ) (counts : CountsOf) → length counts.0 ≡ 8 → token ≡ Some bytes → CanDispense s.guard bytes counts → IsCalm s next
     → Dispenses s token counts line next → IsDispensed s counts (line ∷ []) next
 dispenses-full s next token bytes line counts eight is c calm (inr o) = ordered-full s next token bytes line counts eight is c calm o
-dispenses-full s next token bytes line counts eight is c calm (inl r) = absurd (never r.forbidden)
-  where
-    never : IsForbidden s token counts r.refusal next → ⊥
-    never (inl (u, same)) = unmoved-no s.guard token bytes line counts r.refusal is c r.text u
-    never (inr (e, u)) = calm.disk u.fails.cause
+dispenses-full s next token bytes line counts eight is c calm (inl r) = absurd (allowed-no s token bytes line counts r.refusal next is c calm r.text r.refused)
 
 presents-full : (s next : Seen) (line : List ℕ) → CanPresent s.guard → IsCalm s next → Moves s AskPresent line next → IsPresented s (line ∷ []) next
 presents-full s next line c calm m =

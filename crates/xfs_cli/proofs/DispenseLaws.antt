@@ -1,71 +1,104 @@
--- What the checks of a dispense say of its answer.
-use Rattle.std.proofs.Common.{◌≡◌, ◌≢◌, ◌≤◌, ℕ, List, None, Some, Ok, Err, inl, inr, refl, sym, ◌∙◌, ap}
-use Rattle.std.specs.Prelude.{IfErr, IsErrAnd, IsTrue, drop, length}
+-- What the leave to stack notes says of a dispense.
+use Rattle.std.proofs.Common.{◌≡◌, ◌≤◌, ℕ, List, None, Some, Ok, Err, inl, inr, refl, sym, ◌∙◌, ap}
+use Rattle.std.specs.Prelude.{IsTrue, drop, length}
 use Rattle.std.specs.Option.{option_map}
 use Rattle.std.specs.declared.option.Option.{Option}
 use Rattle.std.specs.declared.result.Result.{Result}
-use Rattle.xfs_base.specs.Causes.{Rose}
 use Rattle.xfs_base.specs.declared.counts.Counts.{Counts as CountsOf}
-use Rattle.xfs_base.specs.declared.counts.Places.{Places}
-use Rattle.xfs_base.specs.declared.money.NoteKind.{NoteKind}
 use Rattle.xfs_mix.specs.Asked.{count_fault, is_none}
-use Rattle.xfs_journal.specs.declared.record.Rec.TheVariants.{Bind}
-use Rattle.xfs_guard.specs.View.{GuardView}
-use Rattle.xfs_guard.specs.LedgerView.{IsWriteFault}
-use Rattle.xfs_guard.specs.Refusals.{Answers, bound_token, over_budget}
-use Rattle.xfs_guard.specs.declared.claim.Permit.{Permit}
+use Rattle.xfs_mix.specs.declared.asked.CountFault.{CountFault}
+use Rattle.xfs_guard.specs.Fits.{unfit}
+use Rattle.xfs_guard.specs.Nonce.{live_nonce}
+use Rattle.xfs_guard.specs.Refusals.{Binds, Passes, over_budget}
+use Rattle.xfs_guard.specs.View.{View}
 use Rattle.xfs_guard.specs.declared.deny.Deny.{Deny}
-use Rattle.xfs_guard.specs.declared.deny.Deny.TheVariants.{Disk, Memory}
-use Rattle.xfs_cli.specs.Seen.{Seen, seen, shut_at}
-use Rattle.xfs_cli.specs.DispenseAnswers.{IsAdmitted, IsForbidden, IsPermitted}
-use Rattle.xfs_cli.specs.declared.refused.Refusal.{Refusal}
-use Rattle.xfs_cli.specs.declared.refused.Refusal.TheVariants.{Deny as Denied}
-use Rattle.xfs_cli.proofs.SeenLaws.{IsDiskFault, due-some, is_disk, seen-same, none-past, fits-counts, refused-budget, refused-none}
+use Rattle.xfs_guard.specs.declared.deny.Deny.TheVariants.{Disk}
+use Rattle.xfs_guard.specs.declared.nonce.Nonce.{Nonce}
+use Rattle.xfs_dispenser.specs.Checks.{Grant, LeaveChecks, Permits, TokenChecks, granted_unless, within_budget}
+use Rattle.xfs_dispenser.specs.Denominations.{FirstOf, given_unless}
+use Rattle.xfs_dispenser.specs.declared.leave.Leave.{Leave}
+use Rattle.xfs_dispenser.specs.declared.named.Named.TheVariants.{These}
+use Rattle.xfs_dispenser.specs.declared.notes.Notes.TheVariants.{Individual}
+use Rattle.xfs_dispenser.specs.declared.refusal.Refusal.{Refusal}
+use Rattle.xfs_dispenser.specs.declared.refusal.Refusal.TheVariants.{Deny as Denied}
+use Rattle.xfs_cli.specs.Seen.{Seen, guard_of}
+use Rattle.xfs_cli.specs.DispenseAnswers.{IsAllowed}
+use Rattle.xfs_cli.proofs.SeenLaws.{none-past}
 
--- the token that a line names, where it is found
-pub named-is : {R : Type 0} (now : R → List ℕ) (found : Option R) (x : R) (named : Option (List ℕ)) (bytes : List ℕ)
-    → option_map now found ≡ named → found ≡ Some x → bytes ≡ now x → named ≡ Some bytes
-named-is now found x named bytes e is same = sym e ∙ (ap (λ r. option_map now r) is ∙ ap (λ b. Some b) (sym same))
+-- counts that are given are those that were asked, and no fault
+given-all : (counts n : CountsOf) (fault : Option CountFault) → ◌≡◌ {A = Result CountsOf Refusal} (Ok n) (given_unless counts fault) → (fault ≡ None) × (n ≡ counts)
+given-all counts n None e = (refl, cc)
+given-all counts n (Some f) e = cc
 
--- counts that pass their check are no fault
-pub no-fault : (units kinds : List NoteKind) (places all : Places) (counts : CountsOf) → units ≡ kinds → places ≡ all → None ≡ count_fault units places.units counts → count_fault kinds all.units counts ≡ None
-no-fault units kinds places all counts u p e = let none : count_fault units places.units counts ≡ None = sym e in rw (u, p) at none
+granted-all : (grant all : Grant) (over : Option Deny) → Ok grant ≡ granted_unless all over → grant ≡ all
+granted-all grant all None e = cc
+granted-all grant all (Some d) e = cc
 
--- the guard doesn't allow the counts
-pub forbidden-err : {D : Type 0} (faults : D → ℕ) (old new : GuardView D) (last token : Option (List ℕ)) (counts : CountsOf) (bytes : List ℕ) (amounts : List (List ℕ × ℕ)) (result : Result Permit Refusal) (deny : Deny)
-    → IsErrAnd result (λ r. r ≡ Denied deny) → IsAdmitted old.state token bytes amounts → count_fault old.state.units old.state.places.units counts ≡ None
-    → Answers {T = Permit} (Err deny) (over_budget old.state amounts counts) → (IsWriteFault deny → bound_token old.state.records ≡ None)
-    → (IsDiskFault Permit deny → new.state ≡ shut_at (Bind bytes) old.state) → faults old.disk ≤ faults new.disk
-    → (IsDiskFault Permit deny → Rose (faults old.disk) (faults new.disk)) → (deny ≢ Disk → new ≡ old)
-    → IfErr result (λ r. r ≢ Denied Memory → IsForbidden (seen faults old last) token counts r (seen faults new last))
-forbidden-err faults old new last token counts bytes amounts (Ok p) deny err admitted fine answers unbound disk later cause same = absurd err
-forbidden-err faults old new last token counts bytes amounts (Err r) deny err admitted fine answers unbound disk later cause same = λ some.
-    let here : IsForbidden (seen faults old last) token counts (Denied deny) (seen faults new last) = elim (is_disk deny) [
-      | inl is ↦ inr (
-        ap (λ d. Denied d) is,
+-- counts within the budget were given
+within-given : (v : View) (bytes : List ℕ) (amounts : List (List ℕ × ℕ)) (given : Result CountsOf Refusal) (grant : Grant) → Ok grant ≡ within_budget v bytes amounts given
+    → (n : CountsOf) × (given ≡ Ok n) × (grant ≡ record { token = bytes; amounts = amounts; counts = n })
+within-given v bytes amounts (Err r) grant e = cc
+within-given v bytes amounts (Ok n) grant e = (n, refl, granted-all grant (record { token = bytes; amounts = amounts; counts = n }) (over_budget v amounts n) e)
+
+-- a named token passed, and the counts are no fault
+record IsChecked (v : View) (token : Option (List ℕ)) (counts : CountsOf) (grant : Grant) : Type 0 where
+  is_named : token ≡ Some grant.token
+  passes : Passes v grant.token grant.amounts
+  fine : count_fault v.units v.places.units counts ≡ None
+  counts_are : grant.counts ≡ counts
+
+checked-all : (v : View) (token : Option (List ℕ)) (counts : CountsOf) (grant : Grant) → LeaveChecks v (Individual (These counts)) token (Ok grant) → IsChecked v token counts grant
+checked-all v token counts grant checks = fit (unfit v) checks
+  where
+    by-token : (t : Option (List ℕ)) → TokenChecks v (Individual (These counts)) t (Ok grant) → IsChecked v t counts grant
+    by-token None e = cc
+    by-token (Some bytes) (inl r) = (let e : Ok grant ≡ Err (Denied r.deny) = r.is in cc)
+    by-token (Some bytes) (inr p) =
+        let w = within-given v bytes p.amounts p.given grant p.is in
+        let all = given-all counts w.0 (count_fault v.units v.places.units counts) (sym w.1 ∙ p.gives) in
+        rw w.2 (record { is_named = refl; passes = p.passes; fine = all.0; counts_are = all.1 })
+
+    fit : (o : Option Deny) → FirstOf (option_map (λ d. Denied d) o) (TokenChecks v (Individual (These counts)) token) (Ok grant) → IsChecked v token counts grant
+    fit None c = by-token token c
+    fit (Some d) e = cc
+
+-- a dispense that is allowed: its token passed and is bound, its counts are no fault, and it is for the nonce that lives
+pub record IsLet (s : Seen) (token : Option (List ℕ)) (counts : CountsOf) (leave : Leave) (next : Seen) : Type 0 where
+  pub bytes : List ℕ
+  pub amounts : List (List ℕ × ℕ)
+  pub is_named : token ≡ Some bytes
+  pub passes : Passes s.guard bytes amounts
+  pub fine : count_fault s.guard.units s.guard.places.units counts ≡ None
+  pub counts_are : leave.counts ≡ counts
+  pub lives : option_map (λ (n : Nonce). n.number) (live_nonce s.guard.records) ≡ Some leave.issue
+  pub binds : Binds s.guard next.guard bytes amounts
+  pub later : s.disk_faults ≤ next.disk_faults
+
+ok-leave : {a b : Leave} → ◌≡◌ {A = Result Leave Refusal} (Ok a) (Ok b) → a ≡ b
+ok-leave e = cc
+
+pub is-let : (s : Seen) (token : Option (List ℕ)) (counts : CountsOf) (leave : Leave) (next : Seen) → IsAllowed s token counts (Ok leave) next → IsLet s token counts leave next
+is-let s token counts leave next a = go a.leave.checked a.leave.checks a.leave.permits
+  where
+    go : (c : Result Grant Refusal) → LeaveChecks s.guard (Individual (These counts)) token c → Permits (guard_of s) c (Ok leave) (guard_of next) → IsLet s token counts leave next
+    go (Err r) checks p = (let e : Ok leave ≡ Err r = p.0 in cc)
+    go (Ok grant) checks (inr u) = (let e : Ok leave ≡ Err (Denied Disk) = u.is in cc)
+    go (Ok grant) checks (inl p) =
+        let c = checked-all s.guard token counts grant checks in
+        let same = ok-leave p.is in
         record {
-          bytes = bytes;
-          amounts = amounts;
-          admitted = admitted;
-          fits = refused-none (count_fault old.state.units old.state.places.units counts) (over_budget old.state amounts counts) fine (rw is at answers);
-          first = unbound (inr is);
-          fails = record { becomes = record { guard_is = disk (ap (λ e. Err e) is); later = later; last_is = refl }; cause = cause (ap (λ e. Err e) is) };
-        },
-      )
-      | inr other ↦ inl (
-        inr (inr (inr (record {
-          bytes = bytes;
-          amounts = amounts;
-          admitted = admitted;
-          refused = refused-budget (count_fault old.state.units old.state.places.units counts) (over_budget old.state amounts counts) deny fine
-              (due-some Permit deny (over_budget old.state amounts counts) answers other (λ m. some (err ∙ ap (λ d. Denied d) m)));
-        }))),
-        seen-same faults old new last (same other),
-      )
-    ] in
-    rw err here
+          bytes = grant.token;
+          amounts = grant.amounts;
+          is_named = c.is_named;
+          passes = c.passes;
+          fine = c.fine;
+          counts_are = ap (λ (l : Leave). l.counts) same ∙ c.counts_are;
+          lives = p.lives ∙ ap (λ (l : Leave). Some l.issue) (sym same);
+          binds = p.binds;
+          later = p.later;
+        }
 
--- permitted counts are 0 past the table
-pub few-permitted : (s : Seen) (token : Option (List ℕ)) (counts : CountsOf) (issue : ℕ) (next : Seen) → IsPermitted s token counts issue next → IsTrue (is_none (drop (length s.guard.units) counts.0))
-few-permitted s token counts issue next p =
-    none-past s.guard.units s.guard.places.units counts (fits-counts (count_fault s.guard.units s.guard.places.units counts) (over_budget s.guard p.amounts counts) p.fits)
+-- its counts are 0 past the table
+pub few-allowed : (s : Seen) (token : Option (List ℕ)) (counts : CountsOf) (leave : Leave) (next : Seen) → IsAllowed s token counts (Ok leave) next → IsTrue (is_none (drop (length s.guard.units) leave.counts.0))
+few-allowed s token counts leave next a =
+    let l = is-let s token counts leave next a in rw l.counts_are (none-past s.guard.units s.guard.places.units counts l.fine)

@@ -3,7 +3,7 @@ use Rattle.std.proofs.Common.{◌≡◌, ◌≢◌, ◌≤◌, ◌<◌, ◌+◌,
 use Rattle.std.specs.List.{list_all}
 use Rattle.std.proofs.lemmas.Bool.{ne_eqb, cases_lt}
 use Rattle.std.specs.Prelude.{IsErrAnd, ◌==◌, ◌&&◌, codes, IsTrue, not, nat_lt, sum, slice_index, if◌then◌else◌}
-use Rattle.std.specs.Option.{option_map, option_or}
+use Rattle.std.specs.Option.{option_map}
 use Rattle.std.proofs.lemmas.List.{drop_more, drop_all, get_or_past}
 use Rattle.std.specs.declared.option.Option.{Option}
 use Rattle.std.specs.declared.result.Result.{Result}
@@ -12,7 +12,6 @@ use Rattle.xfs_base.specs.declared.counts.Counts.{Counts}
 use Rattle.xfs_base.specs.declared.money.NoteKind.{NoteKind}
 use Rattle.xfs_mech.specs.declared.motion.Outcome.{Outcome}
 use Rattle.xfs_mix.specs.Asked.{count_fault, is_none, first_short}
-use Rattle.xfs_mix.specs.declared.asked.CountFault.{CountFault}
 use Rattle.xfs_mix.specs.declared.asked.CountFault.TheVariants.{Empty, TooMany, Short}
 use Rattle.xfs_guard.specs.declared.ask.Ask.{Ask}
 use Rattle.xfs_guard.specs.declared.ask.Ask.TheVariants.{Stack}
@@ -46,8 +45,8 @@ use Rattle.xfs_cli.specs.Seen.{Seen, IsLater, IsStill, seen, shut_at}
 use Rattle.xfs_cli.specs.LineAnswers.{WritesOne, WritesNone}
 use Rattle.xfs_cli.specs.OrderAnswers.{CarriesOut, IsStopped, Stacks, refusal_of, order_of, with_stacked}
 use Rattle.xfs_cli.specs.VerbAnswers.{Issues, Clears, next_record}
-use Rattle.xfs_cli.specs.declared.refused.Refusal.{Refusal}
-use Rattle.xfs_cli.specs.declared.refused.Refusal.TheVariants.{Counts as CountsFault, Deny as Denied}
+use Rattle.xfs_dispenser.specs.declared.refusal.Refusal.{Refusal}
+use Rattle.xfs_dispenser.specs.declared.refusal.Refusal.TheVariants.{Deny as Denied, Memory as Unremembered}
 
 -- a refusal with a text, which isn't the disk's, is the one that is due
 pub due : (T : Type 0) (deny : Deny) (refusal : Option Deny) (line : List ℕ) → Answers {T = T} (Err deny) refusal → deny ≢ Disk → refusal_text (Denied deny) ≡ Some line → refusal ≡ Some deny
@@ -63,10 +62,10 @@ due-some T deny refusal answers other some = answers
 
 -- a refusal with a text isn't want of memory
 pub told-some : (refusal : Refusal) (line : List ℕ) → refusal_text refusal ≡ Some line → refusal ≢ Denied Memory
-told-some refusal line text is = none (rw is at text)
-  where
-    none : None ≡ Some line → ⊥
-    none e = cc
+told-some refusal line text is = (let e : None ≡ Some line = sym (ap refusal_text is) ∙ text in cc)
+
+pub told-kept : (refusal : Refusal) (line : List ℕ) → refusal_text refusal ≡ Some line → refusal ≢ Unremembered
+told-kept refusal line text is = (let e : None ≡ Some line = sym (ap refusal_text is) ∙ text in cc)
 
 -- whether a refusal is the disk's
 pub is_disk : (deny : Deny) → (deny ≡ Disk) ⊎ (deny ≢ Disk)
@@ -271,20 +270,6 @@ none-past units have counts fine = go (is_none counts.0) (is_none (drop (length 
     go true b e = cc
     go false true e = refl
     go false false e = cc
-
--- the parts of a refusal for counts
-pub fits-counts : (a : Option CountFault) (b : Option Deny) → option_or (option_map CountsFault a) (option_map Denied b) ≡ None → a ≡ None
-fits-counts None b e = refl
-fits-counts (Some f) b e = cc
-
-pub refused-counts : (a : Option CountFault) (b : Option Deny) (f : CountFault) → Some f ≡ a → option_or (option_map CountsFault a) (option_map Denied b) ≡ Some (CountsFault f)
-refused-counts a b f e = rw (← e) refl
-
-pub refused-budget : (a : Option CountFault) (b : Option Deny) (d : Deny) → a ≡ None → b ≡ Some d → option_or (option_map CountsFault a) (option_map Denied b) ≡ Some (Denied d)
-refused-budget a b d e f = rw (e, f) refl
-
-pub refused-none : (a : Option CountFault) (b : Option Deny) → a ≡ None → b ≡ None → option_or (option_map CountsFault a) (option_map Denied b) ≡ None
-refused-none a b e f = rw (e, f) refl
 
 err-fault : {T : Type 0} {a b : AnswerFault} → ◌≡◌ {A = Result T AnswerFault} (Err a) (Err b) → a ≡ b
 err-fault e = cc

@@ -7,12 +7,13 @@ use Rattle.xfs_mech.specs.declared.motion.Motion.TheVariants.{Loaded}
 use Rattle.xfs_mech.specs.declared.motion.Outcome.{Outcome}
 use Rattle.xfs_guard.specs.Fits.{unfit}
 use Rattle.xfs_guard.specs.Reports.{HasReported}
+use Rattle.xfs_dispenser.specs.declared.leave.Leave.{Leave}
 use Rattle.xfs_script.specs.Guard.{IsGuardLine}
 use Rattle.xfs_script.specs.declared.guard_line.GuardLine.{GuardLine}
 use Rattle.xfs_script.specs.declared.guard_line.GuardLine.TheVariants.{Dispense, Fill, Restart}
 use Rattle.xfs_cli.specs.Seen.{Seen, Becomes}
 use Rattle.xfs_cli.specs.OrderAnswers.{MechCalled, Stacks, nothing_stacked}
-use Rattle.xfs_cli.specs.DispenseAnswers.{IsPermitted, named}
+use Rattle.xfs_cli.specs.DispenseAnswers.{IsAllowed, named}
 use Rattle.xfs_cli.specs.VerbAnswers.{AnswersGuard, IsAnswer}
 use Rattle.xfs_script.specs.declared.feed.TheConstants.{LONGEST_LINE}
 
@@ -27,12 +28,12 @@ pub record StacksFirst (issue : ℕ) (counts : List ℕ) (s end : Seen) : Type 0
   pub stacked : Stacks issue (take units counts) 0 nothing_stacked s (Ok outcome) end
   pub fine : outcome.failed ≡ false
 
--- a dispense was permitted, and the orders of its first units were carried out
+-- a dispense was allowed, and the orders of its first units were carried out
 pub record IsPartDispensed (s : Seen) (token : Option (List ℕ)) (counts : CountsOf) (end : Seen) : Type 0 where
-  pub issue : ℕ
+  pub leave : Leave
   pub bound : Seen
-  pub permitted : IsPermitted s token counts issue bound
-  pub first : StacksFirst issue counts.0 bound end
+  pub allowed : IsAllowed s token counts (Ok leave) bound
+  pub first : StacksFirst leave.issue leave.counts.0 bound end
 
 -- the notes of a `fill` were loaded, and nothing was written down of it
 pub record IsPartFilled (s : Seen) (unit count : ℕ) (end : Seen) : Type 0 where

@@ -7,8 +7,8 @@ use Rattle.xfs_guard.specs.declared.deny.Deny.{Deny}
 use Rattle.xfs_guard.specs.declared.deny.Deny.TheVariants.{Disk}
 use Rattle.xfs_cli.specs.Refused.{refusal_text}
 use Rattle.xfs_cli.specs.Seen.{Seen, Becomes, Fails, shut_at}
-use Rattle.xfs_cli.specs.declared.refused.Refusal.{Refusal}
-use Rattle.xfs_cli.specs.declared.refused.Refusal.TheVariants.{Deny as Denied}
+use Rattle.xfs_dispenser.specs.declared.refusal.Refusal.{Refusal}
+use Rattle.xfs_dispenser.specs.declared.refusal.Refusal.TheVariants.{Deny as Denied}
 
 -- the line is this refusal's, and nothing changes
 pub record IsRefused (s : Seen) (refusal : Refusal) (line : List ℕ) (next : Seen) : Type 0 where

@@ -20,7 +20,7 @@ use Rattle.xfs_guard.specs.declared.open.Open.TheVariants.{Written}
 use Rattle.xfs_cli.specs.GuardAnswers.{outcome_text}
 use Rattle.xfs_cli.specs.Refused.{refusal_text}
 use Rattle.xfs_cli.specs.Seen.{Seen, Becomes, Fails, shut_at}
-use Rattle.xfs_cli.specs.declared.refused.Refusal.TheVariants.{Deny as Denied}
+use Rattle.xfs_dispenser.specs.declared.refusal.Refusal.TheVariants.{Deny as Denied}
 
 -- what an order is refused for
 abbrev pub refusal_of : View → Ask → Option Deny

@@ -1,45 +1,18 @@
 -- What a refused line of `guard` is answered: `refused`, the completion code or the error of a command, and the number that tells the cause.
 use Rattle.std.specs.Prelude.{ℕ, List, [], ◌++◌, codes, decimal, Some, None}
 use Rattle.std.specs.declared.option.Option.{Option}
-use Rattle.std.specs.Option.{option_map}
+use Rattle.std.specs.Option.{option_and_then, option_map, option_map_or}
+use Rattle.serde_json.specs.Find.{as_str}
+use Rattle.xfs_json.specs.Members.{member_of}
 use Rattle.xfs_envelope.specs.Codes.{code_text}
-use Rattle.xfs_envelope.specs.declared.code.Code.TheVariants as Code
-use Rattle.xfs_guard.specs.declared.deny.Deny.{Deny}
-use Rattle.xfs_guard.specs.declared.deny.Deny.TheVariants.{Shut, Full, TooLong, KeyNoValue, Format, NoNonce, WrongNonce, WrongMac, NoAmounts, OtherBound, NotEmpty, OverBudget, Unbound, Nothing, OutletFull, Short, Disk, Memory}
-use Rattle.xfs_mix.specs.declared.asked.CountFault.TheVariants.{Empty, TooMany, Short as ShortCount}
-use Rattle.xfs_cli.specs.declared.refused.Refusal.{Refusal}
-use Rattle.xfs_cli.specs.declared.refused.Refusal.TheVariants.{NoToken, NoUnit, StorageFull, Counts, Deny as Denied}
+use Rattle.xfs_guard.specs.declared.deny.Deny.TheVariants.{NoNonce, WrongNonce, OtherBound, OverBudget}
+use Rattle.xfs_dispenser.specs.Answers.{Answer, answer_of}
+use Rattle.xfs_dispenser.specs.declared.refusal.Refusal.{Refusal}
+use Rattle.xfs_dispenser.specs.declared.refusal.Refusal.TheVariants.{Deny as Denied}
 
--- the code for a refusal of the guard; want of memory has none
-abbrev pub deny_code : Deny → Option (List ℕ)
-deny_code Shut = Some (code_text Code.DeviceNotReady)
-deny_code Full = Some (code_text Code.DeviceNotReady)
-deny_code TooLong = Some (code_text Code.NotEnoughSpace)
-deny_code (KeyNoValue at) = Some (code_text Code.InvalidTokenKeyNoValue)
-deny_code (Format at) = Some (code_text Code.InvalidTokenFormat)
-deny_code (NoNonce since) = Some (code_text Code.NoCommandNonce)
-deny_code (WrongNonce since) = Some (code_text Code.InvalidTokenNonce)
-deny_code (WrongMac due) = Some (code_text Code.InvalidTokenHmac)
-deny_code NoAmounts = Some (code_text Code.InvalidTokenFormat)
-deny_code (OtherBound since) = Some (code_text Code.InvalidToken)
-deny_code (NotEmpty notes) = Some (code_text Code.SequenceError)
-deny_code (OverBudget currency left) = Some (code_text Code.InvalidToken)
-deny_code (Unbound since) = Some (code_text Code.AuthorisationRequired)
-deny_code Nothing = Some (codes "noItems")
-deny_code (OutletFull notes) = Some (code_text Code.SequenceError)
-deny_code (Short unit) = Some (codes "notDispensable")
-deny_code Disk = Some (code_text Code.DeviceNotReady)
-deny_code Memory = None
-
--- the code for a refusal: no token, a unit or a count that isn't, counts that can't be dispensed, or the guard's
-abbrev pub refusal_code : Refusal → Option (List ℕ)
-refusal_code NoToken = Some (code_text Code.AuthorisationRequired)
-refusal_code NoUnit = Some (codes "invalidUnit")
-refusal_code StorageFull = Some (codes "storageFull")
-refusal_code (Counts Empty) = Some (codes "invalidDenomination")
-refusal_code (Counts TooMany) = Some (codes "tooManyItems")
-refusal_code (Counts (ShortCount unit)) = Some (codes "notDispensable")
-refusal_code (Denied deny) = deny_code deny
+-- the word for an answer: the error that its payload tells, where it tells one, or else its completion code
+abbrev pub answer_word : Answer → List ℕ
+answer_word a = option_map_or (λ error. error) (option_and_then as_str (member_of (codes "errorCode") a.payload)) (code_text a.code)
 
 -- the number that tells the cause, with its name
 abbrev pub refusal_number : Refusal → Option (List ℕ × ℕ)
@@ -54,6 +27,6 @@ abbrev pub number_text : Option (List ℕ × ℕ) → List ℕ
 number_text None = []
 number_text (Some n) = codes " " ++ n.0 ++ codes " " ++ decimal n.1
 
--- the answer to a refused line
+-- the answer to a refused line, by what the dispenser answers the refusal; want of memory has none
 abbrev pub refusal_text : Refusal → Option (List ℕ)
-refusal_text r = option_map (λ code. codes "refused " ++ code ++ number_text (refusal_number r)) (refusal_code r)
+refusal_text r = option_map (λ answer. codes "refused " ++ answer_word answer ++ number_text (refusal_number r)) (answer_of r)

@@ -5,6 +5,7 @@ use Rattle.xfs_base.specs.Causes.{Rose}
 use Rattle.xfs_base.specs.declared.counts.Places.{Places}
 use Rattle.xfs_mech.specs.declared.motion.Motion.{Motion}
 use Rattle.xfs_guard.specs.View.{View, GuardView}
+use Rattle.xfs_dispenser.specs.Seen as Of
 pub use Rattle.xfs_guard.specs.View.{shut_at}
 
 -- a session: its guard, how often its disk failed, and the token that was minted last
@@ -16,6 +17,10 @@ pub record Seen : Type 0 where
 -- the same of a guard with its disk
 abbrev pub seen : {D : Type 0} → (D → ℕ) → GuardView D → Option (List ℕ) → Seen
 seen faults g last = record { guard = g.state; disk_faults = faults g.disk; last = last }
+
+-- what a command of the dispenser sees of it
+abbrev pub guard_of : Seen → Of.Seen
+guard_of s = record { guard = s.guard; disk_faults = s.disk_faults }
 
 -- no count of faults has fallen
 pub record IsLater (old new : Seen) : Type 0 where

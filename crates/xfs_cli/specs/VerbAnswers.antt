@@ -24,8 +24,9 @@ use Rattle.xfs_cli.specs.LineAnswers.{IsRefused, WritesOne, WritesNone}
 use Rattle.xfs_cli.specs.OrderAnswers.{MechCalled, Moves}
 use Rattle.xfs_cli.specs.DispenseAnswers.{Dispenses, named}
 use Rattle.xfs_cli.specs.RestartAnswers.{Restarts}
-use Rattle.xfs_cli.specs.declared.refused.Refusal.{Refusal}
-use Rattle.xfs_cli.specs.declared.refused.Refusal.TheVariants.{NoUnit, StorageFull, Deny as Denied}
+use Rattle.xfs_common.specs.declared.error.ErrorCode.TheVariants.{InvalidUnit, StorageFull}
+use Rattle.xfs_dispenser.specs.declared.refusal.Refusal.{Refusal}
+use Rattle.xfs_dispenser.specs.declared.refusal.Refusal.TheVariants.{Error, Deny as Denied}
 use Rattle.xfs_script.specs.declared.feed.TheConstants.{LONGEST_LINE}
 
 -- the record of the next nonce: its number, and the seed's word
@@ -66,8 +67,8 @@ pub record Takes (s : Seen) (line : List ℕ) (next : Seen) : Type 0 where
 
 -- what `fill` is refused for: no such unit, then a limit of the notes, then the journal's fit
 abbrev pub FillRefused : View → ℕ → ℕ → Refusal → Type 0
-FillRefused v unit count NoUnit = ¬ ((1 ≤ unit) × (unit ≤ length v.units))
-FillRefused v unit count StorageFull = (1 ≤ unit) × (unit ≤ length v.units) × ¬ (CanLoad v.units v.places unit count)
+FillRefused v unit count (Error InvalidUnit) = ¬ ((1 ≤ unit) × (unit ≤ length v.units))
+FillRefused v unit count (Error StorageFull) = (1 ≤ unit) × (unit ≤ length v.units) × ¬ (CanLoad v.units v.places unit count)
 FillRefused v unit count (Denied deny) = CanLoad v.units v.places unit count × (unfit v ≡ Some deny)
 FillRefused v unit count other = ⊥
 

@@ -15,22 +15,23 @@ ghost use Rattle.xfs_cli.specs.Begun.{AllOrNothing, IsPartDispensed, IsPartFille
 ghost use Rattle.xfs_cli.specs.GuardAnswers.{show_lines};
 ghost use Rattle.xfs_cli.specs.Seen.{seen};
 ghost use Rattle.xfs_cli.specs.OrderAnswers.{CarriesOut, Moves, Stacks, nothing_stacked};
-ghost use Rattle.xfs_cli.specs.DispenseAnswers.{Dispenses, IsForbidden, IsPermitted, named};
+ghost use Rattle.xfs_cli.specs.DispenseAnswers.{Dispenses, IsAllowed, named};
 ghost use Rattle.xfs_cli.specs.VerbAnswers.{AreAnswer, Clears, Fills, IsLoaded, Issues, Mints, Takes};
 ghost use Rattle.xfs_cli.specs.RestartAnswers.{RestartFails, Restarts};
 ghost use Rattle.xfs_guard.specs.declared.fail.BootFault.{BootFault};
 ghost use Rattle.xfs_script.specs.declared.guard_line.GuardLine.TheVariants.{Restart};
-ghost use Rattle.xfs_cli.specs.declared.refused.Refusal.TheVariants.{Deny as Denied};
+ghost use Rattle.xfs_dispenser.specs.declared.refusal.Refusal.TheVariants.{Deny as Denied, Memory as Unremembered};
 
-use crate::refused::{Refusal, refusal_text};
+use crate::refused::refusal_text;
 use crate::text::{ended, joined, outcome_text, show_text};
 use crate::token_key::TokenKey;
 use std::alloc::{AllocError, AllocFailed, Global};
 use xfs_base::{Bytes, Counts, Memory};
+use xfs_common::ErrorCode;
 use xfs_disk::Disk;
-use xfs_guard::{Ask, BootFault, Deny, Guard, Permit};
+use xfs_dispenser::{Leave, Named, Notes, Refusal, leave_to_stack};
+use xfs_guard::{Ask, BootFault, Deny, Guard};
 use xfs_mech::{Mechanism, Outcome};
-use xfs_mix::check;
 use xfs_script::{Given, GuardLine};
 use xfs_token::Amounts;
 
@@ -176,10 +177,10 @@ impl<M: Mechanism, D: Disk> Session<M, D> {
         ensures key { self.new.key ≡ self.old.key }
     {
         if unit == 0 || unit > self.guard.units().len() {
-            return refusal_text(self.alloc, &Refusal::NoUnit);
+            return refusal_text(self.alloc, &Refusal::Error(ErrorCode::InvalidUnit));
         }
         if !self.guard.room(unit, count) {
-            return refusal_text(self.alloc, &Refusal::StorageFull);
+            return refusal_text(self.alloc, &Refusal::Error(ErrorCode::StorageFull));
         }
         if let Some(deny) = self.guard.unfit() {
             return refusal_text(self.alloc, &Refusal::Deny(deny));
@@ -253,36 +254,33 @@ impl<M: Mechanism, D: Disk> Session<M, D> {
         ensures none { self.new.guard.state.open_order ≡ No }
         ensures key { self.new.key ≡ self.old.key }
     {
-        let permit = match self.permitted(token, counts) {
-            Ok(permit) => permit,
+        let leave = match self.allowed(token, counts) {
+            Ok(leave) => leave,
             Err(refusal) => return refusal_text(self.alloc, &refusal),
         };
-        match self.stacked(permit.issue, counts) {
+        match self.stacked(leave.issue, &leave.counts) {
             Ok(outcome) => outcome_text(self.alloc, b"moved", &outcome),
             Err(deny) => refusal_text(self.alloc, &Refusal::Deny(deny)),
         }
     }
 
-    // The leave to stack these notes: the checks of a dispense, in their order.
-    fn permitted(&mut self, token: &Given, counts: &Counts) -> Result<Permit, Refusal>
+    // The leave to stack these notes on the token that the line names.
+    fn allowed(&mut self, token: &Given, counts: &Counts) -> Result<Leave, Refusal>
         requires { self.old.guard.state.open_order ≡ No }
-        ensures ok { IfOk result (λ p. IsPermitted (seen D.faults self.old.guard self.old.last) (named self.old.last token.now) counts.now p.issue (seen D.faults self.new.guard self.new.last)) }
-        ensures refused { IfErr result (λ r. r ≢ Denied NoMemory → IsForbidden (seen D.faults self.old.guard self.old.last) (named self.old.last token.now) counts.now r (seen D.faults self.new.guard self.new.last)) }
+        ensures allowed { result ≢ Err Unremembered → IsAllowed (seen D.faults self.old.guard self.old.last) (named self.old.last token.now) counts.now result (seen D.faults self.new.guard self.new.last) }
+        ensures same { IfErr result (λ r. r ≢ Denied Deny.Disk → self.new.guard ≡ self.old.guard) }
         ensures proceeds { Proceeds D.Disk self.old.guard self.new.guard }
         ensures none { self.new.guard.state.open_order ≡ No }
-        ensures same { IfErr result (λ r. r ≢ Denied Deny.Disk → self.new.guard ≡ self.old.guard) }
         ensures last { self.new.last ≡ self.old.last }
         ensures key { self.new.key ≡ self.old.key }
     {
-        if let Some(deny) = self.guard.unfit() {
-            return Err(Refusal::Deny(deny));
-        }
-        let Some(text) = given(&self.last, token) else {
-            return Err(Refusal::NoToken);
-        };
-        let claim = self.guard.check(text)?;
-        check(self.guard.units(), &self.guard.places().units, counts)?;
-        Ok(self.guard.allow(claim, counts)?)
+        let notes = Notes::Individual(Named::These(*counts));
+        leave_to_stack(
+            self.alloc,
+            &mut self.guard,
+            &notes,
+            given(&self.last, token),
+        )
     }
 
     // Writes an order, carries it out, and writes down what it did.

@@ -2,43 +2,53 @@ use Rattle.std.proofs.Common.{Ok, Err, inl, inr, refl, ap}
 use Rattle.std.specs.Prelude.{codes}
 use Rattle.std.proofs.lemmas.Result.{IfOk-weaker}
 use Rattle.xfs_guard.proofs.KeepsLaws.{Proceeds-trans}
-use Rattle.xfs_cli.proofs.DispenseLaws.{few-permitted}
-use Rattle.xfs_cli.proofs.SeenLaws.{err-same, told-some}
+use Rattle.xfs_dispenser.specs.declared.refusal.Refusal.TheVariants.{Deny as Denied}
+use Rattle.xfs_cli.proofs.DispenseLaws.{few-allowed}
+use Rattle.xfs_cli.proofs.SeenLaws.{err-same, told-kept, told-some}
 use Rattle.xfs_cli.specs.Seen.{seen}
 use Rattle.xfs_cli.specs.DispenseAnswers.{Dispenses, named}
 use Rattle.xfs_cli.specs.GuardAnswers.{outcome_text}
-use Rattle.xfs_cli.proofs.BegunLaws.{on-err, ordered-or-part, refused-or-nothing, seen-both, not-denied-disk}
-use Rattle.xfs_cli.specs.declared.refused.Refusal.TheVariants.{Deny as Denied}
+use Rattle.xfs_cli.proofs.BegunLaws.{on-err, ordered-or-part, refused-or-nothing, seen-both}
 use Rattle.xfs_cli.proofs.session.Session.dispense.Goals as goal
 
 pub returns-in-Err-clause-answer : goal.returns-in-Err-clause-answer
 returns-in-Err-clause-answer g c =
-    IfOk-weaker c.refusal_text.result _ _ (λ text told. inl (record { refusal = c.in-Err.refusal; forbidden = c.in-Err.ensures.refused (told-some c.in-Err.refusal text.items told); text = told })) c.refusal_text.ensures
+    IfOk-weaker c.refusal_text.result _ _ (λ text told. inl (record { refusal = c.in-Err.refusal; refused = c.in-Err.ensures.allowed (λ e. told-kept c.in-Err.refusal text.items told cc); text = told })) c.refusal_text.ensures
 
 pub stacked-requires-clause-few : goal.stacked-requires-clause-few
-stacked-requires-clause-few g c = rw c.permitted.ensures.proceeds.continues.units (few-permitted _ _ c.args.counts.now _ _ c.in-Ok.ensures.ok)
+stacked-requires-clause-few g c = rw c.allowed.ensures.proceeds.continues.units (few-allowed _ _ c.args.counts.now c.in-Ok.leave _ (c.in-Ok.ensures.allowed (λ e. cc)))
 
 pub returns-in-Ok-stacked-clause-proceeds : goal.returns-in-Ok-stacked-clause-proceeds
-returns-in-Ok-stacked-clause-proceeds g c = Proceeds-trans g.D.Disk _ _ _ g.met.D.Disk.counts_now c.permitted.ensures.proceeds c.stacked.ensures.proceeds
+returns-in-Ok-stacked-clause-proceeds g c = Proceeds-trans g.D.Disk _ _ _ g.met.D.Disk.counts_now c.allowed.ensures.proceeds c.stacked.ensures.proceeds
 
 pub returns-in-Err-stacked-clause-proceeds : goal.returns-in-Err-stacked-clause-proceeds
-returns-in-Err-stacked-clause-proceeds g c = Proceeds-trans g.D.Disk _ _ _ g.met.D.Disk.counts_now c.permitted.ensures.proceeds c.stacked.ensures.proceeds
+returns-in-Err-stacked-clause-proceeds g c = Proceeds-trans g.D.Disk _ _ _ g.met.D.Disk.counts_now c.allowed.ensures.proceeds c.stacked.ensures.proceeds
 
 pub returns-in-Err-clause-memory : goal.returns-in-Err-clause-memory
 returns-in-Err-clause-memory g c =
     let old = (seen g.D.Disk.faults c.args.self.now.guard c.args.self.now.last) in
-    let new = seen g.D.Disk.faults c.permitted.new.self.guard c.permitted.new.self.last in
+    let new = seen g.D.Disk.faults c.allowed.new.self.guard c.allowed.new.self.last in
     on-err c.refusal_text.result _ (inl (refused-or-nothing (Dispenses old (named c.args.self.now.last c.args.token.now) c.args.counts.now) old new c.in-Err.refusal
-    (λ is. seen-both g.D.Disk.faults c.args.self.now.guard c.permitted.new.self.guard c.args.self.now.last c.permitted.new.self.last (c.in-Err.ensures.same (not-denied-disk c.in-Err.refusal is)) c.permitted.ensures.last)
-    (λ line told. inl (record { refusal = c.in-Err.refusal; forbidden = c.in-Err.ensures.refused (told-some c.in-Err.refusal line told); text = told }))))
+    (λ other. seen-both g.D.Disk.faults c.args.self.now.guard c.allowed.new.self.guard c.args.self.now.last c.allowed.new.self.last (c.in-Err.ensures.same other) c.allowed.ensures.last)
+    (λ line told. inl (record { refusal = c.in-Err.refusal; refused = c.in-Err.ensures.allowed (λ e. told-kept c.in-Err.refusal line told cc); text = told }))))
+
+pub returns-in-Ok-stacked-clause-answer : goal.returns-in-Ok-stacked-clause-answer
+returns-in-Ok-stacked-clause-answer g c = IfOk-weaker c.outcome_text.result _ _ (λ text told. inr (record {
+  leave = c.in-Ok.leave;
+  bound = seen g.D.Disk.faults c.allowed.new.self.guard c.allowed.new.self.last;
+  allowed = c.in-Ok.ensures.allowed (λ e. cc);
+  result = Ok c.in-Ok-stacked.outcome;
+  stacked = c.in-Ok-stacked.ensures.stacked (λ e. cc);
+  told = told;
+})) c.outcome_text.ensures
 
 pub returns-in-Ok-stacked-clause-memory : goal.returns-in-Ok-stacked-clause-memory
 returns-in-Ok-stacked-clause-memory g c = on-err _ _ (inl (inr (
   outcome_text (codes "moved") c.in-Ok-stacked.outcome,
   inr (record {
-    issue = c.in-Ok.permit.issue;
-    bound = seen g.D.Disk.faults c.permitted.new.self.guard c.permitted.new.self.last;
-    permitted = c.in-Ok.ensures.ok;
+    leave = c.in-Ok.leave;
+    bound = seen g.D.Disk.faults c.allowed.new.self.guard c.allowed.new.self.last;
+    allowed = c.in-Ok.ensures.allowed (λ e. cc);
     result = Ok c.in-Ok-stacked.outcome;
     stacked = c.in-Ok-stacked.ensures.stacked (λ e. cc);
     told = refl;
@@ -48,9 +58,9 @@ returns-in-Ok-stacked-clause-memory g c = on-err _ _ (inl (inr (
 pub returns-in-Err-stacked-clause-answer : goal.returns-in-Err-stacked-clause-answer
 returns-in-Err-stacked-clause-answer g c =
     IfOk-weaker c.refusal_text-in-Err-stacked.result _ _ (λ text told. inr (record {
-      issue = c.in-Ok.permit.issue;
-      bound = seen g.D.Disk.faults c.permitted.new.self.guard c.permitted.new.self.last;
-      permitted = c.in-Ok.ensures.ok;
+      leave = c.in-Ok.leave;
+      bound = seen g.D.Disk.faults c.allowed.new.self.guard c.allowed.new.self.last;
+      allowed = c.in-Ok.ensures.allowed (λ e. cc);
       result = Err c.in-Err-stacked.deny;
       stacked = c.in-Err-stacked.ensures.stacked (λ e. told-some (Denied c.in-Err-stacked.deny) text.items told (ap (λ d. Denied d) (err-same e)));
       told = told;
@@ -58,5 +68,5 @@ returns-in-Err-stacked-clause-answer g c =
 
 pub returns-in-Err-stacked-clause-memory : goal.returns-in-Err-stacked-clause-memory
 returns-in-Err-stacked-clause-memory g c =
-    on-err _ _ (ordered-or-part (seen g.D.Disk.faults c.args.self.now.guard c.args.self.now.last) (seen g.D.Disk.faults c.permitted.new.self.guard c.permitted.new.self.last) (seen g.D.Disk.faults c.stacked.new.self.guard c.stacked.new.self.last) (named c.args.self.now.last c.args.token.now) c.args.counts.now c.in-Ok.permit.issue c.in-Err-stacked.deny
-    c.in-Ok.ensures.ok c.in-Err-stacked.ensures.memory c.in-Err-stacked.ensures.stacked)
+    on-err _ _ (ordered-or-part (seen g.D.Disk.faults c.args.self.now.guard c.args.self.now.last) (seen g.D.Disk.faults c.allowed.new.self.guard c.allowed.new.self.last) (seen g.D.Disk.faults c.stacked.new.self.guard c.stacked.new.self.last) (named c.args.self.now.last c.args.token.now) c.args.counts.now c.in-Ok.leave c.in-Err-stacked.deny
+    (c.in-Ok.ensures.allowed (λ e. cc)) c.in-Err-stacked.ensures.memory c.in-Err-stacked.ensures.stacked)

@@ -5,8 +5,7 @@ use Rattle.xfs_guard.specs.View.{View}
 use Rattle.xfs_cli.specs.Seen.{seen}
 use Rattle.xfs_cli.proofs.SeenLaws.{wrote-kept, wrote-err, none-err}
 use Rattle.std.specs.Prelude.{codes}
-use Rattle.xfs_cli.specs.declared.refused.Refusal.TheVariants.{Deny as Denied}
-use Rattle.xfs_cli.proofs.BegunLaws.{on-err, has-text, denied-same, not-disk, part-filled}
+use Rattle.xfs_cli.proofs.BegunLaws.{on-err, denied-text, not-disk, part-filled}
 use Rattle.xfs_cli.proofs.session.Session.load.Goals as goal
 
 pub returns-then-outcome-clause-answer : goal.returns-then-outcome-clause-answer
@@ -103,9 +102,9 @@ pub returns-in-Err-clause-memory : goal.returns-in-Err-clause-memory
 returns-in-Err-clause-memory g c =
     let e = c.in_ok-outcome.ensures in
     let w = c.in-Err.ensures in
-    on-err c.refusal_text.result _ (elim (has-text (Denied c.in-Err.deny)) [
+    on-err c.refusal_text.result _ (elim (denied-text c.in-Err.deny) [
       | inl is ↦ inr (part-filled g.D.Disk.faults c.args.self.now.guard c.load.new.self c.note_load.new.self c.args.self.now.last _ _ c.in_ok-outcome.outcome c.requires.fits c.requires.fit e.ok
-          (record { later = e.keeps.proceeds.mech_faults; cause = e.cause; disk_same = ap g.D.Disk.faults e.same; last_is = refl }) c.if-outcome.false (w.same (not-disk c.in-Err.deny (denied-same is))))
+          (record { later = e.keeps.proceeds.mech_faults; cause = e.cause; disk_same = ap g.D.Disk.faults e.same; last_is = refl }) c.if-outcome.false (w.same (not-disk c.in-Err.deny is)))
       | inr text ↦ inl (inr (
         text.0,
         record {
