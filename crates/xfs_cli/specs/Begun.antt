@@ -14,12 +14,18 @@ use Rattle.xfs_script.specs.declared.guard_line.GuardLine.TheVariants.{Dispense,
 use Rattle.xfs_cli.specs.Seen.{Seen, Becomes}
 use Rattle.xfs_cli.specs.OrderAnswers.{MechCalled, Stacks, nothing_stacked}
 use Rattle.xfs_cli.specs.DispenseAnswers.{IsAllowed, named}
-use Rattle.xfs_cli.specs.VerbAnswers.{AnswersGuard, IsAnswer}
+use Rattle.xfs_cli.specs.VerbAnswers.{AnswersGuard, IsAnswer, IsLoaded}
+use Rattle.xfs_cli.specs.RestartAnswers.{RestartFails}
+use Rattle.xfs_guard.specs.declared.fail.BootFault.{BootFault}
 use Rattle.xfs_script.specs.declared.feed.TheConstants.{LONGEST_LINE}
 
 -- nothing was done; or all of it, and the line that answers it was not written
 abbrev pub AllOrNothing : (List ℕ → Seen → Type 0) → Seen → Seen → Type 0
 AllOrNothing Answer s end = (end ≡ s) ⊎ ((line : List ℕ) × Answer line end)
+
+-- the same of a verb
+abbrev pub WholeOrNone : Seen → GuardLine → Seen → Type 0
+WholeOrNone s verb end = AllOrNothing (IsAnswer s verb) s end
 
 -- the orders of the first units were carried out, and none of them failed
 pub record StacksFirst (issue : ℕ) (counts : List ℕ) (s end : Seen) : Type 0 where
@@ -51,9 +57,17 @@ IsPartDone s (Fill unit count) end = IsPartFilled s unit count end
 IsPartDone s Restart end = Becomes s s.guard end
 IsPartDone s other end = ⊥
 
+-- what want of memory leaves of a loading
+abbrev pub LeavesOfLoad : Seen → ℕ → ℕ → Seen → Type 0
+LeavesOfLoad s unit count end = AllOrNothing (IsLoaded s unit count) s end ⊎ IsPartFilled s unit count end
+
+-- the verb is `restart`, and that was refused for this
+abbrev pub FailsRestart : Seen → GuardLine → BootFault → Seen → Type 0
+FailsRestart s verb fault end = (verb ≡ Restart) × RestartFails s fault end
+
 -- what want of memory leaves of a verb
 abbrev pub LeavesOfVerb : Seen → GuardLine → Seen → Type 0
-LeavesOfVerb s verb end = AllOrNothing (IsAnswer s verb) s end ⊎ IsPartDone s verb end
+LeavesOfVerb s verb end = WholeOrNone s verb end ⊎ IsPartDone s verb end
 
 -- all was done that the line asks for
 pub record IsCarriedOut (s : Seen) (text : List ℕ) (end : Seen) : Type 0 where

@@ -14,7 +14,7 @@ use Rattle.xfs_script.specs.declared.guard_line.Given.{Given}
 use Rattle.xfs_script.specs.declared.guard_line.Given.TheVariants.{Last, Text}
 use Rattle.xfs_cli.specs.Refused.{refusal_text}
 use Rattle.xfs_cli.specs.Seen.{Seen, guard_of}
-use Rattle.xfs_cli.specs.OrderAnswers.{Stacks, Tells, nothing_stacked}
+use Rattle.xfs_cli.specs.OrderAnswers.{StacksAll, Tells}
 
 -- the token that a line names: its text, or the one that was minted last
 abbrev pub named : Option (List ℕ) → Given → Option (List ℕ)
@@ -26,13 +26,17 @@ pub record IsAllowed (s : Seen) (token : Option (List ℕ)) (counts : CountsOf) 
   pub leave : IsLeave (guard_of s) (Individual (These counts)) token result (guard_of next)
   pub last_is : next.last ≡ s.last
 
+-- the same of a token as a line gives it
+abbrev pub IsAllowedFor : Seen → Given → CountsOf → Result Leave Refusal → Seen → Type 0
+IsAllowedFor s given counts result next = IsAllowed s (named s.last given) counts result next
+
 -- the orders of a dispense that is allowed, and its answer: what was stacked, or what the order that ended it is refused for
 pub record IsOrdered (s : Seen) (token : Option (List ℕ)) (counts : CountsOf) (line : List ℕ) (next : Seen) : Type 0 where
   pub leave : Leave
   pub bound : Seen
   pub allowed : IsAllowed s token counts (Ok leave) bound
   pub result : Result Outcome Deny
-  pub stacked : Stacks leave.issue leave.counts.0 0 nothing_stacked bound result next
+  pub stacked : StacksAll leave.issue leave.counts bound result next
   pub told : Tells (codes "moved") result line
 
 -- the answer to a dispense that is refused before any order

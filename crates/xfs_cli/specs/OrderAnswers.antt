@@ -5,6 +5,7 @@ use Rattle.std.specs.declared.result.Result.{Result}
 use Rattle.std.specs.Option.{option_or}
 use Rattle.xfs_base.specs.Causes.{Rose}
 use Rattle.xfs_base.specs.Counts.{at}
+use Rattle.xfs_base.specs.declared.counts.Counts.{Counts as CountsOf}
 use Rattle.xfs_mech.specs.declared.motion.Outcome.{Outcome}
 use Rattle.xfs_journal.specs.declared.record.Rec.{Rec}
 use Rattle.xfs_journal.specs.declared.record.Rec.TheVariants.{Order}
@@ -120,3 +121,7 @@ abbrev pub Stacks : ℕ → List ℕ → ℕ → Outcome → Seen → Result Out
 Stacks issue [] u all s result next = (result ≡ Ok all) × (next ≡ s)
 Stacks issue (zero ∷ counts) u all s result next = Stacks issue counts (u + 1) all s result next
 Stacks issue (suc n ∷ counts) u all s result next = StacksUnit (Stacks issue counts (u + 1)) s (Stack issue (u + 1) (suc n)) all u result next
+
+-- all these counts are stacked
+abbrev pub StacksAll : ℕ → CountsOf → Seen → Result Outcome Deny → Seen → Type 0
+StacksAll issue counts s result next = Stacks issue counts.0 0 nothing_stacked s result next

@@ -7,6 +7,7 @@ use Rattle.xfs_mech.specs.declared.motion.Motion.{Motion}
 use Rattle.xfs_guard.specs.View.{View, GuardView}
 use Rattle.xfs_dispenser.specs.Seen as Of
 pub use Rattle.xfs_guard.specs.View.{shut_at}
+use Rattle.xfs_cli.specs.declared.session.Session.{Session}
 
 -- a session: its guard, how often its disk failed, and the token that was minted last
 pub record Seen : Type 0 where
@@ -17,6 +18,10 @@ pub record Seen : Type 0 where
 -- the same of a guard with its disk
 abbrev pub seen : {D : Type 0} → (D → ℕ) → GuardView D → Option (List ℕ) → Seen
 seen faults g last = record { guard = g.state; disk_faults = faults g.disk; last = last }
+
+-- the same of a run of lines
+abbrev pub seen_in : {M D : Type 0} → (D → ℕ) → Session M D → Seen
+seen_in faults s = seen faults s.guard s.last
 
 -- what a command of the dispenser sees of it
 abbrev pub guard_of : Seen → Of.Seen

@@ -6,20 +6,20 @@ ghost use Rattle.xfs_guard.specs.declared.open.Open.TheVariants.{No};
 ghost use Rattle.xfs_guard.specs.Keeps.{Proceeds};
 ghost use Rattle.xfs_mech.specs.Mechanism.{CanLoad};
 ghost use Rattle.xfs_guard.specs.Fits.{unfit};
-ghost use Rattle.xfs_guard.specs.Nonce.{live_nonce, live_in};
 ghost use Rattle.xfs_guard.specs.Refusals.{Answers, IsAsk, order_refusal};
 ghost use Rattle.xfs_guard.specs.declared.deny.Deny.TheVariants.{Memory as NoMemory};
 ghost use Rattle.xfs_mix.specs.Asked.{is_none};
 ghost use Rattle.xfs_script.specs.Answered.{lines_text, Tells};
-ghost use Rattle.xfs_cli.specs.Begun.{AllOrNothing, IsPartDispensed, IsPartFilled, LeavesOfVerb, StacksFirst};
+ghost use Rattle.xfs_cli.specs.Begun.{AllOrNothing, FailsRestart, LeavesOfLoad, LeavesOfVerb, StacksFirst, WholeOrNone};
 ghost use Rattle.xfs_cli.specs.GuardAnswers.{show_lines};
-ghost use Rattle.xfs_cli.specs.Seen.{seen};
-ghost use Rattle.xfs_cli.specs.OrderAnswers.{CarriesOut, Moves, Stacks, nothing_stacked};
-ghost use Rattle.xfs_cli.specs.DispenseAnswers.{Dispenses, IsAllowed, named};
-ghost use Rattle.xfs_cli.specs.VerbAnswers.{AreAnswer, Clears, Fills, IsLoaded, Issues, Mints, Takes};
+ghost use Rattle.xfs_cli.specs.Seen.{seen_in};
+ghost use Rattle.xfs_cli.specs.OrderAnswers.{CarriesOut, Moves, StacksAll};
+ghost use Rattle.xfs_cli.specs.DispenseAnswers.{IsAllowedFor, named};
+ghost use Rattle.xfs_cli.specs.VerbAnswers.{AreAnswer, IsAnswer, IsLoaded};
 ghost use Rattle.xfs_cli.specs.RestartAnswers.{RestartFails, Restarts};
 ghost use Rattle.xfs_guard.specs.declared.fail.BootFault.{BootFault};
-ghost use Rattle.xfs_script.specs.declared.guard_line.GuardLine.TheVariants.{Restart};
+ghost use Rattle.xfs_script.specs.declared.guard_line.GuardLine.TheVariants.{Issue, Clear, Mint, Dispense, Fill, Take, Restart};
+ghost use Rattle.xfs_cli.specs.declared.session.AnswerFault.TheVariants.{Unbooted};
 ghost use Rattle.xfs_dispenser.specs.declared.refusal.Refusal.TheVariants.{Deny as Denied, Memory as Unremembered};
 
 use crate::refused::refusal_text;
@@ -79,9 +79,9 @@ impl<M: Mechanism, D: Disk> Session<M, D> {
     pub fn answer_verb(&mut self, verb: &GuardLine) -> Result<Vec<u8>, AnswerFault>
         requires none { self.old.guard.state.open_order ≡ No }
         requires key { self.old.key ≡ self.old.guard.state.key }
-        ensures answer { IfOk result (λ text. Tells (AreAnswer (seen D.faults self.old.guard self.old.last) verb.now) text.items (seen D.faults self.new.guard self.new.last)) }
-        ensures memory { result ≡ Err AnswerFault.Memory → LeavesOfVerb (seen D.faults self.old.guard self.old.last) verb.now (seen D.faults self.new.guard self.new.last) }
-        ensures unbooted { (fault : BootFault) → result ≡ Err (AnswerFault.Unbooted fault) → (verb.now ≡ Restart) × RestartFails (seen D.faults self.old.guard self.old.last) fault (seen D.faults self.new.guard self.new.last) }
+        ensures answer { IfOk result (λ text. Tells (AreAnswer (seen_in D.faults self.old) verb.now) text.items (seen_in D.faults self.new)) }
+        ensures memory { result ≡ Err AnswerFault.Memory → LeavesOfVerb (seen_in D.faults self.old) verb.now (seen_in D.faults self.new) }
+        ensures unbooted { (f : BootFault) → result ≡ Err (Unbooted f) → FailsRestart (seen_in D.faults self.old) verb.now f (seen_in D.faults self.new) }
         ensures proceeds { Proceeds D.Disk self.old.guard self.new.guard }
         ensures none { self.new.guard.state.open_order ≡ No }
         ensures key { self.new.key ≡ self.new.guard.state.key }
@@ -104,8 +104,8 @@ impl<M: Mechanism, D: Disk> Session<M, D> {
 
     fn issue(&mut self) -> Result<Vec<u8>, Memory>
         requires { self.old.guard.state.open_order ≡ No }
-        ensures answer { IfOk result (λ text. Issues (seen D.faults self.old.guard self.old.last) text.items (seen D.faults self.new.guard self.new.last)) }
-        ensures memory { OnErr result (AllOrNothing (Issues (seen D.faults self.old.guard self.old.last)) (seen D.faults self.old.guard self.old.last) (seen D.faults self.new.guard self.new.last)) }
+        ensures answer { IfOk result (λ text. IsAnswer (seen_in D.faults self.old) Issue text.items (seen_in D.faults self.new)) }
+        ensures memory { OnErr result (WholeOrNone (seen_in D.faults self.old) Issue (seen_in D.faults self.new)) }
         ensures proceeds { Proceeds D.Disk self.old.guard self.new.guard }
         ensures none { self.new.guard.state.open_order ≡ No }
         ensures key { self.new.key ≡ self.old.key }
@@ -118,8 +118,8 @@ impl<M: Mechanism, D: Disk> Session<M, D> {
 
     fn clear(&mut self) -> Result<Vec<u8>, Memory>
         requires { self.old.guard.state.open_order ≡ No }
-        ensures answer { IfOk result (λ text. Clears (live_nonce self.old.guard.state.records) (seen D.faults self.old.guard self.old.last) text.items (seen D.faults self.new.guard self.new.last)) }
-        ensures memory { OnErr result (AllOrNothing (Clears (live_nonce self.old.guard.state.records) (seen D.faults self.old.guard self.old.last)) (seen D.faults self.old.guard self.old.last) (seen D.faults self.new.guard self.new.last)) }
+        ensures answer { IfOk result (λ text. IsAnswer (seen_in D.faults self.old) Clear text.items (seen_in D.faults self.new)) }
+        ensures memory { OnErr result (WholeOrNone (seen_in D.faults self.old) Clear (seen_in D.faults self.new)) }
         ensures proceeds { Proceeds D.Disk self.old.guard self.new.guard }
         ensures none { self.new.guard.state.open_order ≡ No }
         ensures key { self.new.key ≡ self.old.key }
@@ -134,8 +134,8 @@ impl<M: Mechanism, D: Disk> Session<M, D> {
     // A genuine token for the live nonce, which is then the last one.
     fn mint(&mut self, amounts: &Amounts) -> Result<Vec<u8>, Memory>
         requires key { self.old.key ≡ self.old.guard.state.key }
-        ensures answer { IfOk result (λ text. Mints (live_in self.old.guard.state.boot_missing self.old.guard.state.records) (seen D.faults self.old.guard self.old.last) amounts.now text.items (seen D.faults self.new.guard self.new.last)) }
-        ensures memory { OnErr result (AllOrNothing (Mints (live_in self.old.guard.state.boot_missing self.old.guard.state.records) (seen D.faults self.old.guard self.old.last) amounts.now) (seen D.faults self.old.guard self.old.last) (seen D.faults self.new.guard self.new.last)) }
+        ensures answer { IfOk result (λ text. IsAnswer (seen_in D.faults self.old) (Mint amounts.now) text.items (seen_in D.faults self.new)) }
+        ensures memory { OnErr result (WholeOrNone (seen_in D.faults self.old) (Mint amounts.now) (seen_in D.faults self.new)) }
         ensures same { self.new.guard ≡ self.old.guard }
         ensures key { self.new.key ≡ self.old.key }
     {
@@ -155,8 +155,8 @@ impl<M: Mechanism, D: Disk> Session<M, D> {
     // The customer takes what lies in the outlet.
     fn take(&mut self) -> Result<Vec<u8>, Memory>
         requires { self.old.guard.state.open_order ≡ No }
-        ensures answer { IfOk result (λ text. Takes (seen D.faults self.old.guard self.old.last) text.items (seen D.faults self.new.guard self.new.last)) }
-        ensures memory { OnErr result (AllOrNothing (Takes (seen D.faults self.old.guard self.old.last)) (seen D.faults self.old.guard self.old.last) (seen D.faults self.new.guard self.new.last)) }
+        ensures answer { IfOk result (λ text. IsAnswer (seen_in D.faults self.old) Take text.items (seen_in D.faults self.new)) }
+        ensures memory { OnErr result (WholeOrNone (seen_in D.faults self.old) Take (seen_in D.faults self.new)) }
         ensures proceeds { Proceeds D.Disk self.old.guard self.new.guard }
         ensures none { self.new.guard.state.open_order ≡ No }
         ensures key { self.new.key ≡ self.old.key }
@@ -170,8 +170,8 @@ impl<M: Mechanism, D: Disk> Session<M, D> {
     // The operator adds notes to a unit, and it is written down.
     fn fill(&mut self, unit: u8, count: u32) -> Result<Vec<u8>, Memory>
         requires { self.old.guard.state.open_order ≡ No }
-        ensures answer { IfOk result (λ text. Fills (seen D.faults self.old.guard self.old.last) unit count text.items (seen D.faults self.new.guard self.new.last)) }
-        ensures memory { OnErr result (AllOrNothing (Fills (seen D.faults self.old.guard self.old.last) unit count) (seen D.faults self.old.guard self.old.last) (seen D.faults self.new.guard self.new.last) ⊎ IsPartFilled (seen D.faults self.old.guard self.old.last) unit count (seen D.faults self.new.guard self.new.last)) }
+        ensures answer { IfOk result (λ text. IsAnswer (seen_in D.faults self.old) (Fill unit count) text.items (seen_in D.faults self.new)) }
+        ensures memory { OnErr result (LeavesOfVerb (seen_in D.faults self.old) (Fill unit count) (seen_in D.faults self.new)) }
         ensures proceeds { Proceeds D.Disk self.old.guard self.new.guard }
         ensures none { self.new.guard.state.open_order ≡ No }
         ensures key { self.new.key ≡ self.old.key }
@@ -193,8 +193,8 @@ impl<M: Mechanism, D: Disk> Session<M, D> {
         requires none { self.old.guard.state.open_order ≡ No }
         requires fits { CanLoad self.old.guard.state.units self.old.guard.state.places unit count }
         requires fit { unfit self.old.guard.state ≡ None }
-        ensures answer { IfOk result (λ text. IsLoaded (seen D.faults self.old.guard self.old.last) unit count text.items (seen D.faults self.new.guard self.new.last)) }
-        ensures memory { OnErr result (AllOrNothing (IsLoaded (seen D.faults self.old.guard self.old.last) unit count) (seen D.faults self.old.guard self.old.last) (seen D.faults self.new.guard self.new.last) ⊎ IsPartFilled (seen D.faults self.old.guard self.old.last) unit count (seen D.faults self.new.guard self.new.last)) }
+        ensures answer { IfOk result (λ text. IsLoaded (seen_in D.faults self.old) unit count text.items (seen_in D.faults self.new)) }
+        ensures memory { OnErr result (LeavesOfLoad (seen_in D.faults self.old) unit count (seen_in D.faults self.new)) }
         ensures proceeds { Proceeds D.Disk self.old.guard self.new.guard }
         ensures none { self.new.guard.state.open_order ≡ No }
         ensures key { self.new.key ≡ self.old.key }
@@ -212,9 +212,9 @@ impl<M: Mechanism, D: Disk> Session<M, D> {
     // Reads the journal again, as a start of the guard would. The token that was minted last stays.
     fn restart(&mut self) -> Result<Vec<u8>, AnswerFault>
         requires { self.old.guard.state.open_order ≡ No }
-        ensures answer { IfOk result (λ text. Restarts (seen D.faults self.old.guard self.old.last) text.items (seen D.faults self.new.guard self.new.last)) }
-        ensures memory { result ≡ Err AnswerFault.Memory → AllOrNothing (Restarts (seen D.faults self.old.guard self.old.last)) (seen D.faults self.old.guard self.old.last) (seen D.faults self.new.guard self.new.last) }
-        ensures unbooted { (fault : BootFault) → result ≡ Err (AnswerFault.Unbooted fault) → RestartFails (seen D.faults self.old.guard self.old.last) fault (seen D.faults self.new.guard self.new.last) }
+        ensures answer { IfOk result (λ text. Restarts (seen_in D.faults self.old) text.items (seen_in D.faults self.new)) }
+        ensures memory { result ≡ Err AnswerFault.Memory → WholeOrNone (seen_in D.faults self.old) Restart (seen_in D.faults self.new) }
+        ensures unbooted { (fault : BootFault) → result ≡ Err (Unbooted fault) → RestartFails (seen_in D.faults self.old) fault (seen_in D.faults self.new) }
         ensures proceeds { Proceeds D.Disk self.old.guard self.new.guard }
         ensures none { self.new.guard.state.open_order ≡ No }
         ensures key { self.new.key ≡ self.old.key }
@@ -234,8 +234,8 @@ impl<M: Mechanism, D: Disk> Session<M, D> {
     fn moved(&mut self, ask: Ask) -> Result<Vec<u8>, Memory>
         requires none { self.old.guard.state.open_order ≡ No }
         requires asked { IsAsk self.old.guard.state ask }
-        ensures answer { IfOk result (λ text. Moves (seen D.faults self.old.guard self.old.last) ask text.items (seen D.faults self.new.guard self.new.last)) }
-        ensures memory { OnErr result (AllOrNothing (Moves (seen D.faults self.old.guard self.old.last) ask) (seen D.faults self.old.guard self.old.last) (seen D.faults self.new.guard self.new.last)) }
+        ensures answer { IfOk result (λ text. Moves (seen_in D.faults self.old) ask text.items (seen_in D.faults self.new)) }
+        ensures memory { OnErr result (AllOrNothing (Moves (seen_in D.faults self.old) ask) (seen_in D.faults self.old) (seen_in D.faults self.new)) }
         ensures proceeds { Proceeds D.Disk self.old.guard self.new.guard }
         ensures none { self.new.guard.state.open_order ≡ No }
         ensures key { self.new.key ≡ self.old.key }
@@ -248,8 +248,8 @@ impl<M: Mechanism, D: Disk> Session<M, D> {
 
     fn dispense(&mut self, token: &Given, counts: &Counts) -> Result<Vec<u8>, Memory>
         requires { self.old.guard.state.open_order ≡ No }
-        ensures answer { IfOk result (λ text. Dispenses (seen D.faults self.old.guard self.old.last) (named self.old.last token.now) counts.now text.items (seen D.faults self.new.guard self.new.last)) }
-        ensures memory { OnErr result (AllOrNothing (Dispenses (seen D.faults self.old.guard self.old.last) (named self.old.last token.now) counts.now) (seen D.faults self.old.guard self.old.last) (seen D.faults self.new.guard self.new.last) ⊎ IsPartDispensed (seen D.faults self.old.guard self.old.last) (named self.old.last token.now) counts.now (seen D.faults self.new.guard self.new.last)) }
+        ensures answer { IfOk result (λ text. IsAnswer (seen_in D.faults self.old) (Dispense token.now counts.now) text.items (seen_in D.faults self.new)) }
+        ensures memory { OnErr result (LeavesOfVerb (seen_in D.faults self.old) (Dispense token.now counts.now) (seen_in D.faults self.new)) }
         ensures proceeds { Proceeds D.Disk self.old.guard self.new.guard }
         ensures none { self.new.guard.state.open_order ≡ No }
         ensures key { self.new.key ≡ self.old.key }
@@ -267,7 +267,7 @@ impl<M: Mechanism, D: Disk> Session<M, D> {
     // The leave to stack these notes on the token that the line names.
     fn allowed(&mut self, token: &Given, counts: &Counts) -> Result<Leave, Refusal>
         requires { self.old.guard.state.open_order ≡ No }
-        ensures allowed { result ≢ Err Unremembered → IsAllowed (seen D.faults self.old.guard self.old.last) (named self.old.last token.now) counts.now result (seen D.faults self.new.guard self.new.last) }
+        ensures allowed { result ≢ Err Unremembered → IsAllowedFor (seen_in D.faults self.old) token.now counts.now result (seen_in D.faults self.new) }
         ensures same { IfErr result (λ r. r ≢ Denied Deny.Disk → self.new.guard ≡ self.old.guard) }
         ensures proceeds { Proceeds D.Disk self.old.guard self.new.guard }
         ensures none { self.new.guard.state.open_order ≡ No }
@@ -287,7 +287,7 @@ impl<M: Mechanism, D: Disk> Session<M, D> {
     fn carried(&mut self, ask: Ask) -> Result<Outcome, Deny>
         requires none { self.old.guard.state.open_order ≡ No }
         requires asked { IsAsk self.old.guard.state ask }
-        ensures carried { result ≢ Err NoMemory → CarriesOut (seen D.faults self.old.guard self.old.last) ask result (seen D.faults self.new.guard self.new.last) }
+        ensures carried { result ≢ Err NoMemory → CarriesOut (seen_in D.faults self.old) ask result (seen_in D.faults self.new) }
         ensures refused { Answers result (option_or (unfit self.old.guard.state) (order_refusal self.old.guard.state ask)) }
         ensures same { IfErr result (λ e. e ≢ Deny.Disk → self.new.guard ≡ self.old.guard) }
         ensures proceeds { Proceeds D.Disk self.old.guard self.new.guard }
@@ -305,8 +305,8 @@ impl<M: Mechanism, D: Disk> Session<M, D> {
     fn stacked(&mut self, issue: u64, counts: &Counts) -> Result<Outcome, Deny>
         requires none { self.old.guard.state.open_order ≡ No }
         requires few { IsTrue (is_none (drop (length self.old.guard.state.units) counts.now.0)) }
-        ensures stacked { result ≢ Err NoMemory → Stacks issue counts.now.0 0 nothing_stacked (seen D.faults self.old.guard self.old.last) result (seen D.faults self.new.guard self.new.last) }
-        ensures memory { result ≡ Err NoMemory → StacksFirst issue counts.now.0 (seen D.faults self.old.guard self.old.last) (seen D.faults self.new.guard self.new.last) }
+        ensures stacked { result ≢ Err NoMemory → StacksAll issue counts.now (seen_in D.faults self.old) result (seen_in D.faults self.new) }
+        ensures memory { result ≡ Err NoMemory → StacksFirst issue counts.now.0 (seen_in D.faults self.old) (seen_in D.faults self.new) }
         ensures proceeds { Proceeds D.Disk self.old.guard self.new.guard }
         ensures none { self.new.guard.state.open_order ≡ No }
         ensures key { self.new.key ≡ self.old.key }
