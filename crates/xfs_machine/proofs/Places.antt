@@ -1,20 +1,20 @@
--- A place of a list whose element alone passes a test, and the desk's connection there.
-use Rattle.std.proofs.Common.{◌≡◌, ℕ, zero, suc, ◌<◌, ◌≤◌, ◌==◌, Bool, true, false, cond, List, [], ◌∷◌, ◌++◌, length, get_or, map, set, find, position, slice_get, ltb, None, Some, MatchOption, All, AllPairs, subst, refl, ap, sym, ◌∙◌, inl, inr, arith}
+-- A place of a list whose element alone passes a test, and the connection there.
+use Rattle.std.proofs.Common.{◌≡◌, ℕ, zero, suc, ◌<◌, ◌≤◌, ◌==◌, ◌&&◌, Bool, true, false, cond, List, [], ◌∷◌, ◌++◌, length, filter, get_or, map, set, find, position, slice_get, ltb, Option, None, Some, Result, Ok, Err, OnOk, OnErr, MatchOption, All, AllPairs, subst, refl, ap, sym, ◌∙◌, inl, inr, arith}
 use Rattle.std.specs.List.{position_or_len}
-use Rattle.std.proofs.lemmas.Bool.{cases_Bool, cases_lt, lt-ltb, eqb-true, ne_eqb, false≢true}
-use Rattle.std.proofs.lemmas.List.Elements.{All-cons, All-head, All-map, All-tail}
+use Rattle.std.proofs.lemmas.Bool.{and_parts, cases_Bool, cases_lt, lt-ltb, eqb-true, ne_eqb, false≢true}
+use Rattle.std.proofs.lemmas.List.Elements.{All-cons, All-head, All-tail}
 use Rattle.std.proofs.lemmas.List.Folds.{find_at}
+use Rattle.std.proofs.lemmas.List.Kept.{AllPairs-filter}
 use Rattle.std.proofs.lemmas.List.Quantifiers.{position-Some}
 use Rattle.std.proofs.lemmas.Option.{slice_get_read, slice_get_past, none-some}
 use Rattle.xfs_base.specs.declared.moment.ClientId.{ClientId}
-use Rattle.xfs_base.specs.declared.moment.Service.TheVariants.{Publisher}
-use Rattle.xfs_envelope.specs.Commands.{command_in}
-use Rattle.xfs_model.specs.Connections.{connection_of, is_at, is_client, sent, with_mail, without_mail}
-use Rattle.xfs_machine.specs.Desks.{DeskView, IsDesk, IsReply, Shows, place_of, with_desk}
-use Rattle.xfs_model.specs.Posts.{Takes}
-use Rattle.xfs_model.specs.State.{Connection, Pass, State}
-use Rattle.xfs_model.specs.Step.{Hands}
-use Rattle.xfs_model.proofs.Changes.{AllPairs-map, each}
+use Rattle.xfs_base.specs.declared.moment.Service.{Service}
+use Rattle.xfs_model.specs.Connections.{is_at, is_client, is_service, with_mail, without_mail}
+use Rattle.xfs_base.specs.declared.faults.Memory.{Memory}
+use Rattle.xfs_machine.specs.Withdrawals.{front, taken_back}
+use Rattle.xfs_model.specs.State.{Connection}
+use Rattle.xfs_model.proofs.Changes.{AllPairs-map}
+use Rattle.xfs_model.proofs.Talks.{client_with_mail}
 
 some-injective : {X : Type 0} (x y : X) → Some x ≡ Some y → x ≡ y
 some-injective x y e = cc
@@ -75,101 +75,74 @@ apart_at client ks h = λ i j d lt within y.
     let less = h i j d lt within in
     ne_eqb (get_or ks j d).client.0 client.0 (λ f. absurd (omega (arith, e, f, less)))
 
--- the place that was found
-pub record Found (d : DeskView) (pass : Pass) (at : ℕ) : Type 0 where
-  pub boot : (d.boot == pass.boot) ≡ true
-  pub there : position (is_client pass.client) d.connections ≡ Some at
+-- the same at a service
+apart_there : (service : Service) (client : ClientId) (ks : List Connection) → AllPairs (λ a b. a.client.0 < b.client.0) ks → AllPairs (NotBoth (is_at service client)) ks
+apart_there service client ks h = λ i j d lt within y.
+    let here = (and_parts (is_service service (get_or ks i d).service) (is_client client (get_or ks i d)) y).1 in
+    rw (apart_at client ks h i j d lt within here) (no_more (is_service service (get_or ks j d).service))
+  where
+    no_more : (b : Bool) → (b && false) ≡ false
+    no_more true = refl
+    no_more false = refl
 
-none_some_ : (at : ℕ) → None ≡ Some at → ⊥
-none_some_ at e = cc
+-- nothing is written where there is none
+none_there : (p : Connection → Bool) (g : Connection → Connection) (ks : List Connection) → position p ks ≡ None → map (λ k. cond (p k) (g k) k) ks ≡ ks
+none_there p g ks e = map_none p g ks (none_from_find p ks (not_there p ks e))
 
-found_if : (d : DeskView) (pass : Pass) (at : ℕ) (b : Bool) → (d.boot == pass.boot) ≡ b → cond b (position (is_client pass.client) d.connections) None ≡ Some at → Found d pass at
-found_if d pass at true boot there = record { boot = boot; there = there }
-found_if d pass at false boot there = absurd (none_some_ at there)
+-- frames for the connection at the place
+pub mailed_at : (service : Service) (client : ClientId) (frames : List (List ℕ)) (ks : List Connection) (at : ℕ) (k : Connection) → AllPairs (λ a b. a.client.0 < b.client.0) ks → position (is_at service client) ks ≡ Some at → k ≡ get_or ks at k
+    → set ks at (record k { waiting = k.waiting ++ frames }) ≡ map (λ j. with_mail (is_at service client j) frames j) ks
+mailed_at service client frames ks at k rising there here = written (is_at service client) (λ j. record j { waiting = j.waiting ++ frames }) ks at k (apart_there service client ks rising) there here
 
-pub found : (d : DeskView) (pass : Pass) (at : ℕ) → place_of d pass ≡ Some at → Found d pass at
-found d pass at there = found_if d pass at (d.boot == pass.boot) refl there
+pub mailed_none : (service : Service) (client : ClientId) (frames : List (List ℕ)) (ks : List Connection) → position (is_at service client) ks ≡ None → ks ≡ map (λ j. with_mail (is_at service client j) frames j) ks
+mailed_none service client frames ks none = sym (none_there (is_at service client) (λ j. record j { waiting = j.waiting ++ frames }) ks none)
 
--- the connection at the place
-pub connected : (s : State) (d : DeskView) (pass : Pass) (at : ℕ) (k : Connection) → Shows d s → Found d pass at → k ≡ get_or d.connections at k → connection_of s pass ≡ Some k
-connected s d pass at k shows is here = rw (shows.boot, is.boot, shows.connections) (taken (is_client pass.client) d.connections at k is.there here)
+-- and none that wait any more
+pub fetched_at : (client : ClientId) (ks : List Connection) (at : ℕ) (k : Connection) → AllPairs (λ a b. a.client.0 < b.client.0) ks → position (is_client client) ks ≡ Some at → k ≡ get_or ks at k
+    → set ks at (record k { waiting = [] }) ≡ map (without_mail client) ks
+fetched_at client ks at k rising there here = written (is_client client) (λ j. record j { waiting = [] }) ks at k (apart_at client ks rising) there here
 
-none_if : (d : DeskView) (pass : Pass) (b : Bool) → cond b (position (is_client pass.client) d.connections) None ≡ None → cond b (find (is_client pass.client) d.connections) None ≡ None
-none_if d pass true none = not_there (is_client pass.client) d.connections none
-none_if d pass false none = refl
+pub fetched_none : (client : ClientId) (ks : List Connection) → position (is_client client) ks ≡ None → ks ≡ map (without_mail client) ks
+fetched_none client ks none = sym (none_there (is_client client) (λ j. record j { waiting = [] }) ks none)
 
-pub unconnected : (s : State) (d : DeskView) (pass : Pass) → Shows d s → place_of d pass ≡ None → connection_of s pass ≡ None
-unconnected s d pass shows none = rw (shows.boot, shows.connections) (none_if d pass (d.boot == pass.boot) none)
+pub handed_at : (client : ClientId) (ks : List Connection) (at : ℕ) (k : Connection) (frames : List (List ℕ)) → position (is_client client) ks ≡ Some at → k ≡ get_or ks at k → frames ≡ k.waiting
+    → MatchOption (find (is_client client) ks) (frames ≡ []) (λ j. frames ≡ j.waiting)
+handed_at client ks at k frames there here waits = rw (taken (is_client client) ks at k there here) waits
 
-pub same_desk : (s : State) (d : DeskView) → Shows d s → with_desk s d ≡ s
-same_desk s d shows = ap (λ n. record s { given = n; connections = d.connections }) (sym shows.given) ∙ ap (λ ks. record s { connections = ks }) (sym shows.connections)
+pub handed_none : (client : ClientId) (ks : List Connection) (frames : List (List ℕ)) → position (is_client client) ks ≡ None → frames ≡ []
+    → MatchOption (find (is_client client) ks) (frames ≡ []) (λ j. frames ≡ j.waiting)
+handed_none client ks frames none empty_ = rw (not_there (is_client client) ks none) empty_
 
--- a write at the place
-desk_with : (s : State) (d : DeskView) (ks : List Connection) → Shows d s → with_desk s (record d { connections = ks }) ≡ record s { connections = ks }
-desk_with s d ks shows = ap (λ n. record s { given = n; connections = ks }) (sym shows.given)
+-- the numbers rise where each connection keeps its own
+pub rising_map : (f : Connection → Connection) → ((k : Connection) → (f k).client ≡ k.client) → (ks : List Connection) → AllPairs (λ a b. a.client.0 < b.client.0) ks → AllPairs (λ a b. a.client.0 < b.client.0) (map f ks)
+rising_map f keeps ks = AllPairs-map (λ a b. a.client.0 < b.client.0) (λ a b. a.client.0 < b.client.0) f (λ a b less. rw (keeps a, keeps b) less) ks
 
-pub hands_at : (s : State) (d : DeskView) (pass : Pass) (at : ℕ) (k : Connection) (frames : List (List ℕ)) → IsDesk d → Shows d s → place_of d pass ≡ Some at → k ≡ get_or d.connections at k → frames ≡ k.waiting
-    → Hands s pass frames (with_desk s (record d { connections = set d.connections at (record k { waiting = [] }) }))
-hands_at s d pass at k frames desk shows there here waits =
-    let is = found d pass at there in
-    let named : k.client.0 ≡ pass.client.0 = eqb-true _ _ (ap (is_client pass.client) here ∙ (position-Some (is_client pass.client) d.connections at k is.there).1) in
-    let wrote = written (is_client pass.client) (λ j. record j { waiting = [] }) d.connections at k (apart_at pass.client d.connections desk.rising) is.there here in
-    let as_client : map (without_mail pass.client) d.connections ≡ map (without_mail k.client) d.connections =
-    ap (λ n. map (without_mail (record { 0 = n })) d.connections) (sym named) in
-    rw (connected s d pass at k shows is here) (waits, desk_with s d _ shows ∙ ap (λ ks. record s { connections = ks }) (wrote ∙ as_client ∙ ap (map (without_mail k.client)) (sym shows.connections)))
+pub rising_mailed : (service : Service) (client : ClientId) (frames : List (List ℕ)) (ks new : List Connection) → new ≡ map (λ j. with_mail (is_at service client j) frames j) ks → AllPairs (λ a b. a.client.0 < b.client.0) ks → AllPairs (λ a b. a.client.0 < b.client.0) new
+rising_mailed service client frames ks new e rising = rw e (rising_map (λ j. with_mail (is_at service client j) frames j) (λ k. client_with_mail (is_at service client k) frames k) ks rising)
 
-pub hands_none : (s : State) (d : DeskView) (pass : Pass) (frames : List (List ℕ)) → Shows d s → place_of d pass ≡ None → frames ≡ [] → Hands s pass frames (with_desk s d)
-hands_none s d pass frames shows none empty_ = rw (unconnected s d pass shows none) (empty_, same_desk s d shows)
+pub rising_fetched : (client : ClientId) (ks new : List Connection) → new ≡ map (without_mail client) ks → AllPairs (λ a b. a.client.0 < b.client.0) ks → AllPairs (λ a b. a.client.0 < b.client.0) new
+rising_fetched client ks new e rising = rw e (rising_map (without_mail client) (λ k. kept (is_client client k) k) ks rising)
+  where
+    kept : (b : Bool) (k : Connection) → (cond b (record k { waiting = [] }) k).client ≡ k.client
+    kept true k = refl
+    kept false k = refl
 
-map_same : {X : Type 0} (f g : X → X) (xs : List X) → All (λ x. f x ≡ g x) xs → map f xs ≡ map g xs
-map_same f g [] all = refl
-map_same f g (x ∷ xs) all = rw (All-head (λ x. f x ≡ g x) x xs all, map_same f g xs (All-tail (λ x. f x ≡ g x) x xs all)) refl
+pub rising_announced : (service : Service) (frame : List ℕ) (ks new : List Connection) → new ≡ map (λ j. with_mail (is_service service j.service) (frame ∷ []) j) ks → AllPairs (λ a b. a.client.0 < b.client.0) ks → AllPairs (λ a b. a.client.0 < b.client.0) new
+rising_announced service frame ks new e rising = rw e (rising_map (λ j. with_mail (is_service service j.service) (frame ∷ []) j) (λ k. client_with_mail (is_service service k.service) (frame ∷ []) k) ks rising)
 
-posts_at : (s : State) (d : DeskView) (pass : Pass) (text : List ℕ) (at : ℕ) (k : Connection) (frames : List (List ℕ)) → IsDesk d → Shows d s → place_of d pass ≡ Some at → k ≡ get_or d.connections at k → IsReply text frames
-    → (other : Type 0) → MatchOption (connection_of s pass) other (λ open_. Takes s open_ (command_in text) (with_desk s (record d { connections = set d.connections at (record k { waiting = k.waiting ++ frames }) })))
-posts_at s d pass text at k frames desk shows there here reply other =
-    let is = found d pass at there in
-    let within = (position-Some (is_client pass.client) d.connections at k is.there).0 in
-    let publisher : k.service ≡ Publisher = ap (λ (j : Connection). j.service) here ∙ desk.publisher at k within in
-    let named : k.client.0 ≡ pass.client.0 = eqb-true _ _ (ap (is_client pass.client) here ∙ (position-Some (is_client pass.client) d.connections at k is.there).1) in
-    let wrote = written (is_client pass.client) (λ j. record j { waiting = j.waiting ++ frames }) d.connections at k (apart_at pass.client d.connections desk.rising) is.there here in
-    let as_sent : map (λ j. with_mail (is_client pass.client j) frames j) d.connections ≡ map (λ j. with_mail (is_at k.service k.client j) frames j) d.connections =
-    map_same _ _ d.connections (λ i e inside. rw (publisher, desk.publisher i e inside, named) refl) in
-    let desks : with_desk s (record d { connections = set d.connections at (record k { waiting = k.waiting ++ frames }) }) ≡ sent s k.service k.client frames =
-    desk_with s d _ shows ∙ ap (λ ks. record s { connections = ks }) (wrote ∙ as_sent ∙ ap (map (λ j. with_mail (is_at k.service k.client j) frames j)) (sym shows.connections)) in
-    rw (connected s d pass at k shows is here) (rw desks (reply s k publisher shows.idle))
+-- and where some leave
+pub rising_kept : (keep : Connection → Bool) (ks : List Connection) → AllPairs (λ a b. a.client.0 < b.client.0) ks → AllPairs (λ a b. a.client.0 < b.client.0) (filter keep ks)
+rising_kept keep ks = AllPairs-filter (λ a b. a.client.0 < b.client.0) keep ks
 
--- the same of the connection as it is written
-pub posted_at : (s : State) (d : DeskView) (pass : Pass) (text : List ℕ) (at : ℕ) (k j : Connection) (frames : List (List ℕ)) → IsDesk d → Shows d s → place_of d pass ≡ Some at → k ≡ get_or d.connections at k → j ≡ record k { waiting = k.waiting ++ frames } → IsReply text frames
-    → (other : Type 0) → MatchOption (connection_of s pass) other (λ k. Takes s k (command_in text) (with_desk s (record d { connections = set d.connections at j })))
-posted_at s d pass text at k j frames desk shows there here mailed reply other =
-    subst (λ i. MatchOption (connection_of s pass) other (λ k. Takes s k (command_in text) (with_desk s (record d { connections = set d.connections at i })))) (sym mailed)
-    (posts_at s d pass text at k frames desk shows there here reply other)
+-- the numbers rise whether it was announced or not
+pub rising_either : (service : Service) (frame : List ℕ) (ks new : List Connection) (r : Result (Unit {0}) Memory) → OnOk r (new ≡ map (λ j. with_mail (is_service service j.service) (frame ∷ []) j) ks) → OnErr r (new ≡ ks)
+    → AllPairs (λ a b. a.client.0 < b.client.0) ks → AllPairs (λ a b. a.client.0 < b.client.0) new
+rising_either service frame ks new (Ok done) ok err rising = rising_announced service frame ks new ok rising
+rising_either service frame ks new (Err memory) ok err rising = rw err rising
 
-pub posts_none : (s : State) (d : DeskView) (pass : Pass) (text : List ℕ) → Shows d s → place_of d pass ≡ None → MatchOption (connection_of s pass) (d ≡ d) (λ k. Takes s k (command_in text) (with_desk s d))
-posts_none s d pass text shows none = rw (unconnected s d pass shows none) refl
-
--- another connection of the same client at the place
-pub desk_kept : (d : DeskView) (pass : Pass) (at : ℕ) (k j : Connection) → place_of d pass ≡ Some at → k ≡ get_or d.connections at k → j.client ≡ k.client → j.service ≡ k.service → IsDesk d
-    → IsDesk (record d { connections = set d.connections at j })
-desk_kept d pass at k j there here client service desk =
-    let is = found d pass at there in
-    let f : Connection → Connection = λ i. cond (is_client pass.client i) j i in
-    let wrote : set d.connections at j ≡ map (λ i. cond (is_client pass.client i) j i) d.connections =
-    written (is_client pass.client) (λ i. j) d.connections at k (apart_at pass.client d.connections desk.rising) is.there here in
-    let named : j.client.0 ≡ pass.client.0 = ap (λ (c : ClientId). c.0) client ∙ eqb-true _ _ (ap (is_client pass.client) here ∙ (position-Some (is_client pass.client) d.connections at k is.there).1) in
-    let same : (i : Connection) → (cond (is_client pass.client i) j i).client.0 ≡ i.client.0 = λ i. elim (cases_Bool (is_client pass.client i)) [
-      | inl y ↦ rw y (named ∙ sym (eqb-true _ _ y))
-      | inr n ↦ rw n refl
-    ] in
-    let publisher : j.service ≡ Publisher = service ∙ ap (λ (i : Connection). i.service) here ∙ desk.publisher at k ((position-Some (is_client pass.client) d.connections at k is.there).0) in
-    rw wrote record {
-      rising = AllPairs-map (λ a b. a.client.0 < b.client.0) (λ a b. a.client.0 < b.client.0) (λ i. cond (is_client pass.client i) j i) (λ a b less. rw (same a, same b) less) d.connections desk.rising;
-      given = All-map (λ i. i.client.0 ≤ d.given) (λ i. cond (is_client pass.client i) j i) d.connections
-          (each (λ i. i.client.0 ≤ d.given) (λ i. (cond (is_client pass.client i) j i).client.0 ≤ d.given) (λ i h. rw (same i) h) d.connections desk.given);
-      publisher = All-map (λ i. i.service ≡ Publisher) (λ i. cond (is_client pass.client i) j i) d.connections
-          (each (λ i. i.service ≡ Publisher) (λ i. (cond (is_client pass.client i) j i).service ≡ Publisher) (λ i h. elim (cases_Bool (is_client pass.client i)) [
-            | inl y ↦ rw y publisher
-            | inr n ↦ rw n h
-          ]) d.connections desk.publisher);
-    }
+pub rising_back : (service : Service) (ks : List Connection) → AllPairs (λ a b. a.client.0 < b.client.0) ks → AllPairs (λ a b. a.client.0 < b.client.0) (map (taken_back service) ks)
+rising_back service ks rising = rising_map (taken_back service) (λ k. kept (is_service service k.service) k) ks rising
+  where
+    kept : (b : Bool) (k : Connection) → (cond b (record k { waiting = front k.waiting }) k).client ≡ k.client
+    kept true k = refl
+    kept false k = refl

@@ -1,4 +1,5 @@
 ghost use Rattle.std.specs.Prelude.{◌≡◌, ◌++◌, ◌∷◌, [], OnOk, OnErr};
+ghost use Rattle.xfs_machine.specs.Withdrawals.{front};
 
 use std::alloc::Global;
 use std::marker::Model;
@@ -58,6 +59,13 @@ impl Connection {
         self.waiting.push_reserved(first);
         self.waiting.push_reserved(last);
         Ok(())
+    }
+
+    // The last frame that waits is dropped.
+    pub(crate) fn unmail(&mut self)
+        ensures { self.new ≡ record self.old { waiting = front self.old.waiting } }
+    {
+        self.waiting.pop();
     }
 
     // Hands over the frames that wait.

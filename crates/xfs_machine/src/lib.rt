@@ -1,13 +1,22 @@
 //! The machine in code.
 #![tactic(auto)]
 
+mod answer;
+mod asks;
+mod boot;
 mod connection;
-mod desk;
+mod connections;
+mod frames;
+mod immediate;
+mod job;
+mod machine;
 mod pass;
-mod reply;
+mod post;
+mod queues;
+mod tally;
 
-pub use desk::Desk;
+pub use answer::{Touched, Work};
+pub use frames::Frames;
+pub use machine::Machine;
 pub use pass::{JoinFault, Pass};
-
-#[cfg(test)]
-mod tests;
+pub use tally::Tally;

@@ -1,3 +1,5 @@
+ghost use Rattle.std.specs.Prelude.{◌≡◌};
+
 use std::marker::Model;
 use xfs_base::{ClientId, Service};
 
@@ -16,6 +18,20 @@ impl Model for Pass {
     ghost Value = { PassView };
 
     ghost view = { λ p. record { client = p.client; service = p.service; boot = p.boot } };
+}
+
+impl Pass {
+    pub fn client(&self) -> ClientId
+        ensures { result ≡ self.now.client }
+    {
+        self.client
+    }
+
+    pub fn service(&self) -> Service
+        ensures { result ≡ self.now.service }
+    {
+        self.service
+    }
 }
 
 /// Why a connection was not taken.

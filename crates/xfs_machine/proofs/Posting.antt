@@ -1,0 +1,130 @@
+-- What becomes of a text, from what was sent and what was done with the pending commands.
+use Rattle.std.proofs.Common.{◌≡◌, ℕ, Bool, true, false, not, cond, codes, List, [], ◌∷◌, ◌++◌, Option, None, Some, Result, Ok, Err, refl, ap, sym, ◌∙◌}
+use Rattle.std.specs.List.{list_any}
+use Rattle.std.specs.Str.{bytes_eq}
+use Rattle.xfs_base.specs.declared.moment.Moment.{Moment}
+use Rattle.xfs_common.specs.Cancel.{request_ids}
+use Rattle.xfs_common.specs.Payloads.{nothing}
+use Rattle.xfs_common.specs.declared.error.ErrorCode.TheVariants.{NoMatchingRequestIds}
+use Rattle.xfs_conversation.specs.Pending.{is_pending, is_request_id, is_wrong_id}
+use Rattle.xfs_envelope.specs.Commands as envelope
+use Rattle.xfs_envelope.specs.declared.code.Code.TheVariants.{InvalidData}
+use Rattle.xfs_envelope.specs.declared.code.Status.{Status}
+use Rattle.xfs_envelope.specs.declared.code.Status.TheVariants.{InvalidMessage, InvalidRequestId, TooManyRequests}
+use Rattle.xfs_envelope.specs.declared.command.Refuse.{Refuse}
+use Rattle.xfs_json.specs.declared.members.Shape.{Shape}
+use Rattle.xfs_machine.specs.Seats.{IsCompleted, IsRefused, IsSeen, with_both}
+use Rattle.xfs_machine.specs.declared.post.Seat.{Seat}
+use Rattle.xfs_model.specs.Commands.{Asks, line_of}
+use Rattle.xfs_model.specs.Connections.{is_at, with_mail}
+use Rattle.xfs_model.specs.Frames.{IsAcknowledge}
+use Rattle.xfs_model.specs.Immediate.{AtOnce, canceling, done_at_once, ids_of, stopped, told_of}
+use Rattle.xfs_model.specs.Pendings.{pending_in}
+use Rattle.xfs_model.specs.Posts.{Accepts, DoesAtOnce, Refuses, Takes, TakesOn, is_crowded, job_of}
+use Rattle.xfs_model.specs.Results.{error, plain, success}
+use Rattle.xfs_model.specs.State.{Ask, Connection, Job, Outcome, Queues, State, queue_of, with_queue}
+use Rattle.xfs_queue.specs.declared.command.Ids.{Ids}
+use Rattle.xfs_queue.specs.declared.command.Line.{Line}
+use Rattle.xfs_queue.specs.Queue.{is_named, offered}
+use Rattle.xfs_machine.specs.Seats.{mailed}
+use Rattle.xfs_queue.specs.declared.command.Command.{Command}
+use Rattle.xfs_queue.specs.Commands.{is_at as is_at_ticket}
+use Rattle.xfs_base.specs.declared.moment.ClientId.{ClientId}
+use Rattle.xfs_model.proofs.Pendings.{is_pending_there}
+use Rattle.std.proofs.lemmas.Bool.{or_parts}
+use Rattle.xfs_model.proofs.Queues.{with_same_queue}
+
+module _ (s : State) (k : Connection) (seat : Seat) (client : k.client ≡ seat.client) (service : k.service ≡ seat.service) where
+  pub refuses : (id : Option ℕ) (name : Option (List ℕ)) (why : Status) (ks ks' : List Connection) (qs : Queues) → IsRefused seat id name why ks ks'
+      → Refuses (with_both s ks qs) k id name why (with_both s ks' qs)
+  refuses id name why ks ks' qs is = record {
+    reply = is.reply;
+    acknowledges = is.acknowledges;
+    is = rw (client, service) (ap (λ l. with_both s l qs) is.is);
+  }
+
+  pub misread : (refuse : Refuse) (ks ks' : List Connection) (qs : Queues) → IsRefused seat refuse.id None InvalidMessage ks ks'
+      → Takes (with_both s ks qs) k (Err refuse) (with_both s ks' qs)
+  misread refuse ks ks' qs is = refuses refuse.id None InvalidMessage ks ks' qs is
+
+  pub misnumbered : (c : envelope.Command) (ks ks' : List Connection) (qs : Queues) → is_wrong_id (pending_in seat.client (queue_of qs seat.service)) c.id ≡ true
+      → IsRefused seat (Some c.id) (Some c.name) InvalidRequestId ks ks' → Takes (with_both s ks qs) k (Ok c) (with_both s ks' qs)
+  misnumbered c ks ks' qs wrong is = (let here : is_wrong_id (pending_in k.client (queue_of qs k.service)) c.id ≡ true = rw (client, service) wrong in rw here (refuses (Some c.id) (Some c.name) InvalidRequestId ks ks' qs is))
+
+  pub at_once : (c : envelope.Command) (ks ks' : List Connection) (qs qs' : Queues) → is_wrong_id (pending_in seat.client (queue_of qs seat.service)) c.id ≡ false
+      → line_of seat.service c.name ≡ None → DoesAtOnce (with_both s ks qs) k c (with_both s ks' qs') → Takes (with_both s ks qs) k (Ok c) (with_both s ks' qs')
+  at_once c ks ks' qs qs' right none does =
+      let fine : is_wrong_id (pending_in k.client (queue_of qs k.service)) c.id ≡ false = rw (client, service) right in
+      let line : line_of k.service c.name ≡ None = rw service none in
+      rw fine (rw line does)
+
+  pub crowded : (c : envelope.Command) (line : Line) (ks ks' : List Connection) (qs : Queues) → is_wrong_id (pending_in seat.client (queue_of qs seat.service)) c.id ≡ false
+      → line_of seat.service c.name ≡ Some line → is_crowded (queue_of qs seat.service) seat.client ≡ true
+      → IsRefused seat (Some c.id) (Some c.name) TooManyRequests ks ks' → Takes (with_both s ks qs) k (Ok c) (with_both s ks' qs)
+  crowded c line ks ks' qs right named many is =
+      let fine : is_wrong_id (pending_in k.client (queue_of qs k.service)) c.id ≡ false = rw (client, service) right in
+      let on : line_of k.service c.name ≡ Some line = rw service named in
+      let full : is_crowded (queue_of qs k.service) k.client ≡ true = rw (client, service) many in
+      rw fine (rw on (rw full (refuses (Some c.id) (Some c.name) TooManyRequests ks ks' qs is)))
+
+  pub accepted : (c : envelope.Command) (line : Line) (ks ks' : List Connection) (qs qs' : Queues) → is_wrong_id (pending_in seat.client (queue_of qs seat.service)) c.id ≡ false
+      → line_of seat.service c.name ≡ Some line → is_crowded (queue_of qs seat.service) seat.client ≡ false
+      → Accepts (with_both s ks qs) k line c (with_both s ks' qs') → Takes (with_both s ks qs) k (Ok c) (with_both s ks' qs')
+  accepted c line ks ks' qs qs' right named few is =
+      let fine : is_wrong_id (pending_in k.client (queue_of qs k.service)) c.id ≡ false = rw (client, service) right in
+      let on : line_of k.service c.name ≡ Some line = rw service named in
+      let room : is_crowded (queue_of qs k.service) k.client ≡ false = rw (client, service) few in
+      rw fine (rw on (rw room is))
+
+  pub accepts : (now : Moment) → s.now ≡ now → (c : envelope.Command) (line : Line) (ask : Ask) (reply : List ℕ) (ks ks' : List Connection) (qs qs' : Queues) → IsAcknowledge (Some c.id) (Some c.name) None reply → Asks c.name c.payload ask
+      → ks' ≡ mailed seat (reply ∷ []) ks → qs' ≡ with_queue qs seat.service (queue_of qs seat.service ++ offered seat.client c.id line c.timeout now (job_of c.name ask) ∷ [])
+      → Accepts (with_both s ks qs) k line c (with_both s ks' qs')
+  accepts now at c line ask reply ks ks' qs qs' acknowledges asks e f = record {
+    reply = reply;
+    ask = ask;
+    acknowledges = acknowledges;
+    asks = asks;
+    is = rw (client, service) (ap (λ l. with_both s l qs') e
+        ∙ ap (λ q. with_both s (mailed seat (reply ∷ []) ks) q) (f ∙ ap (λ m. with_queue qs seat.service (queue_of qs seat.service ++ offered seat.client c.id line c.timeout m (job_of c.name ask) ∷ [])) (sym at)));
+  }
+
+  pub does : (c : envelope.Command) (did : AtOnce) (ks ks' : List Connection) (qs qs' : Queues) → done_at_once (with_both s ks qs) k c ≡ did
+      → IsCompleted seat c did.result ks ks' → qs' ≡ with_queue qs seat.service did.queue → DoesAtOnce (with_both s ks qs) k c (with_both s ks' qs')
+  does c did ks ks' qs qs' comes is f = record {
+    reply = is.reply;
+    last = is.last;
+    acknowledges = is.acknowledges;
+    completes = rw comes is.completes;
+    is = rw (comes, client, service) (ap (λ l. with_both s l qs') is.is ∙ ap (λ q. with_both s (mailed seat (is.reply ∷ is.last ∷ []) ks) q) f);
+  }
+
+  pub tells : (c : envelope.Command) (result : Outcome) (ks ks' : List Connection) (qs : Queues) → bytes_eq c.name (codes "Common.Cancel") ≡ false → result ≡ told_of (with_both s ks qs) seat.service c.name
+      → IsCompleted seat c result ks ks' → DoesAtOnce (with_both s ks qs) k c (with_both s ks' qs)
+  tells c result ks ks' qs other told is =
+      does c (record { result = result; queue = queue_of qs seat.service }) ks ks' qs qs (rw (other, told, service) refl) is (sym (with_same_queue qs seat.service))
+
+  cancels : (c : envelope.Command) (ids : Result (Option (List ℕ)) Shape) (did : AtOnce) (ks ks' : List Connection) (qs qs' : Queues) → c.name ≡ codes "Common.Cancel" → request_ids c.payload ≡ ids
+      → canceling (queue_of qs seat.service) seat.client ids ≡ did
+      → IsCompleted seat c did.result ks ks' → qs' ≡ with_queue qs seat.service did.queue → DoesAtOnce (with_both s ks qs) k c (with_both s ks' qs')
+  cancels c ids did ks ks' qs qs' name asks comes is f = does c did ks ks' qs qs' (rw (name, asks, client, service) comes) is f
+
+  pub cancels_badly : (c : envelope.Command) (shape : Shape) (ks ks' : List Connection) (qs : Queues) → c.name ≡ codes "Common.Cancel" → request_ids c.payload ≡ Err shape
+      → IsCompleted seat c (plain InvalidData) ks ks' → DoesAtOnce (with_both s ks qs) k c (with_both s ks' qs)
+  cancels_badly c shape ks ks' qs name asks is =
+      cancels c (Err shape) (record { result = plain InvalidData; queue = queue_of qs seat.service }) ks ks' qs qs name asks refl is (sym (with_same_queue qs seat.service))
+
+  pub cancels_none : (c : envelope.Command) (ids : Option (List ℕ)) (ks ks' : List Connection) (qs : Queues) → c.name ≡ codes "Common.Cancel" → request_ids c.payload ≡ Ok ids
+      → list_any (is_named seat.client (ids_of ids)) (queue_of qs seat.service) ≡ false
+      → IsCompleted seat c (error NoMatchingRequestIds) ks ks' → DoesAtOnce (with_both s ks qs) k c (with_both s ks' qs)
+  cancels_none c ids ks ks' qs name asks none is =
+      cancels c (Ok ids) (record { result = error NoMatchingRequestIds; queue = queue_of qs seat.service }) ks ks' qs qs name asks (rw none refl) is (sym (with_same_queue qs seat.service))
+
+  pub cancels_some : (c : envelope.Command) (ids : Option (List ℕ)) (ks ks' : List Connection) (qs qs' : Queues) → c.name ≡ codes "Common.Cancel" → request_ids c.payload ≡ Ok ids
+      → list_any (is_named seat.client (ids_of ids)) (queue_of qs seat.service) ≡ true
+      → IsCompleted seat c (success nothing) ks ks' → qs' ≡ with_queue qs seat.service (stopped (queue_of qs seat.service) seat.client (ids_of ids)) → DoesAtOnce (with_both s ks qs) k c (with_both s ks' qs')
+  cancels_some c ids ks ks' qs qs' name asks some is f =
+      cancels c (Ok ids) (record { result = success nothing; queue = stopped (queue_of qs seat.service) seat.client (ids_of ids) }) ks ks' qs qs' name asks (rw some refl) is f
+
+-- a command that can be taken is not pending
+pub unheld : (q : List (Command Job)) (client : ClientId) (id : ℕ) → is_wrong_id (pending_in client q) id ≡ false → list_any (is_at_ticket record { client = client; id = id }) q ≡ false
+unheld q client id right = sym (is_pending_there client id q) ∙ (or_parts (not (is_request_id id)) (is_pending (pending_in client q) id) right).1

@@ -1,0 +1,20 @@
+use Rattle.std.proofs.Common.{refl, sym, ◌∙◌}
+use Rattle.xfs_machine.proofs.Calls.{later_within, posts, seated, whole_kept}
+use Rattle.xfs_machine.proofs.machine.Machine.post.Goals as goal
+use Rattle.xfs_model.specs.Events.{done, post}
+use Rattle.xfs_model.specs.State.{Pass}
+
+pub invariant_of-self-2 : goal.invariant_of-self-2
+invariant_of-self-2 g c =
+    let pass : Pass = record { client = c.pass.inside.client; service = c.pass.inside.service; boot = c.pass.inside.boot } in
+    let at = rw (sym c.self.view_is, sym c.pass.view_is) at (sym c.in-Some.is ∙ c.service_of.ensures) in
+    whole_kept _ _ (post pass c.args.text.now c.args.now) done c.self.invariant
+    (posts _ pass c.args.text.now c.args.now c.later-now.result c.in-Some.service c.take.new.connections c.take.new.queues c.self.invariant (seated _ pass c.in-Some.service at) c.later-now.ensures c.in_ok-take.ensures.ok)
+    (later_within c.self.inside.moment c.args.now c.later-now.result c.later-now.ensures c.self.invariant.moment c.requires) refl
+
+pub returns-clause-step : goal.returns-clause-step
+returns-clause-step g c =
+    let pass : Pass = record { client = c.pass.inside.client; service = c.pass.inside.service; boot = c.pass.inside.boot } in
+    let at = rw (sym c.self.view_is, sym c.pass.view_is) at (sym c.in-Some.is ∙ c.service_of.ensures) in
+    rw (← c.self.view_is, ← c.pass.view_is)
+    (posts _ pass c.args.text.now c.args.now c.later-now.result c.in-Some.service c.take.new.connections c.take.new.queues c.self.invariant (seated _ pass c.in-Some.service at) c.later-now.ensures c.in_ok-take.ensures.ok)

@@ -1,0 +1,18 @@
+use Rattle.std.proofs.Common.{◌∙◌}
+use Rattle.xfs_envelope.specs.Commands.{said}
+use Rattle.xfs_machine.specs.Jobs.{ask_seen}
+use Rattle.xfs_machine.proofs.Posting.{accepts, unheld}
+use Rattle.xfs_machine.proofs.Withdrawn.{is_taken_in, withdrawn}
+use Rattle.xfs_machine.proofs.post.accept.Goals as goal
+use Rattle.xfs_model.specs.State.{queue_of}
+
+pub returns-in-Ok-clause-ok : goal.returns-in-Ok-clause-ok
+returns-in-Ok-clause-ok c = λ s k seen.
+    accepts s k c.args.seat seen.client seen.service c.args.now seen.now_is (said c.args.command) c.args.line (ask_seen c.in_ok-ask.ask) c.in_ok-reply.reply
+    c.args.connections.now c.send.new.self c.args.queues.now c.offer.new.self c.in_ok-reply.ensures (rw (c.as_str.ensures.text) at c.in_ok-ask.ensures) c.in-Ok.ensures.ok (rw (c.new-job.ensures) at c.in_ok-offer.ensures.ok)
+
+pub remove-requires : goal.remove-requires
+remove-requires c = is_taken_in c.args.queues.now c.offer.new.self c.args.seat.service _ c.in_ok-offer.ensures.ok
+
+pub returns-clause-queues : goal.returns-clause-queues
+returns-clause-queues c = c.remove.ensures ∙ withdrawn c.args.queues.now c.offer.new.self c.args.seat.service _ (unheld (queue_of c.args.queues.now c.args.seat.service) c.args.seat.client c.args.command.id c.requires.free) c.in_ok-offer.ensures.ok

@@ -1,0 +1,43 @@
+-- What is seen of a machine: its state, and the disk of its journal.
+use Rattle.std.specs.Prelude.{◌≤◌, ◌≢◌, ℕ, Bool, List, Option}
+use Rattle.xfs_base.specs.declared.moment.Moment.{Moment}
+use Rattle.xfs_base.specs.declared.moment.TheConstants.{LAST_MOMENT}
+use Rattle.xfs_card.specs.Slot.{Slot}
+use Rattle.xfs_disk.specs.declared.disk.Disk.{Ghosts}
+use Rattle.xfs_dispenser.specs.Seen.{seen}
+use Rattle.xfs_guard.specs.View.{GuardView}
+use Rattle.xfs_keyboard.specs.Entries.{Entry}
+use Rattle.xfs_model.specs.Causes.{HasCauses}
+use Rattle.xfs_model.specs.Kept.{IsMachine}
+use Rattle.xfs_model.specs.State.{Connection, Queues, State}
+
+pub record MachineView (D : Type 0) : Type 0 where
+  pub state : State
+  pub disk : D
+
+-- the guard of the machine, with its disk
+abbrev pub guard_of : {D : Type 0} → MachineView D → GuardView D
+guard_of m = record { state = m.state.seen.guard; disk = m.disk }
+
+-- a machine of these parts
+abbrev pub over : {D : Type 0} → Ghosts D → GuardView D → ℕ → Moment → ℕ → Bool → Moment → Slot → Option Entry → ℕ → List Connection → Queues → State
+over g guard life issued boot exchange now slot keypad given connections queues = record {
+  seen = seen g guard;
+  life = life;
+  issued = issued;
+  boot = boot;
+  exchange = exchange;
+  now = now;
+  slot = slot;
+  keypad = keypad;
+  given = given;
+  connections = connections;
+  queues = queues;
+}
+
+-- what every call of a machine keeps
+pub record IsWhole (s : State) : Type 0 where
+  pub machine : IsMachine s
+  pub causes : HasCauses s
+  pub moment : s.now.0 ≤ LAST_MOMENT
+  pub there : s.boot ≢ 0

@@ -1,0 +1,123 @@
+//! How a machine begins.
+
+ghost use Rattle.std.specs.Prelude.{MatchResult, ◌≡◌, ◌≢◌, ℕ, true, false, List, ◌≤◌, [], ◌∷◌, ◌++◌, length, is_some, IfOk, IfErr, None};
+ghost use Rattle.xfs_base.specs.Causes.{IfTold, Rose};
+ghost use Rattle.xfs_disk.specs.Moments.{LeavesOnly};
+ghost use Rattle.xfs_guard.specs.Balance.{no_notes};
+ghost use Rattle.xfs_guard.specs.Continues.{Continues};
+ghost use Rattle.xfs_guard.specs.CrashOutcomes.{EachStands, IsOldOrBooted, StandsRecorded};
+ghost use Rattle.xfs_guard.specs.Recorded.{IsRecorded};
+ghost use Rattle.xfs_guard.specs.Stored.{MayLeave};
+ghost use Rattle.xfs_guard.specs.declared.fail.BootFault.TheVariants.{NotJournal, Disk as BootDisk, Full as BootFull};
+ghost use Rattle.xfs_guard.specs.declared.open.Open.TheVariants.{No};
+ghost use Rattle.xfs_journal.specs.Image.{StandsFor};
+ghost use Rattle.xfs_journal.specs.JournalView.{StandsForEither, exceeds};
+ghost use Rattle.xfs_journal.specs.Paging.{CeasesAt, IsOldOrShort, IsQuiet};
+ghost use Rattle.xfs_journal.specs.declared.record.Rec.{Rec};
+ghost use Rattle.xfs_journal.specs.declared.record.Rec.TheVariants.{Boot};
+ghost use Rattle.xfs_dispenser.specs.Seen.{seen};
+ghost use Rattle.xfs_model.specs.State.{bare};
+
+use crate::connections::Connections;
+use crate::machine::Machine;
+use crate::queues::Queues;
+use std::alloc::Global;
+use xfs_base::Moment;
+use xfs_card::CardState;
+use xfs_disk::Disk;
+use xfs_guard::{BootFail, Core, Guard};
+use xfs_keyboard::KeyState;
+use xfs_mech::Mechanism;
+
+impl<M: Mechanism, D: Disk> Machine<M, D> {
+    /// A machine over this mechanism and the journal of this disk, which gets a Boot, with no connection,
+    /// command, card, entry or exchange. The life of a nonce is in milliseconds, 0 for one without an
+    /// end. A refused boot hands mechanism and disk back, as the guard's does.
+    pub fn boot(
+        alloc: Global,
+        bench: Core<M, D>,
+        life: u32,
+    ) -> Result<Machine<M, D>, BootFail<M, D>>
+        requires units { M.units bench.mech ≡ bench.units }
+        requires recorded { (records : List Rec) → MayLeave D.Disk bench.disk records → IsRecorded bench.key bench.units records (M.motions bench.mech) }
+        ensures bare { IfOk result (λ m. m.state ≡ bare m.state.seen life (length m.state.seen.guard.records)) }
+        ensures ok { IfOk result (λ m. (records : List Rec) × IfTold (D.held bench.disk) (λ all. StandsFor all records) × (m.state.seen.guard ≡ record {
+          key = bench.key;
+          seed = bench.seed;
+          units = bench.units;
+          records = records ++ Boot (M.places bench.mech) ∷ [];
+          bound = None;
+          open_order = No;
+          motions = M.motions bench.mech;
+          places = M.places bench.mech;
+          booted = M.places bench.mech;
+          loaded = no_notes;
+          faults = M.faults bench.mech;
+          limits = bench.limits;
+          shut = false;
+          boot_missing = false;
+          in_doubt = None;
+          disk_told = is_some (D.held bench.disk);
+        })) }
+        ensures fits { IfOk result (λ m. exceeds bench.limits m.state.seen.guard.records ≡ false) }
+        ensures continues { IfOk result (λ m. (records : List Rec) → m.state.seen.guard.records ≡ records ++ Boot (M.places bench.mech) ∷ [] → Continues (record m.state.seen.guard { records = records }) m.state.seen.guard) }
+        ensures mech { IfErr result (λ f. f.mech ≡ bench.mech) }
+        ensures not_journal { IfErr result (λ f. (at : ℕ) → f.why ≡ NotJournal at → IfTold (D.held bench.disk) (λ all. CeasesAt all at × ((records : List Rec) → ¬ StandsFor all records))) }
+        ensures refused { IfErr result (λ f. (at : ℕ) → f.why ≡ NotJournal at → IsQuiet D.Disk bench.disk f.disk) }
+        ensures full { IfErr result (λ f. f.why ≡ BootFull → (records : List Rec) × IfTold (D.held bench.disk) (λ all. StandsFor all records) × (exceeds bench.limits (records ++ Boot (M.places bench.mech) ∷ []) ≡ true)) }
+        ensures disk { IfErr result (λ f. f.why ≡ BootDisk → Rose (D.faults bench.disk) (D.faults f.disk)) }
+        ensures left { IfErr result (λ f. (records : List Rec) → MayLeave D.Disk f.disk records → IsRecorded bench.key bench.units records (M.motions bench.mech)) }
+        ensures either { IfErr result (λ f. IfTold (D.held bench.disk) (λ _. (records : List Rec) → ((image : List ℕ) → D.images bench.disk image → StandsFor image records) → (image : List ℕ) → D.images f.disk image → StandsForEither records (Boot (M.places bench.mech)) image)) }
+        ensures unlisted { IfErr result (λ f. IfTold (D.held bench.disk) (λ all. ((records : List Rec) → ¬ StandsFor all records) → IsQuiet D.Disk bench.disk f.disk)) }
+        ensures unwritten { IfErr result (λ f. f.why ≢ BootDisk → IfTold (D.held bench.disk) (λ all. LeavesOnly D.Disk bench.disk f.disk (IsOldOrShort (D.images bench.disk) all))) }
+        ensures faults { MatchResult result (λ m. D.faults bench.disk ≤ D.faults m.disk) (λ f. D.faults bench.disk ≤ D.faults f.disk) }
+        ensures told { IfErr result (λ f. is_some (D.held f.disk) ≡ is_some (D.held bench.disk)) }
+
+        // Where the disk tells, and each image that it is handed in with stands for a list, so does each that a crash at
+        // any moment of the call leaves, and the list is recorded.
+        ensures any_moment { IfTold (D.held bench.disk) (λ _. EachStands (D.images bench.disk) → MatchResult result
+            (λ m. LeavesOnly D.Disk bench.disk m.disk (StandsRecorded bench.key bench.units (M.motions bench.mech)))
+            (λ f. LeavesOnly D.Disk bench.disk f.disk (StandsRecorded bench.key bench.units (M.motions bench.mech)))) }
+
+        // Each of them is one of those before, or stands for the list that was found, with the Boot or without it.
+        ensures crashes { IfTold (D.held bench.disk) (λ all. MatchResult result
+            (λ m. LeavesOnly D.Disk bench.disk m.disk (IsOldOrBooted (D.images bench.disk) all (M.places bench.mech)))
+            (λ f. LeavesOnly D.Disk bench.disk f.disk (IsOldOrBooted (D.images bench.disk) all (M.places bench.mech)))) }
+    {
+        let Core {
+            mech,
+            disk,
+            key,
+            seed,
+            units,
+            limits,
+        } = bench;
+        match Guard::boot(alloc, mech, disk, key, seed, units, limits) {
+            Ok(guard) => Ok(Machine::booted(alloc, guard, life)),
+            Err(fail) => Err(fail),
+        }
+    }
+
+    // A machine over a guard whose last record is its Boot.
+    pub(crate) fn booted(alloc: Global, guard: Guard<M, D>, life: u32) -> Machine<M, D>
+        requires { length guard.state.records ≢ 0 }
+        ensures bare { result.state ≡ bare (seen D.Disk guard) life (length guard.state.records) }
+        ensures disk { result.disk ≡ guard.disk }
+    {
+        let boot = guard.records().len() as u64;
+        Machine {
+            alloc,
+            guard,
+            life,
+            issued: Moment(0),
+            boot,
+            exchange: false,
+            moment: Moment(0),
+            slot: CardState::new(),
+            keypad: KeyState::new(),
+            given: 0,
+            connections: Connections::new(alloc),
+            queues: Queues::new(alloc),
+        }
+    }
+}

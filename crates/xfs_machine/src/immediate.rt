@@ -1,0 +1,209 @@
+//! The commands that are done at once.
+
+ghost use Rattle.std.specs.Prelude.{◌≡◌, codes, IfOk, OnOk, OnErr, None, Some, is_none, if◌then◌else◌};
+ghost use Rattle.std.specs.List.{list_any};
+ghost use Rattle.serde_json.specs.View.{view};
+ghost use Rattle.xfs_common.specs.Cancel.{named_by};
+ghost use Rattle.xfs_common.specs.declared.payloads.Fit2.TheVariants as fit;
+ghost use Rattle.xfs_envelope.specs.Commands.{said};
+ghost use Rattle.xfs_envelope.specs.Messages.{IsPayload};
+ghost use Rattle.xfs_guard.specs.Fits.{unfit};
+ghost use Rattle.xfs_machine.specs.Seats.{IsCompleted, IsSeen, with_both};
+ghost use Rattle.xfs_model.specs.Frames.{IsAcknowledge, IsCompletion};
+ghost use Rattle.xfs_common.specs.Payloads.{capabilities_payload, status_payload};
+ghost use Rattle.xfs_common.specs.declared.error.ErrorCode.TheVariants.{NoMatchingRequestIds};
+ghost use Rattle.xfs_model.specs.Immediate.{ids_of, told_of};
+ghost use Rattle.xfs_model.specs.Results.{error, success};
+ghost use Rattle.xfs_units.specs.Payloads.{storage_payload};
+ghost use Rattle.xfs_model.specs.Posts.{DoesAtOnce};
+ghost use Rattle.xfs_model.specs.State.{Connection as ConnectionView, State};
+ghost use Rattle.xfs_queue.specs.Commands.{names};
+ghost use Rattle.xfs_queue.specs.Queue.{is_named};
+
+use crate::connections::{Connections, is_service};
+use crate::job::{Job, Outcome};
+use crate::post::{Seat, accepted};
+use crate::queues::Queues;
+use std::alloc::Global;
+use xfs_base::{Bytes, ClientId, Memory, Service};
+use xfs_common::{
+    CancelWhat, ErrorCode, Fit2, ReadFail, capabilities, error_code, nothing, read_cancel,
+    services, status,
+};
+use xfs_disk::Disk;
+use xfs_envelope::{Code, Envelope, completion};
+use xfs_guard::Guard;
+use xfs_mech::Mechanism;
+use xfs_queue::{Command, Ids, Queue};
+use xfs_units::storage;
+
+// Accepts a command and completes it. Where memory runs out nothing has changed.
+pub(crate) fn do_at_once<M: Mechanism, D: Disk>(
+    alloc: Global,
+    guard: &Guard<M, D>,
+    connections: &mut Connections,
+    queues: &mut Queues,
+    seat: Seat,
+    command: &Envelope,
+) -> Result<(), Memory>
+    ensures ok { OnOk result ((s : State) (k : ConnectionView) → k.client ≡ seat.client → k.service ≡ seat.service → s.seen.guard ≡ guard.now.state
+        → DoesAtOnce (with_both s connections.old queues.old) k (said command.now) (with_both s connections.new queues.new)) }
+    ensures connections { OnErr result (connections.new ≡ connections.old) }
+    ensures queues { OnErr result (queues.new ≡ queues.old) }
+{
+    if command.name.as_str() == "Common.Cancel" {
+        return cancel(alloc, connections, queues, seat, command);
+    }
+    let outcome = told(alloc, guard, seat.service, command.name.as_str())?;
+    complete(alloc, connections, seat, command, &outcome)
+}
+
+// The acknowledge and the completion are sent, or neither.
+fn complete(
+    alloc: Global,
+    connections: &mut Connections,
+    seat: Seat,
+    command: &Envelope,
+    outcome: &Outcome,
+) -> Result<(), Memory>
+    ensures ok { OnOk result (IsCompleted seat (said command.now) outcome.now connections.old connections.new) }
+    ensures err { OnErr result (connections.new ≡ connections.old) }
+{
+    let reply = accepted(alloc, command)?;
+    let last = completed(alloc, command, outcome)?;
+    connections.send_two(seat.service, seat.client, reply, last)
+}
+
+fn completed(alloc: Global, command: &Envelope, outcome: &Outcome) -> Result<Bytes, Memory>
+    ensures { IfOk result (λ f. IsCompletion command.now.id command.now.name outcome.now.code outcome.now.payload f) }
+{
+    let code = outcome.code();
+    Ok(Bytes::new(completion(alloc, &command.name, command.id, code, outcome.payload())?))
+}
+
+// What is told of the machine.
+fn told<M: Mechanism, D: Disk>(
+    alloc: Global,
+    guard: &Guard<M, D>,
+    service: Service,
+    name: &str,
+) -> Result<Outcome, Memory>
+    ensures { IfOk result (λ o. (s : State) → s.seen.guard ≡ guard.now.state → o ≡ told_of s service name.now) }
+{
+    match name {
+        "Common.Status" => told_health(alloc, service, health(guard)),
+        "Common.Capabilities" => told_capabilities(alloc, service),
+        "ServicePublisher.GetServices" if is_service(Service::Publisher, service) => Ok(
+            Outcome::new(Code::Success, services(alloc)?),
+        ),
+        "Storage.GetStorage" if is_service(Service::Cash, service) => told_storage(alloc, guard),
+        _ => Ok(Outcome::new(Code::InvalidCommand, nothing(alloc))),
+    }
+}
+
+// The dispenser is out of order while its journal takes no more records.
+fn health<M: Mechanism, D: Disk>(guard: &Guard<M, D>) -> Fit2
+    ensures { result ≡ (if is_none (unfit guard.now.state) then fit.Online else fit.HardwareError) }
+{
+    match guard.unfit() {
+        None => Fit2::Online,
+        Some(_) => Fit2::HardwareError,
+    }
+}
+
+fn told_health(alloc: Global, service: Service, health: Fit2) -> Result<Outcome, Memory>
+    ensures { IfOk result (λ o. o ≡ success (status_payload service health)) }
+{
+    Ok(Outcome::new(Code::Success, status(alloc, service, health)?))
+}
+
+fn told_capabilities(alloc: Global, service: Service) -> Result<Outcome, Memory>
+    ensures { IfOk result (λ o. o ≡ success (capabilities_payload service)) }
+{
+    Ok(Outcome::new(Code::Success, capabilities(alloc, service)?))
+}
+
+fn told_storage<M: Mechanism, D: Disk>(
+    alloc: Global,
+    guard: &Guard<M, D>,
+) -> Result<Outcome, Memory>
+    ensures { IfOk result (λ o. o ≡ success (storage_payload guard.now.state.units guard.now.state.places)) }
+{
+    let places = guard.places();
+    let payload = storage(alloc, guard.units(), &places)?;
+    Ok(Outcome::new(Code::Success, payload))
+}
+
+// A Cancel stops the named commands of its client, where one of them is pending.
+fn cancel(
+    alloc: Global,
+    connections: &mut Connections,
+    queues: &mut Queues,
+    seat: Seat,
+    command: &Envelope,
+) -> Result<(), Memory>
+    requires { command.now.name ≡ codes "Common.Cancel" }
+    ensures ok { OnOk result ((s : State) (k : ConnectionView) → k.client ≡ seat.client → k.service ≡ seat.service
+        → DoesAtOnce (with_both s connections.old queues.old) k (said command.now) (with_both s connections.new queues.new)) }
+    ensures connections { OnErr result (connections.new ≡ connections.old) }
+    ensures queues { OnErr result (queues.new ≡ queues.old) }
+{
+    let ids = match read_cancel(alloc, &command.payload) {
+        Ok(what) => ids_of(what),
+        Err(ReadFail::Shape) => {
+            let outcome = Outcome::new(Code::InvalidData, nothing(alloc));
+            return complete(alloc, connections, seat, command, &outcome);
+        }
+        Err(ReadFail::Memory) => return Err(Memory),
+    };
+    if !names_one(queues.at(seat.service), seat.client, &ids) {
+        let outcome = no_matching(alloc)?;
+        return complete(alloc, connections, seat, command, &outcome);
+    }
+    let outcome = Outcome::new(Code::Success, nothing(alloc));
+    complete(alloc, connections, seat, command, &outcome)?;
+    queues.stop(alloc, seat.service, seat.client, &ids);
+    Ok(())
+}
+
+fn no_matching(alloc: Global) -> Result<Outcome, Memory>
+    ensures { IfOk result (λ o. o ≡ error NoMatchingRequestIds) }
+{
+    Ok(Outcome::new(
+        Code::CommandErrorCode,
+        error_code(alloc, ErrorCode::NoMatchingRequestIds.text())?,
+    ))
+}
+
+fn ids_of(what: CancelWhat) -> Ids
+    ensures { result ≡ ids_of (named_by what) }
+{
+    match what {
+        CancelWhat::All => Ids::All,
+        CancelWhat::These(ids) => Ids::These(ids),
+    }
+}
+
+fn names_one(queue: &Queue<Job>, client: ClientId, ids: &Ids) -> bool
+    ensures { result ≡ list_any (is_named client ids.now) queue.now }
+{
+    queue
+        .commands()
+        .iter()
+        .any(|command| is_named(command, client, ids))
+}
+
+fn is_named(command: &Command<Job>, client: ClientId, ids: &Ids) -> bool
+    ensures { result ≡ is_named client ids.now command.now }
+{
+    command.client.0 == client.0 && names(ids, command.id)
+}
+
+fn names(ids: &Ids, id: u64) -> bool
+    ensures { result ≡ names ids.now id }
+{
+    match ids {
+        Ids::All => true,
+        Ids::These(ids) => ids.list().contains(&id),
+    }
+}

@@ -1,0 +1,201 @@
+ghost use Rattle.std.specs.Prelude.{◌≡◌, ◌≢◌, ◌≤◌, ◌++◌, ℕ, nat_le, is_some, length, option_map, if◌then◌else◌};
+ghost use Rattle.xfs_base.specs.Causes.{next_count};
+ghost use Rattle.xfs_base.specs.declared.moment.TheConstants.{LAST_MOMENT};
+ghost use Rattle.xfs_guard.specs.Nonce.{live_in};
+ghost use Rattle.xfs_machine.specs.Answers.{joined_as, posted};
+ghost use Rattle.xfs_machine.specs.MachineView.{guard_of};
+ghost use Rattle.xfs_model.specs.Connections.{connection_of};
+ghost use Rattle.xfs_model.specs.Events.{join, leave, outbox, post, done, handed};
+ghost use Rattle.xfs_model.specs.Step.{Step};
+
+use crate::connection::Connection;
+use crate::connections::Connections;
+use crate::frames::Frames;
+use crate::pass::{JoinFault, Pass};
+use crate::post::{Seat, take};
+use crate::queues::Queues;
+use crate::tally::Tally;
+use std::alloc::Global;
+use std::marker::Model;
+use xfs_base::{ClientId, Memory, Moment, Places, Service};
+use xfs_card::CardState;
+use xfs_disk::Disk;
+use xfs_guard::{Guard, Nonce};
+use xfs_journal::Rec;
+use xfs_keyboard::KeyState;
+use xfs_mech::Mechanism;
+
+// So many connections may be open.
+const MOST_OPEN: usize = 64;
+
+/// The machine: its guard and devices, its connections, and the pending commands of each service.
+/// Each call is one event of it, and in its clause `step` one step of the definitions.
+#[derive(Drop)]
+pub struct Machine<M: Mechanism, D: Disk> {
+    pub(crate) alloc: Global,
+    pub(crate) guard: Guard<M, D>,
+    pub(crate) life: u32,
+    pub(crate) issued: Moment,
+    pub(crate) boot: u64,
+    pub(crate) exchange: bool,
+    pub(crate) moment: Moment,
+    pub(crate) slot: CardState,
+    pub(crate) keypad: KeyState,
+    pub(crate) given: u32,
+    pub(crate) connections: Connections,
+    pub(crate) queues: Queues,
+}
+
+impl<M: Mechanism, D: Disk> Model for Machine<M, D> {
+    ghost use Rattle.xfs_machine.specs.MachineView.{MachineView, IsWhole, over};
+    ghost use Rattle.std.specs.Coded.{codes};
+    ghost use Rattle.xfs_machine.specs.DataCodes.{data_code};
+
+    ghost Value = { MachineView D };
+
+    ghost coded = { Prim.hlevel (codes, data_code) };
+
+    ghost view = { λ m. record {
+      state = over D.Disk m.guard m.life m.issued m.boot m.exchange m.moment m.slot m.keypad m.given m.connections m.queues;
+      disk = m.guard.disk;
+    } };
+
+    ghost invariant = { λ m. IsWhole (over D.Disk m.guard m.life m.issued m.boot m.exchange m.moment m.slot m.keypad m.given m.connections m.queues) };
+}
+
+impl<M: Mechanism, D: Disk> Machine<M, D> {
+    /// Takes a connection.
+    pub fn join(&mut self, service: Service) -> Result<Pass, JoinFault>
+        ensures step { Step self.old.state (join service) (joined_as result) self.new.state }
+        ensures guard { guard_of self.new ≡ guard_of self.old }
+    {
+        if self.connections.len() >= MOST_OPEN || self.given == u32::MAX {
+            return Err(JoinFault::Full);
+        }
+        let client = ClientId(self.given + 1);
+        let connection = Connection::new(self.alloc, client, service);
+        if self.connections.push(connection).is_err() {
+            return Err(JoinFault::Memory);
+        }
+        self.given += 1;
+        Ok(Pass {
+            client,
+            service,
+            boot: self.boot,
+        })
+    }
+
+    /// Takes a text of a client. A pass that isn't open changes nothing.
+    pub fn post(
+        &mut self,
+        pass: &Pass,
+        text: &[u8],
+        now: Moment,
+        tally: &mut Tally,
+    ) -> Result<(), Memory>
+        requires { now.0 ≤ LAST_MOMENT }
+        ensures step { Step self.old.state (post pass.now text.now now) (posted result) self.new.state }
+        ensures guard { guard_of self.new ≡ guard_of self.old }
+        ensures tally { tally.new ≡ record tally.old { posts = next_count tally.old.posts } }
+    {
+        tally.count_post();
+        let Some(service) = self.service_of(pass) else {
+            return Ok(());
+        };
+        let seat = Seat {
+            client: pass.client,
+            service,
+        };
+        let now = later(self.moment, now);
+        take(
+            self.alloc,
+            &self.guard,
+            &mut self.connections,
+            &mut self.queues,
+            seat,
+            text,
+            now,
+        )?;
+        self.moment = now;
+        Ok(())
+    }
+
+    /// Hands over the frames that wait for a connection, in order. A pass that isn't open has none. It takes
+    /// no memory.
+    pub fn outbox(&mut self, pass: &Pass, tally: &mut Tally) -> Frames
+        ensures step { Step self.old.state (outbox pass.now) (handed result) self.new.state }
+        ensures guard { guard_of self.new ≡ guard_of self.old }
+        ensures tally { tally.new ≡ record tally.old { outboxes = next_count tally.old.outboxes } }
+    {
+        tally.count_outbox();
+        if self.boot != pass.boot {
+            return Frames::new(Vec::new(self.alloc));
+        }
+        Frames::new(self.connections.fetch(self.alloc, pass.client))
+    }
+
+    /// Drops a connection with its commands, but for its running one, which is marked. A pass that isn't open
+    /// changes nothing. It takes no memory.
+    pub fn leave(&mut self, pass: Pass)
+        ensures step { Step self.old.state (leave pass) done self.new.state }
+        ensures guard { guard_of self.new ≡ guard_of self.old }
+    {
+        let Some(service) = self.service_of(&pass) else {
+            return;
+        };
+        self.connections.remove(pass.client);
+        self.queues.drop_client(service, pass.client);
+    }
+
+    /// Whether a pass is of this boot and its connection open.
+    pub fn is_open(&self, pass: &Pass) -> bool
+        ensures { result ≡ is_some (connection_of self.now.state pass.now) }
+    {
+        self.service_of(pass).is_some()
+    }
+
+    /// How many connections are open.
+    pub fn open_count(&self) -> u32
+        ensures { result ≡ length self.now.state.connections }
+    {
+        self.connections.len() as u32
+    }
+
+    /// The live nonce.
+    pub fn live(&self) -> Option<Nonce>
+        ensures { result ≡ live_in self.now.state.seen.guard.boot_missing self.now.state.seen.guard.records }
+    {
+        self.guard.live()
+    }
+
+    /// Where the notes lie.
+    pub fn places(&self) -> Places
+        ensures { result ≡ self.now.state.seen.guard.places }
+    {
+        self.guard.places()
+    }
+
+    /// The journal. A record's number is its place, from 1.
+    pub fn records(&self) -> &[Rec]
+        ensures { result.now ≡ self.now.state.seen.guard.records }
+    {
+        self.guard.records()
+    }
+
+    // The service of the open connection of a pass.
+    pub(crate) fn service_of(&self, pass: &Pass) -> Option<Service>
+        ensures { result ≡ option_map (λ k. k.service) (connection_of self.now.state pass.now) }
+    {
+        if self.boot != pass.boot {
+            return None;
+        }
+        self.connections.service_of(pass.client)
+    }
+}
+
+// The greater of two moments.
+pub(crate) fn later(now: Moment, next: Moment) -> Moment
+    ensures { result ≡ (if nat_le now.0 next.0 then next else now) }
+{
+    if now.0 <= next.0 { next } else { now }
+}

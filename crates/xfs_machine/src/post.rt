@@ -1,0 +1,210 @@
+//! What becomes of a text that a client says.
+
+ghost use Rattle.std.specs.Prelude.{◌≡◌, ◌≤◌, ◌||◌, nat_le, length, count_by, true, false, IfOk, OnOk, OnErr, None, Some};
+ghost use Rattle.serde_json.specs.View.{view};
+ghost use Rattle.xfs_base.specs.declared.moment.TheConstants.{LAST_MOMENT};
+ghost use Rattle.xfs_conversation.specs.Pending.{is_wrong_id};
+ghost use Rattle.xfs_envelope.specs.Commands.{command_in, said};
+ghost use Rattle.xfs_envelope.specs.declared.code.Status.TheVariants.{InvalidMessage, InvalidRequestId, TooManyRequests};
+ghost use Rattle.xfs_machine.specs.Seats.{IsRefused, IsSeen, with_both};
+ghost use Rattle.xfs_model.specs.Commands.{line_of};
+ghost use Rattle.xfs_model.specs.Connections as connections;
+ghost use Rattle.xfs_model.specs.Frames.{IsAcknowledge};
+ghost use Rattle.xfs_model.specs.Pendings.{pending_in};
+ghost use Rattle.xfs_model.specs.Posts.{Accepts, Refuses, Takes, TakesOn, is_crowded};
+ghost use Rattle.xfs_model.specs.State.{Connection as ConnectionView, State, queue_of};
+ghost use Rattle.xfs_queue.specs.Commands.{is_of};
+
+use crate::asks::{ask_of, line_of};
+use crate::connections::Connections;
+use crate::immediate::do_at_once;
+use crate::job::Job;
+use crate::queues::Queues;
+use std::alloc::Global;
+use xfs_base::{Bytes, ClientId, Memory, Moment, Service};
+use xfs_conversation::is_request_id;
+use xfs_disk::Disk;
+use xfs_envelope::{Envelope, Refuse, Status, Why, acknowledge, read};
+use xfs_guard::Guard;
+use xfs_mech::Mechanism;
+use xfs_queue::{Command, Line, Queue, Ticket};
+
+/// A client, and the service that it is connected to.
+#[derive(Clone, Copy, Debug)]
+pub(crate) struct Seat {
+    pub(crate) client: ClientId,
+    pub(crate) service: Service,
+}
+
+// Takes a text. Where memory runs out nothing has changed.
+pub(crate) fn take<M: Mechanism, D: Disk>(
+    alloc: Global,
+    guard: &Guard<M, D>,
+    connections: &mut Connections,
+    queues: &mut Queues,
+    seat: Seat,
+    text: &[u8],
+    now: Moment,
+) -> Result<(), Memory>
+    requires { now.0 ≤ LAST_MOMENT }
+    ensures ok { OnOk result ((s : State) (k : ConnectionView) → IsSeen now seat s k → s.seen.guard ≡ guard.now.state
+        → Takes (with_both s connections.old queues.old) k (command_in text.now) (with_both s connections.new queues.new)) }
+    ensures connections { OnErr result (connections.new ≡ connections.old) }
+    ensures queues { OnErr result (queues.new ≡ queues.old) }
+{
+    match read(alloc, text) {
+        Ok(command) => take_command(alloc, guard, connections, queues, seat, command, now),
+        Err(refuse) => {
+            if refuse.why == Why::Memory {
+                return Err(Memory);
+            }
+            refuse_text(alloc, connections, seat, refuse)
+        }
+    }
+}
+
+fn refuse_text(
+    alloc: Global,
+    connections: &mut Connections,
+    seat: Seat,
+    refuse: Refuse,
+) -> Result<(), Memory>
+    ensures ok { OnOk result (IsRefused seat refuse.id None InvalidMessage connections.old connections.new) }
+    ensures err { OnErr result (connections.new ≡ connections.old) }
+{
+    let reply = misread(alloc, refuse)?;
+    connections.send(seat.service, seat.client, reply)
+}
+
+fn misread(alloc: Global, refuse: Refuse) -> Result<Bytes, Memory>
+    ensures { IfOk result (λ f. IsAcknowledge refuse.id None (Some InvalidMessage) f) }
+{
+    let id = widened(refuse.id);
+    Ok(Bytes::new(acknowledge(alloc, None, id, Some(Status::InvalidMessage))?))
+}
+
+fn widened(id: Option<u32>) -> Option<u64>
+    ensures { result ≡ id }
+{
+    match id {
+        Some(id) => Some(u64::from(id)),
+        None => None,
+    }
+}
+
+fn take_command<M: Mechanism, D: Disk>(
+    alloc: Global,
+    guard: &Guard<M, D>,
+    connections: &mut Connections,
+    queues: &mut Queues,
+    seat: Seat,
+    command: Envelope,
+    now: Moment,
+) -> Result<(), Memory>
+    requires { now.0 ≤ LAST_MOMENT }
+    ensures ok { OnOk result ((s : State) (k : ConnectionView) → IsSeen now seat s k → s.seen.guard ≡ guard.now.state
+        → Takes (with_both s connections.old queues.old) k (Ok (said command)) (with_both s connections.new queues.new)) }
+    ensures connections { OnErr result (connections.new ≡ connections.old) }
+    ensures queues { OnErr result (queues.new ≡ queues.old) }
+{
+    if is_wrong_id(queues.at(seat.service), seat.client, command.id) {
+        return refuse(alloc, connections, seat, &command, Status::InvalidRequestId);
+    }
+    let Some(line) = line_of(seat.service, command.name.as_str()) else {
+        return do_at_once(alloc, guard, connections, queues, seat, &command);
+    };
+    if is_crowded(queues.at(seat.service), seat.client) {
+        return refuse(alloc, connections, seat, &command, Status::TooManyRequests);
+    }
+    accept(alloc, connections, queues, seat, line, command, now)
+}
+
+fn refuse(
+    alloc: Global,
+    connections: &mut Connections,
+    seat: Seat,
+    command: &Envelope,
+    why: Status,
+) -> Result<(), Memory>
+    ensures ok { OnOk result (IsRefused seat (Some command.now.id) (Some command.now.name) why connections.old connections.new) }
+    ensures err { OnErr result (connections.new ≡ connections.old) }
+{
+    let reply = turned_away(alloc, command, why)?;
+    connections.send(seat.service, seat.client, reply)
+}
+
+fn turned_away(alloc: Global, command: &Envelope, why: Status) -> Result<Bytes, Memory>
+    ensures { IfOk result (λ f. IsAcknowledge (Some command.now.id) (Some command.now.name) (Some why) f) }
+{
+    Ok(Bytes::new(acknowledge(alloc, Some(&command.name), Some(command.id), Some(why))?))
+}
+
+fn is_wrong_id(queue: &Queue<Job>, client: ClientId, id: u64) -> bool
+    ensures { result ≡ is_wrong_id (pending_in client queue.now) id }
+{
+    !is_request_id(id) || queue.holds(client, id)
+}
+
+// 32 commands of the client are pending, or 256 at the service.
+fn is_crowded(queue: &Queue<Job>, client: ClientId) -> bool
+    ensures { result ≡ is_crowded queue.now client }
+{
+    let commands = queue.commands();
+    count_of(commands, client) >= 32 || commands.len() >= 256
+}
+
+fn count_of(commands: &[Command<Job>], client: ClientId) -> usize
+    ensures { result ≡ count_by (is_of client) commands.now }
+{
+    commands
+        .iter()
+        .filter(|command| command.client.0 == client.0)
+        .count()
+}
+
+pub(crate) fn accepted(alloc: Global, command: &Envelope) -> Result<Bytes, Memory>
+    ensures { IfOk result (λ f. IsAcknowledge (Some command.now.id) (Some command.now.name) None f) }
+{
+    Ok(Bytes::new(acknowledge(alloc, Some(&command.name), Some(command.id), None)?))
+}
+
+// The command is pending from now on. Where its acknowledge can't be sent, it is taken out again.
+fn accept(
+    alloc: Global,
+    connections: &mut Connections,
+    queues: &mut Queues,
+    seat: Seat,
+    line: Line,
+    command: Envelope,
+    now: Moment,
+) -> Result<(), Memory>
+    requires moment { now.0 ≤ LAST_MOMENT }
+    requires line { line_of seat.service command.name ≡ Some line }
+    requires free { is_wrong_id (pending_in seat.client (queue_of queues.old seat.service)) command.id ≡ false }
+    ensures ok { OnOk result ((s : State) (k : ConnectionView) → IsSeen now seat s k
+        → Accepts (with_both s connections.old queues.old) k line (said command) (with_both s connections.new queues.new)) }
+    ensures connections { OnErr result (connections.new ≡ connections.old) }
+    ensures queues { OnErr result (queues.new ≡ queues.old) }
+{
+    let reply = accepted(alloc, &command)?;
+    let ask = ask_of(
+        alloc,
+        seat.service,
+        line,
+        command.name.as_str(),
+        &command.payload,
+    )?;
+    let ticket = Ticket {
+        client: seat.client,
+        id: command.id,
+    };
+    let job = Job::new(command.name, ask);
+    queues.offer(seat.service, ticket, line, command.timeout, now, job)?;
+    match connections.send(seat.service, seat.client, reply) {
+        Ok(()) => Ok(()),
+        Err(Memory) => {
+            queues.remove(seat.service, ticket);
+            Err(Memory)
+        }
+    }
+}
