@@ -16,16 +16,14 @@ use Rattle.xfs_model.specs.Posts.{Takes}
 use Rattle.xfs_model.specs.State.{Connection, Pass, Queues, State, queue_of, with_queue}
 use Rattle.xfs_model.specs.Step.{IsFull, Step, at_moment, happens, wanting}
 use Rattle.xfs_queue.specs.Queue.{without_client}
-use Rattle.xfs_model.proofs.Caused.{causes_kept}
 use Rattle.xfs_model.proofs.Changes.{same_some}
 use Rattle.xfs_model.proofs.Keeping.{IsOpen, is_open}
 use Rattle.xfs_model.proofs.Lists.{found_passes}
-use Rattle.xfs_model.proofs.Machines.{kept}
+use Rattle.xfs_model.proofs.Sounds.{sound_kept}
 
 pub whole_kept : (old new : State) (event : Event) (answer : Answer) → IsWhole old → Step old event answer new → new.now.0 ≤ LAST_MOMENT → new.boot ≡ old.boot → IsWhole new
 whole_kept old new event answer whole step moment boot = record {
-  machine = kept old new event answer whole.machine step;
-  causes = causes_kept old new event answer whole.machine step whole.causes;
+  sound = sound_kept old new event answer whole.sound step;
   moment = moment;
   there = λ e. whole.there (sym boot ∙ e);
 }

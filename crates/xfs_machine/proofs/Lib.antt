@@ -2,7 +2,10 @@ pub mod Announced
 pub mod AskLaws
 pub mod Calls
 pub mod Changed
+pub mod EmptyDisk
+pub mod Endings
 pub mod Fits
+pub mod GuardLaws
 pub mod Places
 pub mod Posting
 pub mod Withdrawn

@@ -1,8 +1,10 @@
 pub mod Answers
 pub mod DataCodes
+pub mod Endings
 pub mod Jobs
 pub mod Lending
 pub mod MachineView
 pub mod Tallies
+pub mod Wanted
 pub mod Withdrawals
 pub mod Seats

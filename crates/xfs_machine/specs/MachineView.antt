@@ -7,8 +7,7 @@ use Rattle.xfs_disk.specs.declared.disk.Disk.{Ghosts}
 use Rattle.xfs_dispenser.specs.Seen.{seen}
 use Rattle.xfs_guard.specs.View.{GuardView}
 use Rattle.xfs_keyboard.specs.Entries.{Entry}
-use Rattle.xfs_model.specs.Causes.{HasCauses}
-use Rattle.xfs_model.specs.Kept.{IsMachine}
+use Rattle.xfs_model.specs.Sound.{IsSound}
 use Rattle.xfs_model.specs.State.{Connection, Queues, State}
 
 pub record MachineView (D : Type 0) : Type 0 where
@@ -37,7 +36,6 @@ over g guard life issued boot exchange now slot keypad given connections queues 
 
 -- what every call of a machine keeps
 pub record IsWhole (s : State) : Type 0 where
-  pub machine : IsMachine s
-  pub causes : HasCauses s
+  pub sound : IsSound s
   pub moment : s.now.0 ≤ LAST_MOMENT
   pub there : s.boot ≢ 0

@@ -98,9 +98,10 @@ impl<M: Mechanism, D: Disk> Machine<M, D> {
         }
     }
 
-    // A machine over a guard whose last record is its Boot.
+    // A machine over a guard whose last record is its Boot, with no order open.
     pub(crate) fn booted(alloc: Global, guard: Guard<M, D>, life: u32) -> Machine<M, D>
-        requires { length guard.state.records ≢ 0 }
+        requires there { length guard.state.records ≢ 0 }
+        requires none { guard.state.open_order ≡ No }
         ensures bare { result.state ≡ bare (seen D.Disk guard) life (length guard.state.records) }
         ensures disk { result.disk ≡ guard.disk }
     {

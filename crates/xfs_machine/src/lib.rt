@@ -6,6 +6,7 @@ mod asks;
 mod boot;
 mod connection;
 mod connections;
+mod ending;
 mod frames;
 mod immediate;
 mod job;
@@ -13,6 +14,7 @@ mod machine;
 mod pass;
 mod post;
 mod queues;
+mod reboot;
 mod tally;
 
 pub use answer::{Touched, Work};

@@ -6,6 +6,8 @@ ghost use Rattle.xfs_machine.specs.Answers.{joined_as, posted};
 ghost use Rattle.xfs_machine.specs.MachineView.{guard_of};
 ghost use Rattle.xfs_model.specs.Connections.{connection_of};
 ghost use Rattle.xfs_model.specs.Events.{join, leave, outbox, post, done, handed};
+ghost use Rattle.xfs_machine.specs.Wanted.{wants};
+ghost use Rattle.xfs_model.specs.Guards.{is_shutter_closed};
 ghost use Rattle.xfs_model.specs.Step.{Step};
 
 use crate::connection::Connection;
@@ -17,7 +19,7 @@ use crate::queues::Queues;
 use crate::tally::Tally;
 use std::alloc::Global;
 use std::marker::Model;
-use xfs_base::{ClientId, Memory, Moment, Places, Service};
+use xfs_base::{ClientId, Kind, Memory, Moment, Places, Service, UnitTable};
 use xfs_card::CardState;
 use xfs_disk::Disk;
 use xfs_guard::{Guard, Nonce};
@@ -173,6 +175,31 @@ impl<M: Mechanism, D: Disk> Machine<M, D> {
         ensures { result ≡ self.now.state.seen.guard.places }
     {
         self.guard.places()
+    }
+
+    /// The kinds of notes of the units.
+    pub fn units(&self) -> &UnitTable
+        ensures { result.now ≡ self.now.state.seen.guard.units }
+    {
+        self.guard.units()
+    }
+
+    /// Whether a touch of the world is waited for at a service.
+    pub fn wants(&self, service: Service) -> bool
+        ensures { result ≡ wants self.now.state service }
+    {
+        match service {
+            Service::Publisher => false,
+            Service::Card => self.slot.awaited() || self.slot.at_exit(),
+            Service::Keys => self.keypad.active(),
+            Service::Cash => self.places().outlet.notes() != 0 && !self.is_shutter_closed(),
+        }
+    }
+
+    fn is_shutter_closed(&self) -> bool
+        ensures { result ≡ is_shutter_closed self.now.state.seen }
+    {
+        matches!(self.guard.unacted(), Some(Kind::Retract))
     }
 
     /// The journal. A record's number is its place, from 1.

@@ -1,0 +1,57 @@
+-- A restart in place, and the end of a machine, are steps of it.
+use Rattle.std.proofs.Common.{◌≡◌, ◌≢◌, ◌≤◌, ℕ, false, List, length, None, Result, Ok, Err, ◌∷◌, [], refl, ap, sym, ◌∙◌, arith, length-append}
+use Rattle.std.specs.Prelude.{IfErr, OnErr, OnOk, is_ok}
+use Rattle.xfs_base.specs.declared.moment.TheConstants.{LAST_MOMENT}
+use Rattle.xfs_dispenser.specs.Seen.{Seen}
+use Rattle.xfs_guard.specs.View.{View}
+use Rattle.xfs_guard.specs.declared.deny.Deny.{Deny}
+use Rattle.xfs_guard.specs.declared.fail.BootFault.{BootFault}
+use Rattle.xfs_guard.specs.declared.fail.BootFault.TheVariants.{Memory}
+use Rattle.xfs_guard.specs.declared.open.Open.TheVariants.{No}
+use Rattle.xfs_journal.specs.declared.record.Rec.TheVariants.{Boot}
+use Rattle.xfs_machine.specs.Answers.{finished}
+use Rattle.xfs_machine.specs.MachineView.{IsWhole}
+use Rattle.xfs_model.specs.Events.{restart, restarted, unrestarted, finish, memory}
+use Rattle.xfs_model.specs.Guards.{Closes, IsUnbooted, Reboots}
+use Rattle.xfs_model.specs.State.{State, bare}
+use Rattle.xfs_model.specs.Step.{Step, gone, happens, wanting}
+use Rattle.xfs_model.proofs.Sounds.{sound_bare, unbooted_closed}
+
+pub finishes : (s : State) (r : Result Unit Deny) (next : Seen) → s.boot ≢ 0 → Closes s.seen.guard.open_order s.seen (is_ok r) next → Step s finish (finished r) (gone s next)
+finishes s (Ok done) next there closes = happens there (record { next = next; closes = closes; is = refl })
+finishes s (Err deny) next there closes = happens there (record { next = next; closes = closes; is = refl })
+
+pub restart_wants : (s : State) (next : Seen) → next.guard ≡ s.seen.guard → s.seen.disk_faults ≤ next.disk_faults → Step s restart memory (record s { seen = next })
+restart_wants s next same later = wanting refl (record { next = next; becomes = record { guard_is = same; later = later }; is = refl })
+
+pub restarts : (s : State) (r : Result Unit BootFault) (next : Seen) (boot : ℕ) → s.boot ≢ 0 → OnOk r (Reboots s.seen next) → OnOk r (boot ≡ length next.guard.records) → OnOk r (Step s restart restarted (bare next s.life boot))
+restarts s (Ok done) next boot there is number = happens there (record { next = next; reboots = is; is = ap (λ n. bare next s.life n) number })
+restarts s (Err why) next boot there is number = tt
+
+pub refuses : (s : State) (r : Result Unit BootFault) (next : Seen) → s.boot ≢ 0 → IfErr r (λ f. f ≢ Memory → IsUnbooted s.seen next) → IfErr r (λ f. f ≢ Memory → Step s restart unrestarted (gone s next))
+refuses s (Ok done) next there is = tt
+refuses s (Err why) next there is = λ other. happens there (record { next = next; refused = is other; is = refl })
+
+-- an outcome that is not want of memory leaves no order open
+pub closed_after : (old next : Seen) (r : Result Unit BootFault) → r ≢ Err Memory → OnOk r (Reboots old next) → IfErr r (λ f. f ≢ Memory → IsUnbooted old next) → next.guard.open_order ≡ No
+closed_after old next (Ok done) other is how = ap (λ (v : View). v.open_order) is.becomes.guard_is
+closed_after old next (Err why) other is how = unbooted_closed old next (how (λ e. other (ap Err e)))
+
+pub emptied : (r : Result Unit BootFault) (next : Seen) (life before boot : ℕ) → OnErr r (boot ≡ before) → IfErr r (λ f. f ≢ Memory → bare next life boot ≡ bare next life before)
+emptied (Ok done) next life before boot same = tt
+emptied (Err why) next life before boot same = λ other. ap (λ n. bare next life n) same
+
+numbered : (s : State) (r : Result Unit BootFault) (next : Seen) (boot : ℕ) → s.boot ≢ 0 → OnOk r (Reboots s.seen next) → OnOk r (boot ≡ length next.guard.records) → OnErr r (boot ≡ s.boot) → boot ≢ 0
+numbered s (Ok done) next boot there is number same e =
+    let grown = ap (λ (v : View). length v.records) is.becomes.guard_is in
+    let size = length-append is.records (Boot s.seen.guard.places ∷ []) in
+    absurd (omega (arith, grown, size, number, e))
+numbered s (Err why) next boot there is number same e = there (sym same ∙ e)
+
+pub whole_after : (s : State) (r : Result Unit BootFault) (next : Seen) (boot : ℕ) → s.boot ≢ 0 → r ≢ Err Memory → OnOk r (Reboots s.seen next) → IfErr r (λ f. f ≢ Memory → IsUnbooted s.seen next)
+    → OnOk r (boot ≡ length next.guard.records) → OnErr r (boot ≡ s.boot) → IsWhole (bare next s.life boot)
+whole_after s r next boot there other is how number same = record {
+  sound = sound_bare next s.life boot (λ up. closed_after s.seen next r other is how);
+  moment = omega arith;
+  there = numbered s r next boot there is number same;
+}

@@ -1,0 +1,88 @@
+-- What the guard's own clauses say, in the words of the machine's definitions.
+use Rattle.std.proofs.Common.{◌≡◌, ◌≢◌, ◌≤◌, ◌⊎◌, ℕ, Bool, true, false, List, [], ◌∷◌, ◌++◌, Option, None, Some, Result, Ok, Err, inl, inr, refl, subst}
+use Rattle.std.specs.Prelude.{is_none, is_ok, is_some, IfErr, OnErr, OnOk}
+use Rattle.xfs_base.specs.Causes.{Rose}
+use Rattle.xfs_base.specs.declared.counts.Counts.{Counts}
+use Rattle.xfs_base.specs.declared.counts.Kind.{Kind}
+use Rattle.xfs_base.specs.Counts.{LiesIn}
+use Rattle.xfs_dispenser.specs.Seen.{Seen, MechCalled}
+use Rattle.xfs_guard.specs.Reports.{HasReported}
+use Rattle.xfs_mech.specs.declared.motion.Motion.TheVariants.{Taken}
+use Rattle.xfs_guard.specs.Orders.{Settles, Unsettles, kind_unacted}
+use Rattle.xfs_guard.specs.View.{View, reread, restarted, unbooted, unread}
+use Rattle.xfs_guard.specs.declared.deny.Deny.{Deny}
+use Rattle.xfs_guard.specs.declared.fail.BootFault.{BootFault}
+use Rattle.xfs_guard.specs.declared.fail.BootFault.TheVariants.{NotJournal, Disk, Full, Memory}
+use Rattle.xfs_guard.specs.declared.open.Open.{Open}
+use Rattle.xfs_guard.specs.declared.open.Open.TheVariants.{No, Written, Acted}
+use Rattle.xfs_journal.specs.JournalView.{IsPossible, exceeds}
+use Rattle.xfs_journal.specs.declared.record.Rec.{Rec}
+use Rattle.xfs_journal.specs.declared.record.Rec.TheVariants.{Boot}
+use Rattle.xfs_model.specs.Events.{fault, taken}
+use Rattle.xfs_model.specs.Guards.{ActsAndSettles, Closes, IsUnbooted, Reboots, SettlesOn, is_shutter_closed, written, unwritten}
+use Rattle.xfs_model.specs.State.{State}
+use Rattle.xfs_model.specs.Touches.{TakesNotes, failed, took}
+
+-- the journal was read again, and has its Boot
+pub reboots : (old new : Seen) (records : List Rec) → IsPossible old.guard.records old.guard.in_doubt records → new.guard ≡ restarted old.guard records
+    → exceeds old.guard.limits new.guard.records ≡ false → old.disk_faults ≤ new.disk_faults → Reboots old new
+reboots old new records possible is fits later = record {
+  records = records;
+  possible = possible;
+  fits = subst (λ (v : View). exceeds old.guard.limits v.records ≡ false) is fits;
+  becomes = record { guard_is = is; later = later };
+}
+
+pub rebooted : (r : Result Unit BootFault) (old new : Seen) → OnOk r ((records : List Rec) × IsPossible old.guard.records old.guard.in_doubt records × (new.guard ≡ restarted old.guard records))
+    → OnOk r (exceeds old.guard.limits new.guard.records ≡ false) → old.disk_faults ≤ new.disk_faults → OnOk r (Reboots old new)
+rebooted (Ok done) old new is fits later = reboots old new is.0 is.1 is.2 fits later
+rebooted (Err why) old new is fits later = tt
+
+abbrev FoundFull : Seen → Seen → Type 0
+FoundFull old new = (records : List Rec) × IsPossible old.guard.records old.guard.in_doubt records × (exceeds old.guard.limits (records ++ Boot old.guard.places ∷ []) ≡ true) × (new.guard ≡ reread old.guard records)
+
+abbrev FoundFault : Seen → Seen → Type 0
+FoundFault old new = (new.guard ≡ unread old.guard) ⊎ ((records : List Rec) × IsPossible old.guard.records old.guard.in_doubt records × (new.guard ≡ unbooted old.guard records))
+
+pub refused : (Untold : Type 0) (r : Result Unit BootFault) (old new : Seen) → (r ≡ Err Full → FoundFull old new) → (r ≡ Err Disk → FoundFault old new)
+    → IfErr r (λ f. (at : ℕ) → f ≡ NotJournal at → Untold × (new.guard ≡ unread old.guard)) → IfErr r (λ f. (at : ℕ) → f ≡ NotJournal at → old.guard.disk_told ≡ false)
+    → (r ≡ Err Disk → Rose old.disk_faults new.disk_faults) → old.disk_faults ≤ new.disk_faults → IfErr r (λ f. f ≢ Memory → IsUnbooted old new)
+refused Untold (Ok done) old new full disk other untold cause later = tt
+refused Untold (Err (NotJournal at)) old new full disk other untold cause later = λ _. inr (inr (record { untold = untold at refl; becomes = record { guard_is = (other at refl).1; later = later } }))
+refused Untold (Err Disk) old new full disk other untold cause later = λ _. inr (inl (record { now = new.guard; is = disk refl; fails = record { becomes = record { guard_is = refl; later = later }; cause = cause refl } }))
+refused Untold (Err Full) old new full disk other untold cause later =
+    let w = full refl in
+    λ _. inl (record { records = w.0; possible = w.1; exceeded = w.2; becomes = record { guard_is = w.3; later = later } })
+refused Untold (Err Memory) old new full disk other untold cause later = λ n. absurd (n refl)
+
+-- the acted order was settled, or the disk failed at its Done
+pub settles : (r : Result Unit Deny) (old new : Seen) → OnOk r (Settles old.guard new.guard) → OnErr r (Unsettles old.guard new.guard) → OnErr r (Rose old.disk_faults new.disk_faults)
+    → old.disk_faults ≤ new.disk_faults → SettlesOn old (is_ok r) new
+settles (Ok done) old new is unsettled_ cause later = written new is later
+settles (Err deny) old new is unsettled_ cause later = unwritten new unsettled_ later cause
+
+pub closes_written : (o : Open) (k : Kind) (old new : Seen) (settled : Bool) → Some k ≡ kind_unacted o → ActsAndSettles old settled new → Closes o old settled new
+closes_written No k old new settled e is = absurd (let f : Some k ≡ None = e in cc)
+closes_written (Written kind counts) k old new settled e is = is
+closes_written (Acted kind moved diverted fails) k old new settled e is = absurd (let f : Some k ≡ None = e in cc)
+
+pub closes_acted : (o : Open) (old new : Seen) (settled : Bool) → None ≡ kind_unacted o → o ≢ No → SettlesOn old settled new → Closes o old settled new
+closes_acted No old new settled e some is = absurd (some refl)
+closes_acted (Written kind counts) old new settled e some is = absurd (let f : None ≡ Some kind = e in cc)
+closes_acted (Acted kind moved diverted fails) old new settled e some is = is
+
+pub closes_none : (o : Open) (old : Seen) → o ≡ No → Closes o old true old
+closes_none No old e = (refl, refl)
+closes_none (Written kind counts) old e = absurd (let f : Written kind counts ≡ No = e in cc)
+closes_none (Acted kind moved diverted fails) old e = absurd (let f : Acted kind moved diverted fails ≡ No = e in cc)
+
+-- the customer took notes, or the mechanism failed
+pub notes_failed : (s : State) (next : Seen) (moved diverted : Counts) (fails : Bool) → is_shutter_closed s.seen ≡ false → fails ≡ true → LiesIn moved s.seen.guard.places.outlet
+    → HasReported s.seen.guard next.guard (Taken moved) moved diverted fails → MechCalled s.seen fails next → TakesNotes s fault (record s { seen = next })
+notes_failed s next moved diverted fails there is lie reported called =
+    failed moved next there (record { diverted = diverted; lay = lie; reported = subst (λ f. HasReported s.seen.guard next.guard (Taken moved) moved diverted f) is reported; called = subst (λ f. MechCalled s.seen f next) is called })
+
+pub notes_took : (s : State) (next : Seen) (moved diverted : Counts) (fails : Bool) → is_shutter_closed s.seen ≡ false → fails ≡ false → LiesIn moved s.seen.guard.places.outlet
+    → HasReported s.seen.guard next.guard (Taken moved) moved diverted fails → MechCalled s.seen fails next → TakesNotes s (taken moved) (record s { seen = next })
+notes_took s next moved diverted fails there is lie reported called =
+    took moved next there (record { diverted = diverted; lay = lie; reported = subst (λ f. HasReported s.seen.guard next.guard (Taken moved) moved diverted f) is reported; called = subst (λ f. MechCalled s.seen f next) is called })

@@ -1,0 +1,14 @@
+use Rattle.std.proofs.Common.{◌≡◌, None}
+use Rattle.xfs_dispenser.specs.Seen.{seen}
+use Rattle.xfs_machine.proofs.GuardLaws.{rebooted, refused}
+use Rattle.xfs_machine.proofs.reboot.reboot.Goals as goal
+
+pub returns-clause-ok : goal.returns-clause-ok
+returns-clause-ok g c =
+    let r = c.restore.ensures in
+    rebooted c.restore.result (seen g.D.Disk c.args.guard.now) (seen g.D.Disk c.restore.new.self) r.ok r.fits r.keeps.proceeds.disk_faults
+
+pub returns-clause-err : goal.returns-clause-err
+returns-clause-err g c =
+    let r = c.restore.ensures in
+    refused (g.D.Disk.held c.args.guard.now.disk ≡ None) c.restore.result (seen g.D.Disk c.args.guard.now) (seen g.D.Disk c.restore.new.self) r.full r.disk r.not_journal r.untold r.cause r.keeps.proceeds.disk_faults

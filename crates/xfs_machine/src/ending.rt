@@ -1,0 +1,132 @@
+//! How a machine ends, or begins anew.
+
+ghost use Rattle.std.specs.Prelude.{◌≡◌, ◌≢◌, false, List, None, IfOk, IfErr, OnOk, OnErr, Err, length, is_ok, is_some};
+ghost use Rattle.xfs_dispenser.specs.Seen.{Seen, seen};
+ghost use Rattle.xfs_guard.specs.Keeps.{Keeps, NoEntry, Proceeds};
+ghost use Rattle.xfs_guard.specs.Recorded.{IsRecorded};
+ghost use Rattle.xfs_guard.specs.Stored.{IsStored, MayLeave};
+ghost use Rattle.xfs_guard.specs.declared.fail.BootFault.TheVariants.{Memory as BootMemory};
+ghost use Rattle.xfs_journal.specs.JournalView.{IsPossible};
+ghost use Rattle.xfs_journal.specs.declared.record.Rec.{Rec};
+ghost use Rattle.xfs_machine.specs.Answers.{finished};
+ghost use Rattle.xfs_machine.specs.Endings.{IsHandedBack};
+ghost use Rattle.xfs_machine.specs.MachineView.{guard_of};
+ghost use Rattle.xfs_model.specs.Events.{restart, restarted, unrestarted, end_, ended, finish, memory};
+ghost use Rattle.xfs_model.specs.State.{State, bare};
+ghost use Rattle.xfs_model.specs.Step.{Step, gone};
+
+use crate::connections::Connections;
+use crate::machine::Machine;
+use crate::queues::Queues;
+use crate::reboot::{close, reboot};
+use xfs_base::Moment;
+use xfs_card::CardState;
+use xfs_disk::Disk;
+use xfs_guard::{BootFail, BootFault, Deny, Guard};
+use xfs_keyboard::KeyState;
+use xfs_mech::Mechanism;
+
+impl<M: Mechanism, D: Disk> Machine<M, D> {
+    /// Boots again in place, on the same mechanism and disk: every connection, command, card, entry and
+    /// exchange is gone. So they are after a refusal, but for `Memory`, which leaves all as it was.
+    pub fn reboot(&mut self) -> Result<(), BootFault>
+        ensures ok { OnOk result (Step self.old.state restart restarted self.new.state) }
+        ensures refused { IfErr result (λ f. f ≢ BootMemory → Step self.old.state restart unrestarted (gone self.old.state self.new.state.seen)) }
+        ensures emptied { IfErr result (λ f. f ≢ BootMemory → self.new.state ≡ bare self.new.state.seen self.old.state.life self.old.state.boot) }
+        ensures memory { result ≡ Err BootMemory → Step self.old.state restart memory self.new.state }
+        ensures keeps { Keeps D.Disk NoEntry (guard_of self.old) (guard_of self.new) }
+    {
+        let outcome = reboot(&mut self.guard);
+        if outcome == Err(BootFault::Memory) {
+            return outcome;
+        }
+        self.boot = boot_after(&self.guard, &outcome, self.boot);
+        self.issued = Moment(0);
+        self.exchange = false;
+        self.moment = Moment(0);
+        self.slot = CardState::new();
+        self.keypad = KeyState::new();
+        self.given = 0;
+        self.connections = Connections::new(self.alloc);
+        self.queues = Queues::new(self.alloc);
+        outcome
+    }
+
+    /// The same, and where it is refused, mechanism and disk come back.
+    pub fn restart(mut self) -> Result<Machine<M, D>, BootFail<M, D>>
+        ensures step { IfOk result (λ m. Step self.state restart restarted m.state) }
+        ensures refused { IfErr result (λ f. f.why ≢ BootMemory → (next : Seen) × Step self.state restart unrestarted (gone self.state next) × IsHandedBack M.Mechanism D.Disk next f.mech f.disk) }
+        ensures proceeds { IfOk result (λ m. Proceeds D.Disk (guard_of self) (guard_of m)) }
+        ensures left { IfErr result (λ f. (records : List Rec) → MayLeave D.Disk f.disk records → IsRecorded self.state.seen.guard.key self.state.seen.guard.units records (M.motions f.mech)) }
+    {
+        match self.reboot() {
+            Ok(()) => Ok(self),
+            Err(why) => {
+                let (mech, disk) = self.end();
+                Err(BootFail { why, mech, disk })
+            }
+        }
+    }
+
+    /// The mechanism and the disk, as they are. An open order stays in the journal and is never carried out. It
+    /// takes no memory.
+    pub fn end(self) -> (M, D)
+        ensures step { Step self.state end_ ended (gone self.state self.state.seen) }
+        ensures back { IsHandedBack M.Mechanism D.Disk self.state.seen result.0 result.1 }
+        ensures left { (records : List Rec) → MayLeave D.Disk result.1 records → IsPossible self.state.seen.guard.records self.state.seen.guard.in_doubt records }
+        ensures recorded { (records : List Rec) → MayLeave D.Disk result.1 records → IsRecorded self.state.seen.guard.key self.state.seen.guard.units records self.state.seen.guard.motions }
+        ensures clean { self.state.seen.guard.shut ≡ false → self.state.seen.guard.in_doubt ≡ None }
+        ensures disk { result.1 ≡ self.disk }
+    {
+        self.into_guard().end()
+    }
+
+    /// Carries an open order out, where that isn't done yet, and settles it, and then hands mechanism and disk
+    /// back. Its one refusal is `Disk`: the disk failed at the settling. It takes no memory.
+    pub fn finish(self) -> (Result<(), Deny>, M, D)
+        ensures step { (next : Seen) × Step self.state finish (finished result.0) (gone self.state next) × IsHandedBack M.Mechanism D.Disk next result.1 result.2 }
+        ensures err { IfErr result.0 (λ e. e ≡ Deny.Disk) }
+    {
+        let mut guard = self.into_guard();
+        let settled = close(&mut guard);
+        let (mech, disk) = guard.end();
+        (settled, mech, disk)
+    }
+
+    fn into_guard(self) -> Guard<M, D>
+        ensures guard { result ≡ guard_of self }
+        ensures seen { seen D.Disk result ≡ self.state.seen }
+        ensures there { self.state.boot ≢ 0 }
+    {
+        let Machine {
+            alloc: _,
+            guard,
+            life: _,
+            issued: _,
+            boot: _,
+            exchange: _,
+            moment: _,
+            slot: _,
+            keypad: _,
+            given: _,
+            connections: _,
+            queues: _,
+        } = self;
+        guard
+    }
+}
+
+// The number of the boot's Boot record, where there is a new one.
+fn boot_after<M: Mechanism, D: Disk>(
+    guard: &Guard<M, D>,
+    outcome: &Result<(), BootFault>,
+    boot: u64,
+) -> u64
+    ensures ok { OnOk outcome.now (result ≡ length guard.now.state.records) }
+    ensures err { OnErr outcome.now (result ≡ boot) }
+{
+    match outcome {
+        Ok(()) => guard.records().len() as u64,
+        Err(_) => boot,
+    }
+}
