@@ -9,3 +9,5 @@ pub mod GuardLaws
 pub mod Places
 pub mod Posting
 pub mod Withdrawn
+pub mod NonceLaws
+pub mod NonceTexts
