@@ -11,3 +11,7 @@ pub mod Posting
 pub mod Withdrawn
 pub mod NonceLaws
 pub mod NonceTexts
+pub mod ChangeLaws
+pub mod ChosenLaws
+pub mod Unsent
+pub mod AnswerLaws

@@ -1,5 +1,5 @@
 -- The commands of the nonce line, and the end of a life, by what the guard's calls answer.
-use Rattle.std.proofs.Common.{◌≡◌, ◌≢◌, ◌≤◌, ℕ, Bool, true, false, List, [], ◌∷◌, ◌++◌, Option, None, Some, Result, Ok, Err, refl, sym, subst, ◌∙◌, ap}
+use Rattle.std.proofs.Common.{◌≡◌, ◌≢◌, ◌≤◌, ℕ, Bool, true, false, List, [], ◌∷◌, Option, None, Some, Err, refl, sym, subst, ◌∙◌, ap}
 use Rattle.std.specs.Prelude.{◌||◌, ◌&&◌, if◌then◌else◌, is_none, is_some, map}
 use Rattle.std.proofs.lemmas.Bool.{false≢true}
 use Rattle.std.proofs.lemmas.Option.{none-some}
@@ -20,7 +20,7 @@ use Rattle.xfs_base.specs.declared.moment.Service.TheVariants.{Cash}
 use Rattle.xfs_model.specs.Cases.{EndsLife}
 use Rattle.xfs_model.specs.Connections.{is_service, with_mail}
 use Rattle.xfs_model.specs.Frames.{Announces}
-use Rattle.xfs_model.specs.Guards.{NonceCommand, cleared_, ended, unended, is_fit, is_live, issued, next_number, next_word, none_to_clear, refused, uncleared, unissued, with_mark}
+use Rattle.xfs_model.specs.Guards.{NonceCommand, cleared_, ended, unended, is_live, issued, next_number, next_word, none_to_clear, refused, uncleared, unissued, with_mark}
 use Rattle.xfs_model.specs.Results.{plain, success}
 use Rattle.xfs_model.specs.State.{Ask, Connection, State, clear, cleared, expired, issue}
 

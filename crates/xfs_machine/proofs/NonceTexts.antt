@@ -1,9 +1,9 @@
 -- The text of a nonce is of upper-case hexadecimal digits, and a payload of it can be sent.
-use Rattle.std.proofs.Common.{◌≡◌, ℕ, zero, suc, ◌<◌, ◌/◌, ◌%◌, ◌^◌, Bool, true, false, List, [], ◌∷◌, ◌++◌, get_or, refl, sym, arith}
+use Rattle.std.proofs.Common.{◌≡◌, ℕ, zero, suc, ◌<◌, ◌/◌, ◌%◌, ◌^◌, Bool, true, false, List, [], ◌∷◌, ◌++◌, get_or, refl, arith}
 use Rattle.std.specs.Int.{byte_at, bytes_high_first, to_be_bytes, w64}
 use Rattle.std.specs.List.{AllByRecursion, list_all}
 use Rattle.std.proofs.lemmas.List.Folds.{list_all_at}
-use Rattle.hex.specs.Hex.{encode_upper, encode_with, upper_digits}
+use Rattle.hex.specs.Hex.{encode_with, upper_digits}
 use Rattle.xfs_common.specs.Payloads.{is_upper_hex, nonce_payload}
 use Rattle.xfs_envelope.specs.Messages.{IsPayload}
 use Rattle.xfs_journal.specs.Journal.{nonce_text}

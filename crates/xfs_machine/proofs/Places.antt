@@ -23,7 +23,7 @@ module _ {X : Type 0} (p : X → Bool) where
   abbrev pub NotBoth : X → X → Type 0
   NotBoth a b = p a ≡ true → p b ≡ false
 
-  map_none : (g : X → X) (xs : List X) → All (λ b. p b ≡ false) xs → map (λ a. cond (p a) (g a) a) xs ≡ xs
+  pub map_none : (g : X → X) (xs : List X) → All (λ b. p b ≡ false) xs → map (λ a. cond (p a) (g a) a) xs ≡ xs
   map_none g [] none = refl
   map_none g (a ∷ xs) none = rw (none 0 a (omega arith)) (ap (λ l. a ∷ l) (map_none g xs (λ k d h. none (suc k) d (omega arith))))
 
@@ -54,7 +54,7 @@ module _ {X : Type 0} (p : X → Bool) where
   pub taken : (xs : List X) (at : ℕ) (x : X) → position p xs ≡ Some at → x ≡ get_or xs at x → find p xs ≡ Some x
   taken xs at x e is = find_at p xs ∙ ap (slice_get xs) (first_found xs at e) ∙ slice_get_read xs (length xs) at x refl (position-Some p xs at x e).0 is
 
-  none_from_find : (xs : List X) → find p xs ≡ None → All (λ x. p x ≡ false) xs
+  pub none_from_find : (xs : List X) → find p xs ≡ None → All (λ x. p x ≡ false) xs
   none_from_find [] h = λ k d w. absurd (omega (arith, w))
   none_from_find (x ∷ xs) h = elim (cases_Bool (p x)) [
     | inl y ↦ absurd (none-some x (sym (rw y at h)))

@@ -1,9 +1,11 @@
 pub mod Answers
+pub mod Chosen
 pub mod DataCodes
 pub mod Endings
 pub mod Jobs
 pub mod Lending
 pub mod MachineView
+pub mod Parts
 pub mod Tallies
 pub mod Wanted
 pub mod Withdrawals

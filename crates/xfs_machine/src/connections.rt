@@ -117,6 +117,15 @@ impl Connections {
         announce(alloc, &mut self.list, service, frame)
     }
 
+    /// Takes back the frame that was just sent to one connection.
+    pub fn unsend(&mut self, service: Service, client: ClientId)
+        ensures { (before : List ConnectionView) (frame : List ℕ) → self.old ≡ map (λ k. with_mail (is_at service client k) (frame ∷ []) k) before → self.new ≡ before }
+    {
+        if let Some(at) = place(&self.list, service, client) {
+            self.list[at].unmail();
+        }
+    }
+
     /// Takes back the frame that was just announced.
     pub fn take_back(&mut self, service: Service)
         ensures { (before : List ConnectionView) (frame : List ℕ) → self.old ≡ map (λ k. with_mail (is_service service k.service) (frame ∷ []) k) before → self.new ≡ before }

@@ -1,23 +1,29 @@
-//! The machine in code.
+//! The machine in code. What the cases of its work do stands in functions of its parts, which `work` will call: nothing calls them yet.
 #![tactic(auto)]
 
 mod answer;
+mod answering;
 mod asks;
+mod begin;
 mod boot;
+mod cases;
 mod connection;
 mod connections;
 mod ending;
 mod frames;
 mod immediate;
 mod job;
+mod life;
 mod machine;
 mod nonce;
 mod notes_taken;
 mod notices;
 mod pass;
+mod plan;
 mod post;
 mod queues;
 mod reboot;
+mod stopping;
 mod tally;
 
 pub use answer::{Touched, Work};

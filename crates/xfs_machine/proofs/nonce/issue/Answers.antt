@@ -3,7 +3,7 @@ use Rattle.std.proofs.lemmas.Result.{IfOk-weaker}
 use Rattle.xfs_dispenser.specs.Seen.{seen}
 use Rattle.xfs_guard.proofs.KeepsLaws.{Keeps-same, Proceeds-same}
 use Rattle.xfs_guard.specs.declared.nonce.Nonce.{Nonce}
-use Rattle.xfs_model.specs.State.{State, issue}
+use Rattle.xfs_model.specs.State.{issue}
 use Rattle.xfs_machine.proofs.NonceLaws.{issue_done, issue_failed, unfit_refused, write_fault}
 use Rattle.xfs_machine.proofs.NonceTexts.{nonce_digits}
 use Rattle.xfs_machine.proofs.nonce.issue.Goals as goal

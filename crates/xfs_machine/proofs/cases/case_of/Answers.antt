@@ -1,0 +1,37 @@
+use Rattle.std.proofs.Common.{◌≡◌, sym, ◌∙◌}
+use Rattle.std.specs.List.{list_any}
+use Rattle.xfs_dispenser.specs.Seen.{seen}
+use Rattle.xfs_queue.specs.Commands.{is_ready, waits_on}
+use Rattle.xfs_queue.specs.declared.command.Line.TheVariants.{Nonce}
+use Rattle.xfs_model.specs.State.{queue_of}
+use Rattle.xfs_machine.proofs.ChosenLaws.{answers_first, any_there, device_first, expires_first, nonce_first}
+use Rattle.xfs_machine.proofs.cases.case_of.Goals as goal
+
+pub returns-then-is_cash-is_life_over : goal.returns-then-is_cash-is_life_over
+returns-then-is_cash-is_life_over g c = λ s.
+    expires_first (record s { seen = seen g.D.Disk c.args.guard.now; life = c.args.life; issued = c.args.issued; now = c.args.now; queues = c.args.queues.now }) c.args.service
+    (rw (c.is_service-is_cash.ensures, c.is_ordered.ensures) at c.if-is_cash-is_ordered.false) (rw (c.is_service-is_cash.ensures, c.is_life_over.ensures s) at c.if-is_cash-is_life_over.true)
+
+pub returns-then-is_some : goal.returns-then-is_some
+returns-then-is_some g c = λ s.
+    let is : c.is_some.result ≡ list_any (λ a. is_ready a.stage) (queue_of c.args.queues.now c.args.service) = any_there c.ready.result c.is_some.result (λ a. is_ready a.stage) (queue_of c.args.queues.now c.args.service) (rw c.at-queue.ensures at c.ready.ensures.found) c.is_some.ensures in
+    answers_first (record s { seen = seen g.D.Disk c.args.guard.now; life = c.args.life; issued = c.args.issued; now = c.args.now; queues = c.args.queues.now }) c.args.service
+    (rw (c.is_service-is_cash.ensures, c.is_ordered.ensures) at c.if-is_cash-is_ordered.false) (rw (c.is_service-is_cash.ensures, c.is_life_over.ensures s) at c.if-is_cash-is_life_over.false)
+    (sym is ∙ c.if-is_some.true)
+
+pub returns-then-is_cash-asks : goal.returns-then-is_cash-asks
+returns-then-is_cash-asks g c = λ s.
+    let is : c.is_some.result ≡ list_any (λ a. is_ready a.stage) (queue_of c.args.queues.now c.args.service) = any_there c.ready.result c.is_some.result (λ a. is_ready a.stage) (queue_of c.args.queues.now c.args.service) (rw c.at-queue.ensures at c.ready.ensures.found) c.is_some.ensures in
+    let asks : c.is_some-asks.result ≡ list_any (waits_on Nonce) (queue_of c.args.queues.now c.args.service) = any_there c.next.result c.is_some-asks.result (waits_on Nonce) (queue_of c.args.queues.now c.args.service) (rw c.at-queue.ensures at c.next.ensures.found) c.is_some-asks.ensures in
+    nonce_first (record s { seen = seen g.D.Disk c.args.guard.now; life = c.args.life; issued = c.args.issued; now = c.args.now; queues = c.args.queues.now }) c.args.service
+    (rw (c.is_service-is_cash.ensures, c.is_ordered.ensures) at c.if-is_cash-is_ordered.false) (rw (c.is_service-is_cash.ensures, c.is_life_over.ensures s) at c.if-is_cash-is_life_over.false)
+    (sym is ∙ c.if-is_some.false) (rw (c.is_service-is_cash.ensures, asks) at c.if-is_cash-asks.true)
+
+pub returns : goal.returns
+returns g c = λ s.
+    let is : c.is_some.result ≡ list_any (λ a. is_ready a.stage) (queue_of c.args.queues.now c.args.service) = any_there c.ready.result c.is_some.result (λ a. is_ready a.stage) (queue_of c.args.queues.now c.args.service) (rw c.at-queue.ensures at c.ready.ensures.found) c.is_some.ensures in
+    let asks : c.is_some-asks.result ≡ list_any (waits_on Nonce) (queue_of c.args.queues.now c.args.service) = any_there c.next.result c.is_some-asks.result (waits_on Nonce) (queue_of c.args.queues.now c.args.service) (rw c.at-queue.ensures at c.next.ensures.found) c.is_some-asks.ensures in
+    (rw (c.at-queue.ensures, c.is_service-is_cash.ensures) at c.device_case.ensures)
+    ∙ device_first (record s { seen = seen g.D.Disk c.args.guard.now; life = c.args.life; issued = c.args.issued; now = c.args.now; queues = c.args.queues.now }) c.args.service
+    (rw (c.is_service-is_cash.ensures, c.is_ordered.ensures) at c.if-is_cash-is_ordered.false) (rw (c.is_service-is_cash.ensures, c.is_life_over.ensures s) at c.if-is_cash-is_life_over.false)
+    (sym is ∙ c.if-is_some.false) (rw (c.is_service-is_cash.ensures, asks) at c.if-is_cash-asks.false)
