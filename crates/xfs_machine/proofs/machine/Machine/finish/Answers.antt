@@ -9,7 +9,8 @@ pub returns-clause-step : goal.returns-clause-step
 returns-clause-step g c =
     let last = seen g.D.Disk c.close-settled.new.guard in
     let its = c.into_guard-guard.ensures in
-    let back = c.end-mech.ensures in
-    (last,
-    finishes c.args.self.state c.close-settled.result last its.there (subst (λ (x : Seen). Closes x.guard.open_order x (is_ok c.close-settled.result) last) its.seen c.close-settled.ensures.closes),
-    record { stored = back.stored; told = back.told; disk_faults = ap g.D.Disk.faults back.disk; motions = back.motions; places = back.places; units = back.units; faults = back.faults })
+    let back = c.end-mech.ensures in (
+      last,
+      finishes c.args.self.state c.close-settled.result last its.there (subst (λ (x : Seen). Closes x.guard.open_order x (is_ok c.close-settled.result) last) its.seen c.close-settled.ensures.closes),
+      record { stored = back.stored; told = back.told; disk_faults = ap g.D.Disk.faults back.disk; motions = back.motions; places = back.places; units = back.units; faults = back.faults },
+    )
