@@ -42,6 +42,7 @@ fn begun<M: Mechanism, D: Disk>(alloc: Global, core: Core<M, D>) -> Result<Guard
         seed,
         units,
         limits,
+        life,
     } = core;
     match Guard::boot(alloc, mech, disk, key, seed, units.copied(), limits) {
         Ok(guard) => Ok(guard),
@@ -52,6 +53,7 @@ fn begun<M: Mechanism, D: Disk>(alloc: Global, core: Core<M, D>) -> Result<Guard
             seed,
             units,
             limits,
+            life,
         }),
     }
 }
@@ -71,6 +73,7 @@ fn ended<M: Mechanism, D: Disk>(guard: Guard<M, D>, key: [u8; 32]) -> Core<M, D>
         seed: [0; 32],
         units,
         limits: LIMITS,
+        life: 0,
     }
 }
 
@@ -88,6 +91,7 @@ fn fused(alloc: Global, calls: u64) -> Result<Core<SimMech, FuseDisk>, Fail>
         seed,
         units,
         limits,
+        life,
     } = core_on(mech, units, empty(alloc), LIMITS);
     Ok(Core {
         mech,
@@ -96,6 +100,7 @@ fn fused(alloc: Global, calls: u64) -> Result<Core<SimMech, FuseDisk>, Fail>
         seed,
         units,
         limits,
+        life,
     })
 }
 
@@ -113,6 +118,7 @@ fn crashed(core: Core<SimMech, FuseDisk>, pick: u64) -> Core<SimMech, MemDisk>
         seed,
         units,
         limits,
+        life,
     } = core;
     Core {
         mech,
@@ -121,6 +127,7 @@ fn crashed(core: Core<SimMech, FuseDisk>, pick: u64) -> Core<SimMech, MemDisk>
         seed,
         units,
         limits,
+        life,
     }
 }
 

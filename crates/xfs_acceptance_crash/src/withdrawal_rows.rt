@@ -68,6 +68,7 @@ fn run_cut(
         seed,
         units,
         limits: LIMITS,
+        life: 0,
     };
     Ok((told, core))
 }

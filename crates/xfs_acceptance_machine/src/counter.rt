@@ -22,7 +22,7 @@ fn booted<M: Mechanism, D: Disk>(alloc: Global, core: Core<M, D>) -> Result<Mach
     requires units { M.units core.mech ≡ core.units }
     requires starts { (image : List ℕ) → D.images core.disk image → (records : List Rec) → StandsFor image records → IsRecorded core.key core.units records (M.motions core.mech) }
 {
-    match Machine::boot(alloc, core, 0) {
+    match Machine::boot(alloc, core) {
         Ok(machine) => Ok(machine),
         Err(fail) => Err(fail.why.into()),
     }

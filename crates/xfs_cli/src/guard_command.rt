@@ -58,6 +58,7 @@ pub fn guard<S: Source, K: Sink, M: Mechanism, D: Disk>(
         seed,
         units,
         limits,
+        life: _,
     } = core;
     if !is_word(words, "guard") {
         usage(sink);

@@ -42,6 +42,7 @@ pub fn token<S: Source, K: Sink, M: Mechanism, D: Disk>(
         seed: _,
         units: _,
         limits: _,
+        life: _,
     } = core;
     if !is_word(words, "token") {
         usage(sink);

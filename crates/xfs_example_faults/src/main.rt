@@ -112,6 +112,7 @@ fn core_of<M: Mechanism, D: Disk>(mech: M, units: UnitTable, disk: D) -> Core<M,
         seed: SEED,
         units,
         limits: LIMITS,
+        life: 0,
     }
 }
 

@@ -31,16 +31,11 @@ use xfs_mech::Mechanism;
 
 impl<M: Mechanism, D: Disk> Machine<M, D> {
     /// A machine over this mechanism and the journal of this disk, which gets a Boot, with no connection,
-    /// command, card, entry or exchange. The life of a nonce is in milliseconds, 0 for one without an
-    /// end. A refused boot hands mechanism and disk back, as the guard's does.
-    pub fn boot(
-        alloc: Global,
-        bench: Core<M, D>,
-        life: u32,
-    ) -> Result<Machine<M, D>, BootFail<M, D>>
+    /// command, card, entry or exchange. A refused boot hands mechanism and disk back, as the guard's does.
+    pub fn boot(alloc: Global, bench: Core<M, D>) -> Result<Machine<M, D>, BootFail<M, D>>
         requires units { M.units bench.mech ≡ bench.units }
         requires recorded { (records : List Rec) → MayLeave D.Disk bench.disk records → IsRecorded bench.key bench.units records (M.motions bench.mech) }
-        ensures bare { IfOk result (λ m. m.state ≡ bare m.state.seen life (length m.state.seen.guard.records)) }
+        ensures bare { IfOk result (λ m. m.state ≡ bare m.state.seen bench.life (length m.state.seen.guard.records)) }
         ensures ok { IfOk result (λ m. (records : List Rec) × IfTold (D.held bench.disk) (λ all. StandsFor all records) × (m.state.seen.guard ≡ record {
           key = bench.key;
           seed = bench.seed;
@@ -91,6 +86,7 @@ impl<M: Mechanism, D: Disk> Machine<M, D> {
             seed,
             units,
             limits,
+            life,
         } = bench;
         match Guard::boot(alloc, mech, disk, key, seed, units, limits) {
             Ok(guard) => Ok(Machine::booted(alloc, guard, life)),

@@ -31,3 +31,4 @@ pub use frames::Frames;
 pub use machine::Machine;
 pub use pass::{JoinFault, Pass};
 pub use tally::Tally;
+pub use xfs_guard::Core;

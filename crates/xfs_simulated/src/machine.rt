@@ -110,5 +110,6 @@ pub fn core_on<M: Mechanism>(
         seed: SEED,
         units,
         limits,
+        life: 0,
     }
 }

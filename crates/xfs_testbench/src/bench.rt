@@ -59,6 +59,7 @@ pub fn failing_core<M: Mechanism>(
         seed: SEED,
         units,
         limits,
+        life: 0,
     }
 }
 
@@ -75,6 +76,7 @@ pub fn booted<M: Mechanism, D: Disk>(alloc: Global, core: Core<M, D>) -> Result<
         seed,
         units,
         limits,
+        life: _,
     } = core;
     match Guard::boot(alloc, mech, disk, key, seed, units, limits) {
         Ok(guard) => Ok(guard),
