@@ -1,8 +1,10 @@
 -- What every call keeps, by what the call did.
-use Rattle.std.proofs.Common.{◌≡◌, ℕ, ◌≤◌, List, refl, arith}
+use Rattle.std.proofs.Common.{◌≡◌, ℕ, ◌≤◌, true, is_some, List, refl, arith}
 use Rattle.xfs_base.specs.Causes.{IfTold}
 use Rattle.xfs_disk.specs.Moments.{LeavesOnly}
 use Rattle.xfs_disk.specs.declared.disk.Disk.{Ghosts}
+use Rattle.xfs_journal.specs.JournalView.{IsPossible}
+use Rattle.xfs_journal.specs.declared.record.Rec.{Rec}
 use Rattle.xfs_journal.proofs.Moments.{weaken}
 use Rattle.xfs_journal.proofs.Told.{on_told, from_told}
 use Rattle.xfs_mech.specs.declared.motion.Motion.{Motion}
@@ -10,11 +12,13 @@ use Rattle.xfs_guard.specs.Continues.{Continues}
 use Rattle.xfs_guard.specs.Crashed.{LeavesBehind}
 use Rattle.xfs_guard.specs.Keeps.{Proceeds, Keeps, NoEntry}
 use Rattle.xfs_guard.specs.CrashOutcomes.{StandsRecorded, StandsThrough}
+use Rattle.xfs_guard.specs.Recorded.{IsRecorded}
+use Rattle.xfs_guard.specs.Stored.{LeavesPossible}
 use Rattle.xfs_guard.specs.Upheld.{IsUpheld}
 use Rattle.xfs_guard.specs.View.{View, GuardView}
 use Rattle.xfs_guard.proofs.BehindLaws.{behind-still, behind-trans}
 use Rattle.xfs_guard.proofs.ContinueLaws.{Continues-same, Continues-trans}
-use Rattle.xfs_guard.proofs.LeftLaws.{left-same}
+use Rattle.xfs_guard.proofs.LeftLaws.{left-same, left-unwritten}
 
 -- bytes that stand for a recorded list do so beside a call that adds no entry
 through-recorded : (v : View) (bytes : List ℕ) → StandsRecorded v.key v.units v.motions bytes → StandsThrough v NoEntry bytes
@@ -46,6 +50,14 @@ pub Keeps-same : {D : Type 0} (g : Ghosts D) (x : GuardView D) → ((d : D) (c :
 Keeps-same g x only_now upheld = record {
   proceeds = Proceeds-same g x only_now;
   recorded = stays-through g x.disk x.disk x.state (left-same g x.disk (StandsRecorded x.state.key x.state.units x.state.motions) (only_now x.disk) upheld.recorded);
+}
+
+-- a call that did nothing, whose disk leaves one of the possible lists, each of which is recorded
+pub Keeps-still : {D : Type 0} (g : Ghosts D) (x : GuardView D) → ((d : D) (c : List ℕ) → g.images_since d (g.moment d) c → g.images d c) → LeavesPossible g x.disk x.state.records x.state.in_doubt
+    → (is_some (g.held x.disk) ≡ true → (records : List Rec) → IsPossible x.state.records x.state.in_doubt records → IsRecorded x.state.key x.state.units records x.state.motions) → Keeps g NoEntry x x
+Keeps-still g x only_now leaves recorded = record {
+  proceeds = Proceeds-same g x only_now;
+  recorded = stays-through g x.disk x.disk x.state (left-unwritten g x.disk x.state (only_now x.disk) leaves recorded);
 }
 
 -- a call that may have written

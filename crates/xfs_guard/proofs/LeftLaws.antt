@@ -20,7 +20,7 @@ use Rattle.xfs_guard.specs.declared.open.Open.{Open}
 use Rattle.xfs_guard.specs.CrashOutcomes.{EachStands, IsOldOrBooted, Leaves, MayMove, StandsRecorded, StandsThrough}
 use Rattle.xfs_guard.specs.Recorded.{IsRecorded}
 use Rattle.xfs_guard.specs.Sound.{IsSound}
-use Rattle.xfs_guard.specs.Stored.{IsStored, MayLeave}
+use Rattle.xfs_guard.specs.Stored.{IsStored, LeavesPossible, StandsForPossible, MayLeave}
 use Rattle.xfs_guard.specs.View.{View}
 use Rattle.xfs_guard.proofs.BootLaws.{IsRecorded-boot}
 use Rattle.xfs_guard.proofs.KeptLaws.{recorded-sound, recorded-ties, told-at}
@@ -28,10 +28,10 @@ use Rattle.xfs_guard.proofs.RecordLaws.{longer}
 use Rattle.xfs_guard.proofs.SoundLaws.{acted_view, told-act}
 use Rattle.xfs_guard.proofs.StoredLaws.{tells}
 
--- bytes that have one of the possible lists, each of which is recorded
+-- bytes that stand for one of the possible lists, each of which is recorded
 pub recorded-possible : (key : List ℕ) (u : List NoteKind) (m : Option (List Motion)) (J : List Rec) (d : Option Rec) (c : List ℕ)
-    → ((K : List Rec) → IsPossible J d K → IsRecorded key u K m) → HasPossible J d c → StandsRecorded key u m c
-recorded-possible key u m J d c recorded has = record { records = has.0; stands = inl has.2; recorded = recorded has.0 has.1 }
+    → ((K : List Rec) → IsPossible J d K → IsRecorded key u K m) → StandsForPossible J d c → StandsRecorded key u m c
+recorded-possible key u m J d c recorded one = record { records = one.0; stands = one.2; recorded = recorded one.0 one.1 }
 
 -- bytes that stand for the list or for that with the record, both of which are recorded
 pub recorded-either : (key : List ℕ) (u : List NoteKind) (m : Option (List Motion)) (J : List Rec) (r : Rec) (c : List ℕ)
@@ -46,12 +46,18 @@ module _ {D : Type 0} (g : Ghosts D) where
   left-same d P only_now each = on_told (g.held d) (λ _. LeavesOnly g d d P) (λ all told.
       started g d P (λ c left. from_told (g.held d) (λ _. (c : List ℕ) → g.images d c → P c) each all told c (only_now c left)))
 
+  -- each image stands for a recorded list, where each of the possible lists is one
+  pub leaves-recorded : (d : D) (v : View) → LeavesPossible g d v.records v.in_doubt
+      → (is_some (g.held d) ≡ true → (J : List Rec) → IsPossible v.records v.in_doubt J → IsRecorded v.key v.units J v.motions)
+      → IfTold (g.held d) (λ _. (c : List ℕ) → g.images d c → StandsRecorded v.key v.units v.motions c)
+  leaves-recorded d v leaves recorded = on_told (g.held d) (λ _. (c : List ℕ) → g.images d c → StandsRecorded v.key v.units v.motions c) (λ all told c left.
+      recorded-possible v.key v.units v.motions v.records v.in_doubt c (recorded (ap is_some told)) (from_told (g.held d) (λ _. (c : List ℕ) → g.images d c → StandsForPossible v.records v.in_doubt c) leaves all told c left))
+
   -- a call that wrote nothing
-  pub left-unwritten : (d : D) (v : View) → ((c : List ℕ) → g.images_since d (g.moment d) c → g.images d c) → IsStored g d v.records v.in_doubt
+  pub left-unwritten : (d : D) (v : View) → ((c : List ℕ) → g.images_since d (g.moment d) c → g.images d c) → LeavesPossible g d v.records v.in_doubt
       → (is_some (g.held d) ≡ true → (J : List Rec) → IsPossible v.records v.in_doubt J → IsRecorded v.key v.units J v.motions)
       → IfTold (g.held d) (λ _. LeavesOnly g d d (StandsRecorded v.key v.units v.motions))
-  left-unwritten d v only_now stored recorded = left-same d (StandsRecorded v.key v.units v.motions) only_now (on_told (g.held d) (λ _. (c : List ℕ) → g.images d c → StandsRecorded v.key v.units v.motions c) (λ all told.
-      (λ c left. recorded-possible v.key v.units v.motions v.records v.in_doubt c (recorded (ap is_some told)) (from_told (g.held d) (λ _. (c : List ℕ) → g.images d c → HasPossible v.records v.in_doubt c) stored all told c left))))
+  left-unwritten d v only_now leaves recorded = left-same d (StandsRecorded v.key v.units v.motions) only_now (leaves-recorded d v leaves recorded)
 
   -- a call that wrote this record, or whose disk failed at it
   pub left-written : (old new : D) (v : View) (r : Rec) (w : Option (List (List ℕ × ℕ))) (o : Open) → v.disk_told ≡ is_some (g.held old) → IsSound v → IsSound (longer v r w o)
@@ -63,13 +69,13 @@ module _ {D : Type 0} (g : Ghosts D) where
       (from_told (g.held old) (λ _. LeavesOnly g old new (StandsForEither v.records r)) moments all told))
 
   -- a call of the mechanism, which may add such an entry
-  pub left-through : (d : D) (v : View) (MayAdd : Motion → Type 0) → ((c : List ℕ) → g.images_since d (g.moment d) c → g.images d c) → IsStored g d v.records v.in_doubt
+  pub left-through : (d : D) (v : View) (MayAdd : Motion → Type 0) → ((c : List ℕ) → g.images_since d (g.moment d) c → g.images d c) → LeavesPossible g d v.records v.in_doubt
       → (is_some (g.held d) ≡ true → (J : List Rec) → IsPossible v.records v.in_doubt J → IsRecorded v.key v.units J v.motions)
       → (is_some (g.held d) ≡ true → (J : List Rec) → IsPossible v.records v.in_doubt J → (entry : Motion) (now : Option (List Motion)) → MayAdd entry → AddsEntry v.motions entry now → IsRecorded v.key v.units J now)
       → IfTold (g.held d) (λ _. LeavesOnly g d d (StandsThrough v MayAdd))
-  left-through d v MayAdd only_now stored before after = left-same d (StandsThrough v MayAdd) only_now (on_told (g.held d) (λ _. (c : List ℕ) → g.images d c → StandsThrough v MayAdd c) (λ all told c left.
-      let has = from_told (g.held d) (λ _. (c : List ℕ) → g.images d c → HasPossible v.records v.in_doubt c) stored all told c left in
-      record { records = has.0; stands = inl has.2; before = before (ap is_some told) has.0 has.1; after = after (ap is_some told) has.0 has.1 }))
+  left-through d v MayAdd only_now leaves before after = left-same d (StandsThrough v MayAdd) only_now (on_told (g.held d) (λ _. (c : List ℕ) → g.images d c → StandsThrough v MayAdd c) (λ all told c left.
+      let one = from_told (g.held d) (λ _. (c : List ℕ) → g.images d c → StandsForPossible v.records v.in_doubt c) leaves all told c left in
+      record { records = one.0; stands = one.2; before = before (ap is_some told) one.0 one.1; after = after (ap is_some told) one.0 one.1 }))
 
 -- the list of records stays recorded with the entry that the written order adds
 pub recorded-moved : (v : View) (entry : Motion) (now : Option (List Motion)) → IsSound v → v.disk_told ≡ true → MayMove v entry → AddsEntry v.motions entry now → IsRecorded v.key v.units v.records now

@@ -16,6 +16,7 @@ pub mod LifeLaws
 pub mod MarkLaws
 pub mod NamedLaws
 pub mod OrderLaws
+pub mod PossibleLaws
 pub mod PresentedLaws
 pub mod RecordLaws
 pub mod ReplayLaws

@@ -5,7 +5,7 @@ use Rattle.xfs_base.specs.Causes.{IfTold}
 use Rattle.xfs_base.specs.declared.counts.Places.{Places}
 use Rattle.xfs_disk.specs.Moments.{LeavesOnly}
 use Rattle.xfs_disk.specs.declared.disk.Disk.{Ghosts}
-use Rattle.xfs_journal.specs.JournalView.{IsPossible, HasPossible, StandsForEither}
+use Rattle.xfs_journal.specs.JournalView.{IsPossible, StandsForEither}
 use Rattle.xfs_journal.specs.Paging.{IsQuiet}
 use Rattle.xfs_journal.specs.declared.record.Rec.{Rec}
 use Rattle.xfs_journal.specs.declared.record.Rec.TheVariants.{Boot}
@@ -14,7 +14,7 @@ use Rattle.xfs_journal.proofs.Told.{on_told, from_told}
 use Rattle.xfs_guard.specs.Crashed.{IsCrashOutcomeAt, StandsLeft, StandsReread, LeavesBehind}
 use Rattle.xfs_guard.specs.CrashOutcomes.{StandsRecorded}
 use Rattle.xfs_guard.specs.Recorded.{IsRecorded}
-use Rattle.xfs_guard.specs.Stored.{IsStored}
+use Rattle.xfs_guard.specs.Stored.{LeavesPossible, StandsForPossible}
 use Rattle.xfs_guard.specs.View.{View, GuardView}
 use Rattle.xfs_guard.proofs.BootLaws.{IsRecorded-boot}
 use Rattle.xfs_guard.proofs.CrashedLaws.{begins-trans, begins-possible}
@@ -62,15 +62,15 @@ module _ {D : Type 0} (g : Ghosts D) where
       }
 
   -- and is recorded
-  pub recorded-reread : (old new : D) (v : View) (p : Places) (IsLeftNow : List Rec → Type 0) → IsStored g old v.records v.in_doubt
+  pub recorded-reread : (old new : D) (v : View) (p : Places) (IsLeftNow : List Rec → Type 0) → LeavesPossible g old v.records v.in_doubt
       → (is_some (g.held old) ≡ true → (J : List Rec) → IsPossible v.records v.in_doubt J → IsRecorded v.key v.units J v.motions)
       → IfTold (g.held old) (λ _. LeavesOnly g old new (λ bytes. g.images old bytes ⊎ StandsReread v.records v.in_doubt p IsLeftNow bytes))
       → IfTold (g.held old) (λ _. LeavesOnly g old new (StandsRecorded v.key v.units v.motions))
-  recorded-reread old new v p IsLeftNow stored recorded leaves = on_told (g.held old) (λ _. LeavesOnly g old new (StandsRecorded v.key v.units v.motions)) (λ all told.
+  recorded-reread old new v p IsLeftNow possible recorded leaves = on_told (g.held old) (λ _. LeavesOnly g old new (StandsRecorded v.key v.units v.motions)) (λ all told.
       let each = recorded (ap is_some told) in
       weaken g old new (λ bytes. g.images old bytes ⊎ StandsReread v.records v.in_doubt p IsLeftNow bytes) (StandsRecorded v.key v.units v.motions)
       (λ bytes e. ⊎_elim
-      (λ was. recorded-possible v.key v.units v.motions v.records v.in_doubt bytes each (from_told (g.held old) (λ _. (c : List ℕ) → g.images old c → HasPossible v.records v.in_doubt c) stored all told bytes was))
+      (λ was. recorded-possible v.key v.units v.motions v.records v.in_doubt bytes each (from_told (g.held old) (λ _. (c : List ℕ) → g.images old c → StandsForPossible v.records v.in_doubt c) possible all told bytes was))
       (λ read. recorded-either v.key v.units v.motions read.list (Boot p) bytes (each read.list read.possible) (IsRecorded-boot v.key v.units read.list p v.motions (each read.list read.possible)) read.either)
       e)
       (from_told (g.held old) (λ _. LeavesOnly g old new (λ bytes. g.images old bytes ⊎ StandsReread v.records v.in_doubt p IsLeftNow bytes)) leaves all told))

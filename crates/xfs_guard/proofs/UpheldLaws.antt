@@ -1,24 +1,21 @@
 -- What stands of a guard between its calls.
-use Rattle.std.proofs.Common.{◌≡◌, ℕ, ◌+◌, Bool, true, false, List, None, Some, refl, ◌∙◌, ap}
+use Rattle.std.proofs.Common.{◌≡◌, ℕ, ◌+◌, Bool, true, false, List, None, Some, refl, ◌∙◌}
 use Rattle.std.specs.Prelude.{is_some, ◌||◌}
 use Rattle.std.specs.declared.option.Option.{Option}
 use Rattle.xfs_base.specs.Causes.{IfTold}
 use Rattle.xfs_base.specs.declared.money.NoteKind.{NoteKind}
 use Rattle.xfs_disk.specs.declared.disk.Disk.{Ghosts}
 use Rattle.xfs_journal.specs.Journal.{live_of}
-use Rattle.xfs_journal.specs.JournalView.{HasPossible}
-use Rattle.xfs_journal.proofs.Told.{on_told, from_told}
 use Rattle.xfs_mech.specs.declared.motion.Motion.{Motion}
 use Rattle.xfs_guard.specs.declared.open.Open.TheVariants.{No}
 use Rattle.xfs_guard.specs.Kept.{IsKept}
-use Rattle.xfs_guard.specs.CrashOutcomes.{StandsRecorded}
 use Rattle.xfs_guard.specs.Presented.{presented_in, unsettled}
 use Rattle.xfs_guard.specs.Sound.{Ties, where_told}
-use Rattle.xfs_guard.specs.Stored.{IsStored}
+use Rattle.xfs_guard.specs.Stored.{IsStored, LeavesPossible}
 use Rattle.xfs_guard.specs.Upheld.{IsCounted, IsUpheld}
 use Rattle.xfs_guard.specs.View.{View}
 use Rattle.xfs_guard.specs.Within.{shown}
-use Rattle.xfs_guard.proofs.LeftLaws.{recorded-possible}
+use Rattle.xfs_guard.proofs.LeftLaws.{leaves-recorded}
 use Rattle.xfs_guard.proofs.MarkLaws.{boot-marked, mark-there, bound-there, issue-there}
 use Rattle.xfs_guard.proofs.SizeLaws.{neither}
 
@@ -35,12 +32,11 @@ counted v told = go (where_told v.disk_told v.motions) told
     go None t = tt
     go (Some L) t = t.counted
 
-pub upheld : {D : Type 0} (g : Ghosts D) (v : View) (d : D) (spare left : ℕ) (kinds : List NoteKind) → v.disk_told ≡ is_some (g.held d) → IsKept v spare left kinds → IsStored g d v.records v.in_doubt
+pub upheld : {D : Type 0} (g : Ghosts D) (v : View) (d : D) (spare left : ℕ) (kinds : List NoteKind) → v.disk_told ≡ is_some (g.held d) → IsKept v spare left kinds → IsStored g d v.records v.in_doubt → LeavesPossible g d v.records v.in_doubt
     → IsUpheld g (record { state = v; disk = d })
-upheld g v d spare left kinds told kept stored = record {
+upheld g v d spare left kinds told kept stored leaves = record {
   stored = stored;
-  recorded = on_told (g.held d) (λ _. (bytes : List ℕ) → g.images d bytes → StandsRecorded v.key v.units v.motions bytes) (λ all is bytes left.
-      recorded-possible v.key v.units v.motions v.records v.in_doubt bytes (kept.recorded (told ∙ ap is_some is)) (from_told (g.held d) (λ _. (c : List ℕ) → g.images d c → HasPossible v.records v.in_doubt c) stored all is bytes left));
+  recorded = leaves-recorded g d v leaves (λ is. kept.recorded (told ∙ is));
   clean = kept.clean;
   closed = λ e. either v.shut v.boot_missing (v.open_order ≡ No) kept.closed kept.missing e;
   order = λ e. let both = neither v.shut v.boot_missing e in (kept.sound both.0 both.1).stands;

@@ -5,13 +5,21 @@ use Rattle.xfs_base.specs.Causes.{IfTold}
 use Rattle.xfs_base.specs.declared.counts.Places.{Places}
 use Rattle.xfs_disk.specs.declared.disk.Disk.{Ghosts}
 use Rattle.xfs_journal.specs.Image.{StandsFor}
-use Rattle.xfs_journal.specs.JournalView.{HasPossible}
+use Rattle.xfs_journal.specs.JournalView.{HasPossible, IsPossible}
 use Rattle.xfs_journal.specs.declared.record.Rec.{Rec}
 use Rattle.xfs_journal.specs.declared.record.Rec.TheVariants.{Boot}
 
 -- each image of a disk that tells is that of the kept list, or of that list with the record in doubt
 abbrev pub IsStored : {D : Type 0} → Ghosts D → D → List Rec → Option Rec → Type 0
 IsStored g disk records in_doubt = IfTold (g.held disk) (λ _. (c : List ℕ) → g.images disk c → HasPossible records in_doubt c)
+
+-- the bytes stand for the kept list, or for that list with the record in doubt
+abbrev pub StandsForPossible : List Rec → Option Rec → List ℕ → Type 0
+StandsForPossible kept in_doubt bytes = (records : List Rec) × IsPossible kept in_doubt records × StandsFor bytes records
+
+-- where the disk tells, a crash leaves one of these lists
+abbrev pub LeavesPossible : {D : Type 0} → Ghosts D → D → List Rec → Option Rec → Type 0
+LeavesPossible g disk kept in_doubt = IfTold (g.held disk) (λ _. (c : List ℕ) → g.images disk c → StandsForPossible kept in_doubt c)
 
 -- the disk tells, and a crash may leave bytes that stand for this list
 pub record MayLeave {D : Type 0} (g : Ghosts D) (disk : D) (records : List Rec) : Type 0 where

@@ -122,8 +122,6 @@ impl<M: Mechanism, D: Disk> Guard<M, D> {
         let Some(nonce) = self.ledger.live() else {
             unreachable!()
         };
-        // Its clause tells what stands now.
-        let _upheld = self.unfit();
         let transport = self.mech.survey().transport;
         if let Some(deny) = over_budget(&self.ledger, &transport, &claim.amounts, counts) {
             return Err(deny);
@@ -149,8 +147,6 @@ impl<M: Mechanism, D: Disk> Guard<M, D> {
         ensures keeps { Keeps D.Disk NoEntry self.old self.new }
         ensures kept { OnOk result (Leaves D.Disk self.new.disk self.new.state.records) }
     {
-        // Its clause tells what stands now.
-        let _upheld = self.unfit();
         if self.ledger.token().is_some() {
             return Ok(());
         }

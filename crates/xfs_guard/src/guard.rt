@@ -61,6 +61,7 @@ impl<M: Mechanism, D: Disk> Model for Guard<M, D> {
     ghost use Rattle.std.specs.Prelude.{is_some};
     ghost use Rattle.xfs_guard.specs.View.{GuardView, over};
     ghost use Rattle.xfs_guard.specs.Kept.{IsKept};
+    ghost use Rattle.xfs_guard.specs.Stored.{LeavesPossible};
 
     ghost Value = { GuardView D };
 
@@ -70,7 +71,8 @@ impl<M: Mechanism, D: Disk> Model for Guard<M, D> {
     } };
 
     ghost invariant = { λ g. IsKept (over g.key g.seed g.open_order (M.motions g.mech) (M.places g.mech) (M.faults g.mech) g.ledger (is_some (D.held g.ledger.disk)))
-        (M.room g.mech) g.ledger.room (M.units g.mech) };
+        (M.room g.mech) g.ledger.room (M.units g.mech)
+        × LeavesPossible D.Disk g.ledger.disk g.ledger.records g.ledger.in_doubt };
 }
 
 impl<M: Mechanism, D: Disk> Guard<M, D> {
@@ -297,8 +299,11 @@ impl<M: Mechanism, D: Disk> Guard<M, D> {
         if let Some(deny) = self.unfit() {
             return Err(deny);
         }
-        let word = word_of(self.seed, self.ledger.next_issue());
-        Ok(self.ledger.issue(word)?)
+        let number = self.ledger.next_issue();
+        let word = word_of(self.seed, number);
+        let nonce = Nonce::of(self.alloc, number, word)?;
+        self.ledger.issue(nonce, word)?;
+        Ok(nonce)
     }
 
     /// Clears the live nonce. False, and nothing is written, where none is live. After `Disk` the
@@ -465,8 +470,6 @@ impl<M: Mechanism, D: Disk> Guard<M, D> {
         let Open::Written { kind, counts } = self.open_order else {
             unreachable!()
         };
-        // Its clause tells what a crash may leave now.
-        let _possible = self.ledger.shut();
         let number = self.ledger.records().len() as u64;
         let outcome = self.mech.execute(MechOrder::new(number, kind, counts));
         self.open_order = Open::Acted {

@@ -23,7 +23,7 @@ ghost use Rattle.xfs_guard.specs.Balance.{no_notes, with_notes};
 ghost use Rattle.xfs_guard.specs.Ledger.{IsLive, IsDoubted};
 ghost use Rattle.xfs_guard.specs.CrashOutcomes.{IsOldOrBooted, Leaves};
 ghost use Rattle.xfs_guard.specs.Crashed.{IsCrashOutcome, StandsReread};
-ghost use Rattle.xfs_guard.specs.Stored.{IsStored, MayLeave, WasLeft};
+ghost use Rattle.xfs_guard.specs.Stored.{IsStored, LeavesPossible, MayLeave, WasLeft};
 ghost use Rattle.xfs_guard.specs.Pays.{Fits, Pays, IsSumOf};
 
 use crate::bound::{Bound, Live};
@@ -39,7 +39,6 @@ use xfs_token::Amounts;
 /// the last mark, the live nonce, and the bound token with its amounts.
 #[derive(Drop)]
 pub struct Ledger<D: Disk> {
-    alloc: Global,
     journal: Journal<D>,
     units: UnitTable,
     issues: u64,
@@ -98,6 +97,7 @@ impl<D: Disk> Ledger<D> {
         ensures opened { IfOk result (λ l. (l.shut ≡ false) × (l.in_doubt ≡ None) × (l.bound ≡ None) × (l.boot_missing ≡ false)) }
         ensures same { IfOk result (λ l. (l.limits ≡ limits) × (l.units ≡ units)) }
         ensures unloaded { IfOk result (λ l. (l.booted ≡ places) × (l.loaded ≡ no_notes)) }
+        ensures kept { IfOk result (λ l. Leaves D.Disk l.disk l.records) }
         ensures told { MatchResult result (λ l. is_some (D.held l.disk) ≡ is_some (D.held disk)) (λ f. is_some (D.held f.disk) ≡ is_some (D.held disk)) }
         ensures not_journal { IfErr result (λ f. (at : ℕ) → f.why ≡ NotJournal at → IfTold (D.held disk) (λ all. CeasesAt all at × ((records : List Rec) → ¬ StandsFor all records))) }
         ensures refused { IfErr result (λ f. (at : ℕ) → f.why ≡ NotJournal at → IsQuiet D.Disk disk f.disk) }
@@ -125,7 +125,6 @@ impl<D: Disk> Ledger<D> {
         let booted = *places.places();
         match append_boot(&mut journal, places) {
             Ok(mark) => Ok(Ledger {
-                alloc,
                 journal,
                 units,
                 issues,
@@ -157,7 +156,6 @@ impl<D: Disk> Ledger<D> {
         ensures stored { IsStored D.Disk result self.records self.in_doubt }
     {
         let Ledger {
-            alloc: _,
             journal,
             units: _,
             issues: _,
@@ -305,23 +303,20 @@ impl<D: Disk> Ledger<D> {
         self.journal.left()
     }
 
-    /// A nonce is issued.
-    pub fn issue(&mut self, word: u64) -> Result<Nonce, Deny>
-        requires fits { write_refusal self.old (Issue (next_issue self.old.records) word) ≡ None }
-        ensures number { IfOk result (λ n. n.number ≡ next_issue self.old.records) }
-        ensures text { IfOk result (λ n. n.text ≡ nonce_text n.number word) }
-        ensures wrote { Wrote result self.old self.new (Issue (next_issue self.old.records) word) None }
+    /// The next nonce is issued, which has this word.
+    pub fn issue(&mut self, nonce: Nonce, word: u64) -> Result<(), Deny>
+        requires fits { write_refusal self.old (Issue nonce.number word) ≡ None }
+        requires next { nonce.number ≡ next_issue self.old.records }
+        requires text { nonce.text ≡ nonce_text nonce.number word }
+        ensures wrote { Wrote result self.old self.new (Issue nonce.number word) None }
         ensures err { IfErr result IsWriteFault }
         ensures cause { result ≡ Err Deny.Disk → Rose (D.faults self.old.disk) (D.faults self.new.disk) }
         ensures faults { D.faults self.old.disk ≤ D.faults self.new.disk }
         ensures told { is_some (D.held self.new.disk) ≡ is_some (D.held self.old.disk) }
-        ensures any_moment { IfTold (D.held self.old.disk) (λ _. LeavesOnly D.Disk self.old.disk self.new.disk (StandsForEither self.old.records (Issue (next_issue self.old.records) word))) }
+        ensures any_moment { IfTold (D.held self.old.disk) (λ _. LeavesOnly D.Disk self.old.disk self.new.disk (StandsForEither self.old.records (Issue nonce.number word))) }
         ensures kept { OnOk result (Leaves D.Disk self.new.disk self.new.records) }
     {
-        let number = self.next_issue();
-        // Its clause tells what a crash may leave now.
-        let _possible = self.journal.shut();
-        let nonce = Nonce::of(self.alloc, number, word)?;
+        let number = nonce.number;
         let place = match append(&mut self.journal, Rec::Issue { number, word }) {
             Ok(place) => place,
             Err(deny) => {
@@ -335,7 +330,7 @@ impl<D: Disk> Ledger<D> {
         self.mark = place;
         self.live = Some(Live { place, nonce });
         self.bound = None;
-        Ok(nonce)
+        Ok(())
     }
 
     /// The live nonce ends, by this record.
@@ -477,7 +472,7 @@ impl<D: Disk> Ledger<D> {
         ensures cause { result ≡ Err BootDisk → Rose (D.faults self.old.disk) (D.faults self.new.disk) }
         ensures faults { D.faults self.old.disk ≤ D.faults self.new.disk }
         ensures told { is_some (D.held self.new.disk) ≡ is_some (D.held self.old.disk) }
-        ensures possible { IsStored D.Disk self.old.disk self.old.records self.old.in_doubt }
+        ensures left { LeavesPossible D.Disk self.new.disk self.new.records self.new.in_doubt }
         ensures any_moment { IfTold (D.held self.old.disk) (λ _. LeavesOnly D.Disk self.old.disk self.new.disk
             (λ bytes. D.images self.old.disk bytes ⊎ StandsReread self.old.records self.old.in_doubt places (IsCrashOutcome self.new.records self.new.in_doubt (self.new.shut || self.new.boot_missing)) bytes)) }
     {
@@ -560,6 +555,7 @@ fn append_boot<D: Disk>(journal: &mut Journal<D>, places: Survey) -> Result<u64,
     ensures fits { OnOk result (exceeds journal.old.limits journal.new.records ≡ false) }
     ensures full { result ≡ Err BootFull → exceeds journal.old.limits (journal.old.records ++ Boot places ∷ []) ≡ true }
     ensures disk { result ≡ Err BootDisk → Rose (D.faults journal.old.disk) (D.faults journal.new.disk) }
+    ensures kept { OnOk result (Leaves D.Disk journal.new.disk journal.new.records) }
     ensures images { IfTold (D.held journal.old.disk) (λ _. (image : List ℕ) → D.images journal.new.disk image → StandsForEither journal.old.records (Boot places) image) }
     ensures any_moment { IfTold (D.held journal.old.disk) (λ _. LeavesOnly D.Disk journal.old.disk journal.new.disk (StandsForEither journal.old.records (Boot places))) }
     ensures told { is_some (D.held journal.new.disk) ≡ is_some (D.held journal.old.disk) }

@@ -41,8 +41,6 @@ impl<M: Mechanism, D: Disk> Guard<M, D> {
         ensures same { self.new.disk ≡ self.old.disk }
         ensures keeps { Keeps D.Disk (MayTake self.old.state) self.old self.new }
     {
-        // Its clause tells what a crash may leave now.
-        let _possible = self.ledger.shut();
         self.mech.ready()?;
         Ok(self.mech.taken())
     }
@@ -59,8 +57,6 @@ impl<M: Mechanism, D: Disk> Guard<M, D> {
         ensures same { self.new.disk ≡ self.old.disk }
         ensures keeps { Keeps D.Disk (λ entry. entry ≡ Loaded unit count) self.old self.new }
     {
-        // Its clause tells what a crash may leave now.
-        let _possible = self.ledger.shut();
         self.mech.ready()?;
         let outcome = self.mech.load(unit, count);
         if outcome.failed {

@@ -35,8 +35,6 @@ impl<M: Mechanism, D: Disk> Guard<M, D> {
         ensures cause { result ≡ Err BootDisk → Rose (D.faults self.old.disk) (D.faults self.new.disk) }
         ensures keeps { Keeps D.Disk NoEntry self.old self.new }
     {
-        // Its clause tells what stands now.
-        let _upheld = self.unfit();
         let places = self.mech.survey();
         // The memory of the Boot is had before the journal is read.
         let Ok(survey) = Survey::new(self.alloc, places) else {

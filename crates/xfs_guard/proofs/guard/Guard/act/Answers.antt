@@ -7,16 +7,18 @@ use Rattle.xfs_guard.proofs.LeftLaws.{left-through, one-possible, recorded-moved
 use Rattle.xfs_guard.proofs.guard.Guard.act.Goals as goal
 
 pub invariant_of-self : goal.invariant_of-self
-invariant_of-self g c =
-    let number : length c.records.result.now ≡ length c.self.inside.ledger.records = ap length c.records.ensures in
-    let e = rw (c.new.ensures.number, c.new.ensures.kind, c.new.ensures.counts) at c.execute-outcome.ensures in
-    let motions = rw number at e.motions in
-    let places = rw number at e.places in
-    let moved : length c.execute-outcome.result.moved.0 ≡ 8 = omega arith in
-    let diverted : length c.execute-outcome.result.diverted.0 ≡ 8 = omega arith in
-    IsKept-acted _ c.in-Written.kind c.in-Written.counts c.execute-outcome.result.moved c.execute-outcome.result.diverted c.execute-outcome.result.failed
-    (g.M.Mechanism.motions c.execute-outcome.new.self) (g.M.Mechanism.places c.execute-outcome.new.self) (g.M.Mechanism.faults c.execute-outcome.new.self)
-    _ _ _ _ _ c.self.invariant c.in-Written.is moved diverted e.carried motions places (e.units ∙ c.self.invariant.units)
+invariant_of-self g c = (
+  (let number : length c.records.result.now ≡ length c.self.inside.ledger.records = ap length c.records.ensures in
+      let e = rw (c.new.ensures.number, c.new.ensures.kind, c.new.ensures.counts) at c.execute-outcome.ensures in
+      let motions = rw number at e.motions in
+      let places = rw number at e.places in
+      let moved : length c.execute-outcome.result.moved.0 ≡ 8 = omega arith in
+      let diverted : length c.execute-outcome.result.diverted.0 ≡ 8 = omega arith in
+      IsKept-acted _ c.in-Written.kind c.in-Written.counts c.execute-outcome.result.moved c.execute-outcome.result.diverted c.execute-outcome.result.failed
+      (g.M.Mechanism.motions c.execute-outcome.new.self) (g.M.Mechanism.places c.execute-outcome.new.self) (g.M.Mechanism.faults c.execute-outcome.new.self)
+      _ _ _ _ _ c.self.invariant.0 c.in-Written.is moved diverted e.carried motions places (e.units ∙ c.self.invariant.0.units)),
+  c.self.invariant.1,
+)
 
 pub returns-clause-keeps : goal.returns-clause-keeps
 returns-clause-keeps g c =
@@ -25,13 +27,13 @@ returns-clause-keeps g c =
     let e = rw (c.new.ensures.number, c.new.ensures.kind, c.new.ensures.counts) at c.execute-outcome.ensures in
     let motions = rw number at e.motions in
     let places = rw number at e.places in
-    let still = still-open _ _ _ _ c.self.invariant.closed c.in-Written.is in
+    let still = still-open _ _ _ _ c.self.invariant.0.closed c.in-Written.is in
     rw (← c.self.view_is) (Continues-act _ c.in-Written.kind c.execute-outcome.result.moved c.execute-outcome.result.diverted c.execute-outcome.result.failed
-    (g.M.Mechanism.motions c.execute-outcome.new.self) (g.M.Mechanism.places c.execute-outcome.new.self) (g.M.Mechanism.faults c.execute-outcome.new.self) (c.self.invariant.clean still) motions places))
+    (g.M.Mechanism.motions c.execute-outcome.new.self) (g.M.Mechanism.places c.execute-outcome.new.self) (g.M.Mechanism.faults c.execute-outcome.new.self) (c.self.invariant.0.clean still) motions places))
     (rw (← c.self.view_is) c.execute-outcome.ensures.later)
-    (let still = still-open _ _ _ _ c.self.invariant.closed c.in-Written.is in
-    let booted = still-open _ _ _ _ c.self.invariant.missing c.in-Written.is in
-    let none = c.self.invariant.clean still in
-    rw (← c.self.view_is) (left-through g.D.Disk c.self.inside.ledger.disk _ (MayMove _) (g.met.D.Disk.only_now c.self.inside.ledger.disk) c.shut-possible.ensures.possible
-    c.self.invariant.recorded
-    (λ told J p entry now may grows. rw (one-possible _ _ J none p) (recorded-moved _ entry now (c.self.invariant.sound still booted) told may grows))))
+    (let still = still-open _ _ _ _ c.self.invariant.0.closed c.in-Written.is in
+    let booted = still-open _ _ _ _ c.self.invariant.0.missing c.in-Written.is in
+    let none = c.self.invariant.0.clean still in
+    rw (← c.self.view_is) (left-through g.D.Disk c.self.inside.ledger.disk _ (MayMove _) (g.met.D.Disk.only_now c.self.inside.ledger.disk) c.self.invariant.1
+    c.self.invariant.0.recorded
+    (λ told J p entry now may grows. rw (one-possible _ _ J none p) (recorded-moved _ entry now (c.self.invariant.0.sound still booted) told may grows))))

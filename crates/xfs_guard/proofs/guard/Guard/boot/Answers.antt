@@ -7,16 +7,19 @@ use Rattle.xfs_guard.proofs.ContinueLaws.{Continues-written}
 use Rattle.xfs_guard.proofs.KeptLaws.{over}
 use Rattle.xfs_guard.proofs.StoredLaws.{MayLeave-held}
 use Rattle.xfs_guard.proofs.LeftLaws.{left-boot}
+use Rattle.xfs_guard.proofs.PossibleLaws.{leaves-list}
 use Rattle.xfs_guard.proofs.guard.Guard.boot.Goals as goal
 
 pub invariant_of-result : goal.invariant_of-result
-invariant_of-result g c =
-    let e = c.in-Ok-boot.ensures in
-    let v = over c.new-in-Ok-boot.result c.args.seed No (g.M.Mechanism.motions c.args.mech) (g.M.Mechanism.places c.args.mech) (g.M.Mechanism.faults c.args.mech) c.in-Ok-boot.ledger (is_some (g.D.Disk.held c.in-Ok-boot.ledger.disk)) in
-    rw (e.records.2, e.opened.0, e.opened.1, e.opened.2, e.opened.3, e.unloaded.0, e.unloaded.1)
-    (IsKept-boot v e.records.0 c.in-Ok.survey _ _ _ (c.in-Ok.ensures ∙ c.survey-places.ensures)
-    (λ told. rw (e.same.1, c.new-in-Ok-boot.ensures) (c.requires.recorded e.records.0 (MayLeave-held g.D.Disk c.args.disk e.records.0 g.met.D.Disk.as_read (sym e.told ∙ told) e.records.1)))
-    (c.requires.units ∙ sym e.same.1))
+invariant_of-result g c = (
+  (let e = c.in-Ok-boot.ensures in
+      let v = over c.new-in-Ok-boot.result c.args.seed No (g.M.Mechanism.motions c.args.mech) (g.M.Mechanism.places c.args.mech) (g.M.Mechanism.faults c.args.mech) c.in-Ok-boot.ledger (is_some (g.D.Disk.held c.in-Ok-boot.ledger.disk)) in
+      rw (e.records.2, e.opened.0, e.opened.1, e.opened.2, e.opened.3, e.unloaded.0, e.unloaded.1)
+      (IsKept-boot v e.records.0 c.in-Ok.survey _ _ _ (c.in-Ok.ensures ∙ c.survey-places.ensures)
+      (λ told. rw (e.same.1, c.new-in-Ok-boot.ensures) (c.requires.recorded e.records.0 (MayLeave-held g.D.Disk c.args.disk e.records.0 g.met.D.Disk.as_read (sym e.told ∙ told) e.records.1)))
+      (c.requires.units ∙ sym e.same.1))),
+  leaves-list g.D.Disk c.in-Ok-boot.ledger.disk c.in-Ok-boot.ledger.records c.in-Ok-boot.ledger.in_doubt c.in-Ok-boot.ensures.kept,
+)
 
 pub returns-in-Ok-boot-clause-continues : goal.returns-in-Ok-boot-clause-continues
 returns-in-Ok-boot-clause-continues g c = λ J is.

@@ -9,6 +9,7 @@ use Rattle.xfs_guard.proofs.SizeLaws.{fit-at, takes-one, may-write}
 use Rattle.xfs_guard.proofs.RecordLaws.{IsSound-end, ends-short, ends-plain, ends-dead}
 use Rattle.xfs_guard.proofs.LeftLaws.{left-written}
 use Rattle.xfs_guard.proofs.BehindLaws.{behind-refused, behind-written}
+use Rattle.xfs_guard.proofs.PossibleLaws.{leaves-list, leaves-refused}
 use Rattle.xfs_guard.proofs.guard.Guard.end_nonce.Goals as goal
 
 pub end_nonce-requires : goal.end_nonce-requires
@@ -20,30 +21,34 @@ end_nonce-requires g c =
     }
 
 pub invariant_of-self : goal.invariant_of-self
-invariant_of-self g c =
-    let none : c.self.inside.open_order ≡ No = rw (← c.self.view_is) at c.requires.none in
-    let fit = fit-at _ _ c.self.view_is c.requires.fit in
-    IsKept-refused Unit c.in_err-end_nonce.field-0.0 _ _ _ _ _ _ c.self.inside.ledger c.end_nonce.new.self _ None _ _ _ _ _ _ c.in_err-end_nonce.ensures.wrote c.in_err-end_nonce.ensures.err c.end_nonce.ensures.told none c.self.invariant fit.0 fit.2
-    (IsSound-end _ c.args.rec c.requires.ends (c.self.invariant.sound fit.0 fit.2) none)
+invariant_of-self g c = (
+  (let none : c.self.inside.open_order ≡ No = rw (← c.self.view_is) at c.requires.none in
+      let fit = fit-at _ _ c.self.view_is c.requires.fit in
+      IsKept-refused Unit c.in_err-end_nonce.field-0.0 _ _ _ _ _ _ c.self.inside.ledger c.end_nonce.new.self _ None _ _ _ _ _ _ c.in_err-end_nonce.ensures.wrote c.in_err-end_nonce.ensures.err c.end_nonce.ensures.told none c.self.invariant.0 fit.0 fit.2
+      (IsSound-end _ c.args.rec c.requires.ends (c.self.invariant.0.sound fit.0 fit.2) none)),
+  leaves-refused g.D.Disk Unit c.in_err-end_nonce.field-0.0 c.self.inside.ledger c.end_nonce.new.self c.args.rec None g.met.D.Disk.counts_now c.in_err-end_nonce.ensures.wrote c.in_err-end_nonce.ensures.err c.end_nonce.ensures.told c.end_nonce.ensures.any_moment c.self.invariant.1,
+)
 
 pub invariant_of-self-2 : goal.invariant_of-self-2
-invariant_of-self-2 g c =
-    let none : c.self.inside.open_order ≡ No = rw (← c.self.view_is) at c.requires.none in
-    let fit = fit-at _ _ c.self.view_is c.requires.fit in
-    let w = c.in_ok-end_nonce.ensures.wrote in
-    rw (w.records, w.units, w.bound_is, w.booted, w.loaded, w.limits, w.open_still, w.boot_missing, w.in_doubt, c.end_nonce.ensures.told, none)
-    (IsKept-open _ _ _ _ (IsSound-end _ c.args.rec c.requires.ends (c.self.invariant.sound fit.0 fit.2) none) (balanced-push c.self.inside.ledger.records c.args.rec _ _ _ c.self.invariant.balanced) fit.2 tt tt c.self.invariant.units)
+invariant_of-self-2 g c = (
+  (let none : c.self.inside.open_order ≡ No = rw (← c.self.view_is) at c.requires.none in
+      let fit = fit-at _ _ c.self.view_is c.requires.fit in
+      let w = c.in_ok-end_nonce.ensures.wrote in
+      rw (w.records, w.units, w.bound_is, w.booted, w.loaded, w.limits, w.open_still, w.boot_missing, w.in_doubt, c.end_nonce.ensures.told, none)
+      (IsKept-open _ _ _ _ (IsSound-end _ c.args.rec c.requires.ends (c.self.invariant.0.sound fit.0 fit.2) none) (balanced-push c.self.inside.ledger.records c.args.rec _ _ _ c.self.invariant.0.balanced) fit.2 tt tt c.self.invariant.0.units)),
+  leaves-list g.D.Disk c.end_nonce.new.self.disk c.end_nonce.new.self.records c.end_nonce.new.self.in_doubt c.in_ok-end_nonce.ensures.kept,
+)
 
 pub returns-in_err-end_nonce-clause-keeps : goal.returns-in_err-end_nonce-clause-keeps
 returns-in_err-end_nonce-clause-keeps g c =
     Keeps-wrote g.D.Disk _ _
     (let fit = fit-at _ _ c.self.view_is c.requires.fit in
-    rw (← c.self.view_is) (Continues-refused Unit c.in_err-end_nonce.field-0.0 _ _ _ _ _ _ c.self.inside.ledger c.end_nonce.new.self _ None _ _ c.in_err-end_nonce.ensures.wrote c.in_err-end_nonce.ensures.err c.end_nonce.ensures.told (c.self.invariant.clean fit.0) fit.0 fit.2 (λ p e. absurd (ends-plain c.args.rec p c.requires.ends e))))
+    rw (← c.self.view_is) (Continues-refused Unit c.in_err-end_nonce.field-0.0 _ _ _ _ _ _ c.self.inside.ledger c.end_nonce.new.self _ None _ _ c.in_err-end_nonce.ensures.wrote c.in_err-end_nonce.ensures.err c.end_nonce.ensures.told (c.self.invariant.0.clean fit.0) fit.0 fit.2 (λ p e. absurd (ends-plain c.args.rec p c.requires.ends e))))
     (rw (← c.self.view_is) c.end_nonce.ensures.faults) (rw (← c.self.view_is) (omega arith))
     (rw (← c.self.view_is) (behind-refused Unit g.D.Disk c.in_err-end_nonce.field-0.0 _ _ _ _ _ _ c.self.inside.ledger c.end_nonce.new.self _ None _ _ g.met.D.Disk.only_now c.in_err-end_nonce.ensures.wrote c.in_err-end_nonce.ensures.err c.end_nonce.ensures.told c.end_nonce.ensures.any_moment))
     (let none : c.self.inside.open_order ≡ No = rw (← c.self.view_is) at c.requires.none in
     let fit = fit-at _ _ c.self.view_is c.requires.fit in
-    let sound = c.self.invariant.sound fit.0 fit.2 in
+    let sound = c.self.invariant.0.sound fit.0 fit.2 in
     rw (← c.self.view_is) (left-written g.D.Disk c.self.inside.ledger.disk c.end_nonce.new.self.disk _ c.args.rec None No refl sound (IsSound-end _ c.args.rec c.requires.ends sound none) c.end_nonce.ensures.any_moment))
 
 pub returns-clause-keeps : goal.returns-clause-keeps
@@ -52,12 +57,12 @@ returns-clause-keeps g c =
     (let fit = fit-at _ _ c.self.view_is c.requires.fit in
     let w = c.in_ok-end_nonce.ensures.wrote in
     rw (← c.self.view_is, w.records, w.units, w.bound_is, w.booted, w.loaded, w.limits, w.open_still, w.boot_missing, w.in_doubt, c.end_nonce.ensures.told)
-    (Continues-written _ c.args.rec None c.self.inside.open_order (c.self.invariant.clean fit.0) fit.0 fit.2 (λ p e. absurd (ends-plain c.args.rec p c.requires.ends e))))
+    (Continues-written _ c.args.rec None c.self.inside.open_order (c.self.invariant.0.clean fit.0) fit.0 fit.2 (λ p e. absurd (ends-plain c.args.rec p c.requires.ends e))))
     (rw (← c.self.view_is) c.end_nonce.ensures.faults) (rw (← c.self.view_is) (omega arith))
     (rw (← c.self.view_is) (behind-written g.D.Disk _ _ c.args.rec c.end_nonce.ensures.told c.end_nonce.ensures.any_moment c.in_ok-end_nonce.ensures.wrote.records))
     (let none : c.self.inside.open_order ≡ No = rw (← c.self.view_is) at c.requires.none in
     let fit = fit-at _ _ c.self.view_is c.requires.fit in
-    let sound = c.self.invariant.sound fit.0 fit.2 in
+    let sound = c.self.invariant.0.sound fit.0 fit.2 in
     rw (← c.self.view_is) (left-written g.D.Disk c.self.inside.ledger.disk c.end_nonce.new.self.disk _ c.args.rec None No refl sound (IsSound-end _ c.args.rec c.requires.ends sound none) c.end_nonce.ensures.any_moment))
 
 pub returns-clause-dead : goal.returns-clause-dead

@@ -9,41 +9,45 @@ use Rattle.xfs_guard.proofs.LeftLaws.{left-through}
 use Rattle.xfs_guard.proofs.guard.Guard.load.Goals as goal
 
 pub invariant_of-self-then-outcome : goal.invariant_of-self-then-outcome
-invariant_of-self-then-outcome g c =
-    let reported = rw (c.ready.ensures.motions, c.ready.ensures.places) at c.load-outcome.ensures.reported in
-    record {
-      sound = λ still booted. IsSound-report _ (Loaded c.args.unit c.args.count) c.load-outcome.result.moved c.load-outcome.result.diverted c.load-outcome.result.failed
-          (g.M.Mechanism.motions c.load-outcome.new.self) (g.M.Mechanism.places c.load-outcome.new.self) (g.M.Mechanism.faults c.load-outcome.new.self) c.self.inside.ledger.loaded
-          (g.M.Mechanism.room c.ready.new.self) (g.M.Mechanism.room c.load-outcome.new.self) (c.self.invariant.sound still booted) tt reported (loaded-leaves c.self.inside.open_order c.args.unit c.args.count _ _);
-      clean = c.self.invariant.clean;
-      balanced = balanced-failed _ _ _ _ _ (Loaded c.args.unit c.args.count) c.load-outcome.result.moved c.load-outcome.result.diverted c.load-outcome.result.failed _ _ _ _ c.if-outcome.true reported c.self.invariant.balanced;
-      closed = c.self.invariant.closed;
-      missing = c.self.invariant.missing;
-      recorded = λ told J p. IsRecorded-report _ _ J (Loaded c.args.unit c.args.count) c.load-outcome.result.moved c.load-outcome.result.diverted c.load-outcome.result.failed _ _ _ _ _ _ tt reported (c.self.invariant.recorded told J p);
-      limits = HasLimits-report c.self.inside.open_order _ _ _ _ _ c.self.invariant.limits;
-      room = HasRoom-report c.self.inside.open_order (Loaded c.args.unit c.args.count) c.load-outcome.result.moved c.load-outcome.result.diverted c.load-outcome.result.failed
-          _ _ _ _ (g.M.Mechanism.room c.self.inside.mech) _ _ c.self.inside.ledger.room c.self.invariant.room c.in_ok-ready.ensures.room reported;
-      units = c.load-outcome.ensures.units ∙ (c.ready.ensures.units ∙ c.self.invariant.units);
-    }
+invariant_of-self-then-outcome g c = (
+  (let reported = rw (c.ready.ensures.motions, c.ready.ensures.places) at c.load-outcome.ensures.reported in
+      record {
+        sound = λ still booted. IsSound-report _ (Loaded c.args.unit c.args.count) c.load-outcome.result.moved c.load-outcome.result.diverted c.load-outcome.result.failed
+            (g.M.Mechanism.motions c.load-outcome.new.self) (g.M.Mechanism.places c.load-outcome.new.self) (g.M.Mechanism.faults c.load-outcome.new.self) c.self.inside.ledger.loaded
+            (g.M.Mechanism.room c.ready.new.self) (g.M.Mechanism.room c.load-outcome.new.self) (c.self.invariant.0.sound still booted) tt reported (loaded-leaves c.self.inside.open_order c.args.unit c.args.count _ _);
+        clean = c.self.invariant.0.clean;
+        balanced = balanced-failed _ _ _ _ _ (Loaded c.args.unit c.args.count) c.load-outcome.result.moved c.load-outcome.result.diverted c.load-outcome.result.failed _ _ _ _ c.if-outcome.true reported c.self.invariant.0.balanced;
+        closed = c.self.invariant.0.closed;
+        missing = c.self.invariant.0.missing;
+        recorded = λ told J p. IsRecorded-report _ _ J (Loaded c.args.unit c.args.count) c.load-outcome.result.moved c.load-outcome.result.diverted c.load-outcome.result.failed _ _ _ _ _ _ tt reported (c.self.invariant.0.recorded told J p);
+        limits = HasLimits-report c.self.inside.open_order _ _ _ _ _ c.self.invariant.0.limits;
+        room = HasRoom-report c.self.inside.open_order (Loaded c.args.unit c.args.count) c.load-outcome.result.moved c.load-outcome.result.diverted c.load-outcome.result.failed
+            _ _ _ _ (g.M.Mechanism.room c.self.inside.mech) _ _ c.self.inside.ledger.room c.self.invariant.0.room c.in_ok-ready.ensures.room reported;
+        units = c.load-outcome.ensures.units ∙ (c.ready.ensures.units ∙ c.self.invariant.0.units);
+      }),
+  c.self.invariant.1,
+)
 
 pub invariant_of-self-2 : goal.invariant_of-self-2
-invariant_of-self-2 g c =
-    let reported = rw (c.ready.ensures.motions, c.ready.ensures.places) at c.load-outcome.ensures.reported in
-    rw c.count_load.ensures.counted (
-    record {
-      sound = λ still booted. IsSound-report _ (Loaded c.args.unit c.args.count) c.load-outcome.result.moved c.load-outcome.result.diverted c.load-outcome.result.failed
-          (g.M.Mechanism.motions c.load-outcome.new.self) (g.M.Mechanism.places c.load-outcome.new.self) (g.M.Mechanism.faults c.load-outcome.new.self) (with_notes c.self.inside.ledger.loaded c.args.unit c.args.count)
-          (g.M.Mechanism.room c.ready.new.self) (g.M.Mechanism.room c.load-outcome.new.self) (c.self.invariant.sound still booted) tt reported (loaded-leaves c.self.inside.open_order c.args.unit c.args.count _ _);
-      clean = c.self.invariant.clean;
-      balanced = balanced-loaded _ _ _ _ _ c.args.unit c.args.count c.load-outcome.result.moved c.load-outcome.result.diverted c.load-outcome.result.failed _ _ _ _ c.if-outcome.false (rw (← c.self.view_is) at c.requires.fits).low c.count_load.ensures.few reported c.self.invariant.balanced;
-      closed = c.self.invariant.closed;
-      missing = c.self.invariant.missing;
-      recorded = λ told J p. IsRecorded-report _ _ J (Loaded c.args.unit c.args.count) c.load-outcome.result.moved c.load-outcome.result.diverted c.load-outcome.result.failed _ _ _ _ _ _ tt reported (c.self.invariant.recorded told J p);
-      limits = HasLimits-report c.self.inside.open_order _ _ _ _ _ c.self.invariant.limits;
-      room = HasRoom-report c.self.inside.open_order (Loaded c.args.unit c.args.count) c.load-outcome.result.moved c.load-outcome.result.diverted c.load-outcome.result.failed
-          _ _ _ _ (g.M.Mechanism.room c.self.inside.mech) _ _ c.self.inside.ledger.room c.self.invariant.room c.in_ok-ready.ensures.room reported;
-      units = c.load-outcome.ensures.units ∙ (c.ready.ensures.units ∙ c.self.invariant.units);
-    })
+invariant_of-self-2 g c = (
+  (let reported = rw (c.ready.ensures.motions, c.ready.ensures.places) at c.load-outcome.ensures.reported in
+      rw c.count_load.ensures.counted (
+      record {
+        sound = λ still booted. IsSound-report _ (Loaded c.args.unit c.args.count) c.load-outcome.result.moved c.load-outcome.result.diverted c.load-outcome.result.failed
+            (g.M.Mechanism.motions c.load-outcome.new.self) (g.M.Mechanism.places c.load-outcome.new.self) (g.M.Mechanism.faults c.load-outcome.new.self) (with_notes c.self.inside.ledger.loaded c.args.unit c.args.count)
+            (g.M.Mechanism.room c.ready.new.self) (g.M.Mechanism.room c.load-outcome.new.self) (c.self.invariant.0.sound still booted) tt reported (loaded-leaves c.self.inside.open_order c.args.unit c.args.count _ _);
+        clean = c.self.invariant.0.clean;
+        balanced = balanced-loaded _ _ _ _ _ c.args.unit c.args.count c.load-outcome.result.moved c.load-outcome.result.diverted c.load-outcome.result.failed _ _ _ _ c.if-outcome.false (rw (← c.self.view_is) at c.requires.fits).low c.count_load.ensures.few reported c.self.invariant.0.balanced;
+        closed = c.self.invariant.0.closed;
+        missing = c.self.invariant.0.missing;
+        recorded = λ told J p. IsRecorded-report _ _ J (Loaded c.args.unit c.args.count) c.load-outcome.result.moved c.load-outcome.result.diverted c.load-outcome.result.failed _ _ _ _ _ _ tt reported (c.self.invariant.0.recorded told J p);
+        limits = HasLimits-report c.self.inside.open_order _ _ _ _ _ c.self.invariant.0.limits;
+        room = HasRoom-report c.self.inside.open_order (Loaded c.args.unit c.args.count) c.load-outcome.result.moved c.load-outcome.result.diverted c.load-outcome.result.failed
+            _ _ _ _ (g.M.Mechanism.room c.self.inside.mech) _ _ c.self.inside.ledger.room c.self.invariant.0.room c.in_ok-ready.ensures.room reported;
+        units = c.load-outcome.ensures.units ∙ (c.ready.ensures.units ∙ c.self.invariant.0.units);
+      })),
+  rw c.count_load.ensures.counted c.self.invariant.1,
+)
 
 pub returns-clause-ok : goal.returns-clause-ok
 returns-clause-ok g c =
@@ -55,9 +59,9 @@ returns-in_err-ready-clause-keeps g c =
     Keeps-moved g.D.Disk _ _ _ g.met.D.Disk.only_now (rw (← c.self.view_is) refl)
     (rw (← c.self.view_is, c.ready.ensures.motions, c.ready.ensures.places, c.ready.ensures.faults) (Continues-same _))
     (rw (← c.self.view_is, c.ready.ensures.faults) (omega arith))
-    (rw (← c.self.view_is) (left-through g.D.Disk c.self.inside.ledger.disk _ (λ entry. entry ≡ Loaded c.args.unit c.args.count) (g.met.D.Disk.only_now c.self.inside.ledger.disk) c.shut-possible.ensures.possible
-    c.self.invariant.recorded
-    (λ told J p entry now may grows. IsRecorded-entry _ _ J (Loaded c.args.unit c.args.count) _ now tt (rw may at grows) (c.self.invariant.recorded told J p))))
+    (rw (← c.self.view_is) (left-through g.D.Disk c.self.inside.ledger.disk _ (λ entry. entry ≡ Loaded c.args.unit c.args.count) (g.met.D.Disk.only_now c.self.inside.ledger.disk) c.self.invariant.1
+    c.self.invariant.0.recorded
+    (λ told J p entry now may grows. IsRecorded-entry _ _ J (Loaded c.args.unit c.args.count) _ now tt (rw may at grows) (c.self.invariant.0.recorded told J p))))
 
 pub returns-then-outcome-clause-keeps : goal.returns-then-outcome-clause-keeps
 returns-then-outcome-clause-keeps g c =
@@ -67,9 +71,9 @@ returns-then-outcome-clause-keeps g c =
     (g.M.Mechanism.motions c.load-outcome.new.self) (g.M.Mechanism.places c.load-outcome.new.self) (g.M.Mechanism.faults c.load-outcome.new.self) c.self.inside.ledger.loaded
     (g.M.Mechanism.room c.ready.new.self) (g.M.Mechanism.room c.load-outcome.new.self) tt reported))
     (rw (← c.self.view_is) (rw c.ready.ensures.faults at c.load-outcome.ensures.later))
-    (rw (← c.self.view_is) (left-through g.D.Disk c.self.inside.ledger.disk _ (λ entry. entry ≡ Loaded c.args.unit c.args.count) (g.met.D.Disk.only_now c.self.inside.ledger.disk) c.shut-possible.ensures.possible
-    c.self.invariant.recorded
-    (λ told J p entry now may grows. IsRecorded-entry _ _ J (Loaded c.args.unit c.args.count) _ now tt (rw may at grows) (c.self.invariant.recorded told J p))))
+    (rw (← c.self.view_is) (left-through g.D.Disk c.self.inside.ledger.disk _ (λ entry. entry ≡ Loaded c.args.unit c.args.count) (g.met.D.Disk.only_now c.self.inside.ledger.disk) c.self.invariant.1
+    c.self.invariant.0.recorded
+    (λ told J p entry now may grows. IsRecorded-entry _ _ J (Loaded c.args.unit c.args.count) _ now tt (rw may at grows) (c.self.invariant.0.recorded told J p))))
 
 pub returns-clause-keeps : goal.returns-clause-keeps
 returns-clause-keeps g c =
@@ -79,6 +83,6 @@ returns-clause-keeps g c =
     (g.M.Mechanism.motions c.load-outcome.new.self) (g.M.Mechanism.places c.load-outcome.new.self) (g.M.Mechanism.faults c.load-outcome.new.self) (with_notes c.self.inside.ledger.loaded c.args.unit c.args.count)
     (g.M.Mechanism.room c.ready.new.self) (g.M.Mechanism.room c.load-outcome.new.self) tt reported))
     (rw (← c.self.view_is) (rw c.ready.ensures.faults at c.load-outcome.ensures.later))
-    (rw (← c.self.view_is) (left-through g.D.Disk c.self.inside.ledger.disk _ (λ entry. entry ≡ Loaded c.args.unit c.args.count) (g.met.D.Disk.only_now c.self.inside.ledger.disk) c.shut-possible.ensures.possible
-    c.self.invariant.recorded
-    (λ told J p entry now may grows. IsRecorded-entry _ _ J (Loaded c.args.unit c.args.count) _ now tt (rw may at grows) (c.self.invariant.recorded told J p)))))
+    (rw (← c.self.view_is) (left-through g.D.Disk c.self.inside.ledger.disk _ (λ entry. entry ≡ Loaded c.args.unit c.args.count) (g.met.D.Disk.only_now c.self.inside.ledger.disk) c.self.invariant.1
+    c.self.invariant.0.recorded
+    (λ told J p entry now may grows. IsRecorded-entry _ _ J (Loaded c.args.unit c.args.count) _ now tt (rw may at grows) (c.self.invariant.0.recorded told J p)))))

@@ -1,18 +1,20 @@
 use Rattle.std.proofs.Common.{◌≡◌, ◌≢◌, ◌∙◌, sym, Err, None, true≢false, arith}
 use Rattle.std.specs.Prelude.{is_some}
 use Rattle.xfs_guard.specs.declared.fail.BootFault.TheVariants.{Memory}
-use Rattle.xfs_guard.proofs.KeepsLaws.{Keeps-same, Keeps-wrote}
+use Rattle.xfs_guard.proofs.KeepsLaws.{Keeps-still, Keeps-wrote}
 use Rattle.xfs_guard.proofs.KeptLaws.{over}
 use Rattle.xfs_guard.proofs.RestoreLaws.{restored, may-restore, IsKept-restored, Continues-restored}
 use Rattle.xfs_guard.proofs.RereadLaws.{behind-reread, recorded-reread}
 use Rattle.xfs_guard.proofs.guard.Guard.restore.Goals as goal
 
 pub invariant_of-self-2 : goal.invariant_of-self-2
-invariant_of-self-2 g c =
-    let e = c.restore-read.ensures in
-    let other : c.restore-read.result ≢ Err Memory = λ is. true≢false (rw is at (sym c.eq.ensures ∙ c.if-eq.false)) in
-    IsKept-restored _ _ _ _ _ _ c.self.inside.ledger c.restore-read.new.self c.in-Ok.survey _ _ _ _ _ _
-    (restored c.restore-read.result c.self.inside.ledger c.restore-read.new.self c.in-Ok.survey (g.D.Disk.held c.self.inside.ledger.disk ≡ None) other e.ok e.full e.disk e.not_journal) (c.in-Ok.ensures ∙ c.survey-places.ensures) e.told c.self.invariant
+invariant_of-self-2 g c = (
+  (let e = c.restore-read.ensures in
+      let other : c.restore-read.result ≢ Err Memory = λ is. true≢false (rw is at (sym c.eq.ensures ∙ c.if-eq.false)) in
+      IsKept-restored _ _ _ _ _ _ c.self.inside.ledger c.restore-read.new.self c.in-Ok.survey _ _ _ _ _ _
+      (restored c.restore-read.result c.self.inside.ledger c.restore-read.new.self c.in-Ok.survey (g.D.Disk.held c.self.inside.ledger.disk ≡ None) other e.ok e.full e.disk e.not_journal) (c.in-Ok.ensures ∙ c.survey-places.ensures) e.told c.self.invariant.0),
+  c.restore-read.ensures.left,
+)
 
 pub returns-then-eq-clause-keeps : goal.returns-then-eq-clause-keeps
 returns-then-eq-clause-keeps g c =
@@ -25,7 +27,7 @@ returns-then-eq-clause-keeps g c =
     (rw (← c.self.view_is) (behind-reread g.D.Disk _ _ c.in-Ok.survey e.told e.any_moment))
     (rw (← c.self.view_is) (recorded-reread g.D.Disk c.self.inside.ledger.disk c.restore-read.new.self.disk
     (over c.self.inside.key c.self.inside.seed c.self.inside.open_order (g.M.Mechanism.motions c.self.inside.mech) (g.M.Mechanism.places c.self.inside.mech) (g.M.Mechanism.faults c.self.inside.mech) c.self.inside.ledger (is_some (g.D.Disk.held c.self.inside.ledger.disk)))
-    c.in-Ok.survey _ e.possible c.self.invariant.recorded e.any_moment))
+    c.in-Ok.survey _ c.self.invariant.1 c.self.invariant.0.recorded e.any_moment))
 
 pub returns-clause-keeps : goal.returns-clause-keeps
 returns-clause-keeps g c =
@@ -38,7 +40,7 @@ returns-clause-keeps g c =
     (rw (← c.self.view_is) (behind-reread g.D.Disk _ _ c.in-Ok.survey e.told e.any_moment))
     (rw (← c.self.view_is) (recorded-reread g.D.Disk c.self.inside.ledger.disk c.restore-read.new.self.disk
     (over c.self.inside.key c.self.inside.seed c.self.inside.open_order (g.M.Mechanism.motions c.self.inside.mech) (g.M.Mechanism.places c.self.inside.mech) (g.M.Mechanism.faults c.self.inside.mech) c.self.inside.ledger (is_some (g.D.Disk.held c.self.inside.ledger.disk)))
-    c.in-Ok.survey _ e.possible c.self.invariant.recorded e.any_moment))
+    c.in-Ok.survey _ c.self.invariant.1 c.self.invariant.0.recorded e.any_moment))
 
 pub returns-in_default-clause-keeps : goal.returns-in_default-clause-keeps
-returns-in_default-clause-keeps g c = Keeps-same g.D.Disk _ g.met.D.Disk.only_now c.unfit-upheld.ensures.upheld
+returns-in_default-clause-keeps g c = rw (← c.self.view_is) (Keeps-still g.D.Disk _ g.met.D.Disk.only_now c.self.invariant.1 c.self.invariant.0.recorded)

@@ -9,23 +9,25 @@ use Rattle.xfs_guard.proofs.LeftLaws.{left-through}
 use Rattle.xfs_guard.proofs.guard.Guard.taken.Goals as goal
 
 pub invariant_of-self-2 : goal.invariant_of-self-2
-invariant_of-self-2 g c =
-    let reported = rw (c.ready.ensures.motions, c.ready.ensures.places) at c.taken.ensures.reported in
-    let other = rw (← c.self.view_is) at c.requires.no_retract in
-    record {
-      sound = λ still booted. IsSound-report _ (Taken c.taken.result.moved) c.taken.result.moved c.taken.result.diverted c.taken.result.failed
-          (g.M.Mechanism.motions c.taken.new.self) (g.M.Mechanism.places c.taken.new.self) (g.M.Mechanism.faults c.taken.new.self) c.self.inside.ledger.loaded
-          (g.M.Mechanism.room c.ready.new.self) (g.M.Mechanism.room c.taken.new.self) (c.self.invariant.sound still booted) tt reported (taken-leaves c.self.inside.open_order c.taken.result.moved _ _ other);
-      clean = c.self.invariant.clean;
-      balanced = balanced-taking _ _ _ _ _ c.taken.result.moved c.taken.result.moved c.taken.result.diverted c.taken.result.failed _ _ _ _ reported c.self.invariant.balanced;
-      closed = c.self.invariant.closed;
-      missing = c.self.invariant.missing;
-      recorded = λ told J p. IsRecorded-report _ _ J (Taken c.taken.result.moved) c.taken.result.moved c.taken.result.diverted c.taken.result.failed _ _ _ _ _ _ tt reported (c.self.invariant.recorded told J p);
-      limits = HasLimits-report c.self.inside.open_order _ _ _ _ _ c.self.invariant.limits;
-      room = HasRoom-report c.self.inside.open_order (Taken c.taken.result.moved) c.taken.result.moved c.taken.result.diverted c.taken.result.failed
-          _ _ _ _ (g.M.Mechanism.room c.self.inside.mech) _ _ c.self.inside.ledger.room c.self.invariant.room c.in_ok-ready.ensures.room reported;
-      units = c.taken.ensures.units ∙ (c.ready.ensures.units ∙ c.self.invariant.units);
-    }
+invariant_of-self-2 g c = (
+  (let reported = rw (c.ready.ensures.motions, c.ready.ensures.places) at c.taken.ensures.reported in
+      let other = rw (← c.self.view_is) at c.requires.no_retract in
+      record {
+        sound = λ still booted. IsSound-report _ (Taken c.taken.result.moved) c.taken.result.moved c.taken.result.diverted c.taken.result.failed
+            (g.M.Mechanism.motions c.taken.new.self) (g.M.Mechanism.places c.taken.new.self) (g.M.Mechanism.faults c.taken.new.self) c.self.inside.ledger.loaded
+            (g.M.Mechanism.room c.ready.new.self) (g.M.Mechanism.room c.taken.new.self) (c.self.invariant.0.sound still booted) tt reported (taken-leaves c.self.inside.open_order c.taken.result.moved _ _ other);
+        clean = c.self.invariant.0.clean;
+        balanced = balanced-taking _ _ _ _ _ c.taken.result.moved c.taken.result.moved c.taken.result.diverted c.taken.result.failed _ _ _ _ reported c.self.invariant.0.balanced;
+        closed = c.self.invariant.0.closed;
+        missing = c.self.invariant.0.missing;
+        recorded = λ told J p. IsRecorded-report _ _ J (Taken c.taken.result.moved) c.taken.result.moved c.taken.result.diverted c.taken.result.failed _ _ _ _ _ _ tt reported (c.self.invariant.0.recorded told J p);
+        limits = HasLimits-report c.self.inside.open_order _ _ _ _ _ c.self.invariant.0.limits;
+        room = HasRoom-report c.self.inside.open_order (Taken c.taken.result.moved) c.taken.result.moved c.taken.result.diverted c.taken.result.failed
+            _ _ _ _ (g.M.Mechanism.room c.self.inside.mech) _ _ c.self.inside.ledger.room c.self.invariant.0.room c.in_ok-ready.ensures.room reported;
+        units = c.taken.ensures.units ∙ (c.ready.ensures.units ∙ c.self.invariant.0.units);
+      }),
+  c.self.invariant.1,
+)
 
 pub returns-clause-ok : goal.returns-clause-ok
 returns-clause-ok g c =
@@ -37,9 +39,9 @@ returns-in_err-ready-clause-keeps g c =
     Keeps-moved g.D.Disk _ _ _ g.met.D.Disk.only_now (rw (← c.self.view_is) refl)
     (rw (← c.self.view_is, c.ready.ensures.motions, c.ready.ensures.places, c.ready.ensures.faults) (Continues-same _))
     (rw (← c.self.view_is, c.ready.ensures.faults) (omega arith))
-    (rw (← c.self.view_is) (left-through g.D.Disk c.self.inside.ledger.disk _ (MayTake _) (g.met.D.Disk.only_now c.self.inside.ledger.disk) c.shut-possible.ensures.possible
-    c.self.invariant.recorded
-    (λ told J p entry now may grows. IsRecorded-entry _ _ J (Taken may.counts) _ now tt (rw may.entry_is at grows) (c.self.invariant.recorded told J p))))
+    (rw (← c.self.view_is) (left-through g.D.Disk c.self.inside.ledger.disk _ (MayTake _) (g.met.D.Disk.only_now c.self.inside.ledger.disk) c.self.invariant.1
+    c.self.invariant.0.recorded
+    (λ told J p entry now may grows. IsRecorded-entry _ _ J (Taken may.counts) _ now tt (rw may.entry_is at grows) (c.self.invariant.0.recorded told J p))))
 
 pub returns-clause-keeps : goal.returns-clause-keeps
 returns-clause-keeps g c =
@@ -49,6 +51,6 @@ returns-clause-keeps g c =
     (g.M.Mechanism.motions c.taken.new.self) (g.M.Mechanism.places c.taken.new.self) (g.M.Mechanism.faults c.taken.new.self) c.self.inside.ledger.loaded
     (g.M.Mechanism.room c.ready.new.self) (g.M.Mechanism.room c.taken.new.self) tt reported))
     (rw (← c.self.view_is) (rw c.ready.ensures.faults at c.taken.ensures.later))
-    (rw (← c.self.view_is) (left-through g.D.Disk c.self.inside.ledger.disk _ (MayTake _) (g.met.D.Disk.only_now c.self.inside.ledger.disk) c.shut-possible.ensures.possible
-    c.self.invariant.recorded
-    (λ told J p entry now may grows. IsRecorded-entry _ _ J (Taken may.counts) _ now tt (rw may.entry_is at grows) (c.self.invariant.recorded told J p))))
+    (rw (← c.self.view_is) (left-through g.D.Disk c.self.inside.ledger.disk _ (MayTake _) (g.met.D.Disk.only_now c.self.inside.ledger.disk) c.self.invariant.1
+    c.self.invariant.0.recorded
+    (λ told J p entry now may grows. IsRecorded-entry _ _ J (Taken may.counts) _ now tt (rw may.entry_is at grows) (c.self.invariant.0.recorded told J p))))

@@ -2,6 +2,7 @@ use Rattle.std.proofs.Common.{inl, inr, Err, ap, refl}
 use Rattle.xfs_journal.specs.declared.record.Rec.TheVariants.{Boot}
 use Rattle.xfs_guard.proofs.LedgerLaws.{IsRead-mark, KeepsLedger-read}
 use Rattle.xfs_guard.proofs.CrashedLaws.{begins-same, begins-push, IsTorn-missing, IsTorn-in_doubt}
+use Rattle.xfs_guard.proofs.PossibleLaws.{leaves-list, leaves-either}
 use Rattle.xfs_guard.proofs.RereadLaws.{reread-append}
 use Rattle.xfs_guard.proofs.ledger.Ledger.restore.Goals as goal
 
@@ -17,14 +18,18 @@ returns-in-Err-Full-clause-full g c = rw (← c.self.view_is) (λ full.
     let m = e.mounted (ap Err c.in-Err-Full.field-0-is) in
     (c.remount.new.self.records, c.in_default.ensures.ok, rw c.remount.ensures.limits at (e.full (ap Err c.in-Err-Full.field-0-is)), rw (e.same, e.limits, c.remount.ensures.limits, m.0, m.1, c.in_default.ensures.opened.1) refl))
 
-pub returns-in-Ok-clause-possible : goal.returns-in-Ok-clause-possible
-returns-in-Ok-clause-possible g c = rw (← c.self.view_is) c.remount.ensures.possible
+pub returns-in-Ok-clause-left : goal.returns-in-Ok-clause-left
+returns-in-Ok-clause-left g c = leaves-list g.D.Disk c.append_boot.new.journal.disk _ _ c.in-Ok.ensures.kept
 
-pub returns-in-Err-Full-clause-possible : goal.returns-in-Err-Full-clause-possible
-returns-in-Err-Full-clause-possible g c = rw (← c.self.view_is) c.remount.ensures.possible
+pub returns-in-Err-Full-clause-left : goal.returns-in-Err-Full-clause-left
+returns-in-Err-Full-clause-left g c =
+    let e = c.in-Err-Full.ensures in
+    rw (e.unwritten (λ is. cc), e.same) (leaves-list g.D.Disk c.remount.new.self.disk _ _ c.in_default.ensures.acknowledged)
 
-pub returns-in-Err-Disk-clause-possible : goal.returns-in-Err-Disk-clause-possible
-returns-in-Err-Disk-clause-possible g c = rw (← c.self.view_is) c.remount.ensures.possible
+pub returns-in-Err-Disk-clause-left : goal.returns-in-Err-Disk-clause-left
+returns-in-Err-Disk-clause-left g c =
+    let e = c.in-Err-Disk.ensures in
+    rw (e.same, (e.in_doubt (ap Err c.in-Err-Disk.field-0-is)).1) (leaves-either g.D.Disk c.remount.new.self.disk c.append_boot.new.journal.disk _ _ c.append_boot.ensures.told c.append_boot.ensures.images)
 
 pub returns-in-Ok-clause-any_moment : goal.returns-in-Ok-clause-any_moment
 returns-in-Ok-clause-any_moment g c =
