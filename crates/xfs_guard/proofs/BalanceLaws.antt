@@ -32,25 +32,25 @@ none_there (suc (suc (suc (suc (suc (suc (suc zero))))))) = refl
 none_there (suc (suc (suc (suc (suc (suc (suc (suc u)))))))) = refl
 
 -- one more record
-pub balanced-push : (J : List Rec) (r : Rec) (b : Places) (l : Counts) (P : Places) → IsBalanced J b l P → IsBalanced (J ++ r ∷ []) b l P
-balanced-push J r b l P h = record { boot = Contains-append_left J (r ∷ []) (Boot b) h.boot; eight = h.eight; sums = h.sums }
+pub balanced-push : (records : List Rec) (r : Rec) (b : Places) (l : Counts) (places : Places) → IsBalanced records b l places → IsBalanced (records ++ r ∷ []) b l places
+balanced-push records r b l places h = record { boot = Contains-append_left records (r ∷ []) (Boot b) h.boot; eight = h.eight; sums = h.sums }
 
 -- a possible list was read again
-pub balanced-possible : (J : List Rec) (d : Option Rec) (K : List Rec) (b : Places) (l : Counts) (P : Places) → IsPossible J d K → IsBalanced J b l P → IsBalanced K b l P
-balanced-possible J d K b l P (inl is) h = rw is h
-balanced-possible J d K b l P (inr (r, doubt, is)) h = rw is (balanced-push J r b l P h)
+pub balanced-possible : (records : List Rec) (d : Option Rec) (found : List Rec) (b : Places) (l : Counts) (places : Places) → IsPossible records d found → IsBalanced records b l places → IsBalanced found b l places
+balanced-possible records d found b l places (inl is) h = rw is h
+balanced-possible records d found b l places (inr (r, doubt, is)) h = rw is (balanced-push records r b l places h)
 
 -- a Boot of the places
-pub balanced-boot : (J : List Rec) (b P : Places) → b ≡ P → IsBalanced (J ++ Boot b ∷ []) b no_notes P
-balanced-boot J b P same = record { boot = Contains-push J (Boot b); eight = refl; sums = λ u. rw same (let none : at no_notes u ≡ 0 = none_there u in omega (arith, none)) }
+pub balanced-boot : (records : List Rec) (b was : Places) → b ≡ was → IsBalanced (records ++ Boot b ∷ []) b no_notes was
+balanced-boot records b was same = record { boot = Contains-push records (Boot b); eight = refl; sums = λ u. rw same (let none : at no_notes u ≡ 0 = none_there u in omega (arith, none)) }
 
 -- an order loads nothing
-pub balanced-moved : (J : List Rec) (b : Places) (l : Counts) (P Q : Places) (n : ℕ) (k : Kind) (m d : Counts) → PlacesOf P (Moved n k m d ∷ []) Q → IsBalanced J b l P → IsBalanced J b l Q
-balanced-moved J b l P Q n k m d places h = record { boot = h.boot; eight = h.eight; sums = λ u. omega (arith, h.sums u, Adds-PlacesOf P Q (Moved n k m d ∷ []) places u) }
+pub balanced-moved : (records : List Rec) (b : Places) (l : Counts) (was now : Places) (n : ℕ) (k : Kind) (m d : Counts) → PlacesOf was (Moved n k m d ∷ []) now → IsBalanced records b l was → IsBalanced records b l now
+balanced-moved records b l was now n k m d places h = record { boot = h.boot; eight = h.eight; sums = λ u. omega (arith, h.sums u, Adds-PlacesOf was now (Moved n k m d ∷ []) places u) }
 
 -- nor does a taking
-balanced-taken : (J : List Rec) (b : Places) (l : Counts) (P Q : Places) (c : Counts) → PlacesOf P (Taken c ∷ []) Q → IsBalanced J b l P → IsBalanced J b l Q
-balanced-taken J b l P Q c places h = record { boot = h.boot; eight = h.eight; sums = λ u. omega (arith, h.sums u, Adds-PlacesOf P Q (Taken c ∷ []) places u) }
+balanced-taken : (records : List Rec) (b : Places) (l : Counts) (was now : Places) (c : Counts) → PlacesOf was (Taken c ∷ []) now → IsBalanced records b l was → IsBalanced records b l now
+balanced-taken records b l was now c places h = record { boot = h.boot; eight = h.eight; sums = λ u. omega (arith, h.sums u, Adds-PlacesOf was now (Taken c ∷ []) places u) }
 
 -- one unit has so many notes more
 with-here : (l : Counts) (unit count u : ℕ) → 1 ≤ unit → unit ≤ length l.0 → at (with_notes l unit count) u ≡ at l u + loaded u (Loaded unit count)
@@ -67,21 +67,21 @@ with-here l unit count u low high = elim (cases_eq u (unit - 1)) [
 ]
 
 -- a loading that doesn't fail
-pub balanced-loaded : (J : List Rec) (b : Places) (l : Counts) (P Q : Places) (unit count : ℕ) (m d : Counts) (failed : Bool) (before now : Option (List Motion)) (spare left : ℕ)
-    → failed ≡ false → 1 ≤ unit → unit ≤ 8 → Reports (Loaded unit count) m d failed before now P Q spare left → IsBalanced J b l P → IsBalanced J b (with_notes l unit count) Q
-balanced-loaded J b l P Q unit count m d failed before now spare left fine low few r h = record {
+pub balanced-loaded : (records : List Rec) (b : Places) (l : Counts) (places places' : Places) (unit count : ℕ) (m d : Counts) (failed : Bool) (before now : Option (List Motion)) (spare left : ℕ)
+    → failed ≡ false → 1 ≤ unit → unit ≤ 8 → Reports (Loaded unit count) m d failed before now places places' spare left → IsBalanced records b l places → IsBalanced records b (with_notes l unit count) places'
+balanced-loaded records b l places places' unit count m d failed before now spare left fine low few r h = record {
   boot = h.boot;
   eight = length-set l.0 (unit - 1) (at l (unit - 1) + count) ∙ h.eight;
-  sums = λ u. omega (arith, h.sums u, Adds-PlacesOf P Q (Loaded unit count ∷ []) (r.places fine) u, with-here l unit count u low (omega (arith, few, h.eight)));
+  sums = λ u. omega (arith, h.sums u, Adds-PlacesOf places places' (Loaded unit count ∷ []) (r.places fine) u, with-here l unit count u low (omega (arith, few, h.eight)));
 }
 
 -- a report that fails
-pub balanced-failed : (J : List Rec) (b : Places) (l : Counts) (P Q : Places) (e : Motion) (m d : Counts) (failed : Bool) (before now : Option (List Motion)) (spare left : ℕ)
-    → failed ≡ true → Reports e m d failed before now P Q spare left → IsBalanced J b l P → IsBalanced J b l Q
-balanced-failed J b l P Q e m d failed before now spare left is r h = rw (r.nothing is).1 h
+pub balanced-failed : (records : List Rec) (b : Places) (l : Counts) (places places' : Places) (e : Motion) (m d : Counts) (failed : Bool) (before now : Option (List Motion)) (spare left : ℕ)
+    → failed ≡ true → Reports e m d failed before now places places' spare left → IsBalanced records b l places → IsBalanced records b l places'
+balanced-failed records b l places places' e m d failed before now spare left is r h = rw (r.nothing is).1 h
 
 -- a report of a taking
-pub balanced-taking : (J : List Rec) (b : Places) (l : Counts) (P Q : Places) (c m d : Counts) (failed : Bool) (before now : Option (List Motion)) (spare left : ℕ)
-    → Reports (Taken c) m d failed before now P Q spare left → IsBalanced J b l P → IsBalanced J b l Q
-balanced-taking J b l P Q c m d true before now spare left r h = balanced-failed J b l P Q (Taken c) m d true before now spare left refl r h
-balanced-taking J b l P Q c m d false before now spare left r h = balanced-taken J b l P Q c (r.places refl) h
+pub balanced-taking : (records : List Rec) (b : Places) (l : Counts) (places places' : Places) (c m d : Counts) (failed : Bool) (before now : Option (List Motion)) (spare left : ℕ)
+    → Reports (Taken c) m d failed before now places places' spare left → IsBalanced records b l places → IsBalanced records b l places'
+balanced-taking records b l places places' c m d true before now spare left r h = balanced-failed records b l places places' (Taken c) m d true before now spare left refl r h
+balanced-taking records b l places places' c m d false before now spare left r h = balanced-taken records b l places places' c (r.places refl) h

@@ -26,58 +26,58 @@ use Rattle.xfs_guard.proofs.RecordLaws.{last-pushed}
 use Rattle.xfs_guard.proofs.KeptLaws.{IsKept-open}
 use Rattle.xfs_guard.proofs.BalanceLaws.{balanced-boot}
 
-agrees-boot : (J : List Rec) (p : Places) (m : Option (List Motion)) → IfTold m (Agrees J) → IfTold m (Agrees (J ++ Boot p ∷ []))
-agrees-boot J p None a = tt
-agrees-boot J p (Some L) a = Agrees-record J (Boot p) L a tt (λ k c m d o e. cc)
+agrees-boot : (records : List Rec) (p : Places) (m : Option (List Motion)) → IfTold m (Agrees records) → IfTold m (Agrees (records ++ Boot p ∷ []))
+agrees-boot records p None a = tt
+agrees-boot records p (Some motions) a = Agrees-record records (Boot p) motions a tt (λ k c m d o e. cc)
 
-within-boot : (key : List ℕ) (u : List NoteKind) (J : List Rec) (p : Places) (m : Option (List Motion)) → IfTold m (Agrees J) → IfTold m (Within key u J) → IfTold m (Within key u (J ++ Boot p ∷ []))
-within-boot key u J p None a w = tt
-within-boot key u J p (Some L) a w = Within-record key u J (Boot p) L (numbers_within J L a) w
+within-boot : (key : List ℕ) (u : List NoteKind) (records : List Rec) (p : Places) (m : Option (List Motion)) → IfTold m (Agrees records) → IfTold m (Within key u records) → IfTold m (Within key u (records ++ Boot p ∷ []))
+within-boot key u records p None a w = tt
+within-boot key u records p (Some motions) a w = Within-record key u records (Boot p) motions (numbers_within records motions a) w
 
 -- a Boot may stand behind any list that is recorded
-pub IsRecorded-boot : (key : List ℕ) (u : List NoteKind) (J : List Rec) (p : Places) (m : Option (List Motion)) → IsRecorded key u J m → IsRecorded key u (J ++ Boot p ∷ []) m
-IsRecorded-boot key u J p m r = record {
-  numbered = Walk-push next_number CarriesNumber 1 J (Boot p) r.numbered tt;
-  agrees = agrees-boot J p m r.agrees;
-  within = within-boot key u J p m r.agrees r.within;
+pub IsRecorded-boot : (key : List ℕ) (u : List NoteKind) (records : List Rec) (p : Places) (m : Option (List Motion)) → IsRecorded key u records m → IsRecorded key u (records ++ Boot p ∷ []) m
+IsRecorded-boot key u records p m r = record {
+  numbered = Walk-push next_number CarriesNumber 1 records (Boot p) r.numbered tt;
+  agrees = agrees-boot records p m r.agrees;
+  within = within-boot key u records p m r.agrees r.within;
 }
 
 -- no nonce lives behind a Boot
-no-nonce : (J : List Rec) (p : Places) (q : ℕ) → live_of (J ++ Boot p ∷ []) ≡ Some q → ⊥
-no-nonce J p q lives = let e : None ≡ Some q = sym (live_of-push J (Boot p)) ∙ lives in cc
+no-nonce : (records : List Rec) (p : Places) (q : ℕ) → live_of (records ++ Boot p ∷ []) ≡ Some q → ⊥
+no-nonce records p q lives = let e : None ≡ Some q = sym (live_of-push records (Boot p)) ∙ lives in cc
 
 -- the journal got a Boot: no nonce lives, and no order is open
-pub IsSound-boot : (v : View) (J : List Rec) (p : Places) → (v.disk_told ≡ true → IsRecorded v.key v.units J v.motions)
-    → IsSound (record v { records = J ++ Boot p ∷ []; bound = None; open_order = No })
-IsSound-boot v J p recorded = record {
-  numbered = λ told. (IsRecorded-boot v.key v.units J p v.motions (recorded told)).numbered;
+pub IsSound-boot : (v : View) (records : List Rec) (p : Places) → (v.disk_told ≡ true → IsRecorded v.key v.units records v.motions)
+    → IsSound (record v { records = records ++ Boot p ∷ []; bound = None; open_order = No })
+IsSound-boot v records p recorded = record {
+  numbered = λ told. (IsRecorded-boot v.key v.units records p v.motions (recorded told)).numbered;
   stands = rw last-pushed tt;
   budget = record {
-    funded = λ q b lives bound. absurd (no-nonce J p q lives);
-    unbound = λ q lives free. absurd (no-nonce J p q lives);
+    funded = λ q b lives bound. absurd (no-nonce records p q lives);
+    unbound = λ q lives free. absurd (no-nonce records p q lives);
     dead = λ dead. refl;
   };
   told = ties v.disk_told v.motions recorded;
 }
   where
-    ties : (t : Bool) (m : Option (List Motion)) → (t ≡ true → IsRecorded v.key v.units J m) → IfTold (where_told t m) (Ties (record v { records = J ++ Boot p ∷ []; bound = None; open_order = No }))
+    ties : (t : Bool) (m : Option (List Motion)) → (t ≡ true → IsRecorded v.key v.units records m) → IfTold (where_told t m) (Ties (record v { records = records ++ Boot p ∷ []; bound = None; open_order = No }))
     ties false m r = tt
     ties true None r = tt
-    ties true (Some L) r = let after = IsRecorded-boot v.key v.units J p (Some L) (r refl) in record {
+    ties true (Some motions) r = let after = IsRecorded-boot v.key v.units records p (Some motions) (r refl) in record {
       agrees = after.agrees;
       within = after.within;
-      counted = λ q c lives. absurd (no-nonce J p q lives);
+      counted = λ q c lives. absurd (no-nonce records p q lives);
       acted = tt;
     }
 
 -- what a guard is then
-pub IsKept-boot : (v : View) (J : List Rec) (p : Places) (spare left : ℕ) (kinds : List NoteKind) → p ≡ v.places → (v.disk_told ≡ true → IsRecorded v.key v.units J v.motions) → kinds ≡ v.units
-    → IsKept (record v { records = J ++ Boot p ∷ []; bound = None; open_order = No; booted = p; loaded = no_notes; shut = false; boot_missing = false; in_doubt = None }) spare left kinds
-IsKept-boot v J p spare left kinds there recorded units =
-    IsKept-open (record v { records = J ++ Boot p ∷ []; bound = None; open_order = No; booted = p; loaded = no_notes; boot_missing = false }) spare left kinds (IsSound-boot (record v { booted = p; loaded = no_notes; boot_missing = false }) J p recorded) (balanced-boot J p v.places there) refl tt tt units
+pub IsKept-boot : (v : View) (records : List Rec) (p : Places) (spare left : ℕ) (kinds : List NoteKind) → p ≡ v.places → (v.disk_told ≡ true → IsRecorded v.key v.units records v.motions) → kinds ≡ v.units
+    → IsKept (record v { records = records ++ Boot p ∷ []; bound = None; open_order = No; booted = p; loaded = no_notes; shut = false; boot_missing = false; in_doubt = None }) spare left kinds
+IsKept-boot v records p spare left kinds there recorded units =
+    IsKept-open (record v { records = records ++ Boot p ∷ []; bound = None; open_order = No; booted = p; loaded = no_notes; boot_missing = false }) spare left kinds (IsSound-boot (record v { booted = p; loaded = no_notes; boot_missing = false }) records p recorded) (balanced-boot records p v.places there) refl tt tt units
 
 -- a list that was left is recorded, and stays so with the Boot
 pub WasLeft-recorded : {D : Type 0} (key : List ℕ) (u : List NoteKind) (m : Option (List Motion)) (g : Ghosts D) (d : D) (p : Places)
-    → ((J : List Rec) → MayLeave g d J → IsRecorded key u J m) → (J : List Rec) → WasLeft g d p J → IsRecorded key u J m
-WasLeft-recorded key u m g d p all J was =
+    → ((records : List Rec) → MayLeave g d records → IsRecorded key u records m) → (records : List Rec) → WasLeft g d p records → IsRecorded key u records m
+WasLeft-recorded key u m g d p all records was =
     ⊎_elim (λ same. rw same (all was.list was.before)) (λ more. rw more (IsRecorded-boot key u was.list p m (all was.list was.before))) was.grown

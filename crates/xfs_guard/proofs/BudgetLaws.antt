@@ -64,19 +64,19 @@ worth-none test u c s (Order k n) holds e z = z
 worth-none test u c s (Done m d) holds e z = let w = done-none test u c s.last m holds e in omega (arith, z, w)
 worth-none test u c s (Load i n) holds e z = z
 
-presented-none : (test : List ℕ → Bool) (u : List NoteKind) (J : List Rec) (c : List ℕ) → test c ≡ true → first_currency test u ≡ None → presented_in u J c ≡ 0
-presented-none test u J c holds e = go (record { last = None; worth = 0 }) J refl
+presented-none : (test : List ℕ → Bool) (u : List NoteKind) (records : List Rec) (c : List ℕ) → test c ≡ true → first_currency test u ≡ None → presented_in u records c ≡ 0
+presented-none test u records c holds e = go (record { last = None; worth = 0 }) records refl
   where
-    go : (s : Paid) (J : List Rec) → s.worth ≡ 0 → (fold (paid_after u c) s J).worth ≡ 0
+    go : (s : Paid) (records : List Rec) → s.worth ≡ 0 → (fold (paid_after u c) s records).worth ≡ 0
     go s [] z = z
     go s (r ∷ rs) z = go (paid_after u c s r) rs (worth-none test u c s r holds e z)
 
 -- where no currency of the table is exceeded, none is
-pub over_budget-none : (u : List NoteKind) (J : List Rec) (T : Counts) (a : List (List ℕ × ℕ)) (n : Counts) → over_budget_in u J T a n ≡ None → (c : List ℕ) → spent u J T c + value u n c ≤ amount_in a c
-over_budget-none u J T a n none c = go (test c) refl
+pub over_budget-none : (u : List NoteKind) (records : List Rec) (T : Counts) (a : List (List ℕ × ℕ)) (n : Counts) → over_budget_in u records T a n ≡ None → (c : List ℕ) → spent u records T c + value u n c ≤ amount_in a c
+over_budget-none u records T a n none c = go (test c) refl
   where
     test : List ℕ → Bool
-    test = is_over u J T a n
+    test = is_over u records T a n
 
     map-none : {X Y : Type 0} (f : X → Y) (o : Option X) → option_map f o ≡ None → o ≡ None
     map-none f None e = refl
@@ -85,13 +85,13 @@ over_budget-none u J T a n none c = go (test c) refl
     first : first_currency test u ≡ None
     first = map-none _ (first_currency test u) none
 
-    go : (t : Bool) → test c ≡ t → spent u J T c + value u n c ≤ amount_in a c
+    go : (t : Bool) → test c ≡ t → spent u records T c + value u n c ≤ amount_in a c
     go false is = ltb-false _ _ is
     go true is =
-        let p = presented-none test u J c is first in
+        let p = presented-none test u records c is first in
         let t = value-none test u 0 T.0 c is first in
         let v = value-none test u 0 n.0 c is first in
-        let over = ltb-true (amount_in a c) (spent u J T c + value u n c) is in
+        let over = ltb-true (amount_in a c) (spent u records T c + value u n c) is in
         absurd (omega (arith, p, t, v, over))
 
 -- amounts have nothing of a currency that isn't among theirs

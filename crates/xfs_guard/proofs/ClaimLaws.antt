@@ -23,11 +23,11 @@ use Rattle.xfs_guard.specs.declared.deny.Deny.TheVariants.{WrongNonce, WrongMac,
 use Rattle.xfs_guard.specs.View.{View}
 use Rattle.xfs_guard.specs.Nonce.{nonce_of, live_nonce}
 use Rattle.xfs_guard.specs.Within.{IsOfNonce, HasNonce}
-use Rattle.xfs_guard.specs.Refusals.{Passes, claim_refusal, claim_refusal_at, bind_refusal, bound_token, bound_place}
+use Rattle.xfs_guard.specs.Refusals.{Passes, claim_refusal, claim_refusal_at, bind_refusal, bound_token, bound_number}
 use Rattle.xfs_guard.specs.declared.open.Open.TheVariants.{No}
 use Rattle.xfs_guard.specs.Presented.{presented_in}
 use Rattle.xfs_guard.specs.Sound.{IsSound}
-use Rattle.xfs_guard.proofs.OrderLaws.{live-place}
+use Rattle.xfs_guard.proofs.OrderLaws.{live-number}
 use Rattle.xfs_guard.proofs.RecordLaws.{longer, IsSound-bind}
 use Rattle.std.proofs.lemmas.Bool.{eqb-true, cases_lt}
 use Rattle.std.proofs.lemmas.List.Sums.{get_or-le-sum_by}
@@ -84,7 +84,7 @@ passes-carries v bytes amounts p h lives =
 
 -- a token that passes finds a live nonce
 pub passes-live : (v : View) (bytes : List ℕ) (amounts : List (List ℕ × ℕ)) → Passes v bytes amounts → (p : ℕ) × (live_of v.records ≡ Some p)
-passes-live v bytes amounts h = let f = fine v bytes h.token h.passed in live-place v.records f.nonce f.lives
+passes-live v bytes amounts h = let f = fine v bytes h.token h.passed in live-number v.records f.nonce f.lives
 
 no-notes : (ks : List NoteKind) (i : ℕ) (counts c : List ℕ) → ((u : ℕ) → slice_index counts u ≡ 0) → value_from ks i counts c ≡ 0
 no-notes [] i counts c z = refl
@@ -145,7 +145,7 @@ kept-claim v bytes amounts s h again = go live.0 live.1 (token_of v.records live
     go p lives (Some other) e =
         let f = fine v bytes h.token h.passed in
         let bound : bound_token v.records ≡ Some other = ap (λ l. option_and_then (token_of v.records) l) lives ∙ e in
-        let is : other ≡ bytes = same-bytes other bytes (is-same (bytes_eq other bytes) (OtherBound (unwrap_or (bound_place v.records) 0)) (rw bound at f.free)) in
+        let is : other ≡ bytes = same-bytes other bytes (is-same (bytes_eq other bytes) (OtherBound (unwrap_or (bound_number v.records) 0)) (rw bound at f.free)) in
         let funded = s.budget.funded p other lives e in
         let one = one_token funded.token h.token bytes (subst (Spells funded.token) is funded.carries.genuine.spelled) h.spelled in
         funded.kept ∙ (sym funded.amounts_are ∙ (ap amounts_of one ∙ h.amounts_are))

@@ -91,12 +91,12 @@ ahead-split u n w rest low = elim (cases_eq w u) [
 ]
 
 -- the live nonce stays where a record is no mark
-pub nonce-push : (J : List Rec) (r : Rec) → ((count : ℕ) (live : Option ℕ) → live_after count live r ≡ live) → live_nonce (J ++ r ∷ []) ≡ live_nonce J
-nonce-push J r plain = ap (λ l. option_and_then (λ p. nonce_of (record_at (J ++ r ∷ []) p)) l) (live_of-push J r ∙ plain (length J) (live_of J)) ∙ go (live_of J) refl
+pub nonce-push : (records : List Rec) (r : Rec) → ((count : ℕ) (live : Option ℕ) → live_after count live r ≡ live) → live_nonce (records ++ r ∷ []) ≡ live_nonce records
+nonce-push records r plain = ap (λ l. option_and_then (λ p. nonce_of (record_at (records ++ r ∷ []) p)) l) (live_of-push records r ∙ plain (length records) (live_of records)) ∙ go (live_of records) refl
   where
-    go : (l : Option ℕ) → live_of J ≡ l → option_and_then (λ p. nonce_of (record_at (J ++ r ∷ []) p)) l ≡ option_and_then (λ p. nonce_of (record_at J p)) l
+    go : (l : Option ℕ) → live_of records ≡ l → option_and_then (λ p. nonce_of (record_at (records ++ r ∷ []) p)) l ≡ option_and_then (λ p. nonce_of (record_at records p)) l
     go None e = refl
-    go (Some p) e = ap nonce_of (record_at-push J r p (rw e at (lives-within J)))
+    go (Some p) e = ap nonce_of (record_at-push records r p (rw e at (lives-within records)))
 
 -- the journal is open, and takes so many orders with their Dones; the nonce of this issue lives, and these amounts are kept
 pub record IsOpenFor (v : View) (issue : ℕ) (kept : List (List ℕ × ℕ)) (orders : ℕ) : Type 0 where
@@ -161,12 +161,12 @@ pub done-short : (m d : Counts) → length m.0 ≡ 8 → length d.0 ≡ 8 → le
 done-short m d e f = omega (arith, length-append (counts_bytes m) (counts_bytes d), length-numbers m.0, length-numbers d.0, e, f)
 
 -- what an order of a unit presents, which is nothing
-pub presented-after : (units : List NoteKind) (J : List Rec) (m n d : Counts) (c : List ℕ) → presented_in units ((J ++ Order Stack m ∷ []) ++ Done n d ∷ []) c ≡ presented_in units J c
-presented-after units J m n d c =
-    let K = J ++ Order Stack m ∷ [] in
-    let a : presented_in units (K ++ Done n d ∷ []) c ≡ presented_in units K c + done_worth units c (record_at K (length K)) n = presented_in-push units K (Done n d) c in
-    let b : presented_in units K c ≡ presented_in units J c = presented_in-push units J (Order Stack m) c in
-    let e : done_worth units c (record_at K (length K)) n ≡ 0 = ap (λ r. done_worth units c r n) (last-pushed J (Order Stack m)) in
+pub presented-after : (units : List NoteKind) (records : List Rec) (m n d : Counts) (c : List ℕ) → presented_in units ((records ++ Order Stack m ∷ []) ++ Done n d ∷ []) c ≡ presented_in units records c
+presented-after units records m n d c =
+    let list = records ++ Order Stack m ∷ [] in
+    let a : presented_in units (list ++ Done n d ∷ []) c ≡ presented_in units list c + done_worth units c (record_at list (length list)) n = presented_in-push units list (Done n d) c in
+    let b : presented_in units list c ≡ presented_in units records c = presented_in-push units records (Order Stack m) c in
+    let e : done_worth units c (record_at list (length list)) n ≡ 0 = ap (λ r. done_worth units c r n) (last-pushed records (Order Stack m)) in
     omega (arith, a, b, e)
 
 same-bytes : (a b : List ℕ) → a ≡ b → bytes_eq a b ≡ true

@@ -45,11 +45,11 @@ recorded-ties v m numbered told = record { numbered = numbered; agrees = agrees 
   where
     agrees : (m : Option (List Motion)) → IfTold m (Ties v) → IfTold m (Agrees v.records)
     agrees None t = tt
-    agrees (Some L) t = t.agrees
+    agrees (Some motions) t = t.agrees
 
     within : (m : Option (List Motion)) → IfTold m (Ties v) → IfTold m (Within v.key v.units v.records)
     within None t = tt
-    within (Some L) t = t.within
+    within (Some motions) t = t.within
 
 -- and so with the mechanism's
 pub recorded-sound : (v : View) → IsSound v → v.disk_told ≡ true → IsRecorded v.key v.units v.records v.motions
@@ -71,7 +71,7 @@ IsSound-stored v s d h = record {
   where
     go : (m : Option (List Motion)) → IfTold m (Ties v) → IfTold m (Ties (record v { shut = s; in_doubt = d }))
     go None t = tt
-    go (Some L) t = record { agrees = t.agrees; within = t.within; counted = t.counted; acted = t.acted }
+    go (Some motions) t = record { agrees = t.agrees; within = t.within; counted = t.counted; acted = t.acted }
 
 -- a guard whose journal is open
 pub IsKept-open : (v : View) (spare left : ℕ) (kinds : List NoteKind) → IsSound v → IsBalanced v.records v.booted v.loaded v.places → v.boot_missing ≡ false → HasRoom v.open_order spare left → HasLimits v.open_order v → kinds ≡ v.units
@@ -82,7 +82,7 @@ IsKept-open v spare left kinds s balanced booted room limits units = record {
   balanced = balanced;
   closed = λ e. absurd (true≢false (sym e));
   missing = λ e. absurd (true≢false (sym e ∙ booted));
-  recorded = λ told J p. ⊎_elim (λ same. rw same (recorded-sound v s told)) (λ doubt. absurd (none doubt.0 doubt.1)) p;
+  recorded = λ told records p. ⊎_elim (λ same. rw same (recorded-sound v s told)) (λ doubt. absurd (none doubt.0 doubt.1)) p;
   room = room;
   limits = has v.open_order limits;
   units = units;
@@ -105,7 +105,7 @@ IsKept-doubted v r w o spare left kinds s balanced t units = record {
   balanced = balanced;
   closed = λ e. refl;
   missing = λ e. refl;
-  recorded = λ told J p. ⊎_elim (λ same. rw same (recorded-sound v s told)) (λ doubt. rw (doubt.2, ← (some doubt.0 doubt.1)) (recorded-sound (longer v r w o) t told)) p;
+  recorded = λ told records p. ⊎_elim (λ same. rw same (recorded-sound v s told)) (λ doubt. rw (doubt.2, ← (some doubt.0 doubt.1)) (recorded-sound (longer v r w o) t told)) p;
   room = tt;
   limits = tt;
   units = units;
@@ -148,14 +148,14 @@ Continues-refused T e key seed o motions places faults old new r w was told wrot
   where
     memory : e ≡ Memory → Continues (over key seed o motions places faults old was) (over key seed o motions places faults new told)
     memory is = let s = rw is at wrote in Continues-grown (over key seed o motions places faults old was) (over key seed o motions places faults new told) r boots refl refl refl refl s.units same s.limits
-        (λ J possible. inl (rw (s.records, s.in_doubt) at possible)) (rw s.records (begins-same old.records)) (λ J was. rw (s.records, s.in_doubt, s.shut, s.boot_missing) was)
+        (λ records possible. inl (rw (s.records, s.in_doubt) at possible)) (rw s.records (begins-same old.records)) (λ records was. rw (s.records, s.in_doubt, s.shut, s.boot_missing) was)
 
     disk : e ≡ Disk → Continues (over key seed o motions places faults old was) (over key seed o motions places faults new told)
     disk is = let s = rw is at wrote in Continues-grown (over key seed o motions places faults old was) (over key seed o motions places faults new told) r boots refl refl refl refl s.units same s.limits
-        (λ J possible. elim (doubted-possible old.records J r (rw (s.records, s.in_doubt) at possible)) [
+        (λ records possible. elim (doubted-possible old.records records r (rw (s.records, s.in_doubt) at possible)) [
           | inl kept ↦ inl (inl kept)
           | inr more ↦ inr (old.records, inl refl, more)
-        ]) (rw s.records (begins-same old.records)) (λ J was. rw (s.records, s.in_doubt, s.shut) (left-doubt old.records r old.in_doubt (old.shut || old.boot_missing) J none (rw (open_still, booted) refl) was))
+        ]) (rw s.records (begins-same old.records)) (λ records was. rw (s.records, s.in_doubt, s.shut) (left-doubt old.records r old.in_doubt (old.shut || old.boot_missing) records none (rw (open_still, booted) refl) was))
 
 -- an order is open only in a journal that is
 pub still-open : (shut : Bool) (o : Open) (k : Kind) (c : Counts) → (shut ≡ true → o ≡ No) → o ≡ Written k c → shut ≡ false
@@ -172,7 +172,7 @@ IsKept-acted v k c m d failed now Q f spare was left kinds before kept written m
   balanced = balanced-moved v.records v.booted v.loaded v.places Q (length v.records) k m d places kept.balanced;
   closed = λ e. absurd (true≢false (sym e ∙ still));
   missing = λ e. absurd (true≢false (sym e ∙ booted));
-  recorded = λ told J p. ⊎_elim (λ same. rw same (recorded-sound (acted_view v k m d failed now Q f) sound told)) (λ doubt. absurd (none doubt.0 (sym (kept.clean still) ∙ doubt.1))) p;
+  recorded = λ told records p. ⊎_elim (λ same. rw same (recorded-sound (acted_view v k m d failed now Q f) sound told)) (λ doubt. absurd (none doubt.0 (sym (kept.clean still) ∙ doubt.1))) p;
   room = (rw written at kept.room).1;
   limits = takes-done v.limits v.records m d moved diverted (rw written at kept.limits);
   units = units;

@@ -23,7 +23,7 @@ use Rattle.xfs_guard.specs.declared.bound.Live.{Live}
 use Rattle.xfs_guard.specs.declared.bound.Bound.{Bound}
 use Rattle.xfs_guard.specs.declared.nonce.Nonce.{Nonce}
 use Rattle.xfs_guard.specs.Nonce.{nonce_of, live_nonce, live_in}
-use Rattle.xfs_guard.specs.Refusals.{bound_token, bound_place}
+use Rattle.xfs_guard.specs.Refusals.{bound_token, bound_number}
 use Rattle.xfs_guard.specs.Ledger.{IsLive, IsBound, IsRead, IsDoubted, KeepsLedger, AreSums, amounts_kept}
 use Rattle.xfs_guard.specs.Pays.{Fits, Pays}
 use Rattle.xfs_guard.specs.LedgerView.{LedgerView, IsWriteFault}
@@ -35,60 +35,57 @@ use Rattle.std.proofs.Math.Seq.{take-append_seam, take-length}
 abbrev pub nonce_kept : Option Live → Option Nonce
 nonce_kept l = option_map (λ (x : Live). x.nonce) l
 
-abbrev pub place_kept : Option Bound → Option ℕ
-place_kept b = option_map (λ (x : Bound). x.place) b
-
-pub live_nonce-kept : (J : List Rec) (l : Option Live) → IsLive J l → live_nonce J ≡ nonce_kept l
-live_nonce-kept J None h = rw h refl
-live_nonce-kept J (Some l) h = rw (h.0, h.1) refl
+pub live_nonce-kept : (records : List Rec) (l : Option Live) → IsLive records l → live_nonce records ≡ nonce_kept l
+live_nonce-kept records None h = rw h refl
+live_nonce-kept records (Some l) h = rw (h.0, h.1) refl
 
 -- the nonce that lives while the Boot isn't missing
-pub nonce-open : (m : Bool) (J : List Rec) (n : Nonce) → m ≡ false → live_in m J ≡ Some n → live_nonce J ≡ Some n
-nonce-open m J n booted is = rw booted at is
+pub nonce-open : (m : Bool) (records : List Rec) (n : Nonce) → m ≡ false → live_in m records ≡ Some n → live_nonce records ≡ Some n
+nonce-open m records n booted is = rw booted at is
 
-pub bound_token-none : (u : List NoteKind) (J : List Rec) (l : Option Live) → IsLive J l → IsBound u J l None → bound_token J ≡ None
-bound_token-none u J None h b = rw h refl
-bound_token-none u J (Some l) h b = rw (h.0, b) refl
+pub bound_token-none : (u : List NoteKind) (records : List Rec) (l : Option Live) → IsLive records l → IsBound u records l None → bound_token records ≡ None
+bound_token-none u records None h b = rw h refl
+bound_token-none u records (Some l) h b = rw (h.0, b) refl
 
-pub bound_place-none : (u : List NoteKind) (J : List Rec) (l : Option Live) → IsLive J l → IsBound u J l None → bound_place J ≡ None
-bound_place-none u J None h b = rw h refl
-bound_place-none u J (Some l) h b = rw (h.0, b) refl
+pub bound_number-none : (u : List NoteKind) (records : List Rec) (l : Option Live) → IsLive records l → IsBound u records l None → bound_number records ≡ None
+bound_number-none u records None h b = rw h refl
+bound_number-none u records (Some l) h b = rw (h.0, b) refl
 
-pub bound_token-some : (u : List NoteKind) (J : List Rec) (l : Option Live) (b : Bound) → IsLive J l → IsBound u J l (Some b)
-    → (t : List ℕ) × (bound_token J ≡ Some t) × (record_at J b.place ≡ Some (Bind t)) × (bound_place J ≡ Some b.place)
-bound_token-some u J None b h k = absurd k
-bound_token-some u J (Some l) b h k = (k.token, rw (h.0, k.found) refl, k.written, rw (h.0, k.found) refl)
+pub bound_token-some : (u : List NoteKind) (records : List Rec) (l : Option Live) (b : Bound) → IsLive records l → IsBound u records l (Some b)
+    → (t : List ℕ) × (bound_token records ≡ Some t) × (record_at records b.number ≡ Some (Bind t)) × (bound_number records ≡ Some b.number)
+bound_token-some u records None b h k = absurd k
+bound_token-some u records (Some l) b h k = (k.token, rw (h.0, k.found) refl, k.written, rw (h.0, k.found) refl)
 
 -- an issue is written
-pub IsRead-issue : (J : List Rec) (u : List NoteKind) (i m : ℕ) (l : Option Live) (b : Option Bound) (n w : ℕ) (nonce : Nonce)
-    → IsRead J u i m l b → n ≡ next_issue J → nonce.text ≡ nonce_text n w → nonce.number ≡ n
-    → IsRead (J ++ Issue n w ∷ []) u n (length J + 1) (Some (record { place = length J + 1; nonce = nonce })) None
-IsRead-issue J u i m l b n w nonce h is text number = record {
-  issued = rw (next_issue-push J (Issue n w)) (ap (λ k. k + 1) is);
-  few = let e = length-append J (Issue n w ∷ []) in let f = h.few in let g = h.issued in omega (arith, e, f, g, is);
-  marked = sym (last_mark-push J (Issue n w));
-  lives = (live_of-push J (Issue n w), rw (record_at-pushed J (Issue n w)) (ap Some (same nonce text number)));
-  binds = binding_of-push J (Issue n w) (length J + 1) ∙ rw (eqb-same (length J + 1)) refl;
+pub IsRead-issue : (records : List Rec) (u : List NoteKind) (i m : ℕ) (l : Option Live) (b : Option Bound) (n w : ℕ) (nonce : Nonce)
+    → IsRead records u i m l b → n ≡ next_issue records → nonce.text ≡ nonce_text n w → nonce.number ≡ n
+    → IsRead (records ++ Issue n w ∷ []) u n (length records + 1) (Some (record { number = length records + 1; nonce = nonce })) None
+IsRead-issue records u i m l b n w nonce h is text number = record {
+  issued = rw (next_issue-push records (Issue n w)) (ap (λ k. k + 1) is);
+  few = let e = length-append records (Issue n w ∷ []) in let f = h.few in let g = h.issued in omega (arith, e, f, g, is);
+  marked = sym (last_mark-push records (Issue n w));
+  lives = (live_of-push records (Issue n w), rw (record_at-pushed records (Issue n w)) (ap Some (same nonce text number)));
+  binds = binding_of-push records (Issue n w) (length records + 1) ∙ rw (eqb-same (length records + 1)) refl;
 }
   where
     same : (x : Nonce) → x.text ≡ nonce_text n w → x.number ≡ n → record { text = nonce_text n w; number = n } ≡ x
     same x t k = rw (← t, ← k) refl
 
 -- a mark is written after which no issue lives
-pub IsRead-mark : (J : List Rec) (u : List NoteKind) (i : ℕ) (r : Rec) → i + 1 ≡ next_issue J → i ≤ length J
+pub IsRead-mark : (records : List Rec) (u : List NoteKind) (i : ℕ) (r : Rec) → i + 1 ≡ next_issue records → i ≤ length records
     → ((k : ℕ) → next_number k r ≡ k) → ((k : ℕ) (x : Option ℕ) → live_after k x r ≡ None) → ((k x : ℕ) → mark_after k x r ≡ k + 1)
-    → IsRead (J ++ r ∷ []) u i (length J + 1) None None
-IsRead-mark J u i r issued few same dies marks = record {
-  issued = rw (next_issue-push J r, same (next_issue J)) issued;
-  few = let e = length-append J (r ∷ []) in omega (arith, e, few);
-  marked = sym (last_mark-push J r ∙ marks (length J) (last_mark J));
-  lives = live_of-push J r ∙ dies (length J) (live_of J);
+    → IsRead (records ++ r ∷ []) u i (length records + 1) None None
+IsRead-mark records u i r issued few same dies marks = record {
+  issued = rw (next_issue-push records r, same (next_issue records)) issued;
+  few = let e = length-append records (r ∷ []) in omega (arith, e, few);
+  marked = sym (last_mark-push records r ∙ marks (length records) (last_mark records));
+  lives = live_of-push records r ∙ dies (length records) (live_of records);
   binds = tt;
 }
 
-nonce-place : (J : List Rec) (p : ℕ) (n : Nonce) → nonce_of (record_at J p) ≡ Some n → p ≤ length J
-nonce-place J zero n e = omega arith
-nonce-place J (suc i) n e = elim (cases_lt i (length J)) [ inl below ↦ omega arith | inr past ↦ absurd (none (rw (slice_get_past J i past) at e)) ]
+nonce-number : (records : List Rec) (p : ℕ) (n : Nonce) → nonce_of (record_at records p) ≡ Some n → p ≤ length records
+nonce-number records zero n e = omega arith
+nonce-number records (suc i) n e = elim (cases_lt i (length records)) [ inl below ↦ omega arith | inr past ↦ absurd (none (rw (slice_get_past records i past) at e)) ]
   where
     none : nonce_of None ≡ Some n → ⊥
     none x = cc
@@ -97,121 +94,121 @@ abbrev pub SameBind : Option Bound → Option Bound → Type 0
 SameBind None None = Unit {0}
 SameBind None (Some c) = ⊥
 SameBind (Some b) None = ⊥
-SameBind (Some b) (Some c) = c.place ≡ b.place
+SameBind (Some b) (Some c) = c.number ≡ b.number
 
 abbrev pub SumsOf : List NoteKind → List Rec → Option Bound → Type 0
-SumsOf u J None = Unit {0}
-SumsOf u J (Some c) = AreSums u J c.amounts c.presented
+SumsOf u records None = Unit {0}
+SumsOf u records (Some c) = AreSums u records c.amounts c.presented
 
 -- a record that is no mark leaves the live issue
-lives-plain : (J : List Rec) (r : Rec) (l : Option Live) → IsLive J l → ((k : ℕ) (x : Option ℕ) → live_after k x r ≡ x) → IsLive (J ++ r ∷ []) l
-lives-plain J r None h keeps = live_of-push J r ∙ (keeps (length J) (live_of J) ∙ h)
-lives-plain J r (Some l) h keeps = (
-  live_of-push J r ∙ (keeps (length J) (live_of J) ∙ h.0),
-  rw (record_at-push J r l.place (nonce-place J l.place l.nonce h.1)) h.1,
+lives-plain : (records : List Rec) (r : Rec) (l : Option Live) → IsLive records l → ((k : ℕ) (x : Option ℕ) → live_after k x r ≡ x) → IsLive (records ++ r ∷ []) l
+lives-plain records r None h keeps = live_of-push records r ∙ (keeps (length records) (live_of records) ∙ h)
+lives-plain records r (Some l) h keeps = (
+  live_of-push records r ∙ (keeps (length records) (live_of records) ∙ h.0),
+  rw (record_at-push records r l.number (nonce-number records l.number l.nonce h.1)) h.1,
 )
 
 -- a record that is neither a mark nor a bind leaves the bind, where the sums are those of the longer list
-binds-plain : (u : List NoteKind) (J : List Rec) (r : Rec) (l : Option Live) (b c : Option Bound) → IsLive J l → IsBound u J l b → SameBind b c
+binds-plain : (u : List NoteKind) (records : List Rec) (r : Rec) (l : Option Live) (b c : Option Bound) → IsLive records l → IsBound u records l b → SameBind b c
     → ((p : ℕ) (f : Finding) → found_after p f r ≡ f.bind)
-    → SumsOf u (J ++ r ∷ []) c → IsBound u (J ++ r ∷ []) l c
-binds-plain u J r None None None h k s bind sums = tt
-binds-plain u J r None (Some b) c h k s bind sums = absurd k
-binds-plain u J r None None (Some c) h k s bind sums = absurd s
-binds-plain u J r (Some l) None None h k s bind sums =
-    binding_of-push J r l.place ∙ (bind l.place _ ∙ k)
-binds-plain u J r (Some l) None (Some c) h k s bind sums = absurd s
-binds-plain u J r (Some l) (Some b) None h k s bind sums = absurd s
-binds-plain u J r (Some l) (Some b) (Some c) h k s bind sums = record {
+    → SumsOf u (records ++ r ∷ []) c → IsBound u (records ++ r ∷ []) l c
+binds-plain u records r None None None h k s bind sums = tt
+binds-plain u records r None (Some b) c h k s bind sums = absurd k
+binds-plain u records r None None (Some c) h k s bind sums = absurd s
+binds-plain u records r (Some l) None None h k s bind sums =
+    binding_of-push records r l.number ∙ (bind l.number _ ∙ k)
+binds-plain u records r (Some l) None (Some c) h k s bind sums = absurd s
+binds-plain u records r (Some l) (Some b) None h k s bind sums = absurd s
+binds-plain u records r (Some l) (Some b) (Some c) h k s bind sums = record {
   token = k.token;
-  found = binding_of-push J r l.place ∙ (bind l.place _ ∙ (k.found ∙ rw s refl));
-  written = rw s (record_at-push J r b.place (record_at-within J b.place (Bind k.token) k.written).1 ∙ k.written);
+  found = binding_of-push records r l.number ∙ (bind l.number _ ∙ (k.found ∙ rw s refl));
+  written = rw s (record_at-push records r b.number (record_at-within records b.number (Bind k.token) k.written).1 ∙ k.written);
   sums = sums;
 }
 
 -- the sums of a bind that stands
-pub sums-of : (u : List NoteKind) (J : List Rec) (l : Option Live) (b : Option Bound) → IsBound u J l b → SumsOf u J b
-sums-of u J None None k = tt
-sums-of u J None (Some b) k = absurd k
-sums-of u J (Some l) None k = tt
-sums-of u J (Some l) (Some b) k = k.sums
+pub sums-of : (u : List NoteKind) (records : List Rec) (l : Option Live) (b : Option Bound) → IsBound u records l b → SumsOf u records b
+sums-of u records None None k = tt
+sums-of u records None (Some b) k = absurd k
+sums-of u records (Some l) None k = tt
+sums-of u records (Some l) (Some b) k = k.sums
 
 same-bind : (b : Option Bound) → SameBind b b
 same-bind None = tt
 same-bind (Some b) = refl
 
 -- a record is written that no reading of the journal looks at
-IsRead-plain : (J : List Rec) (u : List NoteKind) (i m : ℕ) (l : Option Live) (b : Option Bound) (r : Rec) → IsRead J u i m l b
+IsRead-plain : (records : List Rec) (u : List NoteKind) (i m : ℕ) (l : Option Live) (b : Option Bound) (r : Rec) → IsRead records u i m l b
     → ((k : ℕ) → next_number k r ≡ k) → ((k : ℕ) (x : Option ℕ) → live_after k x r ≡ x) → ((k x : ℕ) → mark_after k x r ≡ x)
     → ((p : ℕ) (f : Finding) → found_after p f r ≡ f.bind)
-    → ((c : List ℕ) → presented_in u (J ++ r ∷ []) c ≡ presented_in u J c) → IsRead (J ++ r ∷ []) u i m l b
-IsRead-plain J u i m l b r h numbers lives marks bind worth = record {
-  issued = rw (next_issue-push J r, numbers (next_issue J)) h.issued;
-  few = let e = length-append J (r ∷ []) in let f = h.few in omega (arith, e, f);
-  marked = h.marked ∙ sym (last_mark-push J r ∙ marks (length J) (last_mark J));
-  lives = lives-plain J r l h.lives lives;
-  binds = binds-plain u J r l b b h.lives h.binds (same-bind b) bind (more b (sums-of u J l b h.binds));
+    → ((c : List ℕ) → presented_in u (records ++ r ∷ []) c ≡ presented_in u records c) → IsRead (records ++ r ∷ []) u i m l b
+IsRead-plain records u i m l b r h numbers lives marks bind worth = record {
+  issued = rw (next_issue-push records r, numbers (next_issue records)) h.issued;
+  few = let e = length-append records (r ∷ []) in let f = h.few in omega (arith, e, f);
+  marked = h.marked ∙ sym (last_mark-push records r ∙ marks (length records) (last_mark records));
+  lives = lives-plain records r l h.lives lives;
+  binds = binds-plain u records r l b b h.lives h.binds (same-bind b) bind (more b (sums-of u records l b h.binds));
 }
   where
-    more : (b : Option Bound) → SumsOf u J b → SumsOf u (J ++ r ∷ []) b
+    more : (b : Option Bound) → SumsOf u records b → SumsOf u (records ++ r ∷ []) b
     more None s = tt
     more (Some b) s = λ j a e. s j a e ∙ sym (worth a.0)
 
 -- an order is written
-pub IsRead-order : (J : List Rec) (u : List NoteKind) (i m : ℕ) (l : Option Live) (b : Option Bound) (k : Kind) (c : Counts) → IsRead J u i m l b → IsRead (J ++ Order k c ∷ []) u i m l b
-IsRead-order J u i m l b k c h = IsRead-plain J u i m l b (Order k c) h (λ n. refl) (λ n x. refl) (λ n x. refl) (λ p f. refl) (λ cur. presented_in-push u J (Order k c) cur)
+pub IsRead-order : (records : List Rec) (u : List NoteKind) (i m : ℕ) (l : Option Live) (b : Option Bound) (k : Kind) (c : Counts) → IsRead records u i m l b → IsRead (records ++ Order k c ∷ []) u i m l b
+IsRead-order records u i m l b k c h = IsRead-plain records u i m l b (Order k c) h (λ n. refl) (λ n x. refl) (λ n x. refl) (λ p f. refl) (λ cur. presented_in-push u records (Order k c) cur)
 
 -- a loading is written
-pub IsRead-load : (J : List Rec) (u : List NoteKind) (i m : ℕ) (l : Option Live) (b : Option Bound) (unit count : ℕ) → IsRead J u i m l b → IsRead (J ++ Load unit count ∷ []) u i m l b
-IsRead-load J u i m l b unit count h = IsRead-plain J u i m l b (Load unit count) h (λ n. refl) (λ n x. refl) (λ n x. refl) (λ p f. refl) (λ cur. presented_in-push u J (Load unit count) cur)
+pub IsRead-load : (records : List Rec) (u : List NoteKind) (i m : ℕ) (l : Option Live) (b : Option Bound) (unit count : ℕ) → IsRead records u i m l b → IsRead (records ++ Load unit count ∷ []) u i m l b
+IsRead-load records u i m l b unit count h = IsRead-plain records u i m l b (Load unit count) h (λ n. refl) (λ n x. refl) (λ n x. refl) (λ p f. refl) (λ cur. presented_in-push u records (Load unit count) cur)
 
 -- what an order did is written
-pub IsRead-done : (J : List Rec) (u : List NoteKind) (i m : ℕ) (l : Option Live) (b c : Option Bound) (n d : Counts) → IsRead J u i m l b → SameBind b c → SumsOf u (J ++ Done n d ∷ []) c
-    → IsRead (J ++ Done n d ∷ []) u i m l c
-IsRead-done J u i m l b c n d h same sums = record {
-  issued = rw (next_issue-push J (Done n d)) h.issued;
-  few = let e = length-append J (Done n d ∷ []) in let f = h.few in omega (arith, e, f);
-  marked = h.marked ∙ sym (last_mark-push J (Done n d));
-  lives = lives-plain J (Done n d) l h.lives (λ n x. refl);
-  binds = binds-plain u J (Done n d) l b c h.lives h.binds same (λ p f. refl) sums;
+pub IsRead-done : (records : List Rec) (u : List NoteKind) (i m : ℕ) (l : Option Live) (b c : Option Bound) (n d : Counts) → IsRead records u i m l b → SameBind b c → SumsOf u (records ++ Done n d ∷ []) c
+    → IsRead (records ++ Done n d ∷ []) u i m l c
+IsRead-done records u i m l b c n d h same sums = record {
+  issued = rw (next_issue-push records (Done n d)) h.issued;
+  few = let e = length-append records (Done n d ∷ []) in let f = h.few in omega (arith, e, f);
+  marked = h.marked ∙ sym (last_mark-push records (Done n d));
+  lives = lives-plain records (Done n d) l h.lives (λ n x. refl);
+  binds = binds-plain u records (Done n d) l b c h.lives h.binds same (λ p f. refl) sums;
 }
 
 -- a token is bound
-pub IsRead-bind : (J : List Rec) (u : List NoteKind) (i m : ℕ) (l : Option Live) (b : Option Bound) (t : List ℕ) (c : Bound) → IsRead J u i m l b
-    → (p : ℕ) × (live_of J ≡ Some p) → bound_token J ≡ None → ((cur : List ℕ) → presented_in u J cur ≡ 0) → ((j : ℕ) → slice_index c.presented j ≡ 0) → c.place ≡ length J + 1
-    → IsRead (J ++ Bind t ∷ []) u i m l (Some c)
-IsRead-bind J u i m l b t c h live free fresh zeros place = record {
-  issued = rw (next_issue-push J (Bind t)) h.issued;
-  few = let e = length-append J (Bind t ∷ []) in let f = h.few in omega (arith, e, f);
-  marked = h.marked ∙ sym (last_mark-push J (Bind t));
-  lives = lives-plain J (Bind t) l h.lives (λ n x. refl);
+pub IsRead-bind : (records : List Rec) (u : List NoteKind) (i m : ℕ) (l : Option Live) (b : Option Bound) (t : List ℕ) (c : Bound) → IsRead records u i m l b
+    → (p : ℕ) × (live_of records ≡ Some p) → bound_token records ≡ None → ((cur : List ℕ) → presented_in u records cur ≡ 0) → ((j : ℕ) → slice_index c.presented j ≡ 0) → c.number ≡ length records + 1
+    → IsRead (records ++ Bind t ∷ []) u i m l (Some c)
+IsRead-bind records u i m l b t c h live free fresh zeros number = record {
+  issued = rw (next_issue-push records (Bind t)) h.issued;
+  few = let e = length-append records (Bind t ∷ []) in let f = h.few in omega (arith, e, f);
+  marked = h.marked ∙ sym (last_mark-push records (Bind t));
+  lives = lives-plain records (Bind t) l h.lives (λ n x. refl);
   binds = bind l b h.lives h.binds;
 }
   where
-    bind : (l : Option Live) (b : Option Bound) → IsLive J l → IsBound u J l b → IsBound u (J ++ Bind t ∷ []) l (Some c)
+    bind : (l : Option Live) (b : Option Bound) → IsLive records l → IsBound u records l b → IsBound u (records ++ Bind t ∷ []) l (Some c)
     bind None b h k = let none : Some live.0 ≡ None = sym live.1 ∙ h in cc
     bind (Some l) (Some b) h k = let none : Some k.token ≡ None = (let e = rw (h.0, k.found) at free in e) in cc
     bind (Some l) None h k = record {
       token = t;
-      found = binding_of-push J (Bind t) l.place ∙ rw (h.0, k, eqb-same l.place, place) refl;
-      written = rw place (record_at-pushed J (Bind t));
-      sums = λ j a e. zeros j ∙ sym (presented_in-push u J (Bind t) a.0 ∙ fresh a.0);
+      found = binding_of-push records (Bind t) l.number ∙ rw (h.0, k, eqb-same l.number, number) refl;
+      written = rw number (record_at-pushed records (Bind t));
+      sums = λ j a e. zeros j ∙ sym (presented_in-push u records (Bind t) a.0 ∙ fresh a.0);
     }
 
 -- what was presented of the bound currencies grows by what the order presented
-pub sums-present : (u : List NoteKind) (J : List Rec) (amounts : List (List ℕ × ℕ)) (old new : List ℕ) (counts m d : Counts) → AreSums u J amounts old → record_at J (length J) ≡ Some (Order Present counts)
-    → ((i : ℕ) (a : List ℕ × ℕ) → slice_get amounts i ≡ Some a → slice_index new i ≡ slice_index old i + value u m a.0) → AreSums u (J ++ Done m d ∷ []) amounts new
-sums-present u J amounts old new counts m d sums last more i a e =
-    let p = presented_in-push u J (Done m d) a.0 in
-    let w : done_worth u a.0 (record_at J (length J)) m ≡ value u m a.0 = rw last refl in
+pub sums-present : (u : List NoteKind) (records : List Rec) (amounts : List (List ℕ × ℕ)) (old new : List ℕ) (counts m d : Counts) → AreSums u records amounts old → record_at records (length records) ≡ Some (Order Present counts)
+    → ((i : ℕ) (a : List ℕ × ℕ) → slice_get amounts i ≡ Some a → slice_index new i ≡ slice_index old i + value u m a.0) → AreSums u (records ++ Done m d ∷ []) amounts new
+sums-present u records amounts old new counts m d sums last more i a e =
+    let p = presented_in-push u records (Done m d) a.0 in
+    let w : done_worth u a.0 (record_at records (length records)) m ≡ value u m a.0 = rw last refl in
     omega (arith, more i a e, sums i a e, p, w)
 
 -- an order of another kind presents nothing
-sums-other : (u : List NoteKind) (J : List Rec) (amounts : List (List ℕ × ℕ)) (old : List ℕ) (k : Kind) (counts m d : Counts) → AreSums u J amounts old → record_at J (length J) ≡ Some (Order k counts) → k ≢ Present
-    → AreSums u (J ++ Done m d ∷ []) amounts old
-sums-other u J amounts old k counts m d sums last other i a e =
-    let p = presented_in-push u J (Done m d) a.0 in
-    let w : done_worth u a.0 (record_at J (length J)) m ≡ 0 = rw last (quiet k other) in
+sums-other : (u : List NoteKind) (records : List Rec) (amounts : List (List ℕ × ℕ)) (old : List ℕ) (k : Kind) (counts m d : Counts) → AreSums u records amounts old → record_at records (length records) ≡ Some (Order k counts) → k ≢ Present
+    → AreSums u (records ++ Done m d ∷ []) amounts old
+sums-other u records amounts old k counts m d sums last other i a e =
+    let p = presented_in-push u records (Done m d) a.0 in
+    let w : done_worth u a.0 (record_at records (length records)) m ≡ 0 = rw last (quiet k other) in
     omega (arith, sums i a e, p, w)
   where
     quiet : (k : Kind) → k ≢ Present → done_worth u a.0 (Some (Order k counts)) m ≡ 0
@@ -220,26 +217,26 @@ sums-other u J amounts old k counts m d sums last other i a e =
     quiet Reject other = refl
     quiet Retract other = refl
 
-sums-pays : (u : List NoteKind) (J : List Rec) (b c : Option Bound) (k : Kind) (counts m d : Counts) → SumsOf u J b → record_at J (length J) ≡ Some (Order k counts) → Pays u k m b c → SumsOf u (J ++ Done m d ∷ []) c
-sums-pays u J None None k counts m d sums last p = tt
-sums-pays u J None (Some c) k counts m d sums last p = absurd p
-sums-pays u J (Some b) None k counts m d sums last p = absurd p
-sums-pays u J (Some b) (Some c) Present counts m d sums last p = rw p.amounts (sums-present u J b.amounts b.presented c.presented counts m d sums last (p.present refl))
-sums-pays u J (Some b) (Some c) Stack counts m d sums last p = let other : Stack ≢ Present = λ e. cc in rw (p.amounts, p.other other) (sums-other u J b.amounts b.presented Stack counts m d sums last other)
-sums-pays u J (Some b) (Some c) Reject counts m d sums last p = let other : Reject ≢ Present = λ e. cc in rw (p.amounts, p.other other) (sums-other u J b.amounts b.presented Reject counts m d sums last other)
-sums-pays u J (Some b) (Some c) Retract counts m d sums last p = let other : Retract ≢ Present = λ e. cc in rw (p.amounts, p.other other) (sums-other u J b.amounts b.presented Retract counts m d sums last other)
+sums-pays : (u : List NoteKind) (records : List Rec) (b c : Option Bound) (k : Kind) (counts m d : Counts) → SumsOf u records b → record_at records (length records) ≡ Some (Order k counts) → Pays u k m b c → SumsOf u (records ++ Done m d ∷ []) c
+sums-pays u records None None k counts m d sums last p = tt
+sums-pays u records None (Some c) k counts m d sums last p = absurd p
+sums-pays u records (Some b) None k counts m d sums last p = absurd p
+sums-pays u records (Some b) (Some c) Present counts m d sums last p = rw p.amounts (sums-present u records b.amounts b.presented c.presented counts m d sums last (p.present refl))
+sums-pays u records (Some b) (Some c) Stack counts m d sums last p = let other : Stack ≢ Present = λ e. cc in rw (p.amounts, p.other other) (sums-other u records b.amounts b.presented Stack counts m d sums last other)
+sums-pays u records (Some b) (Some c) Reject counts m d sums last p = let other : Reject ≢ Present = λ e. cc in rw (p.amounts, p.other other) (sums-other u records b.amounts b.presented Reject counts m d sums last other)
+sums-pays u records (Some b) (Some c) Retract counts m d sums last p = let other : Retract ≢ Present = λ e. cc in rw (p.amounts, p.other other) (sums-other u records b.amounts b.presented Retract counts m d sums last other)
 
 bind-pays : (u : List NoteKind) (b c : Option Bound) (k : Kind) (m : Counts) → Pays u k m b c → SameBind b c
 bind-pays u None None k m p = tt
 bind-pays u None (Some c) k m p = absurd p
 bind-pays u (Some b) None k m p = absurd p
-bind-pays u (Some b) (Some c) k m p = p.place
+bind-pays u (Some b) (Some c) k m p = p.number
 
 -- what an order did is written
-pub IsRead-paid : (J : List Rec) (u : List NoteKind) (i m : ℕ) (l : Option Live) (b c : Option Bound) (k : Kind) (n d : Counts) → IsRead J u i m l b
-    → (counts : Counts) × (record_at J (length J) ≡ Some (Order k counts)) → Pays u k n b c → IsRead (J ++ Done n d ∷ []) u i m l c
-IsRead-paid J u i m l b c k n d h last p =
-    IsRead-done J u i m l b c n d h (bind-pays u b c k n p) (sums-pays u J b c k last.0 n d (sums-of u J l b h.binds) last.1 p)
+pub IsRead-paid : (records : List Rec) (u : List NoteKind) (i m : ℕ) (l : Option Live) (b c : Option Bound) (k : Kind) (n d : Counts) → IsRead records u i m l b
+    → (counts : Counts) × (record_at records (length records) ≡ Some (Order k counts)) → Pays u k n b c → IsRead (records ++ Done n d ∷ []) u i m l c
+IsRead-paid records u i m l b c k n d h last p =
+    IsRead-done records u i m l b c n d h (bind-pays u b c k n p) (sums-pays u records b c k last.0 n d (sums-of u records l b h.binds) last.1 p)
 
 -- what is paid keeps the amounts
 pub amounts-pays : (u : List NoteKind) (b c : Option Bound) (k : Kind) (m : Counts) → Pays u k m b c → amounts_kept c ≡ amounts_kept b
@@ -249,93 +246,93 @@ amounts-pays u (Some b) None k m p = absurd p
 amounts-pays u (Some b) (Some c) k m p = ap Some p.amounts
 
 -- the sums fit, where what is presented in each currency does
-pub fits-sums : (u : List NoteKind) (J : List Rec) (l : Option Live) (b : Option Bound) (k : Kind) (m : Counts) → IsBound u J l b
-    → (k ≡ Present → (c : List ℕ) → presented_in u J c + value u m c < 2 ^ 64) → Fits u k m b
-fits-sums u J l None k m h small = tt
-fits-sums u J None (Some b) k m h small = absurd h
-fits-sums u J (Some l) (Some b) k m h small = λ is i a e. let s = small is a.0 in let t = h.sums i a e in omega (arith, s, t)
+pub fits-sums : (u : List NoteKind) (records : List Rec) (l : Option Live) (b : Option Bound) (k : Kind) (m : Counts) → IsBound u records l b
+    → (k ≡ Present → (c : List ℕ) → presented_in u records c + value u m c < 2 ^ 64) → Fits u k m b
+fits-sums u records l None k m h small = tt
+fits-sums u records None (Some b) k m h small = absurd h
+fits-sums u records (Some l) (Some b) k m h small = λ is i a e. let s = small is a.0 in let t = h.sums i a e in omega (arith, s, t)
 
 -- the nonce of an issue lives once it is written
-pub live-issued : (J : List Rec) (n w : ℕ) (x : Nonce) → x.text ≡ nonce_text n w → x.number ≡ n → live_nonce (J ++ Issue n w ∷ []) ≡ Some x
-live-issued J n w x text number = rw (live_of-push J (Issue n w), record_at-pushed J (Issue n w)) (ap Some (rw (← text, ← number) refl))
+pub live-issued : (records : List Rec) (n w : ℕ) (x : Nonce) → x.text ≡ nonce_text n w → x.number ≡ n → live_nonce (records ++ Issue n w ∷ []) ≡ Some x
+live-issued records n w x text number = rw (live_of-push records (Issue n w), record_at-pushed records (Issue n w)) (ap Some (rw (← text, ← number) refl))
 
 -- a journal that is open has nothing in doubt
-pub KeepsLedger-read : (J : List Rec) (d : Option Rec) (s m : Bool) (u : List NoteKind) (i k : ℕ) (l : Option Live) (b : Option Bound) (x : Option Nonce) → IsRead J u i k l b → d ≡ None → KeepsLedger J d s m u i k l b x
-KeepsLedger-read J d s m u i k l b x h none = record { read = λ _ _. h; lives = λ _. h.lives; doubts = λ n e. absurd (never n (rw none at e)) }
+pub KeepsLedger-read : (records : List Rec) (d : Option Rec) (s m : Bool) (u : List NoteKind) (i k : ℕ) (l : Option Live) (b : Option Bound) (x : Option Nonce) → IsRead records u i k l b → d ≡ None → KeepsLedger records d s m u i k l b x
+KeepsLedger-read records d s m u i k l b x h none = record { read = λ _ _. h; lives = λ _. h.lives; doubts = λ n e. absurd (never n (rw none at e)) }
   where
     never : (n : Nonce) → nonce_of None ≡ Some n → ⊥
     never n e = cc
 
 -- a record was not written, or it is not known whether it was; where it is an issue, its nonce is kept
-pub KeepsLedger-refused : (e : Deny) (J : List Rec) (r : Rec) (d d' : Option Rec) (s s' m : Bool) (u : List NoteKind) (i k : ℕ) (l : Option Live) (b : Option Bound) (x x' : Option Nonce) → KeepsLedger J d s m u i k l b x → IsWriteFault e
-    → (e ≡ Memory → (s' ≡ s) × (d' ≡ d) × (x' ≡ x)) → (e ≡ Disk → (s' ≡ true) × (d' ≡ Some r)) → (e ≡ Disk → IsDoubted (Some r) x') → KeepsLedger J d' s' m u i k l b x'
-KeepsLedger-refused e J r d d' s s' m u i k l b x x' h (inl is) memory disk doubts =
+pub KeepsLedger-refused : (e : Deny) (records : List Rec) (r : Rec) (d d' : Option Rec) (s s' m : Bool) (u : List NoteKind) (i k : ℕ) (l : Option Live) (b : Option Bound) (x x' : Option Nonce) → KeepsLedger records d s m u i k l b x → IsWriteFault e
+    → (e ≡ Memory → (s' ≡ s) × (d' ≡ d) × (x' ≡ x)) → (e ≡ Disk → (s' ≡ true) × (d' ≡ Some r)) → (e ≡ Disk → IsDoubted (Some r) x') → KeepsLedger records d' s' m u i k l b x'
+KeepsLedger-refused e records r d d' s s' m u i k l b x x' h (inl is) memory disk doubts =
     let same = memory is in rw (same.0, same.1, same.2) h
-KeepsLedger-refused e J r d d' s s' m u i k l b x x' h (inr is) memory disk doubts =
+KeepsLedger-refused e records r d d' s s' m u i k l b x x' h (inr is) memory disk doubts =
     let shut = disk is in record { read = λ still booted. absurd (true≢false (sym shut.0 ∙ still)); lives = h.lives; doubts = rw shut.1 (doubts is) }
 
 -- the journal is shut, or as before
-pub KeepsLedger-shut : (J : List Rec) (d : Option Rec) (s s' m : Bool) (u : List NoteKind) (i k : ℕ) (l : Option Live) (b : Option Bound) (x : Option Nonce) → KeepsLedger J d s m u i k l b x → (s' ≡ s) ⊎ (s' ≡ true) → KeepsLedger J d s' m u i k l b x
-KeepsLedger-shut J d s s' m u i k l b x h (inl same) = rw same h
-KeepsLedger-shut J d s s' m u i k l b x h (inr shut) = record { read = λ still booted. absurd (true≢false (sym shut ∙ still)); lives = h.lives; doubts = h.doubts }
+pub KeepsLedger-shut : (records : List Rec) (d : Option Rec) (s s' m : Bool) (u : List NoteKind) (i k : ℕ) (l : Option Live) (b : Option Bound) (x : Option Nonce) → KeepsLedger records d s m u i k l b x → (s' ≡ s) ⊎ (s' ≡ true) → KeepsLedger records d s' m u i k l b x
+KeepsLedger-shut records d s s' m u i k l b x h (inl same) = rw same h
+KeepsLedger-shut records d s s' m u i k l b x h (inr shut) = record { read = λ still booted. absurd (true≢false (sym shut ∙ still)); lives = h.lives; doubts = h.doubts }
 
 -- the journal was read again and got no Boot: either it is missing, or it is not known whether it was written
-pub KeepsLedger-unbooted : (J : List Rec) (d : Option Rec) (s m : Bool) (u : List NoteKind) (i k : ℕ) (l : Option Live) (b : Option Bound) (x : Option Nonce)
-    → (m ≡ false → s ≡ true) → (m ≡ false → IsLive J l) → IsDoubted d x → KeepsLedger J d s m u i k l b x
-KeepsLedger-unbooted J d s m u i k l b x shut lives doubts = record { read = λ still booted. absurd (true≢false (sym (shut booted) ∙ still)); lives = lives; doubts = doubts }
+pub KeepsLedger-unbooted : (records : List Rec) (d : Option Rec) (s m : Bool) (u : List NoteKind) (i k : ℕ) (l : Option Live) (b : Option Bound) (x : Option Nonce)
+    → (m ≡ false → s ≡ true) → (m ≡ false → IsLive records l) → IsDoubted d x → KeepsLedger records d s m u i k l b x
+KeepsLedger-unbooted records d s m u i k l b x shut lives doubts = record { read = λ still booted. absurd (true≢false (sym (shut booted) ∙ still)); lives = lives; doubts = doubts }
 
 -- a list that was read again begins with the kept one, and has at most one record more
-pub front-possible : (J K : List Rec) (d : Option Rec) → IsPossible J d K → take (length J) K ≡ J
-front-possible J K d (inl is) = rw is (take-length J)
-front-possible J K d (inr (r, doubt, is)) = rw is (take-append_seam J (r ∷ []))
+pub front-possible : (records found : List Rec) (d : Option Rec) → IsPossible records d found → take (length records) found ≡ records
+front-possible records found d (inl is) = rw is (take-length records)
+front-possible records found d (inr (r, doubt, is)) = rw is (take-append_seam records (r ∷ []))
 
-pub longer-possible : (J K : List Rec) (d : Option Rec) → IsPossible J d K → (length J ≤ length K) × (length K ≤ length J + 1)
-longer-possible J K d (inl is) = rw is (omega arith, omega arith)
-longer-possible J K d (inr (r, doubt, is)) = let e = length-append J (r ∷ []) in rw is (omega (arith, e), omega (arith, e))
+pub longer-possible : (records list : List Rec) (d : Option Rec) → IsPossible records d list → (length records ≤ length list) × (length list ≤ length records + 1)
+longer-possible records list d (inl is) = rw is (omega arith, omega arith)
+longer-possible records list d (inr (r, doubt, is)) = let e = length-append records (r ∷ []) in rw is (omega (arith, e), omega (arith, e))
 
 -- the nonce that is kept for the record in doubt is that of the record that was found
-pub doubts-possible : (J K : List Rec) (d : Option Rec) (x : Option Nonce) → IsPossible J d K → IsDoubted d x → IsDoubted (record_at K (length J + 1)) x
-doubts-possible J K d x (inl is) doubts = rw is (none (record_at J (length J + 1)) refl)
+pub doubts-possible : (records list : List Rec) (d : Option Rec) (x : Option Nonce) → IsPossible records d list → IsDoubted d x → IsDoubted (record_at list (length records + 1)) x
+doubts-possible records list d x (inl is) doubts = rw is (none (record_at records (length records + 1)) refl)
   where
-    none : (o : Option Rec) → record_at J (length J + 1) ≡ o → IsDoubted o x
+    none : (o : Option Rec) → record_at records (length records + 1) ≡ o → IsDoubted o x
     none None e = λ n never. absurd (no n never)
       where
         no : (n : Nonce) → nonce_of None ≡ Some n → ⊥
         no n e = cc
-    none (Some r) e = let w = record_at-within J (length J + 1) r e in absurd (omega (arith, w.1))
-doubts-possible J K d x (inr (r, doubt, is)) doubts = rw (is, record_at-pushed J r) (rw doubt at doubts)
+    none (Some r) e = let w = record_at-within records (length records + 1) r e in absurd (omega (arith, w.1))
+doubts-possible records list d x (inr (r, doubt, is)) doubts = rw (is, record_at-pushed records r) (rw doubt at doubts)
 
 -- a list that is longer than a prefix of it by one record
-pub front-record : (K : List Rec) (n : ℕ) (r : Rec) → slice_get K n ≡ Some r → length K ≤ n + 1 → (K ≡ take n K ++ r ∷ []) × (length (take n K) ≡ n)
-front-record K n r e le =
-    let within = slice_get_within K n r e in
-    (sym (take_all (n + 1) K le) ∙ (take_more K n r within ∙ ap (λ y. take n K ++ y ∷ []) (get_or_from_slice_get K n r r e)), length-take-le n K (omega (arith, within)))
+pub front-record : (found : List Rec) (n : ℕ) (r : Rec) → slice_get found n ≡ Some r → length found ≤ n + 1 → (found ≡ take n found ++ r ∷ []) × (length (take n found) ≡ n)
+front-record found n r e le =
+    let within = slice_get_within found n r e in
+    (sym (take_all (n + 1) found le) ∙ (take_more found n r within ∙ ap (λ y. take n found ++ y ∷ []) (get_or_from_slice_get found n r r e)), length-take-le n found (omega (arith, within)))
 
-last-at : (K : List Rec) (n : ℕ) (r : Rec) → slice_get K n ≡ Some r → record_at K (n + 1) ≡ Some r
-last-at K n r at = let up : n + 1 ≡ suc n = omega arith in ap (record_at K) up ∙ at
+last-at : (list : List Rec) (n : ℕ) (r : Rec) → slice_get list n ≡ Some r → record_at list (n + 1) ≡ Some r
+last-at list n r at = let up : n + 1 ≡ suc n = omega arith in ap (record_at list) up ∙ at
 
 -- the issue in doubt was found, and lives
-pub found-issue : (K : List Rec) (n number word : ℕ) (r : Rec) (d : Option Nonce) (x : Nonce) → slice_get K n ≡ Some r → r ≡ Issue number word → length K ≤ n + 1 → IsDoubted (record_at K (n + 1)) d → d ≡ Some x
-    → IsLive K (Some (record { place = n + 1; nonce = x }))
-found-issue K n number word r d x at is le doubts kept =
-    let prefix = front-record K n r at le in
-    let lives : live_of K ≡ Some (length (take n K) + 1) = ap live_of prefix.0 ∙ (live_of-push (take n K) r ∙ rw is refl) in
-    let there : record_at K (n + 1) ≡ Some r = last-at K n r at in
+pub found-issue : (list : List Rec) (n number word : ℕ) (r : Rec) (d : Option Nonce) (x : Nonce) → slice_get list n ≡ Some r → r ≡ Issue number word → length list ≤ n + 1 → IsDoubted (record_at list (n + 1)) d → d ≡ Some x
+    → IsLive list (Some (record { number = n + 1; nonce = x }))
+found-issue list n number word r d x at is le doubts kept =
+    let prefix = front-record list n r at le in
+    let lives : live_of list ≡ Some (length (take n list) + 1) = ap live_of prefix.0 ∙ (live_of-push (take n list) r ∙ rw is refl) in
+    let there : record_at list (n + 1) ≡ Some r = last-at list n r at in
     (lives ∙ ap (λ k. Some (k + 1)) prefix.1, rw (there, is) (sym ((rw (there, is) at doubts) (record { text = nonce_text number word; number = number }) refl) ∙ kept))
 
 -- the nonce of an issue in doubt is kept
-pub kept-issue : (K : List Rec) (n number word : ℕ) (r : Rec) (d : Option Nonce) → slice_get K n ≡ Some r → r ≡ Issue number word → IsDoubted (record_at K (n + 1)) d → d ≡ None → ⊥
-kept-issue K n number word r d at is doubts none =
-    let there : record_at K (n + 1) ≡ Some r = last-at K n r at in
+pub kept-issue : (list : List Rec) (n number word : ℕ) (r : Rec) (d : Option Nonce) → slice_get list n ≡ Some r → r ≡ Issue number word → IsDoubted (record_at list (n + 1)) d → d ≡ None → ⊥
+kept-issue list n number word r d at is doubts none =
+    let there : record_at list (n + 1) ≡ Some r = last-at list n r at in
     let some : d ≡ Some (record { text = nonce_text number word; number = number }) = (rw (there, is) at doubts) (record { text = nonce_text number word; number = number }) refl in
     let never : None ≡ Some (record { text = nonce_text number word; number = number }) = sym none ∙ some in cc
 
 -- another record than a mark was found, and leaves the live issue
-pub found-plain : (K : List Rec) (n : ℕ) (r : Rec) (l : Option Live) → slice_get K n ≡ Some r → length K ≤ n + 1
-    → ((number word : ℕ) → r ≡ Issue number word → ⊥) → (r ≡ Clear → ⊥) → (r ≡ Expire → ⊥) → ((p : Places) → r ≡ Boot p → ⊥) → IsLive (take n K) l → IsLive K l
-found-plain K n r l at le issue clear expire boot lives =
-    let prefix = front-record K n r at le in
-    rw prefix.0 (lives-plain (take n K) r l lives (λ k o. keeps r issue clear expire boot k o))
+pub found-plain : (list : List Rec) (n : ℕ) (r : Rec) (l : Option Live) → slice_get list n ≡ Some r → length list ≤ n + 1
+    → ((number word : ℕ) → r ≡ Issue number word → ⊥) → (r ≡ Clear → ⊥) → (r ≡ Expire → ⊥) → ((p : Places) → r ≡ Boot p → ⊥) → IsLive (take n list) l → IsLive list l
+found-plain list n r l at le issue clear expire boot lives =
+    let prefix = front-record list n r at le in
+    rw prefix.0 (lives-plain (take n list) r l lives (λ k o. keeps r issue clear expire boot k o))
   where
     keeps : (r : Rec) → ((number word : ℕ) → r ≡ Issue number word → ⊥) → (r ≡ Clear → ⊥) → (r ≡ Expire → ⊥) → ((p : Places) → r ≡ Boot p → ⊥) → (k : ℕ) (o : Option ℕ) → live_after k o r ≡ o
     keeps (Issue number word) issue clear expire boot k o = absurd (issue number word refl)

@@ -29,33 +29,33 @@ use Rattle.xfs_guard.proofs.SoundLaws.{acted_view, told-act}
 use Rattle.xfs_guard.proofs.StoredLaws.{tells}
 
 -- bytes that stand for one of the possible lists, each of which is recorded
-pub recorded-possible : (key : List ℕ) (u : List NoteKind) (m : Option (List Motion)) (J : List Rec) (d : Option Rec) (c : List ℕ)
-    → ((K : List Rec) → IsPossible J d K → IsRecorded key u K m) → StandsForPossible J d c → StandsRecorded key u m c
-recorded-possible key u m J d c recorded one = record { records = one.0; stands = one.2; recorded = recorded one.0 one.1 }
+pub recorded-possible : (key : List ℕ) (u : List NoteKind) (m : Option (List Motion)) (records : List Rec) (d : Option Rec) (c : List ℕ)
+    → ((list : List Rec) → IsPossible records d list → IsRecorded key u list m) → StandsForPossible records d c → StandsRecorded key u m c
+recorded-possible key u m records d c recorded one = record { records = one.0; stands = one.2; recorded = recorded one.0 one.1 }
 
 -- bytes that stand for the list or for that with the record, both of which are recorded
-pub recorded-either : (key : List ℕ) (u : List NoteKind) (m : Option (List Motion)) (J : List Rec) (r : Rec) (c : List ℕ)
-    → IsRecorded key u J m → IsRecorded key u (J ++ r ∷ []) m → StandsForEither J r c → StandsRecorded key u m c
-recorded-either key u m J r c before after (inl was) = record { records = J; stands = was; recorded = before }
-recorded-either key u m J r c before after (inr is) = record { records = J ++ r ∷ []; stands = is; recorded = after }
+pub recorded-either : (key : List ℕ) (u : List NoteKind) (m : Option (List Motion)) (records : List Rec) (r : Rec) (c : List ℕ)
+    → IsRecorded key u records m → IsRecorded key u (records ++ r ∷ []) m → StandsForEither records r c → StandsRecorded key u m c
+recorded-either key u m records r c before after (inl was) = record { records = records; stands = was; recorded = before }
+recorded-either key u m records r c before after (inr is) = record { records = records ++ r ∷ []; stands = is; recorded = after }
 
 module _ {D : Type 0} (g : Ghosts D) where
   -- a call that called no disk
-  pub left-same : (d : D) (P : List ℕ → Type 0) → ((c : List ℕ) → g.images_since d (g.moment d) c → g.images d c) → IfTold (g.held d) (λ _. (c : List ℕ) → g.images d c → P c)
-      → IfTold (g.held d) (λ _. LeavesOnly g d d P)
-  left-same d P only_now each = on_told (g.held d) (λ _. LeavesOnly g d d P) (λ all told.
-      started g d P (λ c left. from_told (g.held d) (λ _. (c : List ℕ) → g.images d c → P c) each all told c (only_now c left)))
+  pub left-same : (d : D) (Holds : List ℕ → Type 0) → ((c : List ℕ) → g.images_since d (g.moment d) c → g.images d c) → IfTold (g.held d) (λ _. (c : List ℕ) → g.images d c → Holds c)
+      → IfTold (g.held d) (λ _. LeavesOnly g d d Holds)
+  left-same d Holds only_now each = on_told (g.held d) (λ _. LeavesOnly g d d Holds) (λ all told.
+      started g d Holds (λ c left. from_told (g.held d) (λ _. (c : List ℕ) → g.images d c → Holds c) each all told c (only_now c left)))
 
   -- each image stands for a recorded list, where each of the possible lists is one
   pub leaves-recorded : (d : D) (v : View) → LeavesPossible g d v.records v.in_doubt
-      → (is_some (g.held d) ≡ true → (J : List Rec) → IsPossible v.records v.in_doubt J → IsRecorded v.key v.units J v.motions)
+      → (is_some (g.held d) ≡ true → (records : List Rec) → IsPossible v.records v.in_doubt records → IsRecorded v.key v.units records v.motions)
       → IfTold (g.held d) (λ _. (c : List ℕ) → g.images d c → StandsRecorded v.key v.units v.motions c)
   leaves-recorded d v leaves recorded = on_told (g.held d) (λ _. (c : List ℕ) → g.images d c → StandsRecorded v.key v.units v.motions c) (λ all told c left.
       recorded-possible v.key v.units v.motions v.records v.in_doubt c (recorded (ap is_some told)) (from_told (g.held d) (λ _. (c : List ℕ) → g.images d c → StandsForPossible v.records v.in_doubt c) leaves all told c left))
 
   -- a call that wrote nothing
   pub left-unwritten : (d : D) (v : View) → ((c : List ℕ) → g.images_since d (g.moment d) c → g.images d c) → LeavesPossible g d v.records v.in_doubt
-      → (is_some (g.held d) ≡ true → (J : List Rec) → IsPossible v.records v.in_doubt J → IsRecorded v.key v.units J v.motions)
+      → (is_some (g.held d) ≡ true → (records : List Rec) → IsPossible v.records v.in_doubt records → IsRecorded v.key v.units records v.motions)
       → IfTold (g.held d) (λ _. LeavesOnly g d d (StandsRecorded v.key v.units v.motions))
   left-unwritten d v only_now leaves recorded = left-same d (StandsRecorded v.key v.units v.motions) only_now (leaves-recorded d v leaves recorded)
 
@@ -70,8 +70,8 @@ module _ {D : Type 0} (g : Ghosts D) where
 
   -- a call of the mechanism, which may add such an entry
   pub left-through : (d : D) (v : View) (MayAdd : Motion → Type 0) → ((c : List ℕ) → g.images_since d (g.moment d) c → g.images d c) → LeavesPossible g d v.records v.in_doubt
-      → (is_some (g.held d) ≡ true → (J : List Rec) → IsPossible v.records v.in_doubt J → IsRecorded v.key v.units J v.motions)
-      → (is_some (g.held d) ≡ true → (J : List Rec) → IsPossible v.records v.in_doubt J → (entry : Motion) (now : Option (List Motion)) → MayAdd entry → AddsEntry v.motions entry now → IsRecorded v.key v.units J now)
+      → (is_some (g.held d) ≡ true → (records : List Rec) → IsPossible v.records v.in_doubt records → IsRecorded v.key v.units records v.motions)
+      → (is_some (g.held d) ≡ true → (records : List Rec) → IsPossible v.records v.in_doubt records → (entry : Motion) (now : Option (List Motion)) → MayAdd entry → AddsEntry v.motions entry now → IsRecorded v.key v.units records now)
       → IfTold (g.held d) (λ _. LeavesOnly g d d (StandsThrough v MayAdd))
   left-through d v MayAdd only_now leaves before after = left-same d (StandsThrough v MayAdd) only_now (on_told (g.held d) (λ _. (c : List ℕ) → g.images d c → StandsThrough v MayAdd c) (λ all told c left.
       let one = from_told (g.held d) (λ _. (c : List ℕ) → g.images d c → StandsForPossible v.records v.in_doubt c) leaves all told c left in
@@ -86,18 +86,18 @@ recorded-moved v entry now s is may grows =
     (told-act v may.kind may.counts may.moved may.diverted may.failed v.motions now now v.places v.faults s.budget may.written stands.0 stands.1 stands.2 may.carried (told-at v.disk_told v v.motions is s.told) grown)
 
 -- where no record is in doubt, the kept list is the one that is possible
-pub one-possible : (J : List Rec) (d : Option Rec) (K : List Rec) → d ≡ None → IsPossible J d K → K ≡ J
-one-possible J d K none (inl same) = same
-one-possible J d K none (inr doubt) = absurd (never doubt.0 (sym none ∙ doubt.1))
+pub one-possible : (records : List Rec) (d : Option Rec) (found : List Rec) → d ≡ None → IsPossible records d found → found ≡ records
+one-possible records d found none (inl same) = same
+one-possible records d found none (inr doubt) = absurd (never doubt.0 (sym none ∙ doubt.1))
   where
     never : (r : Rec) → None ≡ Some r → ⊥
     never r e = cc
 
 -- a crash leaves it
-pub leaves-kept : {D : Type 0} (g : Ghosts D) (disk : D) (J : List Rec) (d : Option Rec) → d ≡ None → IsStored g disk J d → Leaves g disk J
-leaves-kept g disk J d none stored = on_told (g.held disk) (λ _. (c : List ℕ) → g.images disk c → StandsFor c J) (λ all told c left.
-    let has = from_told (g.held disk) (λ _. (c : List ℕ) → g.images disk c → HasPossible J d c) stored all told c left in
-    inl (subst (λ (K : List Rec). IsImage c K) (one-possible J d has.0 none has.1) has.2))
+pub leaves-kept : {D : Type 0} (g : Ghosts D) (disk : D) (records : List Rec) (d : Option Rec) → d ≡ None → IsStored g disk records d → Leaves g disk records
+leaves-kept g disk records d none stored = on_told (g.held disk) (λ _. (c : List ℕ) → g.images disk c → StandsFor c records) (λ all told c left.
+    let has = from_told (g.held disk) (λ _. (c : List ℕ) → g.images disk c → HasPossible records d c) stored all told c left in
+    inl (subst (λ (list : List Rec). IsImage c list) (one-possible records d has.0 none has.1) has.2))
 
 -- a mount leaves what was there, or at most 9 bytes, which stand for the empty list as the bytes before did
 short-booted : (images : List ℕ → Type 0) (all : List ℕ) (p : Places) (c : List ℕ) → IsOldOrShort images all c → IsOldOrBooted images all p c
@@ -113,28 +113,28 @@ module _ {D : Type 0} (g : Ghosts D) (old mid : D) (p : Places)
       (from_told (g.held old) (λ all. LeavesOnly g old mid (IsOldOrShort (g.images old) all)) mounted all told))
 
   -- a mount, and then the append of the Boot
-  pub left-booted : (new : D) (J : List Rec) → is_some (g.held mid) ≡ is_some (g.held old) → IfTold (g.held old) (λ all. StandsFor all J)
-      → IfTold (g.held mid) (λ _. LeavesOnly g mid new (StandsForEither J (Boot p))) → IfTold (g.held old) (λ all. LeavesOnly g old new (IsOldOrBooted (g.images old) all p))
-  left-booted new J told stands appended = on_told (g.held old) (λ all. LeavesOnly g old new (IsOldOrBooted (g.images old) all p)) (λ all is.
+  pub left-booted : (new : D) (records : List Rec) → is_some (g.held mid) ≡ is_some (g.held old) → IfTold (g.held old) (λ all. StandsFor all records)
+      → IfTold (g.held mid) (λ _. LeavesOnly g mid new (StandsForEither records (Boot p))) → IfTold (g.held old) (λ all. LeavesOnly g old new (IsOldOrBooted (g.images old) all p))
+  left-booted new records told stands appended = on_told (g.held old) (λ all. LeavesOnly g old new (IsOldOrBooted (g.images old) all p)) (λ all is.
       let still = tells (g.held mid) (told ∙ ap is_some is) in
-      let found = from_told (g.held old) (λ all. StandsFor all J) stands all is in
-      weaken g old new (λ c. IsOldOrBooted (g.images old) all p c ⊎ StandsForEither J (Boot p) c) (IsOldOrBooted (g.images old) all p) (λ c either. ⊎_elim (λ was. was) (λ is. inr (J, found, is)) either)
-      (joins g old mid new (IsOldOrBooted (g.images old) all p) (StandsForEither J (Boot p))
+      let found = from_told (g.held old) (λ all. StandsFor all records) stands all is in
+      weaken g old new (λ c. IsOldOrBooted (g.images old) all p c ⊎ StandsForEither records (Boot p) c) (IsOldOrBooted (g.images old) all p) (λ c either. ⊎_elim (λ was. was) (λ is. inr (records, found, is)) either)
+      (joins g old mid new (IsOldOrBooted (g.images old) all p) (StandsForEither records (Boot p))
       (from_told (g.held old) (λ all. LeavesOnly g old mid (IsOldOrBooted (g.images old) all p)) left-mounted all is)
-      (from_told (g.held mid) (λ _. LeavesOnly g mid new (StandsForEither J (Boot p))) appended still.0 still.1)))
+      (from_told (g.held mid) (λ _. LeavesOnly g mid new (StandsForEither records (Boot p))) appended still.0 still.1)))
 
 -- what a boot leaves is recorded, where each list that was left before it is
 recorded-booted : {D : Type 0} (key : List ℕ) (u : List NoteKind) (m : Option (List Motion)) (g : Ghosts D) (d : D) (all : List ℕ) (p : Places) (c : List ℕ) → is_some (g.held d) ≡ true → g.images d all
-    → EachStands (g.images d) → ((J : List Rec) → MayLeave g d J → IsRecorded key u J m) → IsOldOrBooted (g.images d) all p c → StandsRecorded key u m c
+    → EachStands (g.images d) → ((records : List Rec) → MayLeave g d records → IsRecorded key u records m) → IsOldOrBooted (g.images d) all p c → StandsRecorded key u m c
 recorded-booted key u m g d all p c told here each recorded (inl was) =
     let list = each c was in
     record { records = list.0; stands = list.1; recorded = recorded list.0 (record { told = told; bytes = c; left = was; stands = list.1 }) }
-recorded-booted key u m g d all p c told here each recorded (inr (J, found, either)) =
-    let before = recorded J (record { told = told; bytes = all; left = here; stands = found }) in
-    recorded-either key u m J (Boot p) c before (IsRecorded-boot key u J p m before) either
+recorded-booted key u m g d all p c told here each recorded (inr (records, found, either)) =
+    let before = recorded records (record { told = told; bytes = all; left = here; stands = found }) in
+    recorded-either key u m records (Boot p) c before (IsRecorded-boot key u records p m before) either
 
 pub left-boot : {D : Type 0} (g : Ghosts D) (old new : D) (key : List ℕ) (u : List NoteKind) (m : Option (List Motion)) (p : Places)
-    → ((d : D) (all : List ℕ) → g.held d ≡ Some all → g.images d all) → ((J : List Rec) → MayLeave g old J → IsRecorded key u J m)
+    → ((d : D) (all : List ℕ) → g.held d ≡ Some all → g.images d all) → ((records : List Rec) → MayLeave g old records → IsRecorded key u records m)
     → IfTold (g.held old) (λ all. LeavesOnly g old new (IsOldOrBooted (g.images old) all p)) → IfTold (g.held old) (λ _. EachStands (g.images old) → LeavesOnly g old new (StandsRecorded key u m))
 left-boot g old new key u m p as_read recorded moments = on_told (g.held old) (λ _. EachStands (g.images old) → LeavesOnly g old new (StandsRecorded key u m)) (λ all told each.
     weaken g old new (IsOldOrBooted (g.images old) all p) (StandsRecorded key u m)
@@ -143,14 +143,14 @@ left-boot g old new key u m p as_read recorded moments = on_told (g.held old) (�
 
 -- a boot that never called its disk leaves it as it was
 module _ {D : Type 0} (g : Ghosts D) (d : D) (only_now : (c : List ℕ) → g.images_since d (g.moment d) c → g.images d c) where
-  pub unread-either : (p : Places) → IfTold (g.held d) (λ _. (J : List Rec) → ((c : List ℕ) → g.images d c → StandsFor c J) → (c : List ℕ) → g.images d c → StandsForEither J (Boot p) c)
-  unread-either p = on_told (g.held d) (λ _. (J : List Rec) → ((c : List ℕ) → g.images d c → StandsFor c J) → (c : List ℕ) → g.images d c → StandsForEither J (Boot p) c) (λ all told J each c now. inl (each c now))
+  pub unread-either : (p : Places) → IfTold (g.held d) (λ _. (records : List Rec) → ((c : List ℕ) → g.images d c → StandsFor c records) → (c : List ℕ) → g.images d c → StandsForEither records (Boot p) c)
+  unread-either p = on_told (g.held d) (λ _. (records : List Rec) → ((c : List ℕ) → g.images d c → StandsFor c records) → (c : List ℕ) → g.images d c → StandsForEither records (Boot p) c) (λ all told records each c now. inl (each c now))
 
   pub unread-quiet : IsQuiet g d d
   unread-quiet = record { same = refl; adds_none = λ c now. now; moments = started g d (g.images d) only_now; later = omega arith }
 
-  pub unread-unlisted : IfTold (g.held d) (λ all. ((J : List Rec) → ¬ StandsFor all J) → IsQuiet g d d)
-  unread-unlisted = on_told (g.held d) (λ all. ((J : List Rec) → ¬ StandsFor all J) → IsQuiet g d d) (λ all told none. unread-quiet)
+  pub unread-unlisted : IfTold (g.held d) (λ all. ((records : List Rec) → ¬ StandsFor all records) → IsQuiet g d d)
+  unread-unlisted = on_told (g.held d) (λ all. ((records : List Rec) → ¬ StandsFor all records) → IsQuiet g d d) (λ all told none. unread-quiet)
 
   pub unread-short : IfTold (g.held d) (λ all. LeavesOnly g d d (IsOldOrShort (g.images d) all))
   unread-short = on_told (g.held d) (λ all. LeavesOnly g d d (IsOldOrShort (g.images d) all)) (λ all told.

@@ -11,14 +11,14 @@ use Rattle.xfs_journal.specs.Journal.{Walk, next_number, next_issue, CarriesNumb
 use Rattle.xfs_journal.specs.JournalView.{IsPossible}
 use Rattle.xfs_guard.specs.Lives.{Answered, Run, BeginsWith, IsKeptIn, IsLife, answered_in}
 
-pub begins-same : (J : List Rec) → BeginsWith J J
-begins-same J = record { more = []; is = sym (append-nil J) }
+pub begins-same : (records : List Rec) → BeginsWith records records
+begins-same records = record { more = []; is = sym (append-nil records) }
 
-pub begins-trans : (J K L : List Rec) → BeginsWith K J → BeginsWith L K → BeginsWith L J
-begins-trans J K L p q = record { more = p.more ++ q.more; is = q.is ∙ ap (λ (l : List Rec). l ++ q.more) p.is ∙ append_assoc J p.more q.more }
+pub begins-trans : (records list motions : List Rec) → BeginsWith list records → BeginsWith motions list → BeginsWith motions records
+begins-trans records list motions p q = record { more = p.more ++ q.more; is = q.is ∙ ap (λ (l : List Rec). l ++ q.more) p.is ∙ append_assoc records p.more q.more }
 
-pub begins-push : (J : List Rec) (r : Rec) → BeginsWith (J ++ r ∷ []) J
-begins-push J r = record { more = r ∷ []; is = refl }
+pub begins-push : (records : List Rec) (r : Rec) → BeginsWith (records ++ r ∷ []) records
+begins-push records r = record { more = r ∷ []; is = refl }
 
 -- each possible list begins with the kept one: behind a restore the records stay
 pub possible-begins : (kept : List Rec) (in_doubt : Option Rec) (records : List Rec) → IsPossible kept in_doubt records → BeginsWith records kept
@@ -27,11 +27,11 @@ possible-begins kept in_doubt records (inr (r, doubt, is)) = record { more = r �
 
 -- what stands now begins with what a life began with
 begins-life : (first : List Rec) (runs : List Run) (now : List Rec) → IsLife first runs now → BeginsWith now first
-begins-life first [] now same = subst (λ (J : List Rec). BeginsWith J first) same (begins-same first)
+begins-life first [] now same = subst (λ (records : List Rec). BeginsWith records first) same (begins-same first)
 begins-life first (r ∷ rs) now (found, run, later) =
-    begins-trans first r.left now (subst (λ (J : List Rec). BeginsWith r.left J) found run.began) (begins-life r.left rs now later)
+    begins-trans first r.left now (subst (λ (records : List Rec). BeginsWith r.left records) found run.began) (begins-life r.left rs now later)
 
-rises : (n : ℕ) (J : List Rec) → n ≤ fold next_number n J
+rises : (n : ℕ) (records : List Rec) → n ≤ fold next_number n records
 rises n [] = omega arith
 rises n (Issue number word ∷ rs) = let le = rises (n + 1) rs in omega (arith, le)
 rises n (Clear ∷ rs) = rises n rs
@@ -47,14 +47,14 @@ below n [] more number word walk = let le = rises (n + 1) more in omega (arith, 
 below n (r ∷ rs) more number word walk = below (next_number n r) rs more number word walk.1
 
 -- the number of an issue of a numbered list
-number-below : (J : List Rec) (a : Answered) → Numbered J → IsKeptIn J a → a.number < next_issue J
-number-below J a numbered kept =
-    let is : J ≡ kept.before ++ Issue a.number kept.word ∷ kept.kept.more =
+number-below : (records : List Rec) (a : Answered) → Numbered records → IsKeptIn records a → a.number < next_issue records
+number-below records a numbered kept =
+    let is : records ≡ kept.before ++ Issue a.number kept.word ∷ kept.kept.more =
     kept.kept.is ∙ ap (λ (l : List Rec). l ++ kept.kept.more) kept.issued ∙ append_assoc kept.before (Issue a.number kept.word ∷ []) kept.kept.more in
     subst (λ (l : List Rec). a.number < next_issue l) (sym is) (below 1 kept.before kept.kept.more a.number kept.word (subst Numbered is numbered))
 
-kept-later : (J K : List Rec) (a : Answered) → BeginsWith K J → IsKeptIn J a → IsKeptIn K a
-kept-later J K a later kept = record { before = kept.before; word = kept.word; issued = kept.issued; kept = begins-trans a.records J K kept.kept later }
+kept-later : (records list : List Rec) (a : Answered) → BeginsWith list records → IsKeptIn records a → IsKeptIn list a
+kept-later records list a later kept = record { before = kept.before; word = kept.word; issued = kept.issued; kept = begins-trans a.records records list kept.kept later }
 
 all-below : (first : List Rec) (runs : List Run) (now : List Rec) → IsLife first runs now → Numbered now → All (λ n. n < next_issue now) (answered_in runs)
 all-below first [] now same numbered = All-nil (λ n. n < next_issue now)

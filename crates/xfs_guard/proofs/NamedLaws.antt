@@ -25,7 +25,7 @@ use Rattle.xfs_guard.specs.Fits.{is_full, unfit}
 use Rattle.xfs_guard.specs.Named.{NamesRecord}
 use Rattle.xfs_guard.specs.Nonce.{live_nonce}
 use Rattle.xfs_guard.specs.OverBudget.{first_currency, is_over, spent}
-use Rattle.xfs_guard.specs.Refusals.{Answers, TokenRefused, bind_refusal, bound_place, bound_token, claim_refusal, claim_refusal_at, nothing_refusal, notes_of, order_refusal, order_refusal_at, over_budget, present_refusal, stack_refusal}
+use Rattle.xfs_guard.specs.Refusals.{Answers, TokenRefused, bind_refusal, bound_number, bound_token, claim_refusal, claim_refusal_at, nothing_refusal, notes_of, order_refusal, order_refusal_at, over_budget, present_refusal, stack_refusal}
 use Rattle.xfs_guard.specs.TokenDeny.{deny_of}
 use Rattle.xfs_guard.specs.View.{View}
 
@@ -88,16 +88,16 @@ order-at v AskReject live = nothing-names v.records v.places.transport
 order-at v AskRetract live = nothing-names v.records v.places.outlet
 
 -- where a token is bound, its Bind has a number
-has-place : (records : List Rec) (token : List ℕ) → bound_token records ≡ Some token → bound_place records ≡ Some (unwrap_or (bound_place records) 0)
-has-place records token bound = of (live_of records) refl bound
+has-number : (records : List Rec) (token : List ℕ) → bound_token records ≡ Some token → bound_number records ≡ Some (unwrap_or (bound_number records) 0)
+has-number records token bound = of (live_of records) refl bound
   where
     found : (p : ℕ) (o : Option Binding) → live_of records ≡ Some p → binding_of records p ≡ o → option_map (λ (b : Binding). b.token) o ≡ Some token
-        → bound_place records ≡ Some (unwrap_or (bound_place records) 0)
+        → bound_number records ≡ Some (unwrap_or (bound_number records) 0)
     found p None lives is e = absurd (none-some token e)
     found p (Some b) lives is e = rw (lives, is) refl
 
     of : (l : Option ℕ) → live_of records ≡ l → option_and_then (λ p. option_map (λ (b : Binding). b.token) (binding_of records p)) l ≡ Some token
-        → bound_place records ≡ Some (unwrap_or (bound_place records) 0)
+        → bound_number records ≡ Some (unwrap_or (bound_number records) 0)
     of None is e = absurd (none-some token e)
     of (Some p) is e = found p (binding_of records p) is refl e
 
@@ -109,9 +109,9 @@ bind-at v bytes None is = by (sum v.places.transport.0 == 0)
     by false = tt
 bind-at v bytes (Some token) is = by (bytes_eq token bytes)
   where
-    by : (b : Bool) → Names v.records (if b then None else Some (OtherBound (unwrap_or (bound_place v.records) 0)))
+    by : (b : Bool) → Names v.records (if b then None else Some (OtherBound (unwrap_or (bound_number v.records) 0)))
     by true = tt
-    by false = has-place v.records token is
+    by false = has-number v.records token is
 
 claim-at : (v : View) (bytes : List ℕ) (t : Parts) (live : Option Nonce) → Names v.records (claim_refusal_at v bytes t live)
 claim-at v bytes t None = refl

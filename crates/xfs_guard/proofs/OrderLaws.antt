@@ -33,10 +33,10 @@ use Rattle.xfs_guard.proofs.BudgetLaws.{over_budget-none, amount-is, amount_in-n
 use Rattle.xfs_guard.proofs.RecordLaws.{longer, IsSound-order, released-order}
 
 -- a live nonce is that of a live issue
-pub live-place : (J : List Rec) (n : Nonce) → live_nonce J ≡ Some n → (p : ℕ) × (live_of J ≡ Some p)
-live-place J n e = go (live_of J) refl e
+pub live-number : (records : List Rec) (n : Nonce) → live_nonce records ≡ Some n → (p : ℕ) × (live_of records ≡ Some p)
+live-number records n e = go (live_of records) refl e
   where
-    go : (l : Option ℕ) → live_of J ≡ l → option_and_then (λ p. nonce_of (record_at J p)) l ≡ Some n → (p : ℕ) × (live_of J ≡ Some p)
+    go : (l : Option ℕ) → live_of records ≡ l → option_and_then (λ p. nonce_of (record_at records p)) l ≡ Some n → (p : ℕ) × (live_of records ≡ Some p)
     go None is e = cc
     go (Some p) is e = (p, is)
 
@@ -123,7 +123,7 @@ IsSound-asked v AskPresent s none fine = go (live_nonce v.records) v.bound refl 
     go None a is bound fine = cc
     go (Some n) None is bound fine = cc
     go (Some n) (Some a) is bound fine =
-        let live = live-place v.records n is in
+        let live = live-number v.records n is in
         let token = bound-token v live.0 a s live.1 bound in
         IsSound-order v Present v.places.transport s none (λ u. omega arith) (released-order v.records v.places.transport live.0 token.0 live.1 token.1)
         (λ p b l t. funded-same v Present v.places.transport p b none (λ e. cc) (s.budget.funded p b l t))
@@ -165,7 +165,7 @@ small-done v Retract m d failed s acted is c = cc
 small-done v Present m d failed s acted is c =
     let stands : OpenIsNewest (Acted Present m d failed) v.records v.places = rw acted at s.stands in
     let r = stands.2 in
-    let f = s.budget.funded r.place r.bytes r.lives r.bound in
+    let f = s.budget.funded r.number r.bytes r.lives r.bound in
     let e = rw acted at (f.enough c) in
     let most = amount-small f.token c in
     omega (arith, e, most)

@@ -6,13 +6,12 @@ use Rattle.xfs_base.specs.Causes.{IfTold}
 use Rattle.xfs_disk.specs.Moments.{LeavesOnly}
 use Rattle.xfs_disk.specs.declared.disk.Disk.{Ghosts}
 use Rattle.xfs_journal.specs.Image.{StandsFor}
-use Rattle.xfs_journal.specs.JournalView.{HasPossible, StandsForEither}
-use Rattle.xfs_journal.specs.Paging.{IsQuiet}
+use Rattle.xfs_journal.specs.JournalView.{StandsForEither}
 use Rattle.xfs_journal.specs.declared.record.Rec.{Rec}
 use Rattle.xfs_journal.proofs.Told.{on_told, from_told}
 use Rattle.xfs_guard.specs.CrashOutcomes.{Leaves}
 use Rattle.xfs_guard.specs.LedgerView.{LedgerView, Wrote, IsWriteFault}
-use Rattle.xfs_guard.specs.Stored.{IsStored, LeavesPossible, StandsForPossible}
+use Rattle.xfs_guard.specs.Stored.{LeavesPossible, StandsForPossible}
 use Rattle.xfs_guard.specs.declared.deny.Deny.{Deny}
 use Rattle.xfs_guard.specs.declared.deny.Deny.TheVariants.{Disk, Memory}
 use Rattle.xfs_guard.proofs.StoredLaws.{tells}
@@ -22,15 +21,6 @@ module _ {D : Type 0} (g : Ghosts D) where
   pub leaves-list : (disk : D) (records : List Rec) (in_doubt : Option Rec) → Leaves g disk records → LeavesPossible g disk records in_doubt
   leaves-list disk records in_doubt leaves = on_told (g.held disk) (λ _. (c : List ℕ) → g.images disk c → StandsForPossible records in_doubt c) (λ all told c left.
       (records, inl refl, from_told (g.held disk) (λ _. (c : List ℕ) → g.images disk c → StandsFor c records) leaves all told c left))
-
-  -- the disk was read, and nothing else: it leaves what it left before
-  pub leaves-quiet : (old new : D) (records : List Rec) (in_doubt : Option Rec) → is_some (g.held new) ≡ is_some (g.held old)
-      → IfTold (g.held old) (λ _. IsQuiet g old new) → IsStored g old records in_doubt → LeavesPossible g new records in_doubt
-  leaves-quiet old new records in_doubt same quiet stored = on_told (g.held new) (λ _. (c : List ℕ) → g.images new c → StandsForPossible records in_doubt c) (λ all told c left.
-      let before = tells (g.held old) (sym same ∙ ap is_some told) in
-      let calm = from_told (g.held old) (λ _. IsQuiet g old new) quiet before.0 before.1 in
-      let has = from_told (g.held old) (λ _. (c : List ℕ) → g.images old c → HasPossible records in_doubt c) stored before.0 before.1 c (calm.adds_none c left) in
-      (has.0, has.1, inl has.2))
 
   -- a record is in doubt
   pub leaves-either : (old new : D) (records : List Rec) (r : Rec) → is_some (g.held new) ≡ is_some (g.held old)

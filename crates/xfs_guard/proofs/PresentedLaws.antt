@@ -9,12 +9,12 @@ use Rattle.xfs_guard.specs.Agrees.{keep_last}
 use Rattle.xfs_guard.specs.Presented.{Paid, paid_after, worth_after, presented_in}
 use Rattle.xfs_guard.proofs.AgreesLaws.{last_is}
 
-paid-last : (u : List NoteKind) (c : List ℕ) (s : Paid) (J : List Rec) → (fold (paid_after u c) s J).last ≡ fold keep_last s.last J
+paid-last : (u : List NoteKind) (c : List ℕ) (s : Paid) (records : List Rec) → (fold (paid_after u c) s records).last ≡ fold keep_last s.last records
 paid-last u c s [] = refl
 paid-last u c s (r ∷ rs) = paid-last u c (paid_after u c s r) rs
 
-pub presented_in-push : (u : List NoteKind) (J : List Rec) (r : Rec) (c : List ℕ)
-    → presented_in u (J ++ r ∷ []) c ≡ worth_after u c (record { last = record_at J (length J); worth = presented_in u J c }) r
-presented_in-push u J r c =
-    ap (λ (p : Paid). p.worth) (fold_push (paid_after u c) (record { last = None; worth = 0 }) J r)
-    ∙ ap (λ l. worth_after u c (record { last = l; worth = presented_in u J c }) r) (paid-last u c (record { last = None; worth = 0 }) J ∙ last_is J)
+pub presented_in-push : (u : List NoteKind) (records : List Rec) (r : Rec) (c : List ℕ)
+    → presented_in u (records ++ r ∷ []) c ≡ worth_after u c (record { last = record_at records (length records); worth = presented_in u records c }) r
+presented_in-push u records r c =
+    ap (λ (p : Paid). p.worth) (fold_push (paid_after u c) (record { last = None; worth = 0 }) records r)
+    ∙ ap (λ l. worth_after u c (record { last = l; worth = presented_in u records c }) r) (paid-last u c (record { last = None; worth = 0 }) records ∙ last_is records)

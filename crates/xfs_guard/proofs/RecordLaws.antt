@@ -42,21 +42,21 @@ use Rattle.xfs_guard.proofs.WithinLaws.{Within-record, shown-record, carries-rec
 abbrev pub longer : View → Rec → Option (List (List ℕ × ℕ)) → Open → View
 longer v r b o = record v { records = v.records ++ r ∷ []; bound = b; open_order = o }
 
-pub length-pushed : (J : List Rec) (r : Rec) → length (J ++ r ∷ []) ≡ length J + 1
-length-pushed J r = length-append J (r ∷ [])
+pub length-pushed : (records : List Rec) (r : Rec) → length (records ++ r ∷ []) ≡ length records + 1
+length-pushed records r = length-append records (r ∷ [])
 
-pub last-pushed : (J : List Rec) (r : Rec) → record_at (J ++ r ∷ []) (length (J ++ r ∷ [])) ≡ Some r
-last-pushed J r = rw length-pushed (record_at-pushed J r)
+pub last-pushed : (records : List Rec) (r : Rec) → record_at (records ++ r ∷ []) (length (records ++ r ∷ [])) ≡ Some r
+last-pushed records r = rw length-pushed (record_at-pushed records r)
 
-Ties-record : (v : View) (r : Rec) (w : Option (List (List ℕ × ℕ))) (o : Open) (L : List Motion) → Ties v L → MayFollow (record_at v.records (length v.records)) r
-    → ((k : Kind) (c m d : Counts) → record_at v.records (length v.records) ≡ Some (Order k c) → r ≡ Done m d → Contains L (Moved (length v.records) k m d))
-    → ((p : ℕ) (c : List ℕ) → live_of (v.records ++ r ∷ []) ≡ Some p → shown v.units v.records L p c ≡ presented_in v.units (v.records ++ r ∷ []) c + unsettled v.units o c)
-    → HasActed o (v.records ++ r ∷ []) L → Ties (longer v r w o) L
-Ties-record v r w o L t may done counted acted =
-    let known = numbers_within v.records L t.agrees in record {
-      agrees = Agrees-record v.records r L t.agrees may done;
-      within = Within-record v.key v.units v.records r L known t.within;
-      counted = λ p c lives. shown-record v.units v.records r p c L known ∙ counted p c lives;
+Ties-record : (v : View) (r : Rec) (w : Option (List (List ℕ × ℕ))) (o : Open) (motions : List Motion) → Ties v motions → MayFollow (record_at v.records (length v.records)) r
+    → ((k : Kind) (c m d : Counts) → record_at v.records (length v.records) ≡ Some (Order k c) → r ≡ Done m d → Contains motions (Moved (length v.records) k m d))
+    → ((p : ℕ) (c : List ℕ) → live_of (v.records ++ r ∷ []) ≡ Some p → shown v.units v.records motions p c ≡ presented_in v.units (v.records ++ r ∷ []) c + unsettled v.units o c)
+    → HasActed o (v.records ++ r ∷ []) motions → Ties (longer v r w o) motions
+Ties-record v r w o motions t may done counted acted =
+    let known = numbers_within v.records motions t.agrees in record {
+      agrees = Agrees-record v.records r motions t.agrees may done;
+      within = Within-record v.key v.units v.records r motions known t.within;
+      counted = λ p c lives. shown-record v.units v.records r p c motions known ∙ counted p c lives;
       acted = acted;
     }
 
@@ -94,9 +94,9 @@ IsSound-order v k c s none lies released funded = record {
 
     ties : (told : Option (List Motion)) → IfTold told (Ties v) → IfTold told (Ties (longer v (Order k c) v.bound (Written k c)))
     ties None t = tt
-    ties (Some L) t = Ties-record v (Order k c) v.bound (Written k c) L t before (λ k' c' m' d o e. cc)
+    ties (Some motions) t = Ties-record v (Order k c) v.bound (Written k c) motions t before (λ k' c' m' d o e. cc)
         (λ p cur lives. let was = rw none at (t.counted p cur (live p lives)) in was ∙ ap (λ n. n + 0) (sym (presented_in-push v.units v.records (Order k c) cur)))
-        (rw length-pushed (all-numbers (λ n. n ≤ length v.records) (λ n. n < length v.records + 1) L (λ n le. omega arith) (numbers_within v.records L t.agrees)))
+        (rw length-pushed (all-numbers (λ n. n ≤ length v.records) (λ n. n < length v.records + 1) motions (λ n le. omega arith) (numbers_within v.records motions t.agrees)))
 
 -- the worth of a done record is that of the order's motion
 done_worth-settles : (u : List NoteKind) (cur : List ℕ) (last : Option Rec) (k : Kind) (c m d : Counts) (failed : Bool) → last ≡ Some (Order k c)
@@ -110,7 +110,7 @@ done_worth-settles u cur last Retract c m d failed e = rw e refl
 unsettled-unbound : (v : View) (k : Kind) (m d : Counts) (failed : Bool) (p : ℕ) (cur : List ℕ) → IfPresent k (IsReleased v.records) → live_of v.records ≡ Some p → token_of v.records p ≡ None
     → unsettled v.units (Acted k m d failed) cur ≡ 0
 unsettled-unbound v Present m d failed p cur r lives free =
-    let same : r.place ≡ p = (let e : Some r.place ≡ Some p = sym r.lives ∙ lives in cc) in
+    let same : r.number ≡ p = (let e : Some r.number ≡ Some p = sym r.lives ∙ lives in cc) in
     let none : Some r.bytes ≡ None = sym r.bound ∙ rw same free in
     cc
 unsettled-unbound v Stack m d failed p cur r lives free = refl
@@ -151,9 +151,9 @@ IsSound-done v k m d failed s acted = record {
     worth cur = presented_in-push v.units v.records (Done m d) cur
         ∙ ap (λ n. presented_in v.units v.records cur + n) (done_worth-settles v.units cur (record_at v.records (length v.records)) k stands.0 m d failed stands.1)
 
-    moved : (L : List Motion) → Ties v L → (k' : Kind) (c' m' d' : Counts) → record_at v.records (length v.records) ≡ Some (Order k' c') → Done m d ≡ Done m' d' → Contains L (Moved (length v.records) k' m' d')
-    moved L t k' c' m' d' o e =
-        let mine : Contains L (Moved (length v.records) k m d) = rw acted at t.acted in
+    moved : (motions : List Motion) → Ties v motions → (k' : Kind) (c' m' d' : Counts) → record_at v.records (length v.records) ≡ Some (Order k' c') → Done m d ≡ Done m' d' → Contains motions (Moved (length v.records) k' m' d')
+    moved motions t k' c' m' d' o e =
+        let mine : Contains motions (Moved (length v.records) k m d) = rw acted at t.acted in
         let same : Some (Order k stands.0) ≡ Some (Order k' c') = sym stands.1 ∙ o in
         let kinds : k ≡ k' = cc in
         let ms : m ≡ m' = cc in
@@ -165,7 +165,7 @@ IsSound-done v k m d failed s acted = record {
 
     ties : (told : Option (List Motion)) → IfTold told (Ties v) → IfTold told (Ties (longer v (Done m d) v.bound No))
     ties None t = tt
-    ties (Some L) t = Ties-record v (Done m d) v.bound No L t may (moved L t)
+    ties (Some motions) t = Ties-record v (Done m d) v.bound No motions t may (moved motions t)
         (λ p cur lives. let was = rw acted at (t.counted p cur (live p lives)) in let e = worth cur in omega (arith, was, e))
         tt
 
@@ -188,26 +188,26 @@ lives-step count l (Order k c) h = lives-later count l h
 lives-step count l (Done m d) h = lives-later count l h
 lives-step count l (Load u n) h = lives-later count l h
 
-lives-from : (s : Reading) (J : List Rec) → LivesWithin s.count s.live → LivesWithin (s.count + length J) (fold reading_after s J).live
+lives-from : (s : Reading) (records : List Rec) → LivesWithin s.count s.live → LivesWithin (s.count + length records) (fold reading_after s records).live
 lives-from s [] h = rw add-zero h
 lives-from s (r ∷ rs) h = let e : s.count + suc (length rs) ≡ s.count + 1 + length rs = omega arith in rw e (lives-from (reading_after s r) rs (lives-step s.count s.live r h))
 
-pub lives-within : (J : List Rec) → LivesWithin (length J) (live_of J)
-lives-within J = rw zero-add at (lives-from nothing_read J tt)
+pub lives-within : (records : List Rec) → LivesWithin (length records) (live_of records)
+lives-within records = rw zero-add at (lives-from nothing_read records tt)
 
 is_place-no : (l : Option ℕ) (count p : ℕ) → LivesWithin count l → count < p → is_place p l ≡ false
 is_place-no None count p h lt = refl
 is_place-no (Some q) count p h lt = eqb-no q p (omega arith)
 
 -- nothing was put out for an issue that is yet to come
-pub shown-before : (u : List NoteKind) (J : List Rec) (p : ℕ) (cur : List ℕ) (L : List Motion) → length J < p → shown u J L p cur ≡ 0
-shown-before u J p cur [] lt = refl
-shown-before u J p cur (m ∷ ms) lt = rw (sum_by-cons, none m, shown-before u J p cur ms lt) refl
+pub shown-before : (u : List NoteKind) (records : List Rec) (p : ℕ) (cur : List ℕ) (motions : List Motion) → length records < p → shown u records motions p cur ≡ 0
+shown-before u records p cur [] lt = refl
+shown-before u records p cur (m ∷ ms) lt = rw (sum_by-cons, none m, shown-before u records p cur ms lt) refl
   where
-    none : (m : Motion) → shown_by u J p cur m ≡ 0
+    none : (m : Motion) → shown_by u records p cur m ≡ 0
     none (Moved n Present moved d) =
-        let few : length (take (n - 1) J) ≤ length J = omega (arith, length-take (n - 1) J) in
-        rw (is_place-no (live_at J n) (length (take (n - 1) J)) p (lives-within (take (n - 1) J)) (omega arith)) refl
+        let few : length (take (n - 1) records) ≤ length records = omega (arith, length-take (n - 1) records) in
+        rw (is_place-no (live_at records n) (length (take (n - 1) records)) p (lives-within (take (n - 1) records)) (omega arith)) refl
     none (Moved n Stack moved d) = refl
     none (Moved n Reject moved d) = refl
     none (Moved n Retract moved d) = refl
@@ -220,15 +220,15 @@ IsSound-issue v number word s none is = record {
   numbered = λ told. Walk-push next_number CarriesNumber 1 v.records (Issue number word) (s.numbered told) is;
   stands = rw last-pushed tt;
   budget = record {
-    funded = λ p b lives bound. absurd (free p b (place p lives) bound);
+    funded = λ p b lives bound. absurd (free p b (issued p lives) bound);
     unbound = λ p lives free. (refl, λ cur. presented_in-push v.units v.records (Issue number word) cur);
     dead = λ dead. refl;
   };
   told = ties (where_told v.disk_told v.motions) s.told;
 }
   where
-    place : (p : ℕ) → live_of (v.records ++ Issue number word ∷ []) ≡ Some p → length v.records + 1 ≡ p
-    place p lives = let e : Some (length v.records + 1) ≡ Some p = sym (live_of-push v.records (Issue number word)) ∙ lives in cc
+    issued : (p : ℕ) → live_of (v.records ++ Issue number word ∷ []) ≡ Some p → length v.records + 1 ≡ p
+    issued p lives = let e : Some (length v.records + 1) ≡ Some p = sym (live_of-push v.records (Issue number word)) ∙ lives in cc
 
     free : (p : ℕ) (b : List ℕ) → length v.records + 1 ≡ p → token_of (v.records ++ Issue number word ∷ []) p ≡ Some b → ⊥
     free p b e bound =
@@ -240,10 +240,10 @@ IsSound-issue v number word s none is = record {
 
     ties : (told : Option (List Motion)) → IfTold told (Ties v) → IfTold told (Ties (longer v (Issue number word) None No))
     ties None t = tt
-    ties (Some L) t = Ties-record v (Issue number word) None No L t before (λ k' c' m' d' o e. cc)
+    ties (Some motions) t = Ties-record v (Issue number word) None No motions t before (λ k' c' m' d' o e. cc)
         (λ p cur lives.
-        let e = place p lives in
-        let z = shown-before v.units v.records p cur L (omega arith) in
+        let e = issued p lives in
+        let z = shown-before v.units v.records p cur motions (omega arith) in
         let w = presented_in-push v.units v.records (Issue number word) cur in omega (arith, z, w))
         tt
 
@@ -269,7 +269,7 @@ sound-end v r s none numbers dies plain may other = record {
 
     ties : (told : Option (List Motion)) → IfTold told (Ties v) → IfTold told (Ties (longer v r None No))
     ties None t = tt
-    ties (Some L) t = Ties-record v r None No L t (may _ before) (λ k' c' m' d' o e. absurd (other m' d' e)) (λ p cur lives. absurd (gone p lives)) tt
+    ties (Some motions) t = Ties-record v r None No motions t (may _ before) (λ k' c' m' d' o e. absurd (other m' d' e)) (λ p cur lives. absurd (gone p lives)) tt
 
 -- the live nonce is cleared, or its life is over
 pub IsSound-end : (v : View) (r : Rec) → Ends r → IsSound v → v.open_order ≡ No → IsSound (longer v r None No)
@@ -301,12 +301,12 @@ pub ends-number : (r : Rec) → Ends r → (k : ℕ) → next_number k r ≡ k
 ends-number r (inl is) k = rw is refl
 ends-number r (inr is) k = rw is refl
 
-pub ends-dead : (J : List Rec) (r : Rec) → Ends r → live_nonce (J ++ r ∷ []) ≡ None
-ends-dead J r ends = rw (live_of-push, ends-live r ends (length J) (live_of J)) refl
+pub ends-dead : (records : List Rec) (r : Rec) → Ends r → live_nonce (records ++ r ∷ []) ≡ None
+ends-dead records r ends = rw (live_of-push, ends-live r ends (length records) (live_of records)) refl
 
 -- where no token is bound there is no Bind
-no-binding : (J : List Rec) (p : ℕ) → token_of J p ≡ None → binding_of J p ≡ None
-no-binding J p e = of (binding_of J p) e
+no-binding : (records : List Rec) (p : ℕ) → token_of records p ≡ None → binding_of records p ≡ None
+no-binding records p e = of (binding_of records p) e
   where
     of : (o : Option Binding) → option_map (λ (b : Binding). b.token) o ≡ None → o ≡ None
     of None h = refl
@@ -358,7 +358,7 @@ IsSound-bind v p b t amounts s none lives unbound carries are enough = record {
 
     ties : (told : Option (List Motion)) → IfTold told (Ties v) → IfTold told (Ties (longer v (Bind b) (Some amounts) No))
     ties None u = tt
-    ties (Some L) u = Ties-record v (Bind b) (Some amounts) No L u before (λ k' c' m' d' o e. cc)
+    ties (Some motions) u = Ties-record v (Bind b) (Some amounts) No motions u before (λ k' c' m' d' o e. cc)
         (λ q cur l. let was = rw none at (u.counted q cur (live q l)) in let w = presented_in-push v.units v.records (Bind b) cur in omega (arith, was, w))
         tt
 
@@ -393,16 +393,16 @@ IsSound-load v unit count s none = record {
 
     ties : (told : Option (List Motion)) → IfTold told (Ties v) → IfTold told (Ties (longer v (Load unit count) v.bound No))
     ties None t = tt
-    ties (Some L) t = Ties-record v (Load unit count) v.bound No L t before (λ k' c' m' d' o e. cc)
+    ties (Some motions) t = Ties-record v (Load unit count) v.bound No motions t before (λ k' c' m' d' o e. cc)
         (λ p cur lives. let was = rw none at (t.counted p cur (live p lives)) in let e = presented_in-push v.units v.records (Load unit count) cur in omega (arith, was, e))
         tt
 
 -- what an order to present wants of the journal before it
-pub released-order : (J : List Rec) (c : Counts) (p : ℕ) (b : List ℕ) → live_of J ≡ Some p → token_of J p ≡ Some b → IsReleased (J ++ Order Present c ∷ [])
-released-order J c p b lives bound = record {
-  place = p;
+pub released-order : (records : List Rec) (c : Counts) (p : ℕ) (b : List ℕ) → live_of records ≡ Some p → token_of records p ≡ Some b → IsReleased (records ++ Order Present c ∷ [])
+released-order records c p b lives bound = record {
+  number = p;
   bytes = b;
-  before = rw length-pushed (live_at-pushed J (Order Present c) ∙ lives);
-  lives = live_of-push J (Order Present c) ∙ lives;
-  bound = token_of-push J (Order Present c) p ∙ bound;
+  before = rw length-pushed (live_at-pushed records (Order Present c) ∙ lives);
+  lives = live_of-push records (Order Present c) ∙ lives;
+  bound = token_of-push records (Order Present c) p ∙ bound;
 }

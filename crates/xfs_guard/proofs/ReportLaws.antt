@@ -46,14 +46,14 @@ IsReport (Loaded u n) = ⊤
 
 -- where an order that is written takes its notes, there are no fewer
 abbrev pub LeavesSource : Open → Places → Places → Type 0
-LeavesSource o P Q = (k : Kind) → kind_unacted o ≡ Some k → LiesIn (source_of k P) (source_of k Q)
+LeavesSource o places places' = (k : Kind) → kind_unacted o ≡ Some k → LiesIn (source_of k places) (source_of k places')
 
-stands-report : (o : Open) (J : List Rec) (P Q : Places) → LeavesSource o P Q → OpenIsNewest o J P → OpenIsNewest o J Q
-stands-report No J P Q leaves s = s
-stands-report (Written k c) J P Q leaves s = (s.0, λ u. omega (arith, s.1 u, leaves k refl u), s.2)
-stands-report (Acted k m d failed) J P Q leaves s = s
+stands-report : (o : Open) (records : List Rec) (places places' : Places) → LeavesSource o places places' → OpenIsNewest o records places → OpenIsNewest o records places'
+stands-report No records places places' leaves s = s
+stands-report (Written k c) records places places' leaves s = (s.0, λ u. omega (arith, s.1 u, leaves k refl u), s.2)
+stands-report (Acted k m d failed) records places places' leaves s = s
 
-rises-report : (low : ℕ) (L : List Motion) (e : Motion) → IsReport e → RisesFrom low L → RisesFrom low (L ++ e ∷ [])
+rises-report : (low : ℕ) (motions : List Motion) (e : Motion) → IsReport e → RisesFrom low motions → RisesFrom low (motions ++ e ∷ [])
 rises-report low [] (Moved n k m d) is r = absurd is
 rises-report low [] (Taken c) is r = tt
 rises-report low [] (Loaded u n) is r = tt
@@ -61,48 +61,48 @@ rises-report low (Moved i k m d ∷ ms) e is r = (r.0, rises-report i ms e is r.
 rises-report low (Taken c ∷ ms) e is r = rises-report low ms e is r
 rises-report low (Loaded u n ∷ ms) e is r = rises-report low ms e is r
 
-asked-report : (J : List Rec) (e : Motion) → IsReport e → IsAsked J e
-asked-report J (Moved n k m d) is = absurd is
-asked-report J (Taken c) is = tt
-asked-report J (Loaded u n) is = tt
+asked-report : (records : List Rec) (e : Motion) → IsReport e → IsAsked records e
+asked-report records (Moved n k m d) is = absurd is
+asked-report records (Taken c) is = tt
+asked-report records (Loaded u n) is = tt
 
-pub Agrees-report : (J : List Rec) (L : List Motion) (e : Motion) → IsReport e → Agrees J L → Agrees J (L ++ e ∷ [])
-Agrees-report J L e is a = record {
-  rising = rises-report 0 L e is a.rising;
-  asked = all-append (IsAsked J) L (e ∷ []) a.asked (asked-report J e is, tt);
+pub Agrees-report : (records : List Rec) (motions : List Motion) (e : Motion) → IsReport e → Agrees records motions → Agrees records (motions ++ e ∷ [])
+Agrees-report records motions e is a = record {
+  rising = rises-report 0 motions e is a.rising;
+  asked = all-append (IsAsked records) motions (e ∷ []) a.asked (asked-report records e is, tt);
   shape = a.shape;
-  done = λ n k c m d o done. Contains-append_left L (e ∷ []) (Moved n k m d) (a.done n k c m d o done);
+  done = λ n k c m d o done. Contains-append_left motions (e ∷ []) (Moved n k m d) (a.done n k c m d o done);
 }
 
 -- a report puts nothing out
-shown_by-report : (u : List NoteKind) (J : List Rec) (p : ℕ) (c : List ℕ) (e : Motion) → IsReport e → shown_by u J p c e ≡ 0
-shown_by-report u J p c (Moved n k m d) is = absurd is
-shown_by-report u J p c (Taken x) is = refl
-shown_by-report u J p c (Loaded i n) is = refl
+shown_by-report : (u : List NoteKind) (records : List Rec) (p : ℕ) (c : List ℕ) (e : Motion) → IsReport e → shown_by u records p c e ≡ 0
+shown_by-report u records p c (Moved n k m d) is = absurd is
+shown_by-report u records p c (Taken x) is = refl
+shown_by-report u records p c (Loaded i n) is = refl
 
-within-report : (key : List ℕ) (u : List NoteKind) (J : List Rec) (L : List Motion) (e : Motion) → IsReport e → IsWithin key u J L e
-within-report key u J L (Moved n k m d) is = absurd is
-within-report key u J L (Taken x) is = tt
-within-report key u J L (Loaded i n) is = tt
+within-report : (key : List ℕ) (u : List NoteKind) (records : List Rec) (motions : List Motion) (e : Motion) → IsReport e → IsWithin key u records motions e
+within-report key u records motions (Moved n k m d) is = absurd is
+within-report key u records motions (Taken x) is = tt
+within-report key u records motions (Loaded i n) is = tt
 
-number-report : (P : ℕ → Type 0) (e : Motion) → IsReport e → NumberIs P e
-number-report P (Moved n k m d) is = absurd is
-number-report P (Taken x) is = tt
-number-report P (Loaded i n) is = tt
+number-report : (Holds : ℕ → Type 0) (e : Motion) → IsReport e → NumberIs Holds e
+number-report Holds (Moved n k m d) is = absurd is
+number-report Holds (Taken x) is = tt
+number-report Holds (Loaded i n) is = tt
 
-acted-report : (o : Open) (J : List Rec) (L : List Motion) (e : Motion) → IsReport e → HasActed o J L → HasActed o J (L ++ e ∷ [])
-acted-report No J L e is h = tt
-acted-report (Written k c) J L e is h = all-append (NumberIs (λ n. n < length J)) L (e ∷ []) h (number-report (λ n. n < length J) e is, tt)
-acted-report (Acted k m d failed) J L e is h = Contains-append_left L (e ∷ []) (Moved (length J) k m d) h
+acted-report : (o : Open) (records : List Rec) (motions : List Motion) (e : Motion) → IsReport e → HasActed o records motions → HasActed o records (motions ++ e ∷ [])
+acted-report No records motions e is h = tt
+acted-report (Written k c) records motions e is h = all-append (NumberIs (λ n. n < length records)) motions (e ∷ []) h (number-report (λ n. n < length records) e is, tt)
+acted-report (Acted k m d failed) records motions e is h = Contains-append_left motions (e ∷ []) (Moved (length records) k m d) h
 
 -- a report leaves the transport
-transport-report : (P Q : Places) (e : Motion) → IsReport e → PlacesOf P (e ∷ []) Q → (u : ℕ) → at Q.transport u ≡ at P.transport u
-transport-report P Q (Moved n k m d) is places u = absurd is
-transport-report P Q (Taken c) is places u = omega (arith, places.transport u)
-transport-report P Q (Loaded i n) is places u = omega (arith, places.transport u)
+transport-report : (was now : Places) (e : Motion) → IsReport e → PlacesOf was (e ∷ []) now → (u : ℕ) → at now.transport u ≡ at was.transport u
+transport-report was now (Moved n k m d) is places u = absurd is
+transport-report was now (Taken c) is places u = omega (arith, places.transport u)
+transport-report was now (Loaded i n) is places u = omega (arith, places.transport u)
 
-budget-report : (v : View) (now : Option (List Motion)) (Q : Places) (f : ℕ) (l : Counts) → ((u : ℕ) → at Q.transport u ≡ at v.places.transport u) → Budget v → Budget (reported_view v now Q f l)
-budget-report v now Q f l same budget = record {
+budget-report : (v : View) (now : Option (List Motion)) (places' : Places) (f : ℕ) (l : Counts) → ((u : ℕ) → at places'.transport u ≡ at v.places.transport u) → Budget v → Budget (reported_view v now places' f l)
+budget-report v now places' f l same budget = record {
   funded = λ p b lives bound.
       let old = budget.funded p b lives bound in record {
         token = old.token;
@@ -111,7 +111,7 @@ budget-report v now Q f l same budget = record {
         amounts_are = old.amounts_are;
         kept = old.kept;
         enough = λ cur.
-            let fewer = value_from-le v.units 0 Q.transport.0 v.places.transport.0 cur (λ i. omega (arith, same i)) in
+            let fewer = value_from-le v.units 0 places'.transport.0 v.places.transport.0 cur (λ i. omega (arith, same i)) in
             omega (arith, fewer, old.enough cur);
       };
   unbound = budget.unbound;
@@ -119,35 +119,35 @@ budget-report v now Q f l same budget = record {
 }
 
 -- what the mechanism tells, once its list is this one
-ties-same : (v : View) (now : Option (List Motion)) (Q : Places) (f : ℕ) (l : Counts) (L : List Motion) → Ties v L → Ties (reported_view v now Q f l) L
-ties-same v now Q f l L t = record { agrees = t.agrees; within = t.within; counted = t.counted; acted = t.acted }
+ties-same : (v : View) (now : Option (List Motion)) (places' : Places) (f : ℕ) (l : Counts) (motions : List Motion) → Ties v motions → Ties (reported_view v now places' f l) motions
+ties-same v now places' f l motions t = record { agrees = t.agrees; within = t.within; counted = t.counted; acted = t.acted }
 
-ties-report : (v : View) (now : Option (List Motion)) (Q : Places) (f : ℕ) (l : Counts) (L : List Motion) (e : Motion) → IsReport e → Ties v L → Ties (reported_view v now Q f l) (L ++ e ∷ [])
-ties-report v now Q f l L e is t = record {
-  agrees = Agrees-report v.records L e is t.agrees;
-  within = Within-quiet v.key v.units v.records L e (λ p cur. shown_by-report v.units v.records p cur e is) (within-report v.key v.units v.records (L ++ e ∷ []) e is) t.within;
+ties-report : (v : View) (now : Option (List Motion)) (places' : Places) (f : ℕ) (l : Counts) (motions : List Motion) (e : Motion) → IsReport e → Ties v motions → Ties (reported_view v now places' f l) (motions ++ e ∷ [])
+ties-report v now places' f l motions e is t = record {
+  agrees = Agrees-report v.records motions e is t.agrees;
+  within = Within-quiet v.key v.units v.records motions e (λ p cur. shown_by-report v.units v.records p cur e is) (within-report v.key v.units v.records (motions ++ e ∷ []) e is) t.within;
   counted = λ p cur lives.
-      let more = shown-motion v.units v.records p cur L e in
+      let more = shown-motion v.units v.records p cur motions e in
       let none = shown_by-report v.units v.records p cur e is in
       omega (arith, more, none, t.counted p cur lives);
-  acted = acted-report v.open_order v.records L e is t.acted;
+  acted = acted-report v.open_order v.records motions e is t.acted;
 }
 
-told-same : (v : View) (now : Option (List Motion)) (Q : Places) (f : ℕ) (l : Counts) (told : Option (List Motion)) → IfTold told (Ties v) → IfTold told (Ties (reported_view v now Q f l))
-told-same v now Q f l None t = tt
-told-same v now Q f l (Some L) t = ties-same v now Q f l L t
+told-same : (v : View) (now : Option (List Motion)) (places' : Places) (f : ℕ) (l : Counts) (told : Option (List Motion)) → IfTold told (Ties v) → IfTold told (Ties (reported_view v now places' f l))
+told-same v now places' f l None t = tt
+told-same v now places' f l (Some motions) t = ties-same v now places' f l motions t
 
-told-report : (v : View) (now was is : Option (List Motion)) (Q : Places) (f : ℕ) (l : Counts) (e : Motion) → IsReport e → IfTold was (Ties v) → AddsEntry was e is → IfTold is (Ties (reported_view v now Q f l))
-told-report v now None is Q f l e of t grows = rw grows tt
-told-report v now (Some L) is Q f l e of t grows = rw grows (ties-report v now Q f l L e of t)
+told-report : (v : View) (now was is : Option (List Motion)) (places' : Places) (f : ℕ) (l : Counts) (e : Motion) → IsReport e → IfTold was (Ties v) → AddsEntry was e is → IfTold is (Ties (reported_view v now places' f l))
+told-report v now None is places' f l e of t grows = rw grows tt
+told-report v now (Some motions) is places' f l e of t grows = rw grows (ties-report v now places' f l motions e of t)
 
-sound-entry : (v : View) (e : Motion) (now : Option (List Motion)) (Q : Places) (f : ℕ) (l : Counts) → IsSound v → IsReport e → AddsEntry v.motions e now → PlacesOf v.places (e ∷ []) Q → LeavesSource v.open_order v.places Q
-    → IsSound (reported_view v now Q f l)
-sound-entry v e now Q f l s is grows places leaves = record {
+sound-entry : (v : View) (e : Motion) (now : Option (List Motion)) (places' : Places) (f : ℕ) (l : Counts) → IsSound v → IsReport e → AddsEntry v.motions e now → PlacesOf v.places (e ∷ []) places' → LeavesSource v.open_order v.places places'
+    → IsSound (reported_view v now places' f l)
+sound-entry v e now places' f l s is grows places leaves = record {
   numbered = s.numbered;
-  stands = stands-report v.open_order v.records v.places Q leaves s.stands;
-  budget = budget-report v now Q f l (transport-report v.places Q e is places) s.budget;
-  told = told-report v now (where_told v.disk_told v.motions) (where_told v.disk_told now) Q f l e is s.told (grows-told v.disk_told v.motions now e grows);
+  stands = stands-report v.open_order v.records v.places places' leaves s.stands;
+  budget = budget-report v now places' f l (transport-report v.places places' e is places) s.budget;
+  told = told-report v now (where_told v.disk_told v.motions) (where_told v.disk_told now) places' f l e is s.told (grows-told v.disk_told v.motions now e grows);
 }
 
 sound-failed : (v : View) (f : ℕ) (l : Counts) → IsSound v → IsSound (reported_view v v.motions v.places f l)
@@ -159,17 +159,17 @@ sound-failed v f l s = record {
 }
 
 -- a report keeps what the guard keeps
-pub IsSound-report : (v : View) (e : Motion) (m d : Counts) (failed : Bool) (now : Option (List Motion)) (Q : Places) (f : ℕ) (l : Counts) (spare left : ℕ) → IsSound v → IsReport e
-    → Reports e m d failed v.motions now v.places Q spare left → (PlacesOf v.places (e ∷ []) Q → LeavesSource v.open_order v.places Q) → IsSound (reported_view v now Q f l)
-IsSound-report v e m d false now Q f l spare left s is r leaves = sound-entry v e now Q f l s is (r.grown refl) (r.places refl) (leaves (r.places refl))
-IsSound-report v e m d true now Q f l spare left s is r leaves = let none = r.nothing refl in rw (none.0, none.1) (sound-failed v f l s)
+pub IsSound-report : (v : View) (e : Motion) (m d : Counts) (failed : Bool) (now : Option (List Motion)) (places' : Places) (f : ℕ) (l : Counts) (spare left : ℕ) → IsSound v → IsReport e
+    → Reports e m d failed v.motions now v.places places' spare left → (PlacesOf v.places (e ∷ []) places' → LeavesSource v.open_order v.places places') → IsSound (reported_view v now places' f l)
+IsSound-report v e m d false now places' f l spare left s is r leaves = sound-entry v e now places' f l s is (r.grown refl) (r.places refl) (leaves (r.places refl))
+IsSound-report v e m d true now places' f l spare left s is r leaves = let none = r.nothing refl in rw (none.0, none.1) (sound-failed v f l s)
 
 -- room is left for what an open order still adds
-pub HasRoom-report : (o : Open) (e : Motion) (m d : Counts) (failed : Bool) (was now : Option (List Motion)) (P Q : Places) (before spare left room : ℕ) → HasRoom o before room → before < spare
-    → Reports e m d failed was now P Q spare left → HasRoom o left room
-HasRoom-report o e m d failed was now P Q before spare left room h more r = go o (enough failed r) h
+pub HasRoom-report : (o : Open) (e : Motion) (m d : Counts) (failed : Bool) (was now : Option (List Motion)) (places places' : Places) (before spare left room : ℕ) → HasRoom o before room → before < spare
+    → Reports e m d failed was now places places' spare left → HasRoom o left room
+HasRoom-report o e m d failed was now places places' before spare left room h more r = go o (enough failed r) h
   where
-    enough : (failed : Bool) → Reports e m d failed was now P Q spare left → before ≤ left
+    enough : (failed : Bool) → Reports e m d failed was now places places' spare left → before ≤ left
     enough false r = let one = r.room refl in omega (arith, one, more)
     enough true r = let same = (r.nothing refl).2 in omega (arith, same, more)
 
@@ -179,59 +179,59 @@ HasRoom-report o e m d failed was now P Q before spare left room h more r = go o
     go (Acted k m d failed) le h = h
 
 -- what follows after a report, also behind a record in doubt
-pub Continues-report : (v : View) (e : Motion) (m d : Counts) (failed : Bool) (now : Option (List Motion)) (Q : Places) (f : ℕ) (l : Counts) (spare left : ℕ) → IsReport e
-    → Reports e m d failed v.motions now v.places Q spare left → Continues v (reported_view v now Q f l)
-Continues-report v e m d true now Q f l spare left is r = let none = r.nothing refl in rw (none.0, none.1) (record { leads = λ J possible. record { from = J; possible = possible; led = leads-same v.motions J v.places }; key = refl; seed = refl; units = refl; moves = Moves-same v.motions v.places; disk_told = refl; limits = refl; grew = begins-same v.records; left = λ J was. was })
-Continues-report v e m d false now Q f l spare left is r = record {
-  leads = λ J possible. record {
-    from = J;
+pub Continues-report : (v : View) (e : Motion) (m d : Counts) (failed : Bool) (now : Option (List Motion)) (places' : Places) (f : ℕ) (l : Counts) (spare left : ℕ) → IsReport e
+    → Reports e m d failed v.motions now v.places places' spare left → Continues v (reported_view v now places' f l)
+Continues-report v e m d true now places' f l spare left is r = let none = r.nothing refl in rw (none.0, none.1) (record { leads = λ records possible. record { from = records; possible = possible; led = leads-same v.motions records v.places }; key = refl; seed = refl; units = refl; moves = Moves-same v.motions v.places; disk_told = refl; limits = refl; grew = begins-same v.records; left = λ records was. was })
+Continues-report v e m d false now places' f l spare left is r = record {
+  leads = λ records possible. record {
+    from = records;
     possible = possible;
-    led = leads-motion v.motions now J e v.places Q (r.grown refl) (number-report (λ n. n ≤ length J) e is) (number-report (λ n. length J ≤ n) e is) (r.places refl);
+    led = leads-motion v.motions now records e v.places places' (r.grown refl) (number-report (λ n. n ≤ length records) e is) (number-report (λ n. length records ≤ n) e is) (r.places refl);
   };
   key = refl;
   seed = refl;
   units = refl;
-  moves = Moves-entry e v.motions now v.places Q (r.grown refl) (r.places refl);
+  moves = Moves-entry e v.motions now v.places places' (r.grown refl) (r.places refl);
   disk_told = refl;
   limits = refl;
   grew = begins-same v.records;
-  left = λ J was. was;
+  left = λ records was. was;
 }
 
 -- a taking leaves what an order takes, where that is no retract
-pub taken-leaves : (o : Open) (c : Counts) (P Q : Places) → kind_unacted o ≢ Some Retract → PlacesOf P (Taken c ∷ []) Q → LeavesSource o P Q
-taken-leaves o c P Q other places Stack is u = omega (arith, places.units u)
-taken-leaves o c P Q other places Present is u = omega (arith, places.transport u)
-taken-leaves o c P Q other places Reject is u = omega (arith, places.transport u)
-taken-leaves o c P Q other places Retract is u = absurd (other is)
+pub taken-leaves : (o : Open) (c : Counts) (was now : Places) → kind_unacted o ≢ Some Retract → PlacesOf was (Taken c ∷ []) now → LeavesSource o was now
+taken-leaves o c was now other places Stack is u = omega (arith, places.units u)
+taken-leaves o c was now other places Present is u = omega (arith, places.transport u)
+taken-leaves o c was now other places Reject is u = omega (arith, places.transport u)
+taken-leaves o c was now other places Retract is u = absurd (other is)
 
 -- a loading leaves what any order takes
-pub loaded-leaves : (o : Open) (unit count : ℕ) (P Q : Places) → PlacesOf P (Loaded unit count ∷ []) Q → LeavesSource o P Q
-loaded-leaves o unit count P Q places Stack is u = omega (arith, places.units u)
-loaded-leaves o unit count P Q places Present is u = omega (arith, places.transport u)
-loaded-leaves o unit count P Q places Reject is u = omega (arith, places.transport u)
-loaded-leaves o unit count P Q places Retract is u = omega (arith, places.outlet u)
+pub loaded-leaves : (o : Open) (unit count : ℕ) (was now : Places) → PlacesOf was (Loaded unit count ∷ []) now → LeavesSource o was now
+loaded-leaves o unit count was now places Stack is u = omega (arith, places.units u)
+loaded-leaves o unit count was now places Present is u = omega (arith, places.transport u)
+loaded-leaves o unit count was now places Reject is u = omega (arith, places.transport u)
+loaded-leaves o unit count was now places Retract is u = omega (arith, places.outlet u)
 
 -- a list of records agrees with what the mechanism did, also with an entry more that no order asked for
-pub IsRecorded-entry : (key : List ℕ) (u : List NoteKind) (J : List Rec) (e : Motion) (was now : Option (List Motion)) → IsReport e → AddsEntry was e now → IsRecorded key u J was → IsRecorded key u J now
-IsRecorded-entry key u J e was now is g h = record { numbered = h.numbered; agrees = agrees was h.agrees g; within = within was h.within g }
+pub IsRecorded-entry : (key : List ℕ) (u : List NoteKind) (kept : List Rec) (e : Motion) (was now : Option (List Motion)) → IsReport e → AddsEntry was e now → IsRecorded key u kept was → IsRecorded key u kept now
+IsRecorded-entry key u kept e was now is g h = record { numbered = h.numbered; agrees = agrees was h.agrees g; within = within was h.within g }
   where
-    agrees : (was : Option (List Motion)) → IfTold was (Agrees J) → AddsEntry was e now → IfTold now (Agrees J)
+    agrees : (was : Option (List Motion)) → IfTold was (Agrees kept) → AddsEntry was e now → IfTold now (Agrees kept)
     agrees None a g = rw g tt
-    agrees (Some L) a g = rw g (Agrees-report J L e is a)
+    agrees (Some motions) a g = rw g (Agrees-report kept motions e is a)
 
-    within : (was : Option (List Motion)) → IfTold was (Within key u J) → AddsEntry was e now → IfTold now (Within key u J)
+    within : (was : Option (List Motion)) → IfTold was (Within key u kept) → AddsEntry was e now → IfTold now (Within key u kept)
     within None a g = rw g tt
-    within (Some L) a g = rw g (Within-quiet key u J L e (λ p cur. shown_by-report u J p cur e is) (within-report key u J (L ++ e ∷ []) e is) a)
+    within (Some motions) a g = rw g (Within-quiet key u kept motions e (λ p cur. shown_by-report u kept p cur e is) (within-report key u kept (motions ++ e ∷ []) e is) a)
 
 -- so it does after a report
-pub IsRecorded-report : (key : List ℕ) (u : List NoteKind) (J : List Rec) (e : Motion) (m d : Counts) (failed : Bool) (was now : Option (List Motion)) (P Q : Places) (spare left : ℕ) → IsReport e
-    → Reports e m d failed was now P Q spare left → IsRecorded key u J was → IsRecorded key u J now
-IsRecorded-report key u J e m d true was now P Q spare left is r h = let none = r.nothing refl in rw none.0 h
-IsRecorded-report key u J e m d false was now P Q spare left is r h = IsRecorded-entry key u J e was now is (r.grown refl) h
+pub IsRecorded-report : (key : List ℕ) (u : List NoteKind) (records : List Rec) (e : Motion) (m d : Counts) (failed : Bool) (was now : Option (List Motion)) (places places' : Places) (spare left : ℕ) → IsReport e
+    → Reports e m d failed was now places places' spare left → IsRecorded key u records was → IsRecorded key u records now
+IsRecorded-report key u records e m d true was now places places' spare left is r h = let none = r.nothing refl in rw none.0 h
+IsRecorded-report key u records e m d false was now places places' spare left is r h = IsRecorded-entry key u records e was now is (r.grown refl) h
 
 -- what the limits leave an open order stays
-pub HasLimits-report : (o : Open) (v : View) (now : Option (List Motion)) (Q : Places) (f : ℕ) (l : Counts) → HasLimits o v → HasLimits o (reported_view v now Q f l)
-HasLimits-report No v now Q f l h = tt
-HasLimits-report (Written k c) v now Q f l h = h
-HasLimits-report (Acted k m d failed) v now Q f l h = h
+pub HasLimits-report : (o : Open) (v : View) (now : Option (List Motion)) (places' : Places) (f : ℕ) (l : Counts) → HasLimits o v → HasLimits o (reported_view v now places' f l)
+HasLimits-report No v now places' f l h = tt
+HasLimits-report (Written k c) v now places' f l h = h
+HasLimits-report (Acted k m d failed) v now places' f l h = h

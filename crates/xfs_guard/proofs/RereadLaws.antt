@@ -23,22 +23,22 @@ use Rattle.xfs_guard.proofs.StoredLaws.{tells}
 
 module _ {D : Type 0} (g : Ghosts D) where
   -- the disk was read, and nothing else
-  pub reread-quiet : (old new : D) (P : List ℕ → Type 0) → IfTold (g.held old) (λ _. IsQuiet g old new)
-      → IfTold (g.held old) (λ _. LeavesOnly g old new (λ bytes. g.images old bytes ⊎ P bytes))
-  reread-quiet old new P quiet = on_told (g.held old) (λ _. LeavesOnly g old new (λ bytes. g.images old bytes ⊎ P bytes)) (λ all told.
-      weaken g old new (g.images old) (λ bytes. g.images old bytes ⊎ P bytes) (λ bytes was. inl was)
+  pub reread-quiet : (old new : D) (Holds : List ℕ → Type 0) → IfTold (g.held old) (λ _. IsQuiet g old new)
+      → IfTold (g.held old) (λ _. LeavesOnly g old new (λ bytes. g.images old bytes ⊎ Holds bytes))
+  reread-quiet old new Holds quiet = on_told (g.held old) (λ _. LeavesOnly g old new (λ bytes. g.images old bytes ⊎ Holds bytes)) (λ all told.
+      weaken g old new (g.images old) (λ bytes. g.images old bytes ⊎ Holds bytes) (λ bytes was. inl was)
       (from_told (g.held old) (λ _. IsQuiet g old new) quiet all told).moments)
 
   -- it was read, and a record was appended, or may have been
-  pub reread-append : (old mid new : D) (J : List Rec) (r : Rec) (P : List ℕ → Type 0) → is_some (g.held mid) ≡ is_some (g.held old)
-      → IfTold (g.held old) (λ _. IsQuiet g old mid) → IfTold (g.held mid) (λ _. LeavesOnly g mid new (StandsForEither J r))
-      → ((bytes : List ℕ) → StandsForEither J r bytes → P bytes) → IfTold (g.held old) (λ _. LeavesOnly g old new (λ bytes. g.images old bytes ⊎ P bytes))
-  reread-append old mid new J r P same quiet appended implies = on_told (g.held old) (λ _. LeavesOnly g old new (λ bytes. g.images old bytes ⊎ P bytes)) (λ all told.
+  pub reread-append : (old mid new : D) (list : List Rec) (r : Rec) (Holds : List ℕ → Type 0) → is_some (g.held mid) ≡ is_some (g.held old)
+      → IfTold (g.held old) (λ _. IsQuiet g old mid) → IfTold (g.held mid) (λ _. LeavesOnly g mid new (StandsForEither list r))
+      → ((bytes : List ℕ) → StandsForEither list r bytes → Holds bytes) → IfTold (g.held old) (λ _. LeavesOnly g old new (λ bytes. g.images old bytes ⊎ Holds bytes))
+  reread-append old mid new list r Holds same quiet appended implies = on_told (g.held old) (λ _. LeavesOnly g old new (λ bytes. g.images old bytes ⊎ Holds bytes)) (λ all told.
       let still = tells (g.held mid) (same ∙ ap is_some told) in
-      weaken g old new (λ bytes. g.images old bytes ⊎ StandsForEither J r bytes) (λ bytes. g.images old bytes ⊎ P bytes) (λ bytes e. ⊎_elim (λ was. inl was) (λ is. inr (implies bytes is)) e)
-      (joins g old mid new (g.images old) (StandsForEither J r)
+      weaken g old new (λ bytes. g.images old bytes ⊎ StandsForEither list r bytes) (λ bytes. g.images old bytes ⊎ Holds bytes) (λ bytes e. ⊎_elim (λ was. inl was) (λ is. inr (implies bytes is)) e)
+      (joins g old mid new (g.images old) (StandsForEither list r)
       (from_told (g.held old) (λ _. IsQuiet g old mid) quiet all told).moments
-      (from_told (g.held mid) (λ _. LeavesOnly g mid new (StandsForEither J r)) appended still.0 still.1)))
+      (from_told (g.held mid) (λ _. LeavesOnly g mid new (StandsForEither list r)) appended still.0 still.1)))
 
   -- what was left goes on from the records before
   pub behind-reread : (old new : GuardView D) (p : Places) → is_some (g.held new.disk) ≡ is_some (g.held old.disk)
@@ -63,7 +63,7 @@ module _ {D : Type 0} (g : Ghosts D) where
 
   -- and is recorded
   pub recorded-reread : (old new : D) (v : View) (p : Places) (IsLeftNow : List Rec → Type 0) → LeavesPossible g old v.records v.in_doubt
-      → (is_some (g.held old) ≡ true → (J : List Rec) → IsPossible v.records v.in_doubt J → IsRecorded v.key v.units J v.motions)
+      → (is_some (g.held old) ≡ true → (list : List Rec) → IsPossible v.records v.in_doubt list → IsRecorded v.key v.units list v.motions)
       → IfTold (g.held old) (λ _. LeavesOnly g old new (λ bytes. g.images old bytes ⊎ StandsReread v.records v.in_doubt p IsLeftNow bytes))
       → IfTold (g.held old) (λ _. LeavesOnly g old new (StandsRecorded v.key v.units v.motions))
   recorded-reread old new v p IsLeftNow possible recorded leaves = on_told (g.held old) (λ _. LeavesOnly g old new (StandsRecorded v.key v.units v.motions)) (λ all told.

@@ -34,28 +34,28 @@ shut_now old new = record old { shut = true; disk = new.disk }
 
 -- this list was read, and has its Boot
 abbrev pub booted_now : {D : Type 0} → LedgerView D → LedgerView D → Places → List Rec → LedgerView D
-booted_now old new p J = record old { records = J ++ Boot p ∷ []; bound = None; booted = p; loaded = no_notes; shut = false; boot_missing = false; in_doubt = None; room = new.room; disk = new.disk }
+booted_now old new p records = record old { records = records ++ Boot p ∷ []; bound = None; booted = p; loaded = no_notes; shut = false; boot_missing = false; in_doubt = None; room = new.room; disk = new.disk }
 
 -- this list was read, and its Boot is missing
 abbrev pub missing_now : {D : Type 0} → LedgerView D → LedgerView D → List Rec → LedgerView D
-missing_now old new J = record old { records = J; bound = None; shut = false; boot_missing = true; in_doubt = None; room = new.room; disk = new.disk }
+missing_now old new records = record old { records = records; bound = None; shut = false; boot_missing = true; in_doubt = None; room = new.room; disk = new.disk }
 
 -- this list was read, and its Boot is in doubt
 abbrev pub doubted_now : {D : Type 0} → LedgerView D → LedgerView D → Places → List Rec → LedgerView D
-doubted_now old new p J = record old { records = J; bound = None; shut = true; in_doubt = Some (Boot p); room = new.room; disk = new.disk }
+doubted_now old new p records = record old { records = records; bound = None; shut = true; in_doubt = Some (Boot p); room = new.room; disk = new.disk }
 
 -- what a restore leaves that read this list
 abbrev pub IsReread : {D : Type 0} → LedgerView D → LedgerView D → Places → List Rec → Type 0
-IsReread old new p J = (new ≡ booted_now old new p J) ⊎ ((new ≡ missing_now old new J) ⊎ (new ≡ doubted_now old new p J))
+IsReread old new p records = (new ≡ booted_now old new p records) ⊎ ((new ≡ missing_now old new records) ⊎ (new ≡ doubted_now old new p records))
 
 -- what a restore may leave that doesn't want memory
 abbrev pub MayRestore : {D : Type 0} → LedgerView D → LedgerView D → Places → Type 0
-MayRestore old new p = (new ≡ shut_now old new) ⊎ ((J : List Rec) × IsPossible old.records old.in_doubt J × IsReread old new p J)
+MayRestore old new p = (new ≡ shut_now old new) ⊎ ((records : List Rec) × IsPossible old.records old.in_doubt records × IsReread old new p records)
 
 pub restored : {T D : Type 0} (res : Result T BootFault) (old new : LedgerView D) (p : Places) (told : Type 0) → res ≢ Err Memory
-    → OnOk res ((J : List Rec) × IsPossible old.records old.in_doubt J × (new ≡ booted_now old new p J))
-    → (res ≡ Err Full → (J : List Rec) × IsPossible old.records old.in_doubt J × (exceeds old.limits (J ++ Boot p ∷ []) ≡ true) × (new ≡ missing_now old new J))
-    → (res ≡ Err Disk → (new ≡ shut_now old new) ⊎ ((J : List Rec) × IsPossible old.records old.in_doubt J × (new ≡ doubted_now old new p J)))
+    → OnOk res ((records : List Rec) × IsPossible old.records old.in_doubt records × (new ≡ booted_now old new p records))
+    → (res ≡ Err Full → (records : List Rec) × IsPossible old.records old.in_doubt records × (exceeds old.limits (records ++ Boot p ∷ []) ≡ true) × (new ≡ missing_now old new records))
+    → (res ≡ Err Disk → (new ≡ shut_now old new) ⊎ ((records : List Rec) × IsPossible old.records old.in_doubt records × (new ≡ doubted_now old new p records)))
     → IfErr res (λ f. (at : ℕ) → f ≡ NotJournal at → told × (new ≡ shut_now old new))
     → MayRestore old new p
 restored (Ok x) old new p told other ok full disk silent = inr (ok.0, ok.1, inl ok.2)
@@ -68,10 +68,10 @@ restored (Err Disk) old new p told other ok full disk silent = elim (disk refl) 
 restored (Err (NotJournal at)) old new p told other ok full disk silent = inl (silent at refl).1
 
 pub may-restore : {T D : Type 0} (res : Result T BootFault) (old new : LedgerView D) (p : Places) (told : Type 0)
-    → OnOk res ((J : List Rec) × IsPossible old.records old.in_doubt J × (new ≡ booted_now old new p J))
+    → OnOk res ((records : List Rec) × IsPossible old.records old.in_doubt records × (new ≡ booted_now old new p records))
     → (res ≡ Err Memory → new ≡ untouched old new)
-    → (res ≡ Err Full → (J : List Rec) × IsPossible old.records old.in_doubt J × (exceeds old.limits (J ++ Boot p ∷ []) ≡ true) × (new ≡ missing_now old new J))
-    → (res ≡ Err Disk → (new ≡ shut_now old new) ⊎ ((J : List Rec) × IsPossible old.records old.in_doubt J × (new ≡ doubted_now old new p J)))
+    → (res ≡ Err Full → (records : List Rec) × IsPossible old.records old.in_doubt records × (exceeds old.limits (records ++ Boot p ∷ []) ≡ true) × (new ≡ missing_now old new records))
+    → (res ≡ Err Disk → (new ≡ shut_now old new) ⊎ ((records : List Rec) × IsPossible old.records old.in_doubt records × (new ≡ doubted_now old new p records)))
     → IfErr res (λ f. (at : ℕ) → f ≡ NotJournal at → told × (new ≡ shut_now old new))
     → (new ≡ untouched old new) ⊎ MayRestore old new p
 may-restore (Err Memory) old new p told ok memory full disk silent = inl (memory refl)
@@ -100,29 +100,29 @@ IsKept-unread v spare was left kinds kept = record {
 }
 
 -- the journal was read again, and its Boot is missing
-pub IsKept-reread : (v : View) (J : List Rec) (spare was left : ℕ) (kinds : List NoteKind) → IsPossible v.records v.in_doubt J → IsKept v spare was kinds → IsKept (reread v J) spare left kinds
-IsKept-reread v J spare was left kinds possible kept = record {
+pub IsKept-reread : (v : View) (records : List Rec) (spare was left : ℕ) (kinds : List NoteKind) → IsPossible v.records v.in_doubt records → IsKept v spare was kinds → IsKept (reread v records) spare left kinds
+IsKept-reread v records spare was left kinds possible kept = record {
   sound = λ e m. absurd (true≢false m);
   clean = λ e. refl;
-  balanced = balanced-possible v.records v.in_doubt J v.booted v.loaded v.places possible kept.balanced;
+  balanced = balanced-possible v.records v.in_doubt records v.booted v.loaded v.places possible kept.balanced;
   closed = λ e. refl;
   missing = λ e. refl;
-  recorded = λ told K only. rw (only-possible J K None refl only) (kept.recorded told J possible);
+  recorded = λ told list only. rw (only-possible records list None refl only) (kept.recorded told records possible);
   room = tt;
   limits = tt;
   units = kept.units;
 }
 
 -- the journal was read again, and its Boot is in doubt
-pub IsKept-unbooted : (v : View) (J : List Rec) (p : Places) (spare was left : ℕ) (kinds : List NoteKind) → IsPossible v.records v.in_doubt J → IsKept v spare was kinds
-    → IsKept (record (reread v J) { shut = true; boot_missing = v.boot_missing; in_doubt = Some (Boot p) }) spare left kinds
-IsKept-unbooted v J p spare was left kinds possible kept = record {
+pub IsKept-unbooted : (v : View) (records : List Rec) (p : Places) (spare was left : ℕ) (kinds : List NoteKind) → IsPossible v.records v.in_doubt records → IsKept v spare was kinds
+    → IsKept (record (reread v records) { shut = true; boot_missing = v.boot_missing; in_doubt = Some (Boot p) }) spare left kinds
+IsKept-unbooted v records p spare was left kinds possible kept = record {
   sound = λ e m. absurd (true≢false e);
   clean = λ e. absurd (true≢false e);
-  balanced = balanced-possible v.records v.in_doubt J v.booted v.loaded v.places possible kept.balanced;
+  balanced = balanced-possible v.records v.in_doubt records v.booted v.loaded v.places possible kept.balanced;
   closed = λ e. refl;
   missing = λ e. refl;
-  recorded = λ told K either. ⊎_elim (λ same. rw same (kept.recorded told J possible)) (λ more. rw more (IsRecorded-boot v.key v.units J p v.motions (kept.recorded told J possible))) (doubted-possible J K (Boot p) either);
+  recorded = λ told list either. ⊎_elim (λ same. rw same (kept.recorded told records possible)) (λ more. rw more (IsRecorded-boot v.key v.units records p v.motions (kept.recorded told records possible))) (doubted-possible records list (Boot p) either);
   room = tt;
   limits = tt;
   units = kept.units;
@@ -133,33 +133,33 @@ pub IsKept-restored : {D : Type 0} (key seed : List ℕ) (o : Open) (motions : O
     → MayRestore old new p → p ≡ places → told ≡ was → IsKept (over key seed o motions places faults old was) spare room kinds → IsKept (over key seed No motions places faults new told) spare left kinds
 IsKept-restored key seed o motions places faults old new p was told spare room left kinds (inl is) there same kept =
     rw (is, same) (IsKept-unread (over key seed o motions places faults old was) spare room left kinds kept)
-IsKept-restored key seed o motions places faults old new p was told spare room left kinds (inr (J, possible, inl is)) there same kept =
-    rw (is, same) (IsKept-boot (over key seed o motions places faults old was) J p spare left kinds there (λ t. kept.recorded t J possible) kept.units)
-IsKept-restored key seed o motions places faults old new p was told spare room left kinds (inr (J, possible, inr (inl is))) there same kept =
-    rw (is, same) (IsKept-reread (over key seed o motions places faults old was) J spare room left kinds possible kept)
-IsKept-restored key seed o motions places faults old new p was told spare room left kinds (inr (J, possible, inr (inr is))) there same kept =
-    rw (is, same) (IsKept-unbooted (over key seed o motions places faults old was) J p spare room left kinds possible kept)
+IsKept-restored key seed o motions places faults old new p was told spare room left kinds (inr (records, possible, inl is)) there same kept =
+    rw (is, same) (IsKept-boot (over key seed o motions places faults old was) records p spare left kinds there (λ t. kept.recorded t records possible) kept.units)
+IsKept-restored key seed o motions places faults old new p was told spare room left kinds (inr (records, possible, inr (inl is))) there same kept =
+    rw (is, same) (IsKept-reread (over key seed o motions places faults old was) records spare room left kinds possible kept)
+IsKept-restored key seed o motions places faults old new p was told spare room left kinds (inr (records, possible, inr (inr is))) there same kept =
+    rw (is, same) (IsKept-unbooted (over key seed o motions places faults old was) records p spare room left kinds possible kept)
 
 -- what follows then: the Boot, which has the places, comes behind a possible list, or nothing does
 pub Continues-restored : {D : Type 0} (key seed : List ℕ) (o o' : Open) (motions : Option (List Motion)) (places : Places) (faults : ℕ) (old new : LedgerView D) (was told : Bool)
     → told ≡ was → (new ≡ untouched old new) ⊎ MayRestore old new places → Continues (over key seed o motions places faults old was) (over key seed o' motions places faults new told)
 Continues-restored key seed o o' motions places faults old new was told same (inl is) =
-    rw is (Continues-grown _ _ (Boot places) (λ q e. cc) refl refl refl refl refl same refl (λ K possible. inl possible) (begins-same old.records) (λ X left. left))
+    rw is (Continues-grown _ _ (Boot places) (λ q e. cc) refl refl refl refl refl same refl (λ later possible. inl possible) (begins-same old.records) (λ X left. left))
 Continues-restored key seed o o' motions places faults old new was told same (inr (inl is)) =
-    rw is (Continues-grown _ _ (Boot places) (λ q e. cc) refl refl refl refl refl same refl (λ K possible. inl possible) (begins-same old.records) (λ X left. left-close old.records old.in_doubt (old.shut || old.boot_missing) X left))
-Continues-restored key seed o o' motions places faults old new was told same (inr (inr (J, found, inl is))) =
-    rw is (Continues-grown _ _ (Boot places) (λ q e. cc) refl refl refl refl refl same refl (λ K possible. inr (J, found, only-possible (J ++ Boot places ∷ []) K None refl possible))
-    (begins-push old.records J (Boot places) (begins-possible old.records old.in_doubt J found))
-    (λ X left. left-boot J places false X (left-mount old.records old.in_doubt (old.shut || old.boot_missing) J X found left)))
-Continues-restored key seed o o' motions places faults old new was told same (inr (inr (J, found, inr (inl is)))) =
-    rw is (Continues-grown _ _ (Boot places) (λ q e. cc) refl refl refl refl refl same refl (λ K possible. inl (rw (only-possible J K None refl possible) found))
-    (begins-possible old.records old.in_doubt J found) (λ X left. left-mount old.records old.in_doubt (old.shut || old.boot_missing) J X found left))
-Continues-restored key seed o o' motions places faults old new was told same (inr (inr (J, found, inr (inr is)))) =
-    rw is (Continues-grown _ _ (Boot places) (λ q e. cc) refl refl refl refl refl same refl (λ K possible. ⊎_elim (λ same. inl (rw same found)) (λ more. inr (J, found, more)) (doubted-possible J K (Boot places) possible))
-    (begins-possible old.records old.in_doubt J found) (λ X left. left-boot_doubt J places X (left-mount old.records old.in_doubt (old.shut || old.boot_missing) J X found left)))
+    rw is (Continues-grown _ _ (Boot places) (λ q e. cc) refl refl refl refl refl same refl (λ later possible. inl possible) (begins-same old.records) (λ X left. left-close old.records old.in_doubt (old.shut || old.boot_missing) X left))
+Continues-restored key seed o o' motions places faults old new was told same (inr (inr (records, found, inl is))) =
+    rw is (Continues-grown _ _ (Boot places) (λ q e. cc) refl refl refl refl refl same refl (λ later possible. inr (records, found, only-possible (records ++ Boot places ∷ []) later None refl possible))
+    (begins-push old.records records (Boot places) (begins-possible old.records old.in_doubt records found))
+    (λ X left. left-boot records places false X (left-mount old.records old.in_doubt (old.shut || old.boot_missing) records X found left)))
+Continues-restored key seed o o' motions places faults old new was told same (inr (inr (records, found, inr (inl is)))) =
+    rw is (Continues-grown _ _ (Boot places) (λ q e. cc) refl refl refl refl refl same refl (λ later possible. inl (rw (only-possible records later None refl possible) found))
+    (begins-possible old.records old.in_doubt records found) (λ X left. left-mount old.records old.in_doubt (old.shut || old.boot_missing) records X found left))
+Continues-restored key seed o o' motions places faults old new was told same (inr (inr (records, found, inr (inr is)))) =
+    rw is (Continues-grown _ _ (Boot places) (λ q e. cc) refl refl refl refl refl same refl (λ later possible. ⊎_elim (λ same. inl (rw same found)) (λ more. inr (records, found, more)) (doubted-possible records later (Boot places) possible))
+    (begins-possible old.records old.in_doubt records found) (λ X left. left-boot_doubt records places X (left-mount old.records old.in_doubt (old.shut || old.boot_missing) records X found left)))
 
 -- a disk that is refused as no journal tells nothing
-pub untold-refused : {T : Type 0} (Q : Type 0) (result : Result T BootFault) (held : Option (List ℕ)) → IfErr result (λ f. (at : ℕ) → f ≡ NotJournal at → (held ≡ None) × Q)
+pub untold-refused : {T : Type 0} (Claim : Type 0) (result : Result T BootFault) (held : Option (List ℕ)) → IfErr result (λ f. (at : ℕ) → f ≡ NotJournal at → (held ≡ None) × Claim)
     → IfErr result (λ f. (at : ℕ) → f ≡ NotJournal at → is_some held ≡ false)
-untold-refused Q (Ok x) held h = tt
-untold-refused Q (Err f) held h = λ at is. rw (h at is).0 refl
+untold-refused Claim (Ok x) held h = tt
+untold-refused Claim (Err f) held h = λ at is. rw (h at is).0 refl

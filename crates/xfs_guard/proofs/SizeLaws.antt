@@ -19,13 +19,13 @@ use Rattle.xfs_guard.specs.View.{View, GuardView}
 framed-length : (r : Rec) → length (framed r) ≡ 2 + length (body r)
 framed-length r = omega (arith, length-append (to_be_bytes w16 (length (body r))) (body r))
 
-blocks-longer : (J : List Rec) (r : Rec) → length (blocks (J ++ r ∷ [])) ≡ length (blocks J) + (3 + length (body r))
+blocks-longer : (records : List Rec) (r : Rec) → length (blocks (records ++ r ∷ [])) ≡ length (blocks records) + (3 + length (body r))
 blocks-longer [] r = omega (arith, length-append (framed r) [], framed-length r)
 blocks-longer (x ∷ xs) r = omega (arith, length-append (framed x) (blocks (xs ++ r ∷ [])), length-append (framed x) (blocks xs), blocks-longer xs r)
 
 -- a record takes three bytes and its body
-pub size-longer : (J : List Rec) (r : Rec) → size (J ++ r ∷ []) ≡ size J + (3 + length (body r))
-size-longer J r = omega (arith, length-append magic (blocks (J ++ r ∷ [])), length-append magic (blocks J), blocks-longer J r)
+pub size-longer : (records : List Rec) (r : Rec) → size (records ++ r ∷ []) ≡ size records + (3 + length (body r))
+size-longer records r = omega (arith, length-append magic (blocks (records ++ r ∷ [])), length-append magic (blocks records), blocks-longer records r)
 
 pub neither : (a b : Bool) → (a || b) ≡ false → (a ≡ false) × (b ≡ false)
 neither false false e = (refl, refl)
@@ -56,14 +56,14 @@ fit-parts v e = go v.shut v.boot_missing (is_short v) e
     go false false false e = (refl, refl, refl)
 
 -- it takes one more record of up to 1,025 bytes
-pub takes-one : (limits : Limits) (J : List Rec) (r : Rec) → (nat_lt (limits.records - length J) 3 || nat_lt (limits.bytes - size J) 2048) ≡ false → length (body r) ≤ 1025 → exceeds limits (J ++ r ∷ []) ≡ false
-takes-one limits J r free short =
-    let parts = neither (nat_lt (limits.records - length J) 3) (nat_lt (limits.bytes - size J) 2048) free in
-    let many = ltb-false (limits.records - length J) 3 parts.0 in
-    let bytes = ltb-false (limits.bytes - size J) 2048 parts.1 in
-    both (nat_lt limits.records (length (J ++ r ∷ []))) (nat_lt limits.bytes (size (J ++ r ∷ [])))
-    (not-under limits.records (length (J ++ r ∷ [])) (omega (arith, many, length-append J (r ∷ []))))
-    (not-under limits.bytes (size (J ++ r ∷ [])) (omega (arith, bytes, size-longer J r, short)))
+pub takes-one : (limits : Limits) (records : List Rec) (r : Rec) → (nat_lt (limits.records - length records) 3 || nat_lt (limits.bytes - size records) 2048) ≡ false → length (body r) ≤ 1025 → exceeds limits (records ++ r ∷ []) ≡ false
+takes-one limits records r free short =
+    let parts = neither (nat_lt (limits.records - length records) 3) (nat_lt (limits.bytes - size records) 2048) free in
+    let many = ltb-false (limits.records - length records) 3 parts.0 in
+    let bytes = ltb-false (limits.bytes - size records) 2048 parts.1 in
+    both (nat_lt limits.records (length (records ++ r ∷ []))) (nat_lt limits.bytes (size (records ++ r ∷ [])))
+    (not-under limits.records (length (records ++ r ∷ [])) (omega (arith, many, length-append records (r ∷ []))))
+    (not-under limits.bytes (size (records ++ r ∷ [])) (omega (arith, bytes, size-longer records r, short)))
 
 -- the same of a guard's view that stands for another
 pub fit-at : {D : Type 0} (a b : GuardView D) → a ≡ b → unfit b.state ≡ None → (a.state.shut ≡ false) × (is_short a.state ≡ false) × (a.state.boot_missing ≡ false)
@@ -95,17 +95,17 @@ done-short : (m d : Counts) → length m.0 ≡ 8 → length d.0 ≡ 8 → length
 done-short m d e f = omega (arith, length-append (counts_bytes m) (counts_bytes d), length-numbers m.0, length-numbers d.0, e, f)
 
 -- the limits leave an open order its Done
-pub takes-done : (limits : Limits) (J : List Rec) (m d : Counts) → length m.0 ≡ 8 → length d.0 ≡ 8 → (length J + 1 ≤ limits.records) × (size J + 68 ≤ limits.bytes) → exceeds limits (J ++ Done m d ∷ []) ≡ false
-takes-done limits J m d e f room =
-    both (nat_lt limits.records (length (J ++ Done m d ∷ []))) (nat_lt limits.bytes (size (J ++ Done m d ∷ [])))
-    (not-under limits.records (length (J ++ Done m d ∷ [])) (omega (arith, room.0, length-append J (Done m d ∷ []))))
-    (not-under limits.bytes (size (J ++ Done m d ∷ [])) (omega (arith, room.1, size-longer J (Done m d), done-short m d e f)))
+pub takes-done : (limits : Limits) (records : List Rec) (m d : Counts) → length m.0 ≡ 8 → length d.0 ≡ 8 → (length records + 1 ≤ limits.records) × (size records + 68 ≤ limits.bytes) → exceeds limits (records ++ Done m d ∷ []) ≡ false
+takes-done limits records m d e f room =
+    both (nat_lt limits.records (length (records ++ Done m d ∷ []))) (nat_lt limits.bytes (size (records ++ Done m d ∷ [])))
+    (not-under limits.records (length (records ++ Done m d ∷ [])) (omega (arith, room.0, length-append records (Done m d ∷ []))))
+    (not-under limits.bytes (size (records ++ Done m d ∷ [])) (omega (arith, room.1, size-longer records (Done m d), done-short m d e f)))
 
 -- a journal that is not full leaves an order room for its Done
-pub leaves-done : (limits : Limits) (J : List Rec) (k : Kind) (c : Counts) → (nat_lt (limits.records - length J) 3 || nat_lt (limits.bytes - size J) 2048) ≡ false → length c.0 ≡ 8
-    → (length (J ++ Order k c ∷ []) + 1 ≤ limits.records) × (size (J ++ Order k c ∷ []) + 68 ≤ limits.bytes)
-leaves-done limits J k c free e =
-    let parts = neither (nat_lt (limits.records - length J) 3) (nat_lt (limits.bytes - size J) 2048) free in
-    let many = ltb-false (limits.records - length J) 3 parts.0 in
-    let bytes = ltb-false (limits.bytes - size J) 2048 parts.1 in
-    (omega (arith, many, length-append J (Order k c ∷ [])), omega (arith, bytes, size-longer J (Order k c), order-short k c e))
+pub leaves-done : (limits : Limits) (records : List Rec) (k : Kind) (c : Counts) → (nat_lt (limits.records - length records) 3 || nat_lt (limits.bytes - size records) 2048) ≡ false → length c.0 ≡ 8
+    → (length (records ++ Order k c ∷ []) + 1 ≤ limits.records) × (size (records ++ Order k c ∷ []) + 68 ≤ limits.bytes)
+leaves-done limits records k c free e =
+    let parts = neither (nat_lt (limits.records - length records) 3) (nat_lt (limits.bytes - size records) 2048) free in
+    let many = ltb-false (limits.records - length records) 3 parts.0 in
+    let bytes = ltb-false (limits.bytes - size records) 2048 parts.1 in
+    (omega (arith, many, length-append records (Order k c ∷ [])), omega (arith, bytes, size-longer records (Order k c), order-short k c e))

@@ -28,22 +28,22 @@ use Rattle.xfs_guard.proofs.AgreesLaws.{Agrees-motion}
 use Rattle.xfs_guard.proofs.WithinLaws.{Within-present, Within-quiet, shown-motion, shown_by-own}
 
 -- what lies ready and was ordered covers what lies ready and was put out after it
-funds-act : (u : List NoteKind) (k : Kind) (c m d : Counts) (failed : Bool) (P Q : Places) (n : ℕ) (cur : List ℕ) (rest limit : ℕ)
-    → MayCarry k c m d failed → PlacesOf P (Moved n k m d ∷ []) Q
-    → rest + value u P.transport cur + pending u (Written k c) cur ≤ limit
-    → rest + unsettled u (Acted k m d failed) cur + value u Q.transport cur ≤ limit
-funds-act u Stack c m d failed P Q n cur rest limit may places le =
-    let grown = value_from-plus u 0 P.transport.0 m.0 Q.transport.0 cur (λ i. omega (arith, places.transport i)) in
+funds-act : (u : List NoteKind) (k : Kind) (c m d : Counts) (failed : Bool) (before now : Places) (n : ℕ) (cur : List ℕ) (rest limit : ℕ)
+    → MayCarry k c m d failed → PlacesOf before (Moved n k m d ∷ []) now
+    → rest + value u before.transport cur + pending u (Written k c) cur ≤ limit
+    → rest + unsettled u (Acted k m d failed) cur + value u now.transport cur ≤ limit
+funds-act u Stack c m d failed before now n cur rest limit may places le =
+    let grown = value_from-plus u 0 before.transport.0 m.0 now.transport.0 cur (λ i. omega (arith, places.transport i)) in
     let fits = value_from-le u 0 m.0 c.0 cur (λ i. omega (arith, may.within i)) in
     omega (arith, grown, fits)
-funds-act u Present c m d failed P Q n cur rest limit may places le =
-    let split = value_from-plus u 0 Q.transport.0 m.0 P.transport.0 cur (λ i. omega (arith, places.transport i)) in
+funds-act u Present c m d failed before now n cur rest limit may places le =
+    let split = value_from-plus u 0 now.transport.0 m.0 before.transport.0 cur (λ i. omega (arith, places.transport i)) in
     omega (arith, split)
-funds-act u Reject c m d failed P Q n cur rest limit may places le =
-    let fewer = value_from-le u 0 Q.transport.0 P.transport.0 cur (λ i. omega (arith, places.transport i)) in
+funds-act u Reject c m d failed before now n cur rest limit may places le =
+    let fewer = value_from-le u 0 now.transport.0 before.transport.0 cur (λ i. omega (arith, places.transport i)) in
     omega (arith, fewer)
-funds-act u Retract c m d failed P Q n cur rest limit may places le =
-    let fewer = value_from-le u 0 Q.transport.0 P.transport.0 cur (λ i. omega (arith, places.transport i)) in
+funds-act u Retract c m d failed before now n cur rest limit may places le =
+    let fewer = value_from-le u 0 now.transport.0 before.transport.0 cur (λ i. omega (arith, places.transport i)) in
     omega (arith, fewer)
 
 -- the guard after its order was carried out
@@ -70,36 +70,36 @@ budget-act v k c m d failed now Q f budget written may places = record {
   dead = budget.dead;
 }
 
-within-act : (v : View) (k : Kind) (c m d : Counts) (failed : Bool) (L : List Motion) → Budget v → v.open_order ≡ Written k c
+within-act : (v : View) (k : Kind) (c m d : Counts) (failed : Bool) (motions : List Motion) → Budget v → v.open_order ≡ Written k c
     → record_at v.records (length v.records) ≡ Some (Order k c) → LiesIn c (source_of k v.places) → IfPresent k (IsReleased v.records)
-    → Ties v L → MayCarry k c m d failed → Within v.key v.units v.records (L ++ Moved (length v.records) k m d ∷ [])
-within-act v Stack c m d failed L budget written last lies released t may = Within-quiet v.key v.units v.records L (Moved (length v.records) Stack m d) (λ p cur. refl) tt t.within
-within-act v Reject c m d failed L budget written last lies released t may = Within-quiet v.key v.units v.records L (Moved (length v.records) Reject m d) (λ p cur. refl) tt t.within
-within-act v Retract c m d failed L budget written last lies released t may = Within-quiet v.key v.units v.records L (Moved (length v.records) Retract m d) (λ p cur. refl) tt t.within
-within-act v Present c m d failed L budget written last lies released t may =
-    let old = budget.funded released.place released.bytes released.lives released.bound in
-    Within-present v.key v.units v.records L (length v.records) released.place released.bytes old.token c m d last released.before released.bound old.carries
+    → Ties v motions → MayCarry k c m d failed → Within v.key v.units v.records (motions ++ Moved (length v.records) k m d ∷ [])
+within-act v Stack c m d failed motions budget written last lies released t may = Within-quiet v.key v.units v.records motions (Moved (length v.records) Stack m d) (λ p cur. refl) tt t.within
+within-act v Reject c m d failed motions budget written last lies released t may = Within-quiet v.key v.units v.records motions (Moved (length v.records) Reject m d) (λ p cur. refl) tt t.within
+within-act v Retract c m d failed motions budget written last lies released t may = Within-quiet v.key v.units v.records motions (Moved (length v.records) Retract m d) (λ p cur. refl) tt t.within
+within-act v Present c m d failed motions budget written last lies released t may =
+    let old = budget.funded released.number released.bytes released.lives released.bound in
+    Within-present v.key v.units v.records motions (length v.records) released.number released.bytes old.token c m d last released.before released.bound old.carries
     (λ cur.
     let was = rw written at (old.enough cur) in
-    let counted = rw written at (t.counted released.place cur released.lives) in
+    let counted = rw written at (t.counted released.number cur released.lives) in
     let fits = value_from-le v.units 0 m.0 v.places.transport.0 cur (λ i. omega (arith, may.within i, lies i)) in
     omega (arith, was, counted, fits))
     t.within
 
-counted-act : (v : View) (k : Kind) (c m d : Counts) (failed : Bool) (L : List Motion) → v.open_order ≡ Written k c → IfPresent k (IsReleased v.records) → Ties v L
+counted-act : (v : View) (k : Kind) (c m d : Counts) (failed : Bool) (motions : List Motion) → v.open_order ≡ Written k c → IfPresent k (IsReleased v.records) → Ties v motions
     → (p : ℕ) (cur : List ℕ) → live_of v.records ≡ Some p
-    → shown v.units v.records (L ++ Moved (length v.records) k m d ∷ []) p cur ≡ presented_in v.units v.records cur + unsettled v.units (Acted k m d failed) cur
-counted-act v Stack c m d failed L written released t p cur lives =
-    let old = rw written at (t.counted p cur lives) in let e = shown-motion v.units v.records p cur L (Moved (length v.records) Stack m d) in omega (arith, old, e)
-counted-act v Reject c m d failed L written released t p cur lives =
-    let old = rw written at (t.counted p cur lives) in let e = shown-motion v.units v.records p cur L (Moved (length v.records) Reject m d) in omega (arith, old, e)
-counted-act v Retract c m d failed L written released t p cur lives =
-    let old = rw written at (t.counted p cur lives) in let e = shown-motion v.units v.records p cur L (Moved (length v.records) Retract m d) in omega (arith, old, e)
-counted-act v Present c m d failed L written released t p cur lives =
-    let same : released.place ≡ p = some_same (sym released.lives ∙ lives) in
+    → shown v.units v.records (motions ++ Moved (length v.records) k m d ∷ []) p cur ≡ presented_in v.units v.records cur + unsettled v.units (Acted k m d failed) cur
+counted-act v Stack c m d failed motions written released t p cur lives =
+    let old = rw written at (t.counted p cur lives) in let e = shown-motion v.units v.records p cur motions (Moved (length v.records) Stack m d) in omega (arith, old, e)
+counted-act v Reject c m d failed motions written released t p cur lives =
+    let old = rw written at (t.counted p cur lives) in let e = shown-motion v.units v.records p cur motions (Moved (length v.records) Reject m d) in omega (arith, old, e)
+counted-act v Retract c m d failed motions written released t p cur lives =
+    let old = rw written at (t.counted p cur lives) in let e = shown-motion v.units v.records p cur motions (Moved (length v.records) Retract m d) in omega (arith, old, e)
+counted-act v Present c m d failed motions written released t p cur lives =
+    let same : released.number ≡ p = some_same (sym released.lives ∙ lives) in
     let old = rw written at (t.counted p cur lives) in
-    let e = shown-motion v.units v.records p cur L (Moved (length v.records) Present m d) in
-    let own = rw same at (shown_by-own v.units v.records released.place (length v.records) cur m d released.before) in
+    let e = shown-motion v.units v.records p cur motions (Moved (length v.records) Present m d) in
+    let own = rw same at (shown_by-own v.units v.records released.number (length v.records) cur m d released.before) in
     omega (arith, old, e, own)
   where
     some_same : {a b : ℕ} → Some a ≡ Some b → a ≡ b
@@ -110,11 +110,11 @@ pub told-act : (v : View) (k : Kind) (c m d : Counts) (failed : Bool) (was now s
     → MayCarry k c m d failed → IfTold was (Ties v) → AddsEntry was (Moved (length v.records) k m d) now
     → IfTold now (Ties (acted_view v k m d failed seen Q f))
 told-act v k c m d failed None now seen Q f budget written last lies released may told grows = rw grows tt
-told-act v k c m d failed (Some L) now seen Q f budget written last lies released may t grows = rw grows (record {
-  agrees = Agrees-motion v.records L k c m d t.agrees last (rw written at t.acted) may.within;
-  within = within-act v k c m d failed L budget written last lies released t may;
-  counted = counted-act v k c m d failed L written released t;
-  acted = Contains-push L (Moved (length v.records) k m d);
+told-act v k c m d failed (Some motions) now seen Q f budget written last lies released may t grows = rw grows (record {
+  agrees = Agrees-motion v.records motions k c m d t.agrees last (rw written at t.acted) may.within;
+  within = within-act v k c m d failed motions budget written last lies released t may;
+  counted = counted-act v k c m d failed motions written released t;
+  acted = Contains-push motions (Moved (length v.records) k m d);
 })
 
 -- a list that stands beside a journal that isn't told is not told

@@ -19,9 +19,9 @@ use Rattle.xfs_guard.proofs.LeftLaws.{leaves-recorded}
 use Rattle.xfs_guard.proofs.MarkLaws.{boot-marked, mark-there, bound-there, issue-there}
 use Rattle.xfs_guard.proofs.SizeLaws.{neither}
 
-either : (a b : Bool) (P : Type 0) → (a ≡ true → P) → (b ≡ true → P) → (a || b) ≡ true → P
-either true b P one two e = one refl
-either false b P one two e = two e
+either : (a b : Bool) (Claim : Type 0) → (a ≡ true → Claim) → (b ≡ true → Claim) → (a || b) ≡ true → Claim
+either true b Claim one two e = one refl
+either false b Claim one two e = two e
 
 counted : (v : View) → IfTold (where_told v.disk_told v.motions) (Ties v) → IsCounted v
 counted v told = go (where_told v.disk_told v.motions) told
@@ -30,7 +30,7 @@ counted v told = go (where_told v.disk_told v.motions) told
         (p : ℕ) (c : List ℕ) → live_of v.records ≡ Some p
         → shown v.units v.records motions p c ≡ presented_in v.units v.records c + unsettled v.units v.open_order c)
     go None t = tt
-    go (Some L) t = t.counted
+    go (Some entries) t = t.counted
 
 pub upheld : {D : Type 0} (g : Ghosts D) (v : View) (d : D) (spare left : ℕ) (kinds : List NoteKind) → v.disk_told ≡ is_some (g.held d) → IsKept v spare left kinds → IsStored g d v.records v.in_doubt → LeavesPossible g d v.records v.in_doubt
     → IsUpheld g (record { state = v; disk = d })

@@ -15,7 +15,7 @@ use Rattle.xfs_guard.specs.Presented.{presented_in}
 -- the live issue that is kept is that of the records
 abbrev pub IsLive : List Rec → Option Live → Type 0
 IsLive records None = live_of records ≡ None
-IsLive records (Some live) = (live_of records ≡ Some live.place) × (nonce_of (record_at records live.place) ≡ Some live.nonce)
+IsLive records (Some live) = (live_of records ≡ Some live.number) × (nonce_of (record_at records live.number) ≡ Some live.nonce)
 
 -- for each of these amounts the sum presented in its currency
 abbrev pub AreSums : List NoteKind → List Rec → List (List ℕ × ℕ) → List ℕ → Type 0
@@ -24,16 +24,16 @@ AreSums units records amounts presented = (i : ℕ) (a : List ℕ × ℕ) → sl
 -- the bind of the issue at p is that of the records
 pub record IsBind (units : List NoteKind) (records : List Rec) (p : ℕ) (b : Bound) : Type 0 where
   pub token : List ℕ
-  pub found : binding_of records p ≡ Some (record { number = b.place; token = token })
-  pub written : record_at records b.place ≡ Some (Bind token)
+  pub found : binding_of records p ≡ Some (record { number = b.number; token = token })
+  pub written : record_at records b.number ≡ Some (Bind token)
   pub sums : AreSums units records b.amounts b.presented
 
 -- the bind that is kept is that of the live issue
 abbrev pub IsBound : List NoteKind → List Rec → Option Live → Option Bound → Type 0
 IsBound units records None None = ⊤
 IsBound units records None (Some b) = ⊥
-IsBound units records (Some live) None = binding_of records live.place ≡ None
-IsBound units records (Some live) (Some b) = IsBind units records live.place b
+IsBound units records (Some live) None = binding_of records live.number ≡ None
+IsBound units records (Some live) (Some b) = IsBind units records live.number b
 
 abbrev pub amounts_kept : Option Bound → Option (List (List ℕ × ℕ))
 amounts_kept bound = option_map (λ (b : Bound). b.amounts) bound

@@ -16,7 +16,7 @@ Fits units kind moved (Some b) = kind ≡ Present → (i : ℕ) (a : List ℕ ×
 
 -- the sums grow by what was presented
 pub record AddsPresented (units : List NoteKind) (kind : Kind) (moved : Counts) (old new : Bound) : Type 0 where
-  pub place : new.place ≡ old.place
+  pub number : new.number ≡ old.number
   pub amounts : new.amounts ≡ old.amounts
   pub present : kind ≡ Present → (i : ℕ) (a : List ℕ × ℕ) → slice_get old.amounts i ≡ Some a → slice_index new.presented i ≡ slice_index old.presented i + value units moved a.0
   pub other : kind ≢ Present → new.presented ≡ old.presented
@@ -26,7 +26,7 @@ Pays units kind moved None None = ⊤
 Pays units kind moved (Some old) (Some new) = AddsPresented units kind moved old new
 Pays units kind moved old new = ⊥
 
--- the sum at the place of an amount in this currency
+-- the sum that stands beside an amount in this currency
 pub record IsSumAt (amounts : List (List ℕ × ℕ)) (sums currency : List ℕ) (sum : ℕ) : Type 0 where
   pub place : ℕ
   pub amount : List ℕ × ℕ

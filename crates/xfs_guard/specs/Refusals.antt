@@ -37,12 +37,12 @@ over_budget v amounts counts = over_budget_in v.units v.records v.places.transpo
 abbrev pub bound_token : List Rec → Option (List ℕ)
 bound_token records = option_and_then (token_of records) (live_of records)
 
-abbrev pub bound_place : List Rec → Option ℕ
-bound_place records = option_and_then (bind_of records) (live_of records)
+abbrev pub bound_number : List Rec → Option ℕ
+bound_number records = option_and_then (bind_of records) (live_of records)
 
 -- another token is bound; or none is, and notes lie on the transport
 abbrev pub bind_refusal : View → List ℕ → Option (List ℕ) → Option Deny
-bind_refusal v bytes (Some token) = if bytes_eq token bytes then None else Some (OtherBound (unwrap_or (bound_place v.records) 0))
+bind_refusal v bytes (Some token) = if bytes_eq token bytes then None else Some (OtherBound (unwrap_or (bound_number v.records) 0))
 bind_refusal v bytes None = if sum v.places.transport.0 == 0 then None else Some (NotEmpty (sum v.places.transport.0))
 
 -- what a token is refused for, whose bytes these are

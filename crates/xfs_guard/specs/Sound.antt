@@ -25,15 +25,15 @@ use Rattle.xfs_guard.specs.Within.{Within, shown}
 
 -- the newest record is an order to present, in a segment with a token
 pub record IsReleased (records : List Rec) : Type 0 where
-  pub place : ℕ
+  pub number : ℕ
   pub bytes : List ℕ
-  pub before : live_at records (length records) ≡ Some place
-  pub lives : live_of records ≡ Some place
-  pub bound : token_of records place ≡ Some bytes
+  pub before : live_at records (length records) ≡ Some number
+  pub lives : live_of records ≡ Some number
+  pub bound : token_of records number ≡ Some bytes
 
 abbrev pub IfPresent : Kind → Type 0 → Type 0
-IfPresent Present P = P
-IfPresent k P = ⊤
+IfPresent Present Fact = Fact
+IfPresent k Fact = ⊤
 
 -- the open order is the newest record
 abbrev pub OpenIsNewest : Open → List Rec → Places → Type 0

@@ -13,7 +13,7 @@ use Rattle.xfs_guard.specs.Crashed.{is_closed}
 use Rattle.xfs_guard.specs.CrashOutcomes.{StandsRecorded}
 use Rattle.xfs_guard.specs.Nonce.{live_in, nonce_of}
 use Rattle.xfs_guard.specs.Presented.{presented_in, unsettled}
-use Rattle.xfs_guard.specs.Refusals.{bound_place, bound_token}
+use Rattle.xfs_guard.specs.Refusals.{bound_number, bound_token}
 use Rattle.xfs_guard.specs.Sound.{OpenIsNewest, where_told}
 use Rattle.xfs_guard.specs.Stored.{IsStored}
 use Rattle.xfs_guard.specs.View.{View, GuardView}
@@ -21,7 +21,7 @@ use Rattle.xfs_guard.specs.Within.{shown}
 
 -- a record of the list is the Issue of this nonce, and has its text
 abbrev pub HasIssue : List Rec → Nonce → Type 0
-HasIssue records n = (place : ℕ) × (live_of records ≡ Some place) × (nonce_of (record_at records place) ≡ Some n)
+HasIssue records n = (number : ℕ) × (live_of records ≡ Some number) × (nonce_of (record_at records number) ≡ Some n)
 
 -- the record of this number is a mark
 abbrev pub IsMarkAt : List Rec → ℕ → Type 0
@@ -48,4 +48,4 @@ pub record IsUpheld {D : Type 0} (g : Ghosts D) (now : GuardView D) : Type 0 whe
   pub balanced : IsBalanced now.state.records now.state.booted now.state.loaded now.state.places
   pub issue : (n : Nonce) → live_in now.state.boot_missing now.state.records ≡ Some n → HasIssue now.state.records n
   pub mark : IsMarkAt now.state.records (last_mark now.state.records)
-  pub bind : (n : ℕ) → bound_place now.state.records ≡ Some n → IsBindAt now.state.records n
+  pub bind : (n : ℕ) → bound_number now.state.records ≡ Some n → IsBindAt now.state.records n

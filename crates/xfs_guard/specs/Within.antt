@@ -44,11 +44,11 @@ pub record IsCovered (key : List ℕ) (units : List NoteKind) (records : List Re
 pub record IsPaidFor (key : List ℕ) (units : List NoteKind) (records : List Rec) (motions : List Motion) (number : ℕ) : Type 0 where
   pub counts : Counts
   pub ordered : record_at records number ≡ Some (Order Present counts)
-  pub place : ℕ
-  pub lives : live_at records number ≡ Some place
+  pub issue : ℕ
+  pub lives : live_at records number ≡ Some issue
   pub bytes : List ℕ
-  pub bound : token_of records place ≡ Some bytes
-  pub covered : IsCovered key units records motions place bytes
+  pub bound : token_of records issue ≡ Some bytes
+  pub covered : IsCovered key units records motions issue bytes
 
 abbrev pub IsWithin : List ℕ → List NoteKind → List Rec → List Motion → Motion → Type 0
 IsWithin key units records motions (Moved number Present moved diverted) = IsPaidFor key units records motions number

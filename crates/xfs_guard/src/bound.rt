@@ -4,7 +4,7 @@ use xfs_token::Amounts;
 /// The live issue: the number of its record, and its nonce.
 #[derive(Clone, Copy)]
 pub struct Live {
-    pub place: u64,
+    pub number: u64,
     pub nonce: Nonce,
 }
 
@@ -12,7 +12,7 @@ pub struct Live {
 /// each of their currencies what was presented since, in thousandths.
 #[derive(Drop)]
 pub struct Bound {
-    pub place: u64,
+    pub number: u64,
     pub amounts: Amounts,
     pub presented: [u64; 9],
 }

@@ -88,7 +88,7 @@ impl<M: Mechanism, D: Disk> Guard<M, D> {
         match self.ledger.token() {
             Some(bound) if bound.bytes() == bytes => None,
             Some(_) => Some(Deny::OtherBound {
-                since: self.ledger.bind_place().unwrap_or(0),
+                since: self.ledger.bind_number().unwrap_or(0),
             }),
             None => {
                 let notes = self.mech.survey().transport.notes();

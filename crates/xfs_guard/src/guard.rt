@@ -271,7 +271,7 @@ impl<M: Mechanism, D: Disk> Guard<M, D> {
         self.ledger.loaded()
     }
 
-    /// The journal. A record's number is its place, from 1.
+    /// The journal. Its records are numbered from 1.
     pub fn records(&self) -> &[Rec]
         ensures { result.now ≡ self.now.state.records }
     {

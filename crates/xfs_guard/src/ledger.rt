@@ -16,7 +16,7 @@ ghost use Rattle.xfs_disk.specs.Moments.{LeavesOnly};
 ghost use Rattle.xfs_journal.specs.declared.record.Rec.TheVariants.{Issue, Clear, Boot, Bind, Order, Done, Load};
 ghost use Rattle.xfs_journal.specs.Journal.{record_at, live_of, token_of, last_mark, next_issue, nonce_text};
 ghost use Rattle.xfs_guard.specs.Nonce.{Ends, live_in, nonce_of};
-ghost use Rattle.xfs_guard.specs.Refusals.{bound_token, bound_place};
+ghost use Rattle.xfs_guard.specs.Refusals.{bound_token, bound_number};
 ghost use Rattle.xfs_guard.specs.Presented.{presented_in};
 ghost use Rattle.xfs_guard.specs.LedgerView.{IsOpen, IsWriteFault, Wrote, IsSame, IsPresentedBound, write_refusal};
 ghost use Rattle.xfs_guard.specs.Balance.{no_notes, with_notes};
@@ -228,7 +228,7 @@ impl<D: Disk> Ledger<D> {
         ensures { option_copied result ≡ bound_token self.now.records }
     {
         match &self.bound {
-            Some(bound) => match &self.journal.records()[bound.place as usize - 1] {
+            Some(bound) => match &self.journal.records()[bound.number as usize - 1] {
                 Rec::Bind { token } => Some(token),
                 _ => unreachable!(),
             },
@@ -237,12 +237,12 @@ impl<D: Disk> Ledger<D> {
     }
 
     /// The number of that token's Bind.
-    pub fn bind_place(&self) -> Option<u64>
+    pub fn bind_number(&self) -> Option<u64>
         requires { IsOpen self.now }
-        ensures { result ≡ bound_place self.now.records }
+        ensures { result ≡ bound_number self.now.records }
     {
         match &self.bound {
-            Some(bound) => Some(bound.place),
+            Some(bound) => Some(bound.number),
             None => None,
         }
     }
@@ -316,9 +316,12 @@ impl<D: Disk> Ledger<D> {
         ensures any_moment { IfTold (D.held self.old.disk) (λ _. LeavesOnly D.Disk self.old.disk self.new.disk (StandsForEither self.old.records (Issue nonce.number word))) }
         ensures kept { OnOk result (Leaves D.Disk self.new.disk self.new.records) }
     {
-        let number = nonce.number;
-        let place = match append(&mut self.journal, Rec::Issue { number, word }) {
-            Ok(place) => place,
+        let issue = Rec::Issue {
+            number: nonce.number,
+            word,
+        };
+        let number = match append(&mut self.journal, issue) {
+            Ok(number) => number,
             Err(deny) => {
                 if deny == Deny::Disk {
                     self.doubted = Some(nonce);
@@ -326,9 +329,9 @@ impl<D: Disk> Ledger<D> {
                 return Err(deny);
             }
         };
-        self.issues = number;
-        self.mark = place;
-        self.live = Some(Live { place, nonce });
+        self.issues = nonce.number;
+        self.mark = number;
+        self.live = Some(Live { number, nonce });
         self.bound = None;
         Ok(())
     }
@@ -365,9 +368,9 @@ impl<D: Disk> Ledger<D> {
         ensures any_moment { IfTold (D.held self.old.disk) (λ _. LeavesOnly D.Disk self.old.disk self.new.disk (StandsForEither self.old.records (Bind token))) }
         ensures kept { OnOk result (Leaves D.Disk self.new.disk self.new.records) }
     {
-        let place = append(&mut self.journal, Rec::Bind { token })?;
+        let number = append(&mut self.journal, Rec::Bind { token })?;
         self.bound = Some(Bound {
-            place,
+            number,
             amounts,
             presented: [0; 9],
         });
@@ -537,7 +540,7 @@ fn live_found(
     match &records[before] {
         Rec::Issue { .. } => match doubted {
             Some(nonce) => Some(Live {
-                place: before as u64 + 1,
+                number: before as u64 + 1,
                 nonce,
             }),
             None => None,

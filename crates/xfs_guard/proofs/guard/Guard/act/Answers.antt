@@ -36,4 +36,4 @@ returns-clause-keeps g c =
     let none = c.self.invariant.0.clean still in
     rw (← c.self.view_is) (left-through g.D.Disk c.self.inside.ledger.disk _ (MayMove _) (g.met.D.Disk.only_now c.self.inside.ledger.disk) c.self.invariant.1
     c.self.invariant.0.recorded
-    (λ told J p entry now may grows. rw (one-possible _ _ J none p) (recorded-moved _ entry now (c.self.invariant.0.sound still booted) told may grows))))
+    (λ told records p entry now may grows. rw (one-possible _ _ records none p) (recorded-moved _ entry now (c.self.invariant.0.sound still booted) told may grows))))

@@ -22,13 +22,13 @@ invariant_of-result g c = (
 )
 
 pub returns-in-Ok-boot-clause-continues : goal.returns-in-Ok-boot-clause-continues
-returns-in-Ok-boot-clause-continues g c = λ J is.
+returns-in-Ok-boot-clause-continues g c = λ records is.
     let v = over c.new-in-Ok-boot.result c.args.seed No (g.M.Mechanism.motions c.args.mech) (g.M.Mechanism.places c.args.mech) (g.M.Mechanism.faults c.args.mech) c.in-Ok-boot.ledger (is_some (g.D.Disk.held c.in-Ok-boot.ledger.disk)) in
-    rw (is, c.in-Ok-boot.ensures.opened.0, c.in-Ok-boot.ensures.opened.1, c.in-Ok-boot.ensures.opened.3) (Continues-written (record v { records = J; shut = false; boot_missing = false; in_doubt = None }) (Boot (g.M.Mechanism.places c.args.mech)) c.in-Ok-boot.ledger.bound No refl refl refl (λ p same. cc))
+    rw (is, c.in-Ok-boot.ensures.opened.0, c.in-Ok-boot.ensures.opened.1, c.in-Ok-boot.ensures.opened.3) (Continues-written (record v { records = records; shut = false; boot_missing = false; in_doubt = None }) (Boot (g.M.Mechanism.places c.args.mech)) c.in-Ok-boot.ledger.bound No refl refl refl (λ p same. cc))
 
 pub returns-in-Err-clause-left : goal.returns-in-Err-clause-left
-returns-in-Err-clause-left g c = λ J may.
-    WasLeft-recorded c.args.key c.args.units (g.M.Mechanism.motions c.args.mech) g.D.Disk c.args.disk c.in-Ok.survey c.requires.recorded J (c.in-Err.ensures.left J may)
+returns-in-Err-clause-left g c = λ records may.
+    WasLeft-recorded c.args.key c.args.units (g.M.Mechanism.motions c.args.mech) g.D.Disk c.args.disk c.in-Ok.survey c.requires.recorded records (c.in-Err.ensures.left records may)
 
 pub returns-in-Err-clause-either : goal.returns-in-Err-clause-either
 returns-in-Err-clause-either g c = rw (c.in-Ok.ensures, c.survey-places.ensures) at c.in-Err.ensures.either

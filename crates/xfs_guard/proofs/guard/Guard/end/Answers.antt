@@ -8,6 +8,6 @@ returns-clause-left g c =
     rw (← c.self.view_is) (left-possible g.D.Disk c.end.result c.self.inside.ledger.records c.self.inside.ledger.in_doubt c.end.ensures.stored)
 
 pub returns-clause-recorded : goal.returns-clause-recorded
-returns-clause-recorded g c = rw (← c.self.view_is) (λ J may.
+returns-clause-recorded g c = rw (← c.self.view_is) (λ records may.
     let told : is_some (g.D.Disk.held c.self.inside.ledger.disk) ≡ true = rw (← c.end.ensures.disk) may.told in
-    c.self.invariant.0.recorded told J (left-possible g.D.Disk c.end.result c.self.inside.ledger.records c.self.inside.ledger.in_doubt c.end.ensures.stored J may))
+    c.self.invariant.0.recorded told records (left-possible g.D.Disk c.end.result c.self.inside.ledger.records c.self.inside.ledger.in_doubt c.end.ensures.stored records may))

@@ -19,7 +19,7 @@ invariant_of-self-then-outcome g c = (
         balanced = balanced-failed _ _ _ _ _ (Loaded c.args.unit c.args.count) c.load-outcome.result.moved c.load-outcome.result.diverted c.load-outcome.result.failed _ _ _ _ c.if-outcome.true reported c.self.invariant.0.balanced;
         closed = c.self.invariant.0.closed;
         missing = c.self.invariant.0.missing;
-        recorded = λ told J p. IsRecorded-report _ _ J (Loaded c.args.unit c.args.count) c.load-outcome.result.moved c.load-outcome.result.diverted c.load-outcome.result.failed _ _ _ _ _ _ tt reported (c.self.invariant.0.recorded told J p);
+        recorded = λ told records p. IsRecorded-report _ _ records (Loaded c.args.unit c.args.count) c.load-outcome.result.moved c.load-outcome.result.diverted c.load-outcome.result.failed _ _ _ _ _ _ tt reported (c.self.invariant.0.recorded told records p);
         limits = HasLimits-report c.self.inside.open_order _ _ _ _ _ c.self.invariant.0.limits;
         room = HasRoom-report c.self.inside.open_order (Loaded c.args.unit c.args.count) c.load-outcome.result.moved c.load-outcome.result.diverted c.load-outcome.result.failed
             _ _ _ _ (g.M.Mechanism.room c.self.inside.mech) _ _ c.self.inside.ledger.room c.self.invariant.0.room c.in_ok-ready.ensures.room reported;
@@ -40,7 +40,7 @@ invariant_of-self-2 g c = (
         balanced = balanced-loaded _ _ _ _ _ c.args.unit c.args.count c.load-outcome.result.moved c.load-outcome.result.diverted c.load-outcome.result.failed _ _ _ _ c.if-outcome.false (rw (← c.self.view_is) at c.requires.fits).low c.count_load.ensures.few reported c.self.invariant.0.balanced;
         closed = c.self.invariant.0.closed;
         missing = c.self.invariant.0.missing;
-        recorded = λ told J p. IsRecorded-report _ _ J (Loaded c.args.unit c.args.count) c.load-outcome.result.moved c.load-outcome.result.diverted c.load-outcome.result.failed _ _ _ _ _ _ tt reported (c.self.invariant.0.recorded told J p);
+        recorded = λ told records p. IsRecorded-report _ _ records (Loaded c.args.unit c.args.count) c.load-outcome.result.moved c.load-outcome.result.diverted c.load-outcome.result.failed _ _ _ _ _ _ tt reported (c.self.invariant.0.recorded told records p);
         limits = HasLimits-report c.self.inside.open_order _ _ _ _ _ c.self.invariant.0.limits;
         room = HasRoom-report c.self.inside.open_order (Loaded c.args.unit c.args.count) c.load-outcome.result.moved c.load-outcome.result.diverted c.load-outcome.result.failed
             _ _ _ _ (g.M.Mechanism.room c.self.inside.mech) _ _ c.self.inside.ledger.room c.self.invariant.0.room c.in_ok-ready.ensures.room reported;
@@ -61,7 +61,7 @@ returns-in_err-ready-clause-keeps g c =
     (rw (← c.self.view_is, c.ready.ensures.faults) (omega arith))
     (rw (← c.self.view_is) (left-through g.D.Disk c.self.inside.ledger.disk _ (λ entry. entry ≡ Loaded c.args.unit c.args.count) (g.met.D.Disk.only_now c.self.inside.ledger.disk) c.self.invariant.1
     c.self.invariant.0.recorded
-    (λ told J p entry now may grows. IsRecorded-entry _ _ J (Loaded c.args.unit c.args.count) _ now tt (rw may at grows) (c.self.invariant.0.recorded told J p))))
+    (λ told records p entry now may grows. IsRecorded-entry _ _ records (Loaded c.args.unit c.args.count) _ now tt (rw may at grows) (c.self.invariant.0.recorded told records p))))
 
 pub returns-then-outcome-clause-keeps : goal.returns-then-outcome-clause-keeps
 returns-then-outcome-clause-keeps g c =
@@ -73,7 +73,7 @@ returns-then-outcome-clause-keeps g c =
     (rw (← c.self.view_is) (rw c.ready.ensures.faults at c.load-outcome.ensures.later))
     (rw (← c.self.view_is) (left-through g.D.Disk c.self.inside.ledger.disk _ (λ entry. entry ≡ Loaded c.args.unit c.args.count) (g.met.D.Disk.only_now c.self.inside.ledger.disk) c.self.invariant.1
     c.self.invariant.0.recorded
-    (λ told J p entry now may grows. IsRecorded-entry _ _ J (Loaded c.args.unit c.args.count) _ now tt (rw may at grows) (c.self.invariant.0.recorded told J p))))
+    (λ told records p entry now may grows. IsRecorded-entry _ _ records (Loaded c.args.unit c.args.count) _ now tt (rw may at grows) (c.self.invariant.0.recorded told records p))))
 
 pub returns-clause-keeps : goal.returns-clause-keeps
 returns-clause-keeps g c =
@@ -85,4 +85,4 @@ returns-clause-keeps g c =
     (rw (← c.self.view_is) (rw c.ready.ensures.faults at c.load-outcome.ensures.later))
     (rw (← c.self.view_is) (left-through g.D.Disk c.self.inside.ledger.disk _ (λ entry. entry ≡ Loaded c.args.unit c.args.count) (g.met.D.Disk.only_now c.self.inside.ledger.disk) c.self.invariant.1
     c.self.invariant.0.recorded
-    (λ told J p entry now may grows. IsRecorded-entry _ _ J (Loaded c.args.unit c.args.count) _ now tt (rw may at grows) (c.self.invariant.0.recorded told J p)))))
+    (λ told records p entry now may grows. IsRecorded-entry _ _ records (Loaded c.args.unit c.args.count) _ now tt (rw may at grows) (c.self.invariant.0.recorded told records p)))))

@@ -1,11 +1,11 @@
 use Rattle.std.proofs.Common.{sym}
 use Rattle.xfs_guard.proofs.LedgerLaws.{nonce-open}
-use Rattle.xfs_guard.proofs.OrderLaws.{live-place, told-live}
+use Rattle.xfs_guard.proofs.OrderLaws.{live-number, told-live}
 use Rattle.xfs_guard.proofs.SizeLaws.{fit-at}
 use Rattle.xfs_guard.proofs.guard.Guard.stacked.Goals as goal
 
 pub over_budget-requires : goal.over_budget-requires
 over_budget-requires g c =
     let fit = fit-at _ _ c.self.view_is c.requires.fit in
-    let live = live-place c.self.inside.ledger.records c.in-Some.nonce (nonce-open c.self.inside.ledger.boot_missing c.self.inside.ledger.records c.in-Some.nonce fit.2 (sym c.in-Some.ensures)) in
+    let live = live-number c.self.inside.ledger.records c.in-Some.nonce (nonce-open c.self.inside.ledger.boot_missing c.self.inside.ledger.records c.in-Some.nonce fit.2 (sym c.in-Some.ensures)) in
     record { open_still = (fit.0, fit.2); told = told-live _ live.0 (c.self.invariant.0.sound fit.0 fit.2) live.1 }

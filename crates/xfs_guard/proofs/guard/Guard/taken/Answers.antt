@@ -20,7 +20,7 @@ invariant_of-self-2 g c = (
         balanced = balanced-taking _ _ _ _ _ c.taken.result.moved c.taken.result.moved c.taken.result.diverted c.taken.result.failed _ _ _ _ reported c.self.invariant.0.balanced;
         closed = c.self.invariant.0.closed;
         missing = c.self.invariant.0.missing;
-        recorded = λ told J p. IsRecorded-report _ _ J (Taken c.taken.result.moved) c.taken.result.moved c.taken.result.diverted c.taken.result.failed _ _ _ _ _ _ tt reported (c.self.invariant.0.recorded told J p);
+        recorded = λ told records p. IsRecorded-report _ _ records (Taken c.taken.result.moved) c.taken.result.moved c.taken.result.diverted c.taken.result.failed _ _ _ _ _ _ tt reported (c.self.invariant.0.recorded told records p);
         limits = HasLimits-report c.self.inside.open_order _ _ _ _ _ c.self.invariant.0.limits;
         room = HasRoom-report c.self.inside.open_order (Taken c.taken.result.moved) c.taken.result.moved c.taken.result.diverted c.taken.result.failed
             _ _ _ _ (g.M.Mechanism.room c.self.inside.mech) _ _ c.self.inside.ledger.room c.self.invariant.0.room c.in_ok-ready.ensures.room reported;
@@ -41,7 +41,7 @@ returns-in_err-ready-clause-keeps g c =
     (rw (← c.self.view_is, c.ready.ensures.faults) (omega arith))
     (rw (← c.self.view_is) (left-through g.D.Disk c.self.inside.ledger.disk _ (MayTake _) (g.met.D.Disk.only_now c.self.inside.ledger.disk) c.self.invariant.1
     c.self.invariant.0.recorded
-    (λ told J p entry now may grows. IsRecorded-entry _ _ J (Taken may.counts) _ now tt (rw may.entry_is at grows) (c.self.invariant.0.recorded told J p))))
+    (λ told records p entry now may grows. IsRecorded-entry _ _ records (Taken may.counts) _ now tt (rw may.entry_is at grows) (c.self.invariant.0.recorded told records p))))
 
 pub returns-clause-keeps : goal.returns-clause-keeps
 returns-clause-keeps g c =
@@ -53,4 +53,4 @@ returns-clause-keeps g c =
     (rw (← c.self.view_is) (rw c.ready.ensures.faults at c.taken.ensures.later))
     (rw (← c.self.view_is) (left-through g.D.Disk c.self.inside.ledger.disk _ (MayTake _) (g.met.D.Disk.only_now c.self.inside.ledger.disk) c.self.invariant.1
     c.self.invariant.0.recorded
-    (λ told J p entry now may grows. IsRecorded-entry _ _ J (Taken may.counts) _ now tt (rw may.entry_is at grows) (c.self.invariant.0.recorded told J p))))
+    (λ told records p entry now may grows. IsRecorded-entry _ _ records (Taken may.counts) _ now tt (rw may.entry_is at grows) (c.self.invariant.0.recorded told records p))))

@@ -33,23 +33,23 @@ returns-in-Err-Disk-clause-left g c =
 
 pub returns-in-Ok-clause-any_moment : goal.returns-in-Ok-clause-any_moment
 returns-in-Ok-clause-any_moment g c =
-    let J = c.remount.new.self.records in
+    let records = c.remount.new.self.records in
     let w = c.in-Ok.ensures.ok in
-    rw (← c.self.view_is) (reread-append g.D.Disk _ c.remount.new.self.disk _ J (Boot c.args.places) _ c.remount.ensures.told c.remount.ensures.any_moment c.append_boot.ensures.any_moment
-    (λ bytes either. record { list = J; possible = c.in_default.ensures.ok; either = either; without = inl (rw w.0 (begins-push J J (Boot c.args.places) (begins-same J))); booted = inl (rw w.0 (begins-same _)) }))
+    rw (← c.self.view_is) (reread-append g.D.Disk _ c.remount.new.self.disk _ records (Boot c.args.places) _ c.remount.ensures.told c.remount.ensures.any_moment c.append_boot.ensures.any_moment
+    (λ bytes either. record { list = records; possible = c.in_default.ensures.ok; either = either; without = inl (rw w.0 (begins-push records records (Boot c.args.places) (begins-same records))); booted = inl (rw w.0 (begins-same _)) }))
 
 pub returns-in-Err-Full-clause-any_moment : goal.returns-in-Err-Full-clause-any_moment
 returns-in-Err-Full-clause-any_moment g c =
-    let J = c.remount.new.self.records in
+    let records = c.remount.new.self.records in
     let e = c.in-Err-Full.ensures in
     let m = e.mounted (ap Err c.in-Err-Full.field-0-is) in
-    rw (← c.self.view_is) (reread-append g.D.Disk _ c.remount.new.self.disk _ J (Boot c.args.places) _ c.remount.ensures.told c.remount.ensures.any_moment c.append_boot.ensures.any_moment
-    (λ bytes either. record { list = J; possible = c.in_default.ensures.ok; either = either; without = inl (rw e.same (begins-same J)); booted = inr (rw (e.same, m.0, m.1, c.in_default.ensures.opened.1) (IsTorn-missing J (Boot c.args.places))) }))
+    rw (← c.self.view_is) (reread-append g.D.Disk _ c.remount.new.self.disk _ records (Boot c.args.places) _ c.remount.ensures.told c.remount.ensures.any_moment c.append_boot.ensures.any_moment
+    (λ bytes either. record { list = records; possible = c.in_default.ensures.ok; either = either; without = inl (rw e.same (begins-same records)); booted = inr (rw (e.same, m.0, m.1, c.in_default.ensures.opened.1) (IsTorn-missing records (Boot c.args.places))) }))
 
 pub returns-in-Err-Disk-clause-any_moment : goal.returns-in-Err-Disk-clause-any_moment
 returns-in-Err-Disk-clause-any_moment g c =
-    let J = c.remount.new.self.records in
+    let records = c.remount.new.self.records in
     let e = c.in-Err-Disk.ensures in
     let m = e.in_doubt (ap Err c.in-Err-Disk.field-0-is) in
-    rw (← c.self.view_is) (reread-append g.D.Disk _ c.remount.new.self.disk _ J (Boot c.args.places) _ c.remount.ensures.told c.remount.ensures.any_moment c.append_boot.ensures.any_moment
-    (λ bytes either. record { list = J; possible = c.in_default.ensures.ok; either = either; without = inl (rw e.same (begins-same J)); booted = inr (rw (e.same, m.0, m.1) (IsTorn-in_doubt J (Boot c.args.places))) }))
+    rw (← c.self.view_is) (reread-append g.D.Disk _ c.remount.new.self.disk _ records (Boot c.args.places) _ c.remount.ensures.told c.remount.ensures.any_moment c.append_boot.ensures.any_moment
+    (λ bytes either. record { list = records; possible = c.in_default.ensures.ok; either = either; without = inl (rw e.same (begins-same records)); booted = inr (rw (e.same, m.0, m.1) (IsTorn-in_doubt records (Boot c.args.places))) }))
