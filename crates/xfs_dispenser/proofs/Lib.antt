@@ -1,4 +1,5 @@
 pub mod BeginLaws
+mod CarryLaws
 mod CommandLaws
 mod CompleteLaws
 mod CurrencyLaws

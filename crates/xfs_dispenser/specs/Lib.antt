@@ -1,6 +1,7 @@
 pub mod Answers
 pub mod Asks
 pub mod Begins
+pub mod Carried
 pub mod Checks
 pub mod Complete
 pub mod Denominations

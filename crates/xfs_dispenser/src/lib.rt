@@ -3,6 +3,7 @@
 
 mod ask;
 mod begun;
+mod carrying;
 mod commands;
 mod denominate;
 mod laws;
@@ -18,6 +19,7 @@ mod steps;
 
 pub use ask::{CashAsk, CashFail, read_ask};
 pub use begun::Begun;
+pub use carrying::{carry_out, stack_all};
 pub use commands::begin;
 pub use laws::dispenses_are_complete;
 pub use leave::{Leave, leave_to_stack};
