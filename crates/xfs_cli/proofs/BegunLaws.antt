@@ -1,10 +1,8 @@
 -- What a method that wants memory leaves of its verb, and of its line.
-use Rattle.std.proofs.Common.{◌≡◌, ◌≢◌, ◌≤◌, ◌⊎◌, ◌+◌, ℕ, false, List, [], ◌∷◌, ◌++◌, length, take, None, Some, Ok, Err, inl, inr, refl, sym, subst, ◌∙◌, ap, arith, append_assoc, length-append}
-use Rattle.std.specs.Prelude.{IsErrAnd, OnErr, codes, slice_index}
+use Rattle.std.proofs.Common.{◌≡◌, ◌≢◌, ◌≤◌, ◌⊎◌, ℕ, false, List, [], ◌∷◌, ◌++◌, length, None, Some, Ok, Err, inl, inr, refl, sym, subst, ◌∙◌, ap}
+use Rattle.std.specs.Prelude.{OnErr, codes}
 use Rattle.std.specs.declared.option.Option.{Option}
 use Rattle.std.specs.declared.result.Result.{Result}
-use Rattle.std.proofs.lemmas.List.{append-nil, length-take-le, take_all, take_more}
-use Rattle.std.proofs.lemmas.Bool.{cases_lt}
 use Rattle.xfs_base.specs.declared.counts.Counts.{Counts as CountsOf}
 use Rattle.xfs_mech.specs.Mechanism.{CanLoad}
 use Rattle.xfs_mech.specs.declared.motion.Motion.TheVariants.{Loaded}
@@ -15,7 +13,6 @@ use Rattle.xfs_guard.specs.Fits.{unfit}
 use Rattle.xfs_guard.specs.Reports.{HasReported}
 use Rattle.xfs_guard.specs.View.{GuardView}
 use Rattle.xfs_guard.specs.declared.nonce.Nonce.{Nonce}
-use Rattle.xfs_guard.specs.declared.ask.Ask.TheVariants.{Stack}
 use Rattle.xfs_guard.specs.declared.deny.Deny.{Deny}
 use Rattle.xfs_guard.specs.declared.deny.Deny.TheVariants.{Disk, Memory}
 use Rattle.xfs_script.specs.Guard.{IsGuardLine}
@@ -23,16 +20,17 @@ use Rattle.xfs_script.specs.declared.guard_line.GuardLine.{GuardLine}
 use Rattle.xfs_script.specs.declared.guard_line.GuardLine.TheVariants.{Skip, Issue, Mint, Dispense, Fill, Present, Reject, Retract, Take, Restart, Show}
 use Rattle.xfs_script.specs.declared.guard_line.GuardLine.TheVariants as Verb
 use Rattle.xfs_script.specs.Answered.{lines_text, Tells}
-use Rattle.xfs_cli.specs.Begun.{AllOrNothing, IsBegun, IsPartDispensed, IsPartFilled, LeavesOfVerb, StacksFirst}
+use Rattle.xfs_cli.specs.Begun.{AllOrNothing, IsBegun, IsPartDispensed, IsPartFilled, LeavesOfVerb}
 use Rattle.xfs_cli.specs.DispenseAnswers.{Dispenses, IsAllowed}
-use Rattle.xfs_cli.specs.OrderAnswers.{CarriesOut, MechCalled, Stacks, nothing_stacked, with_stacked}
+use Rattle.xfs_cli.specs.OrderAnswers.{MechCalled}
 use Rattle.xfs_cli.specs.Refused.{refusal_text}
-use Rattle.xfs_cli.specs.Seen.{Seen, seen}
+use Rattle.xfs_cli.specs.Seen.{Seen, guard_of, seen}
 use Rattle.xfs_cli.specs.VerbAnswers.{AreAnswer, Clears, Fills, IsAnswer, IsLoaded, Mints}
+use Rattle.xfs_dispenser.specs.Carried.{StacksAll, StacksFirst}
 use Rattle.xfs_dispenser.specs.declared.leave.Leave.{Leave}
 use Rattle.xfs_dispenser.specs.declared.refusal.Refusal.{Refusal}
 use Rattle.xfs_dispenser.specs.declared.refusal.Refusal.TheVariants.{Deny as Denied}
-use Rattle.xfs_cli.proofs.SeenLaws.{err-same, seen-same, told-some, wrote-kept, stacks-unit, stacks-zero, some-within}
+use Rattle.xfs_cli.proofs.SeenLaws.{err-same, seen-same, told-some, wrote-kept}
 
 pub on-err : {T E : Type 0} (result : Result T E) (P : Type 0) → P → OnErr result P
 on-err (Ok x) P p = tt
@@ -141,17 +139,13 @@ mints-made s (Some n) nonce amounts key token last is same made kept =
 pub seen-both : {D : Type 0} (faults : D → ℕ) (old new : GuardView D) (last last' : Option (List ℕ)) → new ≡ old → last' ≡ last → seen faults new last' ≡ seen faults old last
 seen-both {D} faults old new last last' same token = ap (λ (g : GuardView D). seen faults g last') same ∙ ap (λ t. seen faults old t) token
 
-pub deny-memory : {T : Type 0} (result : Result T Deny) (deny : Deny) → IsErrAnd result (λ e. e ≡ deny) → result ≡ Err Memory → deny ≡ Memory
-deny-memory (Ok x) deny err is = absurd err
-deny-memory (Err e) deny err is = sym err ∙ err-same is
-
 -- the orders of a dispense end in a refusal, which may be want of memory
-pub ordered-or-part : (s bound next : Seen) (token : Option (List ℕ)) (counts : CountsOf) (leave : Leave) (deny : Deny) → IsAllowed s token counts (Ok leave) bound
-    → (◌≡◌ {A = Result Outcome Deny} (Err deny) (Err Memory) → StacksFirst leave.issue leave.counts.0 bound next)
-    → (◌≢◌ {A = Result Outcome Deny} (Err deny) (Err Memory) → Stacks leave.issue leave.counts.0 0 nothing_stacked bound (Err deny) next)
+pub ordered-or-part : (s bound next : Seen) (token : Option (List ℕ)) (counts : CountsOf) (leave : Leave) (deny : Deny) → IsAllowed s token counts (Ok leave) bound → next.last ≡ bound.last
+    → (◌≡◌ {A = Result Outcome Deny} (Err deny) (Err Memory) → StacksFirst leave.issue leave.counts.0 (guard_of bound) (guard_of next))
+    → (◌≢◌ {A = Result Outcome Deny} (Err deny) (Err Memory) → StacksAll leave.issue leave.counts (guard_of bound) (Err deny) (guard_of next))
     → AllOrNothing (Dispenses s token counts) s next ⊎ IsPartDispensed s token counts next
-ordered-or-part s bound next token counts leave deny allowed part stacked = elim (denied-text deny) [
-  | inl is ↦ inr (record { leave = leave; bound = bound; allowed = allowed; first = part (ap (λ d. Err d) is) })
+ordered-or-part s bound next token counts leave deny allowed last part stacked = elim (denied-text deny) [
+  | inl is ↦ inr (record { leave = leave; bound = bound; allowed = allowed; first = part (ap (λ d. Err d) is); last_is = last })
   | inr text ↦ inl (inr (
     text.0,
     inr (record {
@@ -160,56 +154,8 @@ ordered-or-part s bound next token counts leave deny allowed part stacked = elim
       allowed = allowed;
       result = Err deny;
       stacked = stacked (λ e. told-some (Denied deny) text.0 text.1 (ap (λ d. Denied d) (err-same e)));
+      last_is = last;
       told = text.1;
     }),
   ))
 ]
-
--- behind the orders of these counts, which failed nowhere, come those of any others
-abbrev pub IsFrontOf : ℕ → List ℕ → Outcome → Seen → Seen → Type 0
-IsFrontOf issue counts all start s = (more : List ℕ) (result : Result Outcome Deny) (next : Seen) → Stacks issue more (length counts) all s result next → Stacks issue (counts ++ more) 0 nothing_stacked start result next
-
-length-push : (counts : List ℕ) (count : ℕ) → length (counts ++ count ∷ []) ≡ length counts + 1
-length-push counts count = let e = length-append counts (count ∷ []) in omega (arith, e)
-
-front-push : (issue : ℕ) (counts : List ℕ) (count : ℕ) (all one : Outcome) (start s middle : Seen) → count ≢ 0 → CarriesOut s (Stack issue (length counts + 1) count) (Ok one) middle → one.failed ≡ false
-    → IsFrontOf issue counts all start s → IsFrontOf issue (counts ++ count ∷ []) (with_stacked all (length counts) one) start middle
-front-push issue counts count all one start s middle asked carried fine front = λ more result next h.
-    let onward : Stacks issue more (length counts + 1) (with_stacked all (length counts) one) middle result next = subst (λ u. Stacks issue more u (with_stacked all (length counts) one) middle result next) (length-push counts count) h in
-    let first = front (count ∷ more) result next (stacks-unit issue count more (length counts) all one s middle result next asked carried fine onward) in
-    subst (λ cs. Stacks issue cs 0 nothing_stacked start result next) (sym (append_assoc counts (count ∷ []) more)) first
-
-front-zero : (issue : ℕ) (counts : List ℕ) (count : ℕ) (all : Outcome) (start s : Seen) → count ≡ 0 → IsFrontOf issue counts all start s → IsFrontOf issue (counts ++ count ∷ []) all start s
-front-zero issue counts count all start s none front = λ more result next h.
-    let onward : Stacks issue more (length counts + 1) all s result next = subst (λ u. Stacks issue more u all s result next) (length-push counts count) h in
-    let first = front (count ∷ more) result next (stacks-zero issue count more (length counts) all s result next none onward) in
-    subst (λ cs. Stacks issue cs 0 nothing_stacked start result next) (sym (append_assoc counts (count ∷ []) more)) first
-
--- one more unit, whose order didn't fail
-pub front-unit : (issue : ℕ) (counts : List ℕ) (u at : ℕ) (all one : Outcome) (start s middle : Seen) → at ≡ u → slice_index counts at ≢ 0
-    → CarriesOut s (Stack issue (u + 1) (slice_index counts at)) (Ok one) middle → one.failed ≡ false → IsFrontOf issue (take u counts) all start s → IsFrontOf issue (take (u + 1) counts) (with_stacked all at one) start middle
-front-unit issue counts u at all one start s middle is some carried fine front =
-    let asked : slice_index counts u ≢ 0 = subst (λ i. slice_index counts i ≢ 0) is some in
-    let within = some-within counts u asked in
-    let len : length (take u counts) ≡ u = length-take-le u counts (omega (arith, within)) in
-    let here : CarriesOut s (Stack issue (u + 1) (slice_index counts u)) (Ok one) middle = subst (λ i. CarriesOut s (Stack issue (u + 1) (slice_index counts i)) (Ok one) middle) is carried in
-    let one-carried : CarriesOut s (Stack issue (length (take u counts) + 1) (slice_index counts u)) (Ok one) middle = subst (λ n. CarriesOut s (Stack issue (n + 1) (slice_index counts u)) (Ok one) middle) (sym len) here in
-    let pushed = front-push issue (take u counts) (slice_index counts u) all one start s middle asked one-carried fine front in
-    let taken : IsFrontOf issue (take (u + 1) counts) (with_stacked all (length (take u counts)) one) start middle = subst (λ cs. IsFrontOf issue cs (with_stacked all (length (take u counts)) one) start middle) (sym (take_more counts u 0 within)) pushed in
-    subst (λ i. IsFrontOf issue (take (u + 1) counts) (with_stacked all i one) start middle) (len ∙ sym is) taken
-
--- one more unit, of which no notes are asked
-pub front-skip : (issue : ℕ) (counts : List ℕ) (u : ℕ) (all : Outcome) (start s : Seen) → slice_index counts u ≡ 0 → IsFrontOf issue (take u counts) all start s → IsFrontOf issue (take (u + 1) counts) all start s
-front-skip issue counts u all start s none front = elim (cases_lt u (length counts)) [
-  | inl within ↦ subst (λ cs. IsFrontOf issue cs all start s) (sym (take_more counts u 0 within)) (front-zero issue (take u counts) (slice_index counts u) all start s none front)
-  | inr past ↦ subst (λ cs. IsFrontOf issue cs all start s) (take_all u counts past ∙ sym (take_all (u + 1) counts (omega (arith, past)))) front
-]
-
--- the units before one
-pub front-first : (issue : ℕ) (counts : List ℕ) (u : ℕ) (all : Outcome) (start s : Seen) → all.failed ≡ false → IsFrontOf issue (take u counts) all start s → StacksFirst issue counts start s
-front-first issue counts u all start s fine front = record {
-  units = u;
-  outcome = all;
-  stacked = subst (λ cs. Stacks issue cs 0 nothing_stacked start (Ok all) s) (append-nil (take u counts)) (front [] (Ok all) s (refl, refl));
-  fine = fine;
-}

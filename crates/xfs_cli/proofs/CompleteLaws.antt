@@ -34,11 +34,12 @@ use Rattle.xfs_script.specs.declared.guard_line.Given.{Given}
 use Rattle.xfs_script.specs.declared.guard_line.GuardLine.TheVariants.{Dispense, Present}
 use Rattle.xfs_cli.specs.Refused.{refusal_text}
 use Rattle.xfs_cli.specs.Seen.{Seen, guard_of}
-use Rattle.xfs_cli.specs.OrderAnswers.{Moves, Tells, nothing_stacked}
+use Rattle.xfs_cli.specs.OrderAnswers.{Moves, Tells}
 use Rattle.xfs_cli.specs.DispenseAnswers.{Dispenses, IsAllowed, IsOrdered, named}
 use Rattle.xfs_cli.specs.GuardAnswers.{outcome_text}
 use Rattle.xfs_cli.specs.VerbAnswers.{AnswersGuard, AreAnswer}
 use Rattle.xfs_cli.specs.Complete.{AnswersInFull, CanDispense, CanPresent, IsBindable, IsCalm, IsCoveredBy, IsDispensed, IsGood, IsPresented, moved_line}
+use Rattle.xfs_dispenser.specs.Carried.{nothing_stacked}
 use Rattle.xfs_dispenser.specs.Checks.{Grant, LeaveChecks, Permits, TokenChecks, granted_unless, within_budget}
 use Rattle.xfs_dispenser.specs.Denominations.{FirstOf, given_unless}
 use Rattle.xfs_dispenser.specs.declared.leave.Leave.{Leave}
@@ -209,9 +210,9 @@ ordered-full : (s next : Seen) (token : Option (List ℕ)) (bytes line : List �
     → IsOrdered s token counts line next → IsDispensed s counts (line ∷ []) next
 ordered-full s next token bytes line counts eight is c calm o =
     let ready = allowed-open s token bytes counts o.leave o.bound c is l in
-    let calm-on = calm-rest s o.bound next (bound-grown c.binding) calm in
+    let calm-on = calm-rest (guard_of s) (guard_of o.bound) (guard_of next) (bound-grown c.binding) calm in
     let stacked = rw l.counts_are at o.stacked in
-    let all = stacks-full o.leave.issue c.amounts counts.0 0 [] nothing_stacked o.bound o.result next refl (omega (arith, eight)) refl (rw eight refl)
+    let all = stacks-full o.leave.issue c.amounts counts.0 0 [] nothing_stacked (guard_of o.bound) o.result (guard_of next) refl (omega (arith, eight)) refl (rw eight refl)
     (rw eight ready.0) ready.1 calm-on stacked in
     let told : Tells (codes "moved") (Ok all.outcome) line = rw all.is at o.told in
     let lives = some-nonce (live_nonce next.guard.records) o.leave.issue all.open_for.lives in
@@ -235,7 +236,7 @@ ordered-full s next token bytes line counts eight is c calm o =
     l : IsLet s token counts o.leave o.bound
     l = is-let s token counts o.leave o.bound o.allowed
 
-    bound-grown : IsBindable s.guard bytes → IsGrown s o.bound
+    bound-grown : IsBindable s.guard bytes → IsGrown (guard_of s) (guard_of o.bound)
     bound-grown (inl b) =
         let now : o.bound.guard ≡ s.guard = l.binds.again (λ none. let e : Some bytes ≡ None = sym b ∙ none in cc) in
         let faults : o.bound.guard.faults ≡ s.guard.faults = ap (λ (v : View). v.faults) now in
@@ -252,7 +253,7 @@ dispenses-full s next token bytes line counts eight is c calm (inl r) = absurd (
 
 presents-full : (s next : Seen) (line : List ℕ) → CanPresent s.guard → IsCalm s next → Moves s AskPresent line next → IsPresented s (line ∷ []) next
 presents-full s next line c calm m =
-    let f = carries-full s AskPresent m.result next (present-free s.guard c) calm m.carried in
+    let f = carries-full (guard_of s) AskPresent m.result (guard_of next) (present-free s.guard c) calm m.carried in
     let told : Tells (codes "moved") (Ok f.outcome) line = rw f.is at m.told in
     record {
       text = ap (λ l. l ∷ []) (told ∙ told-all f.outcome s.guard.places.transport f.fine (ap (λ (k : CountsOf). k.0) f.moved));

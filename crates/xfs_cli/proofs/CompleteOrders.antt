@@ -19,9 +19,10 @@ use Rattle.xfs_guard.specs.declared.ask.Ask.{Ask}
 use Rattle.xfs_guard.specs.declared.ask.Ask.TheVariants.{Stack as AskStack}
 use Rattle.xfs_guard.specs.declared.deny.Deny.{Deny}
 use Rattle.xfs_guard.specs.declared.open.Open.TheVariants.{Written, Acted}
-use Rattle.xfs_cli.specs.Seen.{Seen}
-use Rattle.xfs_cli.specs.Complete.{IsCalm}
-use Rattle.xfs_cli.specs.OrderAnswers.{CarriesOut, IsActed, IsSettled, IsStopped, Stacks, FollowsUnit, refusal_of, order_of, with_stacked}
+use Rattle.xfs_dispenser.specs.Seen.{Seen}
+use Rattle.xfs_dispenser.specs.Complete.{IsCalm}
+use Rattle.xfs_dispenser.specs.Carried.{CarriesOut, IsOrderActed, IsOrderSettled, IsStopped, Stacks, FollowsUnit, with_stacked}
+use Rattle.xfs_dispenser.specs.Steps.{refusal_of, order_record}
 
 -- a rise within a longer while is one of the longer while
 rose-within : (a b x y : ℕ) → a ≤ x → y ≤ b → Rose x y → Rose a b
@@ -45,18 +46,18 @@ grown-trans r s t a b = record {
   grown = b.grown ∙ (ap (λ l. l ++ b.more) a.grown ∙ append_assoc r.guard.records a.more b.more);
 }
 
-acted-grown : (s : Seen) (ask : Ask) (outcome : Outcome) (acted : Seen) → IsActed s ask outcome acted → IsGrown s acted
+acted-grown : (s : Seen) (ask : Ask) (outcome : Outcome) (acted : Seen) → IsOrderActed s ask outcome acted → IsGrown s acted
 acted-grown s ask outcome acted a =
     let faults : a.written.guard.faults ≡ s.guard.faults = ap (λ (v : View). v.faults) a.order.guard_is in
     let records : acted.guard.records ≡ a.written.guard.records = ap (λ (v : View). v.records) a.acts.same in
     record {
       mech = omega (arith, faults, a.called.later);
       disk = omega (arith, a.order.later, a.called.disk_same);
-      more = order_of s.guard ask ∷ [];
+      more = order_record s.guard ask ∷ [];
       grown = records ∙ ap (λ (v : View). v.records) a.order.guard_is;
     }
 
-settled-grown : (s : Seen) (ask : Ask) (outcome : Outcome) (next : Seen) → IsSettled s ask outcome next → IsGrown s next
+settled-grown : (s : Seen) (ask : Ask) (outcome : Outcome) (next : Seen) → IsOrderSettled s ask outcome next → IsGrown s next
 settled-grown s ask outcome next h =
     let faults : next.guard.faults ≡ h.acted.guard.faults = ap (λ (v : View). v.faults) h.settles.same in
     grown-trans s h.acted next (acted-grown s ask outcome h.acted h.first) (record {
@@ -118,7 +119,7 @@ pub record IsFull (s : Seen) (ask : Ask) (result : Result Outcome Deny) (next : 
   pub eight : length outcome.diverted.0 ≡ 8
   pub number : ℕ
   pub places : PlacesOf s.guard.places (Moved number (asked_kind ask) (asked_counts s.guard ask) outcome.diverted ∷ []) next.guard.places
-  pub records : next.guard.records ≡ (s.guard.records ++ order_of s.guard ask ∷ []) ++ Done (asked_counts s.guard ask) outcome.diverted ∷ []
+  pub records : next.guard.records ≡ (s.guard.records ++ order_record s.guard ask ∷ []) ++ Done (asked_counts s.guard ask) outcome.diverted ∷ []
   pub bound : next.guard.bound ≡ s.guard.bound
   pub units : next.guard.units ≡ s.guard.units
   pub limits : next.guard.limits ≡ s.guard.limits
@@ -134,7 +135,7 @@ acted-moved k j m n d e f g h = (cc, cc)
 places-at : (n : ℕ) (k j : Kind) (m c d : Counts) (p q r t : Places) → p ≡ q → k ≡ j → m ≡ c → r ≡ t → PlacesOf p (Moved n k m d ∷ []) t → PlacesOf q (Moved n j c d ∷ []) r
 places-at n k j m c d p q r t a b e f h = rw (← a, ← b, ← e, f) h
 
-settled-full : (s : Seen) (ask : Ask) (outcome : Outcome) (next : Seen) → IsCalm s next → IsSettled s ask outcome next → IsFull s ask (Ok outcome) next
+settled-full : (s : Seen) (ask : Ask) (outcome : Outcome) (next : Seen) → IsCalm s next → IsOrderSettled s ask outcome next → IsFull s ask (Ok outcome) next
 settled-full s ask outcome next calm h =
     let a = h.first in
     let faults : a.written.guard.faults ≡ s.guard.faults = ap (λ (v : View). v.faults) a.order.guard_is in
@@ -147,7 +148,7 @@ settled-full s ask outcome next calm h =
     let done = acted-moved a.acts.kind h.settles.kind outcome.moved h.settles.moved outcome.diverted h.settles.diverted outcome.failed h.settles.failed acted in
     let moved : outcome.moved ≡ asked_counts s.guard ask = full.0 ∙ asked.1 in
     let appended : next.guard.records ≡ h.acted.guard.records ++ Done h.settles.moved h.settles.diverted ∷ [] = ap (λ (v : View). v.records) h.settles.same in
-    let kept : h.acted.guard.records ≡ s.guard.records ++ order_of s.guard ask ∷ [] = ap (λ (v : View). v.records) a.acts.same ∙ ap (λ (v : View). v.records) a.order.guard_is in
+    let kept : h.acted.guard.records ≡ s.guard.records ++ order_record s.guard ask ∷ [] = ap (λ (v : View). v.records) a.acts.same ∙ ap (λ (v : View). v.records) a.order.guard_is in
     record {
       outcome = outcome;
       is = refl;
@@ -159,8 +160,8 @@ settled-full s ask outcome next calm h =
       places = places-at (length a.written.guard.records) a.acts.kind (asked_kind ask) outcome.moved (asked_counts s.guard ask) outcome.diverted a.written.guard.places s.guard.places next.guard.places h.acted.guard.places
           (ap (λ (v : View). v.places) a.order.guard_is) asked.0 moved (ap (λ (v : View). v.places) h.settles.same) a.acts.places;
       records = appended ∙ (ap (λ l. l ++ Done h.settles.moved h.settles.diverted ∷ []) kept
-          ∙ (ap (λ m. (s.guard.records ++ order_of s.guard ask ∷ []) ++ Done m h.settles.diverted ∷ []) (done.0 ∙ moved)
-          ∙ ap (λ d. (s.guard.records ++ order_of s.guard ask ∷ []) ++ Done (asked_counts s.guard ask) d ∷ []) done.1));
+          ∙ (ap (λ m. (s.guard.records ++ order_record s.guard ask ∷ []) ++ Done m h.settles.diverted ∷ []) (done.0 ∙ moved)
+          ∙ ap (λ d. (s.guard.records ++ order_record s.guard ask ∷ []) ++ Done (asked_counts s.guard ask) d ∷ []) done.1));
       bound = ap (λ (v : View). v.bound) h.settles.same ∙ (ap (λ (v : View). v.bound) a.acts.same ∙ ap (λ (v : View). v.bound) a.order.guard_is);
       units = ap (λ (v : View). v.units) h.settles.same ∙ (ap (λ (v : View). v.units) a.acts.same ∙ ap (λ (v : View). v.units) a.order.guard_is);
       limits = ap (λ (v : View). v.limits) h.settles.same ∙ (ap (λ (v : View). v.limits) a.acts.same ∙ ap (λ (v : View). v.limits) a.order.guard_is);

@@ -21,9 +21,9 @@ use Rattle.xfs_guard.specs.declared.ask.Ask.TheVariants.{Stack as AskStack}
 use Rattle.xfs_guard.specs.declared.deny.Deny.{Deny}
 use Rattle.xfs_guard.specs.declared.nonce.Nonce.{Nonce}
 use Rattle.xfs_guard.proofs.SizeLaws.{size-longer, order-short}
-use Rattle.xfs_cli.specs.Seen.{Seen}
-use Rattle.xfs_cli.specs.OrderAnswers.{Stacks, GoesOn, with_stacked}
-use Rattle.xfs_cli.specs.Complete.{IsCalm}
+use Rattle.xfs_dispenser.specs.Seen.{Seen}
+use Rattle.xfs_dispenser.specs.Carried.{Stacks, GoesOn, with_stacked}
+use Rattle.xfs_dispenser.specs.Complete.{IsCalm}
 use Rattle.xfs_cli.proofs.CompleteOrders.{IsFull, carries-full, carries-grown, follows-grown, stacks-grown, stack-places, calm-first, calm-rest}
 use Rattle.xfs_guard.proofs.CoveredLaws.{ahead, ahead-zero, ahead-none, ahead-split, notes-here, IsAhead, IsOpenFor, nonce-push, free-order, done-short, presented-after}
 

@@ -1,20 +1,14 @@
 -- What a call of the guard says of its answer is what a line that makes the call is answered.
-use Rattle.std.proofs.Common.{◌≡◌, ◌≢◌, ◌≤◌, ◌<◌, ◌+◌, ℕ, zero, suc, Bool, true, false, length, drop, List, [], ◌∷◌, ◌++◌, None, Some, Ok, Err, inl, inr, ◌⊎◌, refl, sym, subst, ◌∙◌, ap, arith}
-use Rattle.std.specs.List.{list_all}
-use Rattle.std.proofs.lemmas.Bool.{ne_eqb, cases_lt}
-use Rattle.std.specs.Prelude.{IsErrAnd, ◌==◌, ◌&&◌, codes, IsTrue, not, nat_lt, sum, slice_index, if◌then◌else◌}
+use Rattle.std.proofs.Common.{◌≡◌, ◌≢◌, ◌≤◌, ◌+◌, ℕ, Bool, true, false, length, drop, List, [], ◌∷◌, ◌++◌, None, Some, Ok, Err, inl, inr, ◌⊎◌, refl, sym, subst, ◌∙◌, ap, arith}
+use Rattle.std.specs.Prelude.{IsErrAnd, codes, IsTrue, not, nat_lt, sum, if◌then◌else◌}
 use Rattle.std.specs.Option.{option_map}
-use Rattle.std.proofs.lemmas.List.{drop_more, drop_all, get_or_past}
 use Rattle.std.specs.declared.option.Option.{Option}
 use Rattle.std.specs.declared.result.Result.{Result}
 use Rattle.xfs_base.specs.Causes.{Rose}
 use Rattle.xfs_base.specs.declared.counts.Counts.{Counts}
 use Rattle.xfs_base.specs.declared.money.NoteKind.{NoteKind}
-use Rattle.xfs_mech.specs.declared.motion.Outcome.{Outcome}
 use Rattle.xfs_mix.specs.Asked.{count_fault, is_none, first_short}
 use Rattle.xfs_mix.specs.declared.asked.CountFault.TheVariants.{Empty, TooMany, Short}
-use Rattle.xfs_guard.specs.declared.ask.Ask.{Ask}
-use Rattle.xfs_guard.specs.declared.ask.Ask.TheVariants.{Stack}
 use Rattle.xfs_journal.specs.Journal.{next_issue, nonce_text}
 use Rattle.xfs_journal.specs.declared.record.Rec.{Rec}
 use Rattle.xfs_journal.specs.declared.record.Rec.TheVariants.{Issue, Clear, Boot}
@@ -43,7 +37,6 @@ use Rattle.xfs_cli.specs.declared.session.AnswerFault.TheVariants.{Unbooted}
 use Rattle.xfs_cli.specs.Refused.{refusal_text}
 use Rattle.xfs_cli.specs.Seen.{Seen, IsLater, IsStill, seen, shut_at}
 use Rattle.xfs_cli.specs.LineAnswers.{WritesOne, WritesNone}
-use Rattle.xfs_cli.specs.OrderAnswers.{CarriesOut, IsStopped, Stacks, refusal_of, order_of, with_stacked}
 use Rattle.xfs_cli.specs.VerbAnswers.{Issues, Clears, next_record}
 use Rattle.xfs_dispenser.specs.declared.refusal.Refusal.{Refusal}
 use Rattle.xfs_dispenser.specs.declared.refusal.Refusal.TheVariants.{Deny as Denied, Memory as Unremembered}
@@ -171,96 +164,6 @@ clear-err faults old new last None line deny answers lives disk later cause same
     let other : deny ≢ Disk = λ is. lives (ap (λ e. Err e) is) refl in
     none-refused (seen faults old last) (seen faults new last) (unfit old.state) deny _ line (due Bool deny (unfit old.state) line answers other told)
     (seen-same faults old new last (same (λ e. cc) (λ e. other (err-same e)))) told
-
--- an order is refused, or the disk failed at its record
-pub stopped-order : {D : Type 0} (faults : D → ℕ) (old new : GuardView D) (last : Option (List ℕ)) (ask : Ask) (deny : Deny)
-    → Answers {T = Unit {0}} (Err deny) (refusal_of old.state ask) → (IsDiskFault (Unit {0}) deny → new.state ≡ shut_at (order_of old.state ask) old.state)
-    → faults old.disk ≤ faults new.disk → (IsDiskFault (Unit {0}) deny → Rose (faults old.disk) (faults new.disk))
-    → (deny ≢ Disk → new ≡ old) → deny ≢ Memory → IsStopped (seen faults old last) ask deny (seen faults new last)
-stopped-order faults old new last ask deny answers disk later cause same some = elim (is_disk deny) [
-  | inl is ↦ inr (
-    rw is at answers,
-    is,
-    inl (record { becomes = record { guard_is = disk (ap (λ e. Err e) is); later = later; last_is = refl }; cause = cause (ap (λ e. Err e) is) }),
-  )
-  | inr other ↦ inl (due-some (Unit {0}) deny (refusal_of old.state ask) answers other some, seen-same faults old new last (same other))
-]
-
--- an order that ends in a refusal is carried out with that as its result
-pub carried-err : (s : Seen) (ask : Ask) (result : Result Outcome Deny) (deny : Deny) (next : Seen) → IsErrAnd result (λ e. e ≡ deny) → result ≢ Err Memory
-    → (deny ≢ Memory → IsStopped s ask deny next) → CarriesOut s ask result next
-carried-err s ask (Ok o) deny next err some stopped = absurd err
-carried-err s ask (Err e) deny next err some stopped = rw err (stopped (λ is. some (ap (λ d. Err d) (err ∙ is))))
-
--- nothing more is stacked
-pub stacks-none : (issue : ℕ) (counts : List ℕ) (u : ℕ) (all : Outcome) (s : Seen) → IsTrue (is_none counts) → Stacks issue counts u all s (Ok all) s
-stacks-none issue [] u all s none = (refl, refl)
-stacks-none issue (zero ∷ counts) u all s none = stacks-none issue counts (u + 1) all s none
-stacks-none issue (suc n ∷ counts) u all s none = absurd (rest (list_all (λ count. count == 0) counts) (rw suc-zero at none))
-  where
-    suc-zero : (suc n == 0) ≡ false
-    suc-zero = ne_eqb (suc n) 0 (λ e. omega (arith, e))
-
-    rest : (b : Bool) → (false && b) ≡ true → ⊥
-    rest b e = cc
-
-pub stacks-zero : (issue count : ℕ) (counts : List ℕ) (u : ℕ) (all : Outcome) (s : Seen) (result : Result Outcome Deny) (next : Seen)
-    → count ≡ 0 → Stacks issue counts (u + 1) all s result next → Stacks issue (count ∷ counts) u all s result next
-stacks-zero issue zero counts u all s result next e h = h
-stacks-zero issue (suc n) counts u all s result next e h = absurd (omega (arith, e))
-
--- the order of a unit, and what follows it
-pub stacks-unit : (issue count : ℕ) (counts : List ℕ) (u : ℕ) (all one : Outcome) (s middle : Seen) (result : Result Outcome Deny) (next : Seen)
-    → count ≢ 0 → CarriesOut s (Stack issue (u + 1) count) (Ok one) middle → one.failed ≡ false → Stacks issue counts (u + 1) (with_stacked all u one) middle result next
-    → Stacks issue (count ∷ counts) u all s result next
-stacks-unit issue zero counts u all one s middle result next some carried fine h = absurd (some refl)
-stacks-unit issue (suc n) counts u all one s middle result next some carried fine h = record { one = Ok one; middle = middle; carried = carried; onward = inr (fine, h) }
-
-pub stacks-failed : (issue count : ℕ) (counts : List ℕ) (u : ℕ) (all one : Outcome) (s middle : Seen)
-    → count ≢ 0 → CarriesOut s (Stack issue (u + 1) count) (Ok one) middle → one.failed ≡ true → Stacks issue (count ∷ counts) u all s (Ok (with_stacked all u one)) middle
-stacks-failed issue zero counts u all one s middle some carried failed = absurd (some refl)
-stacks-failed issue (suc n) counts u all one s middle some carried failed = record { one = Ok one; middle = middle; carried = carried; onward = inl (failed, refl, refl) }
-
-pub stacks-err : (issue count : ℕ) (counts : List ℕ) (u : ℕ) (all : Outcome) (deny : Deny) (s middle : Seen)
-    → count ≢ 0 → CarriesOut s (Stack issue (u + 1) count) (Err deny) middle → Stacks issue (count ∷ counts) u all s (Err deny) middle
-stacks-err issue zero counts u all deny s middle some carried = absurd (some refl)
-stacks-err issue (suc n) counts u all deny s middle some carried = record { one = Err deny; middle = middle; carried = carried; onward = (refl, refl) }
-
--- a count that isn't 0 is one of the counts
-pub some-within : (counts : List ℕ) (u : ℕ) → slice_index counts u ≢ 0 → u < length counts
-some-within counts u some = elim (cases_lt u (length counts)) [
-  | inl within ↦ within
-  | inr past ↦ absurd (some (get_or_past counts u 0 past))
-]
-
--- what is left of the counts, from a unit of which some notes are asked
-stacks-first : (issue : ℕ) (counts : List ℕ) (u : ℕ) (all : Outcome) (s : Seen) (result : Result Outcome Deny) (next : Seen) → slice_index counts u ≢ 0
-    → Stacks issue (slice_index counts u ∷ drop (u + 1) counts) u all s result next → Stacks issue (drop u counts) u all s result next
-stacks-first issue counts u all s result next some h = subst (λ cs. Stacks issue cs u all s result next) (sym (drop_more counts u 0 (some-within counts u some))) h
-
-pub stacks-next : (issue : ℕ) (counts : List ℕ) (u at : ℕ) (all one : Outcome) (s middle : Seen) (result : Result Outcome Deny) (next : Seen)
-    → at ≡ u → slice_index counts at ≢ 0 → CarriesOut s (Stack issue (u + 1) (slice_index counts at)) (Ok one) middle → one.failed ≡ false
-    → Stacks issue (drop (u + 1) counts) (u + 1) (with_stacked all at one) middle result next → Stacks issue (drop u counts) u all s result next
-stacks-next issue counts u at all one s middle result next is =
-    subst (λ i. slice_index counts i ≢ 0 → CarriesOut s (Stack issue (u + 1) (slice_index counts i)) (Ok one) middle → one.failed ≡ false
-    → Stacks issue (drop (u + 1) counts) (u + 1) (with_stacked all i one) middle result next → Stacks issue (drop u counts) u all s result next) (sym is)
-    (λ some carried fine h. stacks-first issue counts u all s result next some (stacks-unit issue (slice_index counts u) (drop (u + 1) counts) u all one s middle result next some carried fine h))
-
-pub stacks-stop : (issue : ℕ) (counts : List ℕ) (u at : ℕ) (all : Outcome) (s middle : Seen) (result result' : Result Outcome Deny) (deny : Deny)
-    → at ≡ u → slice_index counts at ≢ 0 → result ≡ Err deny → IsErrAnd result' (λ e. e ≡ deny) → result' ≢ Err Memory
-    → (result ≢ Err Memory → CarriesOut s (Stack issue (u + 1) (slice_index counts at)) result middle) → Stacks issue (drop u counts) u all s result' middle
-stacks-stop issue counts u at all s middle result (Ok o) deny is some failed err other carried = absurd err
-stacks-stop issue counts u at all s middle result (Err e) deny is some failed err other carried =
-    let told : result ≡ Err e = failed ∙ ap (λ d. Err d) (sym err) in
-    let here : CarriesOut s (Stack issue (u + 1) (slice_index counts at)) (Err e) middle = subst (λ r. CarriesOut s (Stack issue (u + 1) (slice_index counts at)) r middle) told (carried (λ m. other (sym told ∙ m))) in
-    stacks-first issue counts u all s (Err e) middle (rw (← is) some) (stacks-err issue (slice_index counts u) (drop (u + 1) counts) u all e s middle (rw (← is) some) (rw is at here))
-
-pub stacks-skip : (issue : ℕ) (counts : List ℕ) (u : ℕ) (all : Outcome) (s : Seen) (result : Result Outcome Deny) (next : Seen) → slice_index counts u ≡ 0
-    → Stacks issue (drop (u + 1) counts) (u + 1) all s result next → Stacks issue (drop u counts) u all s result next
-stacks-skip issue counts u all s result next none h = elim (cases_lt u (length counts)) [
-  | inl within ↦ subst (λ cs. Stacks issue cs u all s result next) (sym (drop_more counts u 0 within)) (stacks-zero issue (slice_index counts u) (drop (u + 1) counts) u all s result next none h)
-  | inr past ↦ subst (λ cs. Stacks issue cs u all s result next) (sym (drop_all u counts past)) (subst (λ cs. Stacks issue cs (u + 1) all s result next) (drop_all (u + 1) counts (omega (arith, past))) h)
-]
 
 -- counts that are no fault have none past the table
 pub none-past : (units : List NoteKind) (have counts : Counts) → count_fault units have counts ≡ None → IsTrue (is_none (drop (length units) counts.0))

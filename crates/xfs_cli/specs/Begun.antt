@@ -1,5 +1,5 @@
 -- What want of memory leaves of a line of `guard`, whose answer is not written then.
-use Rattle.std.specs.Prelude.{◌≡◌, ◌≤◌, ◌⊎◌, ℕ, false, List, length, take, Ok, None}
+use Rattle.std.specs.Prelude.{◌≡◌, ◌≤◌, ◌⊎◌, ℕ, false, List, length, Ok, None}
 use Rattle.std.specs.declared.option.Option.{Option}
 use Rattle.xfs_base.specs.declared.counts.Counts.{Counts as CountsOf}
 use Rattle.xfs_mech.specs.Mechanism.{CanLoad}
@@ -7,12 +7,13 @@ use Rattle.xfs_mech.specs.declared.motion.Motion.TheVariants.{Loaded}
 use Rattle.xfs_mech.specs.declared.motion.Outcome.{Outcome}
 use Rattle.xfs_guard.specs.Fits.{unfit}
 use Rattle.xfs_guard.specs.Reports.{HasReported}
+use Rattle.xfs_dispenser.specs.Carried.{StacksFirst}
 use Rattle.xfs_dispenser.specs.declared.leave.Leave.{Leave}
 use Rattle.xfs_script.specs.Guard.{IsGuardLine}
 use Rattle.xfs_script.specs.declared.guard_line.GuardLine.{GuardLine}
 use Rattle.xfs_script.specs.declared.guard_line.GuardLine.TheVariants.{Dispense, Fill, Restart}
-use Rattle.xfs_cli.specs.Seen.{Seen, Becomes}
-use Rattle.xfs_cli.specs.OrderAnswers.{MechCalled, Stacks, nothing_stacked}
+use Rattle.xfs_cli.specs.Seen.{Seen, Becomes, guard_of}
+use Rattle.xfs_cli.specs.OrderAnswers.{MechCalled}
 use Rattle.xfs_cli.specs.DispenseAnswers.{IsAllowed, named}
 use Rattle.xfs_cli.specs.VerbAnswers.{AnswersGuard, IsAnswer, IsLoaded}
 use Rattle.xfs_cli.specs.RestartAnswers.{RestartFails}
@@ -27,19 +28,13 @@ AllOrNothing Answer s end = (end ≡ s) ⊎ ((line : List ℕ) × Answer line en
 abbrev pub WholeOrNone : Seen → GuardLine → Seen → Type 0
 WholeOrNone s verb end = AllOrNothing (IsAnswer s verb) s end
 
--- the orders of the first units were carried out, and none of them failed
-pub record StacksFirst (issue : ℕ) (counts : List ℕ) (s end : Seen) : Type 0 where
-  pub units : ℕ
-  pub outcome : Outcome
-  pub stacked : Stacks issue (take units counts) 0 nothing_stacked s (Ok outcome) end
-  pub fine : outcome.failed ≡ false
-
 -- a dispense was allowed, and the orders of its first units were carried out
 pub record IsPartDispensed (s : Seen) (token : Option (List ℕ)) (counts : CountsOf) (end : Seen) : Type 0 where
   pub leave : Leave
   pub bound : Seen
   pub allowed : IsAllowed s token counts (Ok leave) bound
-  pub first : StacksFirst leave.issue leave.counts.0 bound end
+  pub first : StacksFirst leave.issue leave.counts.0 (guard_of bound) (guard_of end)
+  pub last_is : end.last ≡ bound.last
 
 -- the notes of a `fill` were loaded, and nothing was written down of it
 pub record IsPartFilled (s : Seen) (unit count : ℕ) (end : Seen) : Type 0 where

@@ -1,21 +1,20 @@
 -- A dispense that its token covers, and a present behind it, are answered `moved` with all of their notes, where no count of faults rises.
 use Rattle.std.specs.Prelude.{◌≡◌, ◌+◌, ℕ, List, [], ◌∷◌, ◌++◌, sum, codes, Some}
-use Rattle.xfs_base.specs.Causes.{Rose}
 use Rattle.xfs_base.specs.Counts.{at, IsZero}
 use Rattle.xfs_base.specs.declared.counts.Counts.{Counts as CountsOf}
 pub use Rattle.xfs_guard.specs.Covered.{HasSpace, IsGood, IsFree, IsBindable, IsCoveredBy, CanDispense, CanPresent}
+use Rattle.xfs_dispenser.specs.Complete as Of
 use Rattle.xfs_script.specs.Counts.{counts_text}
 use Rattle.xfs_script.specs.declared.guard_line.Given.{Given}
 use Rattle.xfs_script.specs.declared.guard_line.GuardLine.{GuardLine}
 use Rattle.xfs_script.specs.declared.guard_line.GuardLine.TheVariants.{Dispense, Present}
-use Rattle.xfs_cli.specs.Seen.{Seen}
+use Rattle.xfs_cli.specs.Seen.{Seen, guard_of}
 use Rattle.xfs_cli.specs.DispenseAnswers.{named}
 use Rattle.xfs_cli.specs.VerbAnswers.{AnswersGuard}
 
 -- no count of faults rose
-pub record IsCalm (s next : Seen) : Type 0 where
-  pub mech : ¬ (Rose s.guard.faults next.guard.faults)
-  pub disk : ¬ (Rose s.disk_faults next.disk_faults)
+abbrev pub IsCalm : Seen → Seen → Type 0
+IsCalm s next = Of.IsCalm (guard_of s) (guard_of next)
 
 -- the line that tells that these notes were moved, and that nothing failed
 abbrev pub moved_line : CountsOf → List ℕ

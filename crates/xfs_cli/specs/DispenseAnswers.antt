@@ -5,6 +5,7 @@ use Rattle.std.specs.declared.result.Result.{Result}
 use Rattle.xfs_base.specs.declared.counts.Counts.{Counts as CountsOf}
 use Rattle.xfs_mech.specs.declared.motion.Outcome.{Outcome}
 use Rattle.xfs_guard.specs.declared.deny.Deny.{Deny}
+use Rattle.xfs_dispenser.specs.Carried.{StacksAll}
 use Rattle.xfs_dispenser.specs.Checks.{IsLeave}
 use Rattle.xfs_dispenser.specs.declared.leave.Leave.{Leave}
 use Rattle.xfs_dispenser.specs.declared.named.Named.TheVariants.{These}
@@ -14,7 +15,7 @@ use Rattle.xfs_script.specs.declared.guard_line.Given.{Given}
 use Rattle.xfs_script.specs.declared.guard_line.Given.TheVariants.{Last, Text}
 use Rattle.xfs_cli.specs.Refused.{refusal_text}
 use Rattle.xfs_cli.specs.Seen.{Seen, guard_of}
-use Rattle.xfs_cli.specs.OrderAnswers.{StacksAll, Tells}
+use Rattle.xfs_cli.specs.OrderAnswers.{Tells}
 
 -- the token that a line names: its text, or the one that was minted last
 abbrev pub named : Option (List ℕ) → Given → Option (List ℕ)
@@ -36,7 +37,8 @@ pub record IsOrdered (s : Seen) (token : Option (List ℕ)) (counts : CountsOf) 
   pub bound : Seen
   pub allowed : IsAllowed s token counts (Ok leave) bound
   pub result : Result Outcome Deny
-  pub stacked : StacksAll leave.issue leave.counts bound result next
+  pub stacked : StacksAll leave.issue leave.counts (guard_of bound) result (guard_of next)
+  pub last_is : next.last ≡ bound.last
   pub told : Tells (codes "moved") result line
 
 -- the answer to a dispense that is refused before any order

@@ -1,19 +1,18 @@
 //! What the guard answers to a verb.
 
-ghost use Rattle.std.specs.Prelude.{◌≡◌, ◌≢◌, ◌≤◌, ◌⊎◌, Err, OnErr, IfOk, IfErr, IsTrue, Some, None, drop, length};
-ghost use Rattle.std.specs.Option.{option_map, option_or};
+ghost use Rattle.std.specs.Prelude.{◌≡◌, ◌≢◌, ◌≤◌, ◌⊎◌, Err, OnErr, IfOk, IfErr, Some, None, length};
+ghost use Rattle.std.specs.Option.{option_map};
 ghost use Rattle.xfs_guard.specs.declared.open.Open.TheVariants.{No};
 ghost use Rattle.xfs_guard.specs.Keeps.{Proceeds};
 ghost use Rattle.xfs_mech.specs.Mechanism.{CanLoad};
 ghost use Rattle.xfs_guard.specs.Fits.{unfit};
-ghost use Rattle.xfs_guard.specs.Refusals.{Answers, IsAsk, order_refusal};
-ghost use Rattle.xfs_guard.specs.declared.deny.Deny.TheVariants.{Memory as NoMemory};
-ghost use Rattle.xfs_mix.specs.Asked.{is_none};
+ghost use Rattle.xfs_guard.specs.Refusals.{IsAsk};
+ghost use Rattle.xfs_guard.specs.declared.deny.Deny.TheVariants as Deny;
 ghost use Rattle.xfs_script.specs.Answered.{lines_text, Tells};
-ghost use Rattle.xfs_cli.specs.Begun.{AllOrNothing, FailsRestart, LeavesOfLoad, LeavesOfVerb, StacksFirst, WholeOrNone};
+ghost use Rattle.xfs_cli.specs.Begun.{AllOrNothing, FailsRestart, LeavesOfLoad, LeavesOfVerb, WholeOrNone};
 ghost use Rattle.xfs_cli.specs.GuardAnswers.{show_lines};
 ghost use Rattle.xfs_cli.specs.Seen.{seen_in};
-ghost use Rattle.xfs_cli.specs.OrderAnswers.{CarriesOut, Moves, StacksAll};
+ghost use Rattle.xfs_cli.specs.OrderAnswers.{Moves};
 ghost use Rattle.xfs_cli.specs.DispenseAnswers.{IsAllowedFor, named};
 ghost use Rattle.xfs_cli.specs.VerbAnswers.{AreAnswer, IsAnswer, IsLoaded};
 ghost use Rattle.xfs_cli.specs.RestartAnswers.{RestartFails, Restarts};
@@ -29,9 +28,9 @@ use std::alloc::{AllocError, AllocFailed, Global};
 use xfs_base::{Bytes, Counts, Memory};
 use xfs_common::ErrorCode;
 use xfs_disk::Disk;
-use xfs_dispenser::{Leave, Named, Notes, Refusal, leave_to_stack};
-use xfs_guard::{Ask, BootFault, Deny, Guard};
-use xfs_mech::{Mechanism, Outcome};
+use xfs_dispenser::{Leave, Named, Notes, Refusal, carry_out, leave_to_stack, stack_all};
+use xfs_guard::{Ask, BootFault, Guard};
+use xfs_mech::Mechanism;
 use xfs_script::{Given, GuardLine};
 use xfs_token::Amounts;
 
@@ -240,7 +239,7 @@ impl<M: Mechanism, D: Disk> Session<M, D> {
         ensures none { self.new.guard.state.open_order ≡ No }
         ensures key { self.new.key ≡ self.old.key }
     {
-        match self.carried(ask) {
+        match carry_out(&mut self.guard, ask) {
             Ok(outcome) => outcome_text(self.alloc, b"moved", &outcome),
             Err(deny) => refusal_text(self.alloc, &Refusal::Deny(deny)),
         }
@@ -258,7 +257,7 @@ impl<M: Mechanism, D: Disk> Session<M, D> {
             Ok(leave) => leave,
             Err(refusal) => return refusal_text(self.alloc, &refusal),
         };
-        match self.stacked(leave.issue, &leave.counts) {
+        match stack_all(&mut self.guard, leave.issue, &leave.counts) {
             Ok(outcome) => outcome_text(self.alloc, b"moved", &outcome),
             Err(deny) => refusal_text(self.alloc, &Refusal::Deny(deny)),
         }
@@ -281,57 +280,6 @@ impl<M: Mechanism, D: Disk> Session<M, D> {
             &notes,
             given(&self.last, token),
         )
-    }
-
-    // Writes an order, carries it out, and writes down what it did.
-    fn carried(&mut self, ask: Ask) -> Result<Outcome, Deny>
-        requires none { self.old.guard.state.open_order ≡ No }
-        requires asked { IsAsk self.old.guard.state ask }
-        ensures carried { result ≢ Err NoMemory → CarriesOut (seen_in D.faults self.old) ask result (seen_in D.faults self.new) }
-        ensures refused { Answers result (option_or (unfit self.old.guard.state) (order_refusal self.old.guard.state ask)) }
-        ensures same { IfErr result (λ e. e ≢ Deny.Disk → self.new.guard ≡ self.old.guard) }
-        ensures proceeds { Proceeds D.Disk self.old.guard self.new.guard }
-        ensures none { self.new.guard.state.open_order ≡ No }
-        ensures last { self.new.last ≡ self.old.last }
-        ensures key { self.new.key ≡ self.old.key }
-    {
-        self.guard.order(ask)?;
-        let outcome = self.guard.act();
-        self.guard.settle()?;
-        Ok(outcome)
-    }
-
-    // Stacks the notes unit by unit. The first order that is refused or fails ends it.
-    fn stacked(&mut self, issue: u64, counts: &Counts) -> Result<Outcome, Deny>
-        requires none { self.old.guard.state.open_order ≡ No }
-        requires few { IsTrue (is_none (drop (length self.old.guard.state.units) counts.now.0)) }
-        ensures stacked { result ≢ Err NoMemory → StacksAll issue counts.now (seen_in D.faults self.old) result (seen_in D.faults self.new) }
-        ensures memory { result ≡ Err NoMemory → StacksFirst issue counts.now.0 (seen_in D.faults self.old) (seen_in D.faults self.new) }
-        ensures proceeds { Proceeds D.Disk self.old.guard self.new.guard }
-        ensures none { self.new.guard.state.open_order ≡ No }
-        ensures key { self.new.key ≡ self.old.key }
-    {
-        let mut all = Outcome {
-            moved: Counts([0; 8]),
-            diverted: Counts([0; 8]),
-            failed: false,
-        };
-        for place in 0..self.guard.units().len() {
-            let at = usize::from(place);
-            let count = counts.0[at];
-            if count == 0 {
-                continue;
-            }
-            let unit = place + 1;
-            let outcome = self.carried(Ask::Stack { issue, unit, count })?;
-            all.moved.0[at] = outcome.moved.0[at];
-            all.diverted.0[at] = outcome.diverted.0[at];
-            all.failed = outcome.failed;
-            if all.failed {
-                return Ok(all);
-            }
-        }
-        Ok(all)
     }
 }
 

@@ -17,7 +17,7 @@ returns-then-outcome-clause-answer g c =
       outcome = c.in_ok-outcome.outcome;
       loaded = seen g.D.Disk.faults c.load.new.self c.args.self.now.last;
       reported = e.ok;
-      called = record { later = e.keeps.proceeds.mech_faults; cause = e.cause; disk_same = ap g.D.Disk.faults e.same; last_is = refl };
+      called = record { called = record { later = e.keeps.proceeds.mech_faults; cause = e.cause; disk_same = ap g.D.Disk.faults e.same }; last_is = refl };
       noted = inl (c.if-outcome.true, told, refl);
     }) c.joined.ensures
 
@@ -33,7 +33,7 @@ returns-in-Ok-clause-answer g c =
       outcome = c.in_ok-outcome.outcome;
       loaded = loaded;
       reported = e.ok;
-      called = record { later = e.keeps.proceeds.mech_faults; cause = e.cause; disk_same = ap g.D.Disk.faults e.same; last_is = refl };
+      called = record { called = record { later = e.keeps.proceeds.mech_faults; cause = e.cause; disk_same = ap g.D.Disk.faults e.same }; last_is = refl };
       noted = inr (c.if-outcome.false, wrote-kept loaded noted _ _ _ _ text.items w.refused w.ok w.keeps.proceeds.disk_faults refl told);
     }) c.joined-in-Ok.ensures
 
@@ -50,7 +50,7 @@ returns-in-Err-clause-answer g c =
       outcome = c.in_ok-outcome.outcome;
       loaded = seen g.D.Disk.faults c.load.new.self c.args.self.now.last;
       reported = e.ok;
-      called = record { later = e.keeps.proceeds.mech_faults; cause = e.cause; disk_same = ap g.D.Disk.faults e.same; last_is = refl };
+      called = record { called = record { later = e.keeps.proceeds.mech_faults; cause = e.cause; disk_same = ap g.D.Disk.faults e.same }; last_is = refl };
       noted = inr (c.if-outcome.false, wrote-err (Unit {0}) g.D.Disk.faults c.load.new.self c.note_load.new.self c.args.self.now.last _ _ _ _ text.items c.in-Err.deny w.refused w.disk w.keeps.proceeds.disk_faults w.cause w.same told);
     }) c.refusal_text.ensures
 
@@ -74,7 +74,7 @@ returns-then-outcome-clause-memory g c =
         outcome = c.in_ok-outcome.outcome;
         loaded = seen g.D.Disk.faults c.load.new.self c.args.self.now.last;
         reported = e.ok;
-        called = record { later = e.keeps.proceeds.mech_faults; cause = e.cause; disk_same = ap g.D.Disk.faults e.same; last_is = refl };
+        called = record { called = record { later = e.keeps.proceeds.mech_faults; cause = e.cause; disk_same = ap g.D.Disk.faults e.same }; last_is = refl };
         noted = inl (c.if-outcome.true, refl, refl);
       },
     )))
@@ -93,7 +93,7 @@ returns-in-Ok-clause-memory g c =
         outcome = c.in_ok-outcome.outcome;
         loaded = loaded;
         reported = e.ok;
-        called = record { later = e.keeps.proceeds.mech_faults; cause = e.cause; disk_same = ap g.D.Disk.faults e.same; last_is = refl };
+        called = record { called = record { later = e.keeps.proceeds.mech_faults; cause = e.cause; disk_same = ap g.D.Disk.faults e.same }; last_is = refl };
         noted = inr (c.if-outcome.false, wrote-kept loaded noted _ _ _ _ (codes "filled") w.refused w.ok w.keeps.proceeds.disk_faults refl refl);
       },
     )))
@@ -104,7 +104,7 @@ returns-in-Err-clause-memory g c =
     let w = c.in-Err.ensures in
     on-err c.refusal_text.result _ (elim (denied-text c.in-Err.deny) [
       | inl is ↦ inr (part-filled g.D.Disk.faults c.args.self.now.guard c.load.new.self c.note_load.new.self c.args.self.now.last _ _ c.in_ok-outcome.outcome c.requires.fits c.requires.fit e.ok
-          (record { later = e.keeps.proceeds.mech_faults; cause = e.cause; disk_same = ap g.D.Disk.faults e.same; last_is = refl }) c.if-outcome.false (w.same (not-disk c.in-Err.deny is)))
+          (record { called = record { later = e.keeps.proceeds.mech_faults; cause = e.cause; disk_same = ap g.D.Disk.faults e.same }; last_is = refl }) c.if-outcome.false (w.same (not-disk c.in-Err.deny is)))
       | inr text ↦ inl (inr (
         text.0,
         record {
@@ -113,7 +113,7 @@ returns-in-Err-clause-memory g c =
           outcome = c.in_ok-outcome.outcome;
           loaded = seen g.D.Disk.faults c.load.new.self c.args.self.now.last;
           reported = e.ok;
-          called = record { later = e.keeps.proceeds.mech_faults; cause = e.cause; disk_same = ap g.D.Disk.faults e.same; last_is = refl };
+          called = record { called = record { later = e.keeps.proceeds.mech_faults; cause = e.cause; disk_same = ap g.D.Disk.faults e.same }; last_is = refl };
           noted = inr (c.if-outcome.false, wrote-err (Unit {0}) g.D.Disk.faults c.load.new.self c.note_load.new.self c.args.self.now.last _ _ _ _ text.0 c.in-Err.deny w.refused w.disk w.keeps.proceeds.disk_faults w.cause w.same text.1);
         },
       ))
