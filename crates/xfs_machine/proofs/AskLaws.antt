@@ -1,6 +1,6 @@
 -- A command of a service means nothing to another, so where its own reader refuses its members they are bad.
 use Rattle.std.proofs.Common.{◌≡◌, ℕ, Bool, true, false, not, codes, List, [], ◌∷◌, Result, Ok, Err, refl, ap, sym, ◌∙◌, inl, inr}
-use Rattle.std.specs.List.{list_all, list_any}
+use Rattle.std.specs.List.{list_all}
 use Rattle.std.specs.Str.{bytes_eq}
 use Rattle.std.proofs.lemmas.Bool.{and_parts, cases_Bool, false≢true, or_parts}
 use Rattle.std.proofs.lemmas.Slice.Eq.{bytes_eq-Decides}

@@ -1,7 +1,8 @@
 -- What the parts of a call make is a step of the machine, and it keeps what every call keeps.
-use Rattle.std.proofs.Common.{◌≡◌, ◌≢◌, ℕ, ◌+◌, ◌<◌, ◌≤◌, ◌==◌, nat_le, not, Bool, true, false, cond, List, [], ◌∷◌, ◌++◌, length, map, filter, find, Option, None, Some, MatchOption, refl, ap, sym, ◌∙◌, inl, inr, arith}
+use Rattle.std.proofs.Common.{◌≡◌, ◌≢◌, ℕ, ◌+◌, ◌<◌, ◌≤◌, ◌==◌, nat_le, not, Bool, true, false, cond, List, [], ◌∷◌, ◌++◌, length, map, filter, find, Option, None, Some, Result, Ok, Err, MatchOption, refl, ap, sym, ◌∙◌, inl, inr}
+use Rattle.std.specs.Prelude.{OnOk, is_err}
 use Rattle.std.specs.Option.{option_map}
-use Rattle.std.proofs.lemmas.Bool.{cases_Bool, eqb-true, eq-eqb, ne_eqb}
+use Rattle.std.proofs.lemmas.Bool.{cases_Bool, eqb-true, eq-eqb, false≢true, ne_eqb}
 use Rattle.std.proofs.lemmas.Option.{none-some}
 use Rattle.xfs_base.specs.declared.moment.ClientId.{ClientId}
 use Rattle.xfs_base.specs.declared.moment.Moment.{Moment}
@@ -10,20 +11,25 @@ use Rattle.xfs_base.specs.declared.moment.TheConstants.{LAST_MOMENT}
 use Rattle.xfs_envelope.specs.Commands.{command_in}
 use Rattle.xfs_machine.specs.MachineView.{IsWhole}
 use Rattle.xfs_machine.specs.Seats.{IsSeen, with_both}
-use Rattle.xfs_model.specs.Connections.{connection_at, connection_of, is_client, without_mail}
+use Rattle.xfs_model.specs.Connections.{connection_of, is_client, without_mail}
 use Rattle.xfs_model.specs.Events.{Answer, Event, join, post, outbox, leave, joined, full, done, handed, memory}
 use Rattle.xfs_model.specs.Posts.{Takes}
 use Rattle.xfs_model.specs.State.{Connection, Pass, Queues, State, queue_of, with_queue}
-use Rattle.xfs_model.specs.Step.{IsFull, Step, at_moment, happens, wanting}
+use Rattle.xfs_model.specs.Step.{IsFull, Step, happens, wanting}
 use Rattle.xfs_queue.specs.Queue.{without_client}
+use Rattle.xfs_model.proofs.Advancing.{advances}
 use Rattle.xfs_model.proofs.Changes.{same_some}
-use Rattle.xfs_model.proofs.Keeping.{IsOpen, is_open}
+use Rattle.xfs_model.proofs.Keeping.{is_open}
 use Rattle.xfs_model.proofs.Lists.{found_passes}
+use Rattle.xfs_model.proofs.RunsTell.{mark_kept}
 use Rattle.xfs_model.proofs.Sounds.{sound_kept}
+use Rattle.xfs_model.proofs.Telling.{told_kept}
 
 pub whole_kept : (old new : State) (event : Event) (answer : Answer) → IsWhole old → Step old event answer new → new.now.0 ≤ LAST_MOMENT → new.boot ≡ old.boot → IsWhole new
 whole_kept old new event answer whole step moment boot = record {
   sound = sound_kept old new event answer whole.sound step;
+  told = told_kept old new event answer whole.sound.machine whole.sound.asks whole.mark step whole.told;
+  mark = mark_kept old.seen new.seen (advances old new event answer step).records whole.mark;
   moment = moment;
   there = λ e. whole.there (sym boot ∙ e);
 }
@@ -128,3 +134,8 @@ later_within a b m e x y = rw e (of (nat_le a.0 b.0))
     of : (c : Bool) → (cond c b a).0 ≤ LAST_MOMENT
     of true = y
     of false = x
+
+-- what an Ok tells, of a result that is no error
+pub was_ok : {T E P : Type 0} (r : Result T E) → is_err r ≡ false → OnOk r P → P
+was_ok (Ok x) e p = p
+was_ok (Err y) e p = absurd (false≢true (sym e))

@@ -1,41 +1,62 @@
 -- A restart in place, and the end of a machine, are steps of it.
-use Rattle.std.proofs.Common.{◌≡◌, ◌≢◌, ◌≤◌, ℕ, false, List, length, None, Result, Ok, Err, ◌∷◌, [], refl, ap, sym, ◌∙◌, arith, length-append}
+use Rattle.std.proofs.Common.{◌≡◌, ◌≢◌, ◌++◌, ℕ, List, length, Result, Ok, Err, ◌∷◌, [], refl, ap, sym, subst, ◌∙◌, arith, length-append}
 use Rattle.std.specs.Prelude.{IfErr, OnErr, OnOk, is_ok}
-use Rattle.xfs_base.specs.declared.moment.TheConstants.{LAST_MOMENT}
-use Rattle.xfs_dispenser.specs.Seen.{Seen}
+use Rattle.xfs_dispenser.specs.Seen.{Becomes, Seen}
 use Rattle.xfs_guard.specs.View.{View}
 use Rattle.xfs_guard.specs.declared.deny.Deny.{Deny}
 use Rattle.xfs_guard.specs.declared.fail.BootFault.{BootFault}
 use Rattle.xfs_guard.specs.declared.fail.BootFault.TheVariants.{Memory}
 use Rattle.xfs_guard.specs.declared.open.Open.TheVariants.{No}
+use Rattle.xfs_base.specs.declared.counts.Places.{Places}
+use Rattle.xfs_guard.proofs.MarkLaws.{mark-there, marked-here}
+use Rattle.xfs_journal.specs.declared.record.Rec.{Rec}
 use Rattle.xfs_journal.specs.declared.record.Rec.TheVariants.{Boot}
 use Rattle.xfs_machine.specs.Answers.{finished}
+use Rattle.xfs_machine.specs.Endings.{RefusesAs}
 use Rattle.xfs_machine.specs.MachineView.{IsWhole}
 use Rattle.xfs_model.specs.Events.{restart, restarted, unrestarted, finish, memory}
-use Rattle.xfs_model.specs.Guards.{Closes, IsUnbooted, Reboots}
+use Rattle.xfs_model.specs.Guards.{Closes, Reboots}
 use Rattle.xfs_model.specs.State.{State, bare}
 use Rattle.xfs_model.specs.Step.{Step, gone, happens, wanting}
+use Rattle.xfs_model.specs.Told.{HasMark}
+use Rattle.xfs_machine.proofs.GuardLaws.{unbooted_as}
+use Rattle.xfs_model.proofs.Advancing.{advances}
+use Rattle.xfs_model.proofs.RunsTell.{mark_kept}
 use Rattle.xfs_model.proofs.Sounds.{sound_bare, unbooted_closed}
+use Rattle.xfs_model.proofs.Telling.{bare_told}
+
+-- a list that ends with its Boot has a mark
+pub boot_marks : (seen : Seen) (records : List Rec) (places : Places) → seen.guard.records ≡ records ++ Boot places ∷ [] → HasMark seen
+boot_marks seen records places is =
+    let last = marked-here records (Boot places) refl in
+    rw is (mark-there (records ++ Boot places ∷ []) (omega (arith, last)))
 
 pub finishes : (s : State) (r : Result Unit Deny) (next : Seen) → s.boot ≢ 0 → Closes s.seen.guard.open_order s.seen (is_ok r) next → Step s finish (finished r) (gone s next)
 finishes s (Ok done) next there closes = happens there (record { next = next; closes = closes; is = refl })
 finishes s (Err deny) next there closes = happens there (record { next = next; closes = closes; is = refl })
 
-pub restart_wants : (s : State) (next : Seen) → next.guard ≡ s.seen.guard → s.seen.disk_faults ≤ next.disk_faults → Step s restart memory (record s { seen = next })
-restart_wants s next same later = wanting refl (record { next = next; becomes = record { guard_is = same; later = later }; is = refl })
+pub restart_wants : (s : State) (r : Result Unit BootFault) (next : Seen) → IfErr r (λ f. RefusesAs f s.seen next) → r ≡ Err Memory → Step s restart memory (record s { seen = next })
+restart_wants s (Ok done) next cause e = absurd (let f : Ok done ≡ Err Memory = e in cc)
+restart_wants s (Err why) next cause e = wanting refl (record { next = next; becomes = wanted why (same_fault why e) cause; is = refl })
+  where
+    same_fault : (f : BootFault) → Path (Result Unit BootFault) (Err f) (Err Memory) → f ≡ Memory
+    same_fault f e = cc
+
+    wanted : (f : BootFault) → f ≡ Memory → RefusesAs f s.seen next → Becomes s.seen s.seen.guard next
+    wanted f e cause = subst (λ g. RefusesAs g s.seen next) e cause
 
 pub restarts : (s : State) (r : Result Unit BootFault) (next : Seen) (boot : ℕ) → s.boot ≢ 0 → OnOk r (Reboots s.seen next) → OnOk r (boot ≡ length next.guard.records) → OnOk r (Step s restart restarted (bare next s.life boot))
 restarts s (Ok done) next boot there is number = happens there (record { next = next; reboots = is; is = ap (λ n. bare next s.life n) number })
 restarts s (Err why) next boot there is number = tt
 
-pub refuses : (s : State) (r : Result Unit BootFault) (next : Seen) → s.boot ≢ 0 → IfErr r (λ f. f ≢ Memory → IsUnbooted s.seen next) → IfErr r (λ f. f ≢ Memory → Step s restart unrestarted (gone s next))
+pub refuses : (s : State) (r : Result Unit BootFault) (next : Seen) → s.boot ≢ 0 → IfErr r (λ f. RefusesAs f s.seen next) → IfErr r (λ f. f ≢ Memory → Step s restart unrestarted (gone s next))
 refuses s (Ok done) next there is = tt
-refuses s (Err why) next there is = λ other. happens there (record { next = next; refused = is other; is = refl })
+refuses s (Err why) next there is = λ other. happens there (record { next = next; refused = unbooted_as why s.seen next is other; is = refl })
 
 -- an outcome that is not want of memory leaves no order open
-pub closed_after : (old next : Seen) (r : Result Unit BootFault) → r ≢ Err Memory → OnOk r (Reboots old next) → IfErr r (λ f. f ≢ Memory → IsUnbooted old next) → next.guard.open_order ≡ No
+pub closed_after : (old next : Seen) (r : Result Unit BootFault) → r ≢ Err Memory → OnOk r (Reboots old next) → IfErr r (λ f. RefusesAs f old next) → next.guard.open_order ≡ No
 closed_after old next (Ok done) other is how = ap (λ (v : View). v.open_order) is.becomes.guard_is
-closed_after old next (Err why) other is how = unbooted_closed old next (how (λ e. other (ap Err e)))
+closed_after old next (Err why) other is how = unbooted_closed old next (unbooted_as why old next how (λ e. other (ap Err e)))
 
 pub emptied : (r : Result Unit BootFault) (next : Seen) (life before boot : ℕ) → OnErr r (boot ≡ before) → IfErr r (λ f. f ≢ Memory → bare next life boot ≡ bare next life before)
 emptied (Ok done) next life before boot same = tt
@@ -48,10 +69,17 @@ numbered s (Ok done) next boot there is number same e =
     absurd (omega (arith, grown, size, number, e))
 numbered s (Err why) next boot there is number same e = there (sym same ∙ e)
 
-pub whole_after : (s : State) (r : Result Unit BootFault) (next : Seen) (boot : ℕ) → s.boot ≢ 0 → r ≢ Err Memory → OnOk r (Reboots s.seen next) → IfErr r (λ f. f ≢ Memory → IsUnbooted s.seen next)
+-- a list that has a mark has one behind a restart
+marked : (s : State) (r : Result Unit BootFault) (next : Seen) (boot : ℕ) → IsWhole s → r ≢ Err Memory → OnOk r (Reboots s.seen next) → IfErr r (λ f. RefusesAs f s.seen next) → OnOk r (boot ≡ length next.guard.records) → HasMark next
+marked s (Ok done) next boot whole other is how number = mark_kept s.seen next (advances s (bare next s.life boot) restart restarted (restarts s (Ok done) next boot whole.there is number)).records whole.mark
+marked s (Err why) next boot whole other is how number = mark_kept s.seen next (advances s (gone s next) restart unrestarted (refuses s (Err why) next whole.there how (λ e. other (ap Err e)))).records whole.mark
+
+pub whole_after : (s : State) (r : Result Unit BootFault) (next : Seen) (boot : ℕ) → IsWhole s → r ≢ Err Memory → OnOk r (Reboots s.seen next) → IfErr r (λ f. RefusesAs f s.seen next)
     → OnOk r (boot ≡ length next.guard.records) → OnErr r (boot ≡ s.boot) → IsWhole (bare next s.life boot)
-whole_after s r next boot there other is how number same = record {
+whole_after s r next boot whole other is how number same = record {
   sound = sound_bare next s.life boot (λ up. closed_after s.seen next r other is how);
+  told = bare_told next s.life boot;
+  mark = marked s r next boot whole other is how number;
   moment = omega arith;
-  there = numbered s r next boot there is number same;
+  there = numbered s r next boot whole.there is number same;
 }

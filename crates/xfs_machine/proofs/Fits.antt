@@ -1,5 +1,5 @@
 -- What GetStorage tells can be sent.
-use Rattle.std.proofs.Common.{◌≡◌, ◌≤◌, ℕ, ◌+◌, Bool, false, List, [], ◌∷◌, refl, arith}
+use Rattle.std.proofs.Common.{◌≡◌, ◌≤◌, ℕ, ◌+◌, false, List, [], ◌∷◌, refl, arith}
 use Rattle.serde_json.specs.Data.{members_depth}
 use Rattle.serde_json.specs.Written.{members_have_float}
 use Rattle.xfs_base.specs.declared.counts.Counts.{Counts}

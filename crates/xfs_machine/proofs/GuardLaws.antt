@@ -1,6 +1,6 @@
 -- What the guard's own clauses say, in the words of the machine's definitions.
-use Rattle.std.proofs.Common.{◌≡◌, ◌≢◌, ◌≤◌, ◌⊎◌, ℕ, Bool, true, false, List, [], ◌∷◌, ◌++◌, Option, None, Some, Result, Ok, Err, inl, inr, refl, subst}
-use Rattle.std.specs.Prelude.{is_none, is_ok, is_some, IfErr, OnErr, OnOk}
+use Rattle.std.proofs.Common.{◌≡◌, ◌≢◌, ◌≤◌, ◌⊎◌, ℕ, Bool, true, false, List, [], ◌∷◌, ◌++◌, None, Some, Result, Ok, Err, inl, inr, refl, subst}
+use Rattle.std.specs.Prelude.{is_ok, IfErr, OnErr, OnOk}
 use Rattle.xfs_base.specs.Causes.{Rose}
 use Rattle.xfs_base.specs.declared.counts.Counts.{Counts}
 use Rattle.xfs_base.specs.declared.counts.Kind.{Kind}
@@ -9,7 +9,7 @@ use Rattle.xfs_dispenser.specs.Seen.{Seen, MechCalled}
 use Rattle.xfs_guard.specs.Reports.{HasReported}
 use Rattle.xfs_mech.specs.declared.motion.Motion.TheVariants.{Taken}
 use Rattle.xfs_guard.specs.Orders.{Settles, Unsettles, kind_unacted}
-use Rattle.xfs_guard.specs.View.{View, reread, restarted, unbooted, unread}
+use Rattle.xfs_guard.specs.View.{GuardView, View, reread, restarted, unbooted, unread}
 use Rattle.xfs_guard.specs.declared.deny.Deny.{Deny}
 use Rattle.xfs_guard.specs.declared.fail.BootFault.{BootFault}
 use Rattle.xfs_guard.specs.declared.fail.BootFault.TheVariants.{NotJournal, Disk, Full, Memory}
@@ -18,6 +18,8 @@ use Rattle.xfs_guard.specs.declared.open.Open.TheVariants.{No, Written, Acted}
 use Rattle.xfs_journal.specs.JournalView.{IsPossible, exceeds}
 use Rattle.xfs_journal.specs.declared.record.Rec.{Rec}
 use Rattle.xfs_journal.specs.declared.record.Rec.TheVariants.{Boot}
+use Rattle.xfs_disk.specs.declared.disk.Disk.{Ghosts}
+use Rattle.xfs_machine.specs.Endings.{ActsThenSettles, ClosesThrough, RefusesAs}
 use Rattle.xfs_model.specs.Events.{fault, taken}
 use Rattle.xfs_model.specs.Guards.{ActsAndSettles, Closes, IsUnbooted, Reboots, SettlesOn, is_shutter_closed, written, unwritten}
 use Rattle.xfs_model.specs.State.{State}
@@ -44,16 +46,23 @@ FoundFull old new = (records : List Rec) × IsPossible old.guard.records old.gua
 abbrev FoundFault : Seen → Seen → Type 0
 FoundFault old new = (new.guard ≡ unread old.guard) ⊎ ((records : List Rec) × IsPossible old.guard.records old.guard.in_doubt records × (new.guard ≡ unbooted old.guard records))
 
-pub refused : (Untold : Type 0) (r : Result Unit BootFault) (old new : Seen) → (r ≡ Err Full → FoundFull old new) → (r ≡ Err Disk → FoundFault old new)
+-- the restore was refused, by the fault
+pub refuses_as : (Untold : Type 0) (r : Result Unit BootFault) (old new : Seen) → (r ≡ Err Memory → new.guard ≡ old.guard) → (r ≡ Err Full → FoundFull old new) → (r ≡ Err Disk → FoundFault old new)
     → IfErr r (λ f. (at : ℕ) → f ≡ NotJournal at → Untold × (new.guard ≡ unread old.guard)) → IfErr r (λ f. (at : ℕ) → f ≡ NotJournal at → old.guard.disk_told ≡ false)
-    → (r ≡ Err Disk → Rose old.disk_faults new.disk_faults) → old.disk_faults ≤ new.disk_faults → IfErr r (λ f. f ≢ Memory → IsUnbooted old new)
-refused Untold (Ok done) old new full disk other untold cause later = tt
-refused Untold (Err (NotJournal at)) old new full disk other untold cause later = λ _. inr (inr (record { untold = untold at refl; becomes = record { guard_is = (other at refl).1; later = later } }))
-refused Untold (Err Disk) old new full disk other untold cause later = λ _. inr (inl (record { now = new.guard; is = disk refl; fails = record { becomes = record { guard_is = refl; later = later }; cause = cause refl } }))
-refused Untold (Err Full) old new full disk other untold cause later =
+    → (r ≡ Err Disk → Rose old.disk_faults new.disk_faults) → old.disk_faults ≤ new.disk_faults → IfErr r (λ f. RefusesAs f old new)
+refuses_as Untold (Ok done) old new memory full disk other untold cause later = tt
+refuses_as Untold (Err (NotJournal at)) old new memory full disk other untold cause later = record { untold = untold at refl; becomes = record { guard_is = (other at refl).1; later = later } }
+refuses_as Untold (Err Disk) old new memory full disk other untold cause later = record { now = new.guard; is = disk refl; fails = record { becomes = record { guard_is = refl; later = later }; cause = cause refl } }
+refuses_as Untold (Err Full) old new memory full disk other untold cause later =
     let w = full refl in
-    λ _. inl (record { records = w.0; possible = w.1; exceeded = w.2; becomes = record { guard_is = w.3; later = later } })
-refused Untold (Err Memory) old new full disk other untold cause later = λ n. absurd (n refl)
+    record { records = w.0; possible = w.1; exceeded = w.2; becomes = record { guard_is = w.3; later = later } }
+refuses_as Untold (Err Memory) old new memory full disk other untold cause later = record { guard_is = memory refl; later = later }
+
+pub unbooted_as : (f : BootFault) (old new : Seen) → RefusesAs f old new → f ≢ Memory → IsUnbooted old new
+unbooted_as (NotJournal at) old new is other = inr (inr is)
+unbooted_as Disk old new is other = inr (inl is)
+unbooted_as Full old new is other = inl is
+unbooted_as Memory old new is other = absurd (other refl)
 
 -- the acted order was settled, or the disk failed at its Done
 pub settles : (r : Result Unit Deny) (old new : Seen) → OnOk r (Settles old.guard new.guard) → OnErr r (Unsettles old.guard new.guard) → OnErr r (Rose old.disk_faults new.disk_faults)
@@ -86,3 +95,9 @@ pub notes_took : (s : State) (next : Seen) (moved diverted : Counts) (fails : Bo
     → HasReported s.seen.guard next.guard (Taken moved) moved diverted fails → MechCalled s.seen fails next → TakesNotes s (taken moved) (record s { seen = next })
 notes_took s next moved diverted fails there is lie reported called =
     took moved next there (record { diverted = diverted; lay = lie; reported = subst (λ f. HasReported s.seen.guard next.guard (Taken moved) moved diverted f) is reported; called = subst (λ f. MechCalled s.seen f next) is called })
+
+-- a written order that is acted, and then settled
+pub closes_through : {D : Type 0} (g : Ghosts D) (o : Open) (k : Kind) (old new : GuardView D) → Some k ≡ kind_unacted o → ActsThenSettles g old new → ClosesThrough g o old new
+closes_through g No k old new e is = absurd (let f : Some k ≡ None = e in cc)
+closes_through g (Written kind counts) k old new e is = is
+closes_through g (Acted kind moved diverted fails) k old new e is = absurd (let f : Some k ≡ None = e in cc)

@@ -6,6 +6,7 @@ pub mod EmptyDisk
 pub mod Endings
 pub mod Fits
 pub mod GuardLaws
+pub mod Laws
 pub mod Places
 pub mod Posting
 pub mod Withdrawn
@@ -15,3 +16,7 @@ pub mod ChangeLaws
 pub mod ChosenLaws
 pub mod Unsent
 pub mod AnswerLaws
+pub mod HeardLaws
+pub mod PlanLaws
+pub mod TouchLaws
+pub mod WorkLaws

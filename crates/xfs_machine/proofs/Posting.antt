@@ -1,5 +1,5 @@
 -- What becomes of a text, from what was sent and what was done with the pending commands.
-use Rattle.std.proofs.Common.{◌≡◌, ℕ, Bool, true, false, not, cond, codes, List, [], ◌∷◌, ◌++◌, Option, None, Some, Result, Ok, Err, refl, ap, sym, ◌∙◌}
+use Rattle.std.proofs.Common.{◌≡◌, ℕ, true, false, not, codes, List, [], ◌∷◌, ◌++◌, Option, None, Some, Result, Ok, Err, refl, ap, sym, ◌∙◌}
 use Rattle.std.specs.List.{list_any}
 use Rattle.std.specs.Str.{bytes_eq}
 use Rattle.xfs_base.specs.declared.moment.Moment.{Moment}
@@ -13,17 +13,15 @@ use Rattle.xfs_envelope.specs.declared.code.Status.{Status}
 use Rattle.xfs_envelope.specs.declared.code.Status.TheVariants.{InvalidMessage, InvalidRequestId, TooManyRequests}
 use Rattle.xfs_envelope.specs.declared.command.Refuse.{Refuse}
 use Rattle.xfs_json.specs.declared.members.Shape.{Shape}
-use Rattle.xfs_machine.specs.Seats.{IsCompleted, IsRefused, IsSeen, with_both}
+use Rattle.xfs_machine.specs.Seats.{IsCompleted, IsRefused, with_both}
 use Rattle.xfs_machine.specs.declared.post.Seat.{Seat}
 use Rattle.xfs_model.specs.Commands.{Asks, line_of}
-use Rattle.xfs_model.specs.Connections.{is_at, with_mail}
 use Rattle.xfs_model.specs.Frames.{IsAcknowledge}
 use Rattle.xfs_model.specs.Immediate.{AtOnce, canceling, done_at_once, ids_of, stopped, told_of}
 use Rattle.xfs_model.specs.Pendings.{pending_in}
-use Rattle.xfs_model.specs.Posts.{Accepts, DoesAtOnce, Refuses, Takes, TakesOn, is_crowded, job_of}
+use Rattle.xfs_model.specs.Posts.{Accepts, DoesAtOnce, Refuses, Takes, is_crowded, job_of}
 use Rattle.xfs_model.specs.Results.{error, plain, success}
 use Rattle.xfs_model.specs.State.{Ask, Connection, Job, Outcome, Queues, State, queue_of, with_queue}
-use Rattle.xfs_queue.specs.declared.command.Ids.{Ids}
 use Rattle.xfs_queue.specs.declared.command.Line.{Line}
 use Rattle.xfs_queue.specs.Queue.{is_named, offered}
 use Rattle.xfs_machine.specs.Seats.{mailed}

@@ -1,9 +1,20 @@
--- What comes back of a machine that is gone.
-use Rattle.std.specs.Prelude.{◌≡◌, is_some}
+-- How a machine ends, or is refused a restart, and what comes back of it.
+use Rattle.std.specs.Prelude.{◌≡◌, ◌≢◌, is_some}
 use Rattle.xfs_disk.specs.declared.disk.Disk.{Ghosts}
-use Rattle.xfs_dispenser.specs.Seen.{Seen}
+use Rattle.xfs_dispenser.specs.Seen.{Becomes, Seen}
+use Rattle.xfs_dispenser.specs.Steps.{IsFull, IsUnknown, IsUnread}
+use Rattle.xfs_guard.specs.CrashOutcomes.{MayMove}
+use Rattle.xfs_guard.specs.Keeps.{Keeps, NoEntry}
 use Rattle.xfs_guard.specs.Stored.{IsStored}
+use Rattle.xfs_guard.specs.View.{GuardView}
+use Rattle.xfs_guard.specs.declared.fail.BootFault.{BootFault}
+use Rattle.xfs_guard.specs.declared.fail.BootFault.TheVariants.{NotJournal, Disk, Full, Memory}
+use Rattle.xfs_guard.specs.declared.open.Open.{Open}
+use Rattle.xfs_guard.specs.declared.open.Open.TheVariants.{No, Written, Acted}
 use Rattle.xfs_mech.specs.declared.mechanism.Mechanism.{Ghosts as Mechanisms}
+use Rattle.xfs_model.specs.Events.{restart, unrestarted}
+use Rattle.xfs_model.specs.State.{State}
+use Rattle.xfs_model.specs.Step.{Step, gone}
 
 -- mechanism and disk are those of the guard as it was last seen
 pub record IsHandedBack {M D : Type 0} (m : Mechanisms M) (g : Ghosts D) (last : Seen) (mech : M) (disk : D) : Type 0 where
@@ -14,3 +25,35 @@ pub record IsHandedBack {M D : Type 0} (m : Mechanisms M) (g : Ghosts D) (last :
   pub places : m.places mech ≡ last.guard.places
   pub units : m.units mech ≡ last.guard.units
   pub faults : m.faults mech ≡ last.guard.faults
+
+-- why a restart is refused: a disk that tells nothing is no journal, the disk fails, the Boot passes a limit, or memory runs out and the guard is as before
+abbrev pub RefusesAs : BootFault → Seen → Seen → Type 0
+RefusesAs (NotJournal at) old new = IsUnknown old new
+RefusesAs Disk old new = IsUnread old new
+RefusesAs Full old new = IsFull old new
+RefusesAs Memory old new = Becomes old old.guard new
+
+-- the written order is acted, and then settled: a crash in between finds the guard of between
+pub record ActsThenSettles {D : Type 0} (g : Ghosts D) (old new : GuardView D) : Type 0 where
+  pub between : GuardView D
+  pub acts : Keeps g (MayMove old.state) old between
+  pub settles : Keeps g NoEntry between new
+
+-- what a crash finds inside a finish, by the order that is open
+abbrev pub ClosesThrough : {D : Type 0} → Ghosts D → Open → GuardView D → GuardView D → Type 0
+ClosesThrough g No old new = new ≡ old
+ClosesThrough g (Written kind counts) old new = ActsThenSettles g old new
+ClosesThrough g (Acted kind moved diverted failed) old new = Keeps g NoEntry old new
+
+-- a machine is finished through such states, and the last has this disk
+pub record IsFinishedThrough {D : Type 0} (g : Ghosts D) (old : GuardView D) (disk : D) : Type 0 where
+  pub last : GuardView D
+  pub through : ClosesThrough g old.state.open_order old last
+  pub disk_is : disk ≡ last.disk
+
+-- A refused restart: why, and mechanism and disk come back as it left them. But for want of memory it is a step of a machine that is gone then.
+pub record IsRefused {M D : Type 0} (m : Mechanisms M) (g : Ghosts D) (old : State) (why : BootFault) (mech : M) (disk : D) : Type 0 where
+  pub last : Seen
+  pub cause : RefusesAs why old.seen last
+  pub step : why ≢ Memory → Step old restart unrestarted (gone old last)
+  pub back : IsHandedBack m g last mech disk

@@ -3,10 +3,12 @@ pub mod Chosen
 pub mod DataCodes
 pub mod Endings
 pub mod Jobs
+pub mod Laws
 pub mod Lending
 pub mod MachineView
 pub mod Parts
 pub mod Tallies
 pub mod Wanted
 pub mod Withdrawals
+pub mod Working
 pub mod Seats

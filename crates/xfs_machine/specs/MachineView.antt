@@ -9,6 +9,7 @@ use Rattle.xfs_guard.specs.View.{GuardView}
 use Rattle.xfs_keyboard.specs.Entries.{Entry}
 use Rattle.xfs_model.specs.Sound.{IsSound}
 use Rattle.xfs_model.specs.State.{Connection, Queues, State}
+use Rattle.xfs_model.specs.Told.{HasMark, IsTold}
 
 pub record MachineView (D : Type 0) : Type 0 where
   pub state : State
@@ -34,8 +35,10 @@ over g guard life issued boot exchange now slot keypad given connections queues 
   queues = queues;
 }
 
--- what every call of a machine keeps
+-- What every call of a machine keeps. What was told of the journal, and what waits to be told, stands in it.
 pub record IsWhole (s : State) : Type 0 where
   pub sound : IsSound s
+  pub told : IsTold s
+  pub mark : HasMark s.seen
   pub moment : s.now.0 ≤ LAST_MOMENT
   pub there : s.boot ≢ 0

@@ -1,12 +1,35 @@
--- What a case of the work does to some parts of a machine.
-use Rattle.std.specs.Prelude.{◌≡◌, ◌||◌, ℕ, List, [], ◌∷◌, Bool, Option, Some, None, find, map}
+-- A machine with other parts. What a call does to some parts of a machine is said for every machine that has them.
+use Rattle.std.specs.Prelude.{◌≡◌, ◌≢◌, ◌⊎◌, ◌||◌, ℕ, List, [], ◌∷◌, Bool, Option, Some, None, find, map}
 use Rattle.xfs_base.specs.declared.moment.ClientId.{ClientId}
+use Rattle.xfs_base.specs.declared.moment.Moment.{Moment}
 use Rattle.xfs_base.specs.declared.moment.Service.{Service}
+use Rattle.xfs_card.specs.Slot.{Slot}
+use Rattle.xfs_dispenser.specs.Answers.{Went, more, done}
+use Rattle.xfs_dispenser.specs.Plans.{IsPlanned}
+use Rattle.xfs_dispenser.specs.Seen.{Seen}
+use Rattle.xfs_dispenser.specs.Steps.{MayWork}
 use Rattle.xfs_dispenser.specs.declared.plan.Plan.{Plan}
-use Rattle.xfs_queue.specs.Commands.{is_ready}
+use Rattle.xfs_guard.specs.View.{View}
+use Rattle.xfs_keyboard.specs.Entries.{Entry}
+use Rattle.xfs_mech.specs.declared.motion.Motion.{Motion}
+use Rattle.xfs_queue.specs.Commands.{is_ready, is_running, waits_on}
+use Rattle.xfs_queue.specs.declared.command.Line.TheVariants.{Nonce, Device}
 use Rattle.xfs_queue.specs.declared.command.Command.{Command}
 use Rattle.xfs_model.specs.Connections.{is_at, is_service, with_mail}
-use Rattle.xfs_model.specs.State.{Connection, Job, Outcome}
+use Rattle.xfs_model.specs.Results.{outcome, with_result}
+use Rattle.xfs_model.specs.State.{issue, clear, Connection, Job, Outcome, Queues, State}
+
+abbrev pub at_card : State → Slot → List Connection → Queues → State
+at_card s slot connections queues = record s { slot = slot; connections = connections; queues = queues }
+
+abbrev pub at_keys : State → Option Entry → List Connection → Queues → State
+at_keys s keypad connections queues = record s { keypad = keypad; connections = connections; queues = queues }
+
+abbrev pub at_cash : State → Seen → Queues → State
+at_cash s next queues = record s { seen = next; queues = queues }
+
+abbrev pub at_nonce : State → Seen → List Connection → State
+at_nonce s next connections = record s { seen = next; connections = connections }
 
 -- the command with another plan, or none
 abbrev pub with_job_plan : Option Plan → Command Job → Command Job
@@ -15,6 +38,23 @@ with_job_plan plan a = record a { job = record a.job { plan = plan } }
 -- the command with its plan behind a step, in which a live nonce may have ended
 abbrev pub with_plan_kept : Plan → Bool → Command Job → Command Job
 with_plan_kept plan ended a = record a { job = record a.job { plan = Some plan; ended_nonce = a.job.ended_nonce || ended } }
+
+-- and goes on, or has its result
+abbrev pub with_step : Plan → Bool → Went → Command Job → Command Job
+with_step plan ended more a = with_plan_kept plan ended a
+with_step plan ended (done result) a = with_result (outcome result.code result.payload) (with_plan_kept plan ended a)
+
+-- a command runs whose plan can be worked on
+pub record HasPlan (v : View) (q : List (Command Job)) : Type 0 where
+  pub command : Command Job
+  pub runs : find (λ a. is_running a.stage) q ≡ Some command
+  pub plan : Plan
+  pub planned : command.job.plan ≡ Some plan
+  pub can : IsPlanned v plan
+
+-- an entry that a step of the running plan may add to the mechanism's list
+abbrev pub MayStep : View → List (Command Job) → Motion → Type 0
+MayStep v q entry = (a : Command Job) × (plan : Plan) × (find (λ b. is_running b.stage) q ≡ Some a) × (a.job.plan ≡ Some plan) × MayWork v plan entry
 
 -- a command is ready, and the first that is has its result
 pub record HasResult (q : List (Command Job)) : Type 0 where
@@ -27,3 +67,25 @@ pub record HasResult (q : List (Command Job)) : Type 0 where
 abbrev pub mailed : Service → ClientId → Option (List ℕ) → List ℕ → List Connection → List Connection
 mailed service client None last ks = map (λ k. with_mail (is_at service client k) (last ∷ []) k) ks
 mailed service client (Some frame) last ks = map (λ k. with_mail (is_at service client k) (last ∷ []) k) (map (λ k. with_mail (is_service service k.service) (frame ∷ []) k) ks)
+
+-- a command waits on the nonce line, and the first that does asks for a nonce, or that it ends
+pub record HasNonceAsk (q : List (Command Job)) : Type 0 where
+  pub command : Command Job
+  pub first : find (waits_on Nonce) q ≡ Some command
+  pub asks : (command.job.ask ≡ issue) ⊎ (command.job.ask ≡ clear)
+
+-- a command waits on the device line, and the first that does asks something of a device, or its members are bad
+pub record HasDeviceAsk (q : List (Command Job)) : Type 0 where
+  pub command : Command Job
+  pub first : find (waits_on Device) q ≡ Some command
+  pub no_issue : command.job.ask ≢ issue
+  pub no_clear : command.job.ask ≢ clear
+
+abbrev pub at_begin : State → Seen → Bool → Slot → Option Entry → List Connection → Queues → State
+at_begin s next exchange slot keypad connections queues = record s { seen = next; exchange = exchange; slot = slot; keypad = keypad; connections = connections; queues = queues }
+
+abbrev pub at_devices : State → Slot → Option Entry → List Connection → Queues → State
+at_devices s slot keypad connections queues = record s { slot = slot; keypad = keypad; connections = connections; queues = queues }
+
+abbrev pub at_nonce_line : State → Seen → Moment → Moment → Queues → State
+at_nonce_line s next issued now queues = record s { seen = next; issued = issued; now = now; queues = queues }

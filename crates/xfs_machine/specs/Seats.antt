@@ -3,7 +3,6 @@ use Rattle.std.specs.Prelude.{◌≡◌, ℕ, List, [], ◌∷◌, map, Option, 
 use Rattle.xfs_base.specs.declared.moment.Moment.{Moment}
 use Rattle.xfs_envelope.specs.Commands as envelope
 use Rattle.xfs_envelope.specs.declared.code.Status.{Status}
-use Rattle.xfs_guard.specs.View.{View}
 use Rattle.xfs_machine.specs.declared.post.Seat.{Seat}
 use Rattle.xfs_model.specs.Connections.{is_at, with_mail}
 use Rattle.xfs_model.specs.Frames.{IsAcknowledge, IsCompletion}

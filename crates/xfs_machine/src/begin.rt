@@ -1,24 +1,92 @@
-//! What it is to begin the first command that waits on the device line, as far as its queue goes.
+//! The first command that waits on the device line is begun.
 
-ghost use Rattle.std.specs.Prelude.{◌≡◌, None, false, IfSome, find, option_map};
+ghost use Rattle.std.specs.Prelude.{◌≡◌, None, false, IfSome, OnErr, OnOk, find, option_map, All};
+ghost use Rattle.xfs_card.specs.declared.ask.CardAsk.TheVariants as CardAsk;
 ghost use Rattle.xfs_dispenser.specs.Answers.{start_of, start_payload};
+ghost use Rattle.xfs_dispenser.specs.Seen.{seen};
 ghost use Rattle.xfs_envelope.specs.Messages.{IsPayload};
+ghost use Rattle.xfs_guard.specs.Keeps.{Keeps, NoEntry, Proceeds};
+ghost use Rattle.xfs_guard.specs.Upheld.{IsUpheld};
+ghost use Rattle.xfs_guard.specs.declared.open.Open.TheVariants.{No};
 ghost use Rattle.xfs_machine.specs.Jobs.{changed_at};
-ghost use Rattle.xfs_model.specs.Cases.{with_start};
+ghost use Rattle.xfs_machine.specs.Parts.{HasDeviceAsk, at_begin, at_card};
+ghost use Rattle.xfs_model.specs.Cases.{BeginsAs, BeginsFirst, with_start};
 ghost use Rattle.xfs_model.specs.Results.{running, with_plan};
-ghost use Rattle.xfs_model.specs.State.{queue_of, with_queue};
+ghost use Rattle.xfs_model.specs.Sound.{IsFitting};
+ghost use Rattle.xfs_base.specs.declared.moment.Service.TheVariants as Service;
+ghost use Rattle.xfs_model.specs.State.{Job as JobView, State, card, entry, queue_of, with_queue};
 ghost use Rattle.xfs_queue.specs.Commands.{is_running, ticket_of, waits_on};
 ghost use Rattle.xfs_queue.specs.Queue.{IsWaiting};
+ghost use Rattle.xfs_queue.specs.declared.command.Command.{Command as Pending};
 ghost use Rattle.xfs_queue.specs.declared.command.Line.TheVariants as Line;
 
-use crate::job::{Job, Outcome};
+use crate::connections::Connections;
+use crate::job::{Ask, Job, Outcome};
+use crate::notices::insert_card;
 use crate::queues::Queues;
-use xfs_base::Service;
-use xfs_dispenser::{Begun, Plan};
+use std::alloc::Global;
+use xfs_base::{Memory, Service};
+use xfs_card::{CardAsk, CardEffect, CardEvent, CardState};
+use xfs_common::nothing;
+use xfs_disk::Disk;
+use xfs_dispenser::{Begun, Plan, begin};
+use xfs_envelope::Code;
+use xfs_guard::Guard;
+use xfs_keyboard::{EntryAsk, KeyEvent, KeyState};
+use xfs_mech::Mechanism;
 use xfs_queue::{Command, Line, Queue, Stage, Ticket};
 
-/// The first that waits on the device line.
-pub(crate) fn first_waiting(queue: &Queue<Job>) -> Option<&Command<Job>>
+/// Begins it, by what it asks. None runs.
+pub(crate) fn begin_first<M: Mechanism, D: Disk>(
+    alloc: Global,
+    guard: &mut Guard<M, D>,
+    exchange: &mut bool,
+    slot: &mut CardState,
+    keypad: &mut KeyState,
+    connections: &mut Connections,
+    queues: &mut Queues,
+    service: Service,
+) -> Result<(), Memory>
+    requires none { service ≡ Service.Cash → guard.old.state.open_order ≡ No }
+    requires asks { HasDeviceAsk (queue_of queues.old service) }
+    requires fitting { All (IsFitting service) (queue_of queues.old service) }
+    requires idle { find (λ a. is_running a.stage) (queue_of queues.old service) ≡ None }
+    ensures begins { OnOk result ((s : State) → BeginsFirst (at_begin s (seen D.Disk guard.old) exchange.old slot.old keypad.old connections.old queues.old) service (at_begin s (seen D.Disk guard.new) exchange.new slot.new keypad.new connections.new queues.new)) }
+    ensures memory { OnErr result ((guard.new ≡ guard.old) × (exchange.new ≡ exchange.old) × (slot.new ≡ slot.old) × (keypad.new ≡ keypad.old) × (connections.new ≡ connections.old) × (queues.new ≡ queues.old)) }
+    ensures proceeds { Proceeds D.Disk guard.old guard.new }
+    ensures keeps { IsUpheld D.Disk guard.old → Keeps D.Disk NoEntry guard.old guard.new }
+{
+    let Some(command) = first_waiting(queues.at(service)) else {
+        unreachable!()
+    };
+    let ticket = command.ticket();
+    match &command.job.ask {
+        Ask::Cash(ask) => {
+            let begun = begin(alloc, guard, exchange, ask)?;
+            start_cash(queues, service, ticket, begun);
+            Ok(())
+        }
+        Ask::Card(ask) => {
+            let ask = *ask;
+            begin_card(alloc, slot, connections, queues, service, ticket, ask)
+        }
+        Ask::Entry(ask) => {
+            let ask = ask.copied();
+            begin_entry(alloc, keypad, queues, service, ticket, ask)
+        }
+        Ask::Bad => {
+            queues.set_result(
+                service,
+                ticket,
+                Outcome::new(Code::InvalidData, nothing(alloc)),
+            );
+            Ok(())
+        }
+        Ask::Issue | Ask::Clear => unreachable!(),
+    }
+}
+
+fn first_waiting(queue: &Queue<Job>) -> Option<&Command<Job>>
     ensures first { option_map (λ a. a.now) result ≡ find (waits_on Line.Device) queue.now }
     ensures waiting { IfSome result (λ a. IsWaiting queue.now (ticket_of a.now)) }
 {
@@ -28,7 +96,7 @@ pub(crate) fn first_waiting(queue: &Queue<Job>) -> Option<&Command<Job>>
 }
 
 // Its checks have begun a command of the dispenser.
-pub(crate) fn start_cash(queues: &mut Queues, service: Service, ticket: Ticket, begun: Begun)
+fn start_cash(queues: &mut Queues, service: Service, ticket: Ticket, begun: Begun)
     requires waiting { IsWaiting (queue_of queues.old service) ticket }
     requires idle { find (λ a. is_running a.stage) (queue_of queues.old service) ≡ None }
     requires payload { IfSome (start_payload (start_of begun)) IsPayload }
@@ -54,10 +122,90 @@ fn start_plan(queue: &mut Queue<Job>, ticket: Ticket, plan: Plan)
 }
 
 // The command runs.
-pub(crate) fn start(queues: &mut Queues, service: Service, ticket: Ticket)
+fn start(queues: &mut Queues, service: Service, ticket: Ticket)
     requires waiting { IsWaiting (queue_of queues.old service) ticket }
     requires idle { find (λ a. is_running a.stage) (queue_of queues.old service) ≡ None }
     ensures { queues.new ≡ with_queue queues.old service (changed_at running ticket (queue_of queues.old service)) }
 {
     queues.at_mut(service).start(ticket);
+}
+
+// A command of the card reader. A Read hears that a card is awaited before the reader awaits it.
+fn begin_card(
+    alloc: Global,
+    slot: &mut CardState,
+    connections: &mut Connections,
+    queues: &mut Queues,
+    service: Service,
+    ticket: Ticket,
+    ask: CardAsk,
+) -> Result<(), Memory>
+    requires waiting { IsWaiting (queue_of queues.old service) ticket }
+    requires idle { find (λ a. is_running a.stage) (queue_of queues.old service) ≡ None }
+    ensures begins { OnOk result ((s : State) (a : Pending JobView) → ticket ≡ ticket_of a → BeginsAs (card ask) (at_card s slot.old connections.old queues.old) service a (at_card s slot.new connections.new queues.new)) }
+    ensures memory { OnErr result ((slot.new ≡ slot.old) × (connections.new ≡ connections.old) × (queues.new ≡ queues.old)) }
+{
+    if let CardAsk::Read { tracks } = ask {
+        return begin_read(alloc, slot, connections, queues, service, ticket, tracks);
+    }
+    match xfs_card::step(alloc, slot, CardEvent::Begin(ask))? {
+        CardEffect::Done(code, payload) => {
+            queues.set_result(service, ticket, Outcome::new(code, payload));
+            Ok(())
+        }
+        _ => unreachable!(),
+    }
+}
+
+fn begin_read(
+    alloc: Global,
+    slot: &mut CardState,
+    connections: &mut Connections,
+    queues: &mut Queues,
+    service: Service,
+    ticket: Ticket,
+    tracks: [bool; 3],
+) -> Result<(), Memory>
+    requires waiting { IsWaiting (queue_of queues.old service) ticket }
+    requires idle { find (λ a. is_running a.stage) (queue_of queues.old service) ≡ None }
+    ensures begins { OnOk result ((s : State) (a : Pending JobView) → ticket ≡ ticket_of a → BeginsAs (card (CardAsk.Read tracks)) (at_card s slot.old connections.old queues.old) service a (at_card s slot.new connections.new queues.new)) }
+    ensures memory { OnErr result ((slot.new ≡ slot.old) × (connections.new ≡ connections.old) × (queues.new ≡ queues.old)) }
+{
+    let frame = insert_card(alloc, ticket.id)?;
+    connections.send(service, ticket.client, frame)?;
+    let Ok(effect) = xfs_card::step(alloc, slot, CardEvent::Begin(CardAsk::Read { tracks })) else {
+        connections.unsend(service, ticket.client);
+        return Err(Memory);
+    };
+    match effect {
+        CardEffect::AskInsert => {
+            start(queues, service, ticket);
+            Ok(())
+        }
+        CardEffect::Done(code, payload) => {
+            connections.unsend(service, ticket.client);
+            queues.set_result(service, ticket, Outcome::new(code, payload));
+            Ok(())
+        }
+        _ => unreachable!(),
+    }
+}
+
+// A DataEntry.
+fn begin_entry(
+    alloc: Global,
+    keypad: &mut KeyState,
+    queues: &mut Queues,
+    service: Service,
+    ticket: Ticket,
+    ask: EntryAsk,
+) -> Result<(), Memory>
+    requires waiting { IsWaiting (queue_of queues.old service) ticket }
+    requires idle { find (λ a. is_running a.stage) (queue_of queues.old service) ≡ None }
+    ensures begins { OnOk result ((s : State) (a : Pending JobView) → ticket ≡ ticket_of a → BeginsAs (entry ask) (record s { keypad = keypad.old; queues = queues.old }) service a (record s { keypad = keypad.new; queues = queues.new })) }
+    ensures memory { OnErr result ((keypad.new ≡ keypad.old) × (queues.new ≡ queues.old)) }
+{
+    xfs_keyboard::step(alloc, keypad, KeyEvent::Begin(ask))?;
+    start(queues, service, ticket);
+    Ok(())
 }

@@ -17,6 +17,7 @@ ghost use Rattle.xfs_journal.specs.declared.record.Rec.{Rec};
 ghost use Rattle.xfs_journal.specs.declared.record.Rec.TheVariants.{Boot};
 ghost use Rattle.xfs_dispenser.specs.Seen.{seen};
 ghost use Rattle.xfs_model.specs.State.{bare};
+ghost use Rattle.xfs_model.specs.Told.{HasMark};
 
 use crate::connections::Connections;
 use crate::machine::Machine;
@@ -98,6 +99,7 @@ impl<M: Mechanism, D: Disk> Machine<M, D> {
     pub(crate) fn booted(alloc: Global, guard: Guard<M, D>, life: u32) -> Machine<M, D>
         requires there { length guard.state.records ≢ 0 }
         requires none { guard.state.open_order ≡ No }
+        requires mark { HasMark (seen D.Disk guard) }
         ensures bare { result.state ≡ bare (seen D.Disk guard) life (length guard.state.records) }
         ensures disk { result.disk ≡ guard.disk }
     {

@@ -4,6 +4,7 @@ ghost use Rattle.std.specs.Prelude.{◌≡◌, ◌≤◌, ◌&&◌, ◌||◌};
 ghost use Rattle.std.specs.List.{list_any};
 ghost use Rattle.xfs_base.specs.declared.moment.TheConstants.{LAST_MOMENT};
 ghost use Rattle.xfs_dispenser.specs.Seen.{seen};
+ghost use Rattle.xfs_guard.specs.Upheld.{IsUpheld};
 ghost use Rattle.xfs_machine.specs.Chosen.{case_seen, device_case};
 ghost use Rattle.xfs_model.specs.State.{State};
 ghost use Rattle.xfs_model.specs.Work.{case_of, is_ordered};
@@ -51,14 +52,16 @@ pub(crate) fn case_of<M: Mechanism, D: Disk>(
     service: Service,
 ) -> Case
     requires { now.0 ≤ LAST_MOMENT }
-    ensures { (s : State) → case_seen result ≡ case_of (record s { seen = seen D.Disk guard.now; life = life; issued = issued; now = now; queues = queues.now }) service }
+    ensures case { (s : State) → case_seen result ≡ case_of (record s { seen = seen D.Disk guard.now; life = life; issued = issued; now = now; queues = queues.now }) service }
+    ensures upheld { IsUpheld D.Disk guard.now }
 {
     let is_cash = is_service(Service::Cash, service);
     let queue = queues.at(service);
+    let over = is_life_over(guard, life, issued, now);
     if is_cash & is_ordered(guard) {
         return Case::Order;
     }
-    if is_cash & is_life_over(guard, life, issued, now) {
+    if is_cash & over {
         return Case::Expire;
     }
     if queue.ready().is_some() {

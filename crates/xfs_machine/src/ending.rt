@@ -9,7 +9,8 @@ ghost use Rattle.xfs_guard.specs.declared.fail.BootFault.TheVariants.{Memory as 
 ghost use Rattle.xfs_journal.specs.JournalView.{IsPossible};
 ghost use Rattle.xfs_journal.specs.declared.record.Rec.{Rec};
 ghost use Rattle.xfs_machine.specs.Answers.{finished};
-ghost use Rattle.xfs_machine.specs.Endings.{IsHandedBack};
+ghost use Rattle.xfs_machine.specs.Endings.{IsFinishedThrough, IsHandedBack, IsRefused, RefusesAs};
+ghost use Rattle.xfs_machine.specs.Laws.{IsLawful};
 ghost use Rattle.xfs_machine.specs.MachineView.{guard_of};
 ghost use Rattle.xfs_model.specs.Events.{restart, restarted, unrestarted, end_, ended, finish, memory};
 ghost use Rattle.xfs_model.specs.State.{State, bare};
@@ -31,9 +32,11 @@ impl<M: Mechanism, D: Disk> Machine<M, D> {
     /// exchange is gone. So they are after a refusal, but for `Memory`, which leaves all as it was.
     pub fn reboot(&mut self) -> Result<(), BootFault>
         ensures ok { OnOk result (Step self.old.state restart restarted self.new.state) }
+        ensures laws { OnOk result (IsLawful self.old.state restart restarted self.new.state) }
         ensures refused { IfErr result (λ f. f ≢ BootMemory → Step self.old.state restart unrestarted (gone self.old.state self.new.state.seen)) }
         ensures emptied { IfErr result (λ f. f ≢ BootMemory → self.new.state ≡ bare self.new.state.seen self.old.state.life self.old.state.boot) }
         ensures memory { result ≡ Err BootMemory → Step self.old.state restart memory self.new.state }
+        ensures cause { IfErr result (λ f. RefusesAs f self.old.state.seen self.new.state.seen) }
         ensures keeps { Keeps D.Disk NoEntry (guard_of self.old) (guard_of self.new) }
     {
         let outcome = reboot(&mut self.guard);
@@ -55,7 +58,8 @@ impl<M: Mechanism, D: Disk> Machine<M, D> {
     /// The same, and where it is refused, mechanism and disk come back.
     pub fn restart(mut self) -> Result<Machine<M, D>, BootFail<M, D>>
         ensures step { IfOk result (λ m. Step self.state restart restarted m.state) }
-        ensures refused { IfErr result (λ f. f.why ≢ BootMemory → (next : Seen) × Step self.state restart unrestarted (gone self.state next) × IsHandedBack M.Mechanism D.Disk next f.mech f.disk) }
+        ensures laws { IfOk result (λ m. IsLawful self.state restart restarted m.state) }
+        ensures refused { IfErr result (λ f. IsRefused M.Mechanism D.Disk self.state f.why f.mech f.disk) }
         ensures proceeds { IfOk result (λ m. Proceeds D.Disk (guard_of self) (guard_of m)) }
         ensures left { IfErr result (λ f. (records : List Rec) → MayLeave D.Disk f.disk records → IsRecorded self.state.seen.guard.key self.state.seen.guard.units records (M.motions f.mech)) }
     {
@@ -86,6 +90,8 @@ impl<M: Mechanism, D: Disk> Machine<M, D> {
     pub fn finish(self) -> (Result<(), Deny>, M, D)
         ensures step { (next : Seen) × Step self.state finish (finished result.0) (gone self.state next) × IsHandedBack M.Mechanism D.Disk next result.1 result.2 }
         ensures err { IfErr result.0 (λ e. e ≡ Deny.Disk) }
+        ensures through { IsFinishedThrough D.Disk (guard_of self) result.2 }
+        ensures recorded { (records : List Rec) → MayLeave D.Disk result.2 records → IsRecorded self.state.seen.guard.key self.state.seen.guard.units records (M.motions result.1) }
     {
         let mut guard = self.into_guard();
         let settled = close(&mut guard);

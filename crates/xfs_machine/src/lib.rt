@@ -1,4 +1,4 @@
-//! The machine in code. What the cases of its work do stands in functions of its parts, which `work` will call: nothing calls them yet.
+//! The machine in code. What a case of its work does stands in functions of the parts that it changes.
 #![tactic(auto)]
 
 mod answer;
@@ -9,6 +9,7 @@ mod boot;
 mod cases;
 mod connection;
 mod connections;
+mod devices;
 mod ending;
 mod frames;
 mod immediate;
@@ -25,6 +26,8 @@ mod queues;
 mod reboot;
 mod stopping;
 mod tally;
+mod touch;
+mod work;
 
 pub use answer::{Touched, Work};
 pub use frames::Frames;

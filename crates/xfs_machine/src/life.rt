@@ -27,9 +27,11 @@ pub(crate) fn is_life_over<M: Mechanism, D: Disk>(
     issued: Moment,
     now: Moment,
 ) -> bool
-    ensures { (s : State) → result ≡ is_life_over (record s { seen = seen D.Disk guard.now; life = life; issued = issued; now = now }) }
+    ensures over { (s : State) → result ≡ is_life_over (record s { seen = seen D.Disk guard.now; life = life; issued = issued; now = now }) }
+    ensures upheld { IsUpheld D.Disk guard.now }
 {
-    guard.live().is_some() && is_long_ago(life, issued, now) && guard.unfit().is_none()
+    let fit = guard.unfit().is_none();
+    guard.live().is_some() && is_long_ago(life, issued, now) && fit
 }
 
 // Ends the live nonce, and announces it where it ended. The announcement is made first, since it alone

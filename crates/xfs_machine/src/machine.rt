@@ -3,23 +3,25 @@ ghost use Rattle.xfs_base.specs.Causes.{next_count};
 ghost use Rattle.xfs_base.specs.declared.moment.TheConstants.{LAST_MOMENT};
 ghost use Rattle.xfs_guard.specs.Nonce.{live_in};
 ghost use Rattle.xfs_machine.specs.Answers.{joined_as, posted};
+ghost use Rattle.xfs_machine.specs.Laws.{IsLawful};
 ghost use Rattle.xfs_machine.specs.MachineView.{guard_of};
 ghost use Rattle.xfs_model.specs.Connections.{connection_of};
 ghost use Rattle.xfs_model.specs.Events.{join, leave, outbox, post, done, handed};
 ghost use Rattle.xfs_machine.specs.Wanted.{wants};
-ghost use Rattle.xfs_model.specs.Guards.{is_shutter_closed};
 ghost use Rattle.xfs_model.specs.Step.{Step};
+ghost use Rattle.xfs_model.specs.Told.{AllTell};
 
 use crate::connection::Connection;
 use crate::connections::Connections;
 use crate::frames::Frames;
+use crate::notes_taken::is_shutter_closed;
 use crate::pass::{JoinFault, Pass};
 use crate::post::{Seat, take};
 use crate::queues::Queues;
 use crate::tally::Tally;
 use std::alloc::Global;
 use std::marker::Model;
-use xfs_base::{ClientId, Kind, Memory, Moment, Places, Service, UnitTable};
+use xfs_base::{ClientId, Memory, Moment, Places, Service, UnitTable};
 use xfs_card::CardState;
 use xfs_disk::Disk;
 use xfs_guard::{Guard, Nonce};
@@ -69,6 +71,7 @@ impl<M: Mechanism, D: Disk> Machine<M, D> {
     /// Takes a connection.
     pub fn join(&mut self, service: Service) -> Result<Pass, JoinFault>
         ensures step { Step self.old.state (join service) (joined_as result) self.new.state }
+        ensures laws { IsLawful self.old.state (join service) (joined_as result) self.new.state }
         ensures guard { guard_of self.new ≡ guard_of self.old }
     {
         if self.connections.len() >= MOST_OPEN || self.given == u32::MAX {
@@ -97,6 +100,7 @@ impl<M: Mechanism, D: Disk> Machine<M, D> {
     ) -> Result<(), Memory>
         requires { now.0 ≤ LAST_MOMENT }
         ensures step { Step self.old.state (post pass.now text.now now) (posted result) self.new.state }
+        ensures laws { IsLawful self.old.state (post pass.now text.now now) (posted result) self.new.state }
         ensures guard { guard_of self.new ≡ guard_of self.old }
         ensures tally { tally.new ≡ record tally.old { posts = next_count tally.old.posts } }
     {
@@ -126,6 +130,8 @@ impl<M: Mechanism, D: Disk> Machine<M, D> {
     /// no memory.
     pub fn outbox(&mut self, pass: &Pass, tally: &mut Tally) -> Frames
         ensures step { Step self.old.state (outbox pass.now) (handed result) self.new.state }
+        ensures laws { IsLawful self.old.state (outbox pass.now) (handed result) self.new.state }
+        ensures told { AllTell self.new.state result }
         ensures guard { guard_of self.new ≡ guard_of self.old }
         ensures tally { tally.new ≡ record tally.old { outboxes = next_count tally.old.outboxes } }
     {
@@ -140,6 +146,7 @@ impl<M: Mechanism, D: Disk> Machine<M, D> {
     /// changes nothing. It takes no memory.
     pub fn leave(&mut self, pass: Pass)
         ensures step { Step self.old.state (leave pass) done self.new.state }
+        ensures laws { IsLawful self.old.state (leave pass) done self.new.state }
         ensures guard { guard_of self.new ≡ guard_of self.old }
     {
         let Some(service) = self.service_of(&pass) else {
@@ -192,14 +199,8 @@ impl<M: Mechanism, D: Disk> Machine<M, D> {
             Service::Publisher => false,
             Service::Card => self.slot.awaited() || self.slot.at_exit(),
             Service::Keys => self.keypad.active(),
-            Service::Cash => self.places().outlet.notes() != 0 && !self.is_shutter_closed(),
+            Service::Cash => self.places().outlet.notes() != 0 && !is_shutter_closed(&self.guard),
         }
-    }
-
-    fn is_shutter_closed(&self) -> bool
-        ensures { result ≡ is_shutter_closed self.now.state.seen }
-    {
-        matches!(self.guard.unacted(), Some(Kind::Retract))
     }
 
     /// The journal. A record's number is its place, from 1.

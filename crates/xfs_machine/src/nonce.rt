@@ -1,26 +1,97 @@
 //! The commands of the nonce line: GetCommandNonce and ClearCommandNonce.
 
-ghost use Rattle.std.specs.Prelude.{◌≡◌, ◌≢◌, Some, None, IfOk, OnErr, if◌then◌else◌};
+ghost use Rattle.std.specs.Prelude.{◌≡◌, ◌≢◌, ◌≤◌, ◌⊎◌, Some, None, IfOk, IfSome, OnErr, OnOk, find, if◌then◌else◌, option_map};
+ghost use Rattle.xfs_base.specs.declared.moment.TheConstants.{LAST_MOMENT};
 ghost use Rattle.xfs_common.specs.Payloads.{nothing as nothing_said};
 ghost use Rattle.xfs_dispenser.specs.Seen.{seen};
 ghost use Rattle.xfs_guard.specs.Keeps.{Keeps, NoEntry, Proceeds};
+ghost use Rattle.xfs_guard.specs.Upheld.{IsUpheld};
 ghost use Rattle.xfs_guard.specs.declared.open.Open.TheVariants.{No};
+ghost use Rattle.xfs_machine.specs.Jobs.{ask_seen};
+ghost use Rattle.xfs_machine.specs.Parts.{HasNonceAsk, at_nonce_line};
+ghost use Rattle.xfs_model.specs.Cases.{TakesNonce};
 ghost use Rattle.xfs_model.specs.Guards.{NonceCommand};
 ghost use Rattle.xfs_envelope.specs.declared.code.Code.TheVariants.{DeviceNotReady};
 ghost use Rattle.xfs_model.specs.Results.{plain, success};
 ghost use Rattle.xfs_model.specs.State.{State, clear, cleared as ended, issue};
+ghost use Rattle.xfs_queue.specs.Commands.{ticket_of, waits_on};
+ghost use Rattle.xfs_queue.specs.Queue.{IsQueue, IsWaiting};
+ghost use Rattle.xfs_queue.specs.declared.command.Line.TheVariants as Line;
 
-use crate::job::{Ending, Outcome};
+use crate::job::{Ask, Ending, Job, Outcome};
+use crate::queues::Queues;
 use std::alloc::Global;
-use xfs_base::{Memory, Moment};
+use xfs_base::{Memory, Moment, Service};
 use xfs_common::{nonce, nothing};
 use xfs_disk::Disk;
 use xfs_envelope::Code;
 use xfs_guard::{Deny, Guard};
 use xfs_mech::Mechanism;
+use xfs_queue::{Command, Line, Queue, Stage};
 
-/// Issues a nonce. The text of the answer is made before the nonce is written.
-pub(crate) fn issue<M: Mechanism, D: Disk>(
+/// Does the first command of the line. Where its deadline has come it has the result `timeOut`.
+pub(crate) fn take_first<M: Mechanism, D: Disk>(
+    alloc: Global,
+    guard: &mut Guard<M, D>,
+    issued: &mut Moment,
+    queues: &mut Queues,
+    now: Moment,
+) -> Result<(), Memory>
+    requires none { guard.old.state.open_order ≡ No }
+    requires moment { now.0 ≤ LAST_MOMENT }
+    requires asks { HasNonceAsk queues.old.cash }
+    ensures takes { OnOk result ((s : State) → TakesNonce (at_nonce_line s (seen D.Disk guard.old) issued.old now queues.old) (at_nonce_line s (seen D.Disk guard.new) issued.new now queues.new)) }
+    ensures memory { OnErr result ((guard.new ≡ guard.old) × (issued.new ≡ issued.old) × (queues.new ≡ queues.old)) }
+    ensures proceeds { Proceeds D.Disk guard.old guard.new }
+    ensures keeps { IsUpheld D.Disk guard.old → Keeps D.Disk NoEntry guard.old guard.new }
+{
+    let Some(command) = first_asking(queues.at(Service::Cash)) else {
+        unreachable!()
+    };
+    let ticket = command.ticket();
+    let outcome = if queues.at(Service::Cash).due(ticket, now) {
+        Outcome::new(Code::TimeOut, nothing(alloc))
+    } else {
+        done(alloc, guard, issued, now, &command.job.ask)?
+    };
+    queues.set_result(Service::Cash, ticket, outcome);
+    Ok(())
+}
+
+// The first that waits on the nonce line.
+fn first_asking(queue: &Queue<Job>) -> Option<&Command<Job>>
+    ensures first { option_map (λ a. a.now) result ≡ find (waits_on Line.Nonce) queue.now }
+    ensures waiting { IfSome result (λ a. IsWaiting queue.now (ticket_of a.now)) }
+    ensures valid { IsQueue queue.now }
+{
+    queue.commands().iter().find(|command| {
+        matches!(command.stage, Stage::Waiting) && matches!(command.line, Line::Nonce)
+    })
+}
+
+fn done<M: Mechanism, D: Disk>(
+    alloc: Global,
+    guard: &mut Guard<M, D>,
+    issued: &mut Moment,
+    now: Moment,
+    ask: &Ask,
+) -> Result<Outcome, Memory>
+    requires none { guard.old.state.open_order ≡ No }
+    requires asks { (ask_seen ask.now ≡ issue) ⊎ (ask_seen ask.now ≡ clear) }
+    ensures done { IfOk result (λ o. (s : State) → NonceCommand (record s { seen = seen D.Disk guard.old; issued = issued.old; now = now }) (ask_seen ask.now) o (seen D.Disk guard.new) issued.new) }
+    ensures memory { OnErr result ((guard.new ≡ guard.old) × (issued.new ≡ issued.old)) }
+    ensures proceeds { Proceeds D.Disk guard.old guard.new }
+    ensures keeps { Keeps D.Disk NoEntry guard.old guard.new }
+{
+    match ask {
+        Ask::Issue => issue(alloc, guard, issued, now),
+        Ask::Clear => clear(alloc, guard),
+        Ask::Cash(_) | Ask::Card(_) | Ask::Entry(_) | Ask::Bad => unreachable!(),
+    }
+}
+
+// Issues a nonce. The text of the answer is made before the nonce is written.
+fn issue<M: Mechanism, D: Disk>(
     alloc: Global,
     guard: &mut Guard<M, D>,
     issued: &mut Moment,
@@ -46,11 +117,8 @@ pub(crate) fn issue<M: Mechanism, D: Disk>(
     }
 }
 
-/// Ends the live nonce, if there is one.
-pub(crate) fn clear<M: Mechanism, D: Disk>(
-    alloc: Global,
-    guard: &mut Guard<M, D>,
-) -> Result<Outcome, Memory>
+// Ends the live nonce, if there is one.
+fn clear<M: Mechanism, D: Disk>(alloc: Global, guard: &mut Guard<M, D>) -> Result<Outcome, Memory>
     requires { guard.old.state.open_order ≡ No }
     ensures done { IfOk result (λ o. (s : State) → NonceCommand (record s { seen = seen D.Disk guard.old }) clear o (seen D.Disk guard.new) s.issued) }
     ensures memory { OnErr result (guard.new ≡ guard.old) }

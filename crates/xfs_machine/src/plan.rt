@@ -1,13 +1,83 @@
-//! The plan of the dispenser's running command, in its queue.
+//! A step of the plan of the dispenser's running command.
 
-ghost use Rattle.std.specs.Prelude.{◌≡◌, ◌||◌, Some, None, option_map};
+ghost use Rattle.std.specs.Prelude.{◌≡◌, ◌||◌, Some, None, IfSome, OnErr, OnOk, option_map};
+ghost use Rattle.xfs_dispenser.specs.Answers.{went_of, went_payload};
+ghost use Rattle.xfs_envelope.specs.Messages.{IsPayload};
+ghost use Rattle.xfs_dispenser.specs.Seen.{seen};
+ghost use Rattle.xfs_guard.specs.Keeps.{Keeps, NoEntry, Proceeds};
+ghost use Rattle.xfs_guard.specs.Upheld.{IsUpheld};
 ghost use Rattle.xfs_machine.specs.Jobs.{changed_at};
-ghost use Rattle.xfs_machine.specs.Parts.{with_job_plan, with_plan_kept};
+ghost use Rattle.xfs_machine.specs.Parts.{MayStep, HasPlan, at_cash, with_job_plan, with_plan_kept, with_step};
+ghost use Rattle.xfs_model.specs.Cases.{WorksOnPlan};
+ghost use Rattle.xfs_model.specs.Guards.{is_live};
+ghost use Rattle.xfs_model.specs.State.{State};
 ghost use Rattle.xfs_queue.specs.Queue.{IsPending, command_at};
 
-use crate::job::Job;
-use xfs_dispenser::Plan;
+use crate::job::{Job, Outcome};
+use crate::queues::Queues;
+use crate::stopping::running;
+use std::alloc::Global;
+use xfs_base::{Memory, Service};
+use xfs_disk::Disk;
+use xfs_dispenser::{Plan, Progress, work};
+use xfs_guard::Guard;
+use xfs_mech::Mechanism;
 use xfs_queue::{Queue, Ticket};
+
+/// Does one step of the plan. Where memory runs out the command has its plan as before.
+pub(crate) fn work_on_plan<M: Mechanism, D: Disk>(
+    alloc: Global,
+    guard: &mut Guard<M, D>,
+    queues: &mut Queues,
+) -> Result<(), Memory>
+    requires { HasPlan guard.old.state queues.old.cash }
+    ensures works { OnOk result ((s : State) → WorksOnPlan (at_cash s (seen D.Disk guard.old) queues.old) (at_cash s (seen D.Disk guard.new) queues.new)) }
+    ensures memory { OnErr result ((guard.new.state ≡ guard.old.state) × (queues.new ≡ queues.old)) }
+    ensures proceeds { Proceeds D.Disk guard.old guard.new }
+    ensures keeps { OnOk result (Keeps D.Disk (MayStep guard.old.state queues.old.cash) guard.old guard.new) }
+    ensures still { IsUpheld D.Disk guard.old → OnErr result (Keeps D.Disk NoEntry guard.old guard.new) }
+{
+    let Some(command) = running(queues.at(Service::Cash)) else {
+        unreachable!()
+    };
+    let ticket = command.ticket();
+    let Some(mut plan) = take_plan(queues.at_mut(Service::Cash), ticket) else {
+        unreachable!()
+    };
+    let lived = is_live(guard);
+    match work(alloc, guard, &mut plan) {
+        Ok(progress) => {
+            let ended = lived & !is_live(guard);
+            step_on(queues, ticket, plan, ended, progress);
+            Ok(())
+        }
+        Err(Memory) => {
+            put_plan(queues.at_mut(Service::Cash), ticket, plan);
+            Err(Memory)
+        }
+    }
+}
+
+fn is_live<M: Mechanism, D: Disk>(guard: &Guard<M, D>) -> bool
+    ensures { result ≡ is_live (seen D.Disk guard.now) }
+{
+    guard.live().is_some()
+}
+
+// The command goes on with its plan, or has its result.
+fn step_on(queues: &mut Queues, ticket: Ticket, plan: Plan, ended: bool, progress: Progress)
+    requires pending { IsPending queues.old.cash ticket }
+    requires payload { IfSome (went_payload (went_of progress)) IsPayload }
+    ensures { queues.new ≡ record queues.old { cash = changed_at (with_step plan ended (went_of progress)) ticket queues.old.cash } }
+{
+    match progress {
+        Progress::More => go_on(queues.at_mut(Service::Cash), ticket, plan, ended),
+        Progress::Result(code, payload) => {
+            go_on(queues.at_mut(Service::Cash), ticket, plan, ended);
+            queues.set_result(Service::Cash, ticket, Outcome::new(code, payload));
+        }
+    }
+}
 
 impl Job {
     // Its plan, which it has no longer.
@@ -34,7 +104,7 @@ impl Job {
     }
 }
 
-pub(crate) fn take_plan(queue: &mut Queue<Job>, ticket: Ticket) -> Option<Plan>
+fn take_plan(queue: &mut Queue<Job>, ticket: Ticket) -> Option<Plan>
     requires { IsPending queue.old ticket }
     ensures had { option_map (λ a. a.job.plan) (command_at queue.old ticket) ≡ Some result }
     ensures left { queue.new ≡ changed_at (with_job_plan None) ticket queue.old }
@@ -45,7 +115,7 @@ pub(crate) fn take_plan(queue: &mut Queue<Job>, ticket: Ticket) -> Option<Plan>
     queue.job(ticket).take_plan()
 }
 
-pub(crate) fn put_plan(queue: &mut Queue<Job>, ticket: Ticket, plan: Plan)
+fn put_plan(queue: &mut Queue<Job>, ticket: Ticket, plan: Plan)
     requires { IsPending queue.old ticket }
     ensures { queue.new ≡ changed_at (with_job_plan (Some plan)) ticket queue.old }
 {
@@ -54,7 +124,7 @@ pub(crate) fn put_plan(queue: &mut Queue<Job>, ticket: Ticket, plan: Plan)
     queue.job(ticket).put_plan(plan);
 }
 
-pub(crate) fn go_on(queue: &mut Queue<Job>, ticket: Ticket, plan: Plan, ended: bool)
+fn go_on(queue: &mut Queue<Job>, ticket: Ticket, plan: Plan, ended: bool)
     requires { IsPending queue.old ticket }
     ensures goes_on { queue.new ≡ changed_at (with_plan_kept plan ended) ticket queue.old }
     ensures pending { IsPending queue.new ticket }

@@ -1,11 +1,11 @@
 //! A guard's restart, and the end of its open order.
 
-ghost use Rattle.std.specs.Prelude.{◌≡◌, ◌≢◌, IfErr, OnErr, OnOk, Err, is_ok};
+ghost use Rattle.std.specs.Prelude.{◌≡◌, IfErr, OnOk, is_ok};
 ghost use Rattle.xfs_dispenser.specs.Seen.{seen};
 ghost use Rattle.xfs_guard.specs.Keeps.{Keeps, NoEntry, Proceeds};
 ghost use Rattle.xfs_guard.specs.Orders.{IsActed};
-ghost use Rattle.xfs_guard.specs.declared.fail.BootFault.TheVariants.{Memory as BootMemory};
-ghost use Rattle.xfs_model.specs.Guards.{Closes, IsUnbooted, Reboots, SettlesOn};
+ghost use Rattle.xfs_machine.specs.Endings.{ClosesThrough, RefusesAs};
+ghost use Rattle.xfs_model.specs.Guards.{Closes, Reboots, SettlesOn};
 
 use xfs_disk::Disk;
 use xfs_guard::{BootFault, Deny, Guard};
@@ -14,8 +14,7 @@ use xfs_mech::Mechanism;
 /// Reads the journal again, which then gets a Boot. After a refusal but for `Memory` no order is open.
 pub(crate) fn reboot<M: Mechanism, D: Disk>(guard: &mut Guard<M, D>) -> Result<(), BootFault>
     ensures ok { OnOk result (Reboots (seen D.Disk guard.old) (seen D.Disk guard.new)) }
-    ensures err { IfErr result (λ f. f ≢ BootMemory → IsUnbooted (seen D.Disk guard.old) (seen D.Disk guard.new)) }
-    ensures memory { result ≡ Err BootMemory → guard.new.state ≡ guard.old.state }
+    ensures cause { IfErr result (λ f. RefusesAs f (seen D.Disk guard.old) (seen D.Disk guard.new)) }
     ensures keeps { Keeps D.Disk NoEntry guard.old guard.new }
 {
     guard.restore()
@@ -25,6 +24,7 @@ pub(crate) fn reboot<M: Mechanism, D: Disk>(guard: &mut Guard<M, D>) -> Result<(
 pub(crate) fn close<M: Mechanism, D: Disk>(guard: &mut Guard<M, D>) -> Result<(), Deny>
     ensures closes { Closes guard.old.state.open_order (seen D.Disk guard.old) (is_ok result) (seen D.Disk guard.new) }
     ensures err { IfErr result (λ e. e ≡ Deny.Disk) }
+    ensures through { ClosesThrough D.Disk guard.old.state.open_order guard.old guard.new }
     ensures proceeds { Proceeds D.Disk guard.old guard.new }
 {
     match guard.unacted() {
@@ -41,7 +41,7 @@ fn settle<M: Mechanism, D: Disk>(guard: &mut Guard<M, D>) -> Result<(), Deny>
     requires { IsActed guard.old.state.open_order }
     ensures settles { SettlesOn (seen D.Disk guard.old) (is_ok result) (seen D.Disk guard.new) }
     ensures err { IfErr result (λ e. e ≡ Deny.Disk) }
-    ensures proceeds { Proceeds D.Disk guard.old guard.new }
+    ensures keeps { Keeps D.Disk NoEntry guard.old guard.new }
 {
     guard.settle()
 }

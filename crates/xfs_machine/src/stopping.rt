@@ -1,15 +1,16 @@
-//! Commands that end without a result of their own: what is done to the first of the device line whose deadline has come, and to the device of a running one that is stopped.
+//! Commands that end without a result of their own: the first of the device line whose deadline has come, and the running one that is canceled or due.
 
-ghost use Rattle.std.specs.Prelude.{◌≡◌, ◌≤◌, ◌&&◌, true, OnErr, OnOk};
+ghost use Rattle.std.specs.Prelude.{◌≡◌, ◌≤◌, ◌||◌, ◌&&◌, true, find, IfSome, OnErr, OnOk, option_map};
 ghost use Rattle.std.specs.List.{list_any};
 ghost use Rattle.xfs_base.specs.declared.moment.TheConstants.{LAST_MOMENT};
-ghost use Rattle.xfs_model.specs.Cases.{IsTooLate};
+ghost use Rattle.xfs_model.specs.Cases.{IsTooLate, Stops};
 ghost use Rattle.xfs_model.specs.Devices.{device_stopped};
 ghost use Rattle.xfs_model.specs.State.{State, queue_of};
-ghost use Rattle.xfs_queue.specs.Commands.{is_due, waits_on};
+ghost use Rattle.xfs_queue.specs.Commands.{is_due, is_running, ticket_of, waits_on};
+ghost use Rattle.xfs_queue.specs.Queue.{IsPending, IsQueue};
 ghost use Rattle.xfs_queue.specs.declared.command.Line.TheVariants as Line;
 
-use crate::job::Outcome;
+use crate::job::{Job, Outcome};
 use crate::queues::Queues;
 use std::alloc::Global;
 use xfs_base::{Memory, Moment, Service};
@@ -17,6 +18,7 @@ use xfs_card::{CardEvent, CardState};
 use xfs_common::nothing;
 use xfs_envelope::Code;
 use xfs_keyboard::{KeyEvent, KeyState};
+use xfs_queue::{Command, Queue, Stage};
 
 /// The first waiting command of the device line whose deadline has come.
 pub(crate) fn time_out(alloc: Global, queues: &mut Queues, service: Service, now: Moment)
@@ -30,8 +32,47 @@ pub(crate) fn time_out(alloc: Global, queues: &mut Queues, service: Service, now
     queues.set_result(service, ticket, Outcome::new(Code::TimeOut, nothing(alloc)));
 }
 
+/// The running command, and its device forgets it.
+pub(crate) fn stop_running(
+    alloc: Global,
+    queues: &mut Queues,
+    slot: &mut CardState,
+    keypad: &mut KeyState,
+    service: Service,
+    now: Moment,
+) -> Result<(), Memory>
+    requires { list_any (λ a. is_running a.stage && (a.marked || is_due now a)) (queue_of queues.old service) ≡ true }
+    ensures stops { OnOk result ((s : State) → Stops (record s { now = now; slot = slot.old; keypad = keypad.old; queues = queues.old }) service (record s { now = now; slot = slot.new; keypad = keypad.new; queues = queues.new })) }
+    ensures memory { OnErr result ((slot.new ≡ slot.old) × (keypad.new ≡ keypad.old) × (queues.new ≡ queues.old)) }
+{
+    let Some(command) = running(queues.at(service)) else {
+        unreachable!()
+    };
+    let ticket = command.ticket();
+    let code = if command.marked {
+        Code::Canceled
+    } else {
+        Code::TimeOut
+    };
+    forget(alloc, slot, keypad, service)?;
+    queues.set_result(service, ticket, Outcome::new(code, nothing(alloc)));
+    Ok(())
+}
+
+/// The one that runs.
+pub(crate) fn running(queue: &Queue<Job>) -> Option<&Command<Job>>
+    ensures first { option_map (λ a. a.now) result ≡ find (λ a. is_running a.stage) queue.now }
+    ensures pending { IfSome result (λ a. IsPending queue.now (ticket_of a.now)) }
+    ensures valid { IsQueue queue.now }
+{
+    queue
+        .commands()
+        .iter()
+        .find(|command| matches!(command.stage, Stage::Running))
+}
+
 // The device of a service forgets the command that runs.
-pub(crate) fn forget(
+fn forget(
     alloc: Global,
     slot: &mut CardState,
     keypad: &mut KeyState,

@@ -1,4 +1,4 @@
-use Rattle.std.proofs.Common.{◌≡◌, rules, not, filter}
+use Rattle.std.proofs.Common.{rules, not}
 use Rattle.std.proofs.lemmas.Fn.{filter_same}
 use Rattle.xfs_model.specs.Connections.{is_client}
 use Rattle.xfs_machine.proofs.Places.{rising_kept}

@@ -3,6 +3,8 @@ use Rattle.std.specs.Prelude.{is_ok}
 use Rattle.xfs_dispenser.specs.Seen.{Seen, seen}
 use Rattle.xfs_machine.proofs.Endings.{finishes}
 use Rattle.xfs_machine.proofs.machine.Machine.finish.Goals as goal
+use Rattle.xfs_guard.specs.View.{GuardView}
+use Rattle.xfs_machine.specs.Endings.{ClosesThrough}
 use Rattle.xfs_model.specs.Guards.{Closes}
 
 pub returns-clause-step : goal.returns-clause-step
@@ -14,3 +16,11 @@ returns-clause-step g c =
       finishes c.args.self.state c.close-settled.result last its.there (subst (λ (x : Seen). Closes x.guard.open_order x (is_ok c.close-settled.result) last) its.seen c.close-settled.ensures.closes),
       record { stored = back.stored; told = back.told; disk_faults = ap g.D.Disk.faults back.disk; motions = back.motions; places = back.places; units = back.units; faults = back.faults },
     )
+
+pub returns-clause-through : goal.returns-clause-through
+returns-clause-through g c =
+    record {
+      last = c.close-settled.new.guard;
+      through = subst (λ (v : GuardView g.row.D.Denot). ClosesThrough g.D.Disk v.state.open_order v c.close-settled.new.guard) c.into_guard-guard.ensures.guard c.close-settled.ensures.through;
+      disk_is = c.end-mech.ensures.disk;
+    }

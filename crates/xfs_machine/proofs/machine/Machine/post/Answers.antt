@@ -1,5 +1,6 @@
 use Rattle.std.proofs.Common.{refl, sym, ◌∙◌}
 use Rattle.xfs_machine.proofs.Calls.{later_within, posts, seated, whole_kept}
+use Rattle.xfs_machine.proofs.Laws.{lawful}
 use Rattle.xfs_machine.proofs.machine.Machine.post.Goals as goal
 use Rattle.xfs_model.specs.Events.{done, post}
 use Rattle.xfs_model.specs.State.{Pass}
@@ -18,3 +19,11 @@ returns-clause-step g c =
     let at = rw (sym c.self.view_is, sym c.pass.view_is) at (sym c.in-Some.is ∙ c.service_of.ensures) in
     rw (← c.self.view_is, ← c.pass.view_is)
     (posts _ pass c.args.text.now c.args.now c.later-now.result c.in-Some.service c.take.new.connections c.take.new.queues c.self.invariant (seated _ pass c.in-Some.service at) c.later-now.ensures c.in_ok-take.ensures.ok)
+
+pub returns-clause-laws : goal.returns-clause-laws
+returns-clause-laws g c =
+    let pass : Pass = record { client = c.pass.inside.client; service = c.pass.inside.service; boot = c.pass.inside.boot } in
+    let at = rw (sym c.self.view_is, sym c.pass.view_is) at (sym c.in-Some.is ∙ c.service_of.ensures) in
+    rw (← c.self.view_is, ← c.pass.view_is)
+    (lawful _ _ (post pass c.args.text.now c.args.now) done c.self.invariant
+    (posts _ pass c.args.text.now c.args.now c.later-now.result c.in-Some.service c.take.new.connections c.take.new.queues c.self.invariant (seated _ pass c.in-Some.service at) c.later-now.ensures c.in_ok-take.ensures.ok))

@@ -1,0 +1,65 @@
+-- A step of work: when its case can be done, and what it may add to the mechanism's list.
+use Rattle.std.specs.Prelude.{◌≡◌, ◌≢◌, ◌&&◌, ◌||◌, ⊤, Bool, true, List, Option, None, find, All}
+use Rattle.std.specs.List.{list_any}
+use Rattle.xfs_base.specs.declared.moment.Moment.{Moment}
+use Rattle.xfs_base.specs.declared.moment.Service.{Service}
+use Rattle.xfs_base.specs.declared.moment.Service.TheVariants.{Cash}
+use Rattle.xfs_card.specs.Slot.{Slot}
+use Rattle.xfs_dispenser.specs.Seen.{Seen}
+use Rattle.xfs_guard.specs.Fits.{unfit}
+use Rattle.xfs_guard.specs.Nonce.{live_in}
+use Rattle.xfs_guard.specs.View.{View}
+use Rattle.xfs_guard.specs.declared.open.Open.TheVariants.{No}
+use Rattle.xfs_keyboard.specs.Entries.{Entry}
+use Rattle.xfs_mech.specs.declared.motion.Motion.{Motion}
+use Rattle.xfs_queue.specs.Commands.{is_due, is_running, waits_on}
+use Rattle.xfs_queue.specs.declared.command.Line.TheVariants.{Device}
+use Rattle.xfs_model.specs.Sound.{IsFitting}
+use Rattle.xfs_model.specs.State.{Connection, Queues, State, queue_of}
+use Rattle.xfs_model.specs.Work.{Case, order, expire, answer, nonce, overdue, stop, go_on, begin, rest, case_of}
+use Rattle.xfs_machine.specs.Parts.{HasDeviceAsk, HasNonceAsk, HasPlan, HasResult, MayStep}
+
+-- the machine at a moment, with other parts
+abbrev pub at_work : State → Seen → Moment → Bool → Moment → Slot → Option Entry → List Connection → Queues → State
+at_work s next issued exchange now slot keypad connections queues =
+    record s { seen = next; issued = issued; exchange = exchange; now = now; slot = slot; keypad = keypad; connections = connections; queues = queues }
+
+-- no order is open, a nonce lives, and the journal takes more records
+pub record CanExpire (v : View) : Type 0 where
+  pub none : v.open_order ≡ No
+  pub live : live_in v.boot_missing v.records ≢ None
+  pub fit : unfit v ≡ None
+
+-- no order is open, and the nonce line has a command
+pub record CanTakeNonce (v : View) (qs : Queues) : Type 0 where
+  pub none : v.open_order ≡ No
+  pub asks : HasNonceAsk qs.cash
+
+-- a command waits that its service can begin, and none runs
+pub record CanBegin (v : View) (qs : Queues) (service : Service) : Type 0 where
+  pub none : service ≡ Cash → v.open_order ≡ No
+  pub asks : HasDeviceAsk (queue_of qs service)
+  pub fitting : All (IsFitting service) (queue_of qs service)
+  pub idle : find (λ a. is_running a.stage) (queue_of qs service) ≡ None
+
+-- what a case finds
+abbrev pub CanDo : Case → View → Moment → Queues → Service → Type 0
+CanDo order v now qs service = HasPlan v qs.cash
+CanDo expire v now qs service = CanExpire v
+CanDo answer v now qs service = HasResult (queue_of qs service)
+CanDo nonce v now qs service = CanTakeNonce v qs
+CanDo overdue v now qs service = list_any (λ a. waits_on Device a && is_due now a) (queue_of qs service) ≡ true
+CanDo stop v now qs service = list_any (λ a. is_running a.stage && (a.marked || is_due now a)) (queue_of qs service) ≡ true
+CanDo go_on v now qs service = HasPlan v qs.cash
+CanDo begin v now qs service = CanBegin v qs service
+CanDo rest v now qs service = ⊤
+
+-- an entry that a case may add to the mechanism's list: a step of the running plan adds one
+abbrev pub MayAdd : Case → View → Queues → Motion → Type 0
+MayAdd order v qs entry = MayStep v qs.cash entry
+MayAdd go_on v qs entry = MayStep v qs.cash entry
+MayAdd other v qs entry = ⊥
+
+-- the same of the step of work that a service does
+abbrev pub MayAddAt : State → Service → Motion → Type 0
+MayAddAt s service entry = MayAdd (case_of s service) s.seen.guard s.queues entry
