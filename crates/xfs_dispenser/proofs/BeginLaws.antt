@@ -1,5 +1,5 @@
 -- A plan that a command begins with can be worked on.
-use Rattle.std.proofs.Common.{◌≡◌, ◌≢◌, ◌≤◌, ◌+◌, ◌-◌, ◌*◌, ◌==◌, ℕ, zero, suc, Bool, true, false, List, [], ◌∷◌, length, get_or, drop, None, Some, Ok, Err, inl, inr, refl, sym, ◌∙◌, ap, arith, true≢false}
+use Rattle.std.proofs.Common.{◌≡◌, ◌≢◌, ◌≤◌, ◌+◌, ◌-◌, ◌*◌, ◌==◌, ℕ, zero, suc, Bool, true, false, List, [], ◌∷◌, length, get_or, drop, None, Some, Ok, Err, inl, inr, refl, sym, ◌∙◌, ap, arith, true≢false, subst}
 use Rattle.std.specs.Prelude.{◌&&◌, not, nat_lt, if◌then◌else◌}
 use Rattle.std.specs.declared.option.Option.{Option}
 use Rattle.std.specs.declared.result.Result.{Result}
@@ -22,17 +22,18 @@ use Rattle.xfs_dispenser.specs.Answers.{Answer, told, planned}
 use Rattle.xfs_dispenser.specs.Begins.{IsDispensed, IsStorageSet, IsTold, RoomChecks, StartsWith, StorageChecks, added_refusal, are_few, unit_refusal}
 use Rattle.xfs_dispenser.specs.Checks.{Grant, Permits, TokenChecks, active_refusal, inactive_refusal, unfit_refusal, granted_unless, within_budget}
 use Rattle.xfs_dispenser.specs.Denominations.{FirstOf, MixGiven, NotesGiven, count_refusal, currency_refusal, given_unless, members_refusal}
-use Rattle.xfs_dispenser.specs.Plans.{CanBeginAll, IsPlanned, dispense_plan, loads, stacks, storage_plan}
+use Rattle.xfs_dispenser.specs.Plans.{CanBeginAll, IsPlanned, dispense_plan, storage_plan}
 use Rattle.xfs_dispenser.specs.Seen.{Seen}
 use Rattle.xfs_dispenser.specs.declared.leave.Leave.{Leave}
 use Rattle.xfs_dispenser.specs.declared.named.Named.{Named}
 use Rattle.xfs_dispenser.specs.declared.named.Named.TheVariants.{These, OtherName}
 use Rattle.xfs_dispenser.specs.declared.notes.Notes.{Notes}
 use Rattle.xfs_dispenser.specs.declared.notes.Notes.TheVariants.{Least, Individual}
+use Rattle.xfs_dispenser.specs.declared.part.Part.{Part}
 use Rattle.xfs_dispenser.specs.declared.plan.Plan.{Plan}
 use Rattle.xfs_dispenser.specs.declared.refusal.Refusal.{Refusal}
 use Rattle.xfs_dispenser.specs.declared.refusal.Refusal.TheVariants.{InvalidData}
-use Rattle.xfs_dispenser.proofs.PlanLaws.{stacks-begin, loads-begin}
+use Rattle.xfs_dispenser.proofs.PlanLaws.{loads-all, loads-begin, loads_from, stacks-all, stacks-begin, stacks_from}
 
 -- checks of which none refused came to what the later ones came to
 pub none-first : {T : Type 0} (refusal : Option Refusal) (Later : Result T Refusal → Type 0) (x : T) → FirstOf refusal Later (Ok x) → (refusal ≡ None) × Later (Ok x)
@@ -127,12 +128,12 @@ given-some units have (Individual (These asked)) counts members given =
     rw fault.1 (unfaulted units have asked fault.0).0
 
 -- some notes make some parts
-pub stacks-left : (issue u : ℕ) (xs : List ℕ) → is_none xs ≡ false → stacks issue u xs ≢ []
+pub stacks-left : (issue u : ℕ) (xs : List ℕ) → is_none xs ≡ false → stacks_from issue u xs ≢ []
 stacks-left issue u [] some e = absurd (true≢false some)
 stacks-left issue u (zero ∷ xs) some e = stacks-left issue (u + 1) xs some e
 stacks-left issue u (suc n ∷ xs) some e = cc
 
-pub loads-left : (u : ℕ) (xs : List ℕ) → is_none xs ≡ false → loads u xs ≢ []
+loads-left : (u : ℕ) (xs : List ℕ) → is_none xs ≡ false → loads_from u xs ≢ []
 loads-left u [] some e = absurd (true≢false some)
 loads-left u (zero ∷ xs) some e = loads-left (u + 1) xs some e
 loads-left u (suc n ∷ xs) some e = cc
@@ -188,8 +189,8 @@ granted-notes v exchange notes token grant checks =
     go (Some bytes) (inr p) = rw (granted-given v bytes p.amounts p.given grant p.is) at p.gives
 
 -- a plan with no order open, whose parts can be begun
-planned-parts : (v : View) (plan : Plan) → v.open_order ≡ No → plan.parts.items ≢ [] → CanBeginAll v plan.parts.items → IsPlanned v plan
-planned-parts v plan none some parts = record { some_left = λ e. some; outcome = rw none tt; parts = parts }
+planned-parts : (v : View) (plan : Plan) (parts : List Part) → v.open_order ≡ No → plan.failed ≡ false → plan.parts.items ≡ parts → parts ≢ [] → CanBeginAll v parts → IsPlanned v plan
+planned-parts v plan parts none fine are some can = record { some_left = λ e. subst (λ ps. ps ≢ []) (sym are) some; outcome = rw none tt; parts = subst (CanBeginAll v) (sym are) can }
 
 pub dispense-planned : (s : Seen) (exchange : Bool) (notes : Notes) (token : Option (List ℕ)) (next : Seen) (plan : Plan) → s.guard.open_order ≡ No
     → IsDispensed s exchange notes token next (planned plan) → IsPlanned next.guard plan
@@ -202,7 +203,7 @@ dispense-planned s exchange notes token next plan none d = leave d.leave refl d.
         let same = bound-same s.guard next.guard grant.token grant.amounts p.binds in
         let notes_of = granted-notes s.guard exchange notes token grant (rw e at d.checks) in
         let counts : l.counts ≡ grant.counts = ap (λ (x : Leave). x.counts) (ok-same l _ (Ok l) refl p.is) in
-        planned-parts next.guard (dispense_plan l.issue l.counts) (same.2 ∙ none)
+        planned-parts next.guard (dispense_plan l.issue l.counts) (stacks_from l.issue 1 l.counts.0) (same.2 ∙ none) refl (stacks-all l.issue l.counts.0)
         (rw counts (stacks-left l.issue 1 grant.counts.0 (given-some s.guard.units s.guard.places.units notes grant.counts notes_of.0 notes_of.1)))
         (rw counts (stacks-begin next.guard l.issue 0 grant.counts.0 (λ w high. let h = rw same.0 at high in given-past s.guard.units s.guard.places.units notes grant.counts notes_of.1 w (omega (arith, h)))))
 
@@ -223,7 +224,7 @@ storage-planned v exchange added plan none d = go d.checked d.checks d.starts
     room : (a : Named) (counts : Counts) → added_refusal a ≡ None → RoomChecks v a (Ok counts) → IsPlanned v (storage_plan counts)
     room OtherName counts e r = absurd r
     room (These asked) counts e r =
-        rw r.0 (planned-parts v (storage_plan asked) none (loads-left 1 asked.0 (some asked e)) (loads-begin v 0 asked.0 (λ w more. rw (shift w) (r.1 w more))))
+        rw r.0 (planned-parts v (storage_plan asked) (loads_from 1 asked.0) none refl (loads-all asked.0) (loads-left 1 asked.0 (some asked e)) (loads-begin v 0 asked.0 (λ w more. rw (shift w) (r.1 w more))))
       where
         shift : (w : ℕ) → 0 + w + 1 ≡ w + 1
         shift w = omega arith

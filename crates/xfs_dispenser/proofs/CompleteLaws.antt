@@ -51,6 +51,7 @@ use Rattle.xfs_dispenser.specs.declared.notes.Notes.TheVariants.{Least, Individu
 use Rattle.xfs_dispenser.specs.declared.refusal.Refusal.{Refusal}
 use Rattle.xfs_dispenser.specs.declared.refusal.Refusal.TheVariants.{Error, Deny as Refused}
 use Rattle.xfs_dispenser.proofs.BeginLaws.{none-at, mix-past, some-mix, stacks-left, worth-none}
+use Rattle.xfs_dispenser.proofs.PlanLaws.{stacks-all, stacks_from}
 use Rattle.xfs_dispenser.proofs.StackLaws.{TurnsOf, present-places, stacks-full}
 use Rattle.xfs_dispenser.proofs.TurnLaws.{carried-full}
 
@@ -370,13 +371,14 @@ some-nonce None issue e = cc
 some-nonce (Some n) issue e = (n, refl)
 
 given-full : (s bound : Seen) (notes : Notes) (token : List ℕ) (start : Start) (c : CanGive s.guard notes token) (l : IsLeft s notes token c.can.amounts bound start) (next : Seen) (went : Went) → s.guard.open_order ≡ No
-    → length l.grant.counts.0 ≡ 8 → IsCalm bound next → Turns (3 * length (stacks l.issue 1 l.grant.counts.0)) bound (dispense_plan l.issue l.grant.counts) next went → IsGiven s l.grant.counts next went
+    → length l.grant.counts.0 ≡ 8 → IsCalm bound next → Turns (3 * length (stacks l.issue l.grant.counts.0)) bound (dispense_plan l.issue l.grant.counts) next went → IsGiven s l.grant.counts next went
 given-full s bound notes token start c l next went none eight calm turns =
     let ready = bound-open s bound notes token start c l in
     let some = stacks-left l.issue 1 l.grant.counts.0 (some-notes l.grant.counts.0 l.covered.low) in
-    let all = stacks-full l.issue c.can.amounts (Some l.grant.counts) l.grant.counts.0 0 bound (dispense_plan l.issue l.grant.counts) next went (omega (arith, eight)) (ready.4 ∙ none) refl refl
+    let all = stacks-full l.issue c.can.amounts (Some l.grant.counts) l.grant.counts.0 0 bound (dispense_plan l.issue l.grant.counts) next went (omega (arith, eight)) (ready.4 ∙ none) refl (stacks-all l.issue l.grant.counts.0)
     (less-room bound.guard l.issue 8 (length l.grant.counts.0) c.can.amounts (omega (arith, eight)) ready.0) ready.1 calm
-    (turns-of (stacks l.issue 1 l.grant.counts.0) bound (dispense_plan l.issue l.grant.counts) (Some l.grant.counts) next went some turns) in
+    (turns-of (stacks_from l.issue 1 l.grant.counts.0) bound (dispense_plan l.issue l.grant.counts) (Some l.grant.counts) next went some
+    (subst (λ parts. Turns (3 * length parts) bound (dispense_plan l.issue l.grant.counts) next went) (stacks-all l.issue l.grant.counts.0) turns)) in
     let lives = some-nonce (live_nonce next.guard.records) l.issue all.open_for.lives in
     let gained : (u : ℕ) → at next.guard.places.transport u ≡ at s.guard.places.transport u + at l.grant.counts u = (λ u. rw ready.2 at (all.transport u)) in
     record {

@@ -1,12 +1,12 @@
 -- Each answer of the dispenser's commands can be sent: its payload is an object without floats that nests no deeper than 120.
-use Rattle.std.proofs.Common.{◌≡◌, ◌≤◌, ℕ, zero, suc, ◌+◌, ◌||◌, Bool, true, false, List, [], ◌∷◌, Option, Some, None, Ok, Err, inl, inr, refl, sym, subst, arith}
-use Rattle.std.specs.Prelude.{IfSome, codes, if◌then◌else◌}
+use Rattle.std.proofs.Common.{◌≡◌, ◌≤◌, ℕ, ◌||◌, Bool, true, false, List, [], ◌∷◌, Option, Some, None, Ok, Err, inl, inr, refl, sym, subst, arith}
+use Rattle.std.specs.Prelude.{IfSome, codes, fold, if◌then◌else◌}
 use Rattle.std.specs.Cmp.Lexicographic.{slice_cmp}
 use Rattle.std.specs.Ordering.{nat_cmp, match_ordering}
 use Rattle.std.specs.declared.cmp.Ordering.{Ordering}
 use Rattle.std.specs.declared.cmp.Ordering.TheVariants.{Less, Equal, Greater}
 use Rattle.std.specs.declared.result.Result.{Result}
-use Rattle.serde_json.specs.Data.{Data, number, unsigned, object, Members, no_members, member, put, depth, members_depth}
+use Rattle.serde_json.specs.Data.{Data, number, unsigned, object, Members, no_members, member, put, members_depth}
 use Rattle.serde_json.specs.Written.{has_float, members_have_float}
 use Rattle.xfs_base.specs.declared.counts.Counts.{Counts}
 use Rattle.xfs_base.specs.declared.money.NoteKind.{NoteKind}
@@ -14,18 +14,18 @@ use Rattle.xfs_common.specs.Errors.{error_text}
 use Rattle.xfs_common.specs.Payloads.{nothing, error_payload, record_payload}
 use Rattle.xfs_common.specs.declared.error.ErrorCode.TheVariants.{NoItems, NotDispensable}
 use Rattle.xfs_envelope.specs.Messages.{IsPayload}
-use Rattle.xfs_guard.specs.declared.ask.Ask.{Ask as Asked}
 use Rattle.xfs_guard.specs.declared.deny.Deny.{Deny}
 use Rattle.xfs_guard.specs.declared.deny.Deny.TheVariants.{Shut, Full, TooLong, KeyNoValue, Format, NoNonce, WrongNonce, WrongMac, NoAmounts, OtherBound, NotEmpty, OverBudget, Unbound, Nothing, OutletFull, Short, Disk, Memory}
 use Rattle.xfs_guard.specs.declared.open.Open.{Open}
 use Rattle.xfs_guard.specs.declared.open.Open.TheVariants.{No, Written, Acted}
-use Rattle.xfs_dispenser.specs.Answers.{Answer, Start, told, planned, Went, more, done, plain, denial, answer_of, start_payload, went_payload}
+use Rattle.xfs_dispenser.specs.Answers.{Answer, Start, Went, done, denial, answer_of, start_payload, went_payload}
 use Rattle.xfs_dispenser.specs.Begins.{Begins, IsTold, StartsUnless, StartsWith}
 use Rattle.xfs_dispenser.specs.Checks.{active_refusal, inactive_refusal}
-use Rattle.xfs_dispenser.specs.Denominations.{currencies_of, denominated, denomination_payload, values_of, with_currency}
+use Rattle.xfs_dispenser.specs.Denominations.{currencies_of, denomination_payload, values_of, with_count, with_currency}
+use Rattle.xfs_dispenser.specs.Units.{kinds_with, units_with}
 use Rattle.xfs_dispenser.specs.Plans.{emptying}
 use Rattle.xfs_dispenser.specs.Seen.{Seen}
-use Rattle.xfs_dispenser.specs.Steps.{DoesFirst, DoesPart, IsDenied, Loads, Notes, Orders, Restores, Works, WorksOn, onward, settled, success_of}
+use Rattle.xfs_dispenser.specs.Steps.{DoesFirst, DoesPart, IsDenied, Works, WorksOn, onward, settled, success_of}
 use Rattle.xfs_dispenser.specs.declared.ask.CashAsk.{CashAsk}
 use Rattle.xfs_dispenser.specs.declared.ask.CashAsk.TheVariants.{Denominate, Dispense, Present, Reject, Reset, Retract, StartExchange, SetStorage, EndExchange}
 use Rattle.xfs_dispenser.specs.declared.part.Part.{Part}
@@ -65,26 +65,24 @@ put-flat k n (member l d ms) flat =
     let rest = rest-flat l d ms flat in
     ordered (slice_cmp nat_cmp k l) _ _ _ (with-member k n (member l d ms) flat) (with-member l n ms rest) (behind l d ms (put k (number (unsigned n)) ms) flat (put-flat k n ms rest))
 
-currency-flat : (units : List NoteKind) (counts : Counts) (kind : NoteKind) (n : ℕ) (ms : Members) → IsFlat ms → IsFlat (with_currency units counts kind n ms)
-currency-flat units counts kind zero ms flat = flat
-currency-flat units counts kind (suc n) ms flat = put-flat _ _ ms flat
+none-flat : IsFlat no_members
+none-flat = record { whole = refl; shallow = omega arith }
 
-currencies-flat : (units : List NoteKind) (counts : Counts) (kinds : List NoteKind) (ns : List ℕ) (ms : Members) → IsFlat ms → IsFlat (currencies_of units counts kinds ns ms)
-currencies-flat units counts [] ns ms flat = flat
-currencies-flat units counts (kind ∷ kinds) [] ms flat = flat
-currencies-flat units counts (kind ∷ kinds) (n ∷ ns) ms flat = currencies-flat units counts kinds ns (with_currency units counts kind n ms) (currency-flat units counts kind n ms flat)
+currencies-flat : (units : List NoteKind) (counts : Counts) (kinds : List NoteKind) (ms : Members) → IsFlat ms → IsFlat (fold (with_currency units counts) ms kinds)
+currencies-flat units counts [] ms flat = flat
+currencies-flat units counts (kind ∷ kinds) ms flat = currencies-flat units counts kinds (with_currency units counts ms kind) (put-flat _ _ ms flat)
 
-values-flat : (unit : ℕ) (ns : List ℕ) → IsFlat (values_of unit ns)
-values-flat unit [] = record { whole = refl; shallow = omega arith }
-values-flat unit (zero ∷ ns) = values-flat (unit + 1) ns
-values-flat unit (suc n ∷ ns) = with-member _ (suc n) _ (values-flat (unit + 1) ns)
+values-flat : (some : List (ℕ × ℕ)) (ms : Members) → IsFlat ms → IsFlat (fold with_count ms some)
+values-flat [] ms flat = flat
+values-flat (u ∷ some) ms flat = values-flat some (with_count ms u) (put-flat _ _ ms flat)
 
 two-flat : (a b : Members) (k l m : List ℕ) → IsFlat a → IsFlat b → IsPayload (object (member k (object (member l (object a) (member m (object b) no_members))) no_members))
 two-flat a b k l m p q = (refl, rw (p.whole, q.whole) refl, let s = p.shallow in let t = q.shallow in omega arith)
 
 pub denomination-IsPayload : (units : List NoteKind) (counts : Counts) → IsPayload (denomination_payload units counts)
 denomination-IsPayload units counts =
-    two-flat (currencies_of units counts units counts.0 no_members) (values_of 1 counts.0) (codes "denomination") (codes "currencies") (codes "values") (currencies-flat units counts units counts.0 no_members (record { whole = refl; shallow = omega arith })) (values-flat 1 counts.0)
+    two-flat (currencies_of units counts) (values_of counts.0) (codes "denomination") (codes "currencies") (codes "values")
+    (currencies-flat units counts (kinds_with units counts.0) no_members none-flat) (values-flat (units_with counts.0) no_members none-flat)
 
 empty-IsPayload : IsPayload nothing
 empty-IsPayload = (refl, refl, omega arith)

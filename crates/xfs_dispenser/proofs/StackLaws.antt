@@ -24,11 +24,11 @@ use Rattle.xfs_guard.proofs.CoveredLaws.{ahead, ahead-zero, ahead-none, ahead-sp
 use Rattle.xfs_guard.proofs.SizeLaws.{size-longer, order-short}
 use Rattle.xfs_dispenser.specs.Answers.{Went, done}
 use Rattle.xfs_dispenser.specs.Complete.{IsCalm, Turns, FollowsTurn}
-use Rattle.xfs_dispenser.specs.Plans.{stacks}
 use Rattle.xfs_dispenser.specs.Seen.{Seen}
 use Rattle.xfs_dispenser.specs.Steps.{onward, success_of}
 use Rattle.xfs_dispenser.specs.declared.part.Part.{Part}
 use Rattle.xfs_dispenser.specs.declared.plan.Plan.{Plan}
+use Rattle.xfs_dispenser.proofs.PlanLaws.{stacks_from}
 use Rattle.xfs_dispenser.proofs.TurnLaws.{IsFull, calm-rest, carried-full}
 
 -- what all notes of an order from a unit, and of one to present, leave in the places
@@ -129,8 +129,8 @@ stacked-none s issue amounts notes u next went o same told = rw same (record {
   open_for = o;
 })
 
-stacks-at : (issue u v : ℕ) (rest : List ℕ) → u ≡ v → stacks issue u rest ≡ stacks issue v rest
-stacks-at issue u v rest e = ap (λ k. stacks issue k rest) e
+stacks-at : (issue u v : ℕ) (rest : List ℕ) → u ≡ v → stacks_from issue u rest ≡ stacks_from issue v rest
+stacks-at issue u v rest e = ap (λ k. stacks_from issue k rest) e
 
 -- what follows a plan of which these orders are left
 abbrev pub TurnsOf : List Part → Seen → Plan → Option Counts → Seen → Went → Type 0
@@ -140,8 +140,8 @@ three-more : (n : ℕ) → 3 * suc n ≡ suc (suc (suc (3 * n)))
 three-more n = omega arith
 
 pub stacks-full : (issue : ℕ) (amounts : List (List ℕ × ℕ)) (notes : Option Counts) (rest : List ℕ) (u : ℕ) (s : Seen) (plan : Plan) (next : Seen) (went : Went)
-    → u + length rest ≤ 8 → s.guard.open_order ≡ No → plan.notes ≡ notes → plan.parts.items ≡ stacks issue (u + 1) rest
-    → IsOpenFor s.guard issue amounts (length rest) → IsAhead s.guard amounts (ahead u rest) → IsCalm s next → TurnsOf (stacks issue (u + 1) rest) s plan notes next went
+    → u + length rest ≤ 8 → s.guard.open_order ≡ No → plan.notes ≡ notes → plan.parts.items ≡ stacks_from issue (u + 1) rest
+    → IsOpenFor s.guard issue amounts (length rest) → IsAhead s.guard amounts (ahead u rest) → IsCalm s next → TurnsOf (stacks_from issue (u + 1) rest) s plan notes next went
     → IsStacked s issue amounts notes u rest next went
 stacks-full issue amounts notes [] u s plan next went few none asked parts o h calm t = stacked-none s issue amounts notes u next went o t.0 t.1
 stacks-full issue amounts notes (zero ∷ rest) u s plan next went few none asked parts o h calm t =
@@ -151,7 +151,7 @@ stacks-full issue amounts notes (zero ∷ rest) u s plan next went few none aske
     (more-room s.guard issue (length rest) amounts o) had calm (subst (λ ps. TurnsOf ps s plan notes next went) e t))
 stacks-full issue amounts notes (suc n ∷ rest) u s plan next went few none asked parts o h calm t =
     let low : u < 8 = omega (arith, few) in
-    let left = stacks issue (u + 1 + 1) rest in
+    let left = stacks_from issue (u + 1 + 1) rest in
     let turns = subst (λ k. Turns k s plan next went) (three-more (length left)) t in
     let c = carried-full s plan (AskStack issue (u + 1) (suc n)) left (3 * length left) next went none parts (free-order s.guard issue u (suc n) amounts rest low o h) calm turns in
     let e = stacks-at issue (u + 1 + 1) (suc u + 1) rest (omega arith) in

@@ -1,5 +1,5 @@
 -- Which notes a denomination gives, and what its answer tells of them.
-use Rattle.std.specs.Prelude.{◌≡◌, ℕ, zero, suc, ◌+◌, ◌/◌, ◌≤◌, ◌<◌, nat_lt, ◌&&◌, Bool, List, [], ◌∷◌, sum, codes, Some, None, Ok, Err, if◌then◌else◌}
+use Rattle.std.specs.Prelude.{◌≡◌, ℕ, ◌/◌, ◌≤◌, ◌<◌, nat_lt, ◌&&◌, Bool, List, fold, sum, codes, Some, None, Ok, Err, if◌then◌else◌}
 use Rattle.std.specs.List.{list_any}
 use Rattle.std.specs.Str.{bytes_eq}
 use Rattle.std.specs.declared.option.Option.{Option}
@@ -18,6 +18,7 @@ use Rattle.xfs_mix.specs.declared.asked.CountFault.{CountFault}
 use Rattle.xfs_mix.specs.declared.asked.CountFault.TheVariants as count
 use Rattle.xfs_units.specs.Payloads.{unit_name}
 use Rattle.xfs_dispenser.specs.Answers.{Answer}
+use Rattle.xfs_dispenser.specs.Units.{kinds_with, units_with}
 use Rattle.xfs_dispenser.specs.declared.named.Named.TheVariants.{These, OtherName}
 use Rattle.xfs_dispenser.specs.declared.notes.Notes.{Notes}
 use Rattle.xfs_dispenser.specs.declared.notes.Notes.TheVariants.{Least, Individual}
@@ -68,33 +69,28 @@ NotesGiven units have (Individual (These counts)) given = given ≡ given_unless
 abbrev pub Denominates : View → Notes → Result Counts Refusal → Type 0
 Denominates v notes = FirstOf (members_refusal notes) (NotesGiven v.units v.places.units notes)
 
--- the currency of a unit of which there are notes, with the whole amount of all the notes in it
-abbrev pub with_currency : List NoteKind → Counts → NoteKind → ℕ → Members → Members
-with_currency units counts kind zero ms = ms
-with_currency units counts kind (suc n) ms = with_member kind.currency (number (unsigned (value units counts kind.currency / 1000))) ms
+-- a kind's currency, with the whole amount of all the notes in it
+abbrev pub with_currency : List NoteKind → Counts → Members → NoteKind → Members
+with_currency units counts ms kind = with_member kind.currency (number (unsigned (value units counts kind.currency / 1000))) ms
 
--- the same of each of these units, which hold so many notes
-abbrev pub currencies_of : List NoteKind → Counts → List NoteKind → List ℕ → Members → Members
-currencies_of units counts (kind ∷ kinds) (n ∷ ns) ms = currencies_of units counts kinds ns (with_currency units counts kind n ms)
-currencies_of units counts kinds ns ms = ms
+-- the same of each unit with notes
+abbrev pub currencies_of : List NoteKind → Counts → Members
+currencies_of units counts = fold (with_currency units counts) no_members (kinds_with units counts.0)
 
--- a unit of which there are notes, and how many
-abbrev pub with_count : ℕ → ℕ → Members → Members
-with_count unit zero ms = ms
-with_count unit (suc n) ms = with_member (unit_name unit) (number (unsigned (suc n))) ms
+-- a unit and how many notes there are of it
+abbrev pub with_count : Members → ℕ × ℕ → Members
+with_count ms u = with_member (unit_name u.0) (number (unsigned u.1)) ms
 
--- each unit with notes, from one on, and how many
-abbrev pub values_of : ℕ → List ℕ → Members
-values_of unit [] = no_members
-values_of unit (zero ∷ ns) = values_of (unit + 1) ns
-values_of unit (suc n ∷ ns) = member (unit_name unit) (number (unsigned (suc n))) (values_of (unit + 1) ns)
+-- the same of each unit with notes
+abbrev pub values_of : List ℕ → Members
+values_of counts = fold with_count no_members (units_with counts)
 
 -- the notes of a denomination, by currency and by unit
 abbrev pub denomination_payload : List NoteKind → Counts → Data
 denomination_payload units counts =
     only (codes "denomination") (object
-    (member (codes "currencies") (object (currencies_of units counts units counts.0 no_members))
-    (member (codes "values") (object (values_of 1 counts.0)) no_members)))
+    (member (codes "currencies") (object (currencies_of units counts))
+    (member (codes "values") (object (values_of counts.0)) no_members)))
 
 -- the answer that tells them
 abbrev pub denominated : List NoteKind → Counts → Answer

@@ -10,3 +10,4 @@ pub mod Notes
 pub mod Plans
 pub mod Seen
 pub mod Steps
+pub mod Units

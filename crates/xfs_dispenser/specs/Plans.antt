@@ -1,5 +1,5 @@
 -- The plans of the dispenser's commands: the parts that are left to be done, in their order.
-use Rattle.std.specs.Prelude.{◌≡◌, ◌≢◌, ◌≤◌, ℕ, zero, suc, ◌+◌, ◌==◌, Bool, false, List, [], ◌∷◌, ◌++◌, length, sum, ⊤, Some, None, if◌then◌else◌}
+use Rattle.std.specs.Prelude.{◌≡◌, ◌≢◌, ◌≤◌, ℕ, ◌==◌, Bool, false, List, [], ◌∷◌, ◌++◌, length, map, flat_map, sum, ⊤, Some, None, if◌then◌else◌}
 use Rattle.std.specs.List.{AllByRecursion}
 use Rattle.std.specs.declared.option.Option.{Option}
 use Rattle.xfs_base.specs.declared.counts.Counts.{Counts}
@@ -11,21 +11,18 @@ use Rattle.xfs_guard.specs.declared.ask.Ask.{Ask}
 use Rattle.xfs_guard.specs.declared.ask.Ask.TheVariants.{Stack, Reject, Retract}
 use Rattle.xfs_guard.specs.declared.open.Open.{Open}
 use Rattle.xfs_guard.specs.declared.open.Open.TheVariants.{No, Acted}
+use Rattle.xfs_dispenser.specs.Units.{units_with}
 use Rattle.xfs_dispenser.specs.declared.part.Part.{Part}
 use Rattle.xfs_dispenser.specs.declared.part.Part.TheVariants.{Order, Restore, Load, Note}
 use Rattle.xfs_dispenser.specs.declared.plan.Plan.{Plan}
 
--- an order for each unit with notes, units rising from one on
-abbrev pub stacks : ℕ → ℕ → List ℕ → List Part
-stacks issue unit [] = []
-stacks issue unit (zero ∷ counts) = stacks issue (unit + 1) counts
-stacks issue unit (suc n ∷ counts) = Order (Stack issue unit (suc n)) ∷ stacks issue (unit + 1) counts
+-- an order for each unit with notes
+abbrev pub stacks : ℕ → List ℕ → List Part
+stacks issue counts = map (λ (u : ℕ × ℕ). Order (Stack issue u.0 u.1)) (units_with counts)
 
--- a loading and its record for each unit that gets notes, units rising from one on
-abbrev pub loads : ℕ → List ℕ → List Part
-loads unit [] = []
-loads unit (zero ∷ counts) = loads (unit + 1) counts
-loads unit (suc n ∷ counts) = Load unit (suc n) ∷ Note unit (suc n) ∷ loads (unit + 1) counts
+-- a loading and its record for each unit that gets notes
+abbrev pub loads : List ℕ → List Part
+loads counts = flat_map (λ (u : ℕ × ℕ). Load u.0 u.1 ∷ Note u.0 u.1 ∷ []) (units_with counts)
 
 -- an order of all the notes of a place, where there are some
 abbrev pub order_of_all : Ask → Counts → List Part
@@ -44,7 +41,7 @@ abbrev pub with_parts : Plan → List Part → Plan
 with_parts plan parts = record plan { parts = record { items = parts } }
 
 abbrev pub dispense_plan : ℕ → Counts → Plan
-dispense_plan issue counts = plan_of (Some counts) (stacks issue 1 counts.0)
+dispense_plan issue counts = plan_of (Some counts) (stacks issue counts.0)
 
 -- a plan of the one order of all the notes of a place
 abbrev pub order_plan : Ask → Plan
@@ -54,7 +51,7 @@ abbrev pub reset_plan : Plan
 reset_plan = plan_of None (Restore ∷ [])
 
 abbrev pub storage_plan : Counts → Plan
-storage_plan added = plan_of None (loads 1 added.0)
+storage_plan added = plan_of None (loads added.0)
 
 -- a part can be begun: a unit is in the table, its count isn't 0, and a loading has room
 abbrev pub CanBegin : View → Part → Type 0

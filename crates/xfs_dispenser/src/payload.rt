@@ -1,7 +1,6 @@
 //! What the answer of a dispense tells of its notes.
 
-ghost use Rattle.std.specs.Prelude.{◌≡◌, ◌≤◌, IfOk, OnOk};
-ghost use Rattle.serde_json.specs.Data.{no_members};
+ghost use Rattle.std.specs.Prelude.{◌≡◌, ◌≢◌, ◌≤◌, IfOk, OnOk};
 ghost use Rattle.serde_json.specs.View.{view, members_view};
 ghost use Rattle.xfs_dispenser.specs.Answers.{answered};
 ghost use Rattle.xfs_dispenser.specs.Denominations.{currencies_of, denominated, denomination_payload, values_of, with_count, with_currency};
@@ -39,7 +38,7 @@ fn denomination(alloc: Global, units: &UnitTable, counts: &Counts) -> Result<Val
 }
 
 fn currencies_of(alloc: Global, units: &UnitTable, counts: &Counts) -> Result<Map, Memory>
-    ensures { IfOk result (λ m. members_view m.entries ≡ currencies_of units.now counts.now units.now counts.now.0 no_members) }
+    ensures { IfOk result (λ m. members_view m.entries ≡ currencies_of units.now counts.now) }
 {
     let mut members = Map::new(alloc);
     let kinds = units.kinds();
@@ -58,7 +57,8 @@ fn put_currency(
     kind: &NoteKind,
     count: u32,
 ) -> Result<(), Memory>
-    ensures { OnOk result (members_view members.new.entries ≡ with_currency units.now counts.now kind.now count (members_view members.old.entries)) }
+    ensures none { OnOk result (count ≡ 0 → members_view members.new.entries ≡ members_view members.old.entries) }
+    ensures some { OnOk result (count ≢ 0 → members_view members.new.entries ≡ with_currency units.now counts.now (members_view members.old.entries) kind.now) }
 {
     if count != 0 {
         let amount = counts.value(units, kind.currency) / 1000;
@@ -73,12 +73,11 @@ fn put_currency(
     Ok(())
 }
 
-// The units from the last to the first, so that each stands before those that are there.
 fn values_of(alloc: Global, counts: &Counts) -> Result<Map, Memory>
-    ensures { IfOk result (λ m. members_view m.entries ≡ values_of 1 counts.now.0) }
+    ensures { IfOk result (λ m. members_view m.entries ≡ values_of counts.now.0) }
 {
     let mut members = Map::new(alloc);
-    for at in (0..8u8).rev() {
+    for at in 0..8u8 {
         put_count(alloc, &mut members, at + 1, counts.0[usize::from(at)])?;
     }
     Ok(members)
@@ -88,7 +87,8 @@ fn values_of(alloc: Global, counts: &Counts) -> Result<Map, Memory>
 fn put_count(alloc: Global, members: &mut Map, unit: u8, count: u32) -> Result<(), Memory>
     requires low { 1 ≤ unit }
     requires high { unit ≤ 8 }
-    ensures { OnOk result (members_view members.new.entries ≡ with_count unit count (members_view members.old.entries)) }
+    ensures none { OnOk result (count ≡ 0 → members_view members.new.entries ≡ members_view members.old.entries) }
+    ensures some { OnOk result (count ≢ 0 → members_view members.new.entries ≡ with_count (members_view members.old.entries) (unit, count)) }
 {
     if count != 0 {
         put(members, alloc, name_of(unit), Value::from(count))?;

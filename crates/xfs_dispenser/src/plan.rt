@@ -1,8 +1,10 @@
 //! The plans of commands.
 
-ghost use Rattle.std.specs.Prelude.{◌≡◌, ◌≤◌, ◌<◌, ◌+◌, ◌++◌, None, [], ◌∷◌};
+ghost use Rattle.std.specs.Prelude.{◌≡◌, ◌≤◌, ◌<◌, ◌+◌, ◌==◌, ◌++◌, None, [], ◌∷◌, if◌then◌else◌};
 ghost use Rattle.arrayvec.specs.ArrayVec.{array_vec_len};
+ghost use Rattle.xfs_guard.specs.declared.ask.Ask.TheVariants.{Stack};
 ghost use Rattle.xfs_dispenser.specs.Plans.{dispense_plan, emptying, loads, order_plan, plan_of, reset_plan, stacks, storage_plan};
+ghost use Rattle.xfs_dispenser.specs.declared.part.Part.TheVariants as Part;
 
 use crate::part::Part;
 use arrayvec::ArrayVec;
@@ -71,7 +73,7 @@ impl Plan {
 }
 
 fn stacks(issue: u64, counts: &[u32; 8]) -> ArrayVec<Part, 16>
-    ensures { result.items ≡ stacks issue 1 counts.now }
+    ensures { result.items ≡ stacks issue counts.now }
 {
     let mut parts = ArrayVec::new();
     for at in 0..8u8 {
@@ -83,7 +85,7 @@ fn stacks(issue: u64, counts: &[u32; 8]) -> ArrayVec<Part, 16>
 // The order of a unit, where there are notes of it.
 fn push_stack(parts: &mut ArrayVec<Part, 16>, issue: u64, unit: u8, count: u32)
     requires { array_vec_len parts.old < 16 }
-    ensures items { parts.new.items ≡ parts.old.items ++ stacks issue unit (count ∷ []) }
+    ensures items { parts.new.items ≡ parts.old.items ++ (if count == 0 then [] else Part.Order (Stack issue unit count) ∷ []) }
     ensures len { array_vec_len parts.new ≤ array_vec_len parts.old + 1 }
 {
     if count != 0 {
@@ -92,7 +94,7 @@ fn push_stack(parts: &mut ArrayVec<Part, 16>, issue: u64, unit: u8, count: u32)
 }
 
 fn loads(counts: &[u32; 8]) -> ArrayVec<Part, 16>
-    ensures { result.items ≡ loads 1 counts.now }
+    ensures { result.items ≡ loads counts.now }
 {
     let mut parts = ArrayVec::new();
     for at in 0..8u8 {
@@ -104,7 +106,7 @@ fn loads(counts: &[u32; 8]) -> ArrayVec<Part, 16>
 // The loading of a unit and its record, where notes are added to it.
 fn push_load(parts: &mut ArrayVec<Part, 16>, unit: u8, count: u32)
     requires { array_vec_len parts.old + 1 < 16 }
-    ensures items { parts.new.items ≡ parts.old.items ++ loads unit (count ∷ []) }
+    ensures items { parts.new.items ≡ parts.old.items ++ (if count == 0 then [] else Part.Load unit count ∷ Part.Note unit count ∷ []) }
     ensures len { array_vec_len parts.new ≤ array_vec_len parts.old + 2 }
 {
     if count != 0 {

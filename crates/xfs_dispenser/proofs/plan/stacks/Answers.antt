@@ -1,5 +1,5 @@
-use Rattle.std.proofs.Common.{get_or, sym, ap, arith}
-use Rattle.xfs_dispenser.proofs.PlanLaws.{stacks-end, stacks-step}
+use Rattle.std.proofs.Common.{get_or, sym, ◌∙◌, ap, arith}
+use Rattle.xfs_dispenser.proofs.PlanLaws.{stacks-all, stacks-end, stacks-step}
 use Rattle.xfs_dispenser.proofs.plan.stacks.Goals as goal
 
 pub loop-at-preserved : goal.loop-at-preserved
@@ -13,4 +13,4 @@ loop-at-preserved c =
     }
 
 pub returns : goal.returns
-returns c = let i = c.loop-at.invariant in stacks-end c.args.issue c.loop-at.at c.args.counts.now c.loop-at.parts.items _ (omega (arith, i.long, c.loop-at-test.false)) i.listed
+returns c = let i = c.loop-at.invariant in stacks-end c.args.issue c.loop-at.at c.args.counts.now c.loop-at.parts.items _ (omega (arith, i.long, c.loop-at-test.false)) i.listed ∙ sym (stacks-all c.args.issue c.args.counts.now)
