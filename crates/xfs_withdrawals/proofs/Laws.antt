@@ -1,0 +1,98 @@
+-- A Dispense that its token covers is completed, and a Present.
+use Rattle.std.proofs.Common.{◌≡◌, ◌≤◌, ◌+◌, ◌*◌, ℕ, false, List, [], ◌∷◌, ◌++◌, length, Some, ap, sym, subst, ◌∙◌, arith, append_assoc}
+use Rattle.xfs_dispenser.specs.Answers.{Answer, done, plain, planned}
+use Rattle.xfs_dispenser.specs.Complete.{IsBegunInFull, IsComplete, IsGiven, IsPresented}
+use Rattle.xfs_dispenser.specs.Denominations.{denominated}
+use Rattle.xfs_dispenser.specs.Plans.{dispense_plan, order_plan}
+use Rattle.xfs_dispenser.specs.Seen.{Seen}
+use Rattle.xfs_dispenser.specs.declared.ask.CashAsk.{CashAsk}
+use Rattle.xfs_dispenser.specs.declared.ask.CashAsk.TheVariants.{Dispense, Present}
+use Rattle.xfs_dispenser.specs.declared.notes.Notes.{Notes}
+use Rattle.xfs_dispenser.specs.declared.plan.Plan.{Plan}
+use Rattle.xfs_dispenser.proofs.TurnLaws.{IsLater, calm-first, calm-rest}
+use Rattle.xfs_envelope.specs.declared.code.Code.TheVariants.{Success}
+use Rattle.xfs_guard.specs.declared.ask.Ask.TheVariants as Ask
+use Rattle.xfs_model.specs.Cases.{with_start}
+use Rattle.xfs_model.specs.State.{Job}
+use Rattle.xfs_queue.specs.declared.command.Command.{Command}
+use Rattle.xfs_withdrawals.specs.Turning.{IsNext, Turning}
+use Rattle.xfs_withdrawals.specs.Withdrawals.{IsCompleted, IsDispensable, IsDispensed, IsPaidOut, IsPresentable, IsPutOut, units_with}
+use Rattle.xfs_withdrawals.proofs.Lives.{AreOrders, stacks_are_orders, stacks_length}
+use Rattle.xfs_withdrawals.proofs.Runs.{IsAnswered, IsBegun, IsWorkedOn, begins_first, turned_later, worked_on}
+
+module _ (complete : IsComplete) (t : Turning) where
+  abbrev a : Command Job
+  a = t.command
+
+  -- the first turn begins a command that is next
+  begun_first : (ask : CashAsk) → IsNext t.start a ask t.waiting → 1 ≤ t.turns → IsBegun a ask t.last t.turns t.waiting t.frames t.start
+  begun_first ask n some =
+      begins_first a ask t.last (ap (λ (c : Command Job). c.stage) n.accepted) (ap (λ (c : Command Job). c.line) n.accepted) (ap (λ (c : Command Job). c.job.ask) n.accepted) t.waiting t.turned some
+      (record { queue = n.alone; inactive = n.at_rest.inactive; connected = n.connected }) n.at_rest.settled
+
+  -- its plan, all of orders, is worked on
+  worked_through : (ask : CashAsk) (n : IsNext t.start a ask t.waiting) (b : IsBegun a ask t.last t.turns t.waiting t.frames t.start) (plan : Plan) (m : ℕ) → b.begun.start ≡ planned plan → b.begun.after ≡ false → AreOrders plan.parts.items → 2 + m ≤ t.turns
+      → IsWorkedOn m b.begun.bound plan a t.last b.waiting_then b.frames_then
+  worked_through ask n b plan m starts after orders enough =
+      let turns = b.turns_are in
+      subst (λ x. IsWorkedOn m x plan a t.last b.waiting_then b.frames_then) b.begun.seen
+      (worked_on a t.last (ap (λ (c : Command Job). c.marked) n.accepted) m plan b.waiting_then b.run (omega (arith, turns, enough)) orders
+      (record { queue = b.begun.queue ∙ ap (λ s. with_start s a ∷ []) starts; inactive = b.begun.exchange ∙ after; connected = b.begun.connected }))
+
+  -- all is later than the first turn, and calm
+  bound_later : (ask : CashAsk) (b : IsBegun a ask t.last t.turns t.waiting t.frames t.start) → IsLater b.begun.bound t.last.seen
+  bound_later ask b = subst (λ x. IsLater x t.last.seen) b.begun.seen (turned_later a t.last b.run)
+
+  start_later : (ask : CashAsk) (b : IsBegun a ask t.last t.turns t.waiting t.frames t.start) → IsLater t.start.seen b.begun.bound
+  start_later ask b = subst (λ x. IsLater t.start.seen x) b.begun.seen b.later
+
+  -- the command is completed where it was answered
+  completed_by : (ask : CashAsk) (b : IsBegun a ask t.last t.turns t.waiting t.frames t.start) (answer : Answer) (next : Seen) → IsAnswered a answer t.last b.waiting_then b.frames_then next → IsCompleted t answer
+  completed_by ask b answer next o = record {
+    over = o.over.queue;
+    at_rest = record { settled = ap (λ (x : Seen). x.guard.open_order) o.over.seen_is ∙ o.settled; inactive = o.over.inactive };
+    completion = o.completion;
+    completes = o.completes;
+    left = o.over.left;
+    connected = o.over.connected;
+    all = ap (λ l. l ++ o.over.left) b.frames_are ∙ (append_assoc b.before b.frames_then o.over.left ∙ (ap (λ l. b.before ++ l) o.over.came
+        ∙ (sym (append_assoc b.before b.waiting_then (o.completion ∷ [])) ∙ ap (λ l. l ++ o.completion ∷ []) b.waited)));
+  }
+
+  pub paid_out : (notes : Notes) (token : List ℕ) → IsDispensable t notes token → IsPaidOut t notes
+  paid_out notes token d =
+      let ask = Dispense notes (Some token) in
+      let b = begun_first ask d.next d.turned in
+      let h = b.begun in
+      let full = complete.dispense t.start.seen h.bound notes token h.after h.start d.next.at_rest.settled d.covered (calm-first t.start.seen h.bound t.last.seen (bound_later ask b) t.calm) h.begins in
+      record { counts = full.counts; given = full.given; in_full = λ eight enough. whole b full eight enough }
+    where
+      whole : (b : IsBegun a (Dispense notes (Some token)) t.last t.turns t.waiting t.frames t.start) (full : IsBegunInFull t.start.seen notes b.begun.bound b.begun.start) → length full.counts.0 ≡ 8 → 2 + 3 * units_with full.counts ≤ t.turns
+          → IsDispensed t full.counts
+      whole b full eight enough =
+          let ask = Dispense notes (Some token) in
+          let h = b.begun in
+          let plan = dispense_plan full.issue full.counts in
+          let many : length plan.parts.items ≡ units_with full.counts = stacks_length full.issue 1 full.counts.0 in
+          let o = worked_through ask d.next b plan (3 * length plan.parts.items) full.plan h.begins.0 (stacks_are_orders full.issue 1 full.counts.0) (omega (arith, many, enough)) in
+          let calm = calm-first h.bound o.next t.last.seen o.later (calm-rest t.start.seen h.bound t.last.seen (start_later ask b) t.calm) in
+          let given = full.done o.next o.went eight calm o.turns in
+          let answered = o.answers (denominated t.start.seen.guard.units full.counts) given.is in
+          record {
+            completed = completed_by ask b (denominated t.start.seen.guard.units full.counts) o.next answered;
+            moved = subst (λ x. IsGiven t.start.seen full.counts x (done (denominated t.start.seen.guard.units full.counts))) (sym answered.over.seen_is) (subst (λ w. IsGiven t.start.seen full.counts o.next w) given.is given);
+          }
+
+  pub put_out : IsPresentable t → 5 ≤ t.turns → IsPutOut t
+  put_out d enough =
+      let b = begun_first Present d.next (omega (arith, enough)) in
+      let h = b.begun in
+      let o = worked_through Present d.next b (order_plan Ask.Present) 3 h.begins.2 h.begins.1 tt enough in
+      let calm = calm-first t.start.seen o.next t.last.seen o.later t.calm in
+      let full = complete.present t.start.seen h.bound o.next h.after h.start o.went d.next.at_rest.settled d.ready calm h.begins o.turns in
+      let moved = full.2 in
+      let answered = o.answers (plain Success) moved.is in
+      record {
+        completed = completed_by Present b (plain Success) o.next answered;
+        moved = subst (λ x. IsPresented t.start.seen x (done (plain Success))) (sym answered.over.seen_is) (subst (λ w. IsPresented t.start.seen o.next w) moved.is moved);
+      }

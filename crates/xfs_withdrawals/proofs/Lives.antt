@@ -1,0 +1,76 @@
+-- The steps of orders leave the live nonce.
+use Rattle.std.proofs.Common.{◌≡◌, ◌⊎◌, ℕ, zero, suc, ◌+◌, ◌==◌, not, List, [], ◌∷◌, filter, length, refl, ap, inl, inr, arith, ne_eqb}
+use Rattle.std.specs.Prelude.{⊤}
+use Rattle.xfs_dispenser.specs.Answers.{Went}
+use Rattle.xfs_dispenser.specs.Plans.{stacks}
+use Rattle.xfs_dispenser.specs.Seen.{Seen}
+use Rattle.xfs_dispenser.specs.Steps.{DoesFirst, IsDenied, IsUnwritten, Works, WorksOn, order_record, refusal_of}
+use Rattle.xfs_dispenser.specs.declared.part.Part.{Part}
+use Rattle.xfs_dispenser.specs.declared.part.Part.TheVariants.{Order, Restore, Load, Note}
+use Rattle.xfs_dispenser.specs.declared.plan.Plan.{Plan}
+use Rattle.xfs_guard.specs.Nonce.{live_nonce}
+use Rattle.xfs_guard.specs.View.{View}
+use Rattle.xfs_guard.specs.declared.ask.Ask.{Ask}
+use Rattle.xfs_guard.specs.declared.open.Open.{Open}
+use Rattle.xfs_guard.specs.declared.open.Open.TheVariants.{No, Written, Acted}
+use Rattle.xfs_guard.proofs.CoveredLaws.{nonce-push}
+use Rattle.xfs_journal.specs.declared.record.Rec.TheVariants.{Done}
+use Rattle.xfs_model.specs.Guards.{is_live}
+
+-- each part that is left is an order
+abbrev pub AreOrders : List Part → Type 0
+AreOrders [] = ⊤
+AreOrders (Order ask ∷ parts) = AreOrders parts
+AreOrders (part ∷ parts) = ⊥
+
+pub stacks_are_orders : (issue unit : ℕ) (counts : List ℕ) → AreOrders (stacks issue unit counts)
+stacks_are_orders issue unit [] = tt
+stacks_are_orders issue unit (zero ∷ counts) = stacks_are_orders issue (unit + 1) counts
+stacks_are_orders issue unit (suc n ∷ counts) = stacks_are_orders issue (unit + 1) counts
+
+-- one for each unit with notes
+pub stacks_length : (issue unit : ℕ) (counts : List ℕ) → length (stacks issue unit counts) ≡ length (filter (λ n. not (n == 0)) counts)
+stacks_length issue unit [] = refl
+stacks_length issue unit (zero ∷ counts) = stacks_length issue (unit + 1) counts
+stacks_length issue unit (suc n ∷ counts) = rw (ne_eqb (suc n) 0 (λ e. omega (arith, e))) (ap suc (stacks_length issue (unit + 1) counts))
+
+-- the same nonce lives, and orders alone are left
+pub record KeepsLife (s next : Seen) (left : Plan) : Type 0 where
+  pub life : is_live next ≡ is_live s
+  pub orders : AreOrders left.parts.items
+
+same_life : (s next : Seen) (v : View) → next.guard ≡ v → v.boot_missing ≡ s.guard.boot_missing → live_nonce v.records ≡ live_nonce s.guard.records → is_live next ≡ is_live s
+same_life s next v is booted same = rw (is, booted, same) refl
+
+refused_life : (s next : Seen) (ask : Ask) (went : Went) → IsDenied s (refusal_of s.guard ask) next went ⊎ IsUnwritten s (refusal_of s.guard ask) (order_record s.guard ask) next went → is_live next ≡ is_live s
+refused_life s next ask went (inl d) = ap is_live d.same
+refused_life s next ask went (inr u) = same_life s next _ u.fails.becomes.guard_is refl refl
+
+pub orders_keep_life : (s : Seen) (plan : Plan) (next : Seen) (left : Plan) (went : Went) → AreOrders plan.parts.items → Works s plan next left went → KeepsLife s next left
+orders_keep_life s plan next left went orders is = go s.guard.open_order is
+  where
+    kept : left ≡ plan → AreOrders left.parts.items
+    kept same = rw same orders
+
+    first : (parts : List Part) → AreOrders parts → DoesFirst parts s plan next left went → KeepsLife s next left
+    first [] all d = absurd d
+    first (Order ask ∷ parts) all (inl (w, after, told)) = record {
+      life = same_life s next _ w.becomes.guard_is refl (nonce-push s.guard.records (order_record s.guard ask) (λ count live. refl));
+      orders = rw after all;
+    }
+    first (Order ask ∷ parts) all (inr (after, refused)) = record { life = refused_life s next ask went refused; orders = kept after }
+    first (Restore ∷ parts) all d = absurd all
+    first (Load unit count ∷ parts) all d = absurd all
+    first (Note unit count ∷ parts) all d = absurd all
+
+    go : (o : Open) → WorksOn o s plan next left went → KeepsLife s next left
+    go (Written kind counts) w = record {
+      life = same_life s next _ w.acts.same refl refl;
+      orders = rw (w.kept) orders;
+    }
+    go (Acted kind moved diverted failed) (after, inl i) = record {
+      life = same_life s next _ i.settles.same refl (nonce-push s.guard.records (Done i.settles.moved i.settles.diverted) (λ count live. refl));
+      orders = kept after;
+    }
+    go (Acted kind moved diverted failed) (after, inr u) = record { life = same_life s next _ u.unsettles.same refl refl; orders = kept after }
+    go No w = first plan.parts.items orders w

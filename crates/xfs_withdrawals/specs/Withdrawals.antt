@@ -1,0 +1,55 @@
+-- A Dispense that its token covers, and a Present behind it, complete with success.
+use Rattle.std.specs.Prelude.{◌≡◌, ◌≤◌, ◌+◌, ◌*◌, ◌==◌, ◌++◌, ℕ, not, filter, length, List, [], ◌∷◌, Some, Ok}
+use Rattle.xfs_base.specs.declared.counts.Counts.{Counts}
+use Rattle.xfs_base.specs.declared.moment.Service.TheVariants.{Cash}
+use Rattle.xfs_dispenser.specs.Answers.{Answer, done, plain}
+use Rattle.xfs_dispenser.specs.Complete.{CanGive, IsGiven, IsPresented}
+use Rattle.xfs_dispenser.specs.Denominations.{NotesGiven, denominated}
+use Rattle.xfs_dispenser.specs.declared.ask.CashAsk.TheVariants.{Dispense, Present}
+use Rattle.xfs_dispenser.specs.declared.notes.Notes.{Notes}
+use Rattle.xfs_envelope.specs.declared.code.Code.TheVariants.{Success}
+use Rattle.xfs_guard.specs.Covered.{CanPresent}
+use Rattle.xfs_model.specs.Frames.{IsCompletion}
+use Rattle.xfs_model.specs.State.{queue_at}
+use Rattle.xfs_withdrawals.specs.Turning.{IsAtRest, IsConnected, IsNext, Turning}
+
+-- the command is no longer pending; one completion came, with this answer, and nothing else, beside what waited before: its client was handed it, or it waits
+pub record IsCompleted (t : Turning) (answer : Answer) : Type 0 where
+  pub over : queue_at t.last Cash ≡ []
+  pub at_rest : IsAtRest t.last
+  pub completion : List ℕ
+  pub completes : IsCompletion t.command.id t.command.job.name answer.code answer.payload completion
+  pub left : List (List ℕ)
+  pub connected : IsConnected t.last t.command.client left
+  pub all : t.frames ++ left ≡ t.waiting ++ completion ∷ []
+
+-- how many units have notes
+abbrev pub units_with : Counts → ℕ
+units_with counts = length (filter (λ n. not (n == 0)) counts.0)
+
+-- a Dispense is completed with success, and these notes went from the units to the transport
+pub record IsDispensed (t : Turning) (counts : Counts) : Type 0 where
+  pub completed : IsCompleted t (denominated t.start.seen.guard.units counts)
+  pub moved : IsGiven t.start.seen counts t.last.seen (done (denominated t.start.seen.guard.units counts))
+
+-- a Dispense gives some notes that were asked for, of eight counts; it is done in two turns and three for each unit of theirs
+pub record IsPaidOut (t : Turning) (notes : Notes) : Type 0 where
+  pub counts : Counts
+  pub given : NotesGiven t.start.seen.guard.units t.start.seen.guard.places.units notes (Ok counts)
+  pub in_full : length counts.0 ≡ 8 → 2 + 3 * units_with counts ≤ t.turns → IsDispensed t counts
+
+-- a Present is completed with success, and the whole transport went into the outlet
+pub record IsPutOut (t : Turning) : Type 0 where
+  pub completed : IsCompleted t (plain Success)
+  pub moved : IsPresented t.start.seen t.last.seen (done (plain Success))
+
+-- a Dispense of these notes with this token is next and is turned, and nothing stands against it
+pub record IsDispensable (t : Turning) (notes : Notes) (token : List ℕ) : Type 0 where
+  pub next : IsNext t.start t.command (Dispense notes (Some token)) t.waiting
+  pub covered : CanGive t.start.seen.guard notes token
+  pub turned : 1 ≤ t.turns
+
+-- a Present is next, and nothing stands against it
+pub record IsPresentable (t : Turning) : Type 0 where
+  pub next : IsNext t.start t.command Present t.waiting
+  pub ready : CanPresent t.start.seen.guard
