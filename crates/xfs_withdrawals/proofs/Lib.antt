@@ -2,5 +2,6 @@ pub mod Choices
 pub mod Lives
 pub mod Mail
 pub mod Laws
+pub mod Posting
 pub mod Runs
 pub mod Steps
