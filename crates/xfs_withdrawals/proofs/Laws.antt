@@ -9,16 +9,27 @@ use Rattle.xfs_dispenser.specs.declared.ask.CashAsk.{CashAsk}
 use Rattle.xfs_dispenser.specs.declared.ask.CashAsk.TheVariants.{Dispense, Present}
 use Rattle.xfs_dispenser.specs.declared.notes.Notes.{Notes}
 use Rattle.xfs_dispenser.specs.declared.plan.Plan.{Plan}
+use Rattle.xfs_dispenser.proofs.BeginLaws.{none-at}
 use Rattle.xfs_dispenser.proofs.TurnLaws.{IsLater, calm-first, calm-rest}
 use Rattle.xfs_envelope.specs.declared.code.Code.TheVariants.{Success}
+use Rattle.xfs_guard.specs.Covered.{CanPresent}
 use Rattle.xfs_guard.specs.declared.ask.Ask.TheVariants as Ask
 use Rattle.xfs_model.specs.Cases.{with_start}
-use Rattle.xfs_model.specs.State.{Job}
+use Rattle.xfs_model.specs.State.{Job, cash}
 use Rattle.xfs_queue.specs.declared.command.Command.{Command}
+use Rattle.xfs_withdrawals.specs.Posted.{IsTaken}
 use Rattle.xfs_withdrawals.specs.Turning.{IsNext, Turning}
-use Rattle.xfs_withdrawals.specs.Withdrawals.{IsCompleted, IsDispensable, IsDispensed, IsPaidOut, IsPresentable, IsPutOut, units_with}
+use Rattle.xfs_withdrawals.specs.Withdrawals.{IsCompleted, IsDispensable, IsDispensed, IsPaidOut, IsPresentable, IsPutOut, IsWholeWithdrawal, IsWithdrawn, Withdrawal, units_with}
 use Rattle.xfs_withdrawals.proofs.Lives.{AreOrders, stacks_are_orders, stacks_length}
+use Rattle.xfs_withdrawals.proofs.Posting.{taken}
 use Rattle.xfs_withdrawals.proofs.Runs.{IsAnswered, IsBegun, IsWorkedOn, begins_first, turned_later, worked_on}
+use Rattle.xfs_base.specs.Counts.{at}
+use Rattle.xfs_base.specs.declared.counts.Counts.{Counts}
+use Rattle.std.specs.Prelude.{◌==◌, sum}
+use Rattle.std.proofs.lemmas.List.Folds.{sum_by-zero}
+use Rattle.xfs_model.specs.Posts.{job_of}
+use Rattle.xfs_queue.specs.Queue.{offered}
+use Rattle.xfs_queue.specs.declared.command.Line.TheVariants.{Device}
 
 module _ (complete : IsComplete) (t : Turning) where
   abbrev a : Command Job
@@ -49,8 +60,7 @@ module _ (complete : IsComplete) (t : Turning) where
   -- the command is completed where it was answered
   completed_by : (ask : CashAsk) (b : IsBegun a ask t.last t.turns t.waiting t.frames t.start) (answer : Answer) (next : Seen) → IsAnswered a answer t.last b.waiting_then b.frames_then next → IsCompleted t answer
   completed_by ask b answer next o = record {
-    over = o.over.queue;
-    at_rest = record { settled = ap (λ (x : Seen). x.guard.open_order) o.over.seen_is ∙ o.settled; inactive = o.over.inactive };
+    over = record { empty = o.over.queue; at_rest = record { settled = ap (λ (x : Seen). x.guard.open_order) o.over.seen_is ∙ o.settled; inactive = o.over.inactive } };
     completion = o.completion;
     completes = o.completes;
     left = o.over.left;
@@ -96,3 +106,46 @@ module _ (complete : IsComplete) (t : Turning) where
         completed = completed_by Present b (plain Success) o.next answered;
         moved = subst (λ x. IsPresented t.start.seen x (done (plain Success))) (sym answered.over.seen_is) (subst (λ w. IsPresented t.start.seen o.next w) moved.is moved);
       }
+
+same_head : (a b : Command Job) → a ∷ [] ≡ b ∷ [] → a ≡ b
+same_head a b e = cc
+
+-- no notes lie where their sum is 0
+none_there : (counts : Counts) → sum counts.0 ≡ 0 → (u : ℕ) → at counts u ≡ 0
+none_there counts empty u = none-at counts.0 u (sym (sum_by-zero (λ x. x) counts.0) ∙ ap (λ n. n == 0) empty)
+
+module _ (complete : IsComplete) (w : Withdrawal) where
+  -- the posted Present is the one that is turned, and nothing stands against it
+  presentable : (counts : Counts) → IsDispensed w.dispense counts → (taken_ : IsTaken Present w.dispense.last w.present.start w.posted) → taken_.command ≡ w.present.command → IsPresentable w.present
+  presentable counts d taken_ it = record {
+    next = record {
+      alone = w.pending;
+      accepted = subst (λ (c : Command Job). c ≡ offered c.client c.id Device c.timeout c.accepted (job_of c.job.name (cash Present))) it taken_.next.accepted;
+      at_rest = taken_.next.at_rest;
+      connected = w.connected;
+    };
+    ready = subst (λ (x : Seen). CanPresent x.guard) (sym taken_.same) (d.moved.ready (subst (λ (x : Seen). sum x.guard.places.outlet.0 ≡ 0) taken_.same w.empty));
+  }
+
+  withdrawn : (counts : Counts) → IsDispensed w.dispense counts → IsWithdrawn w counts
+  withdrawn counts d =
+      let taken_ = taken Present w.dispense.last w.present.start d.completed.over w.posted in
+      let it : taken_.command ≡ w.present.command = same_head taken_.command w.present.command (sym taken_.next.alone ∙ w.pending) in
+      let out = put_out complete w.present (presentable counts d taken_ it) w.enough in
+      record {
+        dispensed = d;
+        put_out = out;
+        id = sym (ap (λ (c : Command Job). c.id) it) ∙ taken_.id;
+        name = sym (ap (λ (c : Command Job). c.job.name) it) ∙ taken_.name;
+        out = λ u.
+            let none = none_there w.present.start.seen.guard.places.outlet w.empty u in
+            let on : at w.present.start.seen.guard.places.transport u ≡ at w.dispense.last.seen.guard.places.transport u = ap (λ (x : Seen). at x.guard.places.transport u) taken_.same in
+            let gained = out.moved.gained u in
+            let given = d.moved.gained u in
+            omega (arith, none, on, gained, given);
+      }
+
+  pub whole_withdrawal : (notes : Notes) (token : List ℕ) → IsDispensable w.dispense notes token → IsWholeWithdrawal w notes
+  whole_withdrawal notes token d =
+      let paid = paid_out complete w.dispense notes token d in
+      record { paid = paid; in_full = λ eight enough. withdrawn paid.counts (paid.in_full eight enough) }

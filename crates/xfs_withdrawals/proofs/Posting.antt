@@ -3,7 +3,6 @@ use Rattle.std.proofs.Common.{◌≡◌, ◌==◌, ◌||◌, ℕ, Bool, true, fa
 use Rattle.std.specs.Prelude.{if◌then◌else◌}
 use Rattle.std.specs.Str.{bytes_eq}
 use Rattle.serde_json.specs.Data.{Data}
-use Rattle.xfs_base.specs.declared.moment.Moment.{Moment}
 use Rattle.xfs_base.specs.declared.moment.Service.{Service}
 use Rattle.xfs_base.specs.declared.moment.Service.TheVariants.{Cash}
 use Rattle.xfs_conversation.specs.Pending.{is_request_id, is_wrong_id}
@@ -20,15 +19,15 @@ use Rattle.xfs_model.specs.Events.{done, memory, post}
 use Rattle.xfs_model.specs.Pendings.{pending_in}
 use Rattle.xfs_model.specs.Posts.{Accepts, Refuses, Takes, TakesOn, is_crowded, job_of}
 use Rattle.xfs_model.specs.Sound.{MayAsk}
-use Rattle.xfs_model.specs.State.{Ask, Connection, Job, Pass, State, bad, card, cash, clear, entry, issue, queue_at}
+use Rattle.xfs_model.specs.State.{Ask, Connection, Job, State, bad, card, cash, clear, entry, issue, queue_at}
 use Rattle.xfs_model.specs.Step.{Posts, Step, at_moment, happens, wanting}
 use Rattle.xfs_model.proofs.Asking.{may_ask}
 use Rattle.xfs_model.proofs.Keeping.{IsOpen, is_open, same_client}
 use Rattle.xfs_queue.specs.Queue.{offered}
 use Rattle.xfs_queue.specs.declared.command.Command.{Command}
 use Rattle.xfs_queue.specs.declared.command.Line.TheVariants.{Device, Nonce}
-use Rattle.xfs_withdrawals.specs.Posted.{IsSaid, IsTaken}
-use Rattle.xfs_withdrawals.specs.Turning.{IsConnected}
+use Rattle.xfs_withdrawals.specs.Posted.{IsPosted, IsTaken}
+use Rattle.xfs_withdrawals.specs.Turning.{IsConnected, IsIdle}
 use Rattle.xfs_withdrawals.proofs.Mail.{connected_sent}
 
 none_ok : {X E : Type 0} (x : X) (e : E) → ◌≡◌ {A = Result X E} (Err e) (Ok x) → ⊥
@@ -87,55 +86,58 @@ accepted s k c new service idle id line takes =
     let device : TakesOn s k c (Some Device) new = subst (λ l. TakesOn s k c l new) (ap (λ x. line_of x c.name) service ∙ line) on in
     subst (λ b. MatchBool b (Refuses s k (Some c.id) (Some c.name) TooManyRequests new) (Accepts s k Device c new)) few device
 
-module _ (s : State) (pass : Pass) (text : List ℕ) (ask : CashAsk) (said : IsSaid s pass text ask) (now : Moment) (new : State) where
+module _ (ask : CashAsk) (s new : State) (idle : IsIdle s) (posted : IsPosted ask s new) where
   abbrev k : Connection
-  k = said.connection
+  k = posted.connection
 
   abbrev c : envelope.Command
-  c = said.command
+  c = posted.command
 
   -- the command as it is accepted, and the machine then
   abbrev command : Command Job
-  command = offered k.client c.id Device c.timeout (at_moment s now).now (job_of c.name (cash ask))
+  command = offered k.client c.id Device c.timeout (at_moment s posted.now).now (job_of c.name (cash ask))
 
   abbrev behind : List ℕ → Service → Ask → State
-  behind reply x y = with_queue_at (sent (at_moment s now) x k.client (reply ∷ [])) x (queue_at (at_moment s now) x ++ offered k.client c.id Device c.timeout (at_moment s now).now (job_of c.name y) ∷ [])
+  behind reply x y = with_queue_at (sent (at_moment s posted.now) x k.client (reply ∷ [])) x (queue_at (at_moment s posted.now) x ++ offered k.client c.id Device c.timeout (at_moment s posted.now).now (job_of c.name y) ∷ [])
 
   -- the connection by its client
   connected : IsConnected s k.client k.waiting
-  connected = record { connection = k; found = same_client s k.client pass.client there.named ∙ there.found; service = said.service; waits = refl }
+  connected = record { connection = k; found = same_client s k.client posted.pass.client there.named ∙ there.found; service = posted.service; waits = refl }
     where
-      there : IsOpen s pass k
-      there = is_open s pass k (s.boot == pass.boot) refl said.open_now
+      there : IsOpen s posted.pass k
+      there = is_open s posted.pass k (s.boot == posted.pass.boot) refl posted.open_now
 
-  taken : Posts s pass text now new → Accepts (at_moment s now) k Device c new
-  taken posts =
-      let on : Takes (at_moment s now) k (command_in text) new = subst (λ o. MatchOption o (new ≡ s) (λ j. Takes (at_moment s now) j (command_in text) new)) said.open_now posts in
-      accepted (at_moment s now) k c new said.service said.idle said.id (cash_line c.name c.payload ask said.asks) (subst (λ r. Takes (at_moment s now) k r new) said.reads on)
+  accepts : Posts s posted.pass posted.text posted.now new → Accepts (at_moment s posted.now) k Device c new
+  accepts posts =
+      let on : Takes (at_moment s posted.now) k (command_in posted.text) new = subst (λ o. MatchOption o (new ≡ s) (λ j. Takes (at_moment s posted.now) j (command_in posted.text) new)) posted.open_now posts in
+      accepted (at_moment s posted.now) k c new posted.service idle.empty posted.id (cash_line c.name c.payload ask posted.asks) (subst (λ r. Takes (at_moment s posted.now) k r new) posted.reads on)
 
-  posted_by : Accepts (at_moment s now) k Device c new → IsTaken s pass text ask said new
-  posted_by a = record {
+  taken_as : Accepts (at_moment s posted.now) k Device c new → IsTaken ask s new posted
+  taken_as a = record {
     command = command;
-    id_is = refl;
-    name_is = refl;
-    client_is = refl;
+    id = refl;
+    name = refl;
+    client = refl;
     acknowledge = a.reply;
     acknowledges = a.acknowledges;
     next = record {
-      alone = ap (λ (n : State). queue_at n Cash) is ∙ ap (λ q. q ++ command ∷ []) said.idle;
+      alone = ap (λ (n : State). queue_at n Cash) is ∙ ap (λ q. q ++ command ∷ []) idle.empty;
       accepted = refl;
-      at_rest = record { settled = ap (λ (n : State). n.seen.guard.open_order) is ∙ said.at_rest.settled; inactive = ap (λ (n : State). n.exchange) is ∙ said.at_rest.inactive };
+      at_rest = record { settled = ap (λ (n : State). n.seen.guard.open_order) is ∙ idle.at_rest.settled; inactive = ap (λ (n : State). n.exchange) is ∙ idle.at_rest.inactive };
       connected = connected_sent s new k.client k.waiting (a.reply ∷ []) (ap (λ (n : State). n.connections) is) connected;
     };
     same = ap (λ (n : State). n.seen) is;
   }
     where
       it : a.ask ≡ cash ask
-      it = asked c.name c.payload ask a.ask said.asks (may_ask Cash c.name c.payload a.ask Device (cash_line c.name c.payload ask said.asks) a.asks) a.asks
+      it = asked c.name c.payload ask a.ask posted.asks (may_ask Cash c.name c.payload a.ask Device (cash_line c.name c.payload ask posted.asks) a.asks) a.asks
 
-      is : new ≡ with_queue_at (sent (at_moment s now) Cash k.client (a.reply ∷ [])) Cash (queue_at (at_moment s now) Cash ++ command ∷ [])
-      is = subst (λ y. new ≡ behind a.reply Cash y) it (subst (λ x. new ≡ behind a.reply x a.ask) said.service a.is)
+      is : new ≡ with_queue_at (sent (at_moment s posted.now) Cash k.client (a.reply ∷ [])) Cash (queue_at (at_moment s posted.now) Cash ++ command ∷ [])
+      is = subst (λ y. new ≡ behind a.reply Cash y) it (subst (λ x. new ≡ behind a.reply x a.ask) posted.service a.is)
 
-  pub posted : Step s (post pass text now) done new → IsTaken s pass text ask said new
-  posted (happens up is) = posted_by (taken is)
-  posted (wanting told wants) = absurd (never_memory told)
+  pub taken : IsTaken ask s new posted
+  taken = go posted.step
+    where
+      go : Step s (post posted.pass posted.text posted.now) done new → IsTaken ask s new posted
+      go (happens up is) = taken_as (accepts is)
+      go (wanting told wants) = absurd (never_memory told)

@@ -30,6 +30,11 @@ pub record IsAtRest (s : State) : Type 0 where
   pub settled : s.seen.guard.open_order ≡ No
   pub inactive : s.exchange ≡ false
 
+-- nor is a command of the dispenser pending
+pub record IsIdle (s : State) : Type 0 where
+  pub empty : queue_at s Cash ≡ []
+  pub at_rest : IsAtRest s
+
 -- the dispenser has one pending command, which asks this and is as it was accepted; its client is connected
 pub record IsNext (s : State) (a : Command Job) (ask : CashAsk) (waiting : List (List ℕ)) : Type 0 where
   pub alone : queue_at s Cash ≡ a ∷ []

@@ -1,5 +1,6 @@
 -- A Dispense that its token covers, and a Present behind it, complete with success.
-use Rattle.std.specs.Prelude.{◌≡◌, ◌≤◌, ◌+◌, ◌*◌, ◌==◌, ◌++◌, ℕ, not, filter, length, List, [], ◌∷◌, Some, Ok}
+use Rattle.std.specs.Prelude.{◌≡◌, ◌≤◌, ◌+◌, ◌*◌, ◌==◌, ◌++◌, ℕ, not, filter, length, sum, List, [], ◌∷◌, Some, Ok}
+use Rattle.xfs_base.specs.Counts.{at}
 use Rattle.xfs_base.specs.declared.counts.Counts.{Counts}
 use Rattle.xfs_base.specs.declared.moment.Service.TheVariants.{Cash}
 use Rattle.xfs_dispenser.specs.Answers.{Answer, done, plain}
@@ -11,12 +12,12 @@ use Rattle.xfs_envelope.specs.declared.code.Code.TheVariants.{Success}
 use Rattle.xfs_guard.specs.Covered.{CanPresent}
 use Rattle.xfs_model.specs.Frames.{IsCompletion}
 use Rattle.xfs_model.specs.State.{queue_at}
-use Rattle.xfs_withdrawals.specs.Turning.{IsAtRest, IsConnected, IsNext, Turning}
+use Rattle.xfs_withdrawals.specs.Posted.{IsPosted}
+use Rattle.xfs_withdrawals.specs.Turning.{IsConnected, IsIdle, IsNext, Turning}
 
 -- the command is no longer pending; one completion came, with this answer, and nothing else, beside what waited before: its client was handed it, or it waits
 pub record IsCompleted (t : Turning) (answer : Answer) : Type 0 where
-  pub over : queue_at t.last Cash ≡ []
-  pub at_rest : IsAtRest t.last
+  pub over : IsIdle t.last
   pub completion : List ℕ
   pub completes : IsCompletion t.command.id t.command.job.name answer.code answer.payload completion
   pub left : List (List ℕ)
@@ -53,3 +54,26 @@ pub record IsDispensable (t : Turning) (notes : Notes) (token : List ℕ) : Type
 pub record IsPresentable (t : Turning) : Type 0 where
   pub next : IsNext t.start t.command Present t.waiting
   pub ready : CanPresent t.start.seen.guard
+
+-- a Dispense is turned; then a Present is posted while the outlet is empty, and is turned at least five times
+pub record Withdrawal : Type 0 where
+  pub dispense : Turning
+  pub present : Turning
+  pub posted : IsPosted Present dispense.last present.start
+  pub pending : queue_at present.start Cash ≡ present.command ∷ []
+  pub connected : IsConnected present.start present.command.client present.waiting
+  pub empty : sum present.start.seen.guard.places.outlet.0 ≡ 0
+  pub enough : 5 ≤ present.turns
+
+-- both are completed with success, and in the outlet lie these notes, with what lay on the transport before
+pub record IsWithdrawn (w : Withdrawal) (counts : Counts) : Type 0 where
+  pub dispensed : IsDispensed w.dispense counts
+  pub put_out : IsPutOut w.present
+  pub id : w.present.command.id ≡ w.posted.command.id
+  pub name : w.present.command.job.name ≡ w.posted.command.name
+  pub out : (u : ℕ) → at w.present.last.seen.guard.places.outlet u ≡ at w.dispense.start.seen.guard.places.transport u + at counts u
+
+-- so it is with some notes that were asked for, where the Dispense has its turns
+pub record IsWholeWithdrawal (w : Withdrawal) (notes : Notes) : Type 0 where
+  pub paid : IsPaidOut w.dispense notes
+  pub in_full : length paid.counts.0 ≡ 8 → 2 + 3 * units_with paid.counts ≤ w.dispense.turns → IsWithdrawn w paid.counts

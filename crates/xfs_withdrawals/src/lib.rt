@@ -2,15 +2,12 @@
 #![tactic(auto)]
 
 ghost use Rattle.std.specs.Prelude.{◌≤◌, ℕ, List};
-ghost use Rattle.xfs_base.specs.declared.moment.Moment.{Moment};
 ghost use Rattle.xfs_dispenser.specs.declared.ask.CashAsk.{CashAsk};
 ghost use Rattle.xfs_dispenser.specs.declared.notes.Notes.{Notes};
-ghost use Rattle.xfs_model.specs.Events.{done, post};
-ghost use Rattle.xfs_model.specs.State.{Pass, State};
-ghost use Rattle.xfs_model.specs.Step.{Step};
-ghost use Rattle.xfs_withdrawals.specs.Posted.{IsSaid, IsTaken};
-ghost use Rattle.xfs_withdrawals.specs.Turning.{Turning};
-ghost use Rattle.xfs_withdrawals.specs.Withdrawals.{IsDispensable, IsPaidOut, IsPresentable, IsPutOut};
+ghost use Rattle.xfs_model.specs.State.{State};
+ghost use Rattle.xfs_withdrawals.specs.Posted.{IsPosted, IsTaken};
+ghost use Rattle.xfs_withdrawals.specs.Turning.{IsIdle, Turning};
+ghost use Rattle.xfs_withdrawals.specs.Withdrawals.{IsDispensable, IsPaidOut, IsPresentable, IsPutOut, IsWholeWithdrawal, Withdrawal};
 
 use xfs_dispenser::dispenses_are_complete;
 
@@ -19,12 +16,13 @@ use xfs_dispenser::dispenses_are_complete;
 pub fn withdrawals_are_complete()
     ensures dispense { (t : Turning) (notes : Notes) (token : List ℕ) → IsDispensable t notes token → IsPaidOut t notes }
     ensures present { (t : Turning) → IsPresentable t → 5 ≤ t.turns → IsPutOut t }
+    ensures both { (w : Withdrawal) (notes : Notes) (token : List ℕ) → IsDispensable w.dispense notes token → IsWholeWithdrawal w notes }
 {
     dispenses_are_complete();
 }
 
-/// A command that a client says to a dispenser at rest is accepted, and is next: so the laws of a
+/// A command that a client posts to an idle dispenser is accepted, and is next: so the laws of a
 /// withdrawal are of every Dispense and Present that is posted so.
-pub fn commands_at_rest_are_next()
-    ensures { (s new : State) (pass : Pass) (text : List ℕ) (ask : CashAsk) (now : Moment) → (said : IsSaid s pass text ask) → Step s (post pass text now) done new → IsTaken s pass text ask said new }
+pub fn commands_to_an_idle_dispenser_are_next()
+    ensures { (ask : CashAsk) (s new : State) → IsIdle s → (posted : IsPosted ask s new) → IsTaken ask s new posted }
 {}
