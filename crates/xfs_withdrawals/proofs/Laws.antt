@@ -1,5 +1,5 @@
 -- A Dispense that its token covers is completed, and a Present.
-use Rattle.std.proofs.Common.{◌≡◌, ◌≤◌, ◌+◌, ◌*◌, ℕ, false, List, [], ◌∷◌, ◌++◌, length, Some, ap, sym, subst, ◌∙◌, arith, append_assoc}
+use Rattle.std.proofs.Common.{◌≡◌, ◌≤◌, ◌+◌, ◌*◌, ℕ, false, List, [], ◌∷◌, ◌++◌, All, length, Some, ap, sym, subst, ◌∙◌, arith, append_assoc}
 use Rattle.xfs_dispenser.specs.Answers.{Answer, done, plain, planned}
 use Rattle.xfs_dispenser.specs.Complete.{IsBegunInFull, IsComplete, IsGiven, IsPresented}
 use Rattle.xfs_dispenser.specs.Denominations.{denominated}
@@ -18,7 +18,7 @@ use Rattle.xfs_model.specs.Cases.{with_start}
 use Rattle.xfs_model.specs.State.{Job, cash}
 use Rattle.xfs_queue.specs.declared.command.Command.{Command}
 use Rattle.xfs_withdrawals.specs.Posted.{IsTaken}
-use Rattle.xfs_withdrawals.specs.Turning.{IsNext, Turning}
+use Rattle.xfs_withdrawals.specs.Turning.{IsNext, IsTyped, Turning}
 use Rattle.xfs_withdrawals.specs.Withdrawals.{IsCompleted, IsDispensable, IsDispensed, IsPaidOut, IsPresentable, IsPutOut, IsWholeWithdrawal, IsWithdrawn, Withdrawal, units_with}
 use Rattle.xfs_withdrawals.proofs.Lives.{AreOrders, stacks_are_orders, stacks_length}
 use Rattle.xfs_withdrawals.proofs.Posting.{taken}
@@ -30,6 +30,8 @@ use Rattle.std.proofs.lemmas.List.Folds.{sum_by-zero}
 use Rattle.xfs_model.specs.Posts.{job_of}
 use Rattle.xfs_queue.specs.Queue.{offered}
 use Rattle.xfs_queue.specs.declared.command.Line.TheVariants.{Device}
+use Rattle.std.proofs.lemmas.List.Elements.{All-head}
+use Rattle.xfs_model.specs.Results.{with_plan}
 
 module _ (complete : IsComplete) (t : Turning) where
   abbrev a : Command Job
@@ -75,16 +77,18 @@ module _ (complete : IsComplete) (t : Turning) where
       let b = begun_first ask d.next d.turned in
       let h = b.begun in
       let full = complete.dispense t.start.seen h.bound notes token h.after h.start d.next.at_rest.settled d.covered (calm-first t.start.seen h.bound t.last.seen (bound_later ask b) t.calm) h.begins in
-      record { counts = full.counts; given = full.given; in_full = λ eight enough. whole b full eight enough }
+      record { counts = full.counts; given = full.given; in_full = λ enough. whole b full enough }
     where
-      whole : (b : IsBegun a (Dispense notes (Some token)) t.last t.turns t.waiting t.frames t.start) (full : IsBegunInFull t.start.seen notes b.begun.bound b.begun.start) → length full.counts.0 ≡ 8 → 2 + 3 * units_with full.counts ≤ t.turns
+      whole : (b : IsBegun a (Dispense notes (Some token)) t.last t.turns t.waiting t.frames t.start) (full : IsBegunInFull t.start.seen notes b.begun.bound b.begun.start) → 2 + 3 * units_with full.counts ≤ t.turns
           → IsDispensed t full.counts
-      whole b full eight enough =
+      whole b full enough =
           let ask = Dispense notes (Some token) in
           let h = b.begun in
           let plan = dispense_plan full.issue full.counts in
           let many : length plan.parts.items ≡ units_with full.counts = stacks_length full.issue 1 full.counts.0 in
           let o = worked_through ask d.next b plan (3 * length plan.parts.items) full.plan h.begins.0 (stacks_are_orders full.issue 1 full.counts.0) (omega (arith, many, enough)) in
+          let typed : All IsTyped (with_plan plan false a ∷ []) = subst (λ q. All IsTyped q) (h.queue ∙ ap (λ s. with_start s a ∷ []) full.plan) b.typed in
+          let eight : length full.counts.0 ≡ 8 = All-head IsTyped (with_plan plan false a) [] typed in
           let calm = calm-first h.bound o.next t.last.seen o.later (calm-rest t.start.seen h.bound t.last.seen (start_later ask b) t.calm) in
           let given = full.done o.next o.went eight calm o.turns in
           let answered = o.answers (denominated t.start.seen.guard.units full.counts) given.is in
@@ -148,4 +152,4 @@ module _ (complete : IsComplete) (w : Withdrawal) where
   pub whole_withdrawal : (notes : Notes) (token : List ℕ) → IsDispensable w.dispense notes token → IsWholeWithdrawal w notes
   whole_withdrawal notes token d =
       let paid = paid_out complete w.dispense notes token d in
-      record { paid = paid; in_full = λ eight enough. withdrawn paid.counts (paid.in_full eight enough) }
+      record { paid = paid; in_full = λ enough. withdrawn paid.counts (paid.in_full enough) }

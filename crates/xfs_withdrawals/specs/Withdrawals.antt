@@ -15,6 +15,17 @@ use Rattle.xfs_model.specs.State.{queue_at}
 use Rattle.xfs_withdrawals.specs.Posted.{IsPosted}
 use Rattle.xfs_withdrawals.specs.Turning.{IsConnected, IsIdle, IsNext, Turning}
 
+-- a Dispense of these notes with this token is next and is turned, and nothing stands against it
+pub record IsDispensable (t : Turning) (notes : Notes) (token : List ℕ) : Type 0 where
+  pub next : IsNext t.start t.command (Dispense notes (Some token)) t.waiting
+  pub covered : CanGive t.start.seen.guard notes token
+  pub turned : 1 ≤ t.turns
+
+-- a Present is next, and nothing stands against it
+pub record IsPresentable (t : Turning) : Type 0 where
+  pub next : IsNext t.start t.command Present t.waiting
+  pub ready : CanPresent t.start.seen.guard
+
 -- the command is no longer pending; one completion came, with this answer, and nothing else, beside what waited before: its client was handed it, or it waits
 pub record IsCompleted (t : Turning) (answer : Answer) : Type 0 where
   pub over : IsIdle t.last
@@ -33,27 +44,16 @@ pub record IsDispensed (t : Turning) (counts : Counts) : Type 0 where
   pub completed : IsCompleted t (denominated t.start.seen.guard.units counts)
   pub moved : IsGiven t.start.seen counts t.last.seen (done (denominated t.start.seen.guard.units counts))
 
--- a Dispense gives some notes that were asked for, of eight counts; it is done in two turns and three for each unit of theirs
+-- a Dispense gives some notes that were asked for; it is done in two turns, and three for each unit that gives some
 pub record IsPaidOut (t : Turning) (notes : Notes) : Type 0 where
   pub counts : Counts
   pub given : NotesGiven t.start.seen.guard.units t.start.seen.guard.places.units notes (Ok counts)
-  pub in_full : length counts.0 ≡ 8 → 2 + 3 * units_with counts ≤ t.turns → IsDispensed t counts
+  pub in_full : 2 + 3 * units_with counts ≤ t.turns → IsDispensed t counts
 
 -- a Present is completed with success, and the whole transport went into the outlet
 pub record IsPutOut (t : Turning) : Type 0 where
   pub completed : IsCompleted t (plain Success)
   pub moved : IsPresented t.start.seen t.last.seen (done (plain Success))
-
--- a Dispense of these notes with this token is next and is turned, and nothing stands against it
-pub record IsDispensable (t : Turning) (notes : Notes) (token : List ℕ) : Type 0 where
-  pub next : IsNext t.start t.command (Dispense notes (Some token)) t.waiting
-  pub covered : CanGive t.start.seen.guard notes token
-  pub turned : 1 ≤ t.turns
-
--- a Present is next, and nothing stands against it
-pub record IsPresentable (t : Turning) : Type 0 where
-  pub next : IsNext t.start t.command Present t.waiting
-  pub ready : CanPresent t.start.seen.guard
 
 -- a Dispense is turned; then a Present is posted while the outlet is empty, and is turned at least five times
 pub record Withdrawal : Type 0 where
@@ -76,4 +76,4 @@ pub record IsWithdrawn (w : Withdrawal) (counts : Counts) : Type 0 where
 -- so it is with some notes that were asked for, where the Dispense has its turns
 pub record IsWholeWithdrawal (w : Withdrawal) (notes : Notes) : Type 0 where
   pub paid : IsPaidOut w.dispense notes
-  pub in_full : length paid.counts.0 ≡ 8 → 2 + 3 * units_with paid.counts ≤ w.dispense.turns → IsWithdrawn w paid.counts
+  pub in_full : 2 + 3 * units_with paid.counts ≤ w.dispense.turns → IsWithdrawn w paid.counts
