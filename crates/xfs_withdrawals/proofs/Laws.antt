@@ -22,7 +22,8 @@ use Rattle.xfs_withdrawals.specs.Turning.{IsNext, IsTyped, Turning}
 use Rattle.xfs_withdrawals.specs.Withdrawals.{IsCompleted, IsDispensable, IsDispensed, IsPaidOut, IsPresentable, IsPutOut, IsWholeWithdrawal, IsWithdrawn, Withdrawal, units_with}
 use Rattle.xfs_withdrawals.proofs.Lives.{AreOrders, stacks_are_orders, stacks_length}
 use Rattle.xfs_withdrawals.proofs.Posting.{taken}
-use Rattle.xfs_withdrawals.proofs.Runs.{IsAnswered, IsBegun, IsWorkedOn, begins_first, turned_later, worked_on}
+use Rattle.xfs_withdrawals.proofs.Steady.{steady, steady_later}
+use Rattle.xfs_withdrawals.proofs.Runs.{IsAnswered, IsBegun, IsWorkedOn, begins_first, worked_on}
 use Rattle.xfs_base.specs.Counts.{at}
 use Rattle.xfs_base.specs.declared.counts.Counts.{Counts}
 use Rattle.std.specs.Prelude.{◌==◌, sum}
@@ -40,7 +41,7 @@ module _ (complete : IsComplete) (t : Turning) where
   -- the first turn begins a command that is next
   begun_first : (ask : CashAsk) → IsNext t.start a ask t.waiting → 1 ≤ t.turns → IsBegun a ask t.last t.turns t.waiting t.frames t.start
   begun_first ask n some =
-      begins_first a ask t.last (ap (λ (c : Command Job). c.stage) n.accepted) (ap (λ (c : Command Job). c.line) n.accepted) (ap (λ (c : Command Job). c.job.ask) n.accepted) t.waiting t.turned some
+      begins_first a ask t.last (ap (λ (c : Command Job). c.stage) n.accepted) (ap (λ (c : Command Job). c.line) n.accepted) (ap (λ (c : Command Job). c.job.ask) n.accepted) t.waiting (steady a t.last t.calm t.turned) some
       (record { queue = n.alone; inactive = n.at_rest.inactive; connected = n.connected }) n.at_rest.settled
 
   -- its plan, all of orders, is worked on
@@ -54,7 +55,7 @@ module _ (complete : IsComplete) (t : Turning) where
 
   -- all is later than the first turn, and calm
   bound_later : (ask : CashAsk) (b : IsBegun a ask t.last t.turns t.waiting t.frames t.start) → IsLater b.begun.bound t.last.seen
-  bound_later ask b = subst (λ x. IsLater x t.last.seen) b.begun.seen (turned_later a t.last b.run)
+  bound_later ask b = subst (λ x. IsLater x t.last.seen) b.begun.seen (steady_later a t.last b.run)
 
   start_later : (ask : CashAsk) (b : IsBegun a ask t.last t.turns t.waiting t.frames t.start) → IsLater t.start.seen b.begun.bound
   start_later ask b = subst (λ x. IsLater t.start.seen x) b.begun.seen b.later

@@ -4,4 +4,5 @@ pub mod Mail
 pub mod Laws
 pub mod Posting
 pub mod Runs
+pub mod Steady
 pub mod Steps

@@ -14,29 +14,20 @@ use Rattle.xfs_dispenser.proofs.WorkLaws.{work-over}
 use Rattle.xfs_guard.specs.declared.open.Open.TheVariants.{No}
 use Rattle.xfs_model.specs.Cases.{with_went}
 use Rattle.xfs_model.specs.Conversations.{frames_after}
-use Rattle.xfs_model.specs.Events.{Answer as Told, Event, handed, outbox}
+use Rattle.xfs_model.specs.Events.{handed, outbox}
 use Rattle.xfs_model.specs.Frames.{IsCompletion}
 use Rattle.xfs_model.specs.Guards.{is_live}
 use Rattle.xfs_model.specs.Results.{outcome, with_plan}
 use Rattle.xfs_model.specs.State.{Job, State, cash, queue_at}
-use Rattle.xfs_model.specs.Step.{Step, at_moment}
-use Rattle.xfs_model.proofs.Advancing.{advances}
+use Rattle.xfs_model.specs.Step.{at_moment}
 use Rattle.xfs_queue.specs.declared.command.Command.{Command}
 use Rattle.xfs_queue.specs.declared.command.Line.TheVariants.{Device}
 use Rattle.xfs_queue.specs.declared.command.Stage.TheVariants.{Waiting}
-use Rattle.xfs_withdrawals.specs.Turning.{IsConnected, IsTyped, Turned, ended, hears, works}
+use Rattle.xfs_withdrawals.specs.Turning.{IsConnected, IsTyped}
 use Rattle.xfs_withdrawals.proofs.Choices.{answer_step, begin_step, plan_step, rest_step}
 use Rattle.xfs_withdrawals.proofs.Lives.{AreOrders, orders_keep_life}
+use Rattle.xfs_withdrawals.proofs.Steady.{Steady, ended, hears, later_by, steady_later, works}
 use Rattle.xfs_withdrawals.proofs.Steps.{HasBegun, Stands, answers_on, begins_on, does_work, hears_on, stands_later, works_on}
-
-later_by : (s new : State) (event : Event) (told_ : Told) → Step s event told_ new → IsLater s.seen new.seen
-later_by s new event told_ is = let on = advances s new event told_ is in record { mech = on.mech_faults; disk = on.disk_faults }
-
--- no count of faults falls
-pub turned_later : (a : Command Job) (last : State) {turns : ℕ} {s : State} {frames : List (List ℕ)} → Turned a last turns s frames → IsLater s.seen last.seen
-turned_later a last ended = later-same last.seen last.seen refl
-turned_later a last (hears {s = s} {middle = middle} pass given step run) = later-trans s.seen middle.seen last.seen (later_by s middle _ _ step) (turned_later a last run)
-turned_later a last (works {s = s} {middle = middle} now told_ some time step typed run) = later-trans s.seen middle.seen last.seen (later_by s middle _ _ step) (turned_later a last run)
 
 -- no command is pending in the end; what the client was handed, and then what waits, is all that came; and this is seen of the guard
 pub record IsOver (last : State) (client : ClientId) (frames all : List (List ℕ)) (seen : Seen) : Type 0 where
@@ -59,7 +50,7 @@ over_heard last client before frames later all seen next joined same o = record 
 }
 
 -- while none is pending, nothing is done
-rests : (a : Command Job) (last : State) (waiting : List (List ℕ)) {turns : ℕ} {s : State} {frames : List (List ℕ)} → Turned a last turns s frames → Stands s [] a.client waiting → s.seen.guard.open_order ≡ No
+rests : (a : Command Job) (last : State) (waiting : List (List ℕ)) {turns : ℕ} {s : State} {frames : List (List ℕ)} → Steady a last turns s frames → Stands s [] a.client waiting → s.seen.guard.open_order ≡ No
     → IsOver last a.client frames waiting s.seen
 rests a last waiting ended h none = record { queue = h.queue; inactive = h.inactive; left = waiting; connected = h.connected; came = refl; seen_is = refl }
 rests a last waiting (hears {s = s} {middle = middle} {frames = frames} pass given step run) h none =
@@ -89,7 +80,7 @@ answered_heard a answer last before frames later waiting seen next joined same o
 }
 
 -- a command that has its result is answered by the next turn
-answered : (a : Command Job) (plan left : Plan) (answer : Answer) (last : State) (waiting : List (List ℕ)) {turns : ℕ} {s : State} {frames : List (List ℕ)} → Turned a last turns s frames → 1 ≤ turns
+answered : (a : Command Job) (plan left : Plan) (answer : Answer) (last : State) (waiting : List (List ℕ)) {turns : ℕ} {s : State} {frames : List (List ℕ)} → Steady a last turns s frames → 1 ≤ turns
     → Stands s (with_went left false (done answer) (with_plan plan false a) ∷ []) a.client waiting → s.seen.guard.open_order ≡ No → IsAnswered a answer last waiting frames s.seen
 answered a plan left answer last waiting ended some h none = absurd (omega (arith, some))
 answered a plan left answer last waiting (hears {s = s} {middle = middle} {frames = frames} pass given step run) some h none =
@@ -158,9 +149,9 @@ answers_now m s middle plan left a answer last waiting frames does later o = rec
 }
 
 -- the plan of a running command, all of orders, is worked on
-pub worked_on : (a : Command Job) (last : State) → a.marked ≡ false → (m : ℕ) (plan : Plan) (waiting : List (List ℕ)) {turns : ℕ} {s : State} {frames : List (List ℕ)} → Turned a last turns s frames → suc m ≤ turns → AreOrders plan.parts.items
+pub worked_on : (a : Command Job) (last : State) → a.marked ≡ false → (m : ℕ) (plan : Plan) (waiting : List (List ℕ)) {turns : ℕ} {s : State} {frames : List (List ℕ)} → Steady a last turns s frames → suc m ≤ turns → AreOrders plan.parts.items
     → Stands s (with_plan plan false a ∷ []) a.client waiting → IsWorkedOn m s.seen plan a last waiting frames
-worked_on a last unmarked zero plan waiting {s = s} {frames = frames} run enough orders h = unworked s.seen plan a last waiting frames (turned_later a last run)
+worked_on a last unmarked zero plan waiting {s = s} {frames = frames} run enough orders h = unworked s.seen plan a last waiting frames (steady_later a last run)
 worked_on a last unmarked (suc m) plan waiting ended enough orders h = absurd (omega (arith, enough))
 worked_on a last unmarked (suc m) plan waiting (hears {s = s} {middle = middle} {frames = frames} pass given step run) enough orders h =
     let on = hears_on s pass given middle (with_plan plan false a ∷ []) a.client waiting step h in
@@ -181,7 +172,7 @@ worked_on a last unmarked (suc m) plan waiting (works {turns = turns} {s = s} {m
         → ((next : Plan) → AreOrders next.parts.items → Stands middle (with_plan next false a ∷ []) a.client waiting → IsWorkedOn m middle.seen next a last waiting frames) → IsWorkedOn (suc m) s.seen plan a last waiting frames
     go left more all does stands on = follow m s.seen middle.seen plan left a last waiting frames does (on left all stands)
     go left (done answer) all does stands on =
-        answers_now m s.seen middle.seen plan left a answer last waiting frames does (turned_later a last run)
+        answers_now m s.seen middle.seen plan left a answer last waiting frames does (steady_later a last run)
         (answered a plan left answer last waiting run (omega (arith, enough)) stands (work-over s.seen plan middle.seen left answer does))
 
 -- a command that waits is begun by the first turn, and so many follow
@@ -192,14 +183,14 @@ pub record IsBegun (a : Command Job) (ask : CashAsk) (last : State) (turns : ℕ
   pub frames_then : List (List ℕ)
   pub waiting_then : List (List ℕ)
   pub begun : HasBegun s a ask middle a.client waiting_then
-  pub run : Turned a last rest middle frames_then
+  pub run : Steady a last rest middle frames_then
   pub later : IsLater s.seen middle.seen
   pub typed : All IsTyped (queue_at middle Cash)
   pub turns_are : turns ≡ suc rest
   pub frames_are : frames ≡ before ++ frames_then
   pub waited : before ++ waiting_then ≡ waiting
 
-pub begins_first : (a : Command Job) (ask : CashAsk) (last : State) → a.stage ≡ Waiting → a.line ≡ Device → a.job.ask ≡ cash ask → (waiting : List (List ℕ)) {turns : ℕ} {s : State} {frames : List (List ℕ)} → Turned a last turns s frames → 1 ≤ turns
+pub begins_first : (a : Command Job) (ask : CashAsk) (last : State) → a.stage ≡ Waiting → a.line ≡ Device → a.job.ask ≡ cash ask → (waiting : List (List ℕ)) {turns : ℕ} {s : State} {frames : List (List ℕ)} → Steady a last turns s frames → 1 ≤ turns
     → Stands s (a ∷ []) a.client waiting → s.seen.guard.open_order ≡ No → IsBegun a ask last turns waiting frames s
 begins_first a ask last stage line asks waiting ended some h none = absurd (omega (arith, some))
 begins_first a ask last stage line asks waiting (hears {s = s} {middle = middle} {frames = frames} pass given step run) some h none =

@@ -11,8 +11,10 @@ ghost use Rattle.xfs_withdrawals.specs.Withdrawals.{IsDispensable, IsPaidOut, Is
 
 use xfs_dispenser::dispenses_are_complete;
 
-/// A Dispense that its token covers, and that is turned in time while no count of faults rises,
-/// completes with success. A Present against which nothing stands does so by five turns.
+/// A Dispense that its token covers completes with success by two turns and three for each unit
+/// that gives notes, where each turn is in time and no count of faults rises; a Present against
+/// which nothing stands does so by five. Of a Present that is posted behind a Dispense, while the
+/// outlet is empty, nothing more is asked. Turns that want memory are not counted.
 pub fn withdrawals_are_complete()
     ensures dispense { (t : Turning) (notes : Notes) (token : List ℕ) → IsDispensable t notes token → IsPaidOut t notes }
     ensures present { (t : Turning) → IsPresentable t → 5 ≤ t.turns → IsPutOut t }
