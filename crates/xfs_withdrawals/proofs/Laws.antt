@@ -1,7 +1,7 @@
 -- A Dispense that its token covers is completed, and a Present.
 use Rattle.std.proofs.Common.{◌≡◌, ◌≤◌, ◌+◌, ◌*◌, ℕ, false, List, [], ◌∷◌, ◌++◌, All, length, Some, ap, sym, subst, ◌∙◌, arith, append_assoc}
 use Rattle.xfs_dispenser.specs.Answers.{Answer, done, plain, planned}
-use Rattle.xfs_dispenser.specs.Complete.{IsBegunInFull, IsComplete, IsGiven, IsPresented}
+use Rattle.xfs_dispenser.specs.Complete.{IsBegunInFull, IsComplete, IsGiven, IsPresented, Turns}
 use Rattle.xfs_dispenser.specs.Denominations.{denominated}
 use Rattle.xfs_dispenser.specs.Plans.{dispense_plan, order_plan}
 use Rattle.xfs_dispenser.specs.Seen.{Seen}
@@ -19,7 +19,7 @@ use Rattle.xfs_model.specs.State.{Job, cash}
 use Rattle.xfs_queue.specs.declared.command.Command.{Command}
 use Rattle.xfs_withdrawals.specs.Posted.{IsTaken}
 use Rattle.xfs_withdrawals.specs.Turning.{IsNext, IsTyped, Turning}
-use Rattle.xfs_withdrawals.specs.Withdrawals.{IsCompleted, IsDispensable, IsDispensed, IsPaidOut, IsPresentable, IsPutOut, IsWholeWithdrawal, IsWithdrawn, Withdrawal, units_with}
+use Rattle.xfs_withdrawals.specs.Withdrawals.{IsCompleted, IsDispensable, IsDispensed, IsPaidOut, IsPresentable, IsPutOut, IsShown, IsWholeWithdrawal, IsWithdrawn, Withdrawal, units_with}
 use Rattle.xfs_withdrawals.proofs.Lives.{AreOrders, stacks_are_orders, stacks_length}
 use Rattle.xfs_withdrawals.proofs.Posting.{taken}
 use Rattle.xfs_withdrawals.proofs.Steady.{steady, steady_later}
@@ -33,6 +33,8 @@ use Rattle.xfs_queue.specs.Queue.{offered}
 use Rattle.xfs_queue.specs.declared.command.Line.TheVariants.{Device}
 use Rattle.std.proofs.lemmas.List.Elements.{All-head}
 use Rattle.xfs_model.specs.Results.{with_plan}
+use Rattle.xfs_withdrawals.proofs.Entries.{shown}
+use Rattle.xfs_guard.proofs.CoveredLaws.{present-free}
 
 module _ (complete : IsComplete) (t : Turning) where
   abbrev a : Command Job
@@ -104,11 +106,13 @@ module _ (complete : IsComplete) (t : Turning) where
       let h = b.begun in
       let o = worked_through Present d.next b (order_plan Ask.Present) 3 h.begins.2 h.begins.1 tt enough in
       let calm = calm-first t.start.seen o.next t.last.seen o.later t.calm in
+      let turns : Turns 3 t.start.seen (order_plan Ask.Present) o.next o.went = subst (λ x. Turns 3 x (order_plan Ask.Present) o.next o.went) h.begins.0 o.turns in
       let full = complete.present t.start.seen h.bound o.next h.after h.start o.went d.next.at_rest.settled d.ready calm h.begins o.turns in
       let moved = full.2 in
       let answered = o.answers (plain Success) moved.is in
       record {
         completed = completed_by Present b (plain Success) o.next answered;
+        shown = subst (λ x. IsShown t.start.seen x) (sym answered.over.seen_is) (shown t.start.seen o.next o.went d.next.at_rest.settled (present-free t.start.seen.guard d.ready) calm turns);
         moved = subst (λ x. IsPresented t.start.seen x (done (plain Success))) (sym answered.over.seen_is) (subst (λ w. IsPresented t.start.seen o.next w) moved.is moved);
       }
 

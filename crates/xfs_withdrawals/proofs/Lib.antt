@@ -1,6 +1,7 @@
 pub mod Choices
 pub mod Lives
 pub mod Mail
+pub mod Entries
 pub mod Laws
 pub mod Posting
 pub mod Runs

@@ -1,15 +1,19 @@
 -- A Dispense that its token covers, and a Present behind it, complete with success.
 use Rattle.std.specs.Prelude.{◌≡◌, ◌≤◌, ◌+◌, ◌*◌, ◌==◌, ◌++◌, ℕ, not, filter, length, sum, List, [], ◌∷◌, Some, Ok}
-use Rattle.xfs_base.specs.Counts.{at}
+use Rattle.xfs_base.specs.Counts.{at, IsZero}
 use Rattle.xfs_base.specs.declared.counts.Counts.{Counts}
+use Rattle.xfs_base.specs.declared.counts.Kind.TheVariants as Kind
 use Rattle.xfs_base.specs.declared.moment.Service.TheVariants.{Cash}
 use Rattle.xfs_dispenser.specs.Answers.{Answer, done, plain}
 use Rattle.xfs_dispenser.specs.Complete.{CanGive, IsGiven, IsPresented}
 use Rattle.xfs_dispenser.specs.Denominations.{NotesGiven, denominated}
+use Rattle.xfs_dispenser.specs.Seen.{Seen}
 use Rattle.xfs_dispenser.specs.declared.ask.CashAsk.TheVariants.{Dispense, Present}
 use Rattle.xfs_dispenser.specs.declared.notes.Notes.{Notes}
 use Rattle.xfs_envelope.specs.declared.code.Code.TheVariants.{Success}
 use Rattle.xfs_guard.specs.Covered.{CanPresent}
+use Rattle.xfs_mech.specs.Mechanism.{AddsEntry}
+use Rattle.xfs_mech.specs.declared.motion.Motion.TheVariants.{Moved}
 use Rattle.xfs_model.specs.Frames.{IsCompletion}
 use Rattle.xfs_model.specs.State.{queue_at}
 use Rattle.xfs_withdrawals.specs.Posted.{IsPosted}
@@ -50,8 +54,15 @@ pub record IsPaidOut (t : Turning) (notes : Notes) : Type 0 where
   pub given : NotesGiven t.start.seen.guard.units t.start.seen.guard.places.units notes (Ok counts)
   pub in_full : 2 + 3 * units_with counts ≤ t.turns → IsDispensed t counts
 
+-- the mechanism's list, where it tells one, gains one entry: that a Present, by the number of its record, moved all that lay on the transport
+pub record IsShown (s next : Seen) : Type 0 where
+  pub diverted : Counts
+  pub none : IsZero diverted
+  pub entry : AddsEntry s.guard.motions (Moved (length s.guard.records + 1) Kind.Present s.guard.places.transport diverted) next.guard.motions
+
 -- a Present is completed with success, and the whole transport went into the outlet
 pub record IsPutOut (t : Turning) : Type 0 where
+  pub shown : IsShown t.start.seen t.last.seen
   pub completed : IsCompleted t (plain Success)
   pub moved : IsPresented t.start.seen t.last.seen (done (plain Success))
 
