@@ -35,37 +35,39 @@ use Rattle.std.proofs.lemmas.List.Elements.{All-head}
 use Rattle.xfs_model.specs.Results.{with_plan}
 use Rattle.xfs_withdrawals.proofs.Entries.{shown}
 use Rattle.xfs_guard.proofs.CoveredLaws.{present-free}
+use Rattle.xfs_withdrawals.proofs.Steps.{itself}
 
 module _ (complete : IsComplete) (t : Turning) where
   abbrev a : Command Job
   a = t.command
 
   -- the first turn begins a command that is next
-  begun_first : (ask : CashAsk) → IsNext t.start a ask t.waiting → 1 ≤ t.turns → IsBegun a ask t.last t.turns t.waiting t.frames t.start
+  begun_first : (ask : CashAsk) → IsNext t.start a ask t.waiting → 1 ≤ t.turns → IsBegun t.start a ask t.last t.turns t.waiting t.frames t.start
   begun_first ask n some =
-      begins_first a ask t.last (ap (λ (c : Command Job). c.stage) n.accepted) (ap (λ (c : Command Job). c.line) n.accepted) (ap (λ (c : Command Job). c.job.ask) n.accepted) t.waiting (steady a t.last t.calm t.turned) some
-      (record { queue = n.alone; inactive = n.at_rest.inactive; connected = n.connected }) n.at_rest.settled
+      begins_first t.start a ask t.last (ap (λ (c : Command Job). c.stage) n.accepted) (ap (λ (c : Command Job). c.line) n.accepted) (ap (λ (c : Command Job). c.job.ask) n.accepted) t.waiting (steady a t.last t.calm t.turned) some
+      (record { queue = n.alone; inactive = n.at_rest.inactive; connected = n.connected; beside = itself t.start }) n.at_rest.settled
 
   -- its plan, all of orders, is worked on
-  worked_through : (ask : CashAsk) (n : IsNext t.start a ask t.waiting) (b : IsBegun a ask t.last t.turns t.waiting t.frames t.start) (plan : Plan) (m : ℕ) → b.begun.start ≡ planned plan → b.begun.after ≡ false → AreOrders plan.parts.items → 2 + m ≤ t.turns
-      → IsWorkedOn m b.begun.bound plan a t.last b.waiting_then b.frames_then
+  worked_through : (ask : CashAsk) (n : IsNext t.start a ask t.waiting) (b : IsBegun t.start a ask t.last t.turns t.waiting t.frames t.start) (plan : Plan) (m : ℕ) → b.begun.start ≡ planned plan → b.begun.after ≡ false → AreOrders plan.parts.items → 2 + m ≤ t.turns
+      → IsWorkedOn t.start m b.begun.bound plan a t.last b.waiting_then b.frames_then
   worked_through ask n b plan m starts after orders enough =
       let turns = b.turns_are in
-      subst (λ x. IsWorkedOn m x plan a t.last b.waiting_then b.frames_then) b.begun.seen
-      (worked_on a t.last (ap (λ (c : Command Job). c.marked) n.accepted) m plan b.waiting_then b.run (omega (arith, turns, enough)) orders
-      (record { queue = b.begun.queue ∙ ap (λ s. with_start s a ∷ []) starts; inactive = b.begun.exchange ∙ after; connected = b.begun.connected }))
+      subst (λ x. IsWorkedOn t.start m x plan a t.last b.waiting_then b.frames_then) b.begun.seen
+      (worked_on t.start a t.last (ap (λ (c : Command Job). c.marked) n.accepted) m plan b.waiting_then b.run (omega (arith, turns, enough)) orders
+      (record { queue = b.begun.queue ∙ ap (λ s. with_start s a ∷ []) starts; inactive = b.begun.exchange ∙ after; connected = b.begun.connected; beside = b.begun.beside }))
 
   -- all is later than the first turn, and calm
-  bound_later : (ask : CashAsk) (b : IsBegun a ask t.last t.turns t.waiting t.frames t.start) → IsLater b.begun.bound t.last.seen
+  bound_later : (ask : CashAsk) (b : IsBegun t.start a ask t.last t.turns t.waiting t.frames t.start) → IsLater b.begun.bound t.last.seen
   bound_later ask b = subst (λ x. IsLater x t.last.seen) b.begun.seen (steady_later a t.last b.run)
 
-  start_later : (ask : CashAsk) (b : IsBegun a ask t.last t.turns t.waiting t.frames t.start) → IsLater t.start.seen b.begun.bound
+  start_later : (ask : CashAsk) (b : IsBegun t.start a ask t.last t.turns t.waiting t.frames t.start) → IsLater t.start.seen b.begun.bound
   start_later ask b = subst (λ x. IsLater t.start.seen x) b.begun.seen b.later
 
   -- the command is completed where it was answered
-  completed_by : (ask : CashAsk) (b : IsBegun a ask t.last t.turns t.waiting t.frames t.start) (answer : Answer) (next : Seen) → IsAnswered a answer t.last b.waiting_then b.frames_then next → IsCompleted t answer
+  completed_by : (ask : CashAsk) (b : IsBegun t.start a ask t.last t.turns t.waiting t.frames t.start) (answer : Answer) (next : Seen) → IsAnswered t.start a answer t.last b.waiting_then b.frames_then next → IsCompleted t answer
   completed_by ask b answer next o = record {
     over = record { empty = o.over.queue; at_rest = record { settled = ap (λ (x : Seen). x.guard.open_order) o.over.seen_is ∙ o.settled; inactive = o.over.inactive } };
+    beside = o.over.beside;
     completion = o.completion;
     completes = o.completes;
     left = o.over.left;
@@ -82,7 +84,7 @@ module _ (complete : IsComplete) (t : Turning) where
       let full = complete.dispense t.start.seen h.bound notes token h.after h.start d.next.at_rest.settled d.covered (calm-first t.start.seen h.bound t.last.seen (bound_later ask b) t.calm) h.begins in
       record { counts = full.counts; given = full.given; in_full = λ enough. whole b full enough }
     where
-      whole : (b : IsBegun a (Dispense notes (Some token)) t.last t.turns t.waiting t.frames t.start) (full : IsBegunInFull t.start.seen notes b.begun.bound b.begun.start) → 2 + 3 * units_with full.counts ≤ t.turns
+      whole : (b : IsBegun t.start a (Dispense notes (Some token)) t.last t.turns t.waiting t.frames t.start) (full : IsBegunInFull t.start.seen notes b.begun.bound b.begun.start) → 2 + 3 * units_with full.counts ≤ t.turns
           → IsDispensed t full.counts
       whole b full enough =
           let ask = Dispense notes (Some token) in

@@ -15,7 +15,7 @@ use Rattle.xfs_guard.specs.Covered.{CanPresent}
 use Rattle.xfs_mech.specs.Mechanism.{AddsEntry}
 use Rattle.xfs_mech.specs.declared.motion.Motion.TheVariants.{Moved}
 use Rattle.xfs_model.specs.Frames.{IsCompletion}
-use Rattle.xfs_model.specs.State.{queue_at}
+use Rattle.xfs_model.specs.State.{State, queue_at, with_queue}
 use Rattle.xfs_withdrawals.specs.Posted.{IsPosted}
 use Rattle.xfs_withdrawals.specs.Turning.{IsConnected, IsIdle, IsNext, Turning}
 
@@ -30,9 +30,20 @@ pub record IsPresentable (t : Turning) : Type 0 where
   pub next : IsNext t.start t.command Present t.waiting
   pub ready : CanPresent t.start.seen.guard
 
+-- all but the guard, the exchange, the moment, the frames that wait and the commands of the dispenser is as it was
+pub record IsBeside (s last : State) : Type 0 where
+  pub life : last.life ≡ s.life
+  pub issued : last.issued ≡ s.issued
+  pub boot : last.boot ≡ s.boot
+  pub slot : last.slot ≡ s.slot
+  pub keypad : last.keypad ≡ s.keypad
+  pub given : last.given ≡ s.given
+  pub queues : with_queue last.queues Cash [] ≡ with_queue s.queues Cash []
+
 -- the command is no longer pending; one completion came, with this answer, and nothing else, beside what waited before: its client was handed it, or it waits
 pub record IsCompleted (t : Turning) (answer : Answer) : Type 0 where
   pub over : IsIdle t.last
+  pub beside : IsBeside t.start t.last
   pub completion : List ℕ
   pub completes : IsCompletion t.command.id t.command.job.name answer.code answer.payload completion
   pub left : List (List ℕ)
