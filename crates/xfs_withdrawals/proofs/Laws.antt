@@ -19,7 +19,8 @@ use Rattle.xfs_model.specs.State.{Job, cash}
 use Rattle.xfs_queue.specs.declared.command.Command.{Command}
 use Rattle.xfs_withdrawals.specs.Posted.{IsTaken}
 use Rattle.xfs_withdrawals.specs.Turning.{IsNext, IsTyped, Turning}
-use Rattle.xfs_withdrawals.specs.Withdrawals.{IsCompleted, IsDispensable, IsDispensed, IsPaidOut, IsPresentable, IsPutOut, IsShown, IsWholeWithdrawal, IsWithdrawn, Withdrawal, units_with}
+use Rattle.xfs_withdrawals.specs.Withdrawals.{IsCompleted, IsDispensable, IsDispensed, IsPaidOut, IsPresentable, IsPutOut, IsShown, IsWholeWithdrawal, IsWithdrawn, Withdrawal}
+use Rattle.xfs_dispenser.specs.Units.{units_with}
 use Rattle.xfs_withdrawals.proofs.Lives.{AreOrders, stacks_are_orders, stacks_length}
 use Rattle.xfs_withdrawals.proofs.Posting.{taken}
 use Rattle.xfs_withdrawals.proofs.Steady.{steady, steady_later}
@@ -84,14 +85,14 @@ module _ (complete : IsComplete) (t : Turning) where
       let full = complete.dispense t.start.seen h.bound notes token h.after h.start d.next.at_rest.settled d.covered (calm-first t.start.seen h.bound t.last.seen (bound_later ask b) t.calm) h.begins in
       record { counts = full.counts; given = full.given; in_full = λ enough. whole b full enough }
     where
-      whole : (b : IsBegun t.start a (Dispense notes (Some token)) t.last t.turns t.waiting t.frames t.start) (full : IsBegunInFull t.start.seen notes b.begun.bound b.begun.start) → 2 + 3 * units_with full.counts ≤ t.turns
+      whole : (b : IsBegun t.start a (Dispense notes (Some token)) t.last t.turns t.waiting t.frames t.start) (full : IsBegunInFull t.start.seen notes b.begun.bound b.begun.start) → 2 + 3 * length (units_with full.counts.0) ≤ t.turns
           → IsDispensed t full.counts
       whole b full enough =
           let ask = Dispense notes (Some token) in
           let h = b.begun in
           let plan = dispense_plan full.issue full.counts in
-          let many : length plan.parts.items ≡ units_with full.counts = stacks_length full.issue 1 full.counts.0 in
-          let o = worked_through ask d.next b plan (3 * length plan.parts.items) full.plan h.begins.0 (stacks_are_orders full.issue 1 full.counts.0) (omega (arith, many, enough)) in
+          let many : length plan.parts.items ≡ length (units_with full.counts.0) = stacks_length full.issue full.counts.0 in
+          let o = worked_through ask d.next b plan (3 * length plan.parts.items) full.plan h.begins.0 (stacks_are_orders full.issue full.counts.0) (omega (arith, many, enough)) in
           let typed : All IsTyped (with_plan plan false a ∷ []) = subst (λ q. All IsTyped q) (h.queue ∙ ap (λ s. with_start s a ∷ []) full.plan) b.typed in
           let eight : length full.counts.0 ≡ 8 = All-head IsTyped (with_plan plan false a) [] typed in
           let calm = calm-first h.bound o.next t.last.seen o.later (calm-rest t.start.seen h.bound t.last.seen (start_later ask b) t.calm) in

@@ -1,8 +1,11 @@
 -- The steps of orders leave the live nonce.
-use Rattle.std.proofs.Common.{◌≡◌, ◌⊎◌, ℕ, zero, suc, ◌+◌, ◌==◌, not, List, [], ◌∷◌, filter, length, refl, ap, inl, inr, arith, ne_eqb}
+use Rattle.std.proofs.Common.{◌≡◌, ◌⊎◌, ℕ, List, [], ◌∷◌, length, map, refl, ap, inl, inr}
 use Rattle.std.specs.Prelude.{⊤}
 use Rattle.xfs_dispenser.specs.Answers.{Went}
+use Rattle.std.proofs.lemmas.List.{length-map}
 use Rattle.xfs_dispenser.specs.Plans.{stacks}
+use Rattle.xfs_dispenser.specs.Units.{units_with}
+use Rattle.xfs_guard.specs.declared.ask.Ask.TheVariants.{Stack}
 use Rattle.xfs_dispenser.specs.Seen.{Seen}
 use Rattle.xfs_dispenser.specs.Steps.{DoesFirst, IsDenied, IsUnwritten, Works, WorksOn, order_record, refusal_of}
 use Rattle.xfs_dispenser.specs.declared.part.Part.{Part}
@@ -23,16 +26,16 @@ AreOrders [] = ⊤
 AreOrders (Order ask ∷ parts) = AreOrders parts
 AreOrders (part ∷ parts) = ⊥
 
-pub stacks_are_orders : (issue unit : ℕ) (counts : List ℕ) → AreOrders (stacks issue unit counts)
-stacks_are_orders issue unit [] = tt
-stacks_are_orders issue unit (zero ∷ counts) = stacks_are_orders issue (unit + 1) counts
-stacks_are_orders issue unit (suc n ∷ counts) = stacks_are_orders issue (unit + 1) counts
+mapped_are_orders : (issue : ℕ) (us : List (ℕ × ℕ)) → AreOrders (map (λ (u : ℕ × ℕ). Order (Stack issue u.0 u.1)) us)
+mapped_are_orders issue [] = tt
+mapped_are_orders issue (u ∷ us) = mapped_are_orders issue us
+
+pub stacks_are_orders : (issue : ℕ) (counts : List ℕ) → AreOrders (stacks issue counts)
+stacks_are_orders issue counts = mapped_are_orders issue (units_with counts)
 
 -- one for each unit with notes
-pub stacks_length : (issue unit : ℕ) (counts : List ℕ) → length (stacks issue unit counts) ≡ length (filter (λ n. not (n == 0)) counts)
-stacks_length issue unit [] = refl
-stacks_length issue unit (zero ∷ counts) = stacks_length issue (unit + 1) counts
-stacks_length issue unit (suc n ∷ counts) = rw (ne_eqb (suc n) 0 (λ e. omega (arith, e))) (ap suc (stacks_length issue (unit + 1) counts))
+pub stacks_length : (issue : ℕ) (counts : List ℕ) → length (stacks issue counts) ≡ length (units_with counts)
+stacks_length issue counts = length-map (units_with counts) (λ (u : ℕ × ℕ). Order (Stack issue u.0 u.1))
 
 -- the same nonce lives, and orders alone are left
 pub record KeepsLife (s next : Seen) (left : Plan) : Type 0 where

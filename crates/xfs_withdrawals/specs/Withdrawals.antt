@@ -1,5 +1,5 @@
 -- A Dispense that its token covers, and a Present behind it, complete with success.
-use Rattle.std.specs.Prelude.{◌≡◌, ◌≤◌, ◌+◌, ◌*◌, ◌==◌, ◌++◌, ℕ, not, filter, length, sum, List, [], ◌∷◌, Some, Ok}
+use Rattle.std.specs.Prelude.{◌≡◌, ◌≤◌, ◌+◌, ◌*◌, ◌++◌, ℕ, length, sum, List, [], ◌∷◌, Some, Ok}
 use Rattle.xfs_base.specs.Counts.{at, IsZero}
 use Rattle.xfs_base.specs.declared.counts.Counts.{Counts}
 use Rattle.xfs_base.specs.declared.counts.Kind.TheVariants as Kind
@@ -8,6 +8,7 @@ use Rattle.xfs_dispenser.specs.Answers.{Answer, done, plain}
 use Rattle.xfs_dispenser.specs.Complete.{CanGive, IsGiven, IsPresented}
 use Rattle.xfs_dispenser.specs.Denominations.{NotesGiven, denominated}
 use Rattle.xfs_dispenser.specs.Seen.{Seen}
+use Rattle.xfs_dispenser.specs.Units.{units_with}
 use Rattle.xfs_dispenser.specs.declared.ask.CashAsk.TheVariants.{Dispense, Present}
 use Rattle.xfs_dispenser.specs.declared.notes.Notes.{Notes}
 use Rattle.xfs_envelope.specs.declared.code.Code.TheVariants.{Success}
@@ -50,10 +51,6 @@ pub record IsCompleted (t : Turning) (answer : Answer) : Type 0 where
   pub connected : IsConnected t.last t.command.client left
   pub all : t.frames ++ left ≡ t.waiting ++ completion ∷ []
 
--- how many units have notes
-abbrev pub units_with : Counts → ℕ
-units_with counts = length (filter (λ n. not (n == 0)) counts.0)
-
 -- a Dispense is completed with success, and these notes went from the units to the transport
 pub record IsDispensed (t : Turning) (counts : Counts) : Type 0 where
   pub completed : IsCompleted t (denominated t.start.seen.guard.units counts)
@@ -63,7 +60,7 @@ pub record IsDispensed (t : Turning) (counts : Counts) : Type 0 where
 pub record IsPaidOut (t : Turning) (notes : Notes) : Type 0 where
   pub counts : Counts
   pub given : NotesGiven t.start.seen.guard.units t.start.seen.guard.places.units notes (Ok counts)
-  pub in_full : 2 + 3 * units_with counts ≤ t.turns → IsDispensed t counts
+  pub in_full : 2 + 3 * length (units_with counts.0) ≤ t.turns → IsDispensed t counts
 
 -- the mechanism's list, where it tells one, gains one entry: that a Present, by the number of its record, moved all that lay on the transport
 pub record IsShown (s next : Seen) : Type 0 where
@@ -98,4 +95,4 @@ pub record IsWithdrawn (w : Withdrawal) (counts : Counts) : Type 0 where
 -- so it is with some notes that were asked for, where the Dispense has its turns
 pub record IsWholeWithdrawal (w : Withdrawal) (notes : Notes) : Type 0 where
   pub paid : IsPaidOut w.dispense notes
-  pub in_full : 2 + 3 * units_with paid.counts ≤ w.dispense.turns → IsWithdrawn w paid.counts
+  pub in_full : 2 + 3 * length (units_with paid.counts.0) ≤ w.dispense.turns → IsWithdrawn w paid.counts
