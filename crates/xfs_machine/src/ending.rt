@@ -5,7 +5,8 @@ ghost use Rattle.xfs_dispenser.specs.Seen.{Seen, seen};
 ghost use Rattle.xfs_guard.specs.Keeps.{Keeps, NoEntry, Proceeds};
 ghost use Rattle.xfs_guard.specs.Recorded.{IsRecorded};
 ghost use Rattle.xfs_guard.specs.Stored.{IsStored, MayLeave};
-ghost use Rattle.xfs_guard.specs.declared.fail.BootFault.TheVariants.{Memory as BootMemory};
+ghost use Rattle.xfs_base.specs.Causes.{Rose};
+ghost use Rattle.xfs_guard.specs.declared.fail.BootFault.TheVariants.{Disk as BootDisk, Memory as BootMemory};
 ghost use Rattle.xfs_journal.specs.JournalView.{IsPossible};
 ghost use Rattle.xfs_journal.specs.declared.record.Rec.{Rec};
 ghost use Rattle.xfs_machine.specs.Answers.{finished};
@@ -37,6 +38,7 @@ impl<M: Mechanism, D: Disk> Machine<M, D> {
         ensures emptied { IfErr result (λ f. f ≢ BootMemory → self.new.state ≡ bare self.new.state.seen self.old.state.life self.old.state.boot) }
         ensures memory { result ≡ Err BootMemory → Step self.old.state restart memory self.new.state }
         ensures cause { IfErr result (λ f. RefusesAs f self.old.state.seen self.new.state.seen) }
+        ensures disk { result ≡ Err BootDisk → Rose (D.faults self.old.disk) (D.faults self.new.disk) }
         ensures keeps { Keeps D.Disk NoEntry (guard_of self.old) (guard_of self.new) }
     {
         let outcome = reboot(&mut self.guard);

@@ -1,9 +1,11 @@
 //! A guard's restart, and the end of its open order.
 
-ghost use Rattle.std.specs.Prelude.{◌≡◌, IfErr, OnOk, is_ok};
+ghost use Rattle.std.specs.Prelude.{◌≡◌, Err, IfErr, OnOk, is_ok};
+ghost use Rattle.xfs_base.specs.Causes.{Rose};
 ghost use Rattle.xfs_dispenser.specs.Seen.{seen};
 ghost use Rattle.xfs_guard.specs.Keeps.{Keeps, NoEntry, Proceeds};
 ghost use Rattle.xfs_guard.specs.Orders.{IsActed};
+ghost use Rattle.xfs_guard.specs.declared.fail.BootFault.TheVariants.{Disk as BootDisk};
 ghost use Rattle.xfs_machine.specs.Endings.{ClosesThrough, RefusesAs};
 ghost use Rattle.xfs_model.specs.Guards.{Closes, Reboots, SettlesOn};
 
@@ -15,6 +17,7 @@ use xfs_mech::Mechanism;
 pub(crate) fn reboot<M: Mechanism, D: Disk>(guard: &mut Guard<M, D>) -> Result<(), BootFault>
     ensures ok { OnOk result (Reboots (seen D.Disk guard.old) (seen D.Disk guard.new)) }
     ensures cause { IfErr result (λ f. RefusesAs f (seen D.Disk guard.old) (seen D.Disk guard.new)) }
+    ensures disk { result ≡ Err BootDisk → Rose (D.faults guard.old.disk) (D.faults guard.new.disk) }
     ensures keeps { Keeps D.Disk NoEntry guard.old guard.new }
 {
     guard.restore()
