@@ -4,6 +4,7 @@ use crate::counter::Call::{Amount, Clear, Dispense, Issue, Mint, Say, Taken, Tok
 use crate::counter::Counter;
 use std::test::Fail;
 use xfs_base::Milli;
+use xfs_journal::Limits;
 use xfs_simulated::LIMITS;
 use xfs_testbench::{GENUINE, guard_failing_within, guard_on};
 
@@ -259,6 +260,50 @@ fn a_shut_journal_is_told_before_the_token_is_looked_at(rt: HostRuntime) -> Resu
             Say("CashDispenser.Present", "{}"),
             "noCommandNonce {\"journalRecord\":3}",
         ),
+    ];
+    counter.answers(&rt, &rows)
+}
+
+// A journal of four records, of which three must be left: the Boot and the Issue fill it. A Boot finds room twice.
+#[test]
+fn a_full_journal_is_told_before_the_token_is_looked_at(rt: HostRuntime) -> Result<(), Fail> {
+    let limits = Limits {
+        records: 4,
+        bytes: LIMITS.bytes,
+    };
+    let guard = guard_failing_within(rt.alloc(), limits, &[])?;
+    let mut counter = Counter::new(rt.alloc(), guard);
+    let rows = [
+        (Issue, "done"),
+        (Issue, "fail"),
+        (Token(None), "done"),
+        (
+            Dispense("\"mix\":\"minimum\",\"denomination\":{\"currencies\":{\"GBP\":10}}"),
+            "deviceNotReady {}",
+        ),
+        (Say("CashDispenser.Present", "{}"), "deviceNotReady {}"),
+        (Say("CashDispenser.Reject", "{}"), "deviceNotReady {}"),
+        (Say("CashManagement.Retract", "{}"), "deviceNotReady {}"),
+        (Say("Storage.StartExchange", "{}"), "success {}"),
+        (
+            Say(
+                "Storage.SetStorage",
+                "{\"storage\":{\"unit5\":{\"added\":1}}}",
+            ),
+            "deviceNotReady {}",
+        ),
+        (Say("Storage.EndExchange", "{}"), "success {}"),
+        (
+            Say(
+                "CashDispenser.Denominate",
+                "{\"mix\":\"minimum\",\"denomination\":{\"currencies\":{\"EUR\":50}}}",
+            ),
+            "success {\"denomination\":{\"currencies\":{\"EUR\":50},\"values\":{\"unit3\":1}}}",
+        ),
+        (Say("CashManagement.Reset", "{}"), "success {}"),
+        (Say("CashDispenser.Present", "{}"), "deviceNotReady {}"),
+        (Say("CashManagement.Reset", "{}"), "success {}"),
+        (Say("CashManagement.Reset", "{}"), "deviceNotReady {}"),
     ];
     counter.answers(&rt, &rows)
 }

@@ -14,7 +14,7 @@ use xfs_dispenser::{Begun, CashAsk, CashFail, Notes, Plan, Progress, begin, read
 use xfs_envelope::Code;
 use xfs_guard::Guard;
 use xfs_json::parse;
-use xfs_mech::SimMech;
+use xfs_mech::Mechanism;
 use xfs_simulated::KEY;
 use xfs_token::{Amounts, make};
 
@@ -39,15 +39,15 @@ pub enum Call {
 
 /// A dispenser and its customer's token. A text of an answer is its code and its payload.
 #[derive(Drop)]
-pub struct Counter<D: Disk> {
+pub struct Counter<M: Mechanism, D: Disk> {
     alloc: Global,
-    guard: Guard<SimMech, D>,
+    guard: Guard<M, D>,
     exchange: bool,
     token: Option<Vec<u8>>,
 }
 
-impl<D: Disk> Counter<D> {
-    pub fn new(alloc: Global, guard: Guard<SimMech, D>) -> Counter<D> {
+impl<M: Mechanism, D: Disk> Counter<M, D> {
+    pub fn new(alloc: Global, guard: Guard<M, D>) -> Counter<M, D> {
         Counter {
             alloc,
             guard,
@@ -145,16 +145,16 @@ impl<D: Disk> Counter<D> {
     }
 }
 
-fn at_rest<D: Disk>(rt: &impl Abort, guard: &Guard<SimMech, D>)
+fn at_rest<M: Mechanism, D: Disk>(rt: &impl Abort, guard: &Guard<M, D>)
     ensures { guard.now.state.open_order ≡ No }
 {
     assert!(rt; !guard.ordering());
 }
 
 // A plan of at most 16 parts is over after 48 steps.
-fn worked<D: Disk>(
+fn worked<M: Mechanism, D: Disk>(
     alloc: Global,
-    guard: &mut Guard<SimMech, D>,
+    guard: &mut Guard<M, D>,
     plan: &mut Plan,
 ) -> Result<(Code, Value), Fail>
     requires { IsPlanned guard.old.state plan.old }
