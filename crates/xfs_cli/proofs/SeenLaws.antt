@@ -186,7 +186,7 @@ fault-through (Ok x) given fault err is = absurd err
 fault-through (Err e) given fault err is = ap (λ d. Err d) (sym err ∙ err-fault is)
 
 -- a restart was refused for this
-abbrev IsFault : BootFault → BootFault → Type 0
+abbrev pub IsFault : BootFault → BootFault → Type 0
 IsFault why fault = ◌≡◌ {A = Result (Unit {0}) BootFault} (Err why) (Err fault)
 
 -- a restart found no room for its Boot

@@ -1,5 +1,5 @@
 -- The command `guard` over its lines: what answers them, what want of memory leaves of one, and that it ends at a restart which is refused.
-use Rattle.std.specs.Prelude.{◌≡◌, ℕ, List, codes}
+use Rattle.std.specs.Prelude.{ℕ, List}
 use Rattle.std.proofs.Common.{arith, inl, refl}
 use Rattle.xfs_guard.proofs.ContinueLaws.{Continues-same}
 use Rattle.xfs_script.specs.Commands.{Command}
@@ -7,7 +7,7 @@ use Rattle.xfs_guard.specs.Continues.{Continues}
 use Rattle.xfs_guard.specs.declared.fail.BootFault.{BootFault}
 use Rattle.xfs_cli.specs.Begun.{IsBegun}
 use Rattle.xfs_cli.specs.GuardLines.{IsLine}
-use Rattle.xfs_cli.specs.RestartAnswers.{RestartFails}
+use Rattle.xfs_cli.specs.RestartAnswers.{EndsRestart}
 use Rattle.xfs_cli.specs.Seen.{Seen, IsLater}
 use Rattle.xfs_cli.specs.Complete.{AnswersInFull}
 
@@ -17,15 +17,8 @@ pub record LeavesGuard (s : Seen) (text : List ℕ) (end : Seen) : Type 0 where
   pub continues : Continues s.guard end.guard
   pub later : IsLater s end
 
--- the line is `restart`, which is refused for this, and goes on from what stood before it
-pub record EndsGuard (s : Seen) (text : List ℕ) (why : BootFault) (end : Seen) : Type 0 where
-  pub restart : text ≡ codes "restart"
-  pub fails : RestartFails s why end
-  pub continues : Continues s.guard end.guard
-  pub later : IsLater s end
-
 abbrev pub guard_lines : Command Seen BootFault
-guard_lines = record { IsLine = IsLine; Answers = AnswersInFull; Leaves = LeavesGuard; EndsAt = EndsGuard }
+guard_lines = record { IsLine = IsLine; Answers = AnswersInFull; Leaves = LeavesGuard; EndsAt = EndsRestart (λ (s : Seen). s) }
 
 -- want of memory may leave nothing of a line
 pub leaves-nothing : (s : Seen) (text : List ℕ) → LeavesGuard s text s

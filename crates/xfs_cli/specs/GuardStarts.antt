@@ -71,9 +71,3 @@ pub record IsStart (e : AtEntry) (start : Seen) : Type 0 where
   pub guard_is : start.guard ≡ opened e (records ++ Boot e.places ∷ [])
   pub later : e.disk_faults ≤ start.disk_faults
   pub none : start.last ≡ None
-
--- the lines are answered from there on
-pub record FromBoot (e : AtEntry) (Writes : Seen → Type 0) : Type 0 where
-  pub start : Seen
-  pub begins : IsStart e start
-  pub writes : Writes start

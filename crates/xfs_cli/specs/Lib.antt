@@ -12,8 +12,13 @@ pub mod LineAnswers
 pub mod Moments
 pub mod OrderAnswers
 pub mod Refused
+pub mod ReplayAnswers
+pub mod ReplayCommand
+pub mod ReplayRuns
+pub mod ReplayStates
 pub mod RestartAnswers
 pub mod Run
+pub mod Runs
 pub mod Seen
 pub mod Served
 pub mod Statuses

@@ -4,11 +4,12 @@ use Rattle.xfs_base.specs.Causes.{Rose}
 use Rattle.xfs_journal.specs.JournalView.{IsPossible, exceeds}
 use Rattle.xfs_journal.specs.declared.record.Rec.{Rec}
 use Rattle.xfs_journal.specs.declared.record.Rec.TheVariants.{Boot}
+use Rattle.xfs_guard.specs.Continues.{Continues}
 use Rattle.xfs_guard.specs.View.{View, restarted}
 use Rattle.xfs_guard.specs.declared.fail.BootFault.{BootFault}
 use Rattle.xfs_guard.specs.declared.fail.BootFault.TheVariants.{NotJournal, Disk, Full, Memory}
 use Rattle.xfs_cli.specs.Boots.{BootExceeds}
-use Rattle.xfs_cli.specs.Seen.{Seen, Becomes, IsStill}
+use Rattle.xfs_cli.specs.Seen.{Seen, Becomes, IsLater, IsStill}
 
 -- the journal is read as the kept list, or as that one with the record in doubt, and its Boot passes no limit; the token that was minted last stays
 pub record Restarts (s : Seen) (line : List ℕ) (next : Seen) : Type 0 where
@@ -40,3 +41,10 @@ RestartCause s Memory next = Becomes s s.guard next
 pub record RestartFails (s : Seen) (fault : BootFault) (next : Seen) : Type 0 where
   pub still : IsStill next.guard.motions next.guard.places next.guard.faults next.disk_faults s
   pub cause : RestartCause s fault next
+
+-- the line is `restart`, which is refused for this, and goes on from what stood before it; S is the state that lines are answered from, and `see` what is seen of it
+pub record EndsRestart {S : Type 0} (see : S → Seen) (s : S) (text : List ℕ) (why : BootFault) (end : S) : Type 0 where
+  pub restart : text ≡ codes "restart"
+  pub fails : RestartFails (see s) why (see end)
+  pub continues : Continues (see s).guard (see end).guard
+  pub later : IsLater (see s) (see end)

@@ -14,6 +14,9 @@ IsGuard words = IsWord (codes "guard") words
 abbrev pub IsToken : List (String Global) → Type 0
 IsToken words = IsWord (codes "token") words
 
+abbrev pub IsReplay : List (String Global) → Type 0
+IsReplay words = IsWord (codes "replay") words
+
 -- the words are of the table of commands
 abbrev pub IsCommand : List (String Global) → Type 0
-IsCommand words = IsGuard words ⊎ IsToken words
+IsCommand words = IsGuard words ⊎ (IsToken words ⊎ IsReplay words)

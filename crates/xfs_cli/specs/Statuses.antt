@@ -1,4 +1,4 @@
--- The statuses of the program, and when a run of `guard` ends with its input: where every line is one, the input is short enough, the journal has room for each Boot, and nothing failed.
+-- The statuses of the program, and when a run of a command that boots ends with its input: where every line is one, the input is short enough, the journal has room for each Boot, and nothing failed.
 use Rattle.std.specs.Prelude.{◌≡◌, ◌⊎◌, ℕ, ◌<◌, List, [], ◌∷◌, length, codes}
 use Rattle.std.specs.Io.KnownBytes.{IsAtEnd}
 use Rattle.xfs_base.specs.Causes.{IfTold, Rose}
@@ -7,12 +7,12 @@ use Rattle.xfs_journal.specs.declared.limits.Limits.{Limits}
 use Rattle.xfs_journal.specs.declared.record.Rec.{Rec}
 use Rattle.xfs_cli.specs.Boots.{BootExceeds}
 use Rattle.xfs_script.specs.Answered.{AnswersEach}
+use Rattle.xfs_script.specs.Commands.{Command}
 use Rattle.xfs_script.specs.Lines.{behind, first_line, first_lines, AllLines}
 use Rattle.xfs_script.specs.Reading.{GaveAll}
-use Rattle.xfs_cli.specs.GuardLines.{IsLine}
+use Rattle.xfs_guard.specs.declared.fail.BootFault.{BootFault}
 use Rattle.xfs_cli.specs.RestartAnswers.{HasNoRoom}
 use Rattle.xfs_cli.specs.Seen.{Seen}
-use Rattle.xfs_cli.specs.Complete.{AnswersInFull}
 use Rattle.xfs_cli.specs.Streams.{Streams}
 use Rattle.xfs_cli.specs.declared.status.TheConstants.{DISK_FAULT, INPUT_TOO_LONG, JOURNAL_FULL, NOT_A_JOURNAL, NOT_A_LINE, NO_MEMORY, READ_FAULT, READ_TO_END, USAGE, WRITE_FAULT}
 use Rattle.xfs_script.specs.declared.feed.TheConstants.{QUOTA}
@@ -33,24 +33,24 @@ pub record IsCaused (status : ℕ) (io : Streams) : Type 0 where
   pub write : status ≡ WRITE_FAULT → Rose io.write_faults io.write_faults_now
   pub quota : status ≡ INPUT_TOO_LONG → GaveAll io.input io.left
 
--- a line of the text is `restart`, and finds no room for its Boot behind the state that the lines before it left, answered from the start of the run on; Ends tells of that state
-pub record HasFullRestart (IsStartOf Ends : Seen → Type 0) (text : List ℕ) : Type 0 where
-  pub start : Seen
+-- a line of the text is `restart`, and finds no room for its Boot behind the state that the lines before it left, answered from the start of the run on; Ends tells of what is seen of that state
+pub record HasFullRestart {S : Type 0} (c : Command S BootFault) (see : S → Seen) (IsStartOf : S → Type 0) (Ends : Seen → Type 0) (text : List ℕ) : Type 0 where
+  pub start : S
   pub begins : IsStartOf start
   pub many : ℕ
   pub output : List (List ℕ)
-  pub last : Seen
-  pub each : AnswersEach AnswersInFull start (first_lines many text) output last
+  pub last : S
+  pub each : AnswersEach c.Answers start (first_lines many text) output last
   pub line : first_line (behind many text) ≡ codes "restart"
-  pub full : HasNoRoom last.guard
-  pub ends : Ends last
+  pub full : HasNoRoom (see last).guard
+  pub ends : Ends (see last)
 
 -- every line of the input is a line, the input is short enough, and the Boot passes no limit behind the records of the disk, nor does that of a restart which ends the run
-pub record IsUnhindered (IsStartOf Ends : Seen → Type 0) (text : List ℕ) (limits : Limits) (places : Places) (records : List Rec) : Type 0 where
-  pub lines : AllLines IsLine text
+pub record IsUnhindered (IsLineOf HasNoRoomAt : List ℕ → Type 0) (text : List ℕ) (limits : Limits) (places : Places) (records : List Rec) : Type 0 where
+  pub lines : AllLines IsLineOf text
   pub short : length text < QUOTA
   pub boots : ¬ (BootExceeds limits places records)
-  pub restarts : ¬ (HasFullRestart IsStartOf Ends text)
+  pub restarts : ¬ (HasNoRoomAt text)
 
 -- the input was read to its end, or memory ran out
 abbrev pub IsFinished : ℕ → Type 0

@@ -2,10 +2,16 @@
 #![tactic(auto)]
 
 mod answer;
+mod clients;
 mod ended;
 mod guard_command;
 mod last_line;
+mod mail;
+mod player;
 mod refused;
+mod replay_answer;
+mod replay_command;
+mod rest;
 mod say;
 mod serve;
 mod session;
@@ -15,9 +21,11 @@ mod token_answer;
 mod token_command;
 mod token_key;
 mod top;
+mod verbs;
 mod words;
 
 pub use ended::Ended;
 pub use guard_command::guard;
+pub use replay_command::replay;
 pub use token_command::token;
 pub use top::run;

@@ -46,6 +46,13 @@ pub fn ended(mut line: Vec<u8>) -> Result<Vec<u8>, Memory>
     Ok(line)
 }
 
+/// A line of two parts, and its line feed.
+pub fn line(alloc: Global, first: &[u8], second: &[u8]) -> Result<Vec<u8>, Memory>
+    ensures { IfOk result (λ text. text.items ≡ lines_text ((first.now ++ second.now) ∷ [])) }
+{
+    ended(joined(alloc, first, second)?)
+}
+
 /// The six places of each unit, a line a unit.
 pub fn show_text(alloc: Global, units: u8, places: &Places) -> Result<Vec<u8>, Memory>
     requires { units ≤ 8 }

@@ -4,7 +4,8 @@ ghost use Rattle.std.specs.Prelude.{◌≡◌, ◌↔◌, is_some};
 ghost use Rattle.xfs_mech.specs.Moves.{AddsUp};
 ghost use Rattle.xfs_cli.specs.GuardRuns.{RunsGuard};
 ghost use Rattle.xfs_cli.specs.Moments.{WasOnTheWayAll};
-ghost use Rattle.xfs_cli.specs.Run.{IsCommand, IsGuard, IsToken};
+ghost use Rattle.xfs_cli.specs.ReplayRuns.{RunsReplay};
+ghost use Rattle.xfs_cli.specs.Run.{IsCommand, IsGuard, IsReplay, IsToken};
 ghost use Rattle.xfs_cli.specs.Statuses.{IsCaused, IsStatus};
 ghost use Rattle.xfs_cli.specs.Streams.{streams};
 ghost use Rattle.xfs_cli.specs.TokenRuns.{IsKept, RunsToken, WritesUsage};
@@ -13,6 +14,7 @@ ghost use Rattle.xfs_cli.specs.Upholds.{AtRest, Starts, UpholdsAll};
 use crate::ended::Ended;
 use crate::guard_command::guard;
 use crate::last_line::usage;
+use crate::replay_command::replay;
 use crate::status::USAGE;
 use crate::token_command::token;
 use crate::words::is_word;
@@ -24,7 +26,7 @@ use xfs_mech::Mechanism;
 
 /// The program: the words of the command line, its input and output, and what it works on.
 ///
-/// The commands that are built are `guard` and `token`.
+/// The commands that are built are `guard`, `token` and `replay`.
 pub fn run<S: Source, K: Sink, M: Mechanism, D: Disk>(
     alloc: Global,
     words: &[String],
@@ -45,6 +47,7 @@ pub fn run<S: Source, K: Sink, M: Mechanism, D: Disk>(
 
     // What each command does.
     ensures guard { IsGuard words.now → RunsGuard M.Mechanism D.Disk core result (streams S.Source K.Sink source.old source.new sink.old sink.new) }
+    ensures replay { IsReplay words.now → RunsReplay M.Mechanism D.Disk core result (streams S.Source K.Sink source.old source.new sink.old sink.new) }
     ensures token { IsToken words.now → RunsToken core result (streams S.Source K.Sink source.old source.new sink.old sink.new) }
 
     // Words that are no command are told those that are; nothing is read, and mechanism and disk are as they were.
@@ -69,6 +72,9 @@ pub fn run<S: Source, K: Sink, M: Mechanism, D: Disk>(
     }
     if is_word(words, "token") {
         return token(alloc, words, source, sink, core);
+    }
+    if is_word(words, "replay") {
+        return replay(alloc, words, source, sink, core);
     }
     usage(sink);
     Ended {

@@ -141,6 +141,19 @@ pub fn run_on(
     told(alloc, ended.status, &sink, &ended.disk)
 }
 
+/// Runs `replay` on a script over main's bench, with this life of a nonce.
+pub fn replay_on(alloc: Global, script: &[u8], life: u32) -> Result<Written, Fail> {
+    let units = units()?;
+    let mech = sim_on(alloc, &units, Vec::new(alloc))?;
+    let mut source = MemSource::new(listed(alloc, script)?, Vec::new(alloc));
+    let mut sink = MemSink::new(alloc, Vec::new(alloc));
+    let mut core = core_on(mech, units, empty(alloc), LIMITS);
+    core.life = life;
+    let words = words_of(alloc, &["replay"])?;
+    let ended = run(alloc, words.as_slice(), &mut source, &mut sink, core);
+    told(alloc, ended.status, &sink, &ended.disk)
+}
+
 /// Runs `guard` on a script over main's bench, with these faults of the mechanism.
 pub fn guard_over(
     alloc: Global,

@@ -15,19 +15,20 @@ use Rattle.xfs_journal.specs.declared.limits.Limits.{Limits}
 use Rattle.xfs_cli.specs.Statuses.{HasFullRestart}
 use Rattle.xfs_guard.specs.declared.fail.BootFault.{BootFault}
 use Rattle.xfs_guard.specs.declared.fail.BootFault.TheVariants.{NotJournal, Disk, Full, Memory as BootMemory}
-use Rattle.xfs_cli.specs.RestartAnswers.{HasNoRoom, IsFull, RestartCause}
-use Rattle.xfs_cli.specs.GuardStarts.{AtEntry, FromBoot, IsStart, opened}
-use Rattle.xfs_cli.specs.GuardRuns.{IsEnd, IsFullAtEnd, IsStillAt}
+use Rattle.xfs_cli.specs.RestartAnswers.{EndsRestart, HasNoRoom, IsFull, RestartCause}
+use Rattle.xfs_cli.specs.GuardStarts.{AtEntry, IsStart, opened}
+use Rattle.xfs_cli.specs.Runs.{IsEnd, IsFullAtEnd, IsStillAt}
 use Rattle.xfs_cli.specs.Streams.{Streams}
 use Rattle.xfs_cli.specs.declared.ended.Ended.{Ended as EndedOf}
 use Rattle.xfs_disk.specs.declared.disk.Disk.{Ghosts as Disks}
 use Rattle.xfs_mech.specs.declared.mechanism.Mechanism.{Ghosts as Mechanisms}
-use Rattle.xfs_cli.specs.GuardCommand.{guard_lines}
+use Rattle.xfs_script.specs.Commands.{Command}
 use Rattle.xfs_cli.specs.Served.{EndsUnbooted, Serves, status_of}
 use Rattle.xfs_script.specs.Endings.{AnswersInput}
 use Rattle.xfs_script.specs.declared.answerer.Ending.TheVariants.{Ended}
 use Rattle.xfs_cli.proofs.EndingLaws.{is-boot}
 use Rattle.xfs_cli.specs.Seen.{Seen, IsStill, seen}
+use Rattle.xfs_script.specs.Lines.{behind, first_line}
 
 -- the last state is that of a guard which is over
 pub ends-at : {M D : Type 0} (m : Mechanisms M) (d : Disks D) (g : GuardView D) (last : Option (List ℕ)) (result : EndedOf M D)
@@ -66,19 +67,27 @@ full-then status Disk s end is cause twelve = absurd (omega (arith, is, twelve))
 full-then status Full s end is cause twelve = cause
 full-then status BootMemory s end is cause twelve = absurd (omega (arith, is, twelve))
 
+-- a command that ends at nothing but a restart which is refused
+abbrev pub EndsAtRestarts : {S : Type 0} → Command S BootFault → (S → Seen) → Type 0
+EndsAtRestarts {S} c see = (s : S) (text : List ℕ) (why : BootFault) (end : S) → c.EndsAt s text why end → EndsRestart see s text why end
+
 -- a run that ended at a refused restart, by its status
-pub failed-end : {A : Type 0} (Keeps : A → A → Type 0) (state : A → Seen) (start : A) (status : ℕ) (end : Seen) → ((a b : A) → Keeps a b → (state a).disk_faults ≤ (state b).disk_faults) → EndsUnbooted Keeps state guard_lines start status end
-    → status ≡ 6 → Rose (state start).disk_faults end.disk_faults
-failed-end Keeps state start status end later u six =
-    rose-later _ _ _ (later start u.after.before u.after.keeps) (failed-then status u.why (state u.after.before) end u.status_is u.after.ends.fails.cause six)
+module _ {S A : Type 0} (c : Command S BootFault) (see : S → Seen) (restarts : EndsAtRestarts c see) (Keeps : A → A → Type 0) (state : A → S) where
+  fails : (start : A) (status : ℕ) (end : S) (u : EndsUnbooted Keeps state c start status end) → RestartCause (see (state u.after.before)) u.why (see end)
+  fails start status end u = (restarts (state u.after.before) u.after.line u.why end u.after.ends).fails.cause
 
-pub untold-end : {A : Type 0} (Keeps : A → A → Type 0) (state : A → Seen) (start : A) (status : ℕ) (end : Seen) → ((a b : A) → Keeps a b → (state b).guard.disk_told ≡ (state a).guard.disk_told) → EndsUnbooted Keeps state guard_lines start status end
-    → status ≡ 7 → (state start).guard.disk_told ≡ false
-untold-end Keeps state start status end told u seven =
-    sym (told start u.after.before u.after.keeps) ∙ untold-then status u.why (state u.after.before) end u.status_is u.after.ends.fails.cause seven
+  pub failed-end : (start : A) (status : ℕ) (end : S) → ((a b : A) → Keeps a b → (see (state a)).disk_faults ≤ (see (state b)).disk_faults) → EndsUnbooted Keeps state c start status end
+      → status ≡ 6 → Rose (see (state start)).disk_faults (see end).disk_faults
+  failed-end start status end later u six =
+      rose-later _ _ _ (later start u.after.before u.after.keeps) (failed-then status u.why (see (state u.after.before)) (see end) u.status_is (fails start status end u) six)
 
-pub left-full : {A : Type 0} (Keeps : A → A → Type 0) (state : A → Seen) (start : A) (status : ℕ) (end : Seen) → EndsUnbooted Keeps state guard_lines start status end → status ≡ 12 → IsFull end.guard
-left-full Keeps state start status end u twelve = (full-then status u.why (state u.after.before) end u.status_is u.after.ends.fails.cause twelve).1
+  pub untold-end : (start : A) (status : ℕ) (end : S) → ((a b : A) → Keeps a b → (see (state b)).guard.disk_told ≡ (see (state a)).guard.disk_told) → EndsUnbooted Keeps state c start status end
+      → status ≡ 7 → (see (state start)).guard.disk_told ≡ false
+  untold-end start status end told u seven =
+      sym (told start u.after.before u.after.keeps) ∙ untold-then status u.why (see (state u.after.before)) (see end) u.status_is (fails start status end u) seven
+
+  pub left-full : (start : A) (status : ℕ) (end : S) → EndsUnbooted Keeps state c start status end → status ≡ 12 → IsFull (see end).guard
+  left-full start status end u twelve = (full-then status u.why (see (state u.after.before)) (see end) u.status_is (fails start status end u) twelve).1
 
 -- a guard whose Boot has no room leaves a disk that reads as its list
 pub full-end : (v : View) (limits : Limits) (places : Places) (held : Option (List ℕ)) (images : List ℕ → Type 0) → v.limits ≡ limits → places ≡ v.places
@@ -106,11 +115,6 @@ pub starts-run : {D : Type 0} (faults : D → ℕ) (g : GuardView D) (e : AtEntr
     → IfTold e.held (λ bytes. StandsFor bytes J) → g.state ≡ opened e (J ++ Boot e.places ∷ []) → e.disk_faults ≤ faults g.disk → IsStart e (seen faults g None)
 starts-run faults g e J stands is later = record { records = J; stands = stands; guard_is = is; later = later; none = refl }
 
--- the boot begins the session that its guard is seen as, from which the lines are answered
-pub from-boot : {D : Type 0} (faults : D → ℕ) (g : GuardView D) (e : AtEntry) (J : List Rec) (Writes : Seen → Type 0)
-    → IfTold e.held (λ bytes. StandsFor bytes J) → g.state ≡ opened e (J ++ Boot e.places ∷ []) → e.disk_faults ≤ faults g.disk → Writes (seen faults g None) → FromBoot e Writes
-from-boot faults g e J Writes stands is later writes = record { start = seen faults g None; begins = starts-run faults g e J stands is later; writes = writes }
-
 pub none-told : {T : Type 0} (held : Option T) → is_some held ≡ false → held ≡ None
 none-told None e = refl
 none-told (Some x) e = cc
@@ -132,16 +136,17 @@ ends-full Full limits places held io status is written full twelve = let f = ful
 ends-full BootMemory limits places held io status is written full twelve = absurd (omega (arith, is, twelve))
 
 -- under status 12 a restart found no room for its Boot
-pub full-line : (IsStartOf Still : Seen → Type 0) (start end : Seen) (status : ℕ) (io : Streams) → IsStartOf start
-    → ((s : Seen) → IsStill end.guard.motions end.guard.places end.guard.faults end.disk_faults s → Still s)
-    → IfTold io.input (Serves guard_lines start end status io) → status ≡ 12 → IfTold io.input (HasFullRestart IsStartOf Still)
-full-line IsStartOf Still start end status io begins more h twelve = told-more io.input _ _ (λ text h. go text h) h
+pub full-line : {S : Type 0} (c : Command S BootFault) (see : S → Seen) → EndsAtRestarts c see → (IsStartOf : S → Type 0) (Still : Seen → Type 0) (start end : S) (status : ℕ) (io : Streams) → IsStartOf start
+    → ((s : Seen) → IsStill (see end).guard.motions (see end).guard.places (see end).guard.faults (see end).disk_faults s → Still s)
+    → IfTold io.input (Serves c start end status io) → status ≡ 12 → IfTold io.input (HasFullRestart c see IsStartOf Still)
+full-line c see restarts IsStartOf Still start end status io begins more h twelve = told-more io.input _ _ (λ text h. go text h) h
   where
-    go : (text : List ℕ) → Serves guard_lines start end status io text → HasFullRestart IsStartOf Still text
+    go : (text : List ℕ) → Serves c start end status io text → HasFullRestart c see IsStartOf Still text
     go text h =
         let e = is-boot h.ending (inr (inr (sym h.status_is ∙ twelve))) in
-        let a : AnswersInput guard_lines (Ended e.0) start end io.left io.output h.answered text = rw e.1 at h.answers in
-        let full = full-then status e.0 a.last end (h.status_is ∙ ap status_of e.1) a.ends.0.fails.cause twelve in
+        let a : AnswersInput c (Ended e.0) start end io.left io.output h.answered text = rw e.1 at h.answers in
+        let r = restarts a.last (first_line (behind a.many text)) e.0 end a.ends.0 in
+        let full = full-then status e.0 (see a.last) (see end) (h.status_is ∙ ap status_of e.1) r.fails.cause twelve in
         record {
           start = start;
           begins = begins;
@@ -149,7 +154,7 @@ full-line IsStartOf Still start end status io begins more h twelve = told-more i
           output = a.output;
           last = a.last;
           each = a.each;
-          line = a.ends.0.restart;
+          line = r.restart;
           full = full.0;
-          ends = more a.last a.ends.0.fails.still;
+          ends = more (see a.last) r.fails.still;
         }

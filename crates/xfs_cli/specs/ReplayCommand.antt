@@ -1,0 +1,96 @@
+-- The command `replay` over its lines: what answers them, what want of memory leaves of one, and that it ends at a restart which is refused.
+use Rattle.std.specs.Prelude.{◌≡◌, ◌≤◌, ◌⊎◌, ℕ, zero, suc, List, [], ◌∷◌, ◌++◌, length, map}
+use Rattle.std.specs.Option.{option_to_list}
+use Rattle.std.proofs.Common.{arith, inl, refl}
+use Rattle.xfs_base.specs.declared.moment.Moment.{Moment}
+use Rattle.xfs_disk.specs.declared.disk.Disk.{Ghosts as Disks}
+use Rattle.xfs_mech.specs.declared.mechanism.Mechanism.{Ghosts as Mechanisms}
+use Rattle.xfs_guard.proofs.ContinueLaws.{Continues-same}
+use Rattle.xfs_guard.specs.Continues.{Continues}
+use Rattle.xfs_guard.specs.declared.fail.BootFault.{BootFault}
+use Rattle.xfs_script.specs.Commands.{Command}
+use Rattle.xfs_script.specs.ReplayLines.{IsReplayLine}
+use Rattle.xfs_script.specs.declared.replay_line.ReplayLine.{ReplayLine}
+use Rattle.xfs_script.specs.declared.replay_line.ReplayLine.TheVariants.{Rest}
+use Rattle.xfs_model.specs.Events.{Event, Answer, work, outbox}
+use Rattle.xfs_model.specs.State.{State}
+use Rattle.xfs_model.specs.Step.{Step}
+use Rattle.xfs_cli.specs.RestartAnswers.{EndsRestart, RestartFails}
+use Rattle.xfs_cli.specs.Seen.{IsLater}
+use Rattle.xfs_cli.specs.ReplayStates.{Played, ReplayState, seen_of, state_in}
+use Rattle.xfs_cli.specs.declared.clients.Client.{Client}
+use Rattle.xfs_cli.specs.declared.player.Player.{Player}
+use Rattle.xfs_cli.specs.ReplayAnswers.{AnswersReplay, event_of, round}
+use Rattle.xfs_script.specs.declared.feed.TheConstants.{LONGEST_LINE}
+
+-- a line of at most 70,000 bytes that writes a verb
+pub record IsLine (text : List ℕ) : Type 0 where
+  pub verb : ReplayLine
+  pub reads : IsReplayLine text verb
+  pub short : length text ≤ LONGEST_LINE
+
+-- one event happens, and then what Rest says
+pub record StepsThen (Rest : State → Type 0) (s : State) (event : Event) (answer : Answer) : Type 0 where
+  pub between : State
+  pub step : Step s event answer between
+  pub rest : Rest between
+
+-- events happen one after another, each with its answer
+abbrev pub Steps : State → List (Event × Answer) → State → Type 0
+Steps s [] new = new ≡ s
+Steps s (e ∷ es) new = StepsThen (λ between. Steps between es new) s e.0 e.1
+
+-- the first of these events happened, each with its answer; what is left of them didn't
+pub record HappensInPart (events : List Event) (s end : State) : Type 0 where
+  pub happened : List (Event × Answer)
+  pub left : List Event
+  pub are : events ≡ map (λ e. e.0) happened ++ left
+  pub steps : Steps s happened end
+
+-- a step of work at each service of a round, so many times
+abbrev pub rounds : ℕ → Moment → List Event
+rounds zero now = []
+rounds (suc n) now = map (λ at. work at now) round ++ rounds n now
+
+-- the first of a verb's events happened: of a rest, of so many rounds
+abbrev pub IsPartDone : Played → ReplayLine → Played → Type 0
+IsPartDone s Rest end = (n : ℕ) × HappensInPart (rounds n s.now) s.machine end.machine
+IsPartDone s verb end = HappensInPart (option_to_list (event_of s verb)) s.machine end.machine
+
+-- the restart of a player is refused for this
+abbrev pub IsRestartRefused : {M D : Type 0} {m : Mechanisms M} {d : Disks D} → (D → ℕ) → Player M D m d → BootFault → Player M D m d → Type 0
+IsRestartRefused faults old why new = RestartFails (seen_of (state_in faults old)) why (seen_of (state_in faults new))
+
+-- the first of the clients were handed the frames that waited for them
+abbrev pub IsPartMailed : List Client → State → State → Type 0
+IsPartMailed clients s end = HappensInPart (map (λ c. outbox c.pass) clients) s end
+
+-- the first events of a line's verb happened, and then the first of the clients were handed their frames
+pub record IsBegun (s : Played) (text : List ℕ) (end : Played) : Type 0 where
+  pub verb : ReplayLine
+  pub reads : IsReplayLine text verb
+  pub short : length text ≤ LONGEST_LINE
+  pub between : Played
+  pub done : IsPartDone s verb between
+  pub mailed : IsPartMailed between.clients between.machine end.machine
+
+-- want of memory leaves nothing of a line, or a front of it, and goes on from what stood before it
+pub record LeavesReplay (s : ReplayState) (text : List ℕ) (end : ReplayState) : Type 0 where
+  pub begun : (end ≡ s) ⊎ IsBegun s.played text end.played
+  pub continues : Continues s.played.machine.seen.guard end.played.machine.seen.guard
+  pub later : IsLater (seen_of s) (seen_of end)
+
+-- the lines are answered by the player
+abbrev pub AnswersLine : ReplayState → List ℕ → List (List ℕ) → ReplayState → Type 0
+AnswersLine s text output next = AnswersReplay s.played text output next.played
+
+abbrev pub replay_lines : Command ReplayState BootFault
+replay_lines = record { IsLine = IsLine; Answers = AnswersLine; Leaves = LeavesReplay; EndsAt = EndsRestart seen_of }
+
+-- want of memory may leave nothing of a line
+pub leaves-none : (s : ReplayState) (text : List ℕ) → LeavesReplay s text s
+leaves-none s text = record { begun = inl refl; continues = Continues-same s.played.machine.seen.guard; later = record { mech = omega arith; disk = omega arith } }
+
+-- what is answered is a line
+pub is-replay-line : (s next : ReplayState) (text : List ℕ) (output : List (List ℕ)) → AnswersLine s text output next → IsLine text
+is-replay-line s next text output a = record { verb = a.verb; reads = a.reads; short = a.short }

@@ -1,0 +1,56 @@
+-- What the lines of `replay` are answered from: a machine, and what the script keeps beside it.
+use Rattle.std.specs.Prelude.{ℕ, ◌==◌, nat_lt, List, find, is_some, Bool}
+use Rattle.std.specs.List.{insert, remove, position_or_len}
+use Rattle.std.specs.declared.option.Option.{Option}
+use Rattle.std.specs.Option.{option_map}
+use Rattle.xfs_base.specs.declared.moment.Moment.{Moment}
+use Rattle.xfs_disk.specs.declared.disk.Disk.{Ghosts as Disks}
+use Rattle.xfs_mech.specs.declared.mechanism.Mechanism.{Ghosts as Mechanisms}
+use Rattle.xfs_model.specs.State.{Pass, State}
+use Rattle.xfs_cli.specs.Seen.{Seen}
+use Rattle.xfs_cli.specs.declared.clients.Client.{Client}
+use Rattle.xfs_cli.specs.declared.player.Player.{Player}
+
+-- the machine; the clients that are joined, their numbers rising; the moment of the calls to come; and the token that was minted last
+pub record Played : Type 0 where
+  pub machine : State
+  pub clients : List Client
+  pub now : Moment
+  pub last : Option (List ℕ)
+
+-- the same of what answers the lines
+abbrev pub played : {M D : Type 0} {m : Mechanisms M} {d : Disks D} → Player M D m d → Played
+played p = record { machine = p.machine.state; clients = p.clients; now = p.now; last = p.last }
+
+-- the same, and how often the disk of its journal failed
+pub record ReplayState : Type 0 where
+  pub played : Played
+  pub disk_faults : ℕ
+
+abbrev pub state_in : {M D : Type 0} {m : Mechanisms M} {d : Disks D} → (D → ℕ) → Player M D m d → ReplayState
+state_in faults p = record { played = played p; disk_faults = faults p.machine.disk }
+
+-- what a run of `guard` would see of it: the guard, how often its disk failed, and the last token
+abbrev pub seen_of : ReplayState → Seen
+seen_of s = record { guard = s.played.machine.seen.guard; disk_faults = s.disk_faults; last = s.played.last }
+
+abbrev pub is_number : ℕ → Client → Bool
+is_number number client = client.number == number
+
+abbrev pub is_above : ℕ → Client → Bool
+is_above number client = nat_lt number client.number
+
+-- the pass of a number, where it is joined
+abbrev pub pass_of : List Client → ℕ → Option Pass
+pass_of clients number = option_map (λ c. c.pass) (find (is_number number) clients)
+
+abbrev pub is_joined : List Client → ℕ → Bool
+is_joined clients number = is_some (pass_of clients number)
+
+-- the clients with one more, before the first of a higher number
+abbrev pub with_client : List Client → Client → List Client
+with_client clients client = insert clients (position_or_len (is_above client.number) clients) client
+
+-- the clients without the one of a number
+abbrev pub without_client : List Client → ℕ → List Client
+without_client clients number = remove clients (position_or_len (is_number number) clients)

@@ -1,0 +1,56 @@
+//! A line of `replay` and its answer.
+
+use crate::player::Player;
+use crate::session::AnswerFault;
+use xfs_disk::Disk;
+use xfs_guard::BootFault;
+use xfs_mech::Mechanism;
+use xfs_script::{Answerer, ScriptFault, Unanswered, read_replay};
+
+impl<M: Mechanism, D: Disk> Answerer for Player<M, D> {
+    ghost use Rattle.std.specs.Prelude.{⊤};
+    ghost use Rattle.xfs_guard.proofs.KeepsLaws.{Proceeds-same, Proceeds-trans};
+    ghost use Rattle.xfs_guard.specs.Keeps.{Proceeds};
+    ghost use Rattle.xfs_machine.specs.MachineView.{guard_of};
+    ghost use Rattle.xfs_cli.specs.ReplayCommand.{replay_lines, leaves-none, is-replay-line};
+    ghost use Rattle.xfs_cli.specs.ReplayStates.{ReplayState, state_in};
+
+    type End = BootFault;
+
+    ghost State = { ReplayState };
+
+    ghost state = { state_in D.faults };
+
+    ghost command = { replay_lines };
+
+    ghost IsReady = { λ p. ⊤ };
+
+    ghost Keeps = { λ old new. Proceeds D.Disk (guard_of old.machine) (guard_of new.machine) };
+
+    fn answer(&mut self, line: &[u8]) -> Result<Vec<u8>, Unanswered<BootFault>> {
+        let verb = match read_replay(self.alloc, line) {
+            Ok(verb) => verb,
+            Err(ScriptFault::NotALine) => return Err(Unanswered::NotALine),
+            Err(ScriptFault::Memory) => return Err(Unanswered::Memory),
+        };
+        let text = match self.answer_verb(verb) {
+            Ok(text) => text,
+            Err(AnswerFault::Unbooted(fault)) => return Err(Unanswered::Ends(fault)),
+            Err(AnswerFault::Memory) => return Err(Unanswered::Memory),
+        };
+        match self.mail(text) {
+            Ok(text) => Ok(text),
+            Err(_) => Err(Unanswered::Memory),
+        }
+    }
+
+    ghost keeps_same = { λ p. Proceeds-same D.Disk.own (guard_of p.machine) D.only_now };
+
+    ghost keeps_then = { λ a b c first then. Proceeds-trans D.Disk.own _ _ _ D.counts_now first then };
+
+    ghost leaves_same = { leaves-none };
+
+    ghost is_short = { λ line is. is.short };
+
+    ghost is_line = { is-replay-line };
+}

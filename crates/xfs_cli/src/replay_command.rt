@@ -1,0 +1,83 @@
+//! The command `replay`.
+
+ghost use Rattle.std.specs.Prelude.{◌≡◌, ◌↔◌, is_some};
+ghost use Rattle.xfs_mech.specs.Moves.{AddsUp};
+ghost use Rattle.xfs_cli.specs.Moments.{WasOnTheWayAll};
+ghost use Rattle.xfs_cli.specs.ReplayRuns.{RunsReplay};
+ghost use Rattle.xfs_cli.specs.Run.{IsReplay};
+ghost use Rattle.xfs_cli.specs.Statuses.{IsCaused, IsStatus};
+ghost use Rattle.xfs_cli.specs.Streams.{streams};
+ghost use Rattle.xfs_cli.specs.TokenRuns.{IsKept, WritesUsage};
+ghost use Rattle.xfs_cli.specs.Upholds.{AtRest, Starts, UpholdsAll};
+
+use crate::clients::Clients;
+use crate::ended::Ended;
+use crate::last_line::{unbooted, usage};
+use crate::player::Player;
+use crate::serve::serve;
+use crate::status::USAGE;
+use crate::token_key::TokenKey;
+use crate::words::is_word;
+use std::alloc::Global;
+use xfs_base::{Moment, Sink, Source};
+use xfs_disk::Disk;
+use xfs_guard::{BootFail, Core};
+use xfs_machine::{Machine, Tally};
+use xfs_mech::Mechanism;
+
+/// Reads replay lines and answers each of them from a machine, before the next line is read.
+pub fn replay<S: Source, K: Sink, M: Mechanism, D: Disk>(
+    alloc: Global,
+    words: &[String],
+    source: &mut S,
+    sink: &mut K,
+    core: Core<M, D>,
+) -> Ended<M, D>
+    requires units { M.units core.mech ≡ core.units }
+    requires starts { Starts M.Mechanism D.Disk core }
+    requires at_rest { AtRest D.Disk core.disk }
+    ensures upholds { UpholdsAll M.Mechanism D.Disk core result }
+    ensures any_moment { WasOnTheWayAll M.Mechanism D.Disk core result }
+    ensures runs { IsReplay words.now → RunsReplay M.Mechanism D.Disk core result (streams S.Source K.Sink source.old source.new sink.old sink.new) }
+    ensures usage { (result.status ≡ USAGE) ↔ ¬ (IsReplay words.now) }
+    ensures usage_written { result.status ≡ USAGE → WritesUsage (streams S.Source K.Sink source.old source.new sink.old sink.new) }
+    ensures unread { result.status ≡ USAGE → source.new ≡ source.old }
+    ensures idle { result.status ≡ USAGE → IsKept core result }
+    ensures statuses { IsStatus result.status }
+    ensures causes { IsCaused result.status (streams S.Source K.Sink source.old source.new sink.old sink.new) }
+    ensures adds { AddsUp (M.motions core.mech) (M.motions result.mech) (M.places core.mech) (M.places result.mech) }
+    ensures units { M.units result.mech ≡ core.units }
+    ensures told { is_some (M.motions result.mech) ≡ is_some (M.motions core.mech) }
+    ensures told_disk { is_some (D.held result.disk) ≡ is_some (D.held core.disk) }
+{
+    if !is_word(words, "replay") {
+        usage(sink);
+        return Ended {
+            status: USAGE,
+            mech: core.mech,
+            disk: core.disk,
+        };
+    }
+    let key = core.key;
+    match Machine::boot(alloc, core) {
+        Ok(machine) => {
+            let mut player = Player {
+                alloc,
+                machine,
+                key: TokenKey::new(key),
+                clients: Clients::new(alloc),
+                now: Moment(0),
+                last: None,
+                tally: Tally::new(),
+            };
+            let status = serve(alloc, &mut player, source, sink);
+            let (mech, disk) = player.machine.end();
+            Ended { status, mech, disk }
+        }
+        Err(BootFail { why, mech, disk }) => Ended {
+            status: unbooted(sink, why),
+            mech,
+            disk,
+        },
+    }
+}

@@ -1,0 +1,216 @@
+//! What the machine answers to a line of `replay`.
+
+ghost use Rattle.std.specs.Prelude.{◌≡◌, ◌≤◌, ◌∷◌, ◌++◌, [], codes, Err, IfOk, OnErr, OnOk};
+ghost use Rattle.xfs_base.specs.declared.moment.Moment.{Moment};
+ghost use Rattle.xfs_base.specs.declared.moment.TheConstants.{LAST_MOMENT};
+ghost use Rattle.xfs_guard.specs.Keeps.{Proceeds};
+ghost use Rattle.xfs_guard.specs.declared.fail.BootFault.{BootFault};
+ghost use Rattle.xfs_machine.specs.MachineView.{guard_of};
+ghost use Rattle.xfs_model.specs.Events.{touch as touched_by};
+ghost use Rattle.xfs_script.specs.Answered.{Tells, lines_text};
+ghost use Rattle.xfs_script.specs.declared.replay_line.ReplayLine.TheVariants as verbs;
+ghost use Rattle.xfs_cli.specs.ReplayAnswers.{AnswersVerb, IsTouched, filled, token_bytes};
+ghost use Rattle.xfs_cli.specs.ReplayCommand.{HappensInPart, IsPartDone, IsRestartRefused};
+ghost use Rattle.xfs_cli.specs.ReplayStates.{played};
+
+use crate::player::Player;
+use crate::session::AnswerFault;
+use crate::text::{line, show_text};
+use itoa::Buffer;
+use std::alloc::{AllocError, Global};
+use xfs_base::{Bytes, Memory, Service};
+use xfs_disk::Disk;
+use xfs_machine::{JoinFault, Touched, Work};
+use xfs_mech::{Mechanism, Touch};
+use xfs_script::{ReplayLine, counts_text};
+use xfs_token::Amounts;
+
+impl<M: Mechanism, D: Disk> Player<M, D> {
+    /// What a verb is answered: the lines of the answer, a line feed behind each.
+    pub fn answer_verb(&mut self, verb: ReplayLine) -> Result<Vec<u8>, AnswerFault>
+        requires { (m : Moment) → verb ≡ verbs.At m → m.0 ≤ LAST_MOMENT }
+        ensures answer { IfOk result (λ text. Tells (AnswersVerb (played self.old) verb) text.items (played self.new)) }
+        ensures memory { result ≡ Err AnswerFault.Memory → IsPartDone (played self.old) verb (played self.new) }
+        ensures restart { (f : BootFault) → result ≡ Err (AnswerFault.Unbooted f) → verb ≡ verbs.Restart }
+        ensures unbooted { (f : BootFault) → result ≡ Err (AnswerFault.Unbooted f) → IsRestartRefused D.faults self.old f self.new }
+        ensures proceeds { Proceeds D.Disk (guard_of self.old.machine) (guard_of self.new.machine) }
+    {
+        match verb {
+            ReplayLine::Skip => Ok(Vec::new(self.alloc)),
+            ReplayLine::Join { client, service } => Ok(self.join(client, service)?),
+            ReplayLine::Leave { client } => Ok(self.leave(client)?),
+            ReplayLine::Say { client, text } => Ok(self.say(client, text.list())?),
+            ReplayLine::At(moment) => {
+                self.now = moment;
+                Ok(Vec::new(self.alloc))
+            }
+            ReplayLine::Work(service) => Ok(self.work(service)?),
+            ReplayLine::Rest => Ok(self.rest()?),
+            ReplayLine::CardIn(tracks) => Ok(self.touch(Touch::CardIn(tracks))?),
+            ReplayLine::CardTaken => Ok(self.touch(Touch::CardTaken)?),
+            ReplayLine::CardFault => Ok(self.touch(Touch::CardFault)?),
+            ReplayLine::Key(key) => Ok(self.touch(Touch::Key(key))?),
+            ReplayLine::KeyFault => Ok(self.touch(Touch::KeyFault)?),
+            ReplayLine::Take => Ok(self.touch(Touch::NotesTaken)?),
+            ReplayLine::Mint(amounts) => Ok(self.mint(&amounts)?),
+            ReplayLine::Restart => self.restart(),
+            ReplayLine::Show => Ok(self.show()?),
+        }
+    }
+
+    fn join(&mut self, number: u32, service: Service) -> Result<Vec<u8>, Memory>
+        ensures answer { IfOk result (λ text. Tells (AnswersVerb (played self.old) (verbs.Join number service)) text.items (played self.new)) }
+        ensures memory { OnErr result (IsPartDone (played self.old) (verbs.Join number service) (played self.new)) }
+        ensures proceeds { Proceeds D.Disk (guard_of self.old.machine) (guard_of self.new.machine) }
+    {
+        if self.clients.pass(number).is_some() {
+            return no_client(self.alloc);
+        }
+        match self.machine.join(service) {
+            Ok(pass) => {
+                self.clients.add(number, pass)?;
+                let mut digits = Buffer::new();
+                line(self.alloc, b"joined ", digits.format(number).as_bytes())
+            }
+            Err(JoinFault::Full) => line(self.alloc, b"full", b""),
+            Err(JoinFault::Memory) => Err(Memory),
+        }
+    }
+
+    fn leave(&mut self, number: u32) -> Result<Vec<u8>, Memory>
+        ensures answer { IfOk result (λ text. Tells (AnswersVerb (played self.old) (verbs.Leave number)) text.items (played self.new)) }
+        ensures memory { OnErr result (IsPartDone (played self.old) (verbs.Leave number) (played self.new)) }
+        ensures proceeds { Proceeds D.Disk (guard_of self.old.machine) (guard_of self.new.machine) }
+    {
+        match self.clients.take(number) {
+            Some(pass) => {
+                self.machine.leave(pass);
+                Ok(Vec::new(self.alloc))
+            }
+            None => no_client(self.alloc),
+        }
+    }
+
+    // A client says a message, in which each `@` is replaced.
+    fn say(&mut self, number: u32, message: &[u8]) -> Result<Vec<u8>, Memory>
+        ensures answer { IfOk result (λ text. Tells (AnswersVerb (played self.old) (verbs.Say number message.now)) text.items (played self.new)) }
+        ensures memory { OnErr result (IsPartDone (played self.old) (verbs.Say number message.now) (played self.new)) }
+        ensures proceeds { Proceeds D.Disk (guard_of self.old.machine) (guard_of self.new.machine) }
+    {
+        let Some(pass) = self.clients.pass(number) else {
+            return no_client(self.alloc);
+        };
+        let message = filled(self.alloc, message, token_bytes(&self.last))?;
+        self.machine
+            .post(pass, &message, self.now, &mut self.tally)?;
+        Ok(Vec::new(self.alloc))
+    }
+
+    fn work(&mut self, service: Service) -> Result<Vec<u8>, Memory>
+        ensures answer { IfOk result (λ text. Tells (AnswersVerb (played self.old) (verbs.Work service)) text.items (played self.new)) }
+        ensures memory { OnErr result (IsPartDone (played self.old) (verbs.Work service) (played self.new)) }
+        ensures proceeds { Proceeds D.Disk (guard_of self.old.machine) (guard_of self.new.machine) }
+    {
+        match self.machine.work(service, self.now, &mut self.tally)? {
+            Work::Did => line(self.alloc, b"did", b""),
+            Work::Idle => line(self.alloc, b"idle", b""),
+        }
+    }
+
+    fn touch(&mut self, touch: Touch) -> Result<Vec<u8>, Memory>
+        ensures answer { IfOk result (λ text. Tells (IsTouched (played self.old) touch) text.items (played self.new)) }
+        ensures memory { OnErr result (HappensInPart (touched_by touch ∷ []) self.old.machine.state self.new.machine.state) }
+        ensures proceeds { Proceeds D.Disk (guard_of self.old.machine) (guard_of self.new.machine) }
+    {
+        match self.machine.touch(touch, &mut self.tally)? {
+            Touched::Taken(counts) => {
+                let counts = counts_text(self.alloc, &counts)?;
+                line(self.alloc, b"taken ", &counts)
+            }
+            Touched::Fault => line(self.alloc, b"fault taken none", b""),
+            Touched::Closed => line(self.alloc, b"shutter closed", b""),
+            Touched::Other => Ok(Vec::new(self.alloc)),
+        }
+    }
+
+    // A genuine token for the live nonce, which is then the last one.
+    fn mint(&mut self, amounts: &Amounts) -> Result<Vec<u8>, Memory>
+        ensures answer { IfOk result (λ text. Tells (AnswersVerb (played self.old) (verbs.Mint amounts.now)) text.items (played self.new)) }
+        ensures same { self.new.machine ≡ self.old.machine }
+    {
+        let Some(nonce) = self.machine.live() else {
+            self.last = None;
+            return line(self.alloc, b"token none", b"");
+        };
+        // A live nonce is of the grammar, so what remains is want of memory.
+        let Ok(token) = self.key.make(self.alloc, &nonce.text, amounts) else {
+            return Err(Memory);
+        };
+        let text = line(self.alloc, b"token ", &token);
+        self.last = Some(Bytes::new(token));
+        text
+    }
+
+    // Boots again on the same mechanism and disk. The moment and the last token stay.
+    fn restart(&mut self) -> Result<Vec<u8>, AnswerFault>
+        ensures answer { IfOk result (λ text. Tells (AnswersVerb (played self.old) verbs.Restart) text.items (played self.new)) }
+        ensures memory { result ≡ Err AnswerFault.Memory → IsPartDone (played self.old) verbs.Restart (played self.new) }
+        ensures unbooted { (f : BootFault) → result ≡ Err (AnswerFault.Unbooted f) → IsRestartRefused D.faults self.old f self.new }
+        ensures proceeds { Proceeds D.Disk (guard_of self.old.machine) (guard_of self.new.machine) }
+    {
+        self.machine.reboot()?;
+        self.clients.clear();
+        Ok(line(self.alloc, b"restarted", b"")?)
+    }
+
+    fn show(&mut self) -> Result<Vec<u8>, Memory>
+        ensures answer { IfOk result (λ text. Tells (AnswersVerb (played self.old) verbs.Show) text.items (played self.new)) }
+        ensures same { self.new ≡ self.old }
+    {
+        show_text(
+            self.alloc,
+            self.machine.units().len(),
+            &self.machine.places(),
+        )
+    }
+}
+
+// The answer to a number that isn't joined, or to a join of one that is.
+fn no_client(alloc: Global) -> Result<Vec<u8>, Memory>
+    ensures { IfOk result (λ text. text.items ≡ lines_text (codes "no client" ∷ [])) }
+{
+    line(alloc, b"no client", b"")
+}
+
+// The bytes of the last minted token, or none.
+fn token_bytes(last: &Option<Bytes>) -> &[u8]
+    ensures { result.now ≡ token_bytes last.now }
+{
+    match last {
+        Some(token) => token.list(),
+        None => b"",
+    }
+}
+
+// The message with the token in place of each `@`.
+fn filled(alloc: Global, message: &[u8], token: &[u8]) -> Result<Vec<u8>, Memory>
+    ensures { IfOk result (λ text. text.items ≡ filled token.now message.now) }
+{
+    let mut text = Vec::new(alloc);
+    for byte in message {
+        push_filled(&mut text, *byte, token)?;
+    }
+    Ok(text)
+}
+
+// Adds the byte, or the token in place of `@`.
+fn push_filled(text: &mut Vec<u8>, byte: u8, token: &[u8]) -> Result<(), AllocError>
+    ensures { OnOk result (text.new.items ≡ text.old.items ++ filled token.now (byte ∷ [])) }
+{
+    if byte == b'@' {
+        text.extend_from_slice(token)?;
+    } else {
+        text.push(byte)?;
+    }
+    Ok(())
+}
