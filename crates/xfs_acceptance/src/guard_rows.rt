@@ -66,21 +66,23 @@ fn each_failing_stream_has_its_status(rt: HostRuntime) -> Result<(), Fail> {
 
 #[test]
 fn other_words_are_told_the_usage(rt: HostRuntime) -> Result<(), Fail> {
-    let rows: [&[&str]; 7] = [
+    let rows: [&[&str]; 9] = [
         &[],
         &["x"],
         &[""],
         &["--help"],
         &["GUARD"],
+        &["Replay"],
         &["guard", "x"],
         &["guard", "token"],
+        &["replay", "guard"],
     ];
     for words in rows {
         let written = run_on(rt.alloc(), words, b"issue\n", &[], &[])?;
         assert_eq!(rt; written.status, 2, "words {words:?}");
         assert_eq!(rt;
             written.text.as_slice(),
-            b"usage: xfs guard | token\n".as_slice()
+            b"usage: xfs guard | token | replay\n".as_slice()
         );
         assert_eq!(rt; written.bytes.len(), 0);
     }
