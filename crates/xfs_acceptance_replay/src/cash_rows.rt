@@ -198,7 +198,7 @@ fn a_nonce_serves_until_it_is_cleared_or_lost(rt: HostRuntime) -> Result<(), Fai
             ),
             (
                 "rest\n",
-                "rested 2\n1 {\"header\":{\"completionCode\":\"noCommandNonce\",\"name\":\"CashDispenser.Present\",\"requestId\":3,\"type\":\"completion\",\"version\":\"2.0\"},\"payload\":{\"journalRecord\":6}}\n",
+                "rested 3\n1 {\"header\":{\"completionCode\":\"noCommandNonce\",\"name\":\"CashDispenser.Present\",\"requestId\":3,\"type\":\"completion\",\"version\":\"2.0\"},\"payload\":{\"journalRecord\":6}}\n",
             ),
             (
                 "say 1 {\"header\":{\"name\":\"CashDispenser.Reject\",\"requestId\":4,\"type\":\"command\"}}\n",

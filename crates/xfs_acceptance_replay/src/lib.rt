@@ -9,6 +9,24 @@ mod checked;
 #[cfg(test)]
 mod device_rows;
 #[cfg(test)]
+mod exchange_rows;
+#[cfg(test)]
+mod fault_rows;
+#[cfg(test)]
 mod message_rows;
 #[cfg(test)]
+mod reset_rows;
+#[cfg(test)]
+mod restart_rows;
+#[cfg(test)]
+mod service_rows;
+#[cfg(test)]
+mod step_rows;
+#[cfg(test)]
 mod storage_rows;
+#[cfg(test)]
+mod token_rows;
+#[cfg(test)]
+mod touch_rows;
+#[cfg(test)]
+mod words;

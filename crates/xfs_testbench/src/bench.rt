@@ -154,6 +154,38 @@ pub fn replay_on(alloc: Global, script: &[u8], life: u32) -> Result<Written, Fai
     told(alloc, ended.status, &sink, &ended.disk)
 }
 
+/// Runs `replay` on a script over main's mechanism and an empty disk, with this life of a nonce. The mechanism's calls
+/// of these numbers fail, each after so many notes moved and so many diverted, and so do the disk's calls at these places.
+pub fn replay_failing(
+    alloc: Global,
+    script: &[u8],
+    life: u32,
+    faults: &[(u64, u32, u32)],
+    failing: &[u64],
+) -> Result<Written, Fail> {
+    let units = units()?;
+    let mech = sim_on(alloc, &units, faults_of(alloc, faults)?)?;
+    let mut source = MemSource::new(listed(alloc, script)?, Vec::new(alloc));
+    let mut sink = MemSink::new(alloc, Vec::new(alloc));
+    let mut core = failing_core(mech, units, empty(alloc), LIMITS, numbers(alloc, failing)?);
+    core.life = life;
+    let words = words_of(alloc, &["replay"])?;
+    let ended = run(alloc, words.as_slice(), &mut source, &mut sink, core);
+    told(alloc, ended.status, &sink, &ended.disk.inner())
+}
+
+fn faults_of(alloc: Global, faults: &[(u64, u32, u32)]) -> Result<Vec<Fault>, Fail> {
+    let mut list = Vec::new(alloc);
+    for (call, moved, diverted) in faults {
+        list.push(Fault {
+            call: *call,
+            moved: *moved,
+            diverted: *diverted,
+        })?;
+    }
+    Ok(list)
+}
+
 /// Runs `guard` on a script over main's bench, with these faults of the mechanism.
 pub fn guard_over(
     alloc: Global,
