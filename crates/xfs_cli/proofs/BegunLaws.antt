@@ -21,16 +21,16 @@ use Rattle.xfs_script.specs.declared.guard_line.GuardLine.TheVariants.{Skip, Iss
 use Rattle.xfs_script.specs.declared.guard_line.GuardLine.TheVariants as Verb
 use Rattle.xfs_script.specs.Answered.{lines_text, Tells}
 use Rattle.xfs_cli.specs.Begun.{AllOrNothing, IsBegun, IsPartDispensed, IsPartFilled, LeavesOfVerb}
-use Rattle.xfs_cli.specs.DispenseAnswers.{Dispenses, IsAllowed}
-use Rattle.xfs_cli.specs.OrderAnswers.{MechCalled}
+use Rattle.xfs_cli.specs.Dispenses.{Dispenses, IsAllowed}
+use Rattle.xfs_cli.specs.Moves.{MechCalled}
 use Rattle.xfs_cli.specs.Refused.{refusal_text}
-use Rattle.xfs_cli.specs.Seen.{Seen, guard_of, seen}
-use Rattle.xfs_cli.specs.VerbAnswers.{AreAnswer, Clears, Fills, IsAnswer, IsLoaded, Mints}
+use Rattle.xfs_cli.specs.GuardStates.{GuardState, guard_of, guard_state}
+use Rattle.xfs_cli.specs.GuardVerbs.{AreAnswer, Clears, Fills, IsAnswer, IsLoaded, Mints}
 use Rattle.xfs_dispenser.specs.Carried.{StacksAll, StacksFirst}
 use Rattle.xfs_dispenser.specs.declared.leave.Leave.{Leave}
 use Rattle.xfs_dispenser.specs.declared.refusal.Refusal.{Refusal}
 use Rattle.xfs_dispenser.specs.declared.refusal.Refusal.TheVariants.{Deny as Denied}
-use Rattle.xfs_cli.proofs.SeenLaws.{err-same, seen-same, told-some, wrote-kept}
+use Rattle.xfs_cli.proofs.GuardStateLaws.{err-same, seen-same, told-some, wrote-kept}
 
 pub on-err : {T E : Type 0} (result : Result T E) (P : Type 0) → P → OnErr result P
 on-err (Ok x) P p = tt
@@ -53,7 +53,7 @@ not-disk-told : (r : Refusal) → refusal_text r ≡ None → r ≢ Denied Disk
 not-disk-told r none is = (let e : None ≡ refusal_text (Denied Disk) = sym none ∙ ap refusal_text is in cc)
 
 -- a refusal that isn't the disk's changed nothing, and one with a text has its line
-pub refused-or-nothing : (Answer : List ℕ → Seen → Type 0) (s end : Seen) (r : Refusal) → (r ≢ Denied Disk → end ≡ s) → ((line : List ℕ) → refusal_text r ≡ Some line → Answer line end) → AllOrNothing Answer s end
+pub refused-or-nothing : (Answer : List ℕ → GuardState → Type 0) (s end : GuardState) (r : Refusal) → (r ≢ Denied Disk → end ≡ s) → ((line : List ℕ) → refusal_text r ≡ Some line → Answer line end) → AllOrNothing Answer s end
 refused-or-nothing Answer s end r same told = go (refusal_text r) refl
   where
     go : (text : Option (List ℕ)) → refusal_text r ≡ text → AllOrNothing Answer s end
@@ -67,16 +67,16 @@ not-disk deny memory disk = clash (sym memory ∙ disk)
     clash e = cc
 
 -- the same of a refusal by the guard
-pub denied-or-nothing : {D : Type 0} (faults : D → ℕ) (old new : GuardView D) (last : Option (List ℕ)) (Answer : List ℕ → Seen → Type 0) (deny : Deny)
-    → (deny ≢ Disk → new ≡ old) → ((line : List ℕ) → refusal_text (Denied deny) ≡ Some line → Answer line (seen faults new last)) → AllOrNothing Answer (seen faults old last) (seen faults new last)
+pub denied-or-nothing : {D : Type 0} (faults : D → ℕ) (old new : GuardView D) (last : Option (List ℕ)) (Answer : List ℕ → GuardState → Type 0) (deny : Deny)
+    → (deny ≢ Disk → new ≡ old) → ((line : List ℕ) → refusal_text (Denied deny) ≡ Some line → Answer line (guard_state faults new last)) → AllOrNothing Answer (guard_state faults old last) (guard_state faults new last)
 denied-or-nothing faults old new last Answer deny same told =
-    refused-or-nothing Answer (seen faults old last) (seen faults new last) (Denied deny) (λ other. seen-same faults old new last (same (λ is. other (ap (λ d. Denied d) is)))) told
+    refused-or-nothing Answer (guard_state faults old last) (guard_state faults new last) (Denied deny) (λ other. seen-same faults old new last (same (λ is. other (ap (λ d. Denied d) is)))) told
 
-pub verb-leaves : (s end : Seen) (verb given : GuardLine) → given ≡ verb → LeavesOfVerb s verb end → LeavesOfVerb s given end
+pub verb-leaves : (s end : GuardState) (verb given : GuardLine) → given ≡ verb → LeavesOfVerb s verb end → LeavesOfVerb s given end
 verb-leaves s end verb given is leaves = rw is leaves
 
 -- a line that answers a verb is all of its answer
-one-line : (s next : Seen) (verb : GuardLine) (line : List ℕ) → IsAnswer s verb line next → AreAnswer s verb (line ∷ []) next
+one-line : (s next : GuardState) (verb : GuardLine) (line : List ℕ) → IsAnswer s verb line next → AreAnswer s verb (line ∷ []) next
 one-line s next Skip line is = absurd is
 one-line s next Issue line is = record { line = line; is = is; only = refl }
 one-line s next Verb.Clear line is = record { line = line; is = is; only = refl }
@@ -91,11 +91,11 @@ one-line s next Restart line is = record { line = line; is = is; only = refl }
 one-line s next Show line is = absurd is
 
 -- its bytes, where it is ended by a line feed
-pub tells-line : (s next : Seen) (verb given : GuardLine) (line bytes : List ℕ) → given ≡ verb → IsAnswer s verb line next → bytes ≡ lines_text (line ∷ []) → Tells (AreAnswer s given) bytes next
+pub tells-line : (s next : GuardState) (verb given : GuardLine) (line bytes : List ℕ) → given ≡ verb → IsAnswer s verb line next → bytes ≡ lines_text (line ∷ []) → Tells (AreAnswer s given) bytes next
 tells-line s next verb given line bytes is answer text = rw is (record { output = line ∷ []; answer = one-line s next verb line answer; text = text })
 
 -- what is left of a verb is left of the line that reads as it
-pub begun-line : (s end : Seen) (text : List ℕ) (verb : GuardLine) → IsGuardLine text verb → length text ≤ 70000 → LeavesOfVerb s verb end → IsBegun s text end
+pub begun-line : (s end : GuardState) (text : List ℕ) (verb : GuardLine) → IsGuardLine text verb → length text ≤ 70000 → LeavesOfVerb s verb end → IsBegun s text end
 begun-line s end text verb reads short (inl (inl same)) = inl same
 begun-line s end text verb reads short (inl (inr told)) =
     inr (inl (record { output = told.0 ∷ []; answered = record { verb = verb; reads = reads; short = short; answer = one-line s end verb told.0 told.1 } }))
@@ -103,14 +103,14 @@ begun-line s end text verb reads short (inr part) = inr (inr (record { verb = ve
 
 -- a load that isn't noted for want of memory
 pub part-filled : {D : Type 0} (faults : D → ℕ) (old loaded new : GuardView D) (last : Option (List ℕ)) (unit count : ℕ) (outcome : Outcome) → CanLoad old.state.units old.state.places unit count → unfit old.state ≡ None
-    → HasReported old.state loaded.state (Loaded unit count) outcome.moved outcome.diverted outcome.failed → MechCalled (seen faults old last) outcome.failed (seen faults loaded last)
-    → outcome.failed ≡ false → new ≡ loaded → IsPartFilled (seen faults old last) unit count (seen faults new last)
+    → HasReported old.state loaded.state (Loaded unit count) outcome.moved outcome.diverted outcome.failed → MechCalled (guard_state faults old last) outcome.failed (guard_state faults loaded last)
+    → outcome.failed ≡ false → new ≡ loaded → IsPartFilled (guard_state faults old last) unit count (guard_state faults new last)
 part-filled {D} faults old loaded new last unit count outcome can fit reported called fine same =
-    let here : IsPartFilled (seen faults old last) unit count (seen faults loaded last) = record { can = can; fit = fit; outcome = outcome; reported = reported; called = called; fine = fine } in
-    subst (λ (g : GuardView D). IsPartFilled (seen faults old last) unit count (seen faults g last)) (sym same) here
+    let here : IsPartFilled (guard_state faults old last) unit count (guard_state faults loaded last) = record { can = can; fit = fit; outcome = outcome; reported = reported; called = called; fine = fine } in
+    subst (λ (g : GuardView D). IsPartFilled (guard_state faults old last) unit count (guard_state faults g last)) (sym same) here
 
 -- what a load leaves, its `fill` leaves
-pub loads-fills : {T E : Type 0} (result : Result T E) (s end : Seen) (unit count : ℕ) → OnErr result (AllOrNothing (IsLoaded s unit count) s end ⊎ IsPartFilled s unit count end)
+pub loads-fills : {T E : Type 0} (result : Result T E) (s end : GuardState) (unit count : ℕ) → OnErr result (AllOrNothing (IsLoaded s unit count) s end ⊎ IsPartFilled s unit count end)
     → OnErr result (AllOrNothing (Fills s unit count) s end ⊎ IsPartFilled s unit count end)
 loads-fills (Ok x) s end unit count leaves = tt
 loads-fills (Err e) s end unit count (inl (inl same)) = inl (inl same)
@@ -119,28 +119,28 @@ loads-fills (Err e) s end unit count (inr part) = inr part
 
 -- a clear that is kept
 pub clear-done : {D : Type 0} (faults : D → ℕ) (old new : GuardView D) (last : Option (List ℕ)) (live : Option Nonce) → live ≢ None → unfit old.state ≡ None
-    → new.state ≡ record old.state { records = old.state.records ++ Clear ∷ []; bound = None } → faults old.disk ≤ faults new.disk → Clears live (seen faults old last) (codes "cleared") (seen faults new last)
-clear-done faults old new last (Some n) some fit is later = wrote-kept (seen faults old last) (seen faults new last) (unfit old.state) Clear _ _ _ fit is later refl refl
+    → new.state ≡ record old.state { records = old.state.records ++ Clear ∷ []; bound = None } → faults old.disk ≤ faults new.disk → Clears live (guard_state faults old last) (codes "cleared") (guard_state faults new last)
+clear-done faults old new last (Some n) some fit is later = wrote-kept (guard_state faults old last) (guard_state faults new last) (unfit old.state) Clear _ _ _ fit is later refl refl
 clear-done faults old new last None some fit is later = absurd (some refl)
 
 -- a mint for no nonce
-pub mints-none : (s : Seen) (live : Option Nonce) (amounts : List (List ℕ × ℕ)) → live ≡ None → Mints live s amounts (codes "token none") (record s { last = None })
+pub mints-none : (s : GuardState) (live : Option Nonce) (amounts : List (List ℕ × ℕ)) → live ≡ None → Mints live s amounts (codes "token none") (record s { last = None })
 mints-none s None amounts none = (refl, refl)
 mints-none s (Some n) amounts none = cc
 
 -- a mint for this nonce
-pub mints-made : (s : Seen) (live : Option Nonce) (nonce : Nonce) (amounts : List (List ℕ × ℕ)) (key token last : List ℕ) → live ≡ Some nonce → key ≡ s.guard.key → IsMade key nonce.text amounts token → last ≡ token
+pub mints-made : (s : GuardState) (live : Option Nonce) (nonce : Nonce) (amounts : List (List ℕ × ℕ)) (key token last : List ℕ) → live ≡ Some nonce → key ≡ s.guard.key → IsMade key nonce.text amounts token → last ≡ token
     → Mints live s amounts (codes "token " ++ token) (record s { last = Some last })
 mints-made s None nonce amounts key token last is same made kept = cc
 mints-made s (Some n) nonce amounts key token last is same made kept =
     let e : n ≡ nonce = cc in record { token = token; made = rw (e, ← same) made; text = refl; kept = rw kept refl }
 
 -- the same guard and the same token are seen as the same
-pub seen-both : {D : Type 0} (faults : D → ℕ) (old new : GuardView D) (last last' : Option (List ℕ)) → new ≡ old → last' ≡ last → seen faults new last' ≡ seen faults old last
-seen-both {D} faults old new last last' same token = ap (λ (g : GuardView D). seen faults g last') same ∙ ap (λ t. seen faults old t) token
+pub seen-both : {D : Type 0} (faults : D → ℕ) (old new : GuardView D) (last last' : Option (List ℕ)) → new ≡ old → last' ≡ last → guard_state faults new last' ≡ guard_state faults old last
+seen-both {D} faults old new last last' same token = ap (λ (g : GuardView D). guard_state faults g last') same ∙ ap (λ t. guard_state faults old t) token
 
 -- the orders of a dispense end in a refusal, which may be want of memory
-pub ordered-or-part : (s bound next : Seen) (token : Option (List ℕ)) (counts : CountsOf) (leave : Leave) (deny : Deny) → IsAllowed s token counts (Ok leave) bound → next.last ≡ bound.last
+pub ordered-or-part : (s bound next : GuardState) (token : Option (List ℕ)) (counts : CountsOf) (leave : Leave) (deny : Deny) → IsAllowed s token counts (Ok leave) bound → next.last ≡ bound.last
     → (◌≡◌ {A = Result Outcome Deny} (Err deny) (Err Memory) → StacksFirst leave.issue leave.counts.0 (guard_of bound) (guard_of next))
     → (◌≢◌ {A = Result Outcome Deny} (Err deny) (Err Memory) → StacksAll leave.issue leave.counts (guard_of bound) (Err deny) (guard_of next))
     → AllOrNothing (Dispenses s token counts) s next ⊎ IsPartDispensed s token counts next

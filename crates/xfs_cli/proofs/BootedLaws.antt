@@ -15,7 +15,7 @@ use Rattle.xfs_journal.specs.declared.limits.Limits.{Limits}
 use Rattle.xfs_cli.specs.Statuses.{HasFullRestart}
 use Rattle.xfs_guard.specs.declared.fail.BootFault.{BootFault}
 use Rattle.xfs_guard.specs.declared.fail.BootFault.TheVariants.{NotJournal, Disk, Full, Memory as BootMemory}
-use Rattle.xfs_cli.specs.RestartAnswers.{EndsRestart, HasNoRoom, IsFull, RestartCause}
+use Rattle.xfs_cli.specs.Restarts.{EndsRestart, HasNoRoom, IsFull, RestartCause}
 use Rattle.xfs_cli.specs.GuardStarts.{AtEntry, IsStart, opened}
 use Rattle.xfs_cli.specs.Runs.{IsEnd, IsFullAtEnd, IsStillAt}
 use Rattle.xfs_cli.specs.Streams.{Streams}
@@ -27,21 +27,21 @@ use Rattle.xfs_cli.specs.Served.{EndsUnbooted, Serves, status_of}
 use Rattle.xfs_script.specs.Endings.{AnswersInput}
 use Rattle.xfs_script.specs.declared.answerer.Ending.TheVariants.{Ended}
 use Rattle.xfs_cli.proofs.EndingLaws.{is-boot}
-use Rattle.xfs_cli.specs.Seen.{Seen, IsStill, seen}
+use Rattle.xfs_cli.specs.GuardStates.{GuardState, IsStill, guard_state}
 use Rattle.xfs_script.specs.Lines.{behind, first_line}
 
 -- the last state is that of a guard which is over
 pub ends-at : {M D : Type 0} (m : Mechanisms M) (d : Disks D) (g : GuardView D) (last : Option (List ℕ)) (result : EndedOf M D)
     → m.motions result.mech ≡ g.state.motions → m.places result.mech ≡ g.state.places → m.faults result.mech ≡ g.state.faults → result.disk ≡ g.disk
     → IfTold (d.held result.disk) (λ _. (bytes : List ℕ) → d.images result.disk bytes → HasPossible g.state.records g.state.in_doubt bytes)
-    → (s : Seen) → s ≡ seen d.faults g last → IsEnd m d result s
+    → (s : GuardState) → s ≡ guard_state d.faults g last → IsEnd m d result s
 ends-at m d g last result motions places faults disk stored s is =
     rw is (record { motions = sym motions; places = sym places; mech_faults = sym faults; disk_faults = ap d.faults (sym disk); stored = stored })
 
 -- such a guard leaves the mechanism as it stood in an earlier state, where it is still so
 pub still-at : {M D : Type 0} (m : Mechanisms M) (d : Disks D) (g : GuardView D) (last : Option (List ℕ)) (result : EndedOf M D)
     → m.motions result.mech ≡ g.state.motions → m.places result.mech ≡ g.state.places → m.faults result.mech ≡ g.state.faults → result.disk ≡ g.disk
-    → (end s : Seen) → end ≡ seen d.faults g last → IsStill end.guard.motions end.guard.places end.guard.faults end.disk_faults s → IsStillAt m d result s
+    → (end s : GuardState) → end ≡ guard_state d.faults g last → IsStill end.guard.motions end.guard.places end.guard.faults end.disk_faults s → IsStillAt m d result s
 still-at m d g last result motions places faults disk end s is still = rw (motions, places, faults, disk) (rw is at still)
 
 -- a count that rose in a part rose in the whole
@@ -49,30 +49,30 @@ pub rose-later : (a b c : ℕ) → a ≤ b → Rose b c → Rose a c
 rose-later a b c le rose = omega (arith, le, rose)
 
 -- the causes of the statuses of a restart that is refused
-pub failed-then : (status : ℕ) (why : BootFault) (s end : Seen) → status ≡ boot_status why → RestartCause s why end → status ≡ 6 → Rose s.disk_faults end.disk_faults
+pub failed-then : (status : ℕ) (why : BootFault) (s end : GuardState) → status ≡ boot_status why → RestartCause s why end → status ≡ 6 → Rose s.disk_faults end.disk_faults
 failed-then status (NotJournal at) s end is cause six = absurd (omega (arith, is, six))
 failed-then status Disk s end is cause six = cause
 failed-then status Full s end is cause six = absurd (omega (arith, is, six))
 failed-then status BootMemory s end is cause six = absurd (omega (arith, is, six))
 
-pub untold-then : (status : ℕ) (why : BootFault) (s end : Seen) → status ≡ boot_status why → RestartCause s why end → status ≡ 7 → s.guard.disk_told ≡ false
+pub untold-then : (status : ℕ) (why : BootFault) (s end : GuardState) → status ≡ boot_status why → RestartCause s why end → status ≡ 7 → s.guard.disk_told ≡ false
 untold-then status (NotJournal at) s end is cause seven = cause
 untold-then status Disk s end is cause seven = absurd (omega (arith, is, seven))
 untold-then status Full s end is cause seven = absurd (omega (arith, is, seven))
 untold-then status BootMemory s end is cause seven = absurd (omega (arith, is, seven))
 
-pub full-then : (status : ℕ) (why : BootFault) (s end : Seen) → status ≡ boot_status why → RestartCause s why end → status ≡ 12 → HasNoRoom s.guard × IsFull end.guard
+pub full-then : (status : ℕ) (why : BootFault) (s end : GuardState) → status ≡ boot_status why → RestartCause s why end → status ≡ 12 → HasNoRoom s.guard × IsFull end.guard
 full-then status (NotJournal at) s end is cause twelve = absurd (omega (arith, is, twelve))
 full-then status Disk s end is cause twelve = absurd (omega (arith, is, twelve))
 full-then status Full s end is cause twelve = cause
 full-then status BootMemory s end is cause twelve = absurd (omega (arith, is, twelve))
 
 -- a command that ends at nothing but a restart which is refused
-abbrev pub EndsAtRestarts : {S : Type 0} → Command S BootFault → (S → Seen) → Type 0
+abbrev pub EndsAtRestarts : {S : Type 0} → Command S BootFault → (S → GuardState) → Type 0
 EndsAtRestarts {S} c see = (s : S) (text : List ℕ) (why : BootFault) (end : S) → c.EndsAt s text why end → EndsRestart see s text why end
 
 -- a run that ended at a refused restart, by its status
-module _ {S A : Type 0} (c : Command S BootFault) (see : S → Seen) (restarts : EndsAtRestarts c see) (Keeps : A → A → Type 0) (state : A → S) where
+module _ {S A : Type 0} (c : Command S BootFault) (see : S → GuardState) (restarts : EndsAtRestarts c see) (Keeps : A → A → Type 0) (state : A → S) where
   fails : (start : A) (status : ℕ) (end : S) (u : EndsUnbooted Keeps state c start status end) → RestartCause (see (state u.after.before)) u.why (see end)
   fails start status end u = (restarts (state u.after.before) u.after.line u.why end u.after.ends).fails.cause
 
@@ -112,7 +112,7 @@ told-any (Some x) Q all = all x
 
 -- the start of a run
 pub starts-run : {D : Type 0} (faults : D → ℕ) (g : GuardView D) (e : AtEntry) (J : List Rec)
-    → IfTold e.held (λ bytes. StandsFor bytes J) → g.state ≡ opened e (J ++ Boot e.places ∷ []) → e.disk_faults ≤ faults g.disk → IsStart e (seen faults g None)
+    → IfTold e.held (λ bytes. StandsFor bytes J) → g.state ≡ opened e (J ++ Boot e.places ∷ []) → e.disk_faults ≤ faults g.disk → IsStart e (guard_state faults g None)
 starts-run faults g e J stands is later = record { records = J; stands = stands; guard_is = is; later = later; none = refl }
 
 pub none-told : {T : Type 0} (held : Option T) → is_some held ≡ false → held ≡ None
@@ -136,8 +136,8 @@ ends-full Full limits places held io status is written full twelve = let f = ful
 ends-full BootMemory limits places held io status is written full twelve = absurd (omega (arith, is, twelve))
 
 -- under status 12 a restart found no room for its Boot
-pub full-line : {S : Type 0} (c : Command S BootFault) (see : S → Seen) → EndsAtRestarts c see → (IsStartOf : S → Type 0) (Still : Seen → Type 0) (start end : S) (status : ℕ) (io : Streams) → IsStartOf start
-    → ((s : Seen) → IsStill (see end).guard.motions (see end).guard.places (see end).guard.faults (see end).disk_faults s → Still s)
+pub full-line : {S : Type 0} (c : Command S BootFault) (see : S → GuardState) → EndsAtRestarts c see → (IsStartOf : S → Type 0) (Still : GuardState → Type 0) (start end : S) (status : ℕ) (io : Streams) → IsStartOf start
+    → ((s : GuardState) → IsStill (see end).guard.motions (see end).guard.places (see end).guard.faults (see end).disk_faults s → Still s)
     → IfTold io.input (Serves c start end status io) → status ≡ 12 → IfTold io.input (HasFullRestart c see IsStartOf Still)
 full-line c see restarts IsStartOf Still start end status io begins more h twelve = told-more io.input _ _ (λ text h. go text h) h
   where

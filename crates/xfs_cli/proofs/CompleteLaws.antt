@@ -33,11 +33,11 @@ use Rattle.xfs_script.specs.Dispense.{IsDispense}
 use Rattle.xfs_script.specs.declared.guard_line.Given.{Given}
 use Rattle.xfs_script.specs.declared.guard_line.GuardLine.TheVariants.{Dispense, Present}
 use Rattle.xfs_cli.specs.Refused.{refusal_text}
-use Rattle.xfs_cli.specs.Seen.{Seen, guard_of}
-use Rattle.xfs_cli.specs.OrderAnswers.{Moves, Tells}
-use Rattle.xfs_cli.specs.DispenseAnswers.{Dispenses, IsAllowed, IsOrdered, named}
-use Rattle.xfs_cli.specs.GuardAnswers.{outcome_text}
-use Rattle.xfs_cli.specs.VerbAnswers.{AnswersGuard, AreAnswer}
+use Rattle.xfs_cli.specs.GuardStates.{GuardState, guard_of}
+use Rattle.xfs_cli.specs.Moves.{Moves, Tells}
+use Rattle.xfs_cli.specs.Dispenses.{Dispenses, IsAllowed, IsOrdered, named}
+use Rattle.xfs_cli.specs.GuardTexts.{outcome_text}
+use Rattle.xfs_cli.specs.GuardVerbs.{AnswersGuard, AreAnswer}
 use Rattle.xfs_cli.specs.Complete.{AnswersInFull, CanDispense, CanPresent, IsBindable, IsCalm, IsCoveredBy, IsDispensed, IsGood, IsPresented, moved_line}
 use Rattle.xfs_dispenser.specs.Carried.{nothing_stacked}
 use Rattle.xfs_dispenser.specs.Checks.{Grant, LeaveChecks, Permits, TokenChecks, granted_unless, within_budget}
@@ -48,7 +48,7 @@ use Rattle.xfs_dispenser.specs.declared.notes.Notes.TheVariants.{Individual}
 use Rattle.xfs_dispenser.specs.declared.refusal.Refusal.{Refusal}
 use Rattle.xfs_dispenser.specs.declared.refusal.Refusal.TheVariants.{Deny as Denied}
 use Rattle.xfs_cli.proofs.DispenseLaws.{IsLet, is-let}
-use Rattle.xfs_cli.proofs.SeenLaws.{told-some}
+use Rattle.xfs_cli.proofs.GuardStateLaws.{told-some}
 use Rattle.xfs_cli.proofs.CompleteOrders.{carries-full, present-places, calm-rest, IsGrown}
 use Rattle.xfs_cli.proofs.CompleteStacks.{stacks-full}
 use Rattle.xfs_guard.proofs.CoveredLaws.{IsAhead, IsOpenFor, budget-none, nonce-push, claim-none, same-amounts, can-fit, present-free}
@@ -143,7 +143,7 @@ checks-passed v token bytes line counts refusal is c told checks =
         cc
 
 -- nor does a disk that doesn't fail
-allowed-no : (s : Seen) (token : Option (List ℕ)) (bytes line : List ℕ) (counts : CountsOf) (refusal : Refusal) (next : Seen) → token ≡ Some bytes → CanDispense s.guard bytes counts → IsCalm s next
+allowed-no : (s : GuardState) (token : Option (List ℕ)) (bytes line : List ℕ) (counts : CountsOf) (refusal : Refusal) (next : GuardState) → token ≡ Some bytes → CanDispense s.guard bytes counts → IsCalm s next
     → refusal_text refusal ≡ Some line → IsAllowed s token counts (Err refusal) next → ⊥
 allowed-no s token bytes line counts refusal next is c calm told a = go a.leave.checked a.leave.checks a.leave.permits
   where
@@ -152,8 +152,8 @@ allowed-no s token bytes line counts refusal next is c calm told a = go a.leave.
     go (Ok grant) checks (inl p) = (let e : ◌≡◌ {A = Result Leave Refusal} (Err refusal) (Ok (record { issue = p.issue; counts = grant.counts })) = p.is in cc)
     go (Ok grant) checks (inr u) = calm.disk u.fails.cause
 
--- the session whose token is bound
-allowed-open : (s : Seen) (token : Option (List ℕ)) (bytes : List ℕ) (counts : CountsOf) (leave : Leave) (bound : Seen) (c : CanDispense s.guard bytes counts) → token ≡ Some bytes → IsLet s token counts leave bound
+-- the state whose token is bound
+allowed-open : (s : GuardState) (token : Option (List ℕ)) (bytes : List ℕ) (counts : CountsOf) (leave : Leave) (bound : GuardState) (c : CanDispense s.guard bytes counts) → token ≡ Some bytes → IsLet s token counts leave bound
     → IsOpenFor bound.guard leave.issue c.amounts 8 × IsAhead bound.guard c.amounts counts.0 × (bound.guard.places ≡ s.guard.places)
 allowed-open s token bytes counts leave bound c is p = go c.binding
   where
@@ -198,7 +198,7 @@ allowed-open s token bytes counts leave bound c is p = go c.binding
           refl,
         )
 
--- a session in which the nonce of an issue lives has a live nonce
+-- a state in which the nonce of an issue lives has a live nonce
 some-nonce : (l : Option Nonce) (issue : ℕ) → option_map (λ (n : Nonce). n.number) l ≡ Some issue → (n : Nonce) × (l ≡ Some n)
 some-nonce None issue e = cc
 some-nonce (Some n) issue e = (n, refl)
@@ -206,7 +206,7 @@ some-nonce (Some n) issue e = (n, refl)
 told-all : (outcome : Outcome) (counts : CountsOf) → outcome.failed ≡ false → outcome.moved.0 ≡ counts.0 → outcome_text (codes "moved") outcome ≡ moved_line counts
 told-all outcome counts fine moved = rw (fine, moved) refl
 
-ordered-full : (s next : Seen) (token : Option (List ℕ)) (bytes line : List ℕ) (counts : CountsOf) → length counts.0 ≡ 8 → token ≡ Some bytes → CanDispense s.guard bytes counts → IsCalm s next
+ordered-full : (s next : GuardState) (token : Option (List ℕ)) (bytes line : List ℕ) (counts : CountsOf) → length counts.0 ≡ 8 → token ≡ Some bytes → CanDispense s.guard bytes counts → IsCalm s next
     → IsOrdered s token counts line next → IsDispensed s counts (line ∷ []) next
 ordered-full s next token bytes line counts eight is c calm o =
     let ready = allowed-open s token bytes counts o.leave o.bound c is l in
@@ -246,12 +246,12 @@ ordered-full s next token bytes line counts eight is c calm o =
         let faults : o.bound.guard.faults ≡ s.guard.faults = ap (λ (v : View). v.faults) now in
         record { mech = omega (arith, faults); disk = l.later; more = Bind l.bytes ∷ []; grown = ap (λ (v : View). v.records) now }
 
-dispenses-full : (s next : Seen) (token : Option (List ℕ)) (bytes line : List ℕ) (counts : CountsOf) → length counts.0 ≡ 8 → token ≡ Some bytes → CanDispense s.guard bytes counts → IsCalm s next
+dispenses-full : (s next : GuardState) (token : Option (List ℕ)) (bytes line : List ℕ) (counts : CountsOf) → length counts.0 ≡ 8 → token ≡ Some bytes → CanDispense s.guard bytes counts → IsCalm s next
     → Dispenses s token counts line next → IsDispensed s counts (line ∷ []) next
 dispenses-full s next token bytes line counts eight is c calm (inr o) = ordered-full s next token bytes line counts eight is c calm o
 dispenses-full s next token bytes line counts eight is c calm (inl r) = absurd (allowed-no s token bytes line counts r.refusal next is c calm r.text r.refused)
 
-presents-full : (s next : Seen) (line : List ℕ) → CanPresent s.guard → IsCalm s next → Moves s AskPresent line next → IsPresented s (line ∷ []) next
+presents-full : (s next : GuardState) (line : List ℕ) → CanPresent s.guard → IsCalm s next → Moves s AskPresent line next → IsPresented s (line ∷ []) next
 presents-full s next line c calm m =
     let f = carries-full (guard_of s) AskPresent m.result (guard_of next) (present-free s.guard c) calm m.carried in
     let told : Tells (codes "moved") (Ok f.outcome) line = rw f.is at m.told in
@@ -261,11 +261,11 @@ presents-full s next line c calm m =
       left = λ u. (present-places s.guard.places next.guard.places f.number f.outcome.diverted f.places u).1;
     }
 
-dispense-answer : (s next : Seen) (output : List (List ℕ)) (given : Given) (counts : CountsOf) (bytes : List ℕ) → length counts.0 ≡ 8 → AreAnswer s (Dispense given counts) output next
+dispense-answer : (s next : GuardState) (output : List (List ℕ)) (given : Given) (counts : CountsOf) (bytes : List ℕ) → length counts.0 ≡ 8 → AreAnswer s (Dispense given counts) output next
     → named s.last given ≡ Some bytes → CanDispense s.guard bytes counts → IsCalm s next → IsDispensed s counts output next
 dispense-answer s next output given counts bytes eight a is c calm = rw a.only (dispenses-full s next (named s.last given) bytes a.line counts eight is c calm a.is)
 
-present-answer : (s next : Seen) (output : List (List ℕ)) → AreAnswer s Present output next → CanPresent s.guard → IsCalm s next → IsPresented s output next
+present-answer : (s next : GuardState) (output : List (List ℕ)) → AreAnswer s Present output next → CanPresent s.guard → IsCalm s next → IsPresented s output next
 present-answer s next output a c calm = rw a.only (presents-full s next a.line c calm a.is)
 
 -- a line tells eight counts
@@ -277,7 +277,7 @@ eight-counts : (text : List ℕ) (given : Given) (counts : CountsOf) → IsDispe
 eight-counts text given counts d = ap length d.has.spells.is ∙ length-units (replicate 8 0) d.has.spells.units
 
 -- what is answered is done in full where nothing stands against it
-pub in-full : (s next : Seen) (text : List ℕ) (output : List (List ℕ)) → AnswersGuard s text output next → AnswersInFull s text output next
+pub in-full : (s next : GuardState) (text : List ℕ) (output : List (List ℕ)) → AnswersGuard s text output next → AnswersInFull s text output next
 in-full s next text output a = record {
   answers = a;
   complete = record {

@@ -21,9 +21,9 @@ use Rattle.xfs_dispenser.specs.declared.named.Named.TheVariants.{These}
 use Rattle.xfs_dispenser.specs.declared.notes.Notes.TheVariants.{Individual}
 use Rattle.xfs_dispenser.specs.declared.refusal.Refusal.{Refusal}
 use Rattle.xfs_dispenser.specs.declared.refusal.Refusal.TheVariants.{Deny as Denied}
-use Rattle.xfs_cli.specs.Seen.{Seen, guard_of}
-use Rattle.xfs_cli.specs.DispenseAnswers.{IsAllowed}
-use Rattle.xfs_cli.proofs.SeenLaws.{none-past}
+use Rattle.xfs_cli.specs.GuardStates.{GuardState, guard_of}
+use Rattle.xfs_cli.specs.Dispenses.{IsAllowed}
+use Rattle.xfs_cli.proofs.GuardStateLaws.{none-past}
 
 -- counts that are given are those that were asked, and no fault
 given-all : (counts n : CountsOf) (fault : Option CountFault) → ◌≡◌ {A = Result CountsOf Refusal} (Ok n) (given_unless counts fault) → (fault ≡ None) × (n ≡ counts)
@@ -63,7 +63,7 @@ checked-all v token counts grant checks = fit (unfit v) checks
     fit (Some d) e = cc
 
 -- a dispense that is allowed: its token passed and is bound, its counts are no fault, and it is for the nonce that lives
-pub record IsLet (s : Seen) (token : Option (List ℕ)) (counts : CountsOf) (leave : Leave) (next : Seen) : Type 0 where
+pub record IsLet (s : GuardState) (token : Option (List ℕ)) (counts : CountsOf) (leave : Leave) (next : GuardState) : Type 0 where
   pub bytes : List ℕ
   pub amounts : List (List ℕ × ℕ)
   pub is_named : token ≡ Some bytes
@@ -77,7 +77,7 @@ pub record IsLet (s : Seen) (token : Option (List ℕ)) (counts : CountsOf) (lea
 ok-leave : {a b : Leave} → ◌≡◌ {A = Result Leave Refusal} (Ok a) (Ok b) → a ≡ b
 ok-leave e = cc
 
-pub is-let : (s : Seen) (token : Option (List ℕ)) (counts : CountsOf) (leave : Leave) (next : Seen) → IsAllowed s token counts (Ok leave) next → IsLet s token counts leave next
+pub is-let : (s : GuardState) (token : Option (List ℕ)) (counts : CountsOf) (leave : Leave) (next : GuardState) → IsAllowed s token counts (Ok leave) next → IsLet s token counts leave next
 is-let s token counts leave next a = go a.leave.checked a.leave.checks a.leave.permits
   where
     go : (c : Result Grant Refusal) → LeaveChecks s.guard (Individual (These counts)) token c → Permits (guard_of s) c (Ok leave) (guard_of next) → IsLet s token counts leave next
@@ -99,6 +99,6 @@ is-let s token counts leave next a = go a.leave.checked a.leave.checks a.leave.p
         }
 
 -- its counts are 0 past the table
-pub few-allowed : (s : Seen) (token : Option (List ℕ)) (counts : CountsOf) (leave : Leave) (next : Seen) → IsAllowed s token counts (Ok leave) next → IsTrue (is_none (drop (length s.guard.units) leave.counts.0))
+pub few-allowed : (s : GuardState) (token : Option (List ℕ)) (counts : CountsOf) (leave : Leave) (next : GuardState) → IsAllowed s token counts (Ok leave) next → IsTrue (is_none (drop (length s.guard.units) leave.counts.0))
 few-allowed s token counts leave next a =
     let l = is-let s token counts leave next a in rw l.counts_are (none-past s.guard.units s.guard.places.units counts l.fine)

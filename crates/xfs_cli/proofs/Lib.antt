@@ -7,6 +7,7 @@ pub mod CompleteStacks
 pub mod DispenseLaws
 pub mod EndLaws
 pub mod EndingLaws
+pub mod GuardStateLaws
 pub mod LastLaws
 pub mod MailLaws
 pub mod MomentLaws
@@ -15,7 +16,6 @@ pub mod ReplayLaws
 pub mod RestartLaws
 pub mod RunLaws
 pub mod RunsLaws
-pub mod SeenLaws
 pub mod StartLaws
 pub mod TokenEndLaws
 pub mod TokenTexts

@@ -6,7 +6,7 @@ use Rattle.xfs_model.specs.State.{State}
 use Rattle.xfs_model.specs.Step.{Step}
 use Rattle.xfs_script.specs.Answered.{lines_text}
 use Rattle.xfs_script.proofs.AnswerLaws.{lines_text-append}
-use Rattle.xfs_cli.specs.ReplayAnswers.{HandsAll, HasMail, frame_line}
+use Rattle.xfs_cli.specs.ReplayEvents.{HandsAll, HasMail, frame_line}
 use Rattle.xfs_cli.specs.ReplayCommand.{IsPartMailed}
 use Rattle.xfs_cli.specs.declared.clients.Client.{Client}
 use Rattle.xfs_cli.proofs.ReplayLaws.{part-none}

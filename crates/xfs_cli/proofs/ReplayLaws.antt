@@ -7,7 +7,7 @@ use Rattle.xfs_base.specs.declared.moment.Service.TheVariants.{Cash, Card, Keys}
 use Rattle.xfs_model.specs.Events.{Event, Answer, work, did, idle}
 use Rattle.xfs_model.specs.State.{State}
 use Rattle.xfs_model.specs.Step.{Step}
-use Rattle.xfs_cli.specs.ReplayAnswers.{Rests, ends, goes, Turns, over, enough, idled, worked, round}
+use Rattle.xfs_cli.specs.ReplayEvents.{Rests, ends, goes, Turns, over, enough, idled, worked, round}
 use Rattle.xfs_cli.specs.ReplayCommand.{HappensInPart, Steps, rounds}
 
 events-append : (es fs : List (Event × Answer)) → map (λ e. e.0) (es ++ fs) ≡ map (λ e. e.0) es ++ map (λ e. e.0) fs

@@ -9,14 +9,14 @@ use Rattle.xfs_guard.specs.declared.fail.BootFault.TheVariants.{NotJournal, Disk
 use Rattle.xfs_journal.specs.JournalView.{IsPossible}
 use Rattle.xfs_journal.specs.declared.record.Rec.{Rec}
 use Rattle.xfs_machine.specs.Endings.{RefusesAs}
-use Rattle.xfs_cli.specs.RestartAnswers.{HasNoRoom, IsFull, RestartCause, RestartFails}
-use Rattle.xfs_cli.specs.Seen.{IsStill, Seen}
-use Rattle.xfs_cli.proofs.SeenLaws.{IsFault}
-use Rattle.xfs_cli.specs.declared.session.AnswerFault.{AnswerFault}
-use Rattle.xfs_cli.specs.declared.session.AnswerFault.TheVariants.{Unbooted}
+use Rattle.xfs_cli.specs.Restarts.{HasNoRoom, IsFull, RestartCause, RestartFails}
+use Rattle.xfs_cli.specs.GuardStates.{IsStill, GuardState}
+use Rattle.xfs_cli.proofs.GuardStateLaws.{IsFault}
+use Rattle.xfs_cli.specs.declared.guard_player.NoAnswer.{NoAnswer}
+use Rattle.xfs_cli.specs.declared.guard_player.NoAnswer.TheVariants.{Unbooted}
 
 -- a guard, with the count of the disk's faults that the script sees
-abbrev pub at : Of.Seen → ℕ → Option (List ℕ) → Seen
+abbrev pub at : Of.Seen → ℕ → Option (List ℕ) → GuardState
 at s disk_faults last = record { guard = s.guard; disk_faults = disk_faults; last = last }
 
 still : (old new : Of.Seen) (v : View) (last : Option (List ℕ)) (before after : ℕ) → before ≤ after → new.guard ≡ v → v.motions ≡ old.guard.motions → v.places ≡ old.guard.places → v.faults ≡ old.guard.faults
@@ -47,14 +47,14 @@ refused_as old new last before after Memory is rose later = record {
   cause = record { guard_is = is.guard_is; later = later; last_is = refl };
 }
 
-err_of : {T : Type 0} {a b : AnswerFault} → ◌≡◌ {A = Result T AnswerFault} (Err a) (Err b) → a ≡ b
+err_of : {T : Type 0} {a b : NoAnswer} → ◌≡◌ {A = Result T NoAnswer} (Err a) (Err b) → a ≡ b
 err_of e = cc
 
-fault_of : {a b : BootFault} → ◌≡◌ {A = AnswerFault} (Unbooted a) (Unbooted b) → a ≡ b
+fault_of : {a b : BootFault} → ◌≡◌ {A = NoAnswer} (Unbooted a) (Unbooted b) → a ≡ b
 fault_of e = cc
 
 -- the answer tells why
-pub restart_refused : {T : Type 0} (result : Result T AnswerFault) (why : BootFault) (old new : Of.Seen) (last : Option (List ℕ)) (before after : ℕ) → IsErrAnd result (λ e. e ≡ Unbooted why) → RefusesAs why old new
+pub restart_refused : {T : Type 0} (result : Result T NoAnswer) (why : BootFault) (old new : Of.Seen) (last : Option (List ℕ)) (before after : ℕ) → IsErrAnd result (λ e. e ≡ Unbooted why) → RefusesAs why old new
     → (IsFault why Disk → Rose before after) → before ≤ after → (fault : BootFault) → result ≡ Err (Unbooted fault) → RestartFails (at old before last) fault (at new after last)
 restart_refused (Ok x) why old new last before after err is rose later fault same = absurd err
 restart_refused (Err e) why old new last before after err is rose later fault same =

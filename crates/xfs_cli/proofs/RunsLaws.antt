@@ -20,9 +20,9 @@ use Rattle.xfs_script.specs.Lines.{AllLines, StopsAtLine}
 use Rattle.xfs_cli.specs.BootLines.{IsOfBoot}
 use Rattle.xfs_cli.specs.Boots.{IsNoJournal, WritesBoot, boot_status}
 use Rattle.xfs_cli.specs.GuardStarts.{at_entry, opened}
-use Rattle.xfs_cli.specs.RestartAnswers.{IsFull}
+use Rattle.xfs_cli.specs.Restarts.{IsFull}
 use Rattle.xfs_cli.specs.Runs.{IsFullAtEnd, Runs}
-use Rattle.xfs_cli.specs.Seen.{Seen, seen}
+use Rattle.xfs_cli.specs.GuardStates.{GuardState, guard_state}
 use Rattle.xfs_cli.specs.Served.{EndsUnbooted, Serves}
 use Rattle.xfs_cli.specs.Statuses.{IsCaused, IsStatus}
 use Rattle.xfs_cli.specs.Streams.{Streams}
@@ -61,14 +61,14 @@ pub record IsServed {S A : Type 0} (c : Command S BootFault) (Keeps : A → A �
   pub statuses : IsStatus status
   pub causes : IsCaused status io
 
-module _ {M D S A : Type 0} (m : Mechanisms M) (d : Disks D) (c : Command S BootFault) (see : S → Seen) (IsStartOf : S → Type 0) (Keeps : A → A → Type 0) (state : A → S) (guard : A → GuardView D) (token : A → Option (List ℕ))
+module _ {M D S A : Type 0} (m : Mechanisms M) (d : Disks D) (c : Command S BootFault) (see : S → GuardState) (IsStartOf : S → Type 0) (Keeps : A → A → Type 0) (state : A → S) (guard : A → GuardView D) (token : A → Option (List ℕ))
     (as_read : (disk : D) (all : List ℕ) → d.held disk ≡ Some all → d.images disk all) (restarts : EndsAtRestarts c see) (empty : c.IsLine [])
-    (seen_is : (a : A) → see (state a) ≡ seen d.faults (guard a) (token a)) (keeps : (a b : A) → Keeps a b → Proceeds d (guard a) (guard b)) where
+    (seen_is : (a : A) → see (state a) ≡ guard_state d.faults (guard a) (token a)) (keeps : (a b : A) → Keeps a b → Proceeds d (guard a) (guard b)) where
   disk_is : (a : A) → (see (state a)).disk_faults ≡ d.faults (guard a).disk
-  disk_is a = ap (λ (s : Seen). s.disk_faults) (seen_is a)
+  disk_is a = ap (λ (s : GuardState). s.disk_faults) (seen_is a)
 
   guard_is : (a : A) → (see (state a)).guard ≡ (guard a).state
-  guard_is a = ap (λ (s : Seen). s.guard) (seen_is a)
+  guard_is a = ap (λ (s : GuardState). s.guard) (seen_is a)
 
   told_is : (a : A) → (see (state a)).guard.disk_told ≡ (guard a).state.disk_told
   told_is a = ap (λ (v : View). v.disk_told) (guard_is a)
@@ -133,7 +133,7 @@ pub record IsRefused {M D : Type 0} (m : Mechanisms M) (d : Disks D) (core : Cor
   pub unlisted : IfTold (d.held core.disk) (λ all. ((records : List Rec) → ¬ StandsFor all records) → IsQuiet d core.disk disk)
 
 -- where it was refused
-pub runs-refused : {M D S : Type 0} (m : Mechanisms M) (d : Disks D) (c : Command S BootFault) (see : S → Seen) (IsStartOf : S → Type 0) → c.IsLine [] → (core : Core M D) (why : BootFault) (result : Ended M D) (io : Streams)
+pub runs-refused : {M D S : Type 0} (m : Mechanisms M) (d : Disks D) (c : Command S BootFault) (see : S → GuardState) (IsStartOf : S → Type 0) → c.IsLine [] → (core : Core M D) (why : BootFault) (result : Ended M D) (io : Streams)
     → IsRefused m d core why result.mech result.disk → result.status ≡ boot_status why → WritesBoot why io → io.left ≡ io.input → Runs c see IsStartOf m d core result io
 runs-refused m d c see IsStartOf empty core why result io f status written unread = record {
   serves = told-any io.input _ (λ text. inl (record { why = why; status_is = status; unread = unread; written = written; unmoved = f.mech_is }));

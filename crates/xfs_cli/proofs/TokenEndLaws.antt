@@ -7,7 +7,7 @@ use Rattle.xfs_script.specs.declared.token_line.TokenLine.TheVariants.{Skip}
 use Rattle.xfs_script.specs.Lines.{AllLines, StopsAtLine}
 use Rattle.xfs_script.specs.Reading.{GaveAll}
 use Rattle.xfs_cli.specs.Statuses.{IsStatus, IsFinished}
-use Rattle.xfs_cli.specs.TokenAnswers.{IsLineOfToken}
+use Rattle.xfs_cli.specs.TokenVerbs.{IsLineOfToken}
 use Rattle.xfs_cli.proofs.EndLaws.{lines-all, short-all}
 
 empty-line : IsLineOfToken []

@@ -5,7 +5,7 @@ use Rattle.std.proofs.lemmas.List.{take_more, length-take-le}
 use Rattle.std.proofs.lemmas.Option.{slice_get_within, get_or_from_slice_get}
 use Rattle.xfs_script.specs.Answered.{lines_text, Tells}
 use Rattle.xfs_script.specs.declared.token_line.TokenLine.{TokenLine}
-use Rattle.xfs_cli.specs.TokenAnswers.{AreAnswer, IsAnswer, thousandths_text, joined_amounts}
+use Rattle.xfs_cli.specs.TokenVerbs.{AreAnswer, IsAnswer, thousandths_text, joined_amounts}
 
 -- a front with one more
 take-push : {X : Type 0} (xs : List X) (i : ℕ) (x : X) → slice_get xs i ≡ Some x → take (i + 1) xs ≡ take i xs ++ x ∷ []

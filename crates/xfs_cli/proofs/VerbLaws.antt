@@ -21,7 +21,7 @@ use Rattle.xfs_script.proofs.AnswerLaws.{lines_text-append}
 use Rattle.xfs_script.specs.ReplayLines.{IsReplayLine}
 use Rattle.xfs_script.specs.declared.replay_line.ReplayLine.{ReplayLine}
 use Rattle.xfs_script.specs.declared.replay_line.ReplayLine.TheVariants.{Skip, Join, Leave, Say, At, Work, Rest, CardIn, CardTaken, CardFault, Key, KeyFault, Take, Mint, Restart, Show}
-use Rattle.xfs_cli.specs.ReplayAnswers.{AnswersEvent, AnswersVerb, HasMail, IsTouched, Mints, clients_after, event_of, told, told_to}
+use Rattle.xfs_cli.specs.ReplayEvents.{AnswersEvent, AnswersVerb, HasMail, IsTouched, Mints, clients_after, event_of, told, told_to}
 use Rattle.xfs_cli.specs.ReplayCommand.{AnswersLine, HappensInPart, IsPartDone, rounds}
 use Rattle.xfs_cli.specs.ReplayStates.{Played, ReplayState, is_joined}
 use Rattle.xfs_cli.proofs.ReplayLaws.{part-none, part-one, rests-part}

@@ -12,32 +12,32 @@ use Rattle.xfs_dispenser.specs.declared.leave.Leave.{Leave}
 use Rattle.xfs_script.specs.Guard.{IsGuardLine}
 use Rattle.xfs_script.specs.declared.guard_line.GuardLine.{GuardLine}
 use Rattle.xfs_script.specs.declared.guard_line.GuardLine.TheVariants.{Dispense, Fill, Restart}
-use Rattle.xfs_cli.specs.Seen.{Seen, Becomes, guard_of}
-use Rattle.xfs_cli.specs.OrderAnswers.{MechCalled}
-use Rattle.xfs_cli.specs.DispenseAnswers.{IsAllowed, named}
-use Rattle.xfs_cli.specs.VerbAnswers.{AnswersGuard, IsAnswer, IsLoaded}
-use Rattle.xfs_cli.specs.RestartAnswers.{RestartFails}
+use Rattle.xfs_cli.specs.GuardStates.{GuardState, Becomes, guard_of}
+use Rattle.xfs_cli.specs.Moves.{MechCalled}
+use Rattle.xfs_cli.specs.Dispenses.{IsAllowed, named}
+use Rattle.xfs_cli.specs.GuardVerbs.{AnswersGuard, IsAnswer, IsLoaded}
+use Rattle.xfs_cli.specs.Restarts.{RestartFails}
 use Rattle.xfs_guard.specs.declared.fail.BootFault.{BootFault}
 use Rattle.xfs_script.specs.declared.feed.TheConstants.{LONGEST_LINE}
 
 -- nothing was done; or all of it, and the line that answers it was not written
-abbrev pub AllOrNothing : (List ℕ → Seen → Type 0) → Seen → Seen → Type 0
+abbrev pub AllOrNothing : (List ℕ → GuardState → Type 0) → GuardState → GuardState → Type 0
 AllOrNothing Answer s end = (end ≡ s) ⊎ ((line : List ℕ) × Answer line end)
 
 -- the same of a verb
-abbrev pub WholeOrNone : Seen → GuardLine → Seen → Type 0
+abbrev pub WholeOrNone : GuardState → GuardLine → GuardState → Type 0
 WholeOrNone s verb end = AllOrNothing (IsAnswer s verb) s end
 
 -- a dispense was allowed, and the orders of its first units were carried out
-pub record IsPartDispensed (s : Seen) (token : Option (List ℕ)) (counts : CountsOf) (end : Seen) : Type 0 where
+pub record IsPartDispensed (s : GuardState) (token : Option (List ℕ)) (counts : CountsOf) (end : GuardState) : Type 0 where
   pub leave : Leave
-  pub bound : Seen
+  pub bound : GuardState
   pub allowed : IsAllowed s token counts (Ok leave) bound
   pub first : StacksFirst leave.issue leave.counts.0 (guard_of bound) (guard_of end)
   pub last_is : end.last ≡ bound.last
 
 -- the notes of a `fill` were loaded, and nothing was written down of it
-pub record IsPartFilled (s : Seen) (unit count : ℕ) (end : Seen) : Type 0 where
+pub record IsPartFilled (s : GuardState) (unit count : ℕ) (end : GuardState) : Type 0 where
   pub can : CanLoad s.guard.units s.guard.places unit count
   pub fit : unfit s.guard ≡ None
   pub outcome : Outcome
@@ -46,36 +46,36 @@ pub record IsPartFilled (s : Seen) (unit count : ℕ) (end : Seen) : Type 0 wher
   pub fine : outcome.failed ≡ false
 
 -- a part of a verb was done: of a dispense and of a `fill` as above; of a `restart` the disk was called, and the guard is as it was
-abbrev pub IsPartDone : Seen → GuardLine → Seen → Type 0
+abbrev pub IsPartDone : GuardState → GuardLine → GuardState → Type 0
 IsPartDone s (Dispense token counts) end = IsPartDispensed s (named s.last token) counts end
 IsPartDone s (Fill unit count) end = IsPartFilled s unit count end
 IsPartDone s Restart end = Becomes s s.guard end
 IsPartDone s other end = ⊥
 
 -- what want of memory leaves of a loading
-abbrev pub LeavesOfLoad : Seen → ℕ → ℕ → Seen → Type 0
+abbrev pub LeavesOfLoad : GuardState → ℕ → ℕ → GuardState → Type 0
 LeavesOfLoad s unit count end = AllOrNothing (IsLoaded s unit count) s end ⊎ IsPartFilled s unit count end
 
 -- the verb is `restart`, and that was refused for this
-abbrev pub FailsRestart : Seen → GuardLine → BootFault → Seen → Type 0
+abbrev pub FailsRestart : GuardState → GuardLine → BootFault → GuardState → Type 0
 FailsRestart s verb fault end = (verb ≡ Restart) × RestartFails s fault end
 
 -- what want of memory leaves of a verb
-abbrev pub LeavesOfVerb : Seen → GuardLine → Seen → Type 0
+abbrev pub LeavesOfVerb : GuardState → GuardLine → GuardState → Type 0
 LeavesOfVerb s verb end = WholeOrNone s verb end ⊎ IsPartDone s verb end
 
 -- all was done that the line asks for
-pub record IsCarriedOut (s : Seen) (text : List ℕ) (end : Seen) : Type 0 where
+pub record IsCarriedOut (s : GuardState) (text : List ℕ) (end : GuardState) : Type 0 where
   pub output : List (List ℕ)
   pub answered : AnswersGuard s text output end
 
 -- a part was done
-pub record IsBrokenOff (s : Seen) (text : List ℕ) (end : Seen) : Type 0 where
+pub record IsBrokenOff (s : GuardState) (text : List ℕ) (end : GuardState) : Type 0 where
   pub verb : GuardLine
   pub reads : IsGuardLine text verb
   pub short : length text ≤ LONGEST_LINE
   pub part : IsPartDone s verb end
 
 -- what want of memory leaves of a line: nothing of it was done, or all of it, or a part
-abbrev pub IsBegun : Seen → List ℕ → Seen → Type 0
+abbrev pub IsBegun : GuardState → List ℕ → GuardState → Type 0
 IsBegun s text end = (end ≡ s) ⊎ (IsCarriedOut s text end ⊎ IsBrokenOff s text end)

@@ -8,12 +8,12 @@ use Rattle.xfs_script.specs.Counts.{counts_text}
 use Rattle.xfs_script.specs.declared.guard_line.Given.{Given}
 use Rattle.xfs_script.specs.declared.guard_line.GuardLine.{GuardLine}
 use Rattle.xfs_script.specs.declared.guard_line.GuardLine.TheVariants.{Dispense, Present}
-use Rattle.xfs_cli.specs.Seen.{Seen, guard_of}
-use Rattle.xfs_cli.specs.DispenseAnswers.{named}
-use Rattle.xfs_cli.specs.VerbAnswers.{AnswersGuard}
+use Rattle.xfs_cli.specs.GuardStates.{GuardState, guard_of}
+use Rattle.xfs_cli.specs.Dispenses.{named}
+use Rattle.xfs_cli.specs.GuardVerbs.{AnswersGuard}
 
 -- no count of faults rose
-abbrev pub IsCalm : Seen → Seen → Type 0
+abbrev pub IsCalm : GuardState → GuardState → Type 0
 IsCalm s next = Of.IsCalm (guard_of s) (guard_of next)
 
 -- the line that tells that these notes were moved, and that nothing failed
@@ -21,7 +21,7 @@ abbrev pub moved_line : CountsOf → List ℕ
 moved_line counts = codes "moved" ++ codes " " ++ counts_text counts
 
 -- exactly these notes went from the units to the transport, the line tells them, and where the outlet is empty nothing stands against a present
-pub record IsDispensed (s : Seen) (counts : CountsOf) (output : List (List ℕ)) (next : Seen) : Type 0 where
+pub record IsDispensed (s : GuardState) (counts : CountsOf) (output : List (List ℕ)) (next : GuardState) : Type 0 where
   pub text : output ≡ moved_line counts ∷ []
   pub gained : (u : ℕ) → at next.guard.places.transport u ≡ at s.guard.places.transport u + at counts u
   pub given : (u : ℕ) → at next.guard.places.units u + at counts u ≡ at s.guard.places.units u
@@ -29,18 +29,18 @@ pub record IsDispensed (s : Seen) (counts : CountsOf) (output : List (List ℕ))
   pub ready : sum next.guard.places.outlet.0 ≡ 0 → CanPresent next.guard
 
 -- the whole transport went into the outlet, and the line tells its notes
-pub record IsPresented (s : Seen) (output : List (List ℕ)) (next : Seen) : Type 0 where
+pub record IsPresented (s : GuardState) (output : List (List ℕ)) (next : GuardState) : Type 0 where
   pub text : output ≡ moved_line s.guard.places.transport ∷ []
   pub gained : (u : ℕ) → at next.guard.places.outlet u ≡ at s.guard.places.outlet u + at s.guard.places.transport u
   pub left : IsZero next.guard.places.transport
 
 -- a dispense and a present that nothing stands against are answered in full, where no count of faults rises
-pub record IsComplete (s : Seen) (verb : GuardLine) (output : List (List ℕ)) (next : Seen) : Type 0 where
+pub record IsComplete (s : GuardState) (verb : GuardLine) (output : List (List ℕ)) (next : GuardState) : Type 0 where
   pub dispense : (given : Given) (counts : CountsOf) (bytes : List ℕ) → verb ≡ Dispense given counts → named s.last given ≡ Some bytes → CanDispense s.guard bytes counts → IsCalm s next
       → IsDispensed s counts output next
   pub present : verb ≡ Present → CanPresent s.guard → IsCalm s next → IsPresented s output next
 
--- a line of `guard`, what answers it, in full where nothing stands against it, and the session then
-pub record AnswersInFull (s : Seen) (text : List ℕ) (output : List (List ℕ)) (next : Seen) : Type 0 where
+-- a line of `guard`, what answers it, in full where nothing stands against it, and the state then
+pub record AnswersInFull (s : GuardState) (text : List ℕ) (output : List (List ℕ)) (next : GuardState) : Type 0 where
   pub answers : AnswersGuard s text output next
   pub complete : IsComplete s answers.verb output next

@@ -7,23 +7,23 @@ use Rattle.xfs_guard.specs.Continues.{Continues}
 use Rattle.xfs_guard.specs.declared.fail.BootFault.{BootFault}
 use Rattle.xfs_cli.specs.Begun.{IsBegun}
 use Rattle.xfs_cli.specs.GuardLines.{IsLine}
-use Rattle.xfs_cli.specs.RestartAnswers.{EndsRestart}
-use Rattle.xfs_cli.specs.Seen.{Seen, IsLater}
+use Rattle.xfs_cli.specs.Restarts.{EndsRestart}
+use Rattle.xfs_cli.specs.GuardStates.{GuardState, IsLater}
 use Rattle.xfs_cli.specs.Complete.{AnswersInFull}
 
 -- want of memory leaves nothing of a line, or all of it, or a part, and goes on from what stood before it
-pub record LeavesGuard (s : Seen) (text : List ℕ) (end : Seen) : Type 0 where
+pub record LeavesGuard (s : GuardState) (text : List ℕ) (end : GuardState) : Type 0 where
   pub begun : IsBegun s text end
   pub continues : Continues s.guard end.guard
   pub later : IsLater s end
 
-abbrev pub guard_lines : Command Seen BootFault
-guard_lines = record { IsLine = IsLine; Answers = AnswersInFull; Leaves = LeavesGuard; EndsAt = EndsRestart (λ (s : Seen). s) }
+abbrev pub guard_lines : Command GuardState BootFault
+guard_lines = record { IsLine = IsLine; Answers = AnswersInFull; Leaves = LeavesGuard; EndsAt = EndsRestart (λ (s : GuardState). s) }
 
 -- want of memory may leave nothing of a line
-pub leaves-nothing : (s : Seen) (text : List ℕ) → LeavesGuard s text s
+pub leaves-nothing : (s : GuardState) (text : List ℕ) → LeavesGuard s text s
 leaves-nothing s text = record { begun = inl refl; continues = Continues-same s.guard; later = record { mech = omega arith; disk = omega arith } }
 
 -- what is answered is a line
-pub is-line : (s next : Seen) (text : List ℕ) (output : List (List ℕ)) → AnswersInFull s text output next → IsLine text
+pub is-line : (s next : GuardState) (text : List ℕ) (output : List (List ℕ)) → AnswersInFull s text output next → IsLine text
 is-line s next text output a = record { verb = a.answers.verb; reads = a.answers.reads; short = a.answers.short }

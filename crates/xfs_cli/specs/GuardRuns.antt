@@ -5,10 +5,10 @@ use Rattle.xfs_guard.specs.declared.machine_core.Core.{Core}
 use Rattle.xfs_cli.specs.GuardCommand.{guard_lines}
 use Rattle.xfs_cli.specs.GuardStarts.{IsStart, at_entry}
 use Rattle.xfs_cli.specs.Runs.{Runs}
-use Rattle.xfs_cli.specs.Seen.{Seen}
+use Rattle.xfs_cli.specs.GuardStates.{GuardState}
 use Rattle.xfs_cli.specs.Streams.{Streams}
 use Rattle.xfs_cli.specs.declared.ended.Ended.{Ended}
 
 -- its lines are answered from the state that the boot begins, which is seen whole
 abbrev pub RunsGuard : {M D : Type 0} → Mechanisms M → Disks D → Core M D → Ended M D → Streams → Type 0
-RunsGuard m d core result io = Runs guard_lines (λ (s : Seen). s) (IsStart (at_entry m d core)) m d core result io
+RunsGuard m d core result io = Runs guard_lines (λ (s : GuardState). s) (IsStart (at_entry m d core)) m d core result io

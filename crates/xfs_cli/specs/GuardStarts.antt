@@ -1,4 +1,4 @@
--- What a run of `guard` finds, and the session that its boot begins.
+-- What a run of `guard` finds, and the state that its boot begins.
 use Rattle.std.specs.Prelude.{◌≡◌, ◌≤◌, ℕ, false, List, [], ◌∷◌, ◌++◌, is_some, None}
 use Rattle.std.specs.declared.option.Option.{Option}
 use Rattle.xfs_base.specs.Causes.{IfTold}
@@ -15,7 +15,7 @@ use Rattle.xfs_guard.specs.Balance.{no_notes}
 use Rattle.xfs_guard.specs.View.{View}
 use Rattle.xfs_guard.specs.declared.machine_core.Core.{Core}
 use Rattle.xfs_guard.specs.declared.open.Open.TheVariants.{No}
-use Rattle.xfs_cli.specs.Seen.{Seen}
+use Rattle.xfs_cli.specs.GuardStates.{GuardState}
 
 -- what a command finds at its entry: the key, the seed, the table of the units, the journal's limits, what the mechanism tells, the disk's bytes where it tells them, and how often the disk failed
 pub record AtEntry : Type 0 where
@@ -64,8 +64,8 @@ opened e records = record {
   disk_told = is_some e.held;
 }
 
--- the session that the boot begins: the list that the disk had, with a Boot of the mechanism's places behind it; no token was minted
-pub record IsStart (e : AtEntry) (start : Seen) : Type 0 where
+-- the state that the boot begins: the list that the disk had, with a Boot of the mechanism's places behind it; no token was minted
+pub record IsStart (e : AtEntry) (start : GuardState) : Type 0 where
   pub records : List Rec
   pub stands : IfTold e.held (λ bytes. StandsFor bytes records)
   pub guard_is : start.guard ≡ opened e (records ++ Boot e.places ∷ [])

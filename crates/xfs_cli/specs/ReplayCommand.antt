@@ -15,12 +15,12 @@ use Rattle.xfs_script.specs.declared.replay_line.ReplayLine.TheVariants.{Rest}
 use Rattle.xfs_model.specs.Events.{Event, Answer, work, outbox}
 use Rattle.xfs_model.specs.State.{State}
 use Rattle.xfs_model.specs.Step.{Step}
-use Rattle.xfs_cli.specs.RestartAnswers.{EndsRestart, RestartFails}
-use Rattle.xfs_cli.specs.Seen.{IsLater}
-use Rattle.xfs_cli.specs.ReplayStates.{Played, ReplayState, seen_of, state_in}
+use Rattle.xfs_cli.specs.Restarts.{EndsRestart, RestartFails}
+use Rattle.xfs_cli.specs.GuardStates.{IsLater}
+use Rattle.xfs_cli.specs.ReplayStates.{Played, ReplayState, guard_state_of, state_in}
 use Rattle.xfs_cli.specs.declared.clients.Client.{Client}
 use Rattle.xfs_cli.specs.declared.player.Player.{Player}
-use Rattle.xfs_cli.specs.ReplayAnswers.{AnswersReplay, event_of, round}
+use Rattle.xfs_cli.specs.ReplayEvents.{AnswersReplay, event_of, round}
 use Rattle.xfs_script.specs.declared.feed.TheConstants.{LONGEST_LINE}
 
 -- a line of at most 70,000 bytes that writes a verb
@@ -59,7 +59,7 @@ IsPartDone s verb end = HappensInPart (option_to_list (event_of s verb)) s.machi
 
 -- the restart of a player is refused for this
 abbrev pub IsRestartRefused : {M D : Type 0} {m : Mechanisms M} {d : Disks D} → (D → ℕ) → Player M D m d → BootFault → Player M D m d → Type 0
-IsRestartRefused faults old why new = RestartFails (seen_of (state_in faults old)) why (seen_of (state_in faults new))
+IsRestartRefused faults old why new = RestartFails (guard_state_of (state_in faults old)) why (guard_state_of (state_in faults new))
 
 -- the first of the clients were handed the frames that waited for them
 abbrev pub IsPartMailed : List Client → State → State → Type 0
@@ -78,14 +78,14 @@ pub record IsBegun (s : Played) (text : List ℕ) (end : Played) : Type 0 where
 pub record LeavesReplay (s : ReplayState) (text : List ℕ) (end : ReplayState) : Type 0 where
   pub begun : (end ≡ s) ⊎ IsBegun s.played text end.played
   pub continues : Continues s.played.machine.seen.guard end.played.machine.seen.guard
-  pub later : IsLater (seen_of s) (seen_of end)
+  pub later : IsLater (guard_state_of s) (guard_state_of end)
 
 -- the lines are answered by the player
 abbrev pub AnswersLine : ReplayState → List ℕ → List (List ℕ) → ReplayState → Type 0
 AnswersLine s text output next = AnswersReplay s.played text output next.played
 
 abbrev pub replay_lines : Command ReplayState BootFault
-replay_lines = record { IsLine = IsLine; Answers = AnswersLine; Leaves = LeavesReplay; EndsAt = EndsRestart seen_of }
+replay_lines = record { IsLine = IsLine; Answers = AnswersLine; Leaves = LeavesReplay; EndsAt = EndsRestart guard_state_of }
 
 -- want of memory may leave nothing of a line
 pub leaves-none : (s : ReplayState) (text : List ℕ) → LeavesReplay s text s

@@ -7,7 +7,7 @@ use Rattle.xfs_base.specs.declared.moment.Moment.{Moment}
 use Rattle.xfs_disk.specs.declared.disk.Disk.{Ghosts as Disks}
 use Rattle.xfs_mech.specs.declared.mechanism.Mechanism.{Ghosts as Mechanisms}
 use Rattle.xfs_model.specs.State.{Pass, State}
-use Rattle.xfs_cli.specs.Seen.{Seen}
+use Rattle.xfs_cli.specs.GuardStates.{GuardState}
 use Rattle.xfs_cli.specs.declared.clients.Client.{Client}
 use Rattle.xfs_cli.specs.declared.player.Player.{Player}
 
@@ -31,8 +31,8 @@ abbrev pub state_in : {M D : Type 0} {m : Mechanisms M} {d : Disks D} → (D →
 state_in faults p = record { played = played p; disk_faults = faults p.machine.disk }
 
 -- what a run of `guard` would see of it: the guard, how often its disk failed, and the last token
-abbrev pub seen_of : ReplayState → Seen
-seen_of s = record { guard = s.played.machine.seen.guard; disk_faults = s.disk_faults; last = s.played.last }
+abbrev pub guard_state_of : ReplayState → GuardState
+guard_state_of s = record { guard = s.played.machine.seen.guard; disk_faults = s.disk_faults; last = s.played.last }
 
 abbrev pub is_number : ℕ → Client → Bool
 is_number number client = client.number == number

@@ -15,7 +15,7 @@ use Rattle.xfs_guard.specs.declared.fail.BootFault.{BootFault}
 use Rattle.xfs_script.specs.Commands.{Command}
 use Rattle.xfs_script.specs.Lines.{AllLines, StopsAtLine}
 use Rattle.xfs_cli.specs.Boots.{BootExceeds, EndsFailed, EndsFull, EndsUnread, IsDue, IsNoJournal, IsUnwritten, WritesBoot, boot_status}
-use Rattle.xfs_cli.specs.Seen.{IsStill, Seen}
+use Rattle.xfs_cli.specs.GuardStates.{IsStill, GuardState}
 use Rattle.xfs_cli.specs.Served.{Serves}
 use Rattle.xfs_cli.specs.Statuses.{HasFullRestart, IsFinished, IsUnhindered}
 use Rattle.xfs_cli.specs.Streams.{Streams}
@@ -29,7 +29,7 @@ pub record FromStart {S : Type 0} (IsStartOf Writes : S → Type 0) : Type 0 whe
   pub writes : Writes start
 
 -- the mechanism and the disk that come back are those of the last state
-pub record IsEnd {M D : Type 0} (m : Mechanisms M) (d : Disks D) (result : Ended M D) (last : Seen) : Type 0 where
+pub record IsEnd {M D : Type 0} (m : Mechanisms M) (d : Disks D) (result : Ended M D) (last : GuardState) : Type 0 where
   pub motions : last.guard.motions ≡ m.motions result.mech
   pub places : last.guard.places ≡ m.places result.mech
   pub mech_faults : last.guard.faults ≡ m.faults result.mech
@@ -38,7 +38,7 @@ pub record IsEnd {M D : Type 0} (m : Mechanisms M) (d : Disks D) (result : Ended
   pub stored : IfTold (d.held result.disk) (λ _. (bytes : List ℕ) → d.images result.disk bytes → HasPossible last.guard.records last.guard.in_doubt bytes)
 
 -- the lines are served from a state on, until that of the mechanism and the disk that come back
-pub record ServesUntil {M D S : Type 0} (c : Command S BootFault) (see : S → Seen) (m : Mechanisms M) (d : Disks D) (result : Ended M D) (io : Streams) (text : List ℕ) (start : S) : Type 0 where
+pub record ServesUntil {M D S : Type 0} (c : Command S BootFault) (see : S → GuardState) (m : Mechanisms M) (d : Disks D) (result : Ended M D) (io : Streams) (text : List ℕ) (start : S) : Type 0 where
   pub end : S
   pub ends : IsEnd m d result (see end)
   pub serves : Serves c start end result.status io text
@@ -72,10 +72,10 @@ pub record NothingFailed (io : Streams) (disk_faults now : ℕ) : Type 0 where
   pub disk : ¬ (Rose disk_faults now)
 
 -- the mechanism that comes back is still as a state has it
-abbrev pub IsStillAt : {M D : Type 0} → Mechanisms M → Disks D → Ended M D → Seen → Type 0
+abbrev pub IsStillAt : {M D : Type 0} → Mechanisms M → Disks D → Ended M D → GuardState → Type 0
 IsStillAt m d result = IsStill (m.motions result.mech) (m.places result.mech) (m.faults result.mech) (d.faults result.disk)
 
-pub record Runs {M D S : Type 0} (c : Command S BootFault) (see : S → Seen) (IsStartOf : S → Type 0) (m : Mechanisms M) (d : Disks D) (core : Core M D) (result : Ended M D) (io : Streams) : Type 0 where
+pub record Runs {M D S : Type 0} (c : Command S BootFault) (see : S → GuardState) (IsStartOf : S → Type 0) (m : Mechanisms M) (d : Disks D) (core : Core M D) (result : Ended M D) (io : Streams) : Type 0 where
   -- what is written: the answers of the lines from the boot on, and at most one last line
   pub serves : IfTold io.input (λ text. IsUnbooted core result io ⊎ FromStart IsStartOf (ServesUntil c see m d result io text))
   pub lines : result.status ≡ READ_TO_END → IfTold io.input (AllLines c.IsLine)

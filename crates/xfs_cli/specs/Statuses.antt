@@ -11,8 +11,8 @@ use Rattle.xfs_script.specs.Commands.{Command}
 use Rattle.xfs_script.specs.Lines.{behind, first_line, first_lines, AllLines}
 use Rattle.xfs_script.specs.Reading.{GaveAll}
 use Rattle.xfs_guard.specs.declared.fail.BootFault.{BootFault}
-use Rattle.xfs_cli.specs.RestartAnswers.{HasNoRoom}
-use Rattle.xfs_cli.specs.Seen.{Seen}
+use Rattle.xfs_cli.specs.Restarts.{HasNoRoom}
+use Rattle.xfs_cli.specs.GuardStates.{GuardState}
 use Rattle.xfs_cli.specs.Streams.{Streams}
 use Rattle.xfs_cli.specs.declared.status.TheConstants.{DISK_FAULT, INPUT_TOO_LONG, JOURNAL_FULL, NOT_A_JOURNAL, NOT_A_LINE, NO_MEMORY, READ_FAULT, READ_TO_END, USAGE, WRITE_FAULT}
 use Rattle.xfs_script.specs.declared.feed.TheConstants.{QUOTA}
@@ -34,7 +34,7 @@ pub record IsCaused (status : ℕ) (io : Streams) : Type 0 where
   pub quota : status ≡ INPUT_TOO_LONG → GaveAll io.input io.left
 
 -- a line of the text is `restart`, and finds no room for its Boot behind the state that the lines before it left, answered from the start of the run on; Ends tells of what is seen of that state
-pub record HasFullRestart {S : Type 0} (c : Command S BootFault) (see : S → Seen) (IsStartOf : S → Type 0) (Ends : Seen → Type 0) (text : List ℕ) : Type 0 where
+pub record HasFullRestart {S : Type 0} (c : Command S BootFault) (see : S → GuardState) (IsStartOf : S → Type 0) (Ends : GuardState → Type 0) (text : List ℕ) : Type 0 where
   pub start : S
   pub begins : IsStartOf start
   pub many : ℕ

@@ -6,7 +6,7 @@ use Rattle.xfs_script.specs.Lines.{AllLines, StopsAtLine}
 use Rattle.xfs_cli.specs.Served.{Serves, WritesLast, usage_line}
 use Rattle.xfs_cli.specs.Statuses.{IsFinished}
 use Rattle.xfs_cli.specs.Streams.{Streams}
-use Rattle.xfs_cli.specs.TokenAnswers.{IsLineOfToken, token_lines}
+use Rattle.xfs_cli.specs.TokenVerbs.{IsLineOfToken, token_lines}
 use Rattle.xfs_cli.specs.declared.ended.Ended.{Ended}
 use Rattle.xfs_cli.specs.declared.status.TheConstants.{DISK_FAULT, JOURNAL_FULL, NOT_A_JOURNAL, NOT_A_LINE, READ_TO_END}
 use Rattle.xfs_script.specs.declared.feed.TheConstants.{QUOTA}

@@ -14,9 +14,9 @@ ghost use Rattle.xfs_cli.specs.TokenRuns.{IsKept, WritesUsage};
 ghost use Rattle.xfs_cli.specs.Upholds.{AtRest, Starts, UpholdsAll};
 
 use crate::ended::Ended;
+use crate::guard_player::GuardPlayer;
 use crate::last_line::{unbooted, usage};
 use crate::serve::serve;
-use crate::session::Session;
 use crate::status::USAGE;
 use crate::token_key::TokenKey;
 use crate::words::is_word;
@@ -70,14 +70,14 @@ pub fn guard<S: Source, K: Sink, M: Mechanism, D: Disk>(
     }
     match Guard::boot(alloc, mech, disk, key, seed, units, limits) {
         Ok(guard) => {
-            let mut session = Session {
+            let mut player = GuardPlayer {
                 alloc,
                 guard,
                 key: TokenKey::new(key),
                 last: None,
             };
-            let status = serve(alloc, &mut session, source, sink);
-            let (mech, disk) = ended(session);
+            let status = serve(alloc, &mut player, source, sink);
+            let (mech, disk) = ended(player);
             Ended { status, mech, disk }
         }
         Err(BootFail { why, mech, disk }) => Ended {
@@ -88,22 +88,22 @@ pub fn guard<S: Source, K: Sink, M: Mechanism, D: Disk>(
     }
 }
 
-// The mechanism and the disk of a session that is over.
-fn ended<M: Mechanism, D: Disk>(session: Session<M, D>) -> (M, D)
-    ensures recorded { (records : List Rec) → MayLeave D.Disk result.1 records → IsRecorded session.guard.state.key session.guard.state.units records session.guard.state.motions }
-    ensures stored { IsStored D.Disk result.1 session.guard.state.records session.guard.state.in_doubt }
-    ensures motions { M.motions result.0 ≡ session.guard.state.motions }
-    ensures places { M.places result.0 ≡ session.guard.state.places }
-    ensures faults { M.faults result.0 ≡ session.guard.state.faults }
-    ensures units { M.units result.0 ≡ session.guard.state.units }
-    ensures told { is_some (D.held result.1) ≡ session.guard.state.disk_told }
-    ensures disk { result.1 ≡ session.guard.disk }
+// The mechanism and the disk of a player that is over.
+fn ended<M: Mechanism, D: Disk>(player: GuardPlayer<M, D>) -> (M, D)
+    ensures recorded { (records : List Rec) → MayLeave D.Disk result.1 records → IsRecorded player.guard.state.key player.guard.state.units records player.guard.state.motions }
+    ensures stored { IsStored D.Disk result.1 player.guard.state.records player.guard.state.in_doubt }
+    ensures motions { M.motions result.0 ≡ player.guard.state.motions }
+    ensures places { M.places result.0 ≡ player.guard.state.places }
+    ensures faults { M.faults result.0 ≡ player.guard.state.faults }
+    ensures units { M.units result.0 ≡ player.guard.state.units }
+    ensures told { is_some (D.held result.1) ≡ player.guard.state.disk_told }
+    ensures disk { result.1 ≡ player.guard.disk }
 {
-    let Session {
+    let GuardPlayer {
         alloc: _,
         guard,
         key: _,
         last: _,
-    } = session;
+    } = player;
     guard.end()
 }

@@ -1,10 +1,11 @@
 //! The top call of the program, and the commands that it runs.
 #![tactic(auto)]
 
-mod answer;
 mod clients;
 mod ended;
+mod guard_answer;
 mod guard_command;
+mod guard_player;
 mod last_line;
 mod mail;
 mod player;
@@ -14,7 +15,6 @@ mod replay_command;
 mod rest;
 mod say;
 mod serve;
-mod session;
 pub mod status;
 mod text;
 mod token_answer;

@@ -4,7 +4,7 @@ ghost use Rattle.std.specs.Prelude.{◌≡◌, ◌∷◌, ◌++◌, [], map, IfO
 ghost use Rattle.xfs_guard.specs.Keeps.{Proceeds};
 ghost use Rattle.xfs_machine.specs.MachineView.{guard_of};
 ghost use Rattle.xfs_script.specs.Answered.{lines_text};
-ghost use Rattle.xfs_cli.specs.ReplayAnswers.{HasMail, frame_line};
+ghost use Rattle.xfs_cli.specs.ReplayEvents.{HasMail, frame_line};
 ghost use Rattle.xfs_cli.specs.ReplayCommand.{IsPartMailed};
 ghost use Rattle.xfs_cli.specs.ReplayStates.{played};
 

@@ -1,7 +1,7 @@
 //! A line of `replay` and its answer.
 
+use crate::guard_player::NoAnswer;
 use crate::player::Player;
-use crate::session::AnswerFault;
 use xfs_disk::Disk;
 use xfs_guard::BootFault;
 use xfs_mech::Mechanism;
@@ -35,8 +35,8 @@ impl<M: Mechanism, D: Disk> Answerer for Player<M, D> {
         };
         let text = match self.answer_verb(verb) {
             Ok(text) => text,
-            Err(AnswerFault::Unbooted(fault)) => return Err(Unanswered::Ends(fault)),
-            Err(AnswerFault::Memory) => return Err(Unanswered::Memory),
+            Err(NoAnswer::Unbooted(fault)) => return Err(Unanswered::Ends(fault)),
+            Err(NoAnswer::Memory) => return Err(Unanswered::Memory),
         };
         match self.mail(text) {
             Ok(text) => Ok(text),

@@ -6,7 +6,7 @@ ghost use Rattle.xfs_machine.specs.MachineView.{guard_of};
 ghost use Rattle.xfs_model.specs.Events.{work};
 ghost use Rattle.xfs_script.specs.Answered.{Tells};
 ghost use Rattle.xfs_script.specs.declared.replay_line.ReplayLine.TheVariants as verbs;
-ghost use Rattle.xfs_cli.specs.ReplayAnswers.{AnswersVerb, Rests, Turns, round};
+ghost use Rattle.xfs_cli.specs.ReplayEvents.{AnswersVerb, Rests, Turns, round};
 ghost use Rattle.xfs_cli.specs.ReplayCommand.{HappensInPart, IsPartDone, rounds};
 ghost use Rattle.xfs_cli.specs.ReplayStates.{played};
 

@@ -2,7 +2,7 @@
 
 ghost use Rattle.std.specs.Prelude.{◌≡◌, ◌<◌, ◌≤◌, [], ◌∷◌, ◌++◌, IfOk, OnOk};
 ghost use Rattle.xfs_script.specs.Answered.{lines_text};
-ghost use Rattle.xfs_cli.specs.GuardAnswers.{outcome_text, show_lines, unit_line, unit_counts, count_text};
+ghost use Rattle.xfs_cli.specs.GuardTexts.{outcome_text, show_lines, unit_line, unit_counts, count_text};
 
 use itoa::Buffer;
 use std::alloc::{AllocError, Global};

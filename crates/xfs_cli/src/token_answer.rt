@@ -5,8 +5,8 @@ ghost use Rattle.hex.specs.Hex.{encode_lower};
 ghost use Rattle.xfs_hmac.specs.Hmac.{hmac};
 ghost use Rattle.xfs_token.specs.Amounts.{amounts_of};
 ghost use Rattle.xfs_script.specs.Answered.{Tells};
-ghost use Rattle.xfs_cli.specs.TokenAnswers.{AreAnswer, IsFaultText, TellsMade, TellsRead, thousandths_text, amounts_text, joined_amounts, token_text};
-ghost use Rattle.xfs_cli.specs.TokenAnswers as answers;
+ghost use Rattle.xfs_cli.specs.TokenVerbs.{AreAnswer, IsFaultText, TellsMade, TellsRead, thousandths_text, amounts_text, joined_amounts, token_text};
+ghost use Rattle.xfs_cli.specs.TokenVerbs as answers;
 
 use crate::text::{ended, joined};
 use crate::token_key::TokenKey;
@@ -28,7 +28,7 @@ pub struct Tokens {
 impl Answerer for Tokens {
     ghost use Rattle.std.specs.Prelude.{◌≡◌, ℕ, List, ⊤};
     ghost use Rattle.std.proofs.Common.{refl, ◌∙◌};
-    ghost use Rattle.xfs_cli.specs.TokenAnswers.{token_lines, is-line};
+    ghost use Rattle.xfs_cli.specs.TokenVerbs.{token_lines, is-line};
 
     type End = BootFault;
 

@@ -9,12 +9,12 @@ ghost use Rattle.xfs_machine.specs.MachineView.{guard_of};
 ghost use Rattle.xfs_model.specs.Events.{touch as touched_by};
 ghost use Rattle.xfs_script.specs.Answered.{Tells, lines_text};
 ghost use Rattle.xfs_script.specs.declared.replay_line.ReplayLine.TheVariants as verbs;
-ghost use Rattle.xfs_cli.specs.ReplayAnswers.{AnswersVerb, IsTouched, filled, token_bytes};
+ghost use Rattle.xfs_cli.specs.ReplayEvents.{AnswersVerb, IsTouched, filled, token_bytes};
 ghost use Rattle.xfs_cli.specs.ReplayCommand.{HappensInPart, IsPartDone, IsRestartRefused};
 ghost use Rattle.xfs_cli.specs.ReplayStates.{played};
 
+use crate::guard_player::NoAnswer;
 use crate::player::Player;
-use crate::session::AnswerFault;
 use crate::text::{line, show_text};
 use itoa::Buffer;
 use std::alloc::{AllocError, Global};
@@ -27,12 +27,12 @@ use xfs_token::Amounts;
 
 impl<M: Mechanism, D: Disk> Player<M, D> {
     /// What a verb is answered: the lines of the answer, a line feed behind each.
-    pub fn answer_verb(&mut self, verb: ReplayLine) -> Result<Vec<u8>, AnswerFault>
+    pub fn answer_verb(&mut self, verb: ReplayLine) -> Result<Vec<u8>, NoAnswer>
         requires { (m : Moment) → verb ≡ verbs.At m → m.0 ≤ LAST_MOMENT }
         ensures answer { IfOk result (λ text. Tells (AnswersVerb (played self.old) verb) text.items (played self.new)) }
-        ensures memory { result ≡ Err AnswerFault.Memory → IsPartDone (played self.old) verb (played self.new) }
-        ensures restart { (f : BootFault) → result ≡ Err (AnswerFault.Unbooted f) → verb ≡ verbs.Restart }
-        ensures unbooted { (f : BootFault) → result ≡ Err (AnswerFault.Unbooted f) → IsRestartRefused D.faults self.old f self.new }
+        ensures memory { result ≡ Err NoAnswer.Memory → IsPartDone (played self.old) verb (played self.new) }
+        ensures restart { (f : BootFault) → result ≡ Err (NoAnswer.Unbooted f) → verb ≡ verbs.Restart }
+        ensures unbooted { (f : BootFault) → result ≡ Err (NoAnswer.Unbooted f) → IsRestartRefused D.faults self.old f self.new }
         ensures proceeds { Proceeds D.Disk (guard_of self.old.machine) (guard_of self.new.machine) }
     {
         match verb {
@@ -152,10 +152,10 @@ impl<M: Mechanism, D: Disk> Player<M, D> {
     }
 
     // Boots again on the same mechanism and disk. The moment and the last token stay.
-    fn restart(&mut self) -> Result<Vec<u8>, AnswerFault>
+    fn restart(&mut self) -> Result<Vec<u8>, NoAnswer>
         ensures answer { IfOk result (λ text. Tells (AnswersVerb (played self.old) verbs.Restart) text.items (played self.new)) }
-        ensures memory { result ≡ Err AnswerFault.Memory → IsPartDone (played self.old) verbs.Restart (played self.new) }
-        ensures unbooted { (f : BootFault) → result ≡ Err (AnswerFault.Unbooted f) → IsRestartRefused D.faults self.old f self.new }
+        ensures memory { result ≡ Err NoAnswer.Memory → IsPartDone (played self.old) verbs.Restart (played self.new) }
+        ensures unbooted { (f : BootFault) → result ≡ Err (NoAnswer.Unbooted f) → IsRestartRefused D.faults self.old f self.new }
         ensures proceeds { Proceeds D.Disk (guard_of self.old.machine) (guard_of self.new.machine) }
     {
         self.machine.reboot()?;

@@ -1,6 +1,6 @@
 use Rattle.std.proofs.Common.{◌≡◌, take}
 use Rattle.xfs_machine.specs.MachineView.{guard_of}
-use Rattle.xfs_cli.specs.ReplayAnswers.{HasMail}
+use Rattle.xfs_cli.specs.ReplayEvents.{HasMail}
 use Rattle.xfs_cli.proofs.mail.hand_over.Given as goal
 
 abbrev pub invariant-loop-client : goal.invariant-loop-client

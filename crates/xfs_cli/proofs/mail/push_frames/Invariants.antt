@@ -1,6 +1,6 @@
 use Rattle.std.proofs.Common.{◌≡◌, ◌++◌, take, map}
 use Rattle.xfs_script.specs.Answered.{lines_text}
-use Rattle.xfs_cli.specs.ReplayAnswers.{frame_line}
+use Rattle.xfs_cli.specs.ReplayEvents.{frame_line}
 use Rattle.xfs_cli.proofs.mail.push_frames.Given as goal
 
 abbrev pub invariant-loop-frame : goal.invariant-loop-frame

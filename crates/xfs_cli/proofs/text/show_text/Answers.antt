@@ -1,7 +1,7 @@
 use Rattle.std.proofs.Common.{◌∙◌, ap, sym, add-one, append_assoc, [], ◌∷◌}
 use Rattle.xfs_script.specs.Answered.{lines_text}
 use Rattle.xfs_script.proofs.AnswerLaws.{lines_text-append}
-use Rattle.xfs_cli.specs.GuardAnswers.{show_lines, unit_line}
+use Rattle.xfs_cli.specs.GuardTexts.{show_lines, unit_line}
 use Rattle.xfs_cli.proofs.text.show_text.Goals as goal
 
 pub loop-place-preserved : goal.loop-place-preserved

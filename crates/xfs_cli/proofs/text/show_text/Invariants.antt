@@ -1,6 +1,6 @@
 use Rattle.std.proofs.Common.{◌≡◌}
 use Rattle.xfs_script.specs.Answered.{lines_text}
-use Rattle.xfs_cli.specs.GuardAnswers.{show_lines}
+use Rattle.xfs_cli.specs.GuardTexts.{show_lines}
 use Rattle.xfs_cli.proofs.text.show_text.Given as goal
 
 abbrev pub invariant-loop-place : goal.invariant-loop-place

@@ -1,5 +1,5 @@
 use Rattle.std.proofs.Common.{◌≡◌, ◌≤◌, ◌++◌, take}
-use Rattle.xfs_cli.specs.TokenAnswers.{joined_amounts}
+use Rattle.xfs_cli.specs.TokenVerbs.{joined_amounts}
 use Rattle.xfs_cli.proofs.token_answer.push_amounts.Given as goal
 
 abbrev pub invariant-amounts : goal.invariant-amounts

@@ -1,5 +1,5 @@
 use Rattle.std.proofs.Common.{◌≡◌, take}
-use Rattle.xfs_cli.specs.ReplayAnswers.{filled}
+use Rattle.xfs_cli.specs.ReplayEvents.{filled}
 use Rattle.xfs_cli.proofs.verbs.filled.Given as goal
 
 abbrev pub invariant-loop-byte : goal.invariant-loop-byte

@@ -2,7 +2,7 @@ use Rattle.std.proofs.Common.{refl}
 use Rattle.std.proofs.lemmas.Result.{IfOk-weaker}
 use Rattle.xfs_guard.proofs.KeepsLaws.{Proceeds-same}
 use Rattle.xfs_script.specs.declared.replay_line.ReplayLine.TheVariants.{Say}
-use Rattle.xfs_cli.specs.ReplayAnswers.{event_of}
+use Rattle.xfs_cli.specs.ReplayEvents.{event_of}
 use Rattle.xfs_cli.specs.ReplayStates.{played}
 use Rattle.xfs_cli.proofs.VerbLaws.{pass-none, pass-some, proceeds-kept, tells-event, tells-none}
 use Rattle.xfs_cli.proofs.player.Player.say.Goals as goal

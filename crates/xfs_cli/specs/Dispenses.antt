@@ -1,0 +1,52 @@
+-- The line `dispense`: the leave to stack its notes, and its orders, rising by unit.
+use Rattle.std.specs.Prelude.{◌≡◌, ◌⊎◌, ℕ, List, codes, Some, Ok, Err}
+use Rattle.std.specs.declared.option.Option.{Option}
+use Rattle.std.specs.declared.result.Result.{Result}
+use Rattle.xfs_base.specs.declared.counts.Counts.{Counts as CountsOf}
+use Rattle.xfs_mech.specs.declared.motion.Outcome.{Outcome}
+use Rattle.xfs_guard.specs.declared.deny.Deny.{Deny}
+use Rattle.xfs_dispenser.specs.Carried.{StacksAll}
+use Rattle.xfs_dispenser.specs.Checks.{IsLeave}
+use Rattle.xfs_dispenser.specs.declared.leave.Leave.{Leave}
+use Rattle.xfs_dispenser.specs.declared.named.Named.TheVariants.{These}
+use Rattle.xfs_dispenser.specs.declared.notes.Notes.TheVariants.{Individual}
+use Rattle.xfs_dispenser.specs.declared.refusal.Refusal.{Refusal}
+use Rattle.xfs_script.specs.declared.guard_line.Given.{Given}
+use Rattle.xfs_script.specs.declared.guard_line.Given.TheVariants.{Last, Text}
+use Rattle.xfs_cli.specs.Refused.{refusal_text}
+use Rattle.xfs_cli.specs.GuardStates.{GuardState, guard_of}
+use Rattle.xfs_cli.specs.Moves.{Tells}
+
+-- the token that a line names: its text, or the one that was minted last
+abbrev pub named : Option (List ℕ) → Given → Option (List ℕ)
+named last (Text bytes) = Some bytes
+named last Last = last
+
+-- the leave to stack these notes on the named token, or why there is none, by the checks of the dispenser
+pub record IsAllowed (s : GuardState) (token : Option (List ℕ)) (counts : CountsOf) (result : Result Leave Refusal) (next : GuardState) : Type 0 where
+  pub leave : IsLeave (guard_of s) (Individual (These counts)) token result (guard_of next)
+  pub last_is : next.last ≡ s.last
+
+-- the same of a token as a line gives it
+abbrev pub IsAllowedFor : GuardState → Given → CountsOf → Result Leave Refusal → GuardState → Type 0
+IsAllowedFor s given counts result next = IsAllowed s (named s.last given) counts result next
+
+-- the orders of a dispense that is allowed, and its answer: what was stacked, or what the order that ended it is refused for
+pub record IsOrdered (s : GuardState) (token : Option (List ℕ)) (counts : CountsOf) (line : List ℕ) (next : GuardState) : Type 0 where
+  pub leave : Leave
+  pub bound : GuardState
+  pub allowed : IsAllowed s token counts (Ok leave) bound
+  pub result : Result Outcome Deny
+  pub stacked : StacksAll leave.issue leave.counts (guard_of bound) result (guard_of next)
+  pub last_is : next.last ≡ bound.last
+  pub told : Tells (codes "moved") result line
+
+-- the answer to a dispense that is refused before any order
+pub record IsRefusedEarly (s : GuardState) (token : Option (List ℕ)) (counts : CountsOf) (line : List ℕ) (next : GuardState) : Type 0 where
+  pub refusal : Refusal
+  pub refused : IsAllowed s token counts (Err refusal) next
+  pub text : refusal_text refusal ≡ Some line
+
+-- the answer to `dispense`
+abbrev pub Dispenses : GuardState → Option (List ℕ) → CountsOf → List ℕ → GuardState → Type 0
+Dispenses s token counts line next = IsRefusedEarly s token counts line next ⊎ IsOrdered s token counts line next

@@ -1,0 +1,297 @@
+//! What the guard answers to a verb.
+
+ghost use Rattle.std.specs.Prelude.{◌≡◌, ◌≢◌, ◌≤◌, ◌⊎◌, Err, OnErr, IfOk, IfErr, Some, None, length};
+ghost use Rattle.std.specs.Option.{option_map};
+ghost use Rattle.xfs_guard.specs.declared.open.Open.TheVariants.{No};
+ghost use Rattle.xfs_guard.specs.Keeps.{Proceeds};
+ghost use Rattle.xfs_mech.specs.Mechanism.{CanLoad};
+ghost use Rattle.xfs_guard.specs.Fits.{unfit};
+ghost use Rattle.xfs_guard.specs.Refusals.{IsAsk};
+ghost use Rattle.xfs_guard.specs.declared.deny.Deny.TheVariants as Deny;
+ghost use Rattle.xfs_script.specs.Answered.{lines_text, Tells};
+ghost use Rattle.xfs_cli.specs.Begun.{AllOrNothing, FailsRestart, LeavesOfLoad, LeavesOfVerb, WholeOrNone};
+ghost use Rattle.xfs_cli.specs.GuardTexts.{show_lines};
+ghost use Rattle.xfs_cli.specs.GuardStates.{state_in};
+ghost use Rattle.xfs_cli.specs.Moves.{Moves};
+ghost use Rattle.xfs_cli.specs.Dispenses.{IsAllowedFor, named};
+ghost use Rattle.xfs_cli.specs.GuardVerbs.{AreAnswer, IsAnswer, IsLoaded};
+ghost use Rattle.xfs_cli.specs.Restarts.{RestartFails, Restarts};
+ghost use Rattle.xfs_guard.specs.declared.fail.BootFault.{BootFault};
+ghost use Rattle.xfs_script.specs.declared.guard_line.GuardLine.TheVariants.{Issue, Clear, Mint, Dispense, Fill, Take, Restart};
+ghost use Rattle.xfs_cli.specs.declared.guard_player.NoAnswer.TheVariants.{Unbooted};
+ghost use Rattle.xfs_dispenser.specs.declared.refusal.Refusal.TheVariants.{Deny as Denied, Memory as Unremembered};
+
+use crate::refused::refusal_text;
+use crate::text::{ended, joined, outcome_text, show_text};
+use crate::token_key::TokenKey;
+use std::alloc::{AllocError, AllocFailed, Global};
+use xfs_base::{Bytes, Counts, Memory};
+use xfs_common::ErrorCode;
+use xfs_disk::Disk;
+use xfs_dispenser::{Leave, Named, Notes, Refusal, carry_out, leave_to_stack, stack_all};
+use xfs_guard::{Ask, BootFault, Guard};
+use xfs_mech::Mechanism;
+use xfs_script::{Given, GuardLine};
+use xfs_token::Amounts;
+
+/// Why a verb has no answer.
+#[derive(Clone, Copy, Debug, PartialEq, Eq)]
+pub enum NoAnswer {
+    /// The line is `restart`, and that was refused for this.
+    Unbooted(BootFault),
+    Memory,
+}
+
+impl From<BootFault> for NoAnswer {
+    ghost use Rattle.std.specs.Prelude.{◌≡◌};
+    ghost use Rattle.xfs_cli.specs.declared.guard_player.NoAnswer.TheVariants.{Unbooted};
+
+    ghost from_gives = { λ fault e. e ≡ Unbooted fault };
+
+    fn from(fault: BootFault) -> Self {
+        NoAnswer::Unbooted(fault)
+    }
+}
+
+impl From<Memory> for NoAnswer {
+    ghost use Rattle.std.specs.Prelude.{◌≡◌};
+    ghost use Rattle.xfs_cli.specs.declared.guard_player.NoAnswer.TheVariants.{Memory as AnswerMemory};
+
+    ghost from_gives = { λ _ e. e ≡ AnswerMemory };
+
+    fn from(_: Memory) -> Self {
+        NoAnswer::Memory
+    }
+}
+
+/// The guard that answers, the key of its tokens, and the token that was minted last.
+#[derive(Drop)]
+pub struct GuardPlayer<M: Mechanism, D: Disk> {
+    pub alloc: Global,
+    pub guard: Guard<M, D>,
+    pub key: TokenKey,
+    pub last: Option<Bytes>,
+}
+
+impl<M: Mechanism, D: Disk> GuardPlayer<M, D> {
+    /// What a verb is answered: the lines of the answer, a line feed behind each.
+    pub fn answer_verb(&mut self, verb: &GuardLine) -> Result<Vec<u8>, NoAnswer>
+        requires none { self.old.guard.state.open_order ≡ No }
+        requires key { self.old.key ≡ self.old.guard.state.key }
+        ensures answer { IfOk result (λ text. Tells (AreAnswer (state_in D.faults self.old) verb.now) text.items (state_in D.faults self.new)) }
+        ensures memory { result ≡ Err NoAnswer.Memory → LeavesOfVerb (state_in D.faults self.old) verb.now (state_in D.faults self.new) }
+        ensures unbooted { (f : BootFault) → result ≡ Err (Unbooted f) → FailsRestart (state_in D.faults self.old) verb.now f (state_in D.faults self.new) }
+        ensures proceeds { Proceeds D.Disk self.old.guard self.new.guard }
+        ensures none { self.new.guard.state.open_order ≡ No }
+        ensures key { self.new.key ≡ self.new.guard.state.key }
+    {
+        match verb {
+            GuardLine::Skip => Ok(Vec::new(self.alloc)),
+            GuardLine::Issue => Ok(ended(self.issue()?)?),
+            GuardLine::Clear => Ok(ended(self.clear()?)?),
+            GuardLine::Mint(amounts) => Ok(ended(self.mint(amounts)?)?),
+            GuardLine::Dispense { token, counts } => Ok(ended(self.dispense(token, counts)?)?),
+            GuardLine::Present => Ok(ended(self.moved(Ask::Present)?)?),
+            GuardLine::Reject => Ok(ended(self.moved(Ask::Reject)?)?),
+            GuardLine::Retract => Ok(ended(self.moved(Ask::Retract)?)?),
+            GuardLine::Take => Ok(ended(self.take()?)?),
+            GuardLine::Fill { unit, count } => Ok(ended(self.fill(*unit, *count)?)?),
+            GuardLine::Show => Ok(self.show()?),
+            GuardLine::Restart => Ok(ended(self.restart()?)?),
+        }
+    }
+
+    fn issue(&mut self) -> Result<Vec<u8>, Memory>
+        requires { self.old.guard.state.open_order ≡ No }
+        ensures answer { IfOk result (λ text. IsAnswer (state_in D.faults self.old) Issue text.items (state_in D.faults self.new)) }
+        ensures memory { OnErr result (WholeOrNone (state_in D.faults self.old) Issue (state_in D.faults self.new)) }
+        ensures proceeds { Proceeds D.Disk self.old.guard self.new.guard }
+        ensures none { self.new.guard.state.open_order ≡ No }
+        ensures key { self.new.key ≡ self.old.key }
+    {
+        match self.guard.issue() {
+            Ok(nonce) => joined(self.alloc, b"nonce ", &nonce.text),
+            Err(deny) => refusal_text(self.alloc, &Refusal::Deny(deny)),
+        }
+    }
+
+    fn clear(&mut self) -> Result<Vec<u8>, Memory>
+        requires { self.old.guard.state.open_order ≡ No }
+        ensures answer { IfOk result (λ text. IsAnswer (state_in D.faults self.old) Clear text.items (state_in D.faults self.new)) }
+        ensures memory { OnErr result (WholeOrNone (state_in D.faults self.old) Clear (state_in D.faults self.new)) }
+        ensures proceeds { Proceeds D.Disk self.old.guard self.new.guard }
+        ensures none { self.new.guard.state.open_order ≡ No }
+        ensures key { self.new.key ≡ self.old.key }
+    {
+        match self.guard.clear() {
+            Ok(true) => joined(self.alloc, b"cleared", b""),
+            Ok(false) => joined(self.alloc, b"nothing to clear", b""),
+            Err(deny) => refusal_text(self.alloc, &Refusal::Deny(deny)),
+        }
+    }
+
+    // A genuine token for the live nonce, which is then the last one.
+    fn mint(&mut self, amounts: &Amounts) -> Result<Vec<u8>, Memory>
+        requires key { self.old.key ≡ self.old.guard.state.key }
+        ensures answer { IfOk result (λ text. IsAnswer (state_in D.faults self.old) (Mint amounts.now) text.items (state_in D.faults self.new)) }
+        ensures memory { OnErr result (WholeOrNone (state_in D.faults self.old) (Mint amounts.now) (state_in D.faults self.new)) }
+        ensures same { self.new.guard ≡ self.old.guard }
+        ensures key { self.new.key ≡ self.old.key }
+    {
+        let Some(nonce) = self.guard.live() else {
+            self.last = None;
+            return joined(self.alloc, b"token ", b"none");
+        };
+        // A live nonce is of the grammar, so what remains is want of memory.
+        let Ok(token) = self.key.make(self.alloc, &nonce.text, amounts) else {
+            return Err(Memory);
+        };
+        let text = joined(self.alloc, b"token ", &token);
+        self.last = Some(Bytes::new(token));
+        text
+    }
+
+    // The customer takes what lies in the outlet.
+    fn take(&mut self) -> Result<Vec<u8>, Memory>
+        requires { self.old.guard.state.open_order ≡ No }
+        ensures answer { IfOk result (λ text. IsAnswer (state_in D.faults self.old) Take text.items (state_in D.faults self.new)) }
+        ensures memory { OnErr result (WholeOrNone (state_in D.faults self.old) Take (state_in D.faults self.new)) }
+        ensures proceeds { Proceeds D.Disk self.old.guard self.new.guard }
+        ensures none { self.new.guard.state.open_order ≡ No }
+        ensures key { self.new.key ≡ self.old.key }
+    {
+        match self.guard.taken() {
+            Ok(outcome) => outcome_text(self.alloc, b"taken", &outcome),
+            Err(_) => Err(Memory),
+        }
+    }
+
+    // The operator adds notes to a unit, and it is written down.
+    fn fill(&mut self, unit: u8, count: u32) -> Result<Vec<u8>, Memory>
+        requires { self.old.guard.state.open_order ≡ No }
+        ensures answer { IfOk result (λ text. IsAnswer (state_in D.faults self.old) (Fill unit count) text.items (state_in D.faults self.new)) }
+        ensures memory { OnErr result (LeavesOfVerb (state_in D.faults self.old) (Fill unit count) (state_in D.faults self.new)) }
+        ensures proceeds { Proceeds D.Disk self.old.guard self.new.guard }
+        ensures none { self.new.guard.state.open_order ≡ No }
+        ensures key { self.new.key ≡ self.old.key }
+    {
+        if unit == 0 || unit > self.guard.units().len() {
+            return refusal_text(self.alloc, &Refusal::Error(ErrorCode::InvalidUnit));
+        }
+        if !self.guard.room(unit, count) {
+            return refusal_text(self.alloc, &Refusal::Error(ErrorCode::StorageFull));
+        }
+        if let Some(deny) = self.guard.unfit() {
+            return refusal_text(self.alloc, &Refusal::Deny(deny));
+        }
+        self.load(unit, count)
+    }
+
+    // Loads notes, and writes it down where the mechanism didn't fail.
+    fn load(&mut self, unit: u8, count: u32) -> Result<Vec<u8>, Memory>
+        requires none { self.old.guard.state.open_order ≡ No }
+        requires fits { CanLoad self.old.guard.state.units self.old.guard.state.places unit count }
+        requires fit { unfit self.old.guard.state ≡ None }
+        ensures answer { IfOk result (λ text. IsLoaded (state_in D.faults self.old) unit count text.items (state_in D.faults self.new)) }
+        ensures memory { OnErr result (LeavesOfLoad (state_in D.faults self.old) unit count (state_in D.faults self.new)) }
+        ensures proceeds { Proceeds D.Disk self.old.guard self.new.guard }
+        ensures none { self.new.guard.state.open_order ≡ No }
+        ensures key { self.new.key ≡ self.old.key }
+    {
+        let outcome = self.guard.load(unit, count)?;
+        if outcome.failed {
+            return joined(self.alloc, b"fault", b"");
+        }
+        match self.guard.note_load(unit, count) {
+            Ok(()) => joined(self.alloc, b"filled", b""),
+            Err(deny) => refusal_text(self.alloc, &Refusal::Deny(deny)),
+        }
+    }
+
+    // Reads the journal again, as a start of the guard would. The token that was minted last stays.
+    fn restart(&mut self) -> Result<Vec<u8>, NoAnswer>
+        requires { self.old.guard.state.open_order ≡ No }
+        ensures answer { IfOk result (λ text. Restarts (state_in D.faults self.old) text.items (state_in D.faults self.new)) }
+        ensures memory { result ≡ Err NoAnswer.Memory → WholeOrNone (state_in D.faults self.old) Restart (state_in D.faults self.new) }
+        ensures unbooted { (fault : BootFault) → result ≡ Err (Unbooted fault) → RestartFails (state_in D.faults self.old) fault (state_in D.faults self.new) }
+        ensures proceeds { Proceeds D.Disk self.old.guard self.new.guard }
+        ensures none { self.new.guard.state.open_order ≡ No }
+        ensures key { self.new.key ≡ self.old.key }
+    {
+        self.guard.restore()?;
+        Ok(joined(self.alloc, b"restarted", b"")?)
+    }
+
+    fn show(&mut self) -> Result<Vec<u8>, Memory>
+        ensures answer { IfOk result (λ text. text.items ≡ lines_text (show_lines (length self.old.guard.state.units) self.old.guard.state.places)) }
+        ensures same { self.new ≡ self.old }
+    {
+        show_text(self.alloc, self.guard.units().len(), &self.guard.places())
+    }
+
+    // An order of all the notes of a place.
+    fn moved(&mut self, ask: Ask) -> Result<Vec<u8>, Memory>
+        requires none { self.old.guard.state.open_order ≡ No }
+        requires asked { IsAsk self.old.guard.state ask }
+        ensures answer { IfOk result (λ text. Moves (state_in D.faults self.old) ask text.items (state_in D.faults self.new)) }
+        ensures memory { OnErr result (AllOrNothing (Moves (state_in D.faults self.old) ask) (state_in D.faults self.old) (state_in D.faults self.new)) }
+        ensures proceeds { Proceeds D.Disk self.old.guard self.new.guard }
+        ensures none { self.new.guard.state.open_order ≡ No }
+        ensures key { self.new.key ≡ self.old.key }
+    {
+        match carry_out(&mut self.guard, ask) {
+            Ok(outcome) => outcome_text(self.alloc, b"moved", &outcome),
+            Err(deny) => refusal_text(self.alloc, &Refusal::Deny(deny)),
+        }
+    }
+
+    fn dispense(&mut self, token: &Given, counts: &Counts) -> Result<Vec<u8>, Memory>
+        requires { self.old.guard.state.open_order ≡ No }
+        ensures answer { IfOk result (λ text. IsAnswer (state_in D.faults self.old) (Dispense token.now counts.now) text.items (state_in D.faults self.new)) }
+        ensures memory { OnErr result (LeavesOfVerb (state_in D.faults self.old) (Dispense token.now counts.now) (state_in D.faults self.new)) }
+        ensures proceeds { Proceeds D.Disk self.old.guard self.new.guard }
+        ensures none { self.new.guard.state.open_order ≡ No }
+        ensures key { self.new.key ≡ self.old.key }
+    {
+        let leave = match self.allowed(token, counts) {
+            Ok(leave) => leave,
+            Err(refusal) => return refusal_text(self.alloc, &refusal),
+        };
+        match stack_all(&mut self.guard, leave.issue, &leave.counts) {
+            Ok(outcome) => outcome_text(self.alloc, b"moved", &outcome),
+            Err(deny) => refusal_text(self.alloc, &Refusal::Deny(deny)),
+        }
+    }
+
+    // The leave to stack these notes on the token that the line names.
+    fn allowed(&mut self, token: &Given, counts: &Counts) -> Result<Leave, Refusal>
+        requires { self.old.guard.state.open_order ≡ No }
+        ensures allowed { result ≢ Err Unremembered → IsAllowedFor (state_in D.faults self.old) token.now counts.now result (state_in D.faults self.new) }
+        ensures same { IfErr result (λ r. r ≢ Denied Deny.Disk → self.new.guard ≡ self.old.guard) }
+        ensures proceeds { Proceeds D.Disk self.old.guard self.new.guard }
+        ensures none { self.new.guard.state.open_order ≡ No }
+        ensures last { self.new.last ≡ self.old.last }
+        ensures key { self.new.key ≡ self.old.key }
+    {
+        let notes = Notes::Individual(Named::These(*counts));
+        leave_to_stack(
+            self.alloc,
+            &mut self.guard,
+            &notes,
+            given(&self.last, token),
+        )
+    }
+}
+
+// The text of the token that a line names, where there is one.
+fn given<'a>(last: &'a Option<Bytes>, token: &'a Given) -> Option<&'a [u8]>
+    ensures { option_map (λ t. t.now) result ≡ named last.now token.now }
+{
+    match token {
+        Given::Text(text) => Some(text.list()),
+        Given::Last => match last {
+            Some(text) => Some(text.list()),
+            None => None,
+        },
+    }
+}
