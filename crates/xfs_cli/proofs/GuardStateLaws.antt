@@ -37,7 +37,8 @@ use Rattle.xfs_cli.specs.declared.guard_player.NoAnswer.TheVariants.{Unbooted}
 use Rattle.xfs_cli.specs.Refused.{refusal_text}
 use Rattle.xfs_cli.specs.GuardStates.{GuardState, IsLater, IsStill, guard_state, shut_at}
 use Rattle.xfs_cli.specs.OneRecord.{WritesOne, WritesNone}
-use Rattle.xfs_cli.specs.GuardVerbs.{Issues, Clears, next_record}
+use Rattle.xfs_guard.specs.NextNonce.{next_record}
+use Rattle.xfs_cli.specs.GuardVerbs.{Issues, Clears}
 use Rattle.xfs_dispenser.specs.declared.refusal.Refusal.{Refusal}
 use Rattle.xfs_dispenser.specs.declared.refusal.Refusal.TheVariants.{Deny as Denied, Memory as Unremembered}
 

@@ -6,13 +6,12 @@ use Rattle.xfs_token.specs.Amounts.{IsMade}
 use Rattle.xfs_mech.specs.Mechanism.{CanLoad}
 use Rattle.xfs_mech.specs.declared.motion.Outcome.{Outcome}
 use Rattle.xfs_mech.specs.declared.motion.Motion.TheVariants.{Taken, Loaded}
-use Rattle.xfs_journal.specs.Journal.{next_issue, nonce_text}
+use Rattle.xfs_guard.specs.NextNonce.{next_record, next_text}
 use Rattle.xfs_journal.specs.declared.record.Rec.{Rec}
 use Rattle.xfs_guard.specs.View.{View}
 use Rattle.xfs_guard.specs.Fits.{unfit}
 use Rattle.xfs_guard.specs.Nonce.{live_nonce, live_in}
 use Rattle.xfs_guard.specs.Reports.{HasReported}
-use Rattle.xfs_guard.specs.Word.{issue_word}
 use Rattle.xfs_guard.specs.declared.ask.Ask.TheVariants as Ask
 use Rattle.xfs_guard.specs.declared.nonce.Nonce.{Nonce}
 use Rattle.xfs_script.specs.Guard.{IsGuardLine}
@@ -29,15 +28,11 @@ use Rattle.xfs_dispenser.specs.declared.refusal.Refusal.{Refusal}
 use Rattle.xfs_dispenser.specs.declared.refusal.Refusal.TheVariants.{Error, Deny as Denied}
 use Rattle.xfs_script.specs.declared.feed.TheConstants.{LONGEST_LINE}
 
--- the record of the next nonce: its number, and the seed's word
-abbrev pub next_record : View → Rec
-next_record v = Rec.Issue (next_issue v.records) (issue_word v.seed (next_issue v.records))
-
 -- `issue`: the next nonce, which lives then
 abbrev pub Issues : GuardState → List ℕ → GuardState → Type 0
 Issues s line next =
     WritesOne s (unfit s.guard) (next_record s.guard) (record s.guard { records = s.guard.records ++ next_record s.guard ∷ []; bound = None })
-    (codes "nonce " ++ nonce_text (next_issue s.guard.records) (issue_word s.guard.seed (next_issue s.guard.records))) line next
+    (codes "nonce " ++ next_text s.guard) line next
 
 -- `clear`: the live nonce, where there is one
 abbrev pub Clears : Option Nonce → GuardState → List ℕ → GuardState → Type 0

@@ -2,9 +2,9 @@
 
 ghost use Rattle.std.specs.Prelude.{◌≡◌, ◌≢◌, ◌↔◌, ℕ, List, is_some};
 ghost use Rattle.xfs_mech.specs.Moves.{AddsUp};
-ghost use Rattle.xfs_journal.specs.declared.record.Rec.{Rec};
-ghost use Rattle.xfs_guard.specs.Recorded.{IsRecorded};
-ghost use Rattle.xfs_guard.specs.Stored.{IsStored, MayLeave};
+
+ghost use Rattle.xfs_guard.specs.Booting.{LeavesRecorded};
+ghost use Rattle.xfs_guard.specs.Stored.{IsStored};
 ghost use Rattle.xfs_cli.specs.GuardRuns.{RunsGuard};
 ghost use Rattle.xfs_cli.specs.Moments.{WasOnTheWayAll};
 ghost use Rattle.xfs_cli.specs.Run.{IsGuard};
@@ -90,7 +90,7 @@ pub fn guard<S: Source, K: Sink, M: Mechanism, D: Disk>(
 
 // The mechanism and the disk of a player that is over.
 fn ended<M: Mechanism, D: Disk>(player: GuardPlayer<M, D>) -> (M, D)
-    ensures recorded { (records : List Rec) → MayLeave D.Disk result.1 records → IsRecorded player.guard.state.key player.guard.state.units records player.guard.state.motions }
+    ensures recorded { LeavesRecorded D.Disk result.1 player.guard.state.key player.guard.state.units player.guard.state.motions }
     ensures stored { IsStored D.Disk result.1 player.guard.state.records player.guard.state.in_doubt }
     ensures motions { M.motions result.0 ≡ player.guard.state.motions }
     ensures places { M.places result.0 ≡ player.guard.state.places }

@@ -1,5 +1,6 @@
 -- The numbers that were answered in a machine's life: its runs one after another, between which its power was cut.
 use Rattle.std.specs.Prelude.{◌≡◌, ℕ, List, [], ◌∷◌, ◌++◌, map, All}
+use Rattle.std.specs.List.{Contains}
 use Rattle.xfs_journal.specs.declared.record.Rec.{Rec}
 use Rattle.xfs_journal.specs.declared.record.Rec.TheVariants.{Issue}
 
@@ -40,3 +41,7 @@ IsLife first (r ∷ rs) now = (r.found ≡ first) × IsRun r × IsLife r.left rs
 abbrev pub answered_in : List Run → List ℕ
 answered_in [] = []
 answered_in (r ∷ rs) = map (λ (a : Answered). a.number) r.answers ++ answered_in rs
+
+-- no run that the records go back to answered with this number
+abbrev pub WasNeverAnswered : List Rec → ℕ → Type 0
+WasNeverAnswered records number = (first : List Rec) (runs : List Run) → IsLife first runs records → ¬ Contains (answered_in runs) number

@@ -146,3 +146,7 @@ Answers (Err e) refusal = refusal ≡ Some e
 abbrev pub IsAsk : View → Ask → Type 0
 IsAsk v (AskStack issue unit count) = (1 ≤ unit) × (unit ≤ length v.units) × (0 < count)
 IsAsk v ask = ⊤
+
+-- nothing refuses an ask, and this is what it moves, and how
+abbrev pub IsAdmitted : View → Ask → (Kind × Counts) → Type 0
+IsAdmitted v ask r = (order_refusal v ask ≡ None) × (r.0 ≡ asked_kind ask) × (r.1 ≡ asked_counts v ask)

@@ -6,15 +6,17 @@ ghost use Rattle.xfs_journal.specs.declared.record.Rec.TheVariants.{Issue, Clear
 ghost use Rattle.xfs_journal.specs.Journal.{next_issue, nonce_text};
 ghost use Rattle.xfs_guard.specs.declared.open.Open.TheVariants.{No, Written};
 ghost use Rattle.xfs_guard.specs.Balance.{no_notes};
+ghost use Rattle.xfs_guard.specs.Booting.{IsFound, IsNoJournal, LacksRoom, LeavesEither, LeavesListOf, LeavesRecorded, SparesAll, SparesUnlisted};
 ghost use Rattle.xfs_guard.specs.Nonce.{Ends, live_in, live_nonce};
 ghost use Rattle.xfs_guard.specs.View.{shut_at};
 ghost use Rattle.xfs_guard.specs.Upheld.{IsUpheld};
+ghost use Rattle.xfs_guard.specs.NextNonce.{next_record, next_text};
 ghost use Rattle.xfs_guard.specs.Word.{issue_word};
 ghost use Rattle.xfs_guard.specs.Fits.{fit_of, unfit};
 ghost use Rattle.xfs_guard.specs.CrashOutcomes.{EachStands, IsOldOrBooted, Leaves, MayMove, StandsRecorded};
 ghost use Rattle.xfs_guard.specs.Keeps.{Keeps, NoEntry};
 ghost use Rattle.xfs_guard.specs.LedgerView.{IsWriteFault};
-ghost use Rattle.xfs_guard.specs.Lives.{Run, IsLife, answered_in};
+ghost use Rattle.xfs_guard.specs.Lives.{WasNeverAnswered};
 ghost use Rattle.xfs_guard.specs.Stored.{IsStored, MayLeave};
 ghost use Rattle.xfs_guard.specs.Recorded.{IsRecorded};
 ghost use Rattle.xfs_guard.specs.declared.fail.BootFault.TheVariants.{NotJournal, Disk as BootDisk, Full as BootFull};
@@ -23,9 +25,9 @@ ghost use Rattle.xfs_journal.specs.JournalView.{IsPossible, StandsForEither, exc
 ghost use Rattle.xfs_disk.specs.Moments.{LeavesOnly};
 ghost use Rattle.xfs_journal.specs.Paging.{CeasesAt, IsOldOrShort, IsQuiet};
 ghost use Rattle.xfs_journal.specs.declared.record.Rec.{Rec};
-ghost use Rattle.xfs_guard.specs.Continues.{Continues};
+ghost use Rattle.xfs_guard.specs.Continues.{ContinuesFound};
 ghost use Rattle.xfs_guard.specs.Orders.{IsWritten, IsActed, Acts, Settles, Unsettles, kind_unacted};
-ghost use Rattle.xfs_guard.specs.Refusals.{Answers, IsAsk, order_refusal, nothing_refusal, notes_of, asked_kind, asked_counts};
+ghost use Rattle.xfs_guard.specs.Refusals.{Answers, IsAdmitted, IsAsk, order_refusal, nothing_refusal, notes_of, asked_kind, asked_counts};
 ghost use Rattle.xfs_guard.specs.declared.ask.Ask.TheVariants.{Stack as AskStack, Present as AskPresent};
 
 use crate::budget::over_budget;
@@ -89,8 +91,8 @@ impl<M: Mechanism, D: Disk> Guard<M, D> {
         limits: Limits,
     ) -> Result<Guard<M, D>, BootFail<M, D>>
         requires units { M.units mech ≡ units }
-        requires recorded { (records : List Rec) → MayLeave D.Disk disk records → IsRecorded key units records (M.motions mech) }
-        ensures ok { IfOk result (λ g. (records : List Rec) × IfTold (D.held disk) (λ all. StandsFor all records) × (g.state ≡ record {
+        requires recorded { LeavesRecorded D.Disk disk key units (M.motions mech) }
+        ensures ok { IfOk result (λ g. IsFound (D.held disk) (λ records. g.state ≡ record {
           key = key;
           seed = seed;
           units = units;
@@ -109,17 +111,17 @@ impl<M: Mechanism, D: Disk> Guard<M, D> {
           disk_told = is_some (D.held disk);
         })) }
         ensures fits { IfOk result (λ g. exceeds limits g.state.records ≡ false) }
-        ensures continues { IfOk result (λ g. (records : List Rec) → g.state.records ≡ records ++ Boot (M.places mech) ∷ [] → Continues (record g.state { records = records }) g.state) }
+        ensures continues { IfOk result (λ g. ContinuesFound (M.places mech) g.state) }
 
         ensures mech { IfErr result (λ f. f.mech ≡ mech) }
-        ensures not_journal { IfErr result (λ f. (at : ℕ) → f.why ≡ NotJournal at → IfTold (D.held disk) (λ all. CeasesAt all at × ((records : List Rec) → ¬ StandsFor all records))) }
+        ensures not_journal { IfErr result (λ f. (at : ℕ) → f.why ≡ NotJournal at → IsNoJournal (D.held disk) at) }
         ensures refused { IfErr result (λ f. (at : ℕ) → f.why ≡ NotJournal at → IsQuiet D.Disk disk f.disk) }
-        ensures full { IfErr result (λ f. f.why ≡ BootFull → (records : List Rec) × IfTold (D.held disk) (λ all. StandsFor all records) × (exceeds limits (records ++ Boot (M.places mech) ∷ []) ≡ true)) }
+        ensures full { IfErr result (λ f. f.why ≡ BootFull → LacksRoom (D.held disk) limits (M.places mech)) }
         ensures disk { IfErr result (λ f. f.why ≡ BootDisk → Rose (D.faults disk) (D.faults f.disk)) }
-        ensures left { IfErr result (λ f. (records : List Rec) → MayLeave D.Disk f.disk records → IsRecorded key units records (M.motions mech)) }
-        ensures either { IfErr result (λ f. IfTold (D.held disk) (λ _. (records : List Rec) → ((image : List ℕ) → D.images disk image → StandsFor image records) → (image : List ℕ) → D.images f.disk image → StandsForEither records (Boot (M.places mech)) image)) }
-        ensures unlisted { IfErr result (λ f. IfTold (D.held disk) (λ all. ((records : List Rec) → ¬ StandsFor all records) → IsQuiet D.Disk disk f.disk)) }
-        ensures unwritten { IfErr result (λ f. f.why ≢ BootDisk → IfTold (D.held disk) (λ all. LeavesOnly D.Disk disk f.disk (IsOldOrShort (D.images disk) all))) }
+        ensures left { IfErr result (λ f. LeavesRecorded D.Disk f.disk key units (M.motions mech)) }
+        ensures either { IfErr result (λ f. LeavesEither D.Disk disk f.disk (M.places mech)) }
+        ensures unlisted { IfErr result (λ f. SparesUnlisted D.Disk disk f.disk) }
+        ensures unwritten { IfErr result (λ f. f.why ≢ BootDisk → SparesAll D.Disk disk f.disk) }
         ensures faults { MatchResult result (λ g. D.faults disk ≤ D.faults g.disk) (λ f. D.faults disk ≤ D.faults f.disk) }
         ensures told { IfErr result (λ f. is_some (D.held f.disk) ≡ is_some (D.held disk)) }
 
@@ -160,8 +162,8 @@ impl<M: Mechanism, D: Disk> Guard<M, D> {
     /// what the mechanism did: the kept one, or that one with the record in doubt.
     pub fn end(self) -> (M, D)
         ensures stored { IsStored D.Disk result.1 self.state.records self.state.in_doubt }
-        ensures left { (records : List Rec) → MayLeave D.Disk result.1 records → IsPossible self.state.records self.state.in_doubt records }
-        ensures recorded { (records : List Rec) → MayLeave D.Disk result.1 records → IsRecorded self.state.key self.state.units records self.state.motions }
+        ensures left { LeavesListOf D.Disk result.1 self.state }
+        ensures recorded { LeavesRecorded D.Disk result.1 self.state.key self.state.units self.state.motions }
         ensures clean { self.state.shut ≡ false → self.state.in_doubt ≡ None }
         ensures told { is_some (D.held result.1) ≡ self.state.disk_told }
         ensures disk { result.1 ≡ self.disk }
@@ -220,7 +222,7 @@ impl<M: Mechanism, D: Disk> Guard<M, D> {
     pub fn next_nonce(&self) -> Result<Nonce, Memory>
         requires { unfit self.now.state ≡ None }
         ensures number { IfOk result (λ n. n.number ≡ next_issue self.now.state.records) }
-        ensures text { IfOk result (λ n. n.text ≡ nonce_text (next_issue self.now.state.records) (issue_word self.now.state.seed (next_issue self.now.state.records))) }
+        ensures text { IfOk result (λ n. n.text ≡ next_text self.now.state) }
     {
         let number = self.ledger.next_issue();
         Ok(Nonce::of(self.alloc, number, word_of(self.seed, number))?)
@@ -289,12 +291,12 @@ impl<M: Mechanism, D: Disk> Guard<M, D> {
           records = self.old.state.records ++ Issue n.number (issue_word self.old.state.seed n.number) ∷ [];
           bound = None;
         }) }
-        ensures disk { result ≡ Err Deny.Disk → self.new.state ≡ shut_at (Issue (next_issue self.old.state.records) (issue_word self.old.state.seed (next_issue self.old.state.records))) self.old.state }
+        ensures disk { result ≡ Err Deny.Disk → self.new.state ≡ shut_at (next_record self.old.state) self.old.state }
         ensures cause { result ≡ Err Deny.Disk → Rose (D.faults self.old.disk) (D.faults self.new.disk) }
         ensures same { IfErr result (λ e. e ≢ Deny.Disk → self.new ≡ self.old) }
         ensures keeps { Keeps D.Disk NoEntry self.old self.new }
         ensures kept { OnOk result (Leaves D.Disk self.new.disk self.new.state.records) }
-        ensures never_twice { IfOk result (λ n. self.old.state.disk_told ≡ true → (first : List Rec) (runs : List Run) → IsLife first runs self.old.state.records → ¬ Contains (answered_in runs) n.number) }
+        ensures never_twice { IfOk result (λ n. self.old.state.disk_told ≡ true → WasNeverAnswered self.old.state.records n.number) }
     {
         if let Some(deny) = self.unfit() {
             return Err(deny);
@@ -398,7 +400,7 @@ impl<M: Mechanism, D: Disk> Guard<M, D> {
     fn admitted(&self, ask: Ask) -> Result<(Kind, Counts), Deny>
         requires asked { IsAsk self.now.state ask }
         requires fit { unfit self.now.state ≡ None }
-        ensures ok { IfOk result (λ r. (order_refusal self.now.state ask ≡ None) × (r.0 ≡ asked_kind ask) × (r.1 ≡ asked_counts self.now.state ask)) }
+        ensures ok { IfOk result (λ r. IsAdmitted self.now.state ask r) }
         ensures err { IfErr result (λ e. (e ≢ Deny.Memory) × (e ≢ Deny.Disk) × (order_refusal self.now.state ask ≡ Some e)) }
     {
         match ask {
@@ -412,7 +414,7 @@ impl<M: Mechanism, D: Disk> Guard<M, D> {
     fn stacked(&self, issue: u64, unit: u8, count: u32) -> Result<(Kind, Counts), Deny>
         requires asked { IsAsk self.now.state (AskStack issue unit count) }
         requires fit { unfit self.now.state ≡ None }
-        ensures ok { IfOk result (λ r. (order_refusal self.now.state (AskStack issue unit count) ≡ None) × (r.0 ≡ Kind.Stack) × (r.1 ≡ notes_of unit count)) }
+        ensures ok { IfOk result (λ r. IsAdmitted self.now.state (AskStack issue unit count) r) }
         ensures err { IfErr result (λ e. (e ≢ Deny.Memory) × (e ≢ Deny.Disk) × (order_refusal self.now.state (AskStack issue unit count) ≡ Some e)) }
     {
         let since = self.ledger.mark();
@@ -438,7 +440,7 @@ impl<M: Mechanism, D: Disk> Guard<M, D> {
 
     fn presented(&self) -> Result<(Kind, Counts), Deny>
         requires { unfit self.now.state ≡ None }
-        ensures ok { IfOk result (λ r. (order_refusal self.now.state AskPresent ≡ None) × (r.0 ≡ Kind.Present) × (r.1 ≡ self.now.state.places.transport)) }
+        ensures ok { IfOk result (λ r. IsAdmitted self.now.state AskPresent r) }
         ensures err { IfErr result (λ e. (e ≢ Deny.Memory) × (e ≢ Deny.Disk) × (order_refusal self.now.state AskPresent ≡ Some e)) }
     {
         let since = self.ledger.mark();

@@ -18,8 +18,10 @@ ghost use Rattle.xfs_journal.specs.Journal.{record_at, live_of, token_of, last_m
 ghost use Rattle.xfs_guard.specs.Nonce.{Ends, live_in, nonce_of};
 ghost use Rattle.xfs_guard.specs.Refusals.{bound_token, bound_number};
 ghost use Rattle.xfs_guard.specs.Presented.{presented_in};
+ghost use Rattle.xfs_guard.specs.LedgerBooting.{FailsAt, HasAtMost, IsAppended, IsBootedNow, IsFailedNow, IsMissingNow, IsOldOrReread, IsSmall, IsUnreadNow, IsUnwritten};
 ghost use Rattle.xfs_guard.specs.LedgerView.{IsOpen, IsWriteFault, Wrote, IsSame, IsPresentedBound, write_refusal};
 ghost use Rattle.xfs_guard.specs.Balance.{no_notes, with_notes};
+ghost use Rattle.xfs_guard.specs.Booting.{AddsAtMost, IsBooted, IsFound, IsNoJournal, LacksRoom, LeavesEither, SparesAll, SparesUnlisted, TellsAs};
 ghost use Rattle.xfs_guard.specs.Ledger.{IsLive, IsDoubted};
 ghost use Rattle.xfs_guard.specs.CrashOutcomes.{IsOldOrBooted, Leaves};
 ghost use Rattle.xfs_guard.specs.Crashed.{IsCrashOutcome, StandsReread};
@@ -92,21 +94,21 @@ impl<D: Disk> Ledger<D> {
         units: UnitTable,
         places: Survey,
     ) -> Result<Ledger<D>, RefusedLedger<D>>
-        ensures records { IfOk result (λ l. (records : List Rec) × IfTold (D.held disk) (λ all. StandsFor all records) × (l.records ≡ records ++ Boot places ∷ [])) }
+        ensures records { IfOk result (λ l. IsFound (D.held disk) (λ records. l.records ≡ records ++ Boot places ∷ [])) }
         ensures fits { IfOk result (λ l. exceeds limits l.records ≡ false) }
         ensures opened { IfOk result (λ l. (l.shut ≡ false) × (l.in_doubt ≡ None) × (l.bound ≡ None) × (l.boot_missing ≡ false)) }
         ensures same { IfOk result (λ l. (l.limits ≡ limits) × (l.units ≡ units)) }
         ensures unloaded { IfOk result (λ l. (l.booted ≡ places) × (l.loaded ≡ no_notes)) }
         ensures kept { IfOk result (λ l. Leaves D.Disk l.disk l.records) }
-        ensures told { MatchResult result (λ l. is_some (D.held l.disk) ≡ is_some (D.held disk)) (λ f. is_some (D.held f.disk) ≡ is_some (D.held disk)) }
-        ensures not_journal { IfErr result (λ f. (at : ℕ) → f.why ≡ NotJournal at → IfTold (D.held disk) (λ all. CeasesAt all at × ((records : List Rec) → ¬ StandsFor all records))) }
+        ensures told { MatchResult result (λ l. TellsAs D.Disk disk l.disk) (λ f. TellsAs D.Disk disk f.disk) }
+        ensures not_journal { IfErr result (λ f. (at : ℕ) → f.why ≡ NotJournal at → IsNoJournal (D.held disk) at) }
         ensures refused { IfErr result (λ f. (at : ℕ) → f.why ≡ NotJournal at → IsQuiet D.Disk disk f.disk) }
-        ensures full { IfErr result (λ f. f.why ≡ BootFull → (records : List Rec) × IfTold (D.held disk) (λ all. StandsFor all records) × (exceeds limits (records ++ Boot places ∷ []) ≡ true)) }
+        ensures full { IfErr result (λ f. f.why ≡ BootFull → LacksRoom (D.held disk) limits places) }
         ensures disk { IfErr result (λ f. f.why ≡ BootDisk → Rose (D.faults disk) (D.faults f.disk)) }
         ensures left { IfErr result (λ f. (records : List Rec) → MayLeave D.Disk f.disk records → WasLeft D.Disk disk places records) }
-        ensures either { IfErr result (λ f. IfTold (D.held disk) (λ _. (records : List Rec) → ((image : List ℕ) → D.images disk image → StandsFor image records) → (image : List ℕ) → D.images f.disk image → StandsForEither records (Boot places) image)) }
-        ensures unlisted { IfErr result (λ f. IfTold (D.held disk) (λ all. ((records : List Rec) → ¬ StandsFor all records) → IsQuiet D.Disk disk f.disk)) }
-        ensures unwritten { IfErr result (λ f. f.why ≢ BootDisk → IfTold (D.held disk) (λ all. LeavesOnly D.Disk disk f.disk (IsOldOrShort (D.images disk) all))) }
+        ensures either { IfErr result (λ f. LeavesEither D.Disk disk f.disk places) }
+        ensures unlisted { IfErr result (λ f. SparesUnlisted D.Disk disk f.disk) }
+        ensures unwritten { IfErr result (λ f. f.why ≢ BootDisk → SparesAll D.Disk disk f.disk) }
         ensures any_moment { IfTold (D.held disk) (λ all. MatchResult result
             (λ l. LeavesOnly D.Disk disk l.disk (IsOldOrBooted (D.images disk) all places))
             (λ f. LeavesOnly D.Disk disk f.disk (IsOldOrBooted (D.images disk) all places))) }
@@ -313,7 +315,7 @@ impl<D: Disk> Ledger<D> {
         ensures cause { result ≡ Err Deny.Disk → Rose (D.faults self.old.disk) (D.faults self.new.disk) }
         ensures faults { D.faults self.old.disk ≤ D.faults self.new.disk }
         ensures told { is_some (D.held self.new.disk) ≡ is_some (D.held self.old.disk) }
-        ensures any_moment { IfTold (D.held self.old.disk) (λ _. LeavesOnly D.Disk self.old.disk self.new.disk (StandsForEither self.old.records (Issue nonce.number word))) }
+        ensures any_moment { AddsAtMost D.Disk self.old.disk self.new.disk self.old.records (Issue nonce.number word) }
         ensures kept { OnOk result (Leaves D.Disk self.new.disk self.new.records) }
     {
         let issue = Rec::Issue {
@@ -345,7 +347,7 @@ impl<D: Disk> Ledger<D> {
         ensures cause { result ≡ Err Deny.Disk → Rose (D.faults self.old.disk) (D.faults self.new.disk) }
         ensures faults { D.faults self.old.disk ≤ D.faults self.new.disk }
         ensures told { is_some (D.held self.new.disk) ≡ is_some (D.held self.old.disk) }
-        ensures any_moment { IfTold (D.held self.old.disk) (λ _. LeavesOnly D.Disk self.old.disk self.new.disk (StandsForEither self.old.records rec)) }
+        ensures any_moment { AddsAtMost D.Disk self.old.disk self.new.disk self.old.records rec }
         ensures kept { OnOk result (Leaves D.Disk self.new.disk self.new.records) }
     {
         self.mark = append(&mut self.journal, rec)?;
@@ -365,7 +367,7 @@ impl<D: Disk> Ledger<D> {
         ensures cause { result ≡ Err Deny.Disk → Rose (D.faults self.old.disk) (D.faults self.new.disk) }
         ensures faults { D.faults self.old.disk ≤ D.faults self.new.disk }
         ensures told { is_some (D.held self.new.disk) ≡ is_some (D.held self.old.disk) }
-        ensures any_moment { IfTold (D.held self.old.disk) (λ _. LeavesOnly D.Disk self.old.disk self.new.disk (StandsForEither self.old.records (Bind token))) }
+        ensures any_moment { AddsAtMost D.Disk self.old.disk self.new.disk self.old.records (Bind token) }
         ensures kept { OnOk result (Leaves D.Disk self.new.disk self.new.records) }
     {
         let number = append(&mut self.journal, Rec::Bind { token })?;
@@ -386,7 +388,7 @@ impl<D: Disk> Ledger<D> {
         ensures cause { result ≡ Err Deny.Disk → Rose (D.faults self.old.disk) (D.faults self.new.disk) }
         ensures faults { D.faults self.old.disk ≤ D.faults self.new.disk }
         ensures told { is_some (D.held self.new.disk) ≡ is_some (D.held self.old.disk) }
-        ensures any_moment { IfTold (D.held self.old.disk) (λ _. LeavesOnly D.Disk self.old.disk self.new.disk (StandsForEither self.old.records (Load unit count))) }
+        ensures any_moment { AddsAtMost D.Disk self.old.disk self.new.disk self.old.records (Load unit count) }
         ensures kept { OnOk result (Leaves D.Disk self.new.disk self.new.records) }
     {
         append(&mut self.journal, Rec::Load { unit, count })?;
@@ -411,7 +413,7 @@ impl<D: Disk> Ledger<D> {
         ensures cause { result ≡ Err Deny.Disk → Rose (D.faults self.old.disk) (D.faults self.new.disk) }
         ensures faults { D.faults self.old.disk ≤ D.faults self.new.disk }
         ensures told { is_some (D.held self.new.disk) ≡ is_some (D.held self.old.disk) }
-        ensures any_moment { IfTold (D.held self.old.disk) (λ _. LeavesOnly D.Disk self.old.disk self.new.disk (StandsForEither self.old.records (Order kind counts))) }
+        ensures any_moment { AddsAtMost D.Disk self.old.disk self.new.disk self.old.records (Order kind counts) }
         ensures kept { OnOk result (Leaves D.Disk self.new.disk self.new.records) }
     {
         append(&mut self.journal, Rec::Order { kind, counts })?;
@@ -423,13 +425,13 @@ impl<D: Disk> Ledger<D> {
         requires fits { write_refusal self.old (Done moved diverted) ≡ None }
         requires room { 0 < self.old.room }
         requires ordered { (counts : Counts) × (record_at self.old.records (length self.old.records) ≡ Some (Order kind counts)) }
-        requires small { kind ≡ Kind.Present → (currency : List ℕ) → presented_in self.old.units self.old.records currency + value self.old.units moved currency < 2 ^ 64 }
+        requires small { IsSmall self.old.units self.old.records kind moved }
         ensures wrote { Wrote result self.old self.new (Done moved diverted) self.old.bound }
         ensures err { IfErr result (λ e. e ≡ Deny.Disk) }
         ensures cause { result ≡ Err Deny.Disk → Rose (D.faults self.old.disk) (D.faults self.new.disk) }
         ensures faults { D.faults self.old.disk ≤ D.faults self.new.disk }
         ensures told { is_some (D.held self.new.disk) ≡ is_some (D.held self.old.disk) }
-        ensures any_moment { IfTold (D.held self.old.disk) (λ _. LeavesOnly D.Disk self.old.disk self.new.disk (StandsForEither self.old.records (Done moved diverted))) }
+        ensures any_moment { AddsAtMost D.Disk self.old.disk self.new.disk self.old.records (Done moved diverted) }
         ensures kept { OnOk result (Leaves D.Disk self.new.disk self.new.records) }
     {
         append(&mut self.journal, Rec::Done { moved, diverted })?;
@@ -439,45 +441,20 @@ impl<D: Disk> Ledger<D> {
 
     /// The journal is read again, and gets a Boot with these places.
     pub fn restore(&mut self, places: Survey) -> Result<(), BootFault>
-        ensures ok { OnOk result ((records : List Rec) × IsPossible self.old.records self.old.in_doubt records × (self.new ≡ record self.old {
-          records = records ++ Boot places ∷ [];
-          bound = None;
-          booted = places;
-          loaded = no_notes;
-          shut = false;
-          boot_missing = false;
-          in_doubt = None;
-          room = self.new.room;
-          disk = self.new.disk;
-        })) }
+        ensures ok { OnOk result (IsBootedNow self.old self.new places) }
         ensures fits { OnOk result (exceeds self.old.limits self.new.records ≡ false) }
-        ensures stands { OnOk result (IfTold (D.held self.old.disk) (λ all. (records : List Rec) × StandsFor all records × (self.new.records ≡ records ++ Boot places ∷ []))) }
+        ensures stands { OnOk result (IsBooted (D.held self.old.disk) places self.new.records) }
         ensures memory { result ≡ Err BootMemory → self.new ≡ record self.old { disk = self.new.disk } }
-        ensures full { result ≡ Err BootFull → (records : List Rec) × IsPossible self.old.records self.old.in_doubt records × (exceeds self.old.limits (records ++ Boot places ∷ []) ≡ true) × (self.new ≡ record self.old {
-          records = records;
-          bound = None;
-          shut = false;
-          boot_missing = true;
-          in_doubt = None;
-          room = self.new.room;
-          disk = self.new.disk;
-        }) }
+        ensures full { result ≡ Err BootFull → IsMissingNow self.old self.new places }
         ensures found { result ≡ Err BootFull → IfTold (D.held self.old.disk) (λ all. StandsFor all self.new.records) }
-        ensures disk { result ≡ Err BootDisk → (self.new ≡ record self.old { shut = true; disk = self.new.disk }) ⊎ ((records : List Rec) × IsPossible self.old.records self.old.in_doubt records × (self.new ≡ record self.old {
-          records = records;
-          bound = None;
-          shut = true;
-          in_doubt = Some (Boot places);
-          room = self.new.room;
-          disk = self.new.disk;
-        })) }
-        ensures not_journal { IfErr result (λ f. (at : ℕ) → f ≡ NotJournal at → (D.held self.old.disk ≡ None) × (self.new ≡ record self.old { shut = true; disk = self.new.disk })) }
+        ensures disk { result ≡ Err BootDisk → IsUnreadNow self.old self.new ⊎ IsFailedNow self.old self.new places }
+        ensures not_journal { IfErr result (λ f. (at : ℕ) → f ≡ NotJournal at → (D.held self.old.disk ≡ None) × IsUnreadNow self.old self.new) }
         ensures cause { result ≡ Err BootDisk → Rose (D.faults self.old.disk) (D.faults self.new.disk) }
         ensures faults { D.faults self.old.disk ≤ D.faults self.new.disk }
         ensures told { is_some (D.held self.new.disk) ≡ is_some (D.held self.old.disk) }
         ensures left { LeavesPossible D.Disk self.new.disk self.new.records self.new.in_doubt }
-        ensures any_moment { IfTold (D.held self.old.disk) (λ _. LeavesOnly D.Disk self.old.disk self.new.disk
-            (λ bytes. D.images self.old.disk bytes ⊎ StandsReread self.old.records self.old.in_doubt places (IsCrashOutcome self.new.records self.new.in_doubt (self.new.shut || self.new.boot_missing)) bytes)) }
+        ensures any_moment { IfTold (D.held self.old.disk) (λ _.
+            LeavesOnly D.Disk self.old.disk self.new.disk (IsOldOrReread D.Disk self.old self.new places)) }
     {
         let before = self.journal.records().len();
         if let Err(why) = self.journal.remount() {
@@ -554,13 +531,13 @@ fn live_found(
 fn append_boot<D: Disk>(journal: &mut Journal<D>, places: Survey) -> Result<u64, BootFault>
     requires { journal.old.shut ≡ false }
     ensures number { IfOk result (λ n. n ≡ length journal.old.records + 1) }
-    ensures ok { OnOk result ((journal.new.records ≡ journal.old.records ++ Boot places ∷ []) × (journal.new.shut ≡ false) × (journal.new.in_doubt ≡ None)) }
+    ensures ok { OnOk result (IsAppended journal.old journal.new (Boot places)) }
     ensures fits { OnOk result (exceeds journal.old.limits journal.new.records ≡ false) }
     ensures full { result ≡ Err BootFull → exceeds journal.old.limits (journal.old.records ++ Boot places ∷ []) ≡ true }
     ensures disk { result ≡ Err BootDisk → Rose (D.faults journal.old.disk) (D.faults journal.new.disk) }
     ensures kept { OnOk result (Leaves D.Disk journal.new.disk journal.new.records) }
-    ensures images { IfTold (D.held journal.old.disk) (λ _. (image : List ℕ) → D.images journal.new.disk image → StandsForEither journal.old.records (Boot places) image) }
-    ensures any_moment { IfTold (D.held journal.old.disk) (λ _. LeavesOnly D.Disk journal.old.disk journal.new.disk (StandsForEither journal.old.records (Boot places))) }
+    ensures images { HasAtMost D.Disk journal.old.disk journal.new.disk journal.old.records (Boot places) }
+    ensures any_moment { AddsAtMost D.Disk journal.old.disk journal.new.disk journal.old.records (Boot places) }
     ensures told { is_some (D.held journal.new.disk) ≡ is_some (D.held journal.old.disk) }
     ensures unwritten { IfErr result (λ f. f ≢ BootDisk → journal.new.disk ≡ journal.old.disk) }
     ensures not_mounted { IfErr result (λ f. (at : ℕ) → f ≢ NotJournal at) }
@@ -585,17 +562,17 @@ fn append<D: Disk>(journal: &mut Journal<D>, rec: Rec) -> Result<u64, Deny>
     requires unit { HasUnit rec }
     requires fits { refusal journal.old rec ≡ None }
     ensures number { IfOk result (λ n. n ≡ length journal.old.records + 1) }
-    ensures ok { OnOk result ((journal.new.records ≡ journal.old.records ++ rec ∷ []) × (journal.new.shut ≡ false) × (journal.new.in_doubt ≡ None)) }
+    ensures ok { OnOk result (IsAppended journal.old journal.new rec) }
     ensures err { IfErr result IsWriteFault }
     ensures same { OnErr result (journal.new.records ≡ journal.old.records) }
-    ensures memory { result ≡ Err Deny.Memory → (journal.new.disk ≡ journal.old.disk) × (journal.new.shut ≡ journal.old.shut) × (journal.new.in_doubt ≡ journal.old.in_doubt) }
-    ensures disk { result ≡ Err Deny.Disk → (journal.new.shut ≡ true) × (journal.new.in_doubt ≡ Some rec) × Rose (D.faults journal.old.disk) (D.faults journal.new.disk) }
+    ensures memory { result ≡ Err Deny.Memory → IsUnwritten journal.old journal.new }
+    ensures disk { result ≡ Err Deny.Disk → FailsAt D.Disk journal.old journal.new rec }
     ensures reserved { 1 ≤ journal.old.room → IfErr result (λ e. e ≡ Deny.Disk) }
     ensures limits { journal.new.limits ≡ journal.old.limits }
     ensures room { journal.old.room ≤ journal.new.room + 1 }
     ensures faults { D.faults journal.old.disk ≤ D.faults journal.new.disk }
     ensures told { is_some (D.held journal.new.disk) ≡ is_some (D.held journal.old.disk) }
-    ensures any_moment { IfTold (D.held journal.old.disk) (λ _. LeavesOnly D.Disk journal.old.disk journal.new.disk (StandsForEither journal.old.records rec)) }
+    ensures any_moment { AddsAtMost D.Disk journal.old.disk journal.new.disk journal.old.records rec }
     ensures kept { OnOk result (Leaves D.Disk journal.new.disk journal.new.records) }
 {
     match journal.append(rec) {

@@ -7,6 +7,7 @@ ghost use Rattle.xfs_journal.specs.JournalView.{IsPossible, exceeds};
 ghost use Rattle.xfs_journal.specs.declared.record.Rec.{Rec};
 ghost use Rattle.xfs_journal.specs.declared.record.Rec.TheVariants.{Boot};
 ghost use Rattle.xfs_guard.specs.declared.fail.BootFault.TheVariants.{NotJournal, Disk as BootDisk, Full as BootFull, Memory as BootMemory};
+ghost use Rattle.xfs_guard.specs.Booting.{IsBooted, IsRestored, IsUnbooted, IsUnread, IsUnrestored, IsUntold};
 ghost use Rattle.xfs_guard.specs.Keeps.{Keeps, NoEntry};
 ghost use Rattle.xfs_guard.specs.View.{reread, restarted, unbooted, unread};
 
@@ -23,14 +24,14 @@ impl<M: Mechanism, D: Disk> Guard<M, D> {
     /// lives, and nothing is written, until a later restore appends one. A disk that tells its bytes is never refused
     /// as `NotJournal`.
     pub fn restore(&mut self) -> Result<(), BootFault>
-        ensures ok { OnOk result ((records : List Rec) × IsPossible self.old.state.records self.old.state.in_doubt records × (self.new.state ≡ restarted self.old.state records)) }
+        ensures ok { OnOk result (IsRestored self.old.state self.new.state) }
         ensures fits { OnOk result (exceeds self.old.state.limits self.new.state.records ≡ false) }
-        ensures stands { OnOk result (IfTold (D.held self.old.disk) (λ all. (records : List Rec) × StandsFor all records × (self.new.state.records ≡ records ++ Boot self.old.state.places ∷ []))) }
+        ensures stands { OnOk result (IsBooted (D.held self.old.disk) self.old.state.places self.new.state.records) }
         ensures memory { result ≡ Err BootMemory → self.new.state ≡ self.old.state }
-        ensures full { result ≡ Err BootFull → (records : List Rec) × IsPossible self.old.state.records self.old.state.in_doubt records × (exceeds self.old.state.limits (records ++ Boot self.old.state.places ∷ []) ≡ true) × (self.new.state ≡ reread self.old.state records) }
+        ensures full { result ≡ Err BootFull → IsUnrestored self.old.state self.new.state }
         ensures found { result ≡ Err BootFull → IfTold (D.held self.old.disk) (λ all. StandsFor all self.new.state.records) }
-        ensures disk { result ≡ Err BootDisk → (self.new.state ≡ unread self.old.state) ⊎ ((records : List Rec) × IsPossible self.old.state.records self.old.state.in_doubt records × (self.new.state ≡ unbooted self.old.state records)) }
-        ensures not_journal { IfErr result (λ f. (at : ℕ) → f ≡ NotJournal at → (D.held self.old.disk ≡ None) × (self.new.state ≡ unread self.old.state)) }
+        ensures disk { result ≡ Err BootDisk → IsUnread self.old.state self.new.state ⊎ IsUnbooted self.old.state self.new.state }
+        ensures not_journal { IfErr result (λ f. (at : ℕ) → f ≡ NotJournal at → IsUntold D.Disk self.old.disk × IsUnread self.old.state self.new.state) }
         ensures untold { IfErr result (λ f. (at : ℕ) → f ≡ NotJournal at → self.old.state.disk_told ≡ false) }
         ensures cause { result ≡ Err BootDisk → Rose (D.faults self.old.disk) (D.faults self.new.disk) }
         ensures keeps { Keeps D.Disk NoEntry self.old self.new }

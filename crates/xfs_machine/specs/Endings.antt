@@ -1,5 +1,5 @@
 -- How a machine ends, or is refused a restart, and what comes back of it.
-use Rattle.std.specs.Prelude.{◌≡◌, ◌≢◌, is_some}
+use Rattle.std.specs.Prelude.{◌≡◌, ◌≢◌, Result, Unit, is_some}
 use Rattle.xfs_disk.specs.declared.disk.Disk.{Ghosts}
 use Rattle.xfs_dispenser.specs.Seen.{Becomes, Seen}
 use Rattle.xfs_dispenser.specs.Steps.{IsFull, IsUnknown, IsUnread}
@@ -7,12 +7,14 @@ use Rattle.xfs_guard.specs.CrashOutcomes.{MayMove}
 use Rattle.xfs_guard.specs.Keeps.{Keeps, NoEntry}
 use Rattle.xfs_guard.specs.Stored.{IsStored}
 use Rattle.xfs_guard.specs.View.{GuardView}
+use Rattle.xfs_guard.specs.declared.deny.Deny.{Deny}
 use Rattle.xfs_guard.specs.declared.fail.BootFault.{BootFault}
 use Rattle.xfs_guard.specs.declared.fail.BootFault.TheVariants.{NotJournal, Disk, Full, Memory}
 use Rattle.xfs_guard.specs.declared.open.Open.{Open}
 use Rattle.xfs_guard.specs.declared.open.Open.TheVariants.{No, Written, Acted}
 use Rattle.xfs_mech.specs.declared.mechanism.Mechanism.{Ghosts as Mechanisms}
-use Rattle.xfs_model.specs.Events.{restart, unrestarted}
+use Rattle.xfs_machine.specs.Answers.{finished}
+use Rattle.xfs_model.specs.Events.{finish, restart, unrestarted}
 use Rattle.xfs_model.specs.State.{State}
 use Rattle.xfs_model.specs.Step.{Step, gone}
 
@@ -57,3 +59,7 @@ pub record IsRefused {M D : Type 0} (m : Mechanisms M) (g : Ghosts D) (old : Sta
   pub cause : RefusesAs why old.seen last
   pub step : why ≢ Memory → Step old restart unrestarted (gone old last)
   pub back : IsHandedBack m g last mech disk
+
+-- an open order was carried out and settled, or the disk failed at that; mechanism and disk are those of the guard then
+abbrev pub Finishes : {M D : Type 0} → Mechanisms M → Ghosts D → State → Result Unit Deny → M → D → Type 0
+Finishes m g old settled mech disk = (last : Seen) × Step old finish (finished settled) (gone old last) × IsHandedBack m g last mech disk

@@ -4,16 +4,13 @@ ghost use Rattle.std.specs.Prelude.{MatchResult, ◌≡◌, ◌≢◌, ℕ, true
 ghost use Rattle.xfs_base.specs.Causes.{IfTold, Rose};
 ghost use Rattle.xfs_disk.specs.Moments.{LeavesOnly};
 ghost use Rattle.xfs_guard.specs.Balance.{no_notes};
-ghost use Rattle.xfs_guard.specs.Continues.{Continues};
+ghost use Rattle.xfs_guard.specs.Booting.{IsFound, IsNoJournal, LacksRoom, LeavesEither, LeavesRecorded, SparesAll, SparesUnlisted};
+ghost use Rattle.xfs_guard.specs.Continues.{ContinuesFound};
 ghost use Rattle.xfs_guard.specs.CrashOutcomes.{EachStands, IsOldOrBooted, StandsRecorded};
-ghost use Rattle.xfs_guard.specs.Recorded.{IsRecorded};
-ghost use Rattle.xfs_guard.specs.Stored.{MayLeave};
 ghost use Rattle.xfs_guard.specs.declared.fail.BootFault.TheVariants.{NotJournal, Disk as BootDisk, Full as BootFull};
 ghost use Rattle.xfs_guard.specs.declared.open.Open.TheVariants.{No};
-ghost use Rattle.xfs_journal.specs.Image.{StandsFor};
-ghost use Rattle.xfs_journal.specs.JournalView.{StandsForEither, exceeds};
-ghost use Rattle.xfs_journal.specs.Paging.{CeasesAt, IsOldOrShort, IsQuiet};
-ghost use Rattle.xfs_journal.specs.declared.record.Rec.{Rec};
+ghost use Rattle.xfs_journal.specs.JournalView.{exceeds};
+ghost use Rattle.xfs_journal.specs.Paging.{IsQuiet};
 ghost use Rattle.xfs_journal.specs.declared.record.Rec.TheVariants.{Boot};
 ghost use Rattle.xfs_dispenser.specs.Seen.{seen};
 ghost use Rattle.xfs_model.specs.State.{bare};
@@ -35,9 +32,9 @@ impl<M: Mechanism, D: Disk> Machine<M, D> {
     /// command, card, entry or exchange. A refused boot hands mechanism and disk back, as the guard's does.
     pub fn boot(alloc: Global, bench: Core<M, D>) -> Result<Machine<M, D>, BootFail<M, D>>
         requires units { M.units bench.mech ≡ bench.units }
-        requires recorded { (records : List Rec) → MayLeave D.Disk bench.disk records → IsRecorded bench.key bench.units records (M.motions bench.mech) }
+        requires recorded { LeavesRecorded D.Disk bench.disk bench.key bench.units (M.motions bench.mech) }
         ensures bare { IfOk result (λ m. m.state ≡ bare m.state.seen bench.life (length m.state.seen.guard.records)) }
-        ensures ok { IfOk result (λ m. (records : List Rec) × IfTold (D.held bench.disk) (λ all. StandsFor all records) × (m.state.seen.guard ≡ record {
+        ensures ok { IfOk result (λ m. IsFound (D.held bench.disk) (λ records. m.state.seen.guard ≡ record {
           key = bench.key;
           seed = bench.seed;
           units = bench.units;
@@ -56,16 +53,16 @@ impl<M: Mechanism, D: Disk> Machine<M, D> {
           disk_told = is_some (D.held bench.disk);
         })) }
         ensures fits { IfOk result (λ m. exceeds bench.limits m.state.seen.guard.records ≡ false) }
-        ensures continues { IfOk result (λ m. (records : List Rec) → m.state.seen.guard.records ≡ records ++ Boot (M.places bench.mech) ∷ [] → Continues (record m.state.seen.guard { records = records }) m.state.seen.guard) }
+        ensures continues { IfOk result (λ m. ContinuesFound (M.places bench.mech) m.state.seen.guard) }
         ensures mech { IfErr result (λ f. f.mech ≡ bench.mech) }
-        ensures not_journal { IfErr result (λ f. (at : ℕ) → f.why ≡ NotJournal at → IfTold (D.held bench.disk) (λ all. CeasesAt all at × ((records : List Rec) → ¬ StandsFor all records))) }
+        ensures not_journal { IfErr result (λ f. (at : ℕ) → f.why ≡ NotJournal at → IsNoJournal (D.held bench.disk) at) }
         ensures refused { IfErr result (λ f. (at : ℕ) → f.why ≡ NotJournal at → IsQuiet D.Disk bench.disk f.disk) }
-        ensures full { IfErr result (λ f. f.why ≡ BootFull → (records : List Rec) × IfTold (D.held bench.disk) (λ all. StandsFor all records) × (exceeds bench.limits (records ++ Boot (M.places bench.mech) ∷ []) ≡ true)) }
+        ensures full { IfErr result (λ f. f.why ≡ BootFull → LacksRoom (D.held bench.disk) bench.limits (M.places bench.mech)) }
         ensures disk { IfErr result (λ f. f.why ≡ BootDisk → Rose (D.faults bench.disk) (D.faults f.disk)) }
-        ensures left { IfErr result (λ f. (records : List Rec) → MayLeave D.Disk f.disk records → IsRecorded bench.key bench.units records (M.motions bench.mech)) }
-        ensures either { IfErr result (λ f. IfTold (D.held bench.disk) (λ _. (records : List Rec) → ((image : List ℕ) → D.images bench.disk image → StandsFor image records) → (image : List ℕ) → D.images f.disk image → StandsForEither records (Boot (M.places bench.mech)) image)) }
-        ensures unlisted { IfErr result (λ f. IfTold (D.held bench.disk) (λ all. ((records : List Rec) → ¬ StandsFor all records) → IsQuiet D.Disk bench.disk f.disk)) }
-        ensures unwritten { IfErr result (λ f. f.why ≢ BootDisk → IfTold (D.held bench.disk) (λ all. LeavesOnly D.Disk bench.disk f.disk (IsOldOrShort (D.images bench.disk) all))) }
+        ensures left { IfErr result (λ f. LeavesRecorded D.Disk f.disk bench.key bench.units (M.motions bench.mech)) }
+        ensures either { IfErr result (λ f. LeavesEither D.Disk bench.disk f.disk (M.places bench.mech)) }
+        ensures unlisted { IfErr result (λ f. SparesUnlisted D.Disk bench.disk f.disk) }
+        ensures unwritten { IfErr result (λ f. f.why ≢ BootDisk → SparesAll D.Disk bench.disk f.disk) }
         ensures faults { MatchResult result (λ m. D.faults bench.disk ≤ D.faults m.disk) (λ f. D.faults bench.disk ≤ D.faults f.disk) }
         ensures told { IfErr result (λ f. is_some (D.held f.disk) ≡ is_some (D.held bench.disk)) }
 

@@ -1,19 +1,15 @@
 //! How a machine ends, or begins anew.
 
 ghost use Rattle.std.specs.Prelude.{◌≡◌, ◌≢◌, false, List, None, IfOk, IfErr, OnOk, OnErr, Err, length, is_ok, is_some};
-ghost use Rattle.xfs_dispenser.specs.Seen.{Seen, seen};
+ghost use Rattle.xfs_dispenser.specs.Seen.{seen};
 ghost use Rattle.xfs_guard.specs.Keeps.{Keeps, NoEntry, Proceeds};
-ghost use Rattle.xfs_guard.specs.Recorded.{IsRecorded};
-ghost use Rattle.xfs_guard.specs.Stored.{IsStored, MayLeave};
+ghost use Rattle.xfs_guard.specs.Booting.{LeavesListOf, LeavesRecorded};
 ghost use Rattle.xfs_base.specs.Causes.{Rose};
 ghost use Rattle.xfs_guard.specs.declared.fail.BootFault.TheVariants.{Disk as BootDisk, Memory as BootMemory};
-ghost use Rattle.xfs_journal.specs.JournalView.{IsPossible};
-ghost use Rattle.xfs_journal.specs.declared.record.Rec.{Rec};
-ghost use Rattle.xfs_machine.specs.Answers.{finished};
-ghost use Rattle.xfs_machine.specs.Endings.{IsFinishedThrough, IsHandedBack, IsRefused, RefusesAs};
+ghost use Rattle.xfs_machine.specs.Endings.{Finishes, IsFinishedThrough, IsHandedBack, IsRefused, RefusesAs};
 ghost use Rattle.xfs_machine.specs.Laws.{IsLawful};
 ghost use Rattle.xfs_machine.specs.MachineView.{guard_of};
-ghost use Rattle.xfs_model.specs.Events.{restart, restarted, unrestarted, end_, ended, finish, memory};
+ghost use Rattle.xfs_model.specs.Events.{restart, restarted, unrestarted, end_, ended, memory};
 ghost use Rattle.xfs_model.specs.State.{State, bare};
 ghost use Rattle.xfs_model.specs.Step.{Step, gone};
 
@@ -63,7 +59,7 @@ impl<M: Mechanism, D: Disk> Machine<M, D> {
         ensures laws { IfOk result (λ m. IsLawful self.state restart restarted m.state) }
         ensures refused { IfErr result (λ f. IsRefused M.Mechanism D.Disk self.state f.why f.mech f.disk) }
         ensures proceeds { IfOk result (λ m. Proceeds D.Disk (guard_of self) (guard_of m)) }
-        ensures left { IfErr result (λ f. (records : List Rec) → MayLeave D.Disk f.disk records → IsRecorded self.state.seen.guard.key self.state.seen.guard.units records (M.motions f.mech)) }
+        ensures left { IfErr result (λ f. LeavesRecorded D.Disk f.disk self.state.seen.guard.key self.state.seen.guard.units (M.motions f.mech)) }
     {
         match self.reboot() {
             Ok(()) => Ok(self),
@@ -79,8 +75,8 @@ impl<M: Mechanism, D: Disk> Machine<M, D> {
     pub fn end(self) -> (M, D)
         ensures step { Step self.state end_ ended (gone self.state self.state.seen) }
         ensures back { IsHandedBack M.Mechanism D.Disk self.state.seen result.0 result.1 }
-        ensures left { (records : List Rec) → MayLeave D.Disk result.1 records → IsPossible self.state.seen.guard.records self.state.seen.guard.in_doubt records }
-        ensures recorded { (records : List Rec) → MayLeave D.Disk result.1 records → IsRecorded self.state.seen.guard.key self.state.seen.guard.units records self.state.seen.guard.motions }
+        ensures left { LeavesListOf D.Disk result.1 self.state.seen.guard }
+        ensures recorded { LeavesRecorded D.Disk result.1 self.state.seen.guard.key self.state.seen.guard.units self.state.seen.guard.motions }
         ensures clean { self.state.seen.guard.shut ≡ false → self.state.seen.guard.in_doubt ≡ None }
         ensures disk { result.1 ≡ self.disk }
     {
@@ -90,10 +86,10 @@ impl<M: Mechanism, D: Disk> Machine<M, D> {
     /// Carries an open order out, where that isn't done yet, and settles it, and then hands mechanism and disk
     /// back. Its one refusal is `Disk`: the disk failed at the settling. It takes no memory.
     pub fn finish(self) -> (Result<(), Deny>, M, D)
-        ensures step { (next : Seen) × Step self.state finish (finished result.0) (gone self.state next) × IsHandedBack M.Mechanism D.Disk next result.1 result.2 }
+        ensures step { Finishes M.Mechanism D.Disk self.state result.0 result.1 result.2 }
         ensures err { IfErr result.0 (λ e. e ≡ Deny.Disk) }
         ensures through { IsFinishedThrough D.Disk (guard_of self) result.2 }
-        ensures recorded { (records : List Rec) → MayLeave D.Disk result.2 records → IsRecorded self.state.seen.guard.key self.state.seen.guard.units records (M.motions result.1) }
+        ensures recorded { LeavesRecorded D.Disk result.2 self.state.seen.guard.key self.state.seen.guard.units (M.motions result.1) }
     {
         let mut guard = self.into_guard();
         let settled = close(&mut guard);
