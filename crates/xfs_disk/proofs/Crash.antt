@@ -15,12 +15,14 @@ torn_same at n d = record { before = refl; after = refl; no_shorter = omega arit
 pub cut_same : (n : ℕ) (d : List ℕ) → Cut n d d
 cut_same n d = record { no_shorter = omega arith; no_longer = omega arith; prefix = refl }
 
-pub synced_image : (now : List ℕ) (steps : List Step) → MayLeave now steps (synced now steps)
-synced_image now [] = refl
-synced_image now (Write at len was ∷ older) =
-    let b = before (Write at len was) now in inr (synced b older, synced_image b older, torn_same at len (synced b older))
-synced_image now (Resize len was ∷ older) = inr (synced was.items older, synced_image was.items older, cut_same len (synced was.items older))
-synced_image now (Sync ∷ older) = inl refl
+-- `settled`: the steps before those that are kept
+synced_image : (settled : List Step) (now : List ℕ) (steps : List Step) → MayLeave now (steps ++ settled) (synced now steps)
+synced_image settled now [] = here now settled
+synced_image settled now (Write at len was ∷ older) =
+    let b = before (Write at len was) now in inr (synced b older, synced_image settled b older, torn_same at len (synced b older))
+synced_image settled now (Resize len was ∷ older) =
+    inr (synced was.items older, synced_image settled was.items older, cut_same len (synced was.items older))
+synced_image settled now (Sync ∷ older) = inl refl
 
 -- the bytes before were no shorter than what follows the write allows
 ends_long : (w len at n : ℕ) → at + len ≤ n → w ≤ len → (w ≡ len) ⊎ (at + len ≡ n) → (w ≡ len) ⊎ (n ≤ at + len)
@@ -62,15 +64,15 @@ parts at len w n is =
     let e = or_cases (w == len) (at + len == n) p.1 in
     (leb-true (at + len) n q.0, leb-true w len q.1, ⊎_elim (λ x. inl (eqb-true w len x)) (λ x. inr (eqb-true (at + len) n x)) e)
 
-pub blotted_image : (byte : ℕ) (now : List ℕ) (steps : List Step) → IsTrue (is_sound now steps) → MayLeave now steps (blotted byte now steps)
-blotted_image byte now [] sound = refl
-blotted_image byte now (Write at len was ∷ older) sound =
+blotted_image : (byte : ℕ) (settled : List Step) (now : List ℕ) (steps : List Step) → IsTrue (is_sound now steps) → MayLeave now (steps ++ settled) (blotted byte now steps)
+blotted_image byte settled now [] sound = here now settled
+blotted_image byte settled now (Write at len was ∷ older) sound =
     let b = before (Write at len was) now in
     let p = parts at len (length was.items) (length now) (and_parts _ _ sound).0 in
-    inr (b, here b older, torn_over now was.items (replicate len byte) at len p.0 p.1 p.2 (length-replicate len byte))
-blotted_image byte now (Resize len was ∷ older) sound = inl refl
-blotted_image byte now (Sync ∷ older) sound = inl refl
+    inr (b, here b (older ++ settled), torn_over now was.items (replicate len byte) at len p.0 p.1 p.2 (length-replicate len byte))
+blotted_image byte settled now (Resize len was ∷ older) sound = inl refl
+blotted_image byte settled now (Sync ∷ older) sound = inl refl
 
-pub crashed_image : (pick : ℕ) (now : List ℕ) (steps : List Step) → IsTrue (is_sound now steps) → MayLeave now steps (crashed pick now steps)
-crashed_image zero now steps sound = synced_image now steps
-crashed_image (suc k) now steps sound = blotted_image ((k + 1) % 256) now steps sound
+pub crashed_image : (pick : ℕ) (settled : List Step) (now : List ℕ) (steps : List Step) → IsTrue (is_sound now steps) → MayLeave now (steps ++ settled) (crashed pick now steps)
+crashed_image zero settled now steps sound = synced_image settled now steps
+crashed_image (suc k) settled now steps sound = blotted_image ((k + 1) % 256) settled now steps sound

@@ -1,4 +1,5 @@
 mod Changes
 mod Crash
 mod Outcomes
+mod Settled
 mod Written

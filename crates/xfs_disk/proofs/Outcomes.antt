@@ -1,13 +1,14 @@
 -- What a write, a change of the length and a sync in memory do to the images, by their outcome.
-use Rattle.std.proofs.Common.{◌≡◌, ◌⊎◌, inl, inr, ℕ, ◌-◌, ◌≤◌, min, List, [], ◌∷◌, ◌++◌, length, take, drop, reverse, Vec, Global, refl, sym, subst}
+use Rattle.std.proofs.Common.{◌≡◌, ◌⊎◌, inl, inr, ℕ, ◌-◌, ◌≤◌, min, List, [], ◌∷◌, ◌++◌, length, take, drop, reverse, Vec, Global, refl, sym, ◌∙◌, ap, subst}
 use Rattle.std.specs.Prelude.{IsTrue, OnOk, OnErr, Ok, Err}
 use Rattle.std.specs.declared.result.Result.{Result}
 use Rattle.xfs_disk.specs.Disk.{Torn, Cut, Elapses, ImagesFollow, AddsNone, overlaid, resized}
-use Rattle.xfs_disk.specs.Steps.{MayLeave, LeftSince, is_sound}
+use Rattle.xfs_disk.specs.Steps.{MayLeave, LeftSince, history, is_sound}
 use Rattle.xfs_disk.specs.declared.step.Step.{Step}
 use Rattle.xfs_disk.specs.declared.step.Step.TheVariants.{Write, Resize}
 use Rattle.xfs_disk.proofs.Changes.{Noted, elapses, elapses_same, follows, keeps_sound, unchanged}
 use Rattle.xfs_disk.proofs.Crash.{torn_same, cut_same}
+use Rattle.xfs_disk.proofs.Settled.{Past, adds}
 use Rattle.xfs_disk.proofs.Written.{torn_written, back, stands_written, cut_done}
 
 pub by_outcome : {T E : Type 0} (A B : Type 0) (r : Result T E) → OnOk r A → OnErr r B → A ⊎ B
@@ -26,6 +27,17 @@ Wrote b ss new ns at bytes = (new ≡ overlaid b at bytes) × ((was : Vec ℕ Gl
 
 abbrev pub Resized : List ℕ → List Step → List ℕ → List Step → ℕ → Type 0
 Resized b ss new ns len = (new ≡ resized b len) × ((was : Vec ℕ Global) × (was.items ≡ b) × (ns ≡ ss ++ Resize len was ∷ []))
+
+-- with what is settled before
+pub wrote_since : (past : Past) (b : List ℕ) (ss : List Step) (new : List ℕ) (ns : List Step) (at : ℕ) (bytes : List ℕ)
+    → Wrote b ss new ns at bytes ⊎ IsSame b ss new ns → Wrote b (history past ss) new (history past ns) at bytes ⊎ IsSame b (history past ss) new (history past ns)
+wrote_since past b ss new ns at bytes (inl (w, (was, is, notes))) = inl (w, (was, is, ap (history past) notes ∙ adds past ss (Write at (length bytes) was ∷ [])))
+wrote_since past b ss new ns at bytes (inr (w, same)) = inr (w, ap (history past) same)
+
+pub resized_since : (past : Past) (b : List ℕ) (ss : List Step) (new : List ℕ) (ns : List Step) (len : ℕ)
+    → Resized b ss new ns len ⊎ IsSame b ss new ns → Resized b (history past ss) new (history past ns) len ⊎ IsSame b (history past ss) new (history past ns)
+resized_since past b ss new ns len (inl (w, (was, is, notes))) = inl (w, (was, is, ap (history past) notes ∙ adds past ss (Resize len was ∷ [])))
+resized_since past b ss new ns len (inr (w, same)) = inr (w, ap (history past) same)
 
 module _ (b : List ℕ) (ss : List Step) (new : List ℕ) (ns : List Step) where
   pub same_time : IsSame b ss new ns → Elapses (length ss) (length ns) (LeftSince b (reverse ss)) (LeftSince new (reverse ns)) (MayLeave new (reverse ns))

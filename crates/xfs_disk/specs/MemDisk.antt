@@ -3,15 +3,19 @@ use Rattle.std.specs.Prelude.{◌≡◌, ℕ, List, length, reverse}
 use Rattle.xfs_disk.specs.declared.memory.MemDisk.{MemDisk}
 use Rattle.xfs_disk.specs.declared.step.Step.{Step}
 use Rattle.xfs_disk.specs.Disk.{Elapses}
-use Rattle.xfs_disk.specs.Steps.{MayLeave, LeftSince}
+use Rattle.xfs_disk.specs.Steps.{MayLeave, LeftSince, history}
 
 -- what a read gives
 abbrev pub bytes_of : MemDisk → List ℕ
 bytes_of m = m.bytes.items
 
+-- its steps, the oldest first
+abbrev pub history_of : MemDisk → List Step
+history_of m = history m.settled.items m.steps.items
+
 -- its steps, the newest first
 abbrev pub steps_of : MemDisk → List Step
-steps_of m = reverse m.steps.items
+steps_of m = reverse (history_of m)
 
 -- its images
 abbrev pub IsImage : MemDisk → List ℕ → Type 0
@@ -19,7 +23,7 @@ IsImage m = MayLeave (bytes_of m) (steps_of m)
 
 -- the number of its steps
 abbrev pub moment_of : MemDisk → ℕ
-moment_of m = length m.steps.items
+moment_of m = length (history_of m)
 
 -- its images of the moments from one on
 abbrev pub WasImage : MemDisk → ℕ → List ℕ → Type 0

@@ -1,8 +1,16 @@
 -- The images of each moment of a disk in memory, from its bytes and the steps that led to them, of which the newest comes first.
 use Rattle.std.specs.Prelude.{◌≡◌, ◌⊎◌, ℕ, zero, suc, ◌+◌, ◌≤◌, ◌%◌, ◌==◌, nat_le, Bool, true, false, ◌&&◌, ◌||◌, if◌then◌else◌, List, [], ◌∷◌, ◌++◌, length, take, drop, replicate}
+use Rattle.std.specs.declared.snapshot.Snapshot.{Snapshot}
+use Rattle.std.specs.Prelude.{Vec}
+use Rattle.std.specs.Global.{Global}
 use Rattle.xfs_disk.specs.Disk.{overlaid, Torn, Cut}
 use Rattle.xfs_disk.specs.declared.step.Step.{Step}
 use Rattle.xfs_disk.specs.declared.step.Step.TheVariants.{Write, Resize, Sync}
+
+-- all steps, the oldest first: those that each sync settled, with the sync behind them, and those since
+abbrev pub history : List (Snapshot (Vec Step Global)) → List Step → List Step
+history [] since = since
+history (s ∷ newer) since = s.value.items ++ Sync ∷ history newer since
 
 -- the bytes before a step
 abbrev pub before : Step → List ℕ → List ℕ

@@ -1,7 +1,7 @@
 //! A disk whose calls fail at given places.
 ghost use Rattle.std.specs.Prelude.{◌≡◌, ◌+◌, Some, Contains, OnOk, OnErr};
 ghost use Rattle.xfs_base.specs.Causes.{HasCause, next_count};
-ghost use Rattle.xfs_disk.specs.MemDisk.{bytes_of, steps_of, moment_of, faults_of, IsImage, WasImage};
+ghost use Rattle.xfs_disk.specs.MemDisk.{bytes_of, history_of, steps_of, moment_of, faults_of, IsImage, WasImage};
 ghost use Rattle.xfs_disk.specs.Images.{as_read, counts_now, only_now};
 
 use crate::{Disk, MemDisk};
@@ -82,7 +82,7 @@ impl Disk for FailDisk {
 
     ghost counts_now = { λ f t c le now. counts_now (bytes_of f.inner) (steps_of f.inner) t c now };
 
-    ghost only_now = { λ f c left. only_now (bytes_of f.inner) f.inner.steps.items c left };
+    ghost only_now = { λ f c left. only_now (bytes_of f.inner) (history_of f.inner) c left };
 
     fn len(&mut self) -> Result<u64, Failed>
         ensures value { IfOk result (λ n. n ≡ length (bytes_of (failing_inner self.old))) }

@@ -1,15 +1,17 @@
-//! A disk in memory. It keeps what each call changed, so a crash may leave all that the contract allows.
+//! A disk in memory. It keeps what each call since the last sync changed, so a crash may leave all that the contract allows.
+//! What changed before is kept for proofs alone.
 ghost use Rattle.std.specs.Prelude.{◌≡◌, ◌+◌, ◌-◌, ◌<◌, ◌≤◌, min, ◌++◌, [], ◌∷◌, Some, length, take, drop, replicate, reverse, IsTrue, OnOk, OnErr};
 ghost use Rattle.xfs_base.specs.Causes.{Rose};
 ghost use Rattle.xfs_disk.specs.declared.step.Step.TheVariants.{Write, Resize, Sync};
 ghost use Rattle.xfs_disk.specs.Disk.{overlaid, resized};
-ghost use Rattle.xfs_disk.specs.Steps.{MayLeave, LeftSince, is_sound, synced, blotted, crashed};
+ghost use Rattle.xfs_disk.specs.Steps.{MayLeave, LeftSince, history, is_sound, synced, blotted, crashed};
 ghost use Rattle.xfs_disk.specs.Images.{as_read, counts_now, only_now};
 
 use crate::Disk;
 use crate::step::Step;
 use std::alloc::{AllocError, Global};
 use std::mem;
+use std::snapshot::Snapshot;
 use xfs_base::Failed;
 
 /// A disk in memory. It fails only where memory for what it keeps is refused; then nothing has changed.
@@ -17,7 +19,10 @@ use xfs_base::Failed;
 pub struct MemDisk {
     alloc: Global,
     bytes: Vec<u8>,
+    // Since the last sync.
     steps: Vec<Step>,
+    // The steps that each sync settled. They have no bytes, since only proofs read them.
+    settled: Vec<Snapshot<Vec<Step>>>,
     reads: u64,
     widest: u64,
     faults: u64,
@@ -40,6 +45,7 @@ impl MemDisk {
             alloc,
             bytes,
             steps: Vec::new(alloc),
+            settled: Vec::new(alloc),
             reads: 0,
             widest: 0,
             faults: 0,
@@ -87,19 +93,19 @@ impl Disk for MemDisk {
 
     ghost held = { λ m. Some m.bytes.items };
 
-    ghost images = { λ m. MayLeave m.bytes.items (reverse m.steps.items) };
+    ghost images = { λ m. MayLeave m.bytes.items (reverse (history m.settled.items m.steps.items)) };
 
-    ghost moment = { λ m. length m.steps.items };
+    ghost moment = { λ m. length (history m.settled.items m.steps.items) };
 
-    ghost images_since = { λ m. LeftSince m.bytes.items (reverse m.steps.items) };
+    ghost images_since = { λ m. LeftSince m.bytes.items (reverse (history m.settled.items m.steps.items)) };
 
     ghost faults = { λ m. m.faults };
 
-    ghost as_read = { λ m all told. as_read m.bytes.items (reverse m.steps.items) all told };
+    ghost as_read = { λ m all told. as_read m.bytes.items (reverse (history m.settled.items m.steps.items)) all told };
 
-    ghost counts_now = { λ m t c le now. counts_now m.bytes.items (reverse m.steps.items) t c now };
+    ghost counts_now = { λ m t c le now. counts_now m.bytes.items (reverse (history m.settled.items m.steps.items)) t c now };
 
-    ghost only_now = { λ m c left. only_now m.bytes.items m.steps.items c left };
+    ghost only_now = { λ m c left. only_now m.bytes.items (history m.settled.items m.steps.items) c left };
 
     fn len(&mut self) -> Result<u64, Failed>
         ensures value { IfOk result (λ n. n ≡ length (bytes_of self.old)) }
@@ -179,7 +185,7 @@ impl Disk for MemDisk {
         ensures unread { IsUnread self.old self.new }
         ensures refused { OnErr result (IsUndone self.old self.new) }
     {
-        if note(&mut self.steps).is_err() {
+        if settle(&mut self.steps, &mut self.settled).is_err() {
             return Err(fault(&mut self.faults));
         }
         Ok(())
@@ -195,13 +201,15 @@ fn fault(faults: &mut u64) -> Failed
     Failed
 }
 
-// Notes a sync.
-fn note(steps: &mut Vec<Step>) -> Result<(), AllocError>
-    ensures ok { OnOk result (steps.new.items ≡ steps.old.items ++ Sync ∷ []) }
-    ensures err { OnErr result (steps.new.items ≡ steps.old.items) }
+// Notes a sync, and lets go of the steps that it settles.
+fn settle(steps: &mut Vec<Step>, settled: &mut Vec<Snapshot<Vec<Step>>>) -> Result<(), AllocError>
+    ensures none { OnOk result (steps.new.items ≡ []) }
+    ensures ok { OnOk result (history settled.new.items steps.new.items ≡ history settled.old.items steps.old.items ++ Sync ∷ []) }
+    ensures err { OnErr result ((steps.new.items ≡ steps.old.items) × (settled.new.items ≡ settled.old.items)) }
 {
-    steps.reserve(1)?;
-    steps.push_reserved(Step::Sync);
+    settled.reserve(1)?;
+    settled.push_reserved(Snapshot::of(steps));
+    steps.clear();
     Ok(())
 }
 

@@ -7,5 +7,6 @@ pub(crate) enum Step {
     Write { at: usize, len: usize, was: Vec<u8> },
     /// Another length, in place of the whole of `was`.
     Resize { len: u64, was: Vec<u8> },
+    /// A sync that succeeded. It stands in histories alone, which only proofs read.
     Sync,
 }

@@ -1,4 +1,5 @@
-use Rattle.std.proofs.Common.{⊎_elim}
+use Rattle.std.proofs.Common.{⊎_elim, ap₂}
+use Rattle.xfs_disk.specs.Steps.{history}
 use Rattle.xfs_disk.proofs.Changes.{syncs, unchanged}
 use Rattle.xfs_disk.proofs.Outcomes.{by_outcome}
 use Rattle.xfs_disk.proofs.memory.MemDiskDisk.sync.Goals as goal
@@ -6,5 +7,6 @@ use Rattle.xfs_disk.proofs.memory.MemDiskDisk.sync.Goals as goal
 pub returns-clause-crash : goal.returns-clause-crash
 returns-clause-crash c =
     let m = c.args.self.now in
-    let n = c.note.new.steps.items in
-    ⊎_elim (λ ok. syncs m.bytes.items m.steps.items n ok) (λ same. unchanged m.bytes.items m.steps.items n same) (by_outcome _ _ c.note.result c.note.ensures.ok c.note.ensures.err)
+    let old = history m.settled.items m.steps.items in
+    let new = history c.settle.new.settled.items c.settle.new.steps.items in
+    ⊎_elim (λ ok. syncs m.bytes.items old new ok) (λ same. unchanged m.bytes.items old new (ap₂ history same.1 same.0)) (by_outcome _ _ c.settle.result c.settle.ensures.ok c.settle.ensures.err)

@@ -1,4 +1,5 @@
-use Rattle.xfs_disk.proofs.Outcomes.{by_outcome, both, write_time, write_images, write_sound}
+use Rattle.xfs_disk.specs.Steps.{history}
+use Rattle.xfs_disk.proofs.Outcomes.{by_outcome, both, wrote_since, write_time, write_images, write_sound}
 use Rattle.xfs_disk.proofs.memory.MemDiskDisk.write_at.Goals as goal
 
 pub invariant_of-self-else-is_err : goal.invariant_of-self-else-is_err
@@ -11,10 +12,14 @@ pub returns-clause-crash : goal.returns-clause-crash
 returns-clause-crash c =
     let m = c.args.self.now in
     let o = c.overwrite in
-    write_images m.bytes.items m.steps.items o.new.all.items o.new.steps.items c.args.at c.args.bytes.now c.requires.within (by_outcome _ _ o.result (both _ _ o.result o.ensures.written o.ensures.noted) o.ensures.err)
+    let past = m.settled.items in
+    write_images m.bytes.items (history past m.steps.items) o.new.all.items (history past o.new.steps.items) c.args.at c.args.bytes.now c.requires.within
+    (wrote_since past m.bytes.items m.steps.items o.new.all.items o.new.steps.items c.args.at c.args.bytes.now (by_outcome _ _ o.result (both _ _ o.result o.ensures.written o.ensures.noted) o.ensures.err))
 
 pub returns-clause-time : goal.returns-clause-time
 returns-clause-time c =
     let m = c.args.self.now in
     let o = c.overwrite in
-    write_time m.bytes.items m.steps.items o.new.all.items o.new.steps.items c.args.at c.args.bytes.now c.requires.within (by_outcome _ _ o.result (both _ _ o.result o.ensures.written o.ensures.noted) o.ensures.err)
+    let past = m.settled.items in
+    write_time m.bytes.items (history past m.steps.items) o.new.all.items (history past o.new.steps.items) c.args.at c.args.bytes.now c.requires.within
+    (wrote_since past m.bytes.items m.steps.items o.new.all.items o.new.steps.items c.args.at c.args.bytes.now (by_outcome _ _ o.result (both _ _ o.result o.ensures.written o.ensures.noted) o.ensures.err))
