@@ -33,8 +33,8 @@ ghost use Rattle.xfs_guard.specs.declared.ask.Ask.TheVariants.{Stack as AskStack
 use crate::budget::over_budget;
 use crate::fit::{LEAST_BYTES, LEAST_RECORDS};
 use crate::ledger::{Ledger, RefusedLedger};
-use crate::nonce::word_of;
 use crate::signer::Signer;
+use crate::words::Words;
 use crate::{Ask, BootFail, BootFault, Deny, Fit, Nonce, Open};
 use std::alloc::Global;
 use std::marker::Model;
@@ -55,7 +55,7 @@ pub struct Guard<M: Mechanism, D: Disk> {
     pub(crate) mech: M,
     pub(crate) ledger: Ledger<D>,
     pub(crate) key: Signer,
-    seed: [u8; 32],
+    words: Words,
     pub(crate) open_order: Open,
 }
 
@@ -68,11 +68,11 @@ impl<M: Mechanism, D: Disk> Model for Guard<M, D> {
     ghost Value = { GuardView D };
 
     ghost view = { λ g. record {
-      state = over g.key g.seed g.open_order (M.motions g.mech) (M.places g.mech) (M.faults g.mech) g.ledger (is_some (D.held g.ledger.disk));
+      state = over g.key g.words g.open_order (M.motions g.mech) (M.places g.mech) (M.faults g.mech) g.ledger (is_some (D.held g.ledger.disk));
       disk = g.ledger.disk;
     } };
 
-    ghost invariant = { λ g. IsKept (over g.key g.seed g.open_order (M.motions g.mech) (M.places g.mech) (M.faults g.mech) g.ledger (is_some (D.held g.ledger.disk)))
+    ghost invariant = { λ g. IsKept (over g.key g.words g.open_order (M.motions g.mech) (M.places g.mech) (M.faults g.mech) g.ledger (is_some (D.held g.ledger.disk)))
         (M.room g.mech) g.ledger.room (M.units g.mech)
         × LeavesPossible D.Disk g.ledger.disk g.ledger.records g.ledger.in_doubt };
 }
@@ -151,7 +151,7 @@ impl<M: Mechanism, D: Disk> Guard<M, D> {
                 mech,
                 ledger,
                 key: Signer::new(key),
-                seed,
+                words: Words::new(seed),
                 open_order: Open::No,
             }),
             Err(RefusedLedger { why, disk }) => Err(BootFail { why, mech, disk }),
@@ -177,7 +177,7 @@ impl<M: Mechanism, D: Disk> Guard<M, D> {
             mech,
             ledger,
             key: _,
-            seed: _,
+            words: _,
             open_order: _,
         } = self;
         (mech, ledger.end())
@@ -225,7 +225,7 @@ impl<M: Mechanism, D: Disk> Guard<M, D> {
         ensures text { IfOk result (λ n. n.text ≡ next_text self.now.state) }
     {
         let number = self.ledger.next_issue();
-        Ok(Nonce::of(self.alloc, number, word_of(self.seed, number))?)
+        Ok(Nonce::of(self.alloc, number, self.words.at(number))?)
     }
 
     /// Whether an order is open.
@@ -302,9 +302,10 @@ impl<M: Mechanism, D: Disk> Guard<M, D> {
             return Err(deny);
         }
         let number = self.ledger.next_issue();
-        let word = word_of(self.seed, number);
+        let word = self.words.at(number);
         let nonce = Nonce::of(self.alloc, number, word)?;
         self.ledger.issue(nonce, word)?;
+        self.words.turn_to(number.saturating_add(1));
         Ok(nonce)
     }
 

@@ -19,6 +19,7 @@ mod replayed;
 mod reports;
 mod restore;
 mod signer;
+mod words;
 
 pub use ask::Ask;
 pub use claim::{Claim, Permit};

@@ -1,11 +1,7 @@
 ghost use Rattle.std.specs.Prelude.{◌≡◌, ◌++◌, IfOk};
 ghost use Rattle.std.specs.Int.{to_be_bytes, w64};
 ghost use Rattle.xfs_journal.specs.Journal.{nonce_text};
-ghost use Rattle.xfs_guard.specs.Word.{issue_word};
 
-use rand_chacha::ChaCha20Rng;
-use rand_core::SeedableRng;
-use rand_core::utils::NextWord;
 use std::alloc::{AllocError, Global};
 
 /// A nonce: its text of 32 upper-case hexadecimal digits, and the number of its issue. The text is
@@ -36,17 +32,4 @@ fn issue_bytes(number: u64, word: u64) -> [u8; 16]
     bytes[..8].copy_from_slice(&word.to_be_bytes());
     bytes[8..].copy_from_slice(&number.to_be_bytes());
     bytes
-}
-
-/// The word of issue `number`: the ChaCha20 (RFC 8439) words of the seed at the places 2n (its high
-/// half) and 2n + 1 (its low half) of stream 0.
-#[tactic(auto, unfolding(crate::specs::Word::issue_word))]
-pub(crate) fn word_of(seed: [u8; 32], number: u64) -> u64
-    ensures { result ≡ issue_word seed number }
-{
-    let mut rng = ChaCha20Rng::from_seed(seed);
-    rng.set_word_pos(2 * u128::from(number));
-    let high = rng.next_word();
-    let low = rng.next_word();
-    u64::from(high) * 0x1_0000_0000 + u64::from(low)
 }

@@ -13,7 +13,7 @@ use Rattle.xfs_guard.proofs.guard.Guard.boot.Goals as goal
 pub invariant_of-result : goal.invariant_of-result
 invariant_of-result g c = (
   (let e = c.in-Ok-boot.ensures in
-      let v = over c.new-in-Ok-boot.result c.args.seed No (g.M.Mechanism.motions c.args.mech) (g.M.Mechanism.places c.args.mech) (g.M.Mechanism.faults c.args.mech) c.in-Ok-boot.ledger (is_some (g.D.Disk.held c.in-Ok-boot.ledger.disk)) in
+      let v = over c.new-in-Ok-boot.result c.new-in-Ok-boot-2.result No (g.M.Mechanism.motions c.args.mech) (g.M.Mechanism.places c.args.mech) (g.M.Mechanism.faults c.args.mech) c.in-Ok-boot.ledger (is_some (g.D.Disk.held c.in-Ok-boot.ledger.disk)) in
       rw (e.records.2, e.opened.0, e.opened.1, e.opened.2, e.opened.3, e.unloaded.0, e.unloaded.1)
       (IsKept-boot v e.records.0 c.in-Ok.survey _ _ _ (c.in-Ok.ensures ∙ c.survey-places.ensures)
       (λ told. rw (e.same.1, c.new-in-Ok-boot.ensures) (c.requires.recorded e.records.0 (MayLeave-held g.D.Disk c.args.disk e.records.0 g.met.D.Disk.as_read (sym e.told ∙ told) e.records.1)))
@@ -23,7 +23,7 @@ invariant_of-result g c = (
 
 pub returns-in-Ok-boot-clause-continues : goal.returns-in-Ok-boot-clause-continues
 returns-in-Ok-boot-clause-continues g c = λ records is.
-    let v = over c.new-in-Ok-boot.result c.args.seed No (g.M.Mechanism.motions c.args.mech) (g.M.Mechanism.places c.args.mech) (g.M.Mechanism.faults c.args.mech) c.in-Ok-boot.ledger (is_some (g.D.Disk.held c.in-Ok-boot.ledger.disk)) in
+    let v = over c.new-in-Ok-boot.result c.new-in-Ok-boot-2.result No (g.M.Mechanism.motions c.args.mech) (g.M.Mechanism.places c.args.mech) (g.M.Mechanism.faults c.args.mech) c.in-Ok-boot.ledger (is_some (g.D.Disk.held c.in-Ok-boot.ledger.disk)) in
     rw (is, c.in-Ok-boot.ensures.opened.0, c.in-Ok-boot.ensures.opened.1, c.in-Ok-boot.ensures.opened.3) (Continues-written (record v { records = records; shut = false; boot_missing = false; in_doubt = None }) (Boot (g.M.Mechanism.places c.args.mech)) c.in-Ok-boot.ledger.bound No refl refl refl (λ p same. cc))
 
 pub returns-in-Err-clause-left : goal.returns-in-Err-clause-left

@@ -26,7 +26,7 @@ returns-then-eq-clause-keeps g c =
     (rw (← c.self.view_is) e.faults) (rw (← c.self.view_is) (omega arith))
     (rw (← c.self.view_is) (behind-reread g.D.Disk _ _ c.in-Ok.survey e.told e.any_moment))
     (rw (← c.self.view_is) (recorded-reread g.D.Disk c.self.inside.ledger.disk c.restore-read.new.self.disk
-    (over c.self.inside.key c.self.inside.seed c.self.inside.open_order (g.M.Mechanism.motions c.self.inside.mech) (g.M.Mechanism.places c.self.inside.mech) (g.M.Mechanism.faults c.self.inside.mech) c.self.inside.ledger (is_some (g.D.Disk.held c.self.inside.ledger.disk)))
+    (over c.self.inside.key c.self.inside.words c.self.inside.open_order (g.M.Mechanism.motions c.self.inside.mech) (g.M.Mechanism.places c.self.inside.mech) (g.M.Mechanism.faults c.self.inside.mech) c.self.inside.ledger (is_some (g.D.Disk.held c.self.inside.ledger.disk)))
     c.in-Ok.survey _ c.self.invariant.1 c.self.invariant.0.recorded e.any_moment))
 
 pub returns-clause-keeps : goal.returns-clause-keeps
@@ -39,7 +39,7 @@ returns-clause-keeps g c =
     (rw (← c.self.view_is) e.faults) (rw (← c.self.view_is) (omega arith))
     (rw (← c.self.view_is) (behind-reread g.D.Disk _ _ c.in-Ok.survey e.told e.any_moment))
     (rw (← c.self.view_is) (recorded-reread g.D.Disk c.self.inside.ledger.disk c.restore-read.new.self.disk
-    (over c.self.inside.key c.self.inside.seed c.self.inside.open_order (g.M.Mechanism.motions c.self.inside.mech) (g.M.Mechanism.places c.self.inside.mech) (g.M.Mechanism.faults c.self.inside.mech) c.self.inside.ledger (is_some (g.D.Disk.held c.self.inside.ledger.disk)))
+    (over c.self.inside.key c.self.inside.words c.self.inside.open_order (g.M.Mechanism.motions c.self.inside.mech) (g.M.Mechanism.places c.self.inside.mech) (g.M.Mechanism.faults c.self.inside.mech) c.self.inside.ledger (is_some (g.D.Disk.held c.self.inside.ledger.disk)))
     c.in-Ok.survey _ c.self.invariant.1 c.self.invariant.0.recorded e.any_moment))
 
 pub returns-in_default-clause-keeps : goal.returns-in_default-clause-keeps
