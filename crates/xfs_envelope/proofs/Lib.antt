@@ -1,4 +1,6 @@
 mod CommandLaws
 mod FieldLaws
+mod HeaderLaws
 mod NameLaws
 mod ReplyLaws
+mod TextLaws

@@ -8,7 +8,7 @@ use Rattle.std.proofs.lemmas.List.Sums.{split_at_first, passes_at_first}
 use Rattle.std.proofs.lemmas.Str.{IsUtf8-append, IsUtf8-from_ascii}
 use Rattle.xfs_envelope.specs.Names.{is_point, is_part, is_name}
 
-both : (a b : Bool) → (a && b) ≡ true → (a ≡ true) × (b ≡ true)
+pub both : (a b : Bool) → (a && b) ≡ true → (a ≡ true) × (b ≡ true)
 both true true h = (refl, refl)
 both true false h = absurd (false≢true h)
 both false b h = absurd (false≢true h)
@@ -39,7 +39,7 @@ point_before n [] h = absurd (false≢true h)
 point_before zero (x ∷ xs) h = omega arith
 point_before (suc n) (x ∷ xs) h = let more = point_before n xs h in omega arith
 
-point_here : (text : List ℕ) → is_part (after_first is_point text) ≡ true → position_or_len is_point text < length text
+pub point_here : (text : List ℕ) → is_part (after_first is_point text) ≡ true → position_or_len is_point text < length text
 point_here text h = point_before (position_or_len is_point text) text (rw add-one at h)
 
 utf8_around : (first rest : List ℕ) (point : ℕ) → is_point point ≡ true → IsAscii first → IsAscii rest → IsUtf8 (first ++ (point ∷ rest))

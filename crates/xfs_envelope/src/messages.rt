@@ -1,16 +1,21 @@
-ghost use Rattle.std.specs.Prelude.{◌≡◌, ◌<◌, ◌^◌, Some, IsTrue, option_copied, IfSome, IfOk, OnOk};
-ghost use Rattle.serde_json.specs.Data.{put, string};
-ghost use Rattle.serde_json.specs.View.{view, members_view};
+ghost use Rattle.std.specs.Prelude.{◌≡◌, ◌<◌, ◌^◌, ◌++◌, flat_map, string_bytes, Some, IsTrue, option_copied, IfSome, IfOk, OnOk};
+ghost use Rattle.serde_json.specs.View.{view};
 ghost use Rattle.serde_json.specs.Written.{compact_text};
+ghost use Rattle.xfs_envelope.specs.Codes.{code_text};
 ghost use Rattle.xfs_envelope.specs.Messages.{acknowledge_header, event_header, completion_header, unsolicited_header, headed, framed, IsPayload};
 ghost use Rattle.xfs_envelope.specs.Names.{is_name};
+ghost use Rattle.xfs_envelope.specs.Parts.{frame, name_part, id_part, status_part};
+ghost use Rattle.xfs_envelope.specs.Readable.{IsReadable};
 ghost use Rattle.xfs_envelope.specs.Replies.{Reply, reply_in};
+ghost use Rattle.xfs_json.specs.Reading.{reading};
 
 use crate::{Code, Name, Status};
-use serde_json::json;
 use std::alloc::{AllocError, Global};
 use xfs_base::Memory;
-use xfs_json::{Map, Value};
+use xfs_json::Value;
+
+// No header with its frame is longer: its name has at most 129 bytes, its code 22, its id 20.
+const ROOM: usize = 320;
 
 /// The text that a command was received: with its name and id where they are known, and with a
 /// status where it was not accepted.
@@ -25,8 +30,13 @@ pub fn acknowledge(
     ensures reads_back { IfOk result (λ t. reply_in t.items
         ≡ Some (Reply.acknowledge id (option_copied name.entry) status)) }
 {
-    let header = new_acknowledge_header(alloc, name, id, status)?;
-    xfs_json::text(alloc, &new_headed(alloc, header)?)
+    let mut text = String::with_capacity(alloc, ROOM)?;
+    text.push_str("{\"header\":{")?;
+    push_name(&mut text, name)?;
+    push_id(&mut text, id)?;
+    push_status(&mut text, status)?;
+    text.push_str("\"type\":\"acknowledge\",\"version\":\"2.0\"}}")?;
+    Ok(text.into_bytes())
 }
 
 /// The text that something happened while the command with this id was carried out.
@@ -38,8 +48,7 @@ pub fn event(alloc: Global, name: &str, id: u64, payload: &Value) -> Result<Vec<
     ensures reads_back { IfOk result (λ t. reply_in t.items
         ≡ Some (Reply.event id name.now (view payload.now))) }
 {
-    let header = new_event_header(alloc, name, id)?;
-    xfs_json::text(alloc, &new_framed(alloc, header, payload)?)
+    Ok(new_event(alloc, name, id, payload)?.into_bytes())
 }
 
 /// The text that the command with this name and id ended with this code.
@@ -56,8 +65,7 @@ pub fn completion(
     ensures reads_back { IfOk result (λ t. reply_in t.items
         ≡ Some (Reply.completion id name.now code (view payload.now))) }
 {
-    let header = new_completion_header(alloc, name.as_str(), id, code)?;
-    xfs_json::text(alloc, &new_framed(alloc, header, payload)?)
+    Ok(new_completion(alloc, name.as_str(), id, code, payload)?.into_bytes())
 }
 
 /// The text that something happened which belongs to no command.
@@ -69,84 +77,132 @@ pub fn unsolicited(alloc: Global, name: &str, payload: &Value) -> Result<Vec<u8>
     ensures reads_back { IfOk result (λ t. reply_in t.items
         ≡ Some (Reply.unsolicited name.now (view payload.now))) }
 {
-    let header = new_unsolicited_header(alloc, name)?;
-    xfs_json::text(alloc, &new_framed(alloc, header, payload)?)
+    Ok(new_unsolicited(alloc, name, payload)?.into_bytes())
 }
 
-fn new_acknowledge_header(
-    alloc: Global,
-    name: Option<&Name>,
-    id: Option<u64>,
-    status: Option<Status>,
-) -> Result<Value, AllocError>
-    ensures header { IfOk result (λ h. view h ≡ acknowledge_header (option_copied name.entry) id status) }
-    ensures name { OnOk result (IfSome (option_copied name.entry) (λ n. IsTrue (is_name n))) }
-    ensures id { OnOk result (IfSome id (λ n. n < 2 ^ 64)) }
-{
-    let mut members = Map::new(alloc);
-    if let Some(name) = name {
-        put_text(&mut members, alloc, "name", name.as_str())?;
-    }
-    if let Some(id) = id {
-        serde_json::put(&mut members, alloc, "requestId", Value::from(id))?;
-    }
-    if let Some(status) = status {
-        put_text(&mut members, alloc, "status", status.text())?;
-    }
-    put_text(&mut members, alloc, "type", "acknowledge")?;
-    put_text(&mut members, alloc, "version", "2.0")?;
-    Ok(Value::Object(members))
-}
-
-fn put_text(members: &mut Map, alloc: Global, name: &str, text: &str) -> Result<(), AllocError>
-    ensures { OnOk result (members_view members.new.entries
-        ≡ put name.now (string text.now) (members_view members.old.entries)) }
-{
-    serde_json::put(members, alloc, name, Value::try_from_str(alloc, text)?)
-}
-
-fn new_event_header(alloc: Global, name: &str, id: u64) -> Result<Value, AllocError>
-    ensures { IfOk result (λ h. view h ≡ event_header name.now id) }
-{
-    json!(in alloc; {"name": name, "requestId": id, "type": "event", "version": "2.0"})
-}
-
-fn new_completion_header(
+fn new_completion(
     alloc: Global,
     name: &str,
     id: u64,
     code: Code,
-) -> Result<Value, AllocError>
-    ensures { IfOk result (λ h. view h ≡ completion_header name.now id code) }
+    payload: &Value,
+) -> Result<String, AllocError>
+    requires name { IsTrue (is_name name.now) }
+    requires payload { IsPayload (view payload.now) }
+    ensures text { IfOk result (λ t. string_bytes t
+        ≡ compact_text (framed (completion_header name.now id code) (view payload.now))) }
+    ensures reads { IfOk result (λ t. reading (string_bytes t)
+        ≡ Some (framed (completion_header name.now id code) (view payload.now))) }
 {
-    json!(in alloc; {
-        "completionCode": code.text(),
-        "name": name,
-        "requestId": id,
-        "type": "completion",
-        "version": "2.0",
-    })
+    let mut digits = itoa::Buffer::new();
+    let header = [
+        "{\"completionCode\":\"",
+        text_of(&code),
+        "\",\"name\":\"",
+        name,
+        "\",\"requestId\":",
+        digits.format(id),
+        ",\"type\":\"completion\",\"version\":\"2.0\"}",
+    ];
+    new_framed(alloc, &header, payload)
 }
 
-fn new_unsolicited_header(alloc: Global, name: &str) -> Result<Value, AllocError>
-    ensures { IfOk result (λ h. view h ≡ unsolicited_header name.now) }
+// The code's text for as long as the code is borrowed, as it stands among the parts of a header.
+fn text_of(code: &Code) -> &str
+    ensures { result.now ≡ code_text code.now }
 {
-    json!(in alloc; {"name": name, "type": "unsolicited", "version": "2.0"})
+    code.text()
 }
 
-fn new_headed(alloc: Global, header: Value) -> Result<Value, AllocError>
-    ensures { IfOk result (λ v. view v ≡ headed (view header)) }
+fn new_event(alloc: Global, name: &str, id: u64, payload: &Value) -> Result<String, AllocError>
+    requires name { IsTrue (is_name name.now) }
+    requires payload { IsPayload (view payload.now) }
+    ensures text { IfOk result (λ t. string_bytes t
+        ≡ compact_text (framed (event_header name.now id) (view payload.now))) }
+    ensures reads { IfOk result (λ t. reading (string_bytes t)
+        ≡ Some (framed (event_header name.now id) (view payload.now))) }
 {
-    let mut members = Map::new(alloc);
-    serde_json::put(&mut members, alloc, "header", header)?;
-    Ok(Value::Object(members))
+    let mut digits = itoa::Buffer::new();
+    let header = [
+        "{\"name\":\"",
+        name,
+        "\",\"requestId\":",
+        digits.format(id),
+        ",\"type\":\"event\",\"version\":\"2.0\"}",
+    ];
+    new_framed(alloc, &header, payload)
 }
 
-fn new_framed(alloc: Global, header: Value, payload: &Value) -> Result<Value, AllocError>
-    ensures { IfOk result (λ v. view v ≡ framed (view header) (view payload.now)) }
+fn new_unsolicited(alloc: Global, name: &str, payload: &Value) -> Result<String, AllocError>
+    requires name { IsTrue (is_name name.now) }
+    requires payload { IsPayload (view payload.now) }
+    ensures text { IfOk result (λ t. string_bytes t
+        ≡ compact_text (framed (unsolicited_header name.now) (view payload.now))) }
+    ensures reads { IfOk result (λ t. reading (string_bytes t)
+        ≡ Some (framed (unsolicited_header name.now) (view payload.now))) }
 {
-    let mut members = Map::new(alloc);
-    serde_json::put(&mut members, alloc, "header", header)?;
-    serde_json::put(&mut members, alloc, "payload", payload.clone()?)?;
-    Ok(Value::Object(members))
+    let header = [
+        "{\"name\":\"",
+        name,
+        "\",\"type\":\"unsolicited\",\"version\":\"2.0\"}",
+    ];
+    new_framed(alloc, &header, payload)
+}
+
+fn push_name(text: &mut String, name: Option<&Name>) -> Result<(), AllocError>
+    ensures text { OnOk result (string_bytes text.new
+        ≡ string_bytes text.old ++ name_part (option_copied name.entry)) }
+    ensures name { OnOk result (IfSome (option_copied name.entry) (λ n. IsTrue (is_name n))) }
+{
+    match name {
+        Some(name) => push_all(text, &["\"name\":\"", name.as_str(), "\","]),
+        None => Ok(()),
+    }
+}
+
+fn push_id(text: &mut String, id: Option<u64>) -> Result<(), AllocError>
+    ensures text { OnOk result (string_bytes text.new ≡ string_bytes text.old ++ id_part id) }
+    ensures id { OnOk result (IfSome id (λ n. n < 2 ^ 64)) }
+{
+    match id {
+        Some(id) => {
+            let mut digits = itoa::Buffer::new();
+            push_all(text, &["\"requestId\":", digits.format(id), ","])
+        }
+        None => Ok(()),
+    }
+}
+
+fn push_status(text: &mut String, status: Option<Status>) -> Result<(), AllocError>
+    ensures { OnOk result (string_bytes text.new ≡ string_bytes text.old ++ status_part status) }
+{
+    match status {
+        Some(status) => push_all(text, &["\"status\":\"", status.text(), "\","]),
+        None => Ok(()),
+    }
+}
+
+fn push_all(text: &mut String, parts: &[&str]) -> Result<(), AllocError>
+    ensures { OnOk result (string_bytes text.new
+        ≡ string_bytes text.old ++ flat_map (λ p. p.now) parts.now) }
+{
+    for part in parts {
+        text.push_str(part)?;
+    }
+    Ok(())
+}
+
+// The text of a message, whose header is given by the parts of its text.
+fn new_framed(alloc: Global, header: &[&str], payload: &Value) -> Result<String, AllocError>
+    requires payload { IsPayload (view payload.now) }
+    ensures text { IfOk result (λ t. string_bytes t
+        ≡ frame (flat_map (λ p. p.now) header.now) (compact_text (view payload.now))) }
+    ensures payload { OnOk result (IsReadable (view payload.now)) }
+{
+    let payload = payload.to_string(alloc)?;
+    let mut text = String::with_capacity(alloc, ROOM.saturating_add(payload.len()))?;
+    text.push_str("{\"header\":")?;
+    push_all(&mut text, header)?;
+    push_all(&mut text, &[",\"payload\":", payload.as_str(), "}"])?;
+    Ok(text)
 }
