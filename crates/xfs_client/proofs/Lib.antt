@@ -1,6 +1,6 @@
 mod DeskLaws
-mod Histories
-mod Numbers
+pub mod Histories
+pub mod Numbers
 mod Openings
 mod Outcomes
 mod TokenTexts

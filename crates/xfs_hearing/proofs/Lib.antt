@@ -1,0 +1,6 @@
+mod Agreement
+mod Asks
+mod Booleans
+mod Hearings
+mod Lasts
+mod Withdrawals
