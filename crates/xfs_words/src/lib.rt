@@ -1,0 +1,11 @@
+//! The words of the command line, read into the command that they name.
+#![tactic(auto)]
+
+mod command;
+mod reading;
+mod table;
+#[cfg(test)]
+mod tests;
+
+pub use command::{Command, WordsFault};
+pub use reading::read;
