@@ -24,12 +24,13 @@ use crate::connections::Connections;
 use crate::job::{Ask, Job, Outcome};
 use crate::notices::insert_card;
 use crate::queues::Queues;
+use crate::running_plan::RunningPlan;
 use std::alloc::Global;
 use xfs_base::{Memory, Service};
 use xfs_card::{CardAsk, CardEffect, CardEvent, CardState};
 use xfs_common::nothing;
 use xfs_disk::Disk;
-use xfs_dispenser::{Begun, Plan, begin};
+use xfs_dispenser::{Begun, begin};
 use xfs_envelope::Code;
 use xfs_guard::Guard;
 use xfs_keyboard::{EntryAsk, KeyEvent, KeyState};
@@ -62,8 +63,9 @@ pub(crate) fn begin_first<M: Mechanism, D: Disk>(
     let ticket = command.ticket();
     match &command.job.ask {
         Ask::Cash(ask) => {
+            let room = RunningPlan::room(alloc)?;
             let begun = begin(alloc, guard, exchange, ask)?;
-            start_cash(queues, service, ticket, begun);
+            start_cash(queues, service, ticket, begun, room);
             Ok(())
         }
         Ask::Card(ask) => {
@@ -95,8 +97,14 @@ fn first_waiting(queue: &Queue<Job>) -> Option<&Command<Job>>
     })
 }
 
-// Its checks have begun a command of the dispenser.
-fn start_cash(queues: &mut Queues, service: Service, ticket: Ticket, begun: Begun)
+// Its checks have begun a command of the dispenser. There is room for its plan.
+fn start_cash(
+    queues: &mut Queues,
+    service: Service,
+    ticket: Ticket,
+    begun: Begun,
+    room: RunningPlan,
+)
     requires waiting { IsWaiting (queue_of queues.old service) ticket }
     requires idle { find (λ a. is_running a.stage) (queue_of queues.old service) ≡ None }
     requires payload { IfSome (start_payload (start_of begun)) IsPayload }
@@ -106,11 +114,11 @@ fn start_cash(queues: &mut Queues, service: Service, ticket: Ticket, begun: Begu
         Begun::Result(code, payload) => {
             queues.set_result(service, ticket, Outcome::new(code, payload));
         }
-        Begun::Plan(plan) => start_plan(queues.at_mut(service), ticket, plan),
+        Begun::Plan(plan) => start_plan(queues.at_mut(service), ticket, room.with(plan)),
     }
 }
 
-fn start_plan(queue: &mut Queue<Job>, ticket: Ticket, plan: Plan)
+fn start_plan(queue: &mut Queue<Job>, ticket: Ticket, plan: RunningPlan)
     requires waiting { IsWaiting queue.old ticket }
     requires idle { find (λ a. is_running a.stage) queue.old ≡ None }
     ensures { queue.new ≡ changed_at (with_plan plan false) ticket queue.old }

@@ -6,9 +6,10 @@ ghost use Rattle.xfs_envelope.specs.Messages.{IsPayload};
 ghost use Rattle.xfs_machine.specs.Jobs.{ask_seen};
 ghost use Rattle.xfs_model.specs.Results.{closing};
 
+use crate::running_plan::RunningPlan;
 use std::marker::Model;
 use xfs_card::CardAsk;
-use xfs_dispenser::{CashAsk, Plan};
+use xfs_dispenser::CashAsk;
 use xfs_envelope::{Code, Name};
 use xfs_json::Value;
 use xfs_keyboard::EntryAsk;
@@ -65,7 +66,7 @@ impl Model for Outcome {
 pub struct Job {
     pub(crate) name: Name,
     pub(crate) ask: Ask,
-    pub(crate) plan: Option<Plan>,
+    pub(crate) plan: Option<RunningPlan>,
     pub(crate) ended_nonce: bool,
     pub(crate) outcome: Option<Outcome>,
 }
@@ -114,7 +115,7 @@ impl Job {
     }
 
     // Its plan runs on.
-    pub(crate) fn go_on(&mut self, plan: Plan, ended_nonce: bool)
+    pub(crate) fn go_on(&mut self, plan: RunningPlan, ended_nonce: bool)
         ensures { self.new ≡ record self.old { plan = Some plan; ended_nonce = ended_nonce } }
     {
         self.plan = Some(plan);

@@ -24,6 +24,7 @@ mod plan;
 mod post;
 mod queues;
 mod reboot;
+mod running_plan;
 mod stopping;
 mod tally;
 mod touch;

@@ -15,11 +15,12 @@ ghost use Rattle.xfs_queue.specs.Queue.{IsPending, command_at};
 
 use crate::job::{Job, Outcome};
 use crate::queues::Queues;
+use crate::running_plan::RunningPlan;
 use crate::stopping::running;
 use std::alloc::Global;
 use xfs_base::{Memory, Service};
 use xfs_disk::Disk;
-use xfs_dispenser::{Plan, Progress, work};
+use xfs_dispenser::Progress;
 use xfs_guard::Guard;
 use xfs_mech::Mechanism;
 use xfs_queue::{Queue, Ticket};
@@ -45,7 +46,7 @@ pub(crate) fn work_on_plan<M: Mechanism, D: Disk>(
         unreachable!()
     };
     let lived = is_live(guard);
-    match work(alloc, guard, &mut plan) {
+    match plan.work(alloc, guard) {
         Ok(progress) => {
             let ended = lived & !is_live(guard);
             step_on(queues, ticket, plan, ended, progress);
@@ -65,7 +66,7 @@ fn is_live<M: Mechanism, D: Disk>(guard: &Guard<M, D>) -> bool
 }
 
 // The command goes on with its plan, or has its result.
-fn step_on(queues: &mut Queues, ticket: Ticket, plan: Plan, ended: bool, progress: Progress)
+fn step_on(queues: &mut Queues, ticket: Ticket, plan: RunningPlan, ended: bool, progress: Progress)
     requires pending { IsPending queues.old.cash ticket }
     requires payload { IfSome (went_payload (went_of progress)) IsPayload }
     ensures { queues.new ≡ record queues.old { cash = changed_at (with_step plan ended (went_of progress)) ticket queues.old.cash } }
@@ -81,7 +82,7 @@ fn step_on(queues: &mut Queues, ticket: Ticket, plan: Plan, ended: bool, progres
 
 impl Job {
     // Its plan, which it has no longer.
-    fn take_plan(&mut self) -> Option<Plan>
+    fn take_plan(&mut self) -> Option<RunningPlan>
         ensures had { result ≡ self.old.plan }
         ensures left { self.new ≡ record self.old { plan = None } }
     {
@@ -89,14 +90,14 @@ impl Job {
     }
 
     // The plan that it had.
-    fn put_plan(&mut self, plan: Plan)
+    fn put_plan(&mut self, plan: RunningPlan)
         ensures { self.new ≡ record self.old { plan = Some plan } }
     {
         self.plan = Some(plan);
     }
 
     // Its plan behind a step; a live nonce that ended in an earlier step stays told.
-    fn step_to(&mut self, plan: Plan, ended: bool)
+    fn step_to(&mut self, plan: RunningPlan, ended: bool)
         ensures { self.new ≡ record self.old { plan = Some plan; ended_nonce = self.old.ended_nonce || ended } }
     {
         self.plan = Some(plan);
@@ -104,7 +105,7 @@ impl Job {
     }
 }
 
-fn take_plan(queue: &mut Queue<Job>, ticket: Ticket) -> Option<Plan>
+fn take_plan(queue: &mut Queue<Job>, ticket: Ticket) -> Option<RunningPlan>
     requires { IsPending queue.old ticket }
     ensures had { option_map (λ a. a.job.plan) (command_at queue.old ticket) ≡ Some result }
     ensures left { queue.new ≡ changed_at (with_job_plan None) ticket queue.old }
@@ -115,7 +116,7 @@ fn take_plan(queue: &mut Queue<Job>, ticket: Ticket) -> Option<Plan>
     queue.job(ticket).take_plan()
 }
 
-fn put_plan(queue: &mut Queue<Job>, ticket: Ticket, plan: Plan)
+fn put_plan(queue: &mut Queue<Job>, ticket: Ticket, plan: RunningPlan)
     requires { IsPending queue.old ticket }
     ensures { queue.new ≡ changed_at (with_job_plan (Some plan)) ticket queue.old }
 {
@@ -124,7 +125,7 @@ fn put_plan(queue: &mut Queue<Job>, ticket: Ticket, plan: Plan)
     queue.job(ticket).put_plan(plan);
 }
 
-fn go_on(queue: &mut Queue<Job>, ticket: Ticket, plan: Plan, ended: bool)
+fn go_on(queue: &mut Queue<Job>, ticket: Ticket, plan: RunningPlan, ended: bool)
     requires { IsPending queue.old ticket }
     ensures goes_on { queue.new ≡ changed_at (with_plan_kept plan ended) ticket queue.old }
     ensures pending { IsPending queue.new ticket }

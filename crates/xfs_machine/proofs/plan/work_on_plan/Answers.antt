@@ -44,7 +44,7 @@ returns-in-Ok-clause-works g c = λ s.
     let taken : a.job.plan ≡ c.take_plan.result = plan_taken c.args.queues.now.cash a c.take_plan.result runs_ valid had in
     let first : record c.args.queues.now { cash = c.take_plan.new.queue } ≡ record c.args.queues.now { cash = changed_at (with_job_plan None) (ticket_of a) c.args.queues.now.cash }
     = ap (λ q. record c.args.queues.now { cash = q }) (rw (c.at_mut.ensures.now, c.ticket-ticket.ensures) at c.take_plan.ensures.left) in
-    plan_worked (at_cash s (seen g.D.Disk c.args.guard.now) c.args.queues.now) a c.in-Some-take_plan.plan c.work.new.plan (seen g.D.Disk c.work.new.guard) (c.is_live-lived.result && not c.is_live.result) (went_of c.in-Ok.progress)
+    plan_worked (at_cash s (seen g.D.Disk c.args.guard.now) c.args.queues.now) a c.in-Some-take_plan.plan c.work.new.self (seen g.D.Disk c.work.new.guard) (c.is_live-lived.result && not c.is_live.result) (went_of c.in-Ok.progress)
     (record c.args.queues.now { cash = c.take_plan.new.queue }) c.step_on.new.queues runs_ (taken ∙ c.in-Some-take_plan.is) valid c.in-Ok.ensures.works (rw (c.is_live-lived.ensures, c.is_live.ensures) refl) first
     (rw c.ticket-ticket.ensures at c.step_on.ensures)
 
