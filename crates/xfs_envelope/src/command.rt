@@ -2,12 +2,12 @@ ghost use Rattle.std.specs.Prelude.{◌≡◌, ◌≢◌, None, Ok, Err, IfOk, I
 ghost use Rattle.serde_json.specs.Data.{Data};
 ghost use Rattle.serde_json.specs.View.{view};
 ghost use Rattle.xfs_envelope.specs.Commands.{command_in, command_of, given, said};
-ghost use Rattle.xfs_envelope.specs.Fields.{or_else, payload_at, empty};
+ghost use Rattle.xfs_envelope.specs.Fields.{id_at, needed, or_else, payload_at, empty};
 ghost use Rattle.xfs_envelope.specs.declared.command.Why.TheVariants.{BadPayload, Memory};
 
 use crate::fields::{
-    has_right_version, header_of, id_at, is_of_type, name_at, take_payload, timeout_at,
-    usable_id_at,
+    has_right_version, header_of, is_of_type, name_at, needed_id_at, take_payload, timeout_at,
+    usable,
 };
 use crate::{Name, NameFault};
 use std::alloc::Global;
@@ -74,8 +74,9 @@ pub fn read(alloc: Global, text: &[u8]) -> Result<Envelope, Refuse>
     let Some(header) = header_of(&value) else {
         return Err(without_id(Why::NoHeader));
     };
-    let id = usable_id_at(header);
-    let head = match head_of(alloc, header) {
+    let found = needed_id_at(header);
+    let id = usable(found);
+    let head = match head_of(alloc, header, found) {
         Ok(head) => head,
         Err(why) => return Err(Refuse { why, id }),
     };
@@ -99,8 +100,9 @@ fn without_id(why: Why) -> Refuse
     Refuse { why, id: None }
 }
 
-// The fields of the header, which the payload follows.
-fn head_of(alloc: Global, header: &Value) -> Result<Head, Why>
+// The fields of the header, which the payload follows. Its id is already found.
+fn head_of(alloc: Global, header: &Value, id: Option<u64>) -> Result<Head, Why>
+    requires id { id ≡ needed (id_at (view header.now)) }
     ensures ok { IfOk result (λ head. (d : Data) → command_of (view header.now) d
         ≡ given (or_else empty (payload_at d)) BadPayload (λ payload.
         Ok record { name = head.name; id = head.id; timeout = head.timeout; payload = payload })) }
@@ -114,7 +116,7 @@ fn head_of(alloc: Global, header: &Value) -> Result<Head, Why>
         Ok(None) | Err(NameFault::Form) => return Err(Why::BadName),
         Err(NameFault::Memory) => return Err(Why::Memory),
     };
-    let Ok(Some(id)) = id_at(header) else {
+    let Some(id) = id else {
         return Err(Why::BadId);
     };
     let Some(timeout) = timeout_at(header) else {

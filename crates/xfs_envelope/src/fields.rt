@@ -1,4 +1,5 @@
 ghost use Rattle.std.specs.Prelude.{◌≡◌, Ok, Err, IfOk, option_map, is_some};
+ghost use Rattle.serde_json.specs.Data.{Data};
 ghost use Rattle.serde_json.specs.Find.{get};
 ghost use Rattle.serde_json.specs.View.{view};
 ghost use Rattle.xfs_envelope.specs.Fields.{header_of, is_of_type, name_at, id_at, usable_id_at, timeout_at, version_at, status_at, code_at, payload_at, needed, optional, or_else, empty};
@@ -47,11 +48,22 @@ pub(crate) fn id_at(header: &Value) -> Result<Option<u64>, Shape>
     whole(header, "requestId", 0, u64::MAX)
 }
 
-pub(crate) fn usable_id_at(header: &Value) -> Option<u32>
-    ensures { result ≡ needed (usable_id_at (view header.now)) }
+// The id that a command must have.
+pub(crate) fn needed_id_at(header: &Value) -> Option<u64>
+    ensures { result ≡ needed (id_at (view header.now)) }
 {
-    match whole(header, "requestId", 1, 2_147_483_647) {
-        Ok(Some(id)) => Some(id as u32),
+    match id_at(header) {
+        Ok(found) => found,
+        Err(Shape) => None,
+    }
+}
+
+// The id that was found, where a command can have it.
+pub(crate) fn usable(id: Option<u64>) -> Option<u32>
+    ensures { (h : Data) → id ≡ needed (id_at h) → result ≡ needed (usable_id_at h) }
+{
+    match id {
+        Some(id) if 1 <= id && id <= 2_147_483_647 => Some(id as u32),
         _ => None,
     }
 }
