@@ -7,6 +7,7 @@ pub mod CompleteStacks
 pub mod DispenseLaws
 pub mod EndLaws
 pub mod EndingLaws
+pub mod FilledLaws
 pub mod GuardStateLaws
 pub mod LastLaws
 pub mod MailLaws

@@ -67,6 +67,8 @@ fn push_frames(text: &mut Vec<u8>, number: u32, frames: Frames) -> Result<(), Me
 fn push_frame(text: &mut Vec<u8>, number: u32, frame: &[u8]) -> Result<(), Memory>
     ensures { OnOk result (text.new.items ≡ text.old.items ++ lines_text (frame_line number frame.now ∷ [])) }
 {
+    // A number has at most ten digits, and a space and a line feed stand beside the frame.
+    text.reserve(frame.len().saturating_add(12))?;
     text.extend_from_slice(Buffer::new().format(number).as_bytes())?;
     text.push(b' ')?;
     text.extend_from_slice(frame)?;

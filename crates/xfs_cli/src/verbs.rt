@@ -17,7 +17,8 @@ use crate::guard_player::NoAnswer;
 use crate::player::Player;
 use crate::text::{line, show_text};
 use itoa::Buffer;
-use std::alloc::{AllocError, Global};
+use memchr::memchr;
+use std::alloc::Global;
 use xfs_base::{Bytes, Memory, Service};
 use xfs_disk::Disk;
 use xfs_machine::{JoinFault, Touched, Work};
@@ -192,25 +193,17 @@ fn token_bytes(last: &Option<Bytes>) -> &[u8]
     }
 }
 
-// The message with the token in place of each `@`.
+// The message with the token in place of each `@`. It is copied by runs, and mostly has one `@` at most.
 fn filled(alloc: Global, message: &[u8], token: &[u8]) -> Result<Vec<u8>, Memory>
     ensures { IfOk result (λ text. text.items ≡ filled token.now message.now) }
 {
-    let mut text = Vec::new(alloc);
-    for byte in message {
-        push_filled(&mut text, *byte, token)?;
-    }
-    Ok(text)
-}
-
-// Adds the byte, or the token in place of `@`.
-fn push_filled(text: &mut Vec<u8>, byte: u8, token: &[u8]) -> Result<(), AllocError>
-    ensures { OnOk result (text.new.items ≡ text.old.items ++ filled token.now (byte ∷ [])) }
-{
-    if byte == b'@' {
+    let mut text = Vec::with_capacity(alloc, message.len().saturating_add(token.len()))?;
+    let mut rest = message;
+    while let Some(place) = memchr(b'@', rest) {
+        text.extend_from_slice(&rest[..place])?;
         text.extend_from_slice(token)?;
-    } else {
-        text.push(byte)?;
+        rest = &rest[place + 1..];
     }
-    Ok(())
+    text.extend_from_slice(rest)?;
+    Ok(text)
 }
