@@ -1,5 +1,5 @@
 -- How a machine ends, or is refused a restart, and what comes back of it.
-use Rattle.std.specs.Prelude.{◌≡◌, ◌≢◌, Result, Unit, is_some}
+use Rattle.std.specs.Prelude.{◌≡◌, ◌≢◌, Result, is_some}
 use Rattle.xfs_disk.specs.declared.disk.Disk.{Ghosts}
 use Rattle.xfs_dispenser.specs.Seen.{Becomes, Seen}
 use Rattle.xfs_dispenser.specs.Steps.{IsFull, IsUnknown, IsUnread}
