@@ -47,6 +47,12 @@ returns-in_ok-begun-in-Cash-clause-begins g c = λ s.
     (begun_cash before c.args.service c.in-Some.command.now c.in-Cash.ask (seen g.D.Disk c.begin.new.guard) c.begin.new.exchange (start_of c.in_ok-begun-in-Cash.begun) c.start_cash.new.queues
     c.in_ok-begun-in-Cash.ensures.begins (rw c.ticket-ticket.ensures at c.start_cash.ensures))
 
+pub returns-in_err-room-in-Cash-clause-proceeds : goal.returns-in_err-room-in-Cash-clause-proceeds
+returns-in_err-room-in-Cash-clause-proceeds g c = Proceeds-same g.D.Disk _ g.met.D.Disk.only_now
+
+pub returns-in_err-room-in-Cash-clause-keeps : goal.returns-in_err-room-in-Cash-clause-keeps
+returns-in_err-room-in-Cash-clause-keeps g c = λ upheld. Keeps-same g.D.Disk _ g.met.D.Disk.only_now upheld
+
 pub returns-in-Card-clause-begins : goal.returns-in-Card-clause-begins
 returns-in-Card-clause-begins g c = on_ok_weaker c.begin_card.result (λ begins s.
     let before = at_begin s (seen g.D.Disk c.args.guard.now) c.args.exchange.now c.args.slot.now c.args.keypad.now c.args.connections.now c.args.queues.now in
