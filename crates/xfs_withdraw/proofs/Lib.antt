@@ -1,0 +1,3 @@
+pub mod DoorLaws
+pub mod LastLaws
+pub mod TalkLaws

@@ -1,0 +1,23 @@
+use Rattle.std.proofs.Common.{◌++◌, ◌∷◌, []}
+use Rattle.xfs_script.proofs.AnswerLaws.{Appends-both}
+use Rattle.xfs_withdraw.proofs.LastLaws.{err-more, on-err, prefix-before, prefix-behind}
+use Rattle.xfs_withdraw.proofs.last_line.write_parts.Goals as goal
+
+pub returns-in_err-write_all-clause-err : goal.returns-in_err-write_all-clause-err
+returns-in_err-write_all-clause-err g c =
+    let first = c.args.first.now in
+    let second = c.args.second.now in
+    on-err _ _ (prefix-before _ _ (first ++ second) (10 ∷ []) (prefix-before _ _ first second c.in_err-write_all.ensures.err))
+
+pub returns-in_err-write_all-2-clause-err : goal.returns-in_err-write_all-2-clause-err
+returns-in_err-write_all-2-clause-err g c =
+    let first = c.args.first.now in
+    let second = c.args.second.now in
+    on-err _ _ (prefix-before _ _ (first ++ second) (10 ∷ []) (prefix-behind _ _ _ first second c.in_ok-write_all.ensures.ok c.in_err-write_all-2.ensures.err))
+
+pub returns-clause-err : goal.returns-clause-err
+returns-clause-err g c =
+    let first = c.args.first.now in
+    let second = c.args.second.now in
+    let both = Appends-both _ _ _ first second c.in_ok-write_all.ensures.ok c.in_ok-write_all-2.ensures.ok in
+    err-more _ (λ front. prefix-behind _ _ _ (first ++ second) (10 ∷ []) both front) c.write_all-3.ensures.err

@@ -1,0 +1,91 @@
+ghost use Rattle.std.specs.Prelude.{◌≡◌, ◌≤◌, ◌↔◌, true, IfSome, option_map};
+ghost use Rattle.xfs_withdraw.specs.Doors.{HasDialled, HasFailed, is_closed, quiets_of};
+ghost use Rattle.xfs_withdraw.specs.Endings.{last_line, status_of, WritesLast};
+ghost use Rattle.xfs_withdraw.specs.Talks.{terms_of, Withdraws};
+ghost use Rattle.xfs_withdraw.specs.declared.ending.Ending.TheVariants as Ending;
+ghost use Rattle.xfs_withdraw.specs.declared.ending.TheConstants.{LINK_FAILED, STAYED_QUIET};
+ghost use Rattle.xfs_withdraw.specs.declared.talk.TheConstants.{MOST_QUIETS};
+
+use crate::Ending;
+use crate::last_line::finish;
+use crate::talk::talk;
+use std::alloc::Global;
+use std::sync::Wait;
+use xfs_base::{Clock, Currency, Service, Sink};
+use xfs_client::Withdrawal;
+use xfs_server::{Doors, Link};
+
+/// How a withdrawal ended, and the link that was dialled for it. There is none where the doors refused
+/// the dial.
+#[derive(Drop)]
+pub struct Withdrawn<L: Link> {
+    pub ending: Ending,
+    pub link: Option<L>,
+}
+
+/// Withdraws an amount, in whole units of the currency, from the dispenser that the doors reach, with a
+/// token under this key. It dials once, sends what the withdrawal asks, hears what the link hands over, and
+/// writes at most one line, which says how it ended. Where the link is quiet it has the clock pause.
+pub fn withdraw<R: Wait, O: Doors, C: Clock, K: Sink>(
+    rt: &R,
+    alloc: Global,
+    currency: Currency,
+    amount: u32,
+    key: [u8; 32],
+    doors: &mut O,
+    clock: &C,
+    sink: &mut K,
+) -> Withdrawn<O::Link>
+    requires low { 1 ≤ amount }
+    requires high { amount ≤ 1000000 }
+
+    // The texts that the link sent are the withdrawal's asks after those that it handed over, and so it ended.
+    ensures withdraws { IfSome result.link (λ link. Withdraws (terms_of currency amount key) result.ending (O.Link.log link)) }
+    // The doors were asked once for a link, and there is none exactly where they refused it.
+    ensures dialled { HasDialled result.link result.ending (O.log doors.old) (O.log doors.new) }
+
+    // The last line is that of the ending: whole, or a prefix of it where the sink failed.
+    ensures line { WritesLast (last_line result.ending) (K.faults sink.old) (K.faults sink.new) (K.held sink.old) (K.held sink.new) }
+    ensures later { K.faults sink.old ≤ K.faults sink.new }
+
+    // The causes of closed, quiet and failed.
+    ensures closed { (result.ending ≡ Ending.Closed) ↔ (is_closed (option_map O.Link.log result.link) ≡ true) }
+    ensures quiet { (status_of result.ending ≡ STAYED_QUIET) ↔ (quiets_of (option_map O.Link.log result.link) ≡ MOST_QUIETS) }
+    ensures failed { status_of result.ending ≡ LINK_FAILED → HasFailed (option_map O.Link.log result.link) (O.log doors.old) (O.log doors.new) }
+{
+    let withdrawn = over_a_link(rt, alloc, currency, amount, key, doors, clock);
+    finish(sink, withdrawn.ending);
+    withdrawn
+}
+
+// The withdrawal without its line.
+fn over_a_link<R: Wait, O: Doors, C: Clock>(
+    rt: &R,
+    alloc: Global,
+    currency: Currency,
+    amount: u32,
+    key: [u8; 32],
+    doors: &mut O,
+    clock: &C,
+) -> Withdrawn<O::Link>
+    requires low { 1 ≤ amount }
+    requires high { amount ≤ 1000000 }
+    ensures withdraws { IfSome result.link (λ link. Withdraws (terms_of currency amount key) result.ending (O.Link.log link)) }
+    ensures dialled { HasDialled result.link result.ending (O.log doors.old) (O.log doors.new) }
+{
+    let mut link = match doors.dial(Service::Cash) {
+        Ok(link) => link,
+        Err(fault) => {
+            return Withdrawn {
+                ending: fault.into(),
+                link: None,
+            };
+        }
+    };
+    let mut withdrawal = Withdrawal::new(alloc, currency, amount, key);
+    let ending = talk(rt, &mut withdrawal, &mut link, clock);
+    Withdrawn {
+        ending,
+        link: Some(link),
+    }
+}
