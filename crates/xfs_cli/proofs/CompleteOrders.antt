@@ -19,7 +19,7 @@ use Rattle.xfs_guard.specs.declared.ask.Ask.{Ask}
 use Rattle.xfs_guard.specs.declared.ask.Ask.TheVariants.{Stack as AskStack}
 use Rattle.xfs_guard.specs.declared.deny.Deny.{Deny}
 use Rattle.xfs_guard.specs.declared.open.Open.TheVariants.{Written, Acted}
-use Rattle.xfs_dispenser.specs.Seen.{GuardState}
+use Rattle.xfs_dispenser.specs.Seen.{Seen}
 use Rattle.xfs_dispenser.specs.Complete.{IsCalm}
 use Rattle.xfs_dispenser.specs.Carried.{CarriesOut, IsOrderActed, IsOrderSettled, IsStopped, Stacks, FollowsUnit, with_stacked}
 use Rattle.xfs_dispenser.specs.Steps.{refusal_of, order_record}
@@ -29,16 +29,16 @@ rose-within : (a b x y : ℕ) → a ≤ x → y ≤ b → Rose x y → Rose a b
 rose-within a b x y low high rose = omega (arith, low, high, rose)
 
 -- the counts of faults didn't fall, and the list of records grew
-pub record IsGrown (s next : GuardState) : Type 0 where
+pub record IsGrown (s next : Seen) : Type 0 where
   pub mech : s.guard.faults ≤ next.guard.faults
   pub disk : s.disk_faults ≤ next.disk_faults
   pub more : List Rec
   pub grown : next.guard.records ≡ s.guard.records ++ more
 
-grown-same : (s next : GuardState) → next ≡ s → IsGrown s next
+grown-same : (s next : Seen) → next ≡ s → IsGrown s next
 grown-same s next same = rw same (record { mech = omega arith; disk = omega arith; more = []; grown = sym (append-nil s.guard.records) })
 
-pub grown-trans : (r s t : GuardState) → IsGrown r s → IsGrown s t → IsGrown r t
+pub grown-trans : (r s t : Seen) → IsGrown r s → IsGrown s t → IsGrown r t
 grown-trans r s t a b = record {
   mech = omega (arith, a.mech, b.mech);
   disk = omega (arith, a.disk, b.disk);
@@ -46,7 +46,7 @@ grown-trans r s t a b = record {
   grown = b.grown ∙ (ap (λ l. l ++ b.more) a.grown ∙ append_assoc r.guard.records a.more b.more);
 }
 
-acted-grown : (s : GuardState) (ask : Ask) (outcome : Outcome) (acted : GuardState) → IsOrderActed s ask outcome acted → IsGrown s acted
+acted-grown : (s : Seen) (ask : Ask) (outcome : Outcome) (acted : Seen) → IsOrderActed s ask outcome acted → IsGrown s acted
 acted-grown s ask outcome acted a =
     let faults : a.written.guard.faults ≡ s.guard.faults = ap (λ (v : View). v.faults) a.order.guard_is in
     let records : acted.guard.records ≡ a.written.guard.records = ap (λ (v : View). v.records) a.acts.same in
@@ -57,7 +57,7 @@ acted-grown s ask outcome acted a =
       grown = records ∙ ap (λ (v : View). v.records) a.order.guard_is;
     }
 
-settled-grown : (s : GuardState) (ask : Ask) (outcome : Outcome) (next : GuardState) → IsOrderSettled s ask outcome next → IsGrown s next
+settled-grown : (s : Seen) (ask : Ask) (outcome : Outcome) (next : Seen) → IsOrderSettled s ask outcome next → IsGrown s next
 settled-grown s ask outcome next h =
     let faults : next.guard.faults ≡ h.acted.guard.faults = ap (λ (v : View). v.faults) h.settles.same in
     grown-trans s h.acted next (acted-grown s ask outcome h.acted h.first) (record {
@@ -67,7 +67,7 @@ settled-grown s ask outcome next h =
       grown = ap (λ (v : View). v.records) h.settles.same;
     })
 
-stopped-grown : (s : GuardState) (ask : Ask) (deny : Deny) (next : GuardState) → IsStopped s ask deny next → IsGrown s next
+stopped-grown : (s : Seen) (ask : Ask) (deny : Deny) (next : Seen) → IsStopped s ask deny next → IsGrown s next
 stopped-grown s ask deny next (inl same) = grown-same s next same.1
 stopped-grown s ask deny next (inr (none, is, inl f)) =
     let faults : next.guard.faults ≡ s.guard.faults = ap (λ (v : View). v.faults) f.becomes.guard_is in
@@ -79,17 +79,17 @@ stopped-grown s ask deny next (inr (none, is, inr u)) =
     grown-trans s u.acted next (acted-grown s ask u.outcome u.acted u.first)
     (record { mech = omega (arith, faults); disk = u.later; more = []; grown = records ∙ sym (append-nil u.acted.guard.records) })
 
-pub carries-grown : (s : GuardState) (ask : Ask) (result : Result Outcome Deny) (next : GuardState) → CarriesOut s ask result next → IsGrown s next
+pub carries-grown : (s : Seen) (ask : Ask) (result : Result Outcome Deny) (next : Seen) → CarriesOut s ask result next → IsGrown s next
 carries-grown s ask (Ok o) next c = settled-grown s ask o next c.1
 carries-grown s ask (Err d) next c = stopped-grown s ask d next c
 
-pub follows-grown : (Onward : Outcome → GuardState → Result Outcome Deny → GuardState → Type 0) → ((all : Outcome) (s : GuardState) (result : Result Outcome Deny) (next : GuardState) → Onward all s result next → IsGrown s next)
-    → (all : Outcome) (u : ℕ) (one : Result Outcome Deny) (s : GuardState) (result : Result Outcome Deny) (next : GuardState) → FollowsUnit Onward all u one s result next → IsGrown s next
+pub follows-grown : (Onward : Outcome → Seen → Result Outcome Deny → Seen → Type 0) → ((all : Outcome) (s : Seen) (result : Result Outcome Deny) (next : Seen) → Onward all s result next → IsGrown s next)
+    → (all : Outcome) (u : ℕ) (one : Result Outcome Deny) (s : Seen) (result : Result Outcome Deny) (next : Seen) → FollowsUnit Onward all u one s result next → IsGrown s next
 follows-grown Onward each all u (Err d) s result next f = grown-same s next f.1
 follows-grown Onward each all u (Ok o) s result next (inl f) = grown-same s next f.2
 follows-grown Onward each all u (Ok o) s result next (inr f) = each (with_stacked all u o) s result next f.1
 
-pub stacks-grown : (issue : ℕ) (counts : List ℕ) (u : ℕ) (all : Outcome) (s : GuardState) (result : Result Outcome Deny) (next : GuardState) → Stacks issue counts u all s result next → IsGrown s next
+pub stacks-grown : (issue : ℕ) (counts : List ℕ) (u : ℕ) (all : Outcome) (s : Seen) (result : Result Outcome Deny) (next : Seen) → Stacks issue counts u all s result next → IsGrown s next
 stacks-grown issue [] u all s result next h = grown-same s next h.1
 stacks-grown issue (zero ∷ counts) u all s result next h = stacks-grown issue counts (u + 1) all s result next h
 stacks-grown issue (suc n ∷ counts) u all s result next h =
@@ -97,20 +97,20 @@ stacks-grown issue (suc n ∷ counts) u all s result next h =
     (follows-grown (Stacks issue counts (u + 1)) (λ all s result next more. stacks-grown issue counts (u + 1) all s result next more) all u h.one h.middle result next h.onward)
 
 -- a calm while is calm in its first part and in the rest
-pub calm-first : (r s t : GuardState) → IsGrown s t → IsCalm r t → IsCalm r s
+pub calm-first : (r s t : Seen) → IsGrown s t → IsCalm r t → IsCalm r s
 calm-first r s t more calm = record {
   mech = λ rose. calm.mech (rose-within r.guard.faults t.guard.faults r.guard.faults s.guard.faults (omega arith) more.mech rose);
   disk = λ rose. calm.disk (rose-within r.disk_faults t.disk_faults r.disk_faults s.disk_faults (omega arith) more.disk rose);
 }
 
-pub calm-rest : (r s t : GuardState) → IsGrown r s → IsCalm r t → IsCalm s t
+pub calm-rest : (r s t : Seen) → IsGrown r s → IsCalm r t → IsCalm s t
 calm-rest r s t more calm = record {
   mech = λ rose. calm.mech (rose-within r.guard.faults t.guard.faults s.guard.faults t.guard.faults more.mech (omega arith) rose);
   disk = λ rose. calm.disk (rose-within r.disk_faults t.disk_faults s.disk_faults t.disk_faults more.disk (omega arith) rose);
 }
 
 -- an order was carried out with all of its notes
-pub record IsFull (s : GuardState) (ask : Ask) (result : Result Outcome Deny) (next : GuardState) : Type 0 where
+pub record IsFull (s : Seen) (ask : Ask) (result : Result Outcome Deny) (next : Seen) : Type 0 where
   pub outcome : Outcome
   pub is : result ≡ Ok outcome
   pub fine : outcome.failed ≡ false
@@ -135,7 +135,7 @@ acted-moved k j m n d e f g h = (cc, cc)
 places-at : (n : ℕ) (k j : Kind) (m c d : Counts) (p q r t : Places) → p ≡ q → k ≡ j → m ≡ c → r ≡ t → PlacesOf p (Moved n k m d ∷ []) t → PlacesOf q (Moved n j c d ∷ []) r
 places-at n k j m c d p q r t a b e f h = rw (← a, ← b, ← e, f) h
 
-settled-full : (s : GuardState) (ask : Ask) (outcome : Outcome) (next : GuardState) → IsCalm s next → IsOrderSettled s ask outcome next → IsFull s ask (Ok outcome) next
+settled-full : (s : Seen) (ask : Ask) (outcome : Outcome) (next : Seen) → IsCalm s next → IsOrderSettled s ask outcome next → IsFull s ask (Ok outcome) next
 settled-full s ask outcome next calm h =
     let a = h.first in
     let faults : a.written.guard.faults ≡ s.guard.faults = ap (λ (v : View). v.faults) a.order.guard_is in
@@ -174,7 +174,7 @@ settled-full s ask outcome next calm h =
     sound false never = refl
 
 -- an order that isn't refused
-pub carries-full : (s : GuardState) (ask : Ask) (result : Result Outcome Deny) (next : GuardState) → refusal_of s.guard ask ≡ None → IsCalm s next → CarriesOut s ask result next → IsFull s ask result next
+pub carries-full : (s : Seen) (ask : Ask) (result : Result Outcome Deny) (next : Seen) → refusal_of s.guard ask ≡ None → IsCalm s next → CarriesOut s ask result next → IsFull s ask result next
 carries-full s ask (Ok o) next free calm c = settled-full s ask o next calm c.1
 carries-full s ask (Err d) next free calm (inl (refused, same)) = let e : None ≡ Some d = sym free ∙ refused in cc
 carries-full s ask (Err d) next free calm (inr (none, is, inl f)) = absurd (calm.disk f.cause)

@@ -21,7 +21,7 @@ use Rattle.xfs_guard.specs.declared.ask.Ask.TheVariants.{Stack as AskStack}
 use Rattle.xfs_guard.specs.declared.deny.Deny.{Deny}
 use Rattle.xfs_guard.specs.declared.nonce.Nonce.{Nonce}
 use Rattle.xfs_guard.proofs.SizeLaws.{size-longer, order-short}
-use Rattle.xfs_dispenser.specs.Seen.{GuardState}
+use Rattle.xfs_dispenser.specs.Seen.{Seen}
 use Rattle.xfs_dispenser.specs.Carried.{Stacks, GoesOn, with_stacked}
 use Rattle.xfs_dispenser.specs.Complete.{IsCalm}
 use Rattle.xfs_cli.proofs.CompleteOrders.{IsFull, carries-full, carries-grown, follows-grown, stacks-grown, stack-places, calm-first, calm-rest}
@@ -32,7 +32,7 @@ zeros zero = []
 zeros (suc n) = 0 ∷ zeros n
 
 -- behind an order that was carried out in full
-open-after : (s middle : GuardState) (issue u n : ℕ) (amounts : List (List ℕ × ℕ)) (orders : ℕ) (result : Result Outcome Deny)
+open-after : (s middle : Seen) (issue u n : ℕ) (amounts : List (List ℕ × ℕ)) (orders : ℕ) (result : Result Outcome Deny)
     → IsFull s (AskStack issue (u + 1) n) result middle → IsOpenFor s.guard issue amounts (suc orders) → IsOpenFor middle.guard issue amounts orders
 open-after s middle issue u n amounts orders result f o =
     let notes = notes_of (u + 1) n in
@@ -51,7 +51,7 @@ open-after s middle issue u n amounts orders result f o =
       bound = f.bound ∙ o.bound;
     }
 
-ahead-after : (s middle : GuardState) (issue u n : ℕ) (amounts : List (List ℕ × ℕ)) (rest : List ℕ) (result : Result Outcome Deny) → u < 8
+ahead-after : (s middle : Seen) (issue u n : ℕ) (amounts : List (List ℕ × ℕ)) (rest : List ℕ) (result : Result Outcome Deny) → u < 8
     → IsFull s (AskStack issue (u + 1) n) result middle → IsAhead s.guard amounts (ahead u (n ∷ rest)) → IsAhead middle.guard amounts (ahead (suc u) rest)
 ahead-after s middle issue u n amounts rest result low f h = record {
   lie = λ w. let p = (stack-places s.guard.places middle.guard.places f.number notes f.outcome.diverted f.places f.none w).0 in let e = ahead-split u n w rest low in let l = h.lie w in omega (arith, p, e, l);
@@ -67,7 +67,7 @@ ahead-after s middle issue u n amounts rest result low f h = record {
     notes = notes_of (u + 1) n
 
 -- all these counts were stacked behind those before
-pub record IsStacked (s : GuardState) (issue : ℕ) (amounts : List (List ℕ × ℕ)) (u : ℕ) (front rest : List ℕ) (result : Result Outcome Deny) (next : GuardState) : Type 0 where
+pub record IsStacked (s : Seen) (issue : ℕ) (amounts : List (List ℕ × ℕ)) (u : ℕ) (front rest : List ℕ) (result : Result Outcome Deny) (next : Seen) : Type 0 where
   pub outcome : Outcome
   pub is : result ≡ Ok outcome
   pub fine : outcome.failed ≡ false
@@ -84,7 +84,7 @@ more-room : (v : View) (issue orders : ℕ) (amounts : List (List ℕ × ℕ)) �
 more-room v issue orders amounts o = record { open_still = o.open_still; booted = o.booted; records = omega (arith, o.records); bytes = omega (arith, o.bytes); lives = o.lives; bound = o.bound }
 
 -- a unit of which nothing is asked
-stacked-zero : (s : GuardState) (issue : ℕ) (amounts : List (List ℕ × ℕ)) (u : ℕ) (front rest : List ℕ) (result : Result Outcome Deny) (next : GuardState)
+stacked-zero : (s : Seen) (issue : ℕ) (amounts : List (List ℕ × ℕ)) (u : ℕ) (front rest : List ℕ) (result : Result Outcome Deny) (next : Seen)
     → IsStacked s issue amounts (suc u) (front ++ 0 ∷ []) rest result next → IsStacked s issue amounts u front (0 ∷ rest) result next
 stacked-zero s issue amounts u front rest result next h = record {
   outcome = h.outcome;
@@ -98,7 +98,7 @@ stacked-zero s issue amounts u front rest result next h = record {
 }
 
 -- a unit's notes and those of the next units
-stacked-unit : (s middle : GuardState) (issue : ℕ) (amounts : List (List ℕ × ℕ)) (u n : ℕ) (front rest : List ℕ) (one result : Result Outcome Deny) (next : GuardState) → u < 8
+stacked-unit : (s middle : Seen) (issue : ℕ) (amounts : List (List ℕ × ℕ)) (u n : ℕ) (front rest : List ℕ) (one result : Result Outcome Deny) (next : Seen) → u < 8
     → IsFull s (AskStack issue (u + 1) n) one middle → IsStacked middle issue amounts (suc u) (front ++ n ∷ []) rest result next → IsStacked s issue amounts u front (n ∷ rest) result next
 stacked-unit s middle issue amounts u n front rest one result next low f h = record {
   outcome = h.outcome;
@@ -123,10 +123,10 @@ moved-after all one front rest u n low long was is =
     let b : set (front ++ 0 ∷ zeros (length rest)) u n ≡ front ++ n ∷ zeros (length rest) = rw (← long) (set-append_seam front 0 (zeros (length rest)) n) in
     a ∙ (b ∙ sym (one-more front (zeros (length rest)) n))
 
-stacks-at : (issue : ℕ) (rest : List ℕ) (u v : ℕ) (all : Outcome) (s : GuardState) (result : Result Outcome Deny) (next : GuardState) → u ≡ v → Stacks issue rest u all s result next → Stacks issue rest v all s result next
+stacks-at : (issue : ℕ) (rest : List ℕ) (u v : ℕ) (all : Outcome) (s : Seen) (result : Result Outcome Deny) (next : Seen) → u ≡ v → Stacks issue rest u all s result next → Stacks issue rest v all s result next
 stacks-at issue rest u v all s result next e h = subst (λ k. Stacks issue rest k all s result next) e h
 
-pub stacks-full : (issue : ℕ) (amounts : List (List ℕ × ℕ)) (rest : List ℕ) (u : ℕ) (front : List ℕ) (all : Outcome) (s : GuardState) (result : Result Outcome Deny) (next : GuardState)
+pub stacks-full : (issue : ℕ) (amounts : List (List ℕ × ℕ)) (rest : List ℕ) (u : ℕ) (front : List ℕ) (all : Outcome) (s : Seen) (result : Result Outcome Deny) (next : Seen)
     → length front ≡ u → u + length rest ≤ 8 → all.failed ≡ false → all.moved.0 ≡ front ++ zeros (length rest)
     → IsOpenFor s.guard issue amounts (length rest) → IsAhead s.guard amounts (ahead u rest) → IsCalm s next → Stacks issue rest u all s result next
     → IsStacked s issue amounts u front rest result next
