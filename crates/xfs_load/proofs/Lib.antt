@@ -1,0 +1,5 @@
+pub mod HearLaws
+pub mod JoinLaws
+pub mod PlayLaws
+pub mod RestLaws
+pub mod TextLaws

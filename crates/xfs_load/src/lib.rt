@@ -1,0 +1,18 @@
+//! The load generator: a client that withdraws round for round from a machine, and the summary of what came of it.
+#![tactic(auto)]
+
+mod ask;
+mod client;
+mod playing;
+mod presented;
+mod resting;
+mod rounds;
+mod summary;
+mod text;
+
+pub use ask::Ask;
+pub use playing::play;
+pub use presented::Presented;
+pub use resting::rest;
+pub use rounds::rounds_in;
+pub use summary::Summary;

@@ -1,0 +1,48 @@
+//! A load played on a machine.
+
+ghost use Rattle.std.specs.Prelude.{◌≡◌, ◌-◌, drop, length, IfOk, OnErr};
+ghost use Rattle.xfs_guard.specs.Keeps.{Proceeds};
+ghost use Rattle.xfs_load.specs.Plays.{PlaysRounds, RoundsInPart};
+ghost use Rattle.xfs_load.specs.Summaries.{IsSummary};
+ghost use Rattle.xfs_machine.specs.MachineView.{guard_of};
+ghost use Rattle.xfs_model.specs.State.{bare};
+
+use crate::client::Client;
+use crate::summary::Summary;
+use std::alloc::Global;
+use xfs_base::{Memory, Service};
+use xfs_disk::Disk;
+use xfs_machine::{JoinFault, Machine};
+use xfs_mech::Mechanism;
+
+/// Plays so many rounds of the generator on a machine that has just booted: a client joins the cash dispenser and
+/// withdraws, with tokens under this key. What came of it is summed up of the completions that the client heard, and of
+/// the records from the Boot on. Want of memory leaves a front of the calls made.
+pub fn play<M: Mechanism, D: Disk>(
+    alloc: Global,
+    machine: &mut Machine<M, D>,
+    key: [u8; 32],
+    rounds: u32,
+) -> Result<Summary, Memory>
+    requires booted { machine.old.state ≡ bare machine.old.state.seen machine.old.state.life (length machine.old.state.seen.guard.records) }
+    ensures plays { IfOk result (IsSummary key rounds machine.old.state machine.new.state) }
+    ensures memory { OnErr result (RoundsInPart key rounds machine.old.state machine.new.state) }
+    ensures proceeds { Proceeds D.Disk (guard_of machine.old) (guard_of machine.new) }
+{
+    let before = machine.records().len().saturating_sub(1);
+    let pass = match machine.join(Service::Cash) {
+        Ok(pass) => pass,
+        Err(JoinFault::Memory) => return Err(Memory),
+        Err(JoinFault::Full) => unreachable!(),
+    };
+    let mut client = Client::new(alloc, key, pass);
+    for i in 0..rounds {
+        client.round(machine, i)?;
+    }
+    Ok(Summary::of(
+        rounds,
+        client.refused(),
+        machine.units(),
+        &machine.records()[before..],
+    ))
+}
