@@ -2,7 +2,6 @@
 
 ghost use Rattle.std.specs.Prelude.{◌≡◌, ◌≢◌, ◌↔◌, ℕ, List, is_some};
 ghost use Rattle.xfs_mech.specs.Moves.{AddsUp};
-
 ghost use Rattle.xfs_guard.specs.Booting.{LeavesRecorded};
 ghost use Rattle.xfs_guard.specs.Stored.{IsStored};
 ghost use Rattle.xfs_cli.specs.GuardRuns.{RunsGuard};
