@@ -5,7 +5,8 @@ use Rattle.std.specs.List.{AllByRecursion}
 use Rattle.xfs_base.specs.Causes.{IfTold}
 use Rattle.xfs_disk.specs.Disk.{Only}
 use Rattle.xfs_journal.specs.Image.{IsImage, IsRecord, StandsFor, contents, size}
-use Rattle.xfs_journal.specs.Paging.{MayCease}
+use Rattle.xfs_disk.specs.declared.disk.Disk.{Ghosts}
+use Rattle.xfs_journal.specs.Paging.{CeasesAt, MayCease}
 use Rattle.xfs_journal.specs.declared.faults.AppendFault.{AppendFault}
 use Rattle.xfs_journal.specs.declared.faults.AppendFault.TheVariants.{Shut, Full}
 use Rattle.xfs_journal.specs.declared.limits.Limits.{Limits}
@@ -50,6 +51,22 @@ IsPossible kept in_doubt records = (records ≡ kept) ⊎ ((r : Rec) × (in_doub
 -- the bytes are those of such a list
 abbrev pub HasPossible : List Rec → Option Rec → List ℕ → Type 0
 HasPossible kept in_doubt bytes = (records : List Rec) × IsPossible kept in_doubt records × IsImage bytes records
+
+-- a disk that tells leaves the list after every crash
+abbrev pub LeavesList : {D : Type 0} → Ghosts D → D → List Rec → Type 0
+LeavesList g disk records = IfTold (g.held disk) (λ _. (c : List ℕ) → g.images disk c → StandsFor c records)
+
+-- a disk that tells leaves one of the possible lists after every crash
+abbrev pub LeavesOneOf : {D : Type 0} → Ghosts D → D → List Rec → Option Rec → Type 0
+LeavesOneOf g disk kept in_doubt = IfTold (g.held disk) (λ _. (c : List ℕ) → g.images disk c → HasPossible kept in_doubt c)
+
+-- a disk that told leaves the list after every crash, or the list with the record
+abbrev pub LeavesEither : {D : Type 0} → Ghosts D → D → D → List Rec → Rec → Type 0
+LeavesEither g old new records r = IfTold (g.held old) (λ _. (c : List ℕ) → g.images new c → StandsForEither records r c)
+
+-- a disk that tells ceases to be a journal there, and stands for no list
+abbrev pub IsNoJournal : Option (List ℕ) → ℕ → Type 0
+IsNoJournal held at = IfTold held (λ all. CeasesAt all at × ((records : List Rec) → ¬ StandsFor all records))
 
 -- A crash leaves one of the possible lists. While the journal isn't shut, no record is in doubt.
 pub record IsInDoubt (held : Option (List ℕ)) (images : List ℕ → Type 0) (records : List Rec) (shut : Bool) (in_doubt : Option Rec) : Type 0 where

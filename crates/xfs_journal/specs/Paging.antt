@@ -1,5 +1,5 @@
 -- What a page shows of a disk's bytes, and what reading leaves as it was.
-use Rattle.std.specs.Prelude.{◌≡◌, ◌⊎◌, ◌≢◌, ℕ, ◌+◌, ◌≤◌, List, [], ◌∷◌, ◌++◌, length, take, drop, slice_index}
+use Rattle.std.specs.Prelude.{◌≡◌, ◌⊎◌, ◌≢◌, ℕ, ◌+◌, ◌≤◌, ◌<◌, List, [], ◌∷◌, ◌++◌, length, take, drop, slice_index}
 use Rattle.std.specs.Int.{from_be_bytes, w16}
 use Rattle.std.specs.declared.option.Option.{Option}
 use Rattle.std.specs.List.{AllByRecursion}
@@ -8,6 +8,8 @@ use Rattle.xfs_disk.specs.Disk.{AddsNone}
 use Rattle.xfs_disk.specs.Moments.{LeavesOnly}
 use Rattle.xfs_disk.specs.declared.disk.Disk.{Ghosts}
 use Rattle.xfs_journal.specs.Image.{IsRecord, body, framed, contents, magic}
+use Rattle.xfs_journal.specs.declared.faults.MountFault.{MountFault}
+use Rattle.xfs_journal.specs.declared.faults.MountFault.TheVariants.{NotJournal}
 use Rattle.xfs_journal.specs.declared.record.Rec.{Rec}
 
 -- the next bytes from a place on, and the length of the whole
@@ -56,6 +58,18 @@ IsShut bytes = (gate : ℕ) × (rest : List ℕ) × (gate ≢ 1) × (bytes ≡ g
 -- no byte, or an open gate byte with no whole record of the format behind it
 abbrev pub IsBroken : List ℕ → Type 0
 IsBroken bytes = (bytes ≡ []) ⊎ ((rest : List ℕ) × (bytes ≡ 1 ∷ rest) × ((r : Rec) → IsRecord r → (more : List ℕ) → rest ≢ framed r ++ more))
+
+-- where it is no journal, it is none from this place on, from which the disk has something broken
+abbrev pub BreaksAt : Option (List ℕ) → ℕ → MountFault → Type 0
+BreaksAt held gate fault = (at : ℕ) → fault ≡ NotJournal at → (at ≡ gate) × IfTold held (λ all. IsBroken (drop gate all))
+
+-- where it is no journal, it is none from this place on, from which the disk has fewer bytes than so many
+abbrev pub EndsAt : Option (List ℕ) → ℕ → ℕ → MountFault → Type 0
+EndsAt held gate count fault = (at : ℕ) → fault ≡ NotJournal at → (at ≡ gate) × IfTold held (λ all. length (drop gate all) < count)
+
+-- the page passed an open gate byte and this record
+abbrev pub Passes : Option (List ℕ) → PageView → PageView → Rec → Type 0
+Passes held old new r = IfTold held (λ all. (drop old.at all ≡ (1 ∷ framed r) ++ drop new.at all) × Shows all new)
 
 -- The place from which bytes are no journal: 0 where they don't begin as one, else that behind the last whole record, where no closed gate byte stands.
 abbrev pub CeasesAt : List ℕ → ℕ → Type 0

@@ -3,7 +3,7 @@ ghost use Rattle.std.specs.Prelude.{◌≡◌, ◌≢◌, ◌+◌, ◌<◌, ◌�
 ghost use Rattle.xfs_base.specs.Causes.{IfTold, Rose};
 ghost use Rattle.xfs_journal.specs.declared.body.TheConstants.{MOST};
 ghost use Rattle.xfs_journal.specs.Image.{IsRecord, framed};
-ghost use Rattle.xfs_journal.specs.Paging.{Shows, Since, Took, IsQuiet, IsShut, IsBroken, size_in};
+ghost use Rattle.xfs_journal.specs.Paging.{Shows, Since, Took, IsQuiet, IsShut, BreaksAt, EndsAt, Passes, size_in};
 ghost use Rattle.xfs_journal.specs.declared.faults.MountFault.TheVariants.{NotJournal, Disk as DiskFault, Memory as NoMemory};
 
 use crate::page::{Page, read_on};
@@ -24,7 +24,7 @@ pub(crate) fn need<D: Disk>(
     requires since { Since (D.held disk.old) page.old gate out.old.items }
     ensures since { OnOk result (Since (D.held disk.old) page.new gate out.new.items) }
     ensures count { OnOk result (length out.new.items ≡ length out.old.items + count) }
-    ensures short { IfErr result (λ f. (x : ℕ) → f ≡ NotJournal x → (x ≡ gate) × IfTold (D.held disk.old) (λ all. length (drop gate all) < length out.old.items + count)) }
+    ensures short { IfErr result (EndsAt (D.held disk.old) gate (length out.old.items + count)) }
     ensures disk { IfErr result (λ f. f ≡ DiskFault → Rose (D.faults disk.old) (D.faults disk.new)) }
     ensures capacity { vec_capacity out.old ≤ vec_capacity out.new }
     ensures quiet { IsQuiet D.Disk disk.old disk.new }
@@ -50,7 +50,7 @@ fn read_gate<D: Disk>(
     ensures count { OnOk result (length block.new.items ≡ 1) }
     ensures open { IfOk result (λ opened. opened ≡ true → IfTold (D.held disk.old) (λ all. slice_index (drop gate all) 0 ≡ 1)) }
     ensures shut { IfOk result (λ opened. opened ≡ false → IfTold (D.held disk.old) (λ all. IsShut (drop gate all))) }
-    ensures broken { IfErr result (λ f. (x : ℕ) → f ≡ NotJournal x → (x ≡ gate) × IfTold (D.held disk.old) (λ all. IsBroken (drop gate all))) }
+    ensures broken { IfErr result (BreaksAt (D.held disk.old) gate) }
     ensures disk { IfErr result (λ f. f ≡ DiskFault → Rose (D.faults disk.old) (D.faults disk.new)) }
     ensures capacity { vec_capacity block.old ≤ vec_capacity block.new }
     ensures quiet { IsQuiet D.Disk disk.old disk.new }
@@ -75,7 +75,7 @@ fn read_size<D: Disk>(
     ensures count { OnOk result (length block.new.items ≡ 3) }
     ensures size { IfOk result (λ n. IfTold (D.held disk.old) (λ all. n ≡ size_in (drop gate all))) }
     ensures most { IfOk result (λ n. n ≤ 1025) }
-    ensures broken { IfErr result (λ f. (x : ℕ) → f ≡ NotJournal x → (x ≡ gate) × IfTold (D.held disk.old) (λ all. IsBroken (drop gate all))) }
+    ensures broken { IfErr result (BreaksAt (D.held disk.old) gate) }
     ensures disk { IfErr result (λ f. f ≡ DiskFault → Rose (D.faults disk.old) (D.faults disk.new)) }
     ensures capacity { vec_capacity block.old ≤ vec_capacity block.new }
     ensures quiet { IsQuiet D.Disk disk.old disk.new }
@@ -102,7 +102,7 @@ fn read_rest<D: Disk>(
     ensures since { OnOk result (Since (D.held disk.old) page.new gate block.new.items) }
     ensures long { OnOk result (3 ≤ length block.new.items) }
     ensures whole { OnOk result (IfTold (D.held disk.old) (λ all. length block.new.items ≡ 3 + size_in (drop gate all))) }
-    ensures broken { IfErr result (λ f. (x : ℕ) → f ≡ NotJournal x → (x ≡ gate) × IfTold (D.held disk.old) (λ all. IsBroken (drop gate all))) }
+    ensures broken { IfErr result (BreaksAt (D.held disk.old) gate) }
     ensures disk { IfErr result (λ f. f ≡ DiskFault → Rose (D.faults disk.old) (D.faults disk.new)) }
     ensures capacity { vec_capacity block.old ≤ vec_capacity block.new }
     ensures quiet { IsQuiet D.Disk disk.old disk.new }
@@ -122,11 +122,11 @@ pub(crate) fn read_block<D: Disk>(
     requires room { (MOST ≤ vec_capacity block.old) × (1025 ≤ vec_capacity spare.old) }
     requires shows { IfTold (D.held disk.old) (λ all. Shows all page.old) }
     ensures of_table { IfOk result (λ found. IfSome found (λ r. IsRecord r × (page.new.at ≡ page.old.at + length (1 ∷ framed r)))) }
-    ensures record { IfOk result (λ found. IfSome found (λ r. IfTold (D.held disk.old) (λ all. (drop page.old.at all ≡ (1 ∷ framed r) ++ drop page.new.at all) × Shows all page.new))) }
+    ensures record { IfOk result (λ found. IfSome found (Passes (D.held disk.old) page.old page.new)) }
     ensures behind { IfOk result (λ found. found ≡ None → page.new.at ≡ page.old.at + 1) }
     ensures small { page.old.at < 2 ^ 64 }
     ensures shut { IfOk result (λ found. found ≡ None → IfTold (D.held disk.old) (λ all. IsShut (drop page.old.at all))) }
-    ensures broken { IfErr result (λ f. (x : ℕ) → f ≡ NotJournal x → (x ≡ page.old.at) × IfTold (D.held disk.old) (λ all. IsBroken (drop page.old.at all))) }
+    ensures broken { IfErr result (BreaksAt (D.held disk.old) page.old.at) }
     ensures disk { IfErr result (λ f. f ≡ DiskFault → Rose (D.faults disk.old) (D.faults disk.new)) }
     ensures capacity { (MOST ≤ vec_capacity block.new) × (1025 ≤ vec_capacity spare.new) }
     ensures quiet { IsQuiet D.Disk disk.old disk.new }

@@ -3,8 +3,8 @@ ghost use Rattle.std.specs.Prelude.{◌≡◌, List, ℕ, ◌+◌, ◌<◌, ◌�
 ghost use Rattle.xfs_base.specs.Causes.{HasCause, IfTold};
 ghost use Rattle.xfs_disk.specs.Disk.{overlaid, Torn, ImagesFollow, Only};
 ghost use Rattle.xfs_disk.specs.Moments.{LeavesOnly};
-ghost use Rattle.xfs_journal.specs.Image.{IsRecord, StandsFor, framed};
-ghost use Rattle.xfs_journal.specs.JournalView.{IsKept, IsInDoubt, StandsForEither};
+ghost use Rattle.xfs_journal.specs.Image.{IsRecord, framed};
+ghost use Rattle.xfs_journal.specs.JournalView.{IsKept, IsInDoubt, LeavesEither, LeavesList, StandsForEither};
 ghost use Rattle.xfs_journal.specs.Gate.{IsClosed, IsOpened, IsEither, MayBecome};
 
 use crate::{Limits, Rec};
@@ -29,7 +29,8 @@ pub(crate) fn write_synced<D: Disk>(disk: &mut D, at: u64, bytes: &[u8]) -> Resu
 pub(crate) fn write_behind<D: Disk>(disk: &mut D, gate: u64, bytes: &[u8]) -> Result<(), Failed>
     requires small { gate + 1 < 2 ^ 64 }
     requires closed { IfTold (D.held disk.old) (λ all. (gate < length all) × IsClosed (take gate all) all × Only all (D.images disk.old)) }
-    ensures ok { OnOk result (IfTold (D.held disk.old) (λ old. IfTold (D.held disk.new) (λ all. IsOpened (take gate old) bytes.now all × Only all (D.images disk.new)))) }
+    ensures ok { OnOk result (IfTold (D.held disk.old) (λ old.
+        IfTold (D.held disk.new) (λ all. IsOpened (take gate old) bytes.now all × Only all (D.images disk.new)))) }
     ensures told { is_some (D.held disk.new) ≡ is_some (D.held disk.old) }
     ensures any_moment { IfTold (D.held disk.old) (λ old. LeavesOnly D.Disk disk.old disk.new (IsEither (take gate old) bytes.now)) }
     ensures images { IfTold (D.held disk.old) (λ old. (c : _) → D.images disk.new c → IsEither (take gate old) bytes.now c) }
@@ -54,10 +55,10 @@ pub(crate) fn write_record<D: Disk>(
     ensures ok { OnOk result (IsKept (D.held disk.new) (D.images disk.new) (records.now ++ rec.now ∷ []) false (end + length bytes.now)) }
     ensures told { is_some (D.held disk.new) ≡ is_some (D.held disk.old) }
     ensures any_moment { IfTold (D.held disk.old) (λ _. LeavesOnly D.Disk disk.old disk.new (StandsForEither records.now rec.now)) }
-    ensures images { IfTold (D.held disk.old) (λ _. (c : List ℕ) → D.images disk.new c → StandsForEither records.now rec.now c) }
+    ensures images { LeavesEither D.Disk disk.old disk.new records.now rec.now }
     ensures in_doubt { IsInDoubt (D.held disk.new) (D.images disk.new) records.now true (Some rec.now) }
     ensures none_in_doubt { OnOk result (IsInDoubt (D.held disk.new) (D.images disk.new) (records.now ++ rec.now ∷ []) false None) }
-    ensures acknowledged { OnOk result (IfTold (D.held disk.new) (λ _. (c : List ℕ) → D.images disk.new c → StandsFor c (records.now ++ rec.now ∷ []))) }
+    ensures acknowledged { OnOk result (LeavesList D.Disk disk.new (records.now ++ rec.now ∷ [])) }
     ensures cause { HasCause (D.faults disk.old) (D.faults disk.new) result }
 {
     write_behind(disk, end, bytes)

@@ -4,7 +4,7 @@ ghost use Rattle.xfs_base.specs.Causes.{IfTold, Rose};
 ghost use Rattle.xfs_disk.specs.Moments.{LeavesOnly};
 ghost use Rattle.xfs_journal.specs.declared.body.TheConstants.{MOST};
 ghost use Rattle.xfs_journal.specs.Image.{HasUnit, StandsFor, framed, contents, size};
-ghost use Rattle.xfs_journal.specs.JournalView.{exceeds, refusal, IsPossible, HasPossible, StandsForEither, MayPartAt};
+ghost use Rattle.xfs_journal.specs.JournalView.{exceeds, refusal, IsNoJournal, IsPossible, LeavesEither, LeavesList, LeavesOneOf, StandsForEither, MayPartAt};
 ghost use Rattle.xfs_journal.specs.declared.faults.AppendFault.TheVariants.{Disk as DiskFault, Memory as NoMemory};
 ghost use Rattle.xfs_journal.specs.Paging.{CeasesAt, IsOldOrShort, IsQuiet};
 ghost use Rattle.xfs_journal.specs.declared.faults.MountFault.TheVariants.{NotJournal, Disk as MountDisk, Memory as MountMemory};
@@ -65,7 +65,7 @@ impl<D: Disk> Journal<D> {
     /// is not written, and the disk is handed back with what hindered it.
     pub fn mount(alloc: Global, disk: D, limits: Limits) -> Result<Journal<D>, MountFail<D>>
         ensures ok { IfOk result (λ j. IfTold (D.held disk) (λ all. StandsFor all j.records)) }
-        ensures not_journal { IfErr result (λ f. (at : ℕ) → f.why ≡ NotJournal at → IfTold (D.held disk) (λ all. CeasesAt all at × ((records : List Rec) → ¬ StandsFor all records))) }
+        ensures not_journal { IfErr result (λ f. (at : ℕ) → f.why ≡ NotJournal at → IsNoJournal (D.held disk) at) }
         ensures disk { IfErr result (λ f. f.why ≡ MountDisk → Rose (D.faults disk) (D.faults f.disk)) }
         ensures shut { IfOk result (λ j. j.shut ≡ false) }
         ensures limits { IfOk result (λ j. j.limits ≡ limits) }
@@ -75,7 +75,9 @@ impl<D: Disk> Journal<D> {
         ensures long { IfTold (D.held disk) (λ all. 9 < length all → MatchResult result
             (λ j. IsQuiet D.Disk disk j.disk)
             (λ f. IsQuiet D.Disk disk f.disk)) }
-        ensures told { MatchResult result (λ j. is_some (D.held j.disk) ≡ is_some (D.held disk)) (λ f. is_some (D.held f.disk) ≡ is_some (D.held disk)) }
+        ensures told { MatchResult result
+            (λ j. is_some (D.held j.disk) ≡ is_some (D.held disk))
+            (λ f. is_some (D.held f.disk) ≡ is_some (D.held disk)) }
         ensures faults { MatchResult result (λ j. D.faults disk ≤ D.faults j.disk) (λ f. D.faults disk ≤ D.faults f.disk) }
 
         // A crash at any moment of the call leaves what it might have left before, or at most 9 bytes where the file
@@ -83,7 +85,7 @@ impl<D: Disk> Journal<D> {
         ensures any_moment { IfTold (D.held disk) (λ all. MatchResult result
             (λ j. LeavesOnly D.Disk disk j.disk (IsOldOrShort (D.images disk) all))
             (λ f. LeavesOnly D.Disk disk f.disk (IsOldOrShort (D.images disk) all))) }
-        ensures acknowledged { IfOk result (λ j. IfTold (D.held j.disk) (λ _. (c : List ℕ) → D.images j.disk c → StandsFor c j.records)) }
+        ensures acknowledged { IfOk result (λ j. LeavesList D.Disk j.disk j.records) }
     {
         let mut disk = disk;
         let Ok(mut buffer) = Vec::with_capacity(alloc, MOST) else {
@@ -119,7 +121,7 @@ impl<D: Disk> Journal<D> {
     pub fn shut(&self) -> bool
         ensures shut { result ≡ self.now.shut }
         ensures settled { self.now.shut ≡ false → self.now.in_doubt ≡ None }
-        ensures possible { IfTold (D.held self.now.disk) (λ _. (c : List ℕ) → D.images self.now.disk c → HasPossible self.now.records self.now.in_doubt c) }
+        ensures possible { LeavesOneOf D.Disk self.now.disk self.now.records self.now.in_doubt }
     {
         self.shut
     }
@@ -142,7 +144,7 @@ impl<D: Disk> Journal<D> {
     pub fn end(self) -> D
         ensures disk { result ≡ self.disk }
         ensures settled { self.shut ≡ false → self.in_doubt ≡ None }
-        ensures possible { IfTold (D.held result) (λ _. (c : List ℕ) → D.images result c → HasPossible self.records self.in_doubt c) }
+        ensures possible { LeavesOneOf D.Disk result self.records self.in_doubt }
     {
         self.disk
     }
@@ -173,12 +175,12 @@ impl<D: Disk> Journal<D> {
 
         // A disk that tells has one of the two lists, so it isn't refused as no journal, nor written: a crash at any
         // moment of the call leaves what it might have left before, and after `Ok` the list.
-        ensures possible { IfTold (D.held self.old.disk) (λ _. (c : List ℕ) → D.images self.old.disk c → HasPossible self.old.records self.old.in_doubt c) }
+        ensures possible { LeavesOneOf D.Disk self.old.disk self.old.records self.old.in_doubt }
         ensures stands { OnOk result (IfTold (D.held self.old.disk) (λ all. StandsFor all self.new.records)) }
         ensures not_journal { IfErr result (λ f. (at : ℕ) → f ≡ NotJournal at → D.held self.old.disk ≡ None) }
         ensures place { IfErr result (λ f. (at : ℕ) → f ≡ NotJournal at → MayPartAt self.old.records self.old.in_doubt at) }
         ensures any_moment { IfTold (D.held self.old.disk) (λ _. IsQuiet D.Disk self.old.disk self.new.disk) }
-        ensures acknowledged { OnOk result (IfTold (D.held self.new.disk) (λ _. (c : List ℕ) → D.images self.new.disk c → StandsFor c self.new.records)) }
+        ensures acknowledged { OnOk result (LeavesList D.Disk self.new.disk self.new.records) }
     {
         match reload(
             self.alloc,
@@ -228,8 +230,8 @@ impl<D: Disk> Journal<D> {
         // A crash at any moment of the call leaves the list with the record or without it, and after `Ok` with it.
         ensures any_moment { self.old.shut ≡ false → IfTold (D.held self.old.disk) (λ _. LeavesOnly D.Disk self.old.disk self.new.disk
             (StandsForEither self.old.records rec)) }
-        ensures images { self.old.shut ≡ false → IfTold (D.held self.old.disk) (λ _. (c : List ℕ) → D.images self.new.disk c → StandsForEither self.old.records rec c) }
-        ensures acknowledged { OnOk result (IfTold (D.held self.new.disk) (λ _. (c : List ℕ) → D.images self.new.disk c → StandsFor c self.new.records)) }
+        ensures images { self.old.shut ≡ false → LeavesEither D.Disk self.old.disk self.new.disk self.old.records rec }
+        ensures acknowledged { OnOk result (LeavesList D.Disk self.new.disk self.new.records) }
     {
         if self.shut {
             return Err(AppendFault::Shut);

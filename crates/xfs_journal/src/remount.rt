@@ -5,7 +5,7 @@ ghost use Rattle.xfs_base.specs.Causes.{IfTold, Rose};
 ghost use Rattle.xfs_disk.specs.Disk.{Only};
 ghost use Rattle.xfs_journal.specs.declared.body.TheConstants.{MOST};
 ghost use Rattle.xfs_journal.specs.Image.{IsImage, IsRecord};
-ghost use Rattle.xfs_journal.specs.JournalView.{IsKept, IsPossible, HasPossible, MayPartAt};
+ghost use Rattle.xfs_journal.specs.JournalView.{IsKept, IsPossible, LeavesOneOf, MayPartAt};
 ghost use Rattle.xfs_journal.specs.Paging.{IsQuiet, MayCease};
 ghost use Rattle.xfs_journal.specs.declared.faults.MountFault.TheVariants.{NotJournal, Disk as DiskFault};
 ghost use Rattle.xfs_journal.specs.declared.record.Rec.{Rec};
@@ -59,7 +59,7 @@ pub(crate) fn reload<D: Disk>(
 ) -> Result<Listed, MountFault>
     requires room { MOST ≤ vec_capacity block.old }
     requires of_table { AllByRecursion IsRecord kept.now × IfSome in_doubt.now IsRecord }
-    requires possible { IfTold (D.held disk.old) (λ _. (c : List ℕ) → D.images disk.old c → HasPossible kept.now in_doubt.now c) }
+    requires possible { LeavesOneOf D.Disk disk.old kept.now in_doubt.now }
     ensures kept { IfOk result (λ l. IsKept (D.held disk.new) (D.images disk.new) l.records.items false l.end) }
     ensures possible { IfOk result (λ l. IsPossible kept.now in_doubt.now l.records.items) }
     ensures reserved { IfOk result (λ l. vec_len l.records + 1 ≤ vec_capacity l.records) }
