@@ -1,10 +1,8 @@
 //! A machine whose power is cut: what its next boot finds, and which number it issues next.
 
 ghost use Rattle.std.specs.Prelude.{◌≡◌, List, Some, IfOk, IfErr};
-ghost use Rattle.xfs_guard.specs.Recorded.{IsRecorded};
-ghost use Rattle.xfs_guard.specs.Stored.{MayLeave};
+ghost use Rattle.xfs_guard.specs.Booting.{LeavesRecorded};
 ghost use Rattle.xfs_guard.specs.declared.open.Open.TheVariants.{No};
-ghost use Rattle.xfs_journal.specs.declared.record.Rec.{Rec};
 ghost use Rattle.xfs_mech.specs.Sim.{units_of, motions_of};
 
 use std::alloc::Global;
@@ -29,10 +27,10 @@ const TOKEN: &[u8] =
 // A guard over a core, or the core as the refused boot handed it back.
 fn begun<M: Mechanism, D: Disk>(alloc: Global, core: Core<M, D>) -> Result<Guard<M, D>, Core<M, D>>
     requires units { M.units core.mech ≡ core.units }
-    requires starts { (records : List Rec) → MayLeave D.Disk core.disk records → IsRecorded core.key core.units records (M.motions core.mech) }
+    requires starts { LeavesRecorded D.Disk core.disk core.key core.units (M.motions core.mech) }
     ensures ok { IfOk result (λ g. (g.state.open_order ≡ No) × (g.state.key ≡ core.key)) }
     ensures units { IfErr result (λ c. M.units c.mech ≡ c.units) }
-    ensures starts { IfErr result (λ c. (records : List Rec) → MayLeave D.Disk c.disk records → IsRecorded c.key c.units records (M.motions c.mech)) }
+    ensures starts { IfErr result (λ c. LeavesRecorded D.Disk c.disk c.key c.units (M.motions c.mech)) }
     ensures key { IfErr result (λ c. c.key ≡ core.key) }
 {
     let Core {
@@ -62,7 +60,7 @@ fn begun<M: Mechanism, D: Disk>(alloc: Global, core: Core<M, D>) -> Result<Guard
 fn ended<M: Mechanism, D: Disk>(guard: Guard<M, D>, key: [u8; 32]) -> Core<M, D>
     requires key { guard.state.key ≡ key }
     ensures units { M.units result.mech ≡ result.units }
-    ensures starts { (records : List Rec) → MayLeave D.Disk result.disk records → IsRecorded result.key result.units records (M.motions result.mech) }
+    ensures starts { LeavesRecorded D.Disk result.disk result.key result.units (M.motions result.mech) }
 {
     let units = guard.units().copied();
     let (mech, disk) = guard.end();
@@ -80,7 +78,7 @@ fn ended<M: Mechanism, D: Disk>(guard: Guard<M, D>, key: [u8; 32]) -> Core<M, D>
 // Main's bench over a disk that passes so many calls.
 fn fused(alloc: Global, calls: u64) -> Result<Core<SimMech, FuseDisk>, Fail>
     ensures units { IfOk result (λ core. units_of core.mech ≡ core.units) }
-    ensures starts { IfOk result (λ core. (records : List Rec) → MayLeave ⟦<FuseDisk as Disk>⟧ core.disk records → IsRecorded core.key core.units records (Some (motions_of core.mech))) }
+    ensures starts { IfOk result (λ core. LeavesRecorded ⟦<FuseDisk as Disk>⟧ core.disk core.key core.units (Some (motions_of core.mech))) }
 {
     let units = units()?;
     let mech = sim_on(alloc, &units, Vec::new(alloc))?;
@@ -107,9 +105,9 @@ fn fused(alloc: Global, calls: u64) -> Result<Core<SimMech, FuseDisk>, Fail>
 // The same machine after a crash of its disk, whose image this picks.
 fn crashed(core: Core<SimMech, FuseDisk>, pick: u64) -> Core<SimMech, MemDisk>
     requires units { units_of core.mech ≡ core.units }
-    requires starts { (records : List Rec) → MayLeave ⟦<FuseDisk as Disk>⟧ core.disk records → IsRecorded core.key core.units records (Some (motions_of core.mech)) }
+    requires starts { LeavesRecorded ⟦<FuseDisk as Disk>⟧ core.disk core.key core.units (Some (motions_of core.mech)) }
     ensures units { units_of result.mech ≡ result.units }
-    ensures starts { (records : List Rec) → MayLeave ⟦<MemDisk as Disk>⟧ result.disk records → IsRecorded result.key result.units records (Some (motions_of result.mech)) }
+    ensures starts { LeavesRecorded ⟦<MemDisk as Disk>⟧ result.disk result.key result.units (Some (motions_of result.mech)) }
 {
     let Core {
         mech,
@@ -152,9 +150,9 @@ fn run_issues(
     five: bool,
 ) -> (Option<u64>, Core<SimMech, FuseDisk>)
     requires units { units_of core.mech ≡ core.units }
-    requires starts { (records : List Rec) → MayLeave ⟦<FuseDisk as Disk>⟧ core.disk records → IsRecorded core.key core.units records (Some (motions_of core.mech)) }
+    requires starts { LeavesRecorded ⟦<FuseDisk as Disk>⟧ core.disk core.key core.units (Some (motions_of core.mech)) }
     ensures units { units_of result.1.mech ≡ result.1.units }
-    ensures starts { (records : List Rec) → MayLeave ⟦<FuseDisk as Disk>⟧ result.1.disk records → IsRecorded result.1.key result.1.units records (Some (motions_of result.1.mech)) }
+    ensures starts { LeavesRecorded ⟦<FuseDisk as Disk>⟧ result.1.disk result.1.key result.1.units (Some (motions_of result.1.mech)) }
 {
     let key = core.key;
     match begun(alloc, core) {
@@ -264,9 +262,9 @@ fn run_withdrawal(
     core: Core<SimMech, FuseDisk>,
 ) -> (bool, Core<SimMech, FuseDisk>)
     requires units { units_of core.mech ≡ core.units }
-    requires starts { (records : List Rec) → MayLeave ⟦<FuseDisk as Disk>⟧ core.disk records → IsRecorded core.key core.units records (Some (motions_of core.mech)) }
+    requires starts { LeavesRecorded ⟦<FuseDisk as Disk>⟧ core.disk core.key core.units (Some (motions_of core.mech)) }
     ensures units { units_of result.1.mech ≡ result.1.units }
-    ensures starts { (records : List Rec) → MayLeave ⟦<FuseDisk as Disk>⟧ result.1.disk records → IsRecorded result.1.key result.1.units records (Some (motions_of result.1.mech)) }
+    ensures starts { LeavesRecorded ⟦<FuseDisk as Disk>⟧ result.1.disk result.1.key result.1.units (Some (motions_of result.1.mech)) }
 {
     let key = core.key;
     match begun(alloc, core) {

@@ -9,7 +9,7 @@ use Rattle.xfs_disk.specs.declared.disk.Disk.{Ghosts}
 use Rattle.xfs_mech.specs.declared.motion.Motion.{Motion}
 use Rattle.xfs_journal.specs.Image.{StandsFor}
 use Rattle.xfs_journal.specs.JournalView.{exceeds, IsPossible, StandsForEither}
-use Rattle.xfs_journal.specs.Paging.{CeasesAt, IsOldOrShort, IsQuiet}
+use Rattle.xfs_journal.specs.Paging.{IsOldOrShort, IsQuiet}
 use Rattle.xfs_journal.specs.declared.limits.Limits.{Limits}
 use Rattle.xfs_journal.specs.declared.record.Rec.{Rec}
 use Rattle.xfs_journal.specs.declared.record.Rec.TheVariants.{Boot}
@@ -17,10 +17,6 @@ use Rattle.xfs_guard.specs.LedgerView.{LedgerView}
 use Rattle.xfs_guard.specs.Recorded.{IsRecorded}
 use Rattle.xfs_guard.specs.Stored.{MayLeave}
 use Rattle.xfs_guard.specs.View.{View, reread, restarted, unbooted, unread}
-
--- the disk has no list of records, and its bytes cease to be one at this place, where it tells them
-abbrev pub IsNoJournal : Option (List ℕ) → ℕ → Type 0
-IsNoJournal held at = IfTold held (λ all. CeasesAt all at × ((records : List Rec) → ¬ StandsFor all records))
 
 -- the disk has this list of records, where it tells
 abbrev pub IsFound : Option (List ℕ) → (List Rec → Type 0) → Type 0

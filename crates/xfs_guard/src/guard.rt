@@ -6,7 +6,7 @@ ghost use Rattle.xfs_journal.specs.declared.record.Rec.TheVariants.{Issue, Clear
 ghost use Rattle.xfs_journal.specs.Journal.{next_issue, nonce_text};
 ghost use Rattle.xfs_guard.specs.declared.open.Open.TheVariants.{No, Written};
 ghost use Rattle.xfs_guard.specs.Balance.{no_notes};
-ghost use Rattle.xfs_guard.specs.Booting.{IsFound, IsNoJournal, LacksRoom, LeavesEither, LeavesListOf, LeavesRecorded, SparesAll, SparesUnlisted};
+ghost use Rattle.xfs_guard.specs.Booting.{IsFound, LacksRoom, LeavesEither, LeavesListOf, LeavesRecorded, SparesAll, SparesUnlisted};
 ghost use Rattle.xfs_guard.specs.Nonce.{Ends, live_in, live_nonce};
 ghost use Rattle.xfs_guard.specs.View.{shut_at};
 ghost use Rattle.xfs_guard.specs.Upheld.{IsUpheld};
@@ -21,7 +21,7 @@ ghost use Rattle.xfs_guard.specs.Stored.{IsStored, MayLeave};
 ghost use Rattle.xfs_guard.specs.Recorded.{IsRecorded};
 ghost use Rattle.xfs_guard.specs.declared.fail.BootFault.TheVariants.{NotJournal, Disk as BootDisk, Full as BootFull};
 ghost use Rattle.xfs_journal.specs.Image.{StandsFor};
-ghost use Rattle.xfs_journal.specs.JournalView.{IsPossible, StandsForEither, exceeds};
+ghost use Rattle.xfs_journal.specs.JournalView.{IsNoJournal, IsPossible, StandsForEither, exceeds};
 ghost use Rattle.xfs_disk.specs.Moments.{LeavesOnly};
 ghost use Rattle.xfs_journal.specs.Paging.{CeasesAt, IsOldOrShort, IsQuiet};
 ghost use Rattle.xfs_journal.specs.declared.record.Rec.{Rec};

@@ -61,8 +61,8 @@ abbrev pub LeavesOneOf : {D : Type 0} → Ghosts D → D → List Rec → Option
 LeavesOneOf g disk kept in_doubt = IfTold (g.held disk) (λ _. (c : List ℕ) → g.images disk c → HasPossible kept in_doubt c)
 
 -- a disk that told leaves the list after every crash, or the list with the record
-abbrev pub LeavesEither : {D : Type 0} → Ghosts D → D → D → List Rec → Rec → Type 0
-LeavesEither g old new records r = IfTold (g.held old) (λ _. (c : List ℕ) → g.images new c → StandsForEither records r c)
+abbrev pub LeavesWithOrWithout : {D : Type 0} → Ghosts D → D → D → List Rec → Rec → Type 0
+LeavesWithOrWithout g old new records r = IfTold (g.held old) (λ _. (c : List ℕ) → g.images new c → StandsForEither records r c)
 
 -- a disk that tells ceases to be a journal there, and stands for no list
 abbrev pub IsNoJournal : Option (List ℕ) → ℕ → Type 0

@@ -4,7 +4,7 @@ ghost use Rattle.xfs_base.specs.Causes.{HasCause, IfTold};
 ghost use Rattle.xfs_disk.specs.Disk.{overlaid, Torn, ImagesFollow, Only};
 ghost use Rattle.xfs_disk.specs.Moments.{LeavesOnly};
 ghost use Rattle.xfs_journal.specs.Image.{IsRecord, framed};
-ghost use Rattle.xfs_journal.specs.JournalView.{IsKept, IsInDoubt, LeavesEither, LeavesList, StandsForEither};
+ghost use Rattle.xfs_journal.specs.JournalView.{IsKept, IsInDoubt, LeavesWithOrWithout, LeavesList, StandsForEither};
 ghost use Rattle.xfs_journal.specs.Gate.{IsClosed, IsOpened, IsEither, MayBecome};
 
 use crate::{Limits, Rec};
@@ -55,7 +55,7 @@ pub(crate) fn write_record<D: Disk>(
     ensures ok { OnOk result (IsKept (D.held disk.new) (D.images disk.new) (records.now ++ rec.now ∷ []) false (end + length bytes.now)) }
     ensures told { is_some (D.held disk.new) ≡ is_some (D.held disk.old) }
     ensures any_moment { IfTold (D.held disk.old) (λ _. LeavesOnly D.Disk disk.old disk.new (StandsForEither records.now rec.now)) }
-    ensures images { LeavesEither D.Disk disk.old disk.new records.now rec.now }
+    ensures images { LeavesWithOrWithout D.Disk disk.old disk.new records.now rec.now }
     ensures in_doubt { IsInDoubt (D.held disk.new) (D.images disk.new) records.now true (Some rec.now) }
     ensures none_in_doubt { OnOk result (IsInDoubt (D.held disk.new) (D.images disk.new) (records.now ++ rec.now ∷ []) false None) }
     ensures acknowledged { OnOk result (LeavesList D.Disk disk.new (records.now ++ rec.now ∷ [])) }

@@ -4,7 +4,7 @@ ghost use Rattle.xfs_base.specs.Causes.{IfTold, Rose};
 ghost use Rattle.xfs_disk.specs.Moments.{LeavesOnly};
 ghost use Rattle.xfs_journal.specs.declared.body.TheConstants.{MOST};
 ghost use Rattle.xfs_journal.specs.Image.{HasUnit, StandsFor, framed, contents, size};
-ghost use Rattle.xfs_journal.specs.JournalView.{exceeds, refusal, IsNoJournal, IsPossible, LeavesEither, LeavesList, LeavesOneOf, StandsForEither, MayPartAt};
+ghost use Rattle.xfs_journal.specs.JournalView.{exceeds, refusal, IsNoJournal, IsPossible, LeavesWithOrWithout, LeavesList, LeavesOneOf, StandsForEither, MayPartAt};
 ghost use Rattle.xfs_journal.specs.declared.faults.AppendFault.TheVariants.{Disk as DiskFault, Memory as NoMemory};
 ghost use Rattle.xfs_journal.specs.Paging.{CeasesAt, IsOldOrShort, IsQuiet};
 ghost use Rattle.xfs_journal.specs.declared.faults.MountFault.TheVariants.{NotJournal, Disk as MountDisk, Memory as MountMemory};
@@ -230,7 +230,7 @@ impl<D: Disk> Journal<D> {
         // A crash at any moment of the call leaves the list with the record or without it, and after `Ok` with it.
         ensures any_moment { self.old.shut ≡ false → IfTold (D.held self.old.disk) (λ _. LeavesOnly D.Disk self.old.disk self.new.disk
             (StandsForEither self.old.records rec)) }
-        ensures images { self.old.shut ≡ false → LeavesEither D.Disk self.old.disk self.new.disk self.old.records rec }
+        ensures images { self.old.shut ≡ false → LeavesWithOrWithout D.Disk self.old.disk self.new.disk self.old.records rec }
         ensures acknowledged { OnOk result (LeavesList D.Disk self.new.disk self.new.records) }
     {
         if self.shut {

@@ -4,12 +4,12 @@ ghost use Rattle.std.specs.Prelude.{MatchResult, ◌≡◌, ◌≢◌, ℕ, true
 ghost use Rattle.xfs_base.specs.Causes.{IfTold, Rose};
 ghost use Rattle.xfs_disk.specs.Moments.{LeavesOnly};
 ghost use Rattle.xfs_guard.specs.Balance.{no_notes};
-ghost use Rattle.xfs_guard.specs.Booting.{IsFound, IsNoJournal, LacksRoom, LeavesEither, LeavesRecorded, SparesAll, SparesUnlisted};
+ghost use Rattle.xfs_guard.specs.Booting.{IsFound, LacksRoom, LeavesEither, LeavesRecorded, SparesAll, SparesUnlisted};
 ghost use Rattle.xfs_guard.specs.Continues.{ContinuesFound};
 ghost use Rattle.xfs_guard.specs.CrashOutcomes.{EachStands, IsOldOrBooted, StandsRecorded};
 ghost use Rattle.xfs_guard.specs.declared.fail.BootFault.TheVariants.{NotJournal, Disk as BootDisk, Full as BootFull};
 ghost use Rattle.xfs_guard.specs.declared.open.Open.TheVariants.{No};
-ghost use Rattle.xfs_journal.specs.JournalView.{exceeds};
+ghost use Rattle.xfs_journal.specs.JournalView.{exceeds, IsNoJournal};
 ghost use Rattle.xfs_journal.specs.Paging.{IsQuiet};
 ghost use Rattle.xfs_journal.specs.declared.record.Rec.TheVariants.{Boot};
 ghost use Rattle.xfs_dispenser.specs.Seen.{seen};
