@@ -225,7 +225,7 @@ impl<M: Mechanism, D: Disk> Guard<M, D> {
         ensures text { IfOk result (λ n. n.text ≡ next_text self.now.state) }
     {
         let number = self.ledger.next_issue();
-        Ok(Nonce::of(self.alloc, number, self.words.at(number))?)
+        Ok(Nonce::of(number, self.words.at(number)))
     }
 
     /// Whether an order is open.
@@ -303,7 +303,7 @@ impl<M: Mechanism, D: Disk> Guard<M, D> {
         }
         let number = self.ledger.next_issue();
         let word = self.words.at(number);
-        let nonce = Nonce::of(self.alloc, number, word)?;
+        let nonce = Nonce::of(number, word);
         self.ledger.issue(nonce, word)?;
         self.words.turn_to(number.saturating_add(1));
         Ok(nonce)

@@ -1,8 +1,7 @@
-ghost use Rattle.std.specs.Prelude.{◌≡◌, ◌++◌, IfOk};
+ghost use Rattle.std.specs.Prelude.{◌≡◌, ◌++◌};
 ghost use Rattle.std.specs.Int.{to_be_bytes, w64};
+ghost use Rattle.hex.specs.Hex.{encode_upper};
 ghost use Rattle.xfs_journal.specs.Journal.{nonce_text};
-
-use std::alloc::{AllocError, Global};
 
 /// A nonce: its text of 32 upper-case hexadecimal digits, and the number of its issue. The text is
 /// 16 digits of the word that the seed gave for the issue, then 16 of the number.
@@ -14,13 +13,12 @@ pub struct Nonce {
 
 impl Nonce {
     // The nonce of an issue.
-    pub(crate) fn of(alloc: Global, number: u64, word: u64) -> Result<Nonce, AllocError>
-        ensures { IfOk result (λ n. (n.text ≡ nonce_text number word) × (n.number ≡ number)) }
+    pub(crate) fn of(number: u64, word: u64) -> Nonce
+        ensures text { result.text ≡ nonce_text number word }
+        ensures number { result.number ≡ number }
     {
-        let digits = hex::encode_upper(alloc, issue_bytes(number, word))?;
-        let mut text = [0u8; 32];
-        text.copy_from_slice(digits.as_bytes());
-        Ok(Nonce { text, number })
+        let text = upper(&issue_bytes(number, word));
+        Nonce { text, number }
     }
 }
 
@@ -32,4 +30,18 @@ fn issue_bytes(number: u64, word: u64) -> [u8; 16]
     bytes[..8].copy_from_slice(&word.to_be_bytes());
     bytes[8..].copy_from_slice(&number.to_be_bytes());
     bytes
+}
+
+// The upper-case hexadecimal digits of the bytes.
+fn upper(bytes: &[u8; 16]) -> [u8; 32]
+    ensures { result ≡ encode_upper bytes.now }
+{
+    let digits = b"0123456789ABCDEF";
+    let mut text = [0u8; 32];
+    'bytes: for i in 0..16 {
+        let byte = bytes[i];
+        text[2 * i] = digits[(byte >> 4) as usize];
+        text[2 * i + 1] = digits[(byte & 0x0f) as usize];
+    }
+    text
 }

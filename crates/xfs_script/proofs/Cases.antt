@@ -1,5 +1,5 @@
 -- What one call of the reader shows, by how the line ended.
-use Rattle.std.proofs.Common.{◌≡◌, ℕ, ◌+◌, ◌-◌, ◌<◌, ◌≤◌, nat_le, true, false, List, [], ◌++◌, length, take, Ok, Err, OnOk, OnErr, None, Some, refl, ap, sym, subst, ◌∙◌, arith, length-append, append_assoc, inl, inr}
+use Rattle.std.proofs.Common.{◌≡◌, ℕ, ◌+◌, ◌-◌, ◌<◌, ◌≤◌, nat_le, true, false, List, [], ◌++◌, length, take, Ok, Err, IfOk, IfSome, OnOk, OnErr, None, Some, refl, ap, sym, subst, ◌∙◌, arith, length-append, append_assoc, inl, inr}
 use Rattle.std.specs.Prelude.{slice_index, ◌==◌}
 use Rattle.std.proofs.lemmas.Bool.{cond-true, cond-false, lt-leb, leb-true, cases_Bool}
 use Rattle.std.proofs.lemmas.List.{append-nil, take_all, length-take-le}
@@ -10,7 +10,7 @@ use Rattle.xfs_base.specs.Causes.{IfTold}
 use Rattle.xfs_script.specs.Lines.{line_end, has_line_feed, first_line, rest, without_return}
 use Rattle.xfs_script.specs.Reading.{Reading, Grows, Drops, Gives, line_off}
 use Rattle.xfs_script.specs.Found.{IsOpen, IsRefusal}
-use Rattle.xfs_script.specs.Answer.{answer_of, answer_on, bytes_within, bytes_ahead, line_answer, IsAnswer, HasNumber, IsCutOff, ReadsLine}
+use Rattle.xfs_script.specs.Answer.{answer_of, answer_on, bytes_within, bytes_ahead, line_answer, line_found, past_line, IsAnswer, HasNumber, IsCutOff, KeepsLine, ReadsLine}
 use Rattle.xfs_script.specs.declared.line.Line.{Line}
 use Rattle.xfs_script.specs.declared.line.LineFault.{LineFault}
 use Rattle.xfs_script.specs.declared.line.LineFault.TheVariants.{Read, Quota, TooLong, Memory}
@@ -119,6 +119,42 @@ handed_line r s t x y n (Err (TooLong m)) g d is only ok err =
       cut_off = no_cut _ _ (λ e. cc) (λ e. cc);
       end = λ h. absurd (let bad : ⊥ = cc in bad);
     }
+
+-- the end of the line at n is found, or the line is refused
+pub found_line : (r s : Reading) (x y : Option (List ℕ)) (n : ℕ) (result : Result (Option ℕ) LineFault) → Grows r s x y → Due r s n x y
+    → IsAnswer (line_found s result) (line_answer (s.handed + 1) (without_return (take n s.pending))) → (result ≡ Err Read → ⊥) → IfOk result (λ found. found ≡ Some n)
+    → ReadsLine r (past_line s result) x y (line_found s result)
+found_line r s x y n (Ok None) g d is only end = absurd (let bad : ⊥ = cc in bad)
+found_line r s x y n (Ok (Some k)) g d is only end =
+    let same : k ≡ n = cc in
+    handed_line r s (line_off s k) x y n (Ok (Some (record { number = s.handed + 1; text = without_return (take k s.pending) }))) g d is (λ e. cc) (ap (λ m. line_off s m) same) tt
+found_line r s x y n (Err Read) g d is only end = absurd (only refl)
+found_line r s x y n (Err Memory) g d is only end = handed_line r s s x y n (Err Memory) g d is (λ e. cc) tt refl
+found_line r s x y n (Err Quota) g d is only end = handed_line r s s x y n (Err Quota) g d is (λ e. cc) tt refl
+found_line r s x y n (Err (TooLong m)) g d is only end = handed_line r s s x y n (Err (TooLong m)) g d is (λ e. cc) tt refl
+
+-- the line whose end is found is kept
+pub found_kept : (r s : Reading) (x y : Option (List ℕ)) (n : ℕ) (result : Result (Option ℕ) LineFault) → Due r s n x y → n ≤ length s.pending → 0 < length s.pending
+    → IfOk result (λ found. found ≡ Some n) → IfOk result (λ found. IfSome found (KeepsLine r s x y))
+found_kept r s x y n (Ok None) d within some end = tt
+found_kept r s x y n (Ok (Some k)) d within some end =
+    let same : k ≡ n = cc in
+    record { within = omega (arith, same, within); some = some; ahead = d.same }
+found_kept r s x y n (Err fault) d within some end = tt
+
+-- there is no memory for the line that was found, and it is kept
+pub memory_read : (r s : Reading) (x y : Option (List ℕ)) (n : ℕ) (line : Line) → ReadsLine r (line_off s n) x y (Ok (Some line)) → KeepsLine r s x y n → ReadsLine r s x y (Err Memory)
+memory_read r s x y n line reads keeps = record {
+  gives = record { bytes = reads.gives.bytes; given = reads.gives.given; taken = reads.gives.taken };
+  answer = told_map x _ (λ xs. Unit {0}) (λ xs due. tt) keeps.ahead;
+  rest = tt;
+  number = tt;
+  handed = omega (arith, reads.handed);
+  memory = λ h. keeps.ahead;
+  quota = λ h. cc;
+  cut_off = no_cut _ _ (λ e. cc) (λ e. cc);
+  end = λ h. absurd (let bad : ⊥ = cc in bad);
+}
 
 same_answer : (r s : Reading) (xs ys : List ℕ) → Grows r s (Some xs) (Some ys) → s.given ≤ 67108864 → answer_of r xs ≡ answer_of s ys
 unfolding answer_of

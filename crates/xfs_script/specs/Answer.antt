@@ -4,8 +4,8 @@ use Rattle.std.specs.declared.result.Result.{Result}
 use Rattle.std.specs.declared.option.Option.{Option}
 use Rattle.std.specs.Io.KnownBytes.{prepend_known, IsAtEnd}
 use Rattle.xfs_base.specs.Causes.{IfTold}
-use Rattle.xfs_script.specs.Lines.{has_line_feed, first_line, rest}
-use Rattle.xfs_script.specs.Reading.{Reading, Gives}
+use Rattle.xfs_script.specs.Lines.{has_line_feed, first_line, rest, without_return}
+use Rattle.xfs_script.specs.Reading.{Reading, Gives, line_off}
 use Rattle.xfs_script.specs.declared.line.Line.{Line}
 use Rattle.xfs_script.specs.declared.line.LineFault.{LineFault}
 use Rattle.xfs_script.specs.declared.line.LineFault.TheVariants.{Read, Quota, TooLong, Memory}
@@ -72,3 +72,21 @@ pub record ReadsLine (old new : Reading) (before after : Option (List ℕ)) (res
   pub quota : result ≡ Err Quota → new.given ≡ QUOTA
   pub cut_off : IsCutOff result → has_line_feed (old.pending ++ gives.bytes) ≡ false
   pub end : result ≡ Ok None → (new.pending ≡ []) × IsAtEnd after × (new.given < QUOTA)
+
+-- the line whose end was found among the bytes that are kept, with the number behind those that were handed out
+abbrev pub line_found : Reading → Result (Option ℕ) LineFault → Result (Option Line) LineFault
+line_found r (Ok (Some end)) = Ok (Some (record { number = r.handed + 1; text = without_return (take end r.pending) }))
+line_found r (Ok None) = Ok None
+line_found r (Err fault) = Err fault
+
+-- that line is taken off
+abbrev pub past_line : Reading → Result (Option ℕ) LineFault → Reading
+past_line r (Ok (Some end)) = line_off r end
+past_line r (Ok None) = r
+past_line r (Err fault) = r
+
+-- a line that ends at a place is kept, and with it all the bytes to come
+pub record KeepsLine (old new : Reading) (before after : Option (List ℕ)) (end : ℕ) : Type 0 where
+  pub within : end ≤ length new.pending
+  pub some : 0 < length new.pending
+  pub ahead : IfTold before (λ left. bytes_ahead new after ≡ Some (old.pending ++ left))

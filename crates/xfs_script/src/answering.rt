@@ -8,8 +8,8 @@ ghost use Rattle.xfs_script.specs.declared.answerer.Ending.TheVariants as Ending
 ghost use Rattle.xfs_script.specs.declared.feed.TheConstants.{LONGEST_LINE, QUOTA};
 
 use crate::answerer::{Answerer, Ending, Unanswered};
-use crate::line::{Line, LineFault};
-use crate::lines::Lines;
+use crate::feed::Feed;
+use crate::line::LineFault;
 use std::alloc::Global;
 use xfs_base::{Sink, Source, write_all};
 
@@ -35,12 +35,14 @@ pub fn answer_lines<S: Source, K: Sink, A: Answerer>(
     ensures write { result ≡ Ending.Write → Rose (K.faults sink.old) (K.faults sink.new) }
     ensures sink_later { K.faults sink.old ≤ K.faults sink.new }
 {
-    let mut lines = Lines::new(alloc);
+    let Ok(mut feed) = Feed::new(alloc) else {
+        return Ending::Memory;
+    };
     for _ in 0..u64::MAX {
-        match lines.next(source) {
+        match feed.find_line(source) {
             Ok(None) => return Ending::AtEnd,
-            Ok(Some(line)) => match answer_line(answerer, &line, sink) {
-                Ok(()) => {}
+            Ok(Some(end)) => match answer_line(answerer, feed.number(), feed.line(end), sink) {
+                Ok(()) => feed.pass(end),
                 Err(ending) => return ending,
             },
             Err(LineFault::Read) => return Ending::Read,
@@ -56,26 +58,25 @@ pub fn answer_lines<S: Source, K: Sink, A: Answerer>(
 // Has a line answered, and writes the answer.
 fn answer_line<K: Sink, A: Answerer>(
     answerer: &mut A,
-    line: &Line,
+    number: u64,
+    line: &[u8],
     sink: &mut K,
 ) -> Result<(), Ending<A::End>>
     requires ready { A.IsReady answerer.old }
-    requires short { length line.now.text ≤ LONGEST_LINE }
+    requires short { length line.now ≤ LONGEST_LINE }
     ensures ready { A.IsReady answerer.new }
     ensures keeps { A.Keeps answerer.old answerer.new }
-    ensures ok { OnOk result (WritesAnswer (A.command.Answers (A.state answerer.old) line.now.text) (A.state answerer.new) (K.held sink.old) (K.held sink.new)) }
-    ensures err { IfErr result (λ ending. BreaksAtLine A.command ending line.now.number line.now.text (A.state answerer.old) (A.state answerer.new) (K.held sink.old) (K.held sink.new)) }
+    ensures ok { OnOk result (WritesAnswer (A.command.Answers (A.state answerer.old) line.now) (A.state answerer.new) (K.held sink.old) (K.held sink.new)) }
+    ensures err { IfErr result (λ ending. BreaksAtLine A.command ending number line.now (A.state answerer.old) (A.state answerer.new) (K.held sink.old) (K.held sink.new)) }
     ensures later { K.faults sink.old ≤ K.faults sink.new }
     ensures cause { IfErr result (λ ending. ending ≡ Ending.Write → Rose (K.faults sink.old) (K.faults sink.new)) }
 {
-    match answerer.answer(line.text.list()) {
+    match answerer.answer(line) {
         Ok(text) => match write_all(sink, &text) {
             Ok(()) => Ok(()),
             Err(_) => Err(Ending::Write),
         },
-        Err(Unanswered::NotALine) => Err(Ending::NotALine {
-            number: line.number,
-        }),
+        Err(Unanswered::NotALine) => Err(Ending::NotALine { number }),
         Err(Unanswered::Memory) => Err(Ending::Memory),
         Err(Unanswered::Ends(end)) => Err(Ending::Ended(end)),
     }

@@ -1,10 +1,10 @@
-ghost use Rattle.std.specs.Prelude.{◌≡◌, ◌≢◌, ◌+◌, ◌-◌, ◌<◌, ◌≤◌, length, drop, take, Ok, Err, IfOk, OnOk, OnErr};
+ghost use Rattle.std.specs.Prelude.{◌≡◌, ◌≢◌, ◌+◌, ◌-◌, ◌<◌, ◌≤◌, length, drop, take, Ok, Err, Some, IfOk, IfSome, OnErr};
 ghost use Rattle.std.specs.Io.KnownBytes.{IsAtEnd};
 ghost use Rattle.xfs_base.specs.Causes.{HasCause, Rose};
 ghost use Rattle.xfs_script.specs.Lines.{line_end, without_return};
 ghost use Rattle.xfs_script.specs.Reading.{nothing_read, line_off, Grows, Drops, GivesBehind};
 ghost use Rattle.xfs_script.specs.Found.{IsFound, IsOpen, IsPassed, IsRefusal};
-ghost use Rattle.xfs_script.specs.Answer.{ReadsLine, IsAnswer, line_answer};
+ghost use Rattle.xfs_script.specs.Answer.{ReadsLine, KeepsLine, IsAnswer, line_answer, line_found, past_line};
 ghost use Rattle.xfs_script.specs.declared.feed.TheConstants.{LONGEST, QUOTA};
 ghost use Rattle.xfs_script.specs.declared.line.LineFault.TheVariants as LineFault;
 
@@ -161,7 +161,68 @@ impl Feed {
         }
     }
 
-    /// Takes the first line off the bytes to come.
+    /// Finds where the first line of the bytes to come ends. It is still kept: `pass` takes it off.
+    pub(crate) fn find_line<S: Source>(
+        &mut self,
+        source: &mut S,
+    ) -> Result<Option<usize>, LineFault>
+        ensures reads { ReadsLine self.old (past_line self.new result) (S.left source.old) (S.left source.new) (line_found self.new result) }
+        ensures kept { IfOk result (λ found. IfSome found (KeepsLine self.old self.new (S.left source.old) (S.left source.new))) }
+        ensures later { S.faults source.old ≤ S.faults source.new }
+        ensures cause { result ≡ Err LineFault.Read → Rose (S.faults source.old) (S.faults source.new) }
+    {
+        match self.seek(source) {
+            Ok(Found::Feed(place)) => self.measure(place),
+            Ok(Found::End) if self.len() == 0 => Ok(None),
+            Ok(Found::End) => self.measure(self.len()),
+            Ok(Found::Quota) => Err(LineFault::Quota),
+            Ok(Found::Long) => Err(self.refuse_line(source)),
+            Err(_) => Err(LineFault::Read),
+        }
+    }
+
+    // The end of a line, where the line isn't too long.
+    fn measure(&self, end: usize) -> Result<Option<usize>, LineFault>
+        requires within { end ≤ length self.now.pending }
+        requires some { 0 < length self.now.pending }
+        ensures is { IsAnswer (line_found self.now result) (line_answer (self.now.handed + 1) (without_return (take end self.now.pending))) }
+        ensures only { result ≢ Err LineFault.Read }
+        ensures end { IfOk result (λ found. found ≡ Some end) }
+    {
+        if self.line(end).len() > LONGEST_LINE {
+            return Err(LineFault::TooLong {
+                number: self.number(),
+            });
+        }
+        Ok(Some(end))
+    }
+
+    /// The number of the first line of the bytes to come.
+    pub(crate) fn number(&self) -> u64
+        ensures { result ≡ self.now.handed + 1 }
+    {
+        self.handed + 1
+    }
+
+    /// The line that ends there.
+    pub(crate) fn line(&self, end: usize) -> &[u8]
+        requires { end ≤ length self.now.pending }
+        ensures { result.now ≡ without_return (take end self.now.pending) }
+    {
+        line_of(&self.bytes()[..end])
+    }
+
+    /// Takes the line that ends there off the bytes to come.
+    pub(crate) fn pass(&mut self, end: usize)
+        requires within { end ≤ length self.old.pending }
+        requires some { 0 < length self.old.pending }
+        ensures { self.new ≡ line_off self.old end }
+    {
+        self.start += end.saturating_add(1).min(self.len());
+        self.handed += 1;
+    }
+
+    /// Takes the first line off the bytes to come, and hands out a copy.
     pub(crate) fn next_line<S: Source>(
         &mut self,
         alloc: Global,
@@ -171,35 +232,14 @@ impl Feed {
         ensures later { S.faults source.old ≤ S.faults source.new }
         ensures cause { result ≡ Err LineFault.Read → Rose (S.faults source.old) (S.faults source.new) }
     {
-        match self.seek(source) {
-            Ok(Found::Feed(place)) => self.hand_out(alloc, place),
-            Ok(Found::End) if self.len() == 0 => Ok(None),
-            Ok(Found::End) => self.hand_out(alloc, self.len()),
-            Ok(Found::Quota) => Err(LineFault::Quota),
-            Ok(Found::Long) => Err(self.refuse_line(source)),
-            Err(_) => Err(LineFault::Read),
-        }
-    }
-
-    // The line that ends at `end` is handed out.
-    fn hand_out(&mut self, alloc: Global, end: usize) -> Result<Option<Line>, LineFault>
-        requires within { end ≤ length self.old.pending }
-        requires some { 0 < length self.old.pending }
-        ensures is { IsAnswer result (line_answer (self.old.handed + 1) (without_return (take end self.old.pending))) }
-        ensures only { result ≢ Err LineFault.Read }
-        ensures ok { OnOk result (self.new ≡ line_off self.old end) }
-        ensures err { OnErr result (self.new ≡ self.old) }
-    {
-        let line = line_of(&self.bytes()[..end]);
-        let number = self.handed + 1;
-        if line.len() > LONGEST_LINE {
-            return Err(LineFault::TooLong { number });
-        }
-        let Ok(text) = Vec::from_slice(alloc, line) else {
+        let Some(end) = self.find_line(source)? else {
+            return Ok(None);
+        };
+        let Ok(text) = Vec::from_slice(alloc, self.line(end)) else {
             return Err(LineFault::Memory);
         };
-        self.start += (end + 1).min(self.len());
-        self.handed = number;
+        let number = self.number();
+        self.pass(end);
         Ok(Some(Line {
             number,
             text: Bytes::new(text),

@@ -15,6 +15,6 @@ invariant-loop g l =
       keeps : g.A.Answerer.Keeps l.fn.answerer l.answerer;
       source_later : g.S.Source.faults l.fn.source ≤ g.S.Source.faults l.source;
       sink_later : g.K.Sink.faults l.fn.sink ≤ g.K.Sink.faults l.sink;
-      gives : Gives nothing_read l.lines (left l.fn.source) (left l.source);
-      answered : IfTold (left l.fn.source) (HasAnswered g.A.Answerer.command (state l.fn.answerer) (state l.answerer) l.lines (left l.source) (held l.fn.sink) (held l.sink));
+      gives : Gives nothing_read l.feed (left l.fn.source) (left l.source);
+      answered : IfTold (left l.fn.source) (HasAnswered g.A.Answerer.command (state l.fn.answerer) (state l.answerer) l.feed (left l.source) (held l.fn.sink) (held l.sink));
     }

@@ -18,16 +18,16 @@ use Rattle.xfs_guard.proofs.guard.Guard.issue.Goals as goal
 pub issue-requires-clause-fits : goal.issue-requires-clause-fits
 issue-requires-clause-fits g c =
     let fit = fit-at _ _ c.self.view_is (sym c.unfit.ensures.first ∙ c.in_default.is) in
-    let short : length (body (Issue c.in_ok-nonce.nonce.number c.at-word.result)) ≤ 1025 = omega arith in
-    may-write c.self.inside.ledger (Issue c.in_ok-nonce.nonce.number c.at-word.result) fit.0 fit.2 (takes-one c.self.inside.ledger.limits c.self.inside.ledger.records (Issue c.in_ok-nonce.nonce.number c.at-word.result) fit.1 short)
+    let short : length (body (Issue c.of-nonce.result.number c.at-word.result)) ≤ 1025 = omega arith in
+    may-write c.self.inside.ledger (Issue c.of-nonce.result.number c.at-word.result) fit.0 fit.2 (takes-one c.self.inside.ledger.limits c.self.inside.ledger.records (Issue c.of-nonce.result.number c.at-word.result) fit.1 short)
 
 pub invariant_of-self : goal.invariant_of-self
 invariant_of-self g c = (
   (let none : c.self.inside.open_order ≡ No = rw (← c.self.view_is) at c.requires in
       let fit = fit-at _ _ c.self.view_is (sym c.unfit.ensures.first ∙ c.in_default.is) in
       IsKept-refused Unit c.in_err-issue.field-0.0 _ _ _ _ _ _ c.self.inside.ledger c.issue.new.self _ None _ _ _ _ _ _ c.in_err-issue.ensures.wrote c.in_err-issue.ensures.err c.issue.ensures.told none c.self.invariant.0 fit.0 fit.2
-      (IsSound-issue _ c.in_ok-nonce.nonce.number c.at-word.result (c.self.invariant.0.sound fit.0 fit.2) none (c.in_ok-nonce.ensures.1 ∙ c.next_issue-number.ensures))),
-  leaves-refused g.D.Disk Unit c.in_err-issue.field-0.0 c.self.inside.ledger c.issue.new.self (Issue c.in_ok-nonce.nonce.number c.at-word.result) None g.met.D.Disk.counts_now c.in_err-issue.ensures.wrote c.in_err-issue.ensures.err c.issue.ensures.told c.issue.ensures.any_moment c.self.invariant.1,
+      (IsSound-issue _ c.of-nonce.result.number c.at-word.result (c.self.invariant.0.sound fit.0 fit.2) none (c.of-nonce.ensures.number ∙ c.next_issue-number.ensures))),
+  leaves-refused g.D.Disk Unit c.in_err-issue.field-0.0 c.self.inside.ledger c.issue.new.self (Issue c.of-nonce.result.number c.at-word.result) None g.met.D.Disk.counts_now c.in_err-issue.ensures.wrote c.in_err-issue.ensures.err c.issue.ensures.told c.issue.ensures.any_moment c.self.invariant.1,
 )
 
 pub invariant_of-self-2 : goal.invariant_of-self-2
@@ -36,25 +36,22 @@ invariant_of-self-2 g c = (
       let fit = fit-at _ _ c.self.view_is (sym c.unfit.ensures.first ∙ c.in_default.is) in
       let w = c.in_ok-issue.ensures.wrote in
       rw (w.records, w.units, w.bound_is, w.booted, w.loaded, w.limits, w.open_still, w.boot_missing, w.in_doubt, c.issue.ensures.told, none, c.turn_to.ensures)
-      (IsKept-open _ _ _ _ (IsSound-issue _ c.in_ok-nonce.nonce.number c.at-word.result (c.self.invariant.0.sound fit.0 fit.2) none (c.in_ok-nonce.ensures.1 ∙ c.next_issue-number.ensures)) (balanced-push c.self.inside.ledger.records (Issue c.in_ok-nonce.nonce.number c.at-word.result) _ _ _ c.self.invariant.0.balanced) fit.2 tt tt c.self.invariant.0.units)),
+      (IsKept-open _ _ _ _ (IsSound-issue _ c.of-nonce.result.number c.at-word.result (c.self.invariant.0.sound fit.0 fit.2) none (c.of-nonce.ensures.number ∙ c.next_issue-number.ensures)) (balanced-push c.self.inside.ledger.records (Issue c.of-nonce.result.number c.at-word.result) _ _ _ c.self.invariant.0.balanced) fit.2 tt tt c.self.invariant.0.units)),
   leaves-list g.D.Disk c.issue.new.self.disk c.issue.new.self.records c.issue.new.self.in_doubt c.in_ok-issue.ensures.kept,
 )
 
 pub returns-clause-live : goal.returns-clause-live
 returns-clause-live g c =
-    rw c.in_ok-issue.ensures.wrote.records (live-issued c.self.inside.ledger.records _ c.at-word.result c.in_ok-nonce.nonce (rw (← c.in_ok-nonce.ensures.1) at c.in_ok-nonce.ensures.0) refl)
+    rw c.in_ok-issue.ensures.wrote.records (live-issued c.self.inside.ledger.records _ c.at-word.result c.of-nonce.result (rw (← c.of-nonce.ensures.number) at c.of-nonce.ensures.text) refl)
 
 pub returns-clause-never_twice : goal.returns-clause-never_twice
 returns-clause-never_twice g c =
     let fit = fit-at _ _ c.self.view_is (sym c.unfit.ensures.first ∙ c.in_default.is) in
     rw (← c.self.view_is) (λ told first runs life.
-    rw (c.in_ok-nonce.ensures.1, c.next_issue-number.ensures) (next-fresh first runs c.self.inside.ledger.records life ((c.self.invariant.0.sound fit.0 fit.2).numbered told)))
+    rw (c.of-nonce.ensures.number, c.next_issue-number.ensures) (next-fresh first runs c.self.inside.ledger.records life ((c.self.invariant.0.sound fit.0 fit.2).numbered told)))
 
 pub returns-in-Some-clause-keeps : goal.returns-in-Some-clause-keeps
 returns-in-Some-clause-keeps g c = Keeps-same g.D.Disk _ g.met.D.Disk.only_now c.unfit.ensures.upheld
-
-pub returns-in_err-nonce-clause-keeps : goal.returns-in_err-nonce-clause-keeps
-returns-in_err-nonce-clause-keeps g c = Keeps-same g.D.Disk _ g.met.D.Disk.only_now c.unfit.ensures.upheld
 
 pub returns-in_err-issue-clause-keeps : goal.returns-in_err-issue-clause-keeps
 returns-in_err-issue-clause-keeps g c =
@@ -66,7 +63,7 @@ returns-in_err-issue-clause-keeps g c =
     (let none : c.self.inside.open_order ≡ No = rw (← c.self.view_is) at c.requires in
     let fit = fit-at _ _ c.self.view_is (sym c.unfit.ensures.first ∙ c.in_default.is) in
     let sound = c.self.invariant.0.sound fit.0 fit.2 in
-    rw (← c.self.view_is) (left-written g.D.Disk c.self.inside.ledger.disk c.issue.new.self.disk _ (Issue c.in_ok-nonce.nonce.number c.at-word.result) None No refl sound (IsSound-issue _ c.in_ok-nonce.nonce.number c.at-word.result sound none (c.in_ok-nonce.ensures.1 ∙ c.next_issue-number.ensures)) c.issue.ensures.any_moment))
+    rw (← c.self.view_is) (left-written g.D.Disk c.self.inside.ledger.disk c.issue.new.self.disk _ (Issue c.of-nonce.result.number c.at-word.result) None No refl sound (IsSound-issue _ c.of-nonce.result.number c.at-word.result sound none (c.of-nonce.ensures.number ∙ c.next_issue-number.ensures)) c.issue.ensures.any_moment))
 
 pub returns-clause-keeps : goal.returns-clause-keeps
 returns-clause-keeps g c =
@@ -74,10 +71,10 @@ returns-clause-keeps g c =
     (let fit = fit-at _ _ c.self.view_is (sym c.unfit.ensures.first ∙ c.in_default.is) in
     let w = c.in_ok-issue.ensures.wrote in
     rw (← c.self.view_is, w.records, w.units, w.bound_is, w.booted, w.loaded, w.limits, w.open_still, w.boot_missing, w.in_doubt, c.issue.ensures.told, c.turn_to.ensures)
-    (Continues-written _ (Issue c.in_ok-nonce.nonce.number c.at-word.result) None c.self.inside.open_order (c.self.invariant.0.clean fit.0) fit.0 fit.2 (λ p e. cc)))
+    (Continues-written _ (Issue c.of-nonce.result.number c.at-word.result) None c.self.inside.open_order (c.self.invariant.0.clean fit.0) fit.0 fit.2 (λ p e. cc)))
     (rw (← c.self.view_is) c.issue.ensures.faults) (rw (← c.self.view_is) (omega arith))
-    (rw (← c.self.view_is) (behind-written g.D.Disk _ _ (Issue c.in_ok-nonce.nonce.number c.at-word.result) c.issue.ensures.told c.issue.ensures.any_moment c.in_ok-issue.ensures.wrote.records))
+    (rw (← c.self.view_is) (behind-written g.D.Disk _ _ (Issue c.of-nonce.result.number c.at-word.result) c.issue.ensures.told c.issue.ensures.any_moment c.in_ok-issue.ensures.wrote.records))
     (let none : c.self.inside.open_order ≡ No = rw (← c.self.view_is) at c.requires in
     let fit = fit-at _ _ c.self.view_is (sym c.unfit.ensures.first ∙ c.in_default.is) in
     let sound = c.self.invariant.0.sound fit.0 fit.2 in
-    rw (← c.self.view_is) (left-written g.D.Disk c.self.inside.ledger.disk c.issue.new.self.disk _ (Issue c.in_ok-nonce.nonce.number c.at-word.result) None No refl sound (IsSound-issue _ c.in_ok-nonce.nonce.number c.at-word.result sound none (c.in_ok-nonce.ensures.1 ∙ c.next_issue-number.ensures)) c.issue.ensures.any_moment))
+    rw (← c.self.view_is) (left-written g.D.Disk c.self.inside.ledger.disk c.issue.new.self.disk _ (Issue c.of-nonce.result.number c.at-word.result) None No refl sound (IsSound-issue _ c.of-nonce.result.number c.at-word.result sound none (c.of-nonce.ensures.number ∙ c.next_issue-number.ensures)) c.issue.ensures.any_moment))

@@ -1,8 +1,8 @@
 use Rattle.std.proofs.Common.{◌≡◌, ℕ, length, arith, sym, subst}
 use Rattle.std.proofs.lemmas.List.{nil_from_length}
 use Rattle.xfs_script.proofs.Due.{Due, due_feed, due_end}
-use Rattle.xfs_script.proofs.Cases.{handed_line, none_read, quota_read, fault_read, refused_read}
-use Rattle.xfs_script.proofs.feed.Feed.next_line.Goals as goal
+use Rattle.xfs_script.proofs.Cases.{found_kept, found_line, none_read, quota_read, fault_read, refused_read}
+use Rattle.xfs_script.proofs.feed.Feed.find_line.Goals as goal
 
 pub returns-in-Ok-Feed-clause-reads : goal.returns-in-Ok-Feed-clause-reads
 returns-in-Ok-Feed-clause-reads g c =
@@ -10,8 +10,16 @@ returns-in-Ok-Feed-clause-reads g c =
     let y = g.S.Source.left c.seek.new.source in
     let found = rw c.in-Ok-Feed.field-0-is at c.in-Ok-Feed.ensures.ok in
     let due = due_feed c.args.self.now c.seek.new.self c.in-Ok-Feed.place x y c.in-Ok-Feed.ensures.grown c.in-Ok-Feed.ensures.bound found.0 found.1 in
-    handed_line c.args.self.now c.seek.new.self c.hand_out.new.self x y c.in-Ok-Feed.place c.hand_out.result c.in-Ok-Feed.ensures.grown due
-    c.hand_out.ensures.is c.hand_out.ensures.only c.hand_out.ensures.ok c.hand_out.ensures.err
+    found_line c.args.self.now c.seek.new.self x y c.in-Ok-Feed.place c.measure.result c.in-Ok-Feed.ensures.grown due
+    c.measure.ensures.is c.measure.ensures.only c.measure.ensures.end
+
+pub returns-in-Ok-Feed-clause-kept : goal.returns-in-Ok-Feed-clause-kept
+returns-in-Ok-Feed-clause-kept g c =
+    let x = g.S.Source.left c.args.source.now in
+    let y = g.S.Source.left c.seek.new.source in
+    let found = rw c.in-Ok-Feed.field-0-is at c.in-Ok-Feed.ensures.ok in
+    let due = due_feed c.args.self.now c.seek.new.self c.in-Ok-Feed.place x y c.in-Ok-Feed.ensures.grown c.in-Ok-Feed.ensures.bound found.0 found.1 in
+    found_kept c.args.self.now c.seek.new.self x y c.in-Ok-Feed.place c.measure.result due (omega (arith, found.1)) (omega (arith, found.1)) c.measure.ensures.end
 
 pub returns-in-Ok-End-clause-reads : goal.returns-in-Ok-End-clause-reads
 returns-in-Ok-End-clause-reads g c =
@@ -28,8 +36,18 @@ returns-in-Ok-End-2-clause-reads g c =
     let size = c.len-in-Ok-End-2.ensures in
     let P : ℕ → Type 0 = λ n. Due c.args.self.now c.seek.new.self n x y in
     let due = subst P (sym size) (due_end c.args.self.now c.seek.new.self x y c.in-Ok-End.ensures.grown found.2 found.0 found.1 (omega arith)) in
-    handed_line c.args.self.now c.seek.new.self c.hand_out-in-Ok-End-2.new.self x y c.len-in-Ok-End-2.result c.hand_out-in-Ok-End-2.result c.in-Ok-End.ensures.grown due
-    c.hand_out-in-Ok-End-2.ensures.is c.hand_out-in-Ok-End-2.ensures.only c.hand_out-in-Ok-End-2.ensures.ok c.hand_out-in-Ok-End-2.ensures.err
+    found_line c.args.self.now c.seek.new.self x y c.len-in-Ok-End-2.result c.measure-in-Ok-End-2.result c.in-Ok-End.ensures.grown due
+    c.measure-in-Ok-End-2.ensures.is c.measure-in-Ok-End-2.ensures.only c.measure-in-Ok-End-2.ensures.end
+
+pub returns-in-Ok-End-2-clause-kept : goal.returns-in-Ok-End-2-clause-kept
+returns-in-Ok-End-2-clause-kept g c =
+    let x = g.S.Source.left c.args.source.now in
+    let y = g.S.Source.left c.seek.new.source in
+    let found = rw c.in-Ok-End.field-0-is at c.in-Ok-End.ensures.ok in
+    let size = c.len-in-Ok-End-2.ensures in
+    let P : ℕ → Type 0 = λ n. Due c.args.self.now c.seek.new.self n x y in
+    let due = subst P (sym size) (due_end c.args.self.now c.seek.new.self x y c.in-Ok-End.ensures.grown found.2 found.0 found.1 (omega arith)) in
+    found_kept c.args.self.now c.seek.new.self x y c.len-in-Ok-End-2.result c.measure-in-Ok-End-2.result due (omega (arith, size)) (omega arith) c.measure-in-Ok-End-2.ensures.end
 
 pub returns-in-Ok-Quota-clause-reads : goal.returns-in-Ok-Quota-clause-reads
 returns-in-Ok-Quota-clause-reads g c =
