@@ -7,6 +7,7 @@ pub mod ClaimLaws
 pub mod ContinueLaws
 pub mod CoveredLaws
 pub mod CrashedLaws
+pub mod DigitLaws
 pub mod FollowsLaws
 pub mod KeepsLaws
 pub mod KeptLaws

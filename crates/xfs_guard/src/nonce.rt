@@ -36,12 +36,10 @@ fn issue_bytes(number: u64, word: u64) -> [u8; 16]
 fn upper(bytes: &[u8; 16]) -> [u8; 32]
     ensures { result ≡ encode_upper bytes.now }
 {
-    let digits = b"0123456789ABCDEF";
     let mut text = [0u8; 32];
-    'bytes: for i in 0..16 {
-        let byte = bytes[i];
-        text[2 * i] = digits[(byte >> 4) as usize];
-        text[2 * i + 1] = digits[(byte & 0x0f) as usize];
+    match hex::encode_to_slice(bytes, &mut text) {
+        Ok(()) => text.make_ascii_uppercase(),
+        Err(_) => unreachable!(),
     }
     text
 }
