@@ -44,15 +44,15 @@ pub fn read_replay(alloc: Global, text: &[u8]) -> Result<ReplayLine, ScriptFault
     ensures ok { IfOk result (IsReplayLine text.now) }
     ensures not_a_line { result ≡ Err ScriptFault.NotALine → (line : ReplayLine) → ¬ IsReplayLine text.now line }
 {
+    if let Some((client, message)) = read_say(text) {
+        let text = bytes_of(alloc, message)?;
+        return Ok(ReplayLine::Say { client, text });
+    }
     if let Some(line) = word_of(text) {
         return Ok(line);
     }
     if let Some(line) = fields_of(text) {
         return Ok(line);
-    }
-    if let Some((client, message)) = read_say(text) {
-        let text = bytes_of(alloc, message)?;
-        return Ok(ReplayLine::Say { client, text });
     }
     let Some((one, two, three)) = card_fields(text) else {
         return Err(ScriptFault::NotALine);
