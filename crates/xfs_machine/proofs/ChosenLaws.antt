@@ -133,6 +133,13 @@ pub device_first : (s : State) (service : Service) → has_order s service ≡ f
     → device_case (queue_at s service) (is_service Cash service) s.now ≡ case_of s service
 device_first s service a b c d = rw (a, b, c, d) refl
 
+-- no command is pending
+pub rests_empty : (s : State) (service : Service) → has_order s service ≡ false → (is_service Cash service && is_life_over s) ≡ false → queue_at s service ≡ [] → rest ≡ case_of s service
+rests_empty s service a b none = elim (cases_Bool (is_service Cash service)) [
+  | inl y ↦ rw (a, b, none, y) refl
+  | inr n ↦ rw (a, b, none, n) refl
+]
+
 -- an order is open
 pub ordered_is : (b : Bool) (o : Open) → (b ≡ true → o ≢ No) → (o ≢ No → b ≡ true) → b ≡ is_ordered o
 ordered_is true No f g = absurd (f refl refl)

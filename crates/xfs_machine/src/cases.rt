@@ -64,6 +64,9 @@ pub(crate) fn case_of<M: Mechanism, D: Disk>(
     if is_cash & over {
         return Case::Expire;
     }
+    if queue.commands().is_empty() {
+        return Case::Rest;
+    }
     if queue.ready().is_some() {
         return Case::Answer;
     }

@@ -1,16 +1,25 @@
-use Rattle.std.proofs.Common.{◌≡◌, sym, ◌∙◌}
+use Rattle.std.proofs.Common.{◌≡◌, List, [], length, sym, ◌∙◌}
+use Rattle.std.proofs.lemmas.Bool.{eqb-true}
+use Rattle.std.proofs.lemmas.List.{nil_from_length}
 use Rattle.std.specs.List.{list_any}
 use Rattle.xfs_dispenser.specs.Seen.{seen}
 use Rattle.xfs_queue.specs.Commands.{is_ready, waits_on}
 use Rattle.xfs_queue.specs.declared.command.Line.TheVariants.{Nonce}
 use Rattle.xfs_model.specs.State.{queue_of}
-use Rattle.xfs_machine.proofs.ChosenLaws.{answers_first, any_there, device_first, expires_first, nonce_first}
+use Rattle.xfs_machine.proofs.ChosenLaws.{answers_first, any_there, device_first, expires_first, nonce_first, rests_empty}
 use Rattle.xfs_machine.proofs.cases.case_of.Goals as goal
 
 pub returns-then-is_cash-over-clause-case : goal.returns-then-is_cash-over-clause-case
 returns-then-is_cash-over-clause-case g c = λ s.
     expires_first (record s { seen = seen g.D.Disk c.args.guard.now; life = c.args.life; issued = c.args.issued; now = c.args.now; queues = c.args.queues.now }) c.args.service
     (rw (c.is_service-is_cash.ensures, c.is_ordered.ensures) at c.if-is_cash-is_ordered.false) (rw (c.is_service-is_cash.ensures, c.is_life_over-over.ensures.over s) at c.if-is_cash-over.true)
+
+pub returns-then-is_empty-clause-case : goal.returns-then-is_empty-clause-case
+returns-then-is_empty-clause-case g c = λ s.
+    let none : c.commands.result.now ≡ [] = nil_from_length c.commands.result.now (eqb-true (length c.commands.result.now) 0 (sym c.is_empty.ensures ∙ c.if-is_empty.true)) in
+    rests_empty (record s { seen = seen g.D.Disk c.args.guard.now; life = c.args.life; issued = c.args.issued; now = c.args.now; queues = c.args.queues.now }) c.args.service
+    (rw (c.is_service-is_cash.ensures, c.is_ordered.ensures) at c.if-is_cash-is_ordered.false) (rw (c.is_service-is_cash.ensures, c.is_life_over-over.ensures.over s) at c.if-is_cash-over.false)
+    (sym c.at-queue.ensures ∙ sym c.commands.ensures.now ∙ none)
 
 pub returns-then-is_some-clause-case : goal.returns-then-is_some-clause-case
 returns-then-is_some-clause-case g c = λ s.
