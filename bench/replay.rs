@@ -1,17 +1,19 @@
 //! A native peer of `xfs replay` for the lines that the script `bench/withdrawals` makes: `join`, `say`, `rest`, `mint` and `take`, and
-//! at the cash dispenser nonces, dispenses of counted notes, presents and exchanges. Written from the pages of `docs` over std alone, it
-//! does the same work and writes the same bytes. The script builds it, compares the two outputs and times both.
+//! at the cash dispenser nonces, dispenses, presents and exchanges; and of `xfs load N` for `bench/load`. Written from the pages of
+//! `docs` over std alone, it does the same work and writes the same bytes. The scripts build it, compare the outputs and time both.
 #[path = "replay/hashes.rs"]
 mod hashes;
 #[path = "replay/json.rs"]
 mod json;
+#[path = "replay/load.rs"]
+mod load;
 #[path = "replay/message.rs"]
 mod message;
 #[path = "replay/token.rs"]
 mod token;
 
 use hashes::{Key, word_of};
-use message::{Ask, read_ask, read_command};
+use message::{Ask, Notes, read_ask, read_command};
 use std::collections::VecDeque;
 use std::io::{self, BufRead, Write};
 use std::process::ExitCode;
@@ -27,6 +29,19 @@ const NONE: Counts = [0; 8];
 /// What notes are worth in a currency, in its unit.
 fn worth(counts: &Counts, currency: &str) -> u64 {
     UNITS.iter().zip(counts).filter(|(unit, _)| unit.0 == currency).map(|(unit, count)| unit.1 * u64::from(*count)).sum()
+}
+
+/// As few notes as can be of the units, the dearest first, which is least with their values.
+fn least(units: &Counts, currency: &str, amount: u64) -> Result<Counts, Answer> {
+    if UNITS.iter().all(|unit| unit.0 != currency) {
+        return Err(error("invalidCurrency"));
+    }
+    let (mut notes, mut left) = (NONE, amount);
+    for unit in (0..UNITS.len()).rev().filter(|unit| UNITS[*unit].0 == currency) {
+        notes[unit] = (left / UNITS[unit].1).min(u64::from(units[unit])) as u32;
+        left -= u64::from(notes[unit]) * UNITS[unit].1;
+    }
+    if left == 0 { Ok(notes) } else { Err(error("notDispensable")) }
 }
 
 /// Moves notes from one place to another.
@@ -284,11 +299,14 @@ impl Machine {
         Ok(Stage::Running { steps, notes: None })
     }
 
-    fn begin_dispense(&mut self, notes: Option<Counts>, token: Option<String>) -> Result<Stage, Answer> {
+    fn begin_dispense(&mut self, notes: Notes, token: Option<String>) -> Result<Stage, Answer> {
         self.journal.fit()?;
         let token = token.ok_or_else(|| plain("authorisationRequired"))?;
         let amounts = self.admit(&token)?;
-        let notes = of_table(notes).filter(|notes| *notes != NONE).ok_or_else(|| error("invalidDenomination"))?;
+        let notes = match notes {
+            Notes::Counted(notes) => of_table(notes).filter(|notes| *notes != NONE).ok_or_else(|| error("invalidDenomination"))?,
+            Notes::Least { currency, amount } => least(&self.units, &currency, amount)?,
+        };
         if notes.iter().sum::<u32>() > 60 {
             return Err(error("tooManyItems"));
         }
@@ -431,11 +449,7 @@ impl Machine {
                 }
             }
             ("rest", "") => {
-                let mut steps = 0;
-                while steps < 100_000 && self.work() {
-                    steps += 1;
-                }
-                writeln!(out, "rested {steps}").ok()?;
+                writeln!(out, "rested {}", self.rest()).ok()?;
             }
             ("mint", amounts) => {
                 let amounts = amounts.split(',').map(read_amount).collect::<Option<Amounts>>()?;
@@ -443,8 +457,7 @@ impl Machine {
                 writeln!(out, "token {}", if self.minted.is_empty() { "none" } else { &self.minted }).ok()?;
             }
             ("take", "") => {
-                let counts = self.outlet;
-                shift(&counts, &mut self.outlet, &mut self.taken);
+                let counts = self.take();
                 let units = listed(&counts, |unit, count| format!("unit{unit}:{count}"));
                 writeln!(out, "taken {}", if units.is_empty() { "none" } else { &units }).ok()?;
             }
@@ -457,6 +470,22 @@ impl Machine {
             }
         }
         Some(())
+    }
+
+    /// Works until nothing is left to do.
+    fn rest(&mut self) -> u32 {
+        let mut steps = 0;
+        while steps < 100_000 && self.work() {
+            steps += 1;
+        }
+        steps
+    }
+
+    /// The customer takes what lies in the outlet.
+    fn take(&mut self) -> Counts {
+        let counts = self.outlet;
+        shift(&counts, &mut self.outlet, &mut self.taken);
+        counts
     }
 
     fn join(&mut self, rest: &str) -> Option<String> {
@@ -473,8 +502,17 @@ impl Machine {
     }
 }
 
-/// Answers each line before the next one is read.
+/// Plays a load where the words say one, else answers lines.
 fn main() -> io::Result<ExitCode> {
+    match std::env::args().nth(1).and_then(|rounds| rounds.parse().ok()) {
+        Some(rounds) => println!("{}", load::play(&mut Machine::boot(), rounds)),
+        None => return answer_lines(),
+    }
+    Ok(ExitCode::SUCCESS)
+}
+
+/// Answers each line before the next one is read.
+fn answer_lines() -> io::Result<ExitCode> {
     let (mut input, mut output) = (io::BufReader::with_capacity(65_536, io::stdin().lock()), io::stdout().lock());
     let (mut machine, mut line, mut answer, mut number) = (Machine::boot(), Vec::new(), Vec::new(), 0);
     while input.read_until(b'\n', &mut line)? > 0 {

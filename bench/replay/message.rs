@@ -4,10 +4,16 @@ use crate::json::{Members, Value, parse};
 use crate::token::are_digits;
 use crate::{Counts, NONE};
 
+/// The notes of a dispense: counts, None where a name is that of no unit; or so much of a currency in as few as can be.
+pub enum Notes {
+    Counted(Option<Counts>),
+    Least { currency: String, amount: u64 },
+}
+
 /// What a command asks. The counts are None where a name is that of no unit.
 pub enum Ask {
     Issue,
-    Dispense { notes: Option<Counts>, token: Option<String> },
+    Dispense { notes: Notes, token: Option<String> },
     Present,
     StartExchange,
     SetStorage { added: Option<Counts> },
@@ -70,16 +76,26 @@ pub fn read_ask(name: &str, payload: &Value) -> Option<Ask> {
 
 fn read_dispense(payload: &Value) -> Option<Ask> {
     let denomination = payload.get("denomination").filter(|denomination| denomination.members().is_some())?;
-    payload.get("mix")?.text().filter(|mix| *mix == "individual")?;
-    let notes = match denomination.get("values") {
-        Some(values) => read_counts(values.members()?, |count| count.whole(0, 1_000_000))?,
-        None => Some(NONE),
+    let notes = match payload.get("mix")?.text()? {
+        "individual" => Notes::Counted(match denomination.get("values") {
+            Some(values) => read_counts(values.members()?, |count| count.whole(0, 1_000_000))?,
+            None => Some(NONE),
+        }),
+        "minimum" => read_least(denomination)?,
+        _ => return None,
     };
     let token = match payload.get("token") {
         Some(token) => Some(token.text()?.to_string()),
         None => None,
     };
     Some(Ask::Dispense { notes, token })
+}
+
+fn read_least(denomination: &Value) -> Option<Notes> {
+    let [(currency, amount)] = &denomination.get("currencies")?.members()?[..] else { return None };
+    let is_currency = currency.len() == 3 && currency.bytes().all(|byte| byte.is_ascii_uppercase());
+    let amount = amount.whole(1, 1_000_000).filter(|_| is_currency)?;
+    Some(Notes::Least { currency: currency.clone(), amount })
 }
 
 fn read_storage(payload: &Value) -> Option<Ask> {

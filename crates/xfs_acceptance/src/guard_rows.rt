@@ -82,7 +82,7 @@ fn other_words_are_told_the_usage(rt: HostRuntime) -> Result<(), Fail> {
         assert_eq!(rt; written.status, 2, "words {words:?}");
         assert_eq!(rt;
             written.text.as_slice(),
-            b"usage: xfs guard | token | replay\n".as_slice()
+            b"usage: xfs guard | token | replay | load N\n".as_slice()
         );
         assert_eq!(rt; written.bytes.len(), 0);
     }

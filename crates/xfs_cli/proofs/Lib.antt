@@ -10,10 +10,10 @@ pub mod EndingLaws
 pub mod FilledLaws
 pub mod GuardStateLaws
 pub mod LastLaws
+pub mod LoadLaws
 pub mod MailLaws
 pub mod MomentLaws
 pub mod NumberLaws
-pub mod ReplayLaws
 pub mod RestartLaws
 pub mod RunLaws
 pub mod RunsLaws
@@ -22,3 +22,4 @@ pub mod TokenEndLaws
 pub mod TokenTexts
 pub mod UnreadLaws
 pub mod VerbLaws
+pub mod WordLaws

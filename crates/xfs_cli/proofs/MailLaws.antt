@@ -9,7 +9,7 @@ use Rattle.xfs_script.proofs.AnswerLaws.{lines_text-append}
 use Rattle.xfs_cli.specs.ReplayEvents.{HandsAll, HasMail, frame_line}
 use Rattle.xfs_cli.specs.ReplayCommand.{IsPartMailed}
 use Rattle.xfs_cli.specs.declared.clients.Client.{Client}
-use Rattle.xfs_cli.proofs.ReplayLaws.{part-none}
+use Rattle.xfs_load.proofs.RestLaws.{part-none}
 
 -- one client more
 hands-push : (clients : List Client) (client : Client) (s between new : State) (said frames : List (List ℕ)) → HandsAll clients s said between → Step between (outbox client.pass) (handed frames) new

@@ -22,9 +22,10 @@ use Rattle.xfs_script.specs.ReplayLines.{IsReplayLine}
 use Rattle.xfs_script.specs.declared.replay_line.ReplayLine.{ReplayLine}
 use Rattle.xfs_script.specs.declared.replay_line.ReplayLine.TheVariants.{Skip, Join, Leave, Say, At, Work, Rest, CardIn, CardTaken, CardFault, Key, KeyFault, Take, Mint, Restart, Show}
 use Rattle.xfs_cli.specs.ReplayEvents.{AnswersEvent, AnswersVerb, HasMail, IsTouched, Mints, clients_after, event_of, told, told_to}
-use Rattle.xfs_cli.specs.ReplayCommand.{AnswersLine, HappensInPart, IsPartDone, rounds}
+use Rattle.xfs_load.specs.Steps.{HappensInPart, rounds}
+use Rattle.xfs_cli.specs.ReplayCommand.{AnswersLine, IsPartDone}
 use Rattle.xfs_cli.specs.ReplayStates.{Played, ReplayState, is_joined}
-use Rattle.xfs_cli.proofs.ReplayLaws.{part-none, part-one, rests-part}
+use Rattle.xfs_load.proofs.RestLaws.{part-none, part-one, rests-part}
 
 machine-same : (events : List Event) (s next : Played) → next.machine ≡ s.machine → HappensInPart events s.machine next.machine
 machine-same events s next same = (let P : State → Type 0 = λ t. HappensInPart events s.machine t in subst P (sym same) (part-none events s.machine))

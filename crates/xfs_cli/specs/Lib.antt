@@ -10,6 +10,8 @@ pub mod GuardStarts
 pub mod GuardStates
 pub mod GuardTexts
 pub mod GuardVerbs
+pub mod LoadEnds
+pub mod LoadRuns
 pub mod Moments
 pub mod Moves
 pub mod OneRecord

@@ -1,8 +1,7 @@
 -- The command `replay` over its lines: what answers them, what want of memory leaves of one, and that it ends at a restart which is refused.
-use Rattle.std.specs.Prelude.{◌≡◌, ◌≤◌, ◌⊎◌, ℕ, zero, suc, List, [], ◌∷◌, ◌++◌, length, map}
+use Rattle.std.specs.Prelude.{◌≡◌, ◌≤◌, ◌⊎◌, ℕ, List, length, map}
 use Rattle.std.specs.Option.{option_to_list}
 use Rattle.std.proofs.Common.{arith, inl, refl}
-use Rattle.xfs_base.specs.declared.moment.Moment.{Moment}
 use Rattle.xfs_disk.specs.declared.disk.Disk.{Ghosts as Disks}
 use Rattle.xfs_mech.specs.declared.mechanism.Mechanism.{Ghosts as Mechanisms}
 use Rattle.xfs_guard.proofs.ContinueLaws.{Continues-same}
@@ -12,15 +11,15 @@ use Rattle.xfs_script.specs.Commands.{Command}
 use Rattle.xfs_script.specs.ReplayLines.{IsReplayLine}
 use Rattle.xfs_script.specs.declared.replay_line.ReplayLine.{ReplayLine}
 use Rattle.xfs_script.specs.declared.replay_line.ReplayLine.TheVariants.{Rest}
-use Rattle.xfs_model.specs.Events.{Event, Answer, work, outbox}
+use Rattle.xfs_load.specs.Steps.{HappensInPart, RestsInPart}
+use Rattle.xfs_model.specs.Events.{outbox}
 use Rattle.xfs_model.specs.State.{State}
-use Rattle.xfs_model.specs.Step.{Step}
 use Rattle.xfs_cli.specs.Restarts.{EndsRestart, RestartFails}
 use Rattle.xfs_cli.specs.GuardStates.{IsLater}
 use Rattle.xfs_cli.specs.ReplayStates.{Played, ReplayState, guard_state_of, state_in}
 use Rattle.xfs_cli.specs.declared.clients.Client.{Client}
 use Rattle.xfs_cli.specs.declared.player.Player.{Player}
-use Rattle.xfs_cli.specs.ReplayEvents.{AnswersReplay, event_of, round}
+use Rattle.xfs_cli.specs.ReplayEvents.{AnswersReplay, event_of}
 use Rattle.xfs_script.specs.declared.feed.TheConstants.{LONGEST_LINE}
 
 -- a line of at most 70,000 bytes that writes a verb
@@ -29,32 +28,9 @@ pub record IsLine (text : List ℕ) : Type 0 where
   pub reads : IsReplayLine text verb
   pub short : length text ≤ LONGEST_LINE
 
--- one event happens, and then what Rest says
-pub record StepsThen (Rest : State → Type 0) (s : State) (event : Event) (answer : Answer) : Type 0 where
-  pub between : State
-  pub step : Step s event answer between
-  pub rest : Rest between
-
--- events happen one after another, each with its answer
-abbrev pub Steps : State → List (Event × Answer) → State → Type 0
-Steps s [] new = new ≡ s
-Steps s (e ∷ es) new = StepsThen (λ between. Steps between es new) s e.0 e.1
-
--- the first of these events happened, each with its answer; what is left of them didn't
-pub record HappensInPart (events : List Event) (s end : State) : Type 0 where
-  pub happened : List (Event × Answer)
-  pub left : List Event
-  pub are : events ≡ map (λ e. e.0) happened ++ left
-  pub steps : Steps s happened end
-
--- a step of work at each service of a round, so many times
-abbrev pub rounds : ℕ → Moment → List Event
-rounds zero now = []
-rounds (suc n) now = map (λ at. work at now) round ++ rounds n now
-
 -- the first of a verb's events happened: of a rest, of so many rounds
 abbrev pub IsPartDone : Played → ReplayLine → Played → Type 0
-IsPartDone s Rest end = (n : ℕ) × HappensInPart (rounds n s.now) s.machine end.machine
+IsPartDone s Rest end = RestsInPart s.now s.machine end.machine
 IsPartDone s verb end = HappensInPart (option_to_list (event_of s verb)) s.machine end.machine
 
 -- the restart of a player is refused for this

@@ -16,6 +16,7 @@ use Rattle.xfs_script.specs.ReplayLines.{IsReplayLine}
 use Rattle.xfs_script.specs.declared.replay_line.ReplayLine.{ReplayLine}
 use Rattle.xfs_script.specs.declared.replay_line.ReplayLine.TheVariants.{Skip, Join, Leave, Say, At, Work, Rest, CardIn, CardTaken, CardFault, Key, KeyFault, Take, Mint, Restart, Show}
 use Rattle.xfs_model.specs.Events.{Event, join, post, touch, work, outbox, leave, restart, Answer, joined, full, done, taken, fault, closed, touched, did, idle, handed, restarted}
+use Rattle.xfs_load.specs.Rests.{Rests}
 use Rattle.xfs_model.specs.State.{State}
 use Rattle.xfs_model.specs.Step.{Step}
 use Rattle.xfs_cli.specs.GuardTexts.{show_lines}
@@ -92,21 +93,6 @@ pub record IsTouched (s : Played) (it : Touch) (said : List (List ℕ)) (next : 
   pub step : Step s.machine (touch it) answer machine
   pub text : told answer ≡ Some said
   pub is : next ≡ record s { machine = machine }
-
--- services are turned one after another, up to so many that did something, and so many did
-pub data Turns (now : Moment) : List Service → ℕ → State → ℕ → State → Type 0 where
-  over : {most : ℕ} {s : State} → Turns now [] most s 0 s
-  enough : {services : List Service} {s : State} → Turns now services 0 s 0 s
-  idled : {at : Service} {services : List Service} {most n : ℕ} {s between new : State} → Step s (work at now) idle between → Turns now services (suc most) between n new → Turns now (at ∷ services) (suc most) s n new
-  worked : {at : Service} {services : List Service} {most n : ℕ} {s between new : State} → Step s (work at now) did between → Turns now services most between n new → Turns now (at ∷ services) (suc most) s (suc n) new
-
-abbrev pub round : List Service
-round = service.Cash ∷ service.Card ∷ service.Keys ∷ []
-
--- rounds, until one in which every service is idle, or at once when so many steps did something
-pub data Rests (now : Moment) : ℕ → State → ℕ → State → Type 0 where
-  ends : {most : ℕ} {s new : State} → Turns now round most s 0 new → Rests now most s 0 new
-  goes : {most n m : ℕ} {s between new : State} → Turns now round most s (suc n) between → Rests now (most - suc n) between m new → Rests now most s (suc n + m) new
 
 pub record IsRested (s : Played) (said : List (List ℕ)) (next : Played) : Type 0 where
   pub count : ℕ

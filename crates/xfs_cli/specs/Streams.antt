@@ -16,8 +16,8 @@ pub record Streams : Type 0 where
   pub write_faults_now : ℕ
 
 -- those of a source and a sink, each before and now
-abbrev pub streams : {S K : Type 0} → Sources S → Sinks K → S → S → K → K → Streams
-streams s k source source' sink sink' = record {
+abbrev pub io_of : {S K : Type 0} → Sources S → Sinks K → S → S → K → K → Streams
+io_of s k source source' sink sink' = record {
   input = s.left source;
   left = s.left source';
   read_faults = s.faults source;

@@ -76,5 +76,10 @@ pub fn unbooted<K: Sink>(sink: &mut K, fault: BootFault) -> u8
 pub fn usage<K: Sink>(sink: &mut K)
     ensures written { WritesLast (usage_line ∷ []) (K.faults sink.old) (K.faults sink.new) (K.held sink.old) (K.held sink.new) }
 {
-    say(sink, b"usage: xfs guard | token | replay", b"", b"");
+    say(
+        sink,
+        b"usage: xfs guard | token | replay | load N",
+        b"",
+        b"",
+    );
 }

@@ -7,6 +7,7 @@ mod guard_answer;
 mod guard_command;
 mod guard_player;
 mod last_line;
+mod load_command;
 mod mail;
 mod player;
 mod refused;
@@ -26,6 +27,7 @@ mod words;
 
 pub use ended::Ended;
 pub use guard_command::guard;
+pub use load_command::load;
 pub use replay_command::replay;
 pub use token_command::token;
 pub use top::run;

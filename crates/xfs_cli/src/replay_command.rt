@@ -6,7 +6,7 @@ ghost use Rattle.xfs_cli.specs.Moments.{WasOnTheWayAll};
 ghost use Rattle.xfs_cli.specs.ReplayRuns.{RunsReplay};
 ghost use Rattle.xfs_cli.specs.Run.{IsReplay};
 ghost use Rattle.xfs_cli.specs.Statuses.{IsCaused, IsStatus};
-ghost use Rattle.xfs_cli.specs.Streams.{streams};
+ghost use Rattle.xfs_cli.specs.Streams.{io_of};
 ghost use Rattle.xfs_cli.specs.TokenRuns.{IsKept, WritesUsage};
 ghost use Rattle.xfs_cli.specs.Upholds.{AtRest, Starts, UpholdsAll};
 
@@ -38,13 +38,13 @@ pub fn replay<S: Source, K: Sink, M: Mechanism, D: Disk>(
     requires at_rest { AtRest D.Disk core.disk }
     ensures upholds { UpholdsAll M.Mechanism D.Disk core result }
     ensures any_moment { WasOnTheWayAll M.Mechanism D.Disk core result }
-    ensures runs { IsReplay words.now → RunsReplay M.Mechanism D.Disk core result (streams S.Source K.Sink source.old source.new sink.old sink.new) }
+    ensures runs { IsReplay words.now → RunsReplay M.Mechanism D.Disk core result (io_of S.Source K.Sink source.old source.new sink.old sink.new) }
     ensures usage { (result.status ≡ USAGE) ↔ ¬ (IsReplay words.now) }
-    ensures usage_written { result.status ≡ USAGE → WritesUsage (streams S.Source K.Sink source.old source.new sink.old sink.new) }
+    ensures usage_written { result.status ≡ USAGE → WritesUsage (io_of S.Source K.Sink source.old source.new sink.old sink.new) }
     ensures unread { result.status ≡ USAGE → source.new ≡ source.old }
     ensures idle { result.status ≡ USAGE → IsKept core result }
     ensures statuses { IsStatus result.status }
-    ensures causes { IsCaused result.status (streams S.Source K.Sink source.old source.new sink.old sink.new) }
+    ensures causes { IsCaused result.status (io_of S.Source K.Sink source.old source.new sink.old sink.new) }
     ensures adds { AddsUp (M.motions core.mech) (M.motions result.mech) (M.places core.mech) (M.places result.mech) }
     ensures units { M.units result.mech ≡ core.units }
     ensures told { is_some (M.motions result.mech) ≡ is_some (M.motions core.mech) }

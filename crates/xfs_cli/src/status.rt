@@ -1,6 +1,6 @@
 //! The statuses of the program.
 
-/// The input was read to its end.
+/// The input was read to its end, or a load was played whole.
 pub const READ_TO_END: u8 = 0;
 /// The words are not of the table of commands.
 pub const USAGE: u8 = 2;

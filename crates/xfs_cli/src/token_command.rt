@@ -3,7 +3,7 @@
 ghost use Rattle.std.specs.Prelude.{◌≡◌, ◌↔◌};
 ghost use Rattle.xfs_cli.specs.Run.{IsToken};
 ghost use Rattle.xfs_cli.specs.Statuses.{IsCaused, IsStatus};
-ghost use Rattle.xfs_cli.specs.Streams.{streams};
+ghost use Rattle.xfs_cli.specs.Streams.{io_of};
 ghost use Rattle.xfs_cli.specs.TokenRuns.{IsKept, RunsToken, WritesUsage};
 
 use crate::ended::Ended;
@@ -28,12 +28,12 @@ pub fn token<S: Source, K: Sink, M: Mechanism, D: Disk>(
     core: Core<M, D>,
 ) -> Ended<M, D>
     ensures kept { IsKept core result }
-    ensures runs { IsToken words.now → RunsToken core result (streams S.Source K.Sink source.old source.new sink.old sink.new) }
+    ensures runs { IsToken words.now → RunsToken core result (io_of S.Source K.Sink source.old source.new sink.old sink.new) }
     ensures usage { (result.status ≡ USAGE) ↔ ¬ (IsToken words.now) }
-    ensures usage_written { result.status ≡ USAGE → WritesUsage (streams S.Source K.Sink source.old source.new sink.old sink.new) }
+    ensures usage_written { result.status ≡ USAGE → WritesUsage (io_of S.Source K.Sink source.old source.new sink.old sink.new) }
     ensures unread { result.status ≡ USAGE → source.new ≡ source.old }
     ensures statuses { IsStatus result.status }
-    ensures causes { IsCaused result.status (streams S.Source K.Sink source.old source.new sink.old sink.new) }
+    ensures causes { IsCaused result.status (io_of S.Source K.Sink source.old source.new sink.old sink.new) }
 {
     let Core {
         mech,

@@ -10,7 +10,8 @@ ghost use Rattle.xfs_model.specs.Events.{touch as touched_by};
 ghost use Rattle.xfs_script.specs.Answered.{Tells, lines_text};
 ghost use Rattle.xfs_script.specs.declared.replay_line.ReplayLine.TheVariants as verbs;
 ghost use Rattle.xfs_cli.specs.ReplayEvents.{AnswersVerb, IsTouched, filled, token_bytes};
-ghost use Rattle.xfs_cli.specs.ReplayCommand.{HappensInPart, IsPartDone, IsRestartRefused};
+ghost use Rattle.xfs_load.specs.Steps.{HappensInPart};
+ghost use Rattle.xfs_cli.specs.ReplayCommand.{IsPartDone, IsRestartRefused};
 ghost use Rattle.xfs_cli.specs.ReplayStates.{played};
 
 use crate::guard_player::NoAnswer;

@@ -63,9 +63,9 @@ abbrev pub is_for_nonce : Ask → Bool
 is_for_nonce Nonce = true
 is_for_nonce ask = false
 
--- it asks once more; a nonce of before is none any more once it asks for the next
+-- it asks once more; with the ask for a nonce a round begins: the nonce of before is none any more, and nothing failed yet
 abbrev pub asking : Ask → Client → Client
-asking ask c = record c { asked = c.asked + 1; nonce = if is_for_nonce ask then None else c.nonce }
+asking ask c = if is_for_nonce ask then record c { asked = c.asked + 1; nonce = None; failed = false } else record c { asked = c.asked + 1 }
 
 -- a completion with success of its GetCommandNonce gives it a nonce; one that is no success fails the round
 abbrev pub completed : Ask → ℕ → Code → Data → Client → Client
@@ -87,4 +87,4 @@ hears_all ask c frames = fold (hears ask) c frames
 
 -- the round is over: it is refused where one of its completions was no success
 abbrev pub counted : Client → Client
-counted c = record c { failed = false; refused = if c.failed then c.refused + 1 else c.refused }
+counted c = if c.failed then record c { refused = c.refused + 1 } else c

@@ -1,7 +1,6 @@
 pub mod Generator
 pub mod Plays
 pub mod Rests
-pub mod Rounds
 pub mod Steps
 pub mod Summaries
 pub mod Texts

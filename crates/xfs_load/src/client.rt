@@ -189,6 +189,7 @@ impl Client {
         }
     }
 
+    // What is asked next; a nonce is asked for first of a round.
     fn begin(&mut self, ask: Ask)
         requires { self.old.asked < 2 ^ 50 }
         ensures { self.new ≡ asking ask self.old }
@@ -196,6 +197,7 @@ impl Client {
         self.asked += 1;
         if is_for_nonce(ask) {
             self.nonce = None;
+            self.failed = false;
         }
     }
 
@@ -276,7 +278,6 @@ impl Client {
         if self.failed {
             self.refused += 1;
         }
-        self.failed = false;
     }
 }
 

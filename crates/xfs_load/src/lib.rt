@@ -6,7 +6,6 @@ mod client;
 mod playing;
 mod presented;
 mod resting;
-mod rounds;
 mod summary;
 mod text;
 
@@ -14,5 +13,4 @@ pub use ask::Ask;
 pub use playing::play;
 pub use presented::Presented;
 pub use resting::rest;
-pub use rounds::rounds_in;
 pub use summary::Summary;

@@ -1,6 +1,6 @@
 use Rattle.std.proofs.Common.{ap, refl}
 use Rattle.xfs_cli.specs.ReplayStates.{played}
-use Rattle.xfs_cli.proofs.ReplayLaws.{part-one}
+use Rattle.xfs_load.proofs.RestLaws.{part-one}
 use Rattle.xfs_cli.proofs.RestartLaws.{restart_refused}
 use Rattle.xfs_cli.proofs.VerbLaws.{tells-event}
 use Rattle.xfs_cli.proofs.player.Player.restart.Goals as goal

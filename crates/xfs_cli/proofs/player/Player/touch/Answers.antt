@@ -2,7 +2,7 @@ use Rattle.std.proofs.Common.{refl}
 use Rattle.std.proofs.lemmas.Result.{IfOk-weaker}
 use Rattle.xfs_cli.specs.ReplayStates.{played}
 use Rattle.xfs_cli.proofs.BegunLaws.{on-err}
-use Rattle.xfs_cli.proofs.ReplayLaws.{part-one}
+use Rattle.xfs_load.proofs.RestLaws.{part-one}
 use Rattle.xfs_cli.proofs.VerbLaws.{tells-touch}
 use Rattle.xfs_cli.proofs.player.Player.touch.Goals as goal
 

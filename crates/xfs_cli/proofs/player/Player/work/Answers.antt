@@ -1,7 +1,7 @@
 use Rattle.std.proofs.Common.{refl}
 use Rattle.std.proofs.lemmas.Result.{IfOk-weaker}
 use Rattle.xfs_cli.proofs.BegunLaws.{on-err}
-use Rattle.xfs_cli.proofs.ReplayLaws.{part-one}
+use Rattle.xfs_load.proofs.RestLaws.{part-one}
 use Rattle.xfs_cli.proofs.VerbLaws.{tells-event}
 use Rattle.xfs_cli.proofs.player.Player.work.Goals as goal
 

@@ -2,7 +2,7 @@ use Rattle.std.proofs.Common.{Err, ap, inr, ◌∙◌}
 use Rattle.xfs_guard.proofs.KeepsLaws.{Proceeds-same, Proceeds-trans}
 use Rattle.xfs_cli.specs.ReplayCommand.{leaves-none}
 use Rattle.xfs_cli.specs.ReplayStates.{played, state_in}
-use Rattle.xfs_cli.proofs.ReplayLaws.{part-none}
+use Rattle.xfs_load.proofs.RestLaws.{part-none}
 use Rattle.xfs_cli.proofs.VerbLaws.{at-moment, line-told, proceeds-kept, restart-text, verb-done}
 use Rattle.xfs_cli.proofs.replay_answer.PlayerAnswerer.answer.Goals as goal
 

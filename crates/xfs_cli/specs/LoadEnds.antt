@@ -1,0 +1,62 @@
+-- How a load ends once its machine has booted: it is played whole and its line is told, or memory runs out.
+use Rattle.std.specs.Prelude.{◌≡◌, ◌⊎◌, ℕ, List, [], ◌∷◌}
+use Rattle.std.specs.declared.option.Option.{Option}
+use Rattle.std.specs.Io.KnownBytes.{Appends}
+use Rattle.xfs_base.specs.Causes.{Rose, TookPrefix}
+use Rattle.xfs_base.specs.declared.stream.Sink.{Ghosts as Sinks}
+use Rattle.xfs_load.specs.Plays.{RoundsInPart}
+use Rattle.xfs_load.specs.Summaries.{IsSummary, summary_line}
+use Rattle.xfs_load.specs.declared.summary.Summary.{Summary}
+use Rattle.xfs_model.specs.State.{State}
+use Rattle.xfs_script.specs.Answered.{lines_text}
+use Rattle.xfs_cli.specs.declared.status.TheConstants.{NO_MEMORY, READ_TO_END, WRITE_FAULT}
+
+-- the output before and after, where it is told, and how often it failed
+pub record Output : Type 0 where
+  pub faults : ℕ
+  pub faults_now : ℕ
+  pub held : Option (List ℕ)
+  pub held_now : Option (List ℕ)
+
+abbrev pub output : {K : Type 0} → Sinks K → K → K → Output
+output k sink sink' = record { faults = k.faults sink; faults_now = k.faults sink'; held = k.held sink; held_now = k.held sink' }
+
+-- the whole text was written, or the sink failed and took a prefix of it
+pub record IsWritten (text : List ℕ) (status : ℕ) (o : Output) : Type 0 where
+  pub status_is : status ≡ READ_TO_END
+  pub appends : Appends o.held o.held_now text
+
+pub record IsCutOff (text : List ℕ) (status : ℕ) (o : Output) : Type 0 where
+  pub status_is : status ≡ WRITE_FAULT
+  pub cause : Rose o.faults o.faults_now
+  pub took : TookPrefix o.held o.held_now text
+
+abbrev pub Tells : List ℕ → ℕ → Output → Type 0
+Tells text status o = IsWritten text status o ⊎ IsCutOff text status o
+
+-- memory ran out before, and nothing is written
+pub record IsSilent (status : ℕ) (o : Output) : Type 0 where
+  pub status_is : status ≡ NO_MEMORY
+  pub silent : o.held_now ≡ o.held
+
+abbrev pub TellsOrNot : List ℕ → ℕ → Output → Type 0
+TellsOrNot text status o = Tells text status o ⊎ IsSilent status o
+
+-- the rounds were played, and the line that tells their summary was written
+pub record IsPlayed (key : List ℕ) (rounds : ℕ) (s new : State) (status : ℕ) (o : Output) : Type 0 where
+  pub summary : Summary
+  pub sums : IsSummary key rounds s new summary
+  pub tells : Tells (lines_text (summary_line summary ∷ [])) status o
+
+-- the rounds were played and nothing is told of them
+pub record IsUntold (key : List ℕ) (rounds : ℕ) (s new : State) : Type 0 where
+  pub summary : Summary
+  pub sums : IsSummary key rounds s new summary
+
+-- memory ran out: a front of the rounds' calls was made, or all of them, and nothing is written
+pub record RunsOut (key : List ℕ) (rounds : ℕ) (s new : State) (status : ℕ) (o : Output) : Type 0 where
+  pub silent : IsSilent status o
+  pub front : RoundsInPart key rounds s new ⊎ IsUntold key rounds s new
+
+abbrev pub EndsLoad : List ℕ → ℕ → State → State → ℕ → Output → Type 0
+EndsLoad key rounds s new status o = IsPlayed key rounds s new status o ⊎ RunsOut key rounds s new status o

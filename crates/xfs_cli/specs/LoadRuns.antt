@@ -1,0 +1,76 @@
+-- A run of `load`: what it plays and writes, its statuses with their causes, and what the mechanism and the disk that come back are.
+use Rattle.std.specs.Prelude.{◌≡◌, ◌≢◌, ◌⊎◌, ℕ, List, String, length, None}
+use Rattle.std.specs.declared.alloc.Global.{Global}
+use Rattle.xfs_base.specs.Causes.{Rose}
+use Rattle.xfs_disk.specs.declared.disk.Disk.{Ghosts as Disks}
+use Rattle.xfs_mech.specs.Moves.{IsNewer}
+use Rattle.xfs_mech.specs.declared.mechanism.Mechanism.{Ghosts as Mechanisms}
+use Rattle.xfs_guard.specs.declared.machine_core.Core.{Core}
+use Rattle.xfs_machine.specs.MachineView.{MachineView}
+use Rattle.xfs_model.specs.State.{State, bare}
+use Rattle.xfs_cli.specs.Boots.{BootExceeds, EndsFailed, EndsFull, EndsUnread, IsDue, IsUnwritten}
+use Rattle.xfs_cli.specs.GuardStarts.{AtEntry, IsStart, at_entry}
+use Rattle.xfs_cli.specs.LoadEnds.{EndsLoad, Output}
+use Rattle.xfs_cli.specs.Run.{IsLoadOf}
+use Rattle.xfs_cli.specs.Runs.{AtEntryList, FromStart, IsEnd, IsUnbooted, WhereNoJournal}
+use Rattle.xfs_cli.specs.GuardStates.{GuardState}
+use Rattle.xfs_cli.specs.Statuses.{IsFinished}
+use Rattle.xfs_cli.specs.Streams.{Streams}
+use Rattle.xfs_cli.specs.declared.ended.Ended.{Ended}
+use Rattle.xfs_cli.specs.declared.status.TheConstants.{DISK_FAULT, INPUT_TOO_LONG, JOURNAL_FULL, NOT_A_JOURNAL, NOT_A_LINE, READ_FAULT, WRITE_FAULT}
+
+-- a machine, and how often the disk of its journal failed
+pub record MachineOnDisk : Type 0 where
+  pub machine : State
+  pub disk_faults : ℕ
+
+abbrev pub on_disk : {D : Type 0} → (D → ℕ) → MachineView D → MachineOnDisk
+on_disk faults m = record { machine = m.state; disk_faults = faults m.disk }
+
+-- what a run of `guard` would see of it, with no token minted
+abbrev pub guard_state_of : MachineOnDisk → GuardState
+guard_state_of s = record { guard = s.machine.seen.guard; disk_faults = s.disk_faults; last = None }
+
+-- the machine that the boot begins: over the guard that the boot of `guard` begins too, with this life of a nonce
+pub record Begins (e : AtEntry) (life : ℕ) (start : MachineOnDisk) : Type 0 where
+  pub boots : IsStart e (guard_state_of start)
+  pub machine : start.machine ≡ bare start.machine.seen life (length start.machine.seen.guard.records)
+
+abbrev pub output_of : Streams → Output
+output_of io = record { faults = io.write_faults; faults_now = io.write_faults_now; held = io.output; held_now = io.output_now }
+
+-- the rounds are played from a state on, until that of the mechanism and the disk that come back
+pub record LoadsUntil {M D : Type 0} (m : Mechanisms M) (d : Disks D) (core : Core M D) (rounds : ℕ) (result : Ended M D) (io : Streams) (start : MachineOnDisk) : Type 0 where
+  pub end : MachineOnDisk
+  pub ends : IsEnd m d result (guard_state_of end)
+  pub loads : EndsLoad core.key rounds start.machine end.machine result.status (output_of io)
+
+-- no status is one of the input's
+abbrev pub IsNotOfInput : ℕ → Type 0
+IsNotOfInput status = (status ≢ READ_FAULT) × (status ≢ NOT_A_LINE) × (status ≢ INPUT_TOO_LONG)
+
+pub record RunsLoad {M D : Type 0} (m : Mechanisms M) (d : Disks D) (core : Core M D) (rounds : ℕ) (result : Ended M D) (io : Streams) : Type 0 where
+  -- what is played and written: the rounds from the boot on, and the line of their summary; or the boot is refused
+  pub loads : IsUnbooted core result io ⊎ FromStart (Begins (at_entry m d core) core.life) (LoadsUntil m d core rounds result io)
+  pub unread_input : io.left ≡ io.input
+  pub not_of_input : IsNotOfInput result.status
+  pub write : result.status ≡ WRITE_FAULT → Rose io.write_faults io.write_faults_now
+  -- the statuses of a boot are those of a refused one
+  pub disk_fault : result.status ≡ DISK_FAULT → EndsFailed (d.faults core.disk) (d.faults result.disk) io
+  pub not_journal : result.status ≡ NOT_A_JOURNAL → EndsUnread (d.held core.disk) io
+  pub full : result.status ≡ JOURNAL_FULL → EndsFull core.limits (m.places core.mech) (d.held core.disk) io
+  -- a disk that is no journal is due its status, and stays as it was, and so does the mechanism
+  pub unread : WhereNoJournal d core.disk (IsDue NOT_A_JOURNAL result.status)
+  pub unwritten : WhereNoJournal d core.disk (IsUnwritten (d.held core.disk) (d.held result.disk) (d.images core.disk) (d.images result.disk))
+  pub unmoved : WhereNoJournal d core.disk (result.mech ≡ core.mech)
+  -- a journal that has no room for the Boot is due its status
+  pub overfull : AtEntryList d core.disk (λ records. BootExceeds core.limits (m.places core.mech) records → IsDue JOURNAL_FULL result.status)
+  -- the mechanism's new numbers lie behind the journal's
+  pub newer : AtEntryList d core.disk (λ records. IsNewer (length records) (m.motions core.mech) (m.motions result.mech))
+  -- a run that nothing hinders is done
+  pub finishes : ¬ (Rose io.write_faults io.write_faults_now) → ¬ (Rose (d.faults core.disk) (d.faults result.disk))
+      → AtEntryList d core.disk (λ records. ¬ (BootExceeds core.limits (m.places core.mech) records) → IsFinished result.status)
+
+-- so of the rounds that the words say
+abbrev pub RunsLoadOf : {M D : Type 0} → List (String Global) → Mechanisms M → Disks D → Core M D → Ended M D → Streams → Type 0
+RunsLoadOf words m d core result io = (rounds : ℕ) → IsLoadOf rounds words → RunsLoad m d core rounds result io

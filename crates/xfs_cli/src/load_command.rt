@@ -1,0 +1,116 @@
+//! The command `load`.
+
+ghost use Rattle.std.specs.Prelude.{◌≡◌, ◌↔◌, ◌∷◌, [], IfOk, is_some, length};
+ghost use Rattle.xfs_guard.specs.Keeps.{Proceeds};
+ghost use Rattle.xfs_load.specs.Summaries.{summary_line};
+ghost use Rattle.xfs_machine.specs.MachineView.{guard_of};
+ghost use Rattle.xfs_mech.specs.Moves.{AddsUp};
+ghost use Rattle.xfs_model.specs.State.{bare};
+ghost use Rattle.xfs_script.specs.Answered.{lines_text};
+ghost use Rattle.xfs_cli.specs.LoadEnds.{EndsLoad, TellsOrNot, output};
+ghost use Rattle.xfs_cli.specs.LoadRuns.{RunsLoadOf};
+ghost use Rattle.xfs_cli.specs.Moments.{WasOnTheWayAll};
+ghost use Rattle.xfs_cli.specs.Run.{IsLoad};
+ghost use Rattle.xfs_cli.specs.Statuses.{IsStatus};
+ghost use Rattle.xfs_cli.specs.Streams.{io_of};
+ghost use Rattle.xfs_cli.specs.TokenRuns.{IsKept, WritesUsage};
+ghost use Rattle.xfs_cli.specs.Upholds.{AtRest, Starts, UpholdsAll};
+
+use crate::ended::Ended;
+use crate::last_line::{unbooted, usage};
+use crate::status::{NO_MEMORY, READ_TO_END, USAGE, WRITE_FAULT};
+use crate::text::ended;
+use crate::words::rounds_of;
+use std::alloc::Global;
+use xfs_base::{Memory, Sink, Source, write_all};
+use xfs_disk::Disk;
+use xfs_guard::{BootFail, Core};
+use xfs_load::{Summary, play};
+use xfs_machine::Machine;
+use xfs_mech::Mechanism;
+
+/// Plays so many rounds of withdrawals on a machine, and writes one line that sums them up. Nothing is read of the
+/// input.
+pub fn load<S: Source, K: Sink, M: Mechanism, D: Disk>(
+    alloc: Global,
+    words: &[String],
+    source: &mut S,
+    sink: &mut K,
+    core: Core<M, D>,
+) -> Ended<M, D>
+    requires units { M.units core.mech ≡ core.units }
+    requires starts { Starts M.Mechanism D.Disk core }
+    requires at_rest { AtRest D.Disk core.disk }
+    ensures upholds { UpholdsAll M.Mechanism D.Disk core result }
+    ensures any_moment { WasOnTheWayAll M.Mechanism D.Disk core result }
+    ensures runs { RunsLoadOf words.now M.Mechanism D.Disk core result (io_of S.Source K.Sink source.old source.new sink.old sink.new) }
+    ensures usage { (result.status ≡ USAGE) ↔ ¬ (IsLoad words.now) }
+    ensures usage_written { result.status ≡ USAGE → WritesUsage (io_of S.Source K.Sink source.old source.new sink.old sink.new) }
+    ensures unread { source.new ≡ source.old }
+    ensures idle { result.status ≡ USAGE → IsKept core result }
+    ensures statuses { IsStatus result.status }
+    ensures adds { AddsUp (M.motions core.mech) (M.motions result.mech) (M.places core.mech) (M.places result.mech) }
+    ensures units { M.units result.mech ≡ core.units }
+    ensures told { is_some (M.motions result.mech) ≡ is_some (M.motions core.mech) }
+    ensures told_disk { is_some (D.held result.disk) ≡ is_some (D.held core.disk) }
+{
+    let Some(rounds) = rounds_of(alloc, words) else {
+        usage(sink);
+        return Ended {
+            status: USAGE,
+            mech: core.mech,
+            disk: core.disk,
+        };
+    };
+    let key = core.key;
+    match Machine::boot(alloc, core) {
+        Ok(mut machine) => {
+            let status = play_on(alloc, &mut machine, key, rounds, sink);
+            let (mech, disk) = machine.end();
+            Ended { status, mech, disk }
+        }
+        Err(BootFail { why, mech, disk }) => Ended {
+            status: unbooted(sink, why),
+            mech,
+            disk,
+        },
+    }
+}
+
+// Plays the rounds on a machine that has just booted, and writes their line; the status.
+fn play_on<K: Sink, M: Mechanism, D: Disk>(
+    alloc: Global,
+    machine: &mut Machine<M, D>,
+    key: [u8; 32],
+    rounds: u32,
+    sink: &mut K,
+) -> u8
+    requires booted { machine.old.state ≡ bare machine.old.state.seen machine.old.state.life (length machine.old.state.seen.guard.records) }
+    ensures ends { EndsLoad key rounds machine.old.state machine.new.state result (output K.Sink sink.old sink.new) }
+    ensures proceeds { Proceeds D.Disk (guard_of machine.old) (guard_of machine.new) }
+{
+    match play(alloc, machine, key, rounds) {
+        Ok(summary) => tell(alloc, &summary, sink),
+        Err(Memory) => NO_MEMORY,
+    }
+}
+
+// Writes the line of a summary; the status.
+fn tell<K: Sink>(alloc: Global, summary: &Summary, sink: &mut K) -> u8
+    ensures { TellsOrNot (lines_text (summary_line summary.now ∷ [])) result (output K.Sink sink.old sink.new) }
+{
+    let text = match told(alloc, summary) {
+        Ok(text) => text,
+        Err(Memory) => return NO_MEMORY,
+    };
+    match write_all(sink, &text) {
+        Ok(()) => READ_TO_END,
+        Err(_) => WRITE_FAULT,
+    }
+}
+
+fn told(alloc: Global, summary: &Summary) -> Result<Vec<u8>, Memory>
+    ensures { IfOk result (λ text. text.items ≡ lines_text (summary_line summary.now ∷ [])) }
+{
+    ended(summary.line(alloc)?)
+}
