@@ -41,7 +41,7 @@ fn issued_and_fetched<N: LockName, R: Wait>(
 {
     let mut one: Caller<'_, N, _, _, R> = Caller::new(rt, turn, seat);
     let mut two = one.split()?;
-    let pass = joined(&mut one, Service::Cash)?;
+    let pass = joined(&mut one, Service::Cash).ok_or("a connection")?;
     one.post(&pass, GET_NONCE.as_bytes(), Moment(0))?;
     let mut steps = 0;
     while steps < 100 && one.work(Service::Cash, Moment(0))? == Work::Did {

@@ -1,6 +1,6 @@
 //! Sessions over their boards.
 
-ghost use Rattle.std.specs.Prelude.{◌≡◌, IfOk};
+ghost use Rattle.std.specs.Prelude.{◌≡◌, IfSome};
 
 use crate::bench::{Shared, are, joined, opened};
 use std::alloc::Global;
@@ -134,17 +134,17 @@ fn served<N: LockName, R: Wait, C: Clock>(
     service: Service,
     link: &mut MemLink,
     clock: &C,
-) -> Result<(Over, Seat<Shared>), Fail>
+) -> Option<(Over, Seat<Shared>)>
     requires name { turn.now ≡ N.lock }
     requires lock { seat.lock ≡ N.lock }
-    ensures lock { IfOk result (λ ended. ended.1.lock ≡ N.lock) }
+    ensures lock { IfSome result (λ ended. ended.1.lock ≡ N.lock) }
 {
     let mut caller: Caller<'_, N, _, _, R> = Caller::new(rt, turn, seat);
     let pass = joined(&mut caller, service)?;
     let client = pass.client();
     let mut board = ClientBoard::new(caller, pass, clock);
     let over = serve_client(link, &mut board, &OpenGate, clock, client);
-    Ok((over, board.leave().into_seat()))
+    Some((over, board.leave().into_seat()))
 }
 
 /// A session that has ended.
@@ -161,14 +161,14 @@ fn session<N: LockName, R: Wait>(
     turn: &Turn<Shared>,
     seat: Seat<Shared>,
     mut link: MemLink,
-) -> Result<Ended, Fail>
+) -> Option<Ended>
     requires name { turn.now ≡ N.lock }
     requires lock { seat.lock ≡ N.lock }
-    ensures lock { IfOk result (λ ended. ended.seat.lock ≡ N.lock) }
+    ensures lock { IfSome result (λ ended. ended.seat.lock ≡ N.lock) }
 {
     let clock = FixedClock(0);
     let (over, seat) = served::<N, R, _>(rt, turn, seat, Service::Cash, &mut link, &clock)?;
-    Ok(Ended { link, over, seat })
+    Some(Ended { link, over, seat })
 }
 
 // Two sessions, each in a thread of its own.
@@ -178,24 +178,24 @@ fn side_by_side<N: LockName + Send + Sync, R: Threads + Wait + Sync>(
     mut seat: Seat<Shared>,
     one: MemLink,
     two: MemLink,
-) -> Result<(Ended, Ended), Fail>
+) -> Option<(Ended, Ended)>
     requires name { turn.now ≡ N.lock }
     requires lock { seat.lock ≡ N.lock }
-    ensures locks { IfOk result (λ ended. (ended.0.seat.lock ≡ N.lock) × (ended.1.seat.lock ≡ N.lock)) }
+    ensures locks { IfSome result (λ ended. (ended.0.seat.lock ≡ N.lock) × (ended.1.seat.lock ≡ N.lock)) }
 {
-    let other = turn.split(&mut seat)?;
+    let other = turn.split(&mut seat).ok()?;
     let (one, two) = thread::join(
         rt,
-        || -> Result<Ended, Fail>
+        || -> Option<Ended>
             requires { (turn.now ≡ N.lock) × (seat.lock ≡ N.lock) }
-            ensures { IfOk result (λ ended. ended.seat.lock ≡ N.lock) }
+            ensures { IfSome result (λ ended. ended.seat.lock ≡ N.lock) }
         { session::<N, R>(rt, turn, seat, one) },
-        || -> Result<Ended, Fail>
+        || -> Option<Ended>
             requires { (turn.now ≡ N.lock) × (other.lock ≡ N.lock) }
-            ensures { IfOk result (λ ended. ended.seat.lock ≡ N.lock) }
+            ensures { IfSome result (λ ended. ended.seat.lock ≡ N.lock) }
         { session::<N, R>(rt, turn, other, two) },
     );
-    Ok((one?, two?))
+    Some((one?, two?))
 }
 
 #[test]
@@ -215,7 +215,7 @@ fn a_session_sends_what_its_board_hands_over(rt: HostRuntime) -> Result<(), Fail
             case.service,
             &mut link,
             &clock,
-        )?;
+        ).ok_or("a session")?;
         assert_eq!(rt; over, Over::Closed);
         assert!(rt; are(link.sent(), case.sent));
         let machine = close(&rt, turn, seat);
@@ -224,17 +224,19 @@ fn a_session_sends_what_its_board_hands_over(rt: HostRuntime) -> Result<(), Fail
     Ok(())
 }
 
+// Whether a session over the texts of the first case came to its end.
+fn is_served(ended: &Ended) -> bool {
+    ended.over == Over::Closed && ended.link.sent().len() == 4
+}
+
 #[test]
 fn two_sessions_side_by_side_are_issued_a_nonce_each(rt: HostRuntime) -> Result<(), Fail> {
     let alloc = rt.alloc();
     let (turn, seat) = opened(alloc)?;
     let one = link_of(alloc, CASES[0].texts)?;
     let two = link_of(alloc, CASES[0].texts)?;
-    let (one, two) = side_by_side::<Brand, _>(&rt, &turn, seat, one, two)?;
-    for ended in [&one, &two] {
-        assert_eq!(rt; ended.over, Over::Closed);
-        assert_eq!(rt; ended.link.sent().len(), 4);
-    }
+    let (one, two) = side_by_side::<Brand, _>(&rt, &turn, seat, one, two).ok_or("two sessions")?;
+    assert!(rt; is_served(&one) && is_served(&two));
     let mut seat = one.seat;
     turn.join(&mut seat, two.seat);
     // The bench, the Boot and two Issues.

@@ -132,7 +132,7 @@ fn tended<N: LockName, R: Wait>(
     ensures lock { IfOk result (λ report. report.seat.lock ≡ N.lock) }
 {
     let mut caller: Caller<'_, N, _, _, R> = Caller::new(rt, turn, seat);
-    let pass = joined(&mut caller, case.service)?;
+    let pass = joined(&mut caller, case.service).ok_or("a connection")?;
     caller.post(&pass, case.text.as_bytes(), Moment(0))?;
     let clock = LastClock {
         ended: AtomicBool::new(false),

@@ -1,6 +1,6 @@
 //! The board of one connection's session.
 
-ghost use Rattle.std.specs.Prelude.{◌≡◌, Ok};
+ghost use Rattle.std.specs.Prelude.{◌≡◌};
 ghost use Rattle.xfs_board.specs.Answers.{turned};
 ghost use Rattle.xfs_board.specs.Turns.{IsTurn};
 ghost use Rattle.xfs_machine.specs.Answers.{worked};
@@ -93,10 +93,7 @@ impl<'a, N: LockName, M: Mechanism, D: Disk, R: Wait, C: Clock> Board
     {
         let now = self.clock.now();
         let service = self.pass.service();
-        match self.caller.work(service, now) {
-            Ok(work) => Ok(of_work(work)),
-            Err(memory) => Err(memory),
-        }
+        of_work(self.caller.work(service, now))
     }
 
     fn frames(&mut self) -> Vec<Bytes>
@@ -109,11 +106,12 @@ impl<'a, N: LockName, M: Mechanism, D: Disk, R: Wait, C: Clock> Board
 }
 
 // What a step of the machine's work is for a server.
-pub(crate) fn of_work(work: Work) -> Work2
-    ensures { turned (Ok result) ≡ worked (Ok work) }
+pub(crate) fn of_work(work: Result<Work, Memory>) -> Result<Work2, Memory>
+    ensures { turned result ≡ worked work }
 {
     match work {
-        Work::Did => Work2::Did,
-        Work::Idle => Work2::Idle,
+        Ok(Work::Did) => Ok(Work2::Did),
+        Ok(Work::Idle) => Ok(Work2::Idle),
+        Err(memory) => Err(memory),
     }
 }

@@ -117,10 +117,7 @@ impl<'a, N: LockName, M: Mechanism, D: Disk, R: Wait, C: Clock> Tended
         ensures service { self.new.service ≡ self.old.service }
     {
         let now = self.clock.now();
-        match self.caller.work(self.service, now) {
-            Ok(work) => Ok(of_work(work)),
-            Err(memory) => Err(memory),
-        }
+        of_work(self.caller.work(self.service, now))
     }
 
     fn closing(&mut self) -> bool
