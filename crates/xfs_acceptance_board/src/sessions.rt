@@ -10,7 +10,7 @@ use std::sync::atomic::{AtomicU64, Ordering};
 use std::test::Fail;
 use std::thread;
 use std::thread::Threads;
-use xfs_base::{Bytes, Clock, FixedClock, LAST_MOMENT, Moment, Service};
+use xfs_base::{Bytes, Clock, FixedClock, Moment, Service};
 use xfs_board::{Caller, ClientBoard, LockName, close};
 use xfs_server::{MemLink, OpenGate, Over, serve_client};
 use xfs_turn::{Seat, Turn};
@@ -27,7 +27,7 @@ impl Clock for StepClock {
         let now = self.now.load(Ordering::SeqCst);
         self.now
             .store(now.saturating_add(self.step), Ordering::SeqCst);
-        Moment(now.min(LAST_MOMENT))
+        FixedClock(now).now()
     }
 
     fn pause(&self) {}
