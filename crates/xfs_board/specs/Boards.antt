@@ -1,0 +1,24 @@
+-- What the machine's boards tell: the counts of the caller's tally, and nothing of content.
+use Rattle.std.specs.Prelude.{Bool, None}
+use Rattle.xfs_base.specs.declared.moment.Service.{Service}
+use Rattle.xfs_model.specs.State.{Pass}
+use Rattle.xfs_server.specs.Boards.{BoardLog}
+use Rattle.xfs_server.specs.Tendeds.{TendedLog}
+use Rattle.xfs_board.specs.Callers.{CallerView}
+
+-- the board of the connection with this pass
+pub record ClientView : Type 0 where
+  pub caller : CallerView
+  pub pass : Pass
+
+-- the object of the worker of a service, and whether it has told that it is closing
+pub record DeviceView : Type 0 where
+  pub caller : CallerView
+  pub service : Service
+  pub closing : Bool
+
+abbrev pub client_log : ClientView → BoardLog
+client_log b = record { texts = None; handed = None; latest = None; posts = b.caller.tally.posts; turns = b.caller.tally.works; fetches = b.caller.tally.outboxes }
+
+abbrev pub device_log : DeviceView → TendedLog
+device_log b = record { touched = None; faults = None; wanted = None; unwanted = None; stays = None; closing = b.closing; touches = b.caller.tally.touches; turns = b.caller.tally.works }

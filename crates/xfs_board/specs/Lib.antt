@@ -1,0 +1,6 @@
+pub mod Answers
+pub mod Boards
+pub mod Callers
+pub mod Chronicles
+pub mod Touches
+pub mod Turns

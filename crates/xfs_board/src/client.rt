@@ -1,0 +1,117 @@
+//! The board of one connection's session.
+
+ghost use Rattle.std.specs.Prelude.{◌≡◌};
+ghost use Rattle.xfs_board.specs.Answers.{turned};
+ghost use Rattle.xfs_board.specs.Turns.{IsTurn};
+ghost use Rattle.xfs_machine.specs.Answers.{worked};
+ghost use Rattle.xfs_model.specs.Events as event;
+
+use crate::caller::{Caller, LockName};
+use std::marker::Model;
+use std::sync::Wait;
+use xfs_base::{Bytes, Clock, Memory};
+use xfs_disk::Disk;
+use xfs_machine::{Pass, Work};
+use xfs_mech::Mechanism;
+use xfs_server::{Board, Work2};
+
+/// What stands behind one connection: each call is one turn of the lock, in which the machine is
+/// called once with the connection's pass and the clock's moment.
+#[derive(Drop)]
+pub struct ClientBoard<'a, N: LockName, M: Mechanism, D: Disk, R: Wait, C: Clock> {
+    caller: Caller<'a, N, M, D, R>,
+    pass: Pass,
+    clock: &'a C,
+}
+
+impl<'a, N: LockName, M: Mechanism, D: Disk, R: Wait, C: Clock> Model
+    for ClientBoard<'a, N, M, D, R, C> {
+    ghost use Rattle.xfs_board.specs.Boards.{ClientView};
+
+    ghost Value = { ClientView };
+
+    ghost view = { λ b. record { caller = b.caller; pass = b.pass } };
+}
+
+impl<'a, N: LockName, M: Mechanism, D: Disk, R: Wait, C: Clock> ClientBoard<'a, N, M, D, R, C> {
+    /// The board of the connection with this pass.
+    pub fn new(
+        caller: Caller<'a, N, M, D, R>,
+        pass: Pass,
+        clock: &'a C,
+    ) -> ClientBoard<'a, N, M, D, R, C>
+        ensures { result ≡ record { caller = caller.entry; pass = pass } }
+    {
+        ClientBoard {
+            caller,
+            pass,
+            clock,
+        }
+    }
+
+    /// The connection leaves the machine, with its commands, and its caller comes back.
+    pub fn leave(self) -> Caller<'a, N, M, D, R>
+        ensures turn { IsTurn self.entry.caller.seen result.seen (event.leave self.entry.pass) event.done }
+        ensures tally { result.tally ≡ self.entry.caller.tally }
+    {
+        let ClientBoard {
+            mut caller,
+            pass,
+            clock: _,
+        } = self;
+        caller.leave(pass);
+        caller
+    }
+}
+
+impl<'a, N: LockName, M: Mechanism, D: Disk, R: Wait, C: Clock> Board
+    for ClientBoard<'a, N, M, D, R, C> {
+    ghost use Rattle.std.specs.Prelude.{◌≡◌};
+    ghost use Rattle.xfs_base.specs.declared.moment.Moment.{Moment};
+    ghost use Rattle.xfs_board.specs.Boards.{client_log};
+    ghost use Rattle.xfs_board.specs.Turns.{HandsTold, IsTurn};
+    ghost use Rattle.xfs_model.specs.Events as event;
+    ghost use Rattle.xfs_machine.specs.Answers.{posted};
+    ghost use Rattle.xfs_board.specs.Answers.{turned};
+    ghost use Rattle.xfs_server.specs.Boards.{after_fetch, after_post, after_turn};
+
+    ghost log = { client_log };
+
+    fn post(&mut self, text: &[u8]) -> Result<(), Memory>
+        ensures log { client_log self.new ≡ after_post (client_log self.old) text.now result }
+        ensures turn { (now : Moment) × IsTurn self.old.caller.seen self.new.caller.seen (event.post self.old.pass text.now now) (posted result) }
+        ensures pass { self.new.pass ≡ self.old.pass }
+    {
+        let now = self.clock.now();
+        self.caller.post(&self.pass, text, now)
+    }
+
+    fn turn(&mut self) -> Result<Work2, Memory>
+        ensures log { client_log self.new ≡ after_turn (client_log self.old) }
+        ensures turn { (now : Moment) × IsTurn self.old.caller.seen self.new.caller.seen (event.work self.old.pass.service now) (turned result) }
+        ensures pass { self.new.pass ≡ self.old.pass }
+    {
+        let now = self.clock.now();
+        let service = self.pass.service();
+        of_work(self.caller.work(service, now))
+    }
+
+    fn frames(&mut self) -> Vec<Bytes>
+        ensures log { client_log self.new ≡ after_fetch (client_log self.old) result.items }
+        ensures turn { HandsTold self.old.caller.seen self.new.caller.seen (event.outbox self.old.pass) (event.handed result.items) result.items }
+        ensures pass { self.new.pass ≡ self.old.pass }
+    {
+        self.caller.outbox(&self.pass).into_list()
+    }
+}
+
+// What a step of the machine's work is for a server.
+pub(crate) fn of_work(work: Result<Work, Memory>) -> Result<Work2, Memory>
+    ensures { turned result ≡ worked work }
+{
+    match work {
+        Ok(Work::Did) => Ok(Work2::Did),
+        Ok(Work::Idle) => Ok(Work2::Idle),
+        Err(memory) => Err(memory),
+    }
+}

@@ -1,0 +1,152 @@
+//! The machine as a chronicle, and the lock that it stands behind.
+
+ghost use Rattle.std.specs.Prelude.{◌≡◌, ◌≤◌, ◌∷◌, ℕ, List, IfOk, IfErr};
+ghost use mathlib.Core.List.{IsPrefix};
+ghost use Rattle.xfs_base.specs.Causes.{next_count};
+ghost use Rattle.xfs_base.specs.declared.money.NoteKind.{NoteKind};
+ghost use Rattle.xfs_base.specs.declared.moment.TheConstants.{LAST_MOMENT};
+ghost use Rattle.xfs_board.specs.Chronicles.{chronicle};
+ghost use Rattle.xfs_board.specs.declared.shared.Entry.{Entry};
+ghost use Rattle.xfs_board.specs.declared.shared.Entry.TheVariants.{Bench};
+ghost use Rattle.xfs_machine.specs.Answers.{joined_as, posted, touched_as, worked};
+ghost use Rattle.xfs_machine.specs.Laws.{IsLawful};
+ghost use Rattle.xfs_model.specs.Events as event;
+ghost use Rattle.xfs_model.specs.Step.{Step};
+ghost use Rattle.xfs_model.specs.Told.{AllTell};
+
+use std::alloc::Global;
+use std::sync::Wait;
+use xfs_base::{Memory, Moment, Service, UnitTable};
+use xfs_disk::Disk;
+use xfs_journal::Rec;
+use xfs_machine::{Frames, JoinFault, Machine, Pass, Tally, Touched, Work};
+use xfs_mech::{Mechanism, Touch};
+use xfs_turn::{Chronicle, Seat, Turn};
+
+/// An entry of the machine's chronicle. No value of it is made.
+pub enum Entry {
+    /// The first: the key of the device's tokens, and the kinds of notes of its units.
+    Bench { key: [u8; 32], units: UnitTable },
+    /// A record of the journal.
+    Written(Rec),
+}
+
+/// A machine whose chronicle grows with its journal.
+#[derive(Drop)]
+pub struct SharedMachine<M: Mechanism, D: Disk> {
+    pub machine: Machine<M, D>,
+}
+
+impl<M: Mechanism, D: Disk> Chronicle for SharedMachine<M, D> {
+    ghost use Rattle.std.specs.Prelude.{◌≡◌, length};
+    ghost use Rattle.xfs_board.specs.Chronicles.{chronicle};
+
+    type Entry = Entry;
+
+    ghost list = { λ shared. chronicle shared.machine.state };
+
+    fn count(&self) -> u64
+        ensures { result ≡ length (chronicle self.now.machine.state) }
+    {
+        1 + self.machine.records().len() as u64
+    }
+}
+
+// Each call is the machine's, and its chronicle is a front of the one behind it.
+impl<M: Mechanism, D: Disk> SharedMachine<M, D> {
+    pub(crate) fn join(&mut self, service: Service) -> Result<Pass, JoinFault>
+        ensures step { Step self.old.machine.state (event.join service) (joined_as result) self.new.machine.state }
+        ensures laws { IsLawful self.old.machine.state (event.join service) (joined_as result) self.new.machine.state }
+        ensures grown { IsPrefix (chronicle self.old.machine.state) (chronicle self.new.machine.state) }
+    {
+        self.machine.join(service)
+    }
+
+    pub(crate) fn post(
+        &mut self,
+        pass: &Pass,
+        text: &[u8],
+        now: Moment,
+        tally: &mut Tally,
+    ) -> Result<(), Memory>
+        requires { now.0 ≤ LAST_MOMENT }
+        ensures step { Step self.old.machine.state (event.post pass.now text.now now) (posted result) self.new.machine.state }
+        ensures laws { IsLawful self.old.machine.state (event.post pass.now text.now now) (posted result) self.new.machine.state }
+        ensures grown { IsPrefix (chronicle self.old.machine.state) (chronicle self.new.machine.state) }
+        ensures tally { tally.new ≡ record tally.old { posts = next_count tally.old.posts } }
+    {
+        self.machine.post(pass, text, now, tally)
+    }
+
+    pub(crate) fn touch(&mut self, touch: Touch, tally: &mut Tally) -> Result<Touched, Memory>
+        ensures step { Step self.old.machine.state (event.touch touch) (touched_as result) self.new.machine.state }
+        ensures laws { IsLawful self.old.machine.state (event.touch touch) (touched_as result) self.new.machine.state }
+        ensures grown { IsPrefix (chronicle self.old.machine.state) (chronicle self.new.machine.state) }
+        ensures tally { tally.new ≡ record tally.old { touches = next_count tally.old.touches } }
+    {
+        self.machine.touch(touch, tally)
+    }
+
+    pub(crate) fn work(
+        &mut self,
+        service: Service,
+        now: Moment,
+        tally: &mut Tally,
+    ) -> Result<Work, Memory>
+        requires { now.0 ≤ LAST_MOMENT }
+        ensures step { Step self.old.machine.state (event.work service now) (worked result) self.new.machine.state }
+        ensures laws { IsLawful self.old.machine.state (event.work service now) (worked result) self.new.machine.state }
+        ensures grown { IsPrefix (chronicle self.old.machine.state) (chronicle self.new.machine.state) }
+        ensures tally { tally.new ≡ record tally.old { works = next_count tally.old.works } }
+    {
+        self.machine.work(service, now, tally)
+    }
+
+    pub(crate) fn outbox(&mut self, pass: &Pass, tally: &mut Tally) -> Frames
+        ensures step { Step self.old.machine.state (event.outbox pass.now) (event.handed result) self.new.machine.state }
+        ensures laws { IsLawful self.old.machine.state (event.outbox pass.now) (event.handed result) self.new.machine.state }
+        ensures told { AllTell self.new.machine.state result }
+        ensures grown { IsPrefix (chronicle self.old.machine.state) (chronicle self.new.machine.state) }
+        ensures tally { tally.new ≡ record tally.old { outboxes = next_count tally.old.outboxes } }
+    {
+        self.machine.outbox(pass, tally)
+    }
+
+    pub(crate) fn leave(&mut self, pass: Pass)
+        ensures step { Step self.old.machine.state (event.leave pass) event.done self.new.machine.state }
+        ensures laws { IsLawful self.old.machine.state (event.leave pass) event.done self.new.machine.state }
+        ensures grown { IsPrefix (chronicle self.old.machine.state) (chronicle self.new.machine.state) }
+    {
+        self.machine.leave(pass)
+    }
+}
+
+/// The lock over a machine, with its first seat, which has seen the whole chronicle. Where memory
+/// ran out the machine comes back.
+pub fn open<M: Mechanism, D: Disk>(
+    alloc: Global,
+    machine: Machine<M, D>,
+) -> Result<(Turn<SharedMachine<M, D>>, Seat<SharedMachine<M, D>>), (Machine<M, D>, Memory)>
+    ensures seat { IfOk result (λ t. t.1 ≡ record { lock = t.0; seen = chronicle machine.state }) }
+    ensures memory { IfErr result (λ e. e.0 ≡ machine) }
+{
+    match Turn::new(alloc, SharedMachine { machine }) {
+        Ok(opened) => Ok(opened),
+        Err((shared, memory)) => Err((shared.machine, memory)),
+    }
+}
+
+/// Takes the last turn, which may wait, and hands out the machine: what the seat has seen begins its
+/// chronicle, so its key and units are those of the first entry.
+pub fn close<M: Mechanism, D: Disk, R: Wait>(
+    rt: &R,
+    turn: Turn<SharedMachine<M, D>>,
+    seat: Seat<SharedMachine<M, D>>,
+) -> Machine<M, D>
+    requires lock { seat.lock ≡ turn }
+    ensures seen { IsPrefix seat.seen (chronicle result.state) }
+    ensures bench { (key : List ℕ) (units : List NoteKind) (rest : List Entry) → seat.seen ≡ Bench key units ∷ rest
+        → (result.state.seen.guard.key ≡ key) × (result.state.seen.guard.units ≡ units) }
+{
+    turn.close(rt, seat).machine
+}
