@@ -1,0 +1,6 @@
+use mathlib.Core.List.{IsPrefix}
+use Rattle.xfs_serving.proofs.staff.join_ended.Given as goal
+
+-- what was seen is not taken back
+abbrev pub invariant-loop : goal.invariant-loop
+invariant-loop g l = IsPrefix (g.H.Backend.seen l.initial.backend) (g.H.Backend.seen l.backend)

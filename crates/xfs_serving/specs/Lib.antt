@@ -1,0 +1,3 @@
+pub mod Sessions
+pub mod Takings
+pub mod Workers
