@@ -43,10 +43,8 @@ fn issued_and_fetched<N: LockName, R: Wait>(
     let mut two = one.split()?;
     let pass = joined(&mut one, Service::Cash).ok_or("a connection")?;
     one.post(&pass, GET_NONCE.as_bytes(), Moment(0))?;
-    let mut steps = 0;
-    while steps < 100 && one.work(Service::Cash, Moment(0))? == Work::Did {
-        steps += 1;
-    }
+    let issues = one.work(Service::Cash, Moment(0))?;
+    let answers = one.work(Service::Cash, Moment(0))?;
     let before = two.split()?.into_seat().seen();
     let frames = two.outbox(&pass).into_list();
     let after = two.split()?.into_seat().seen();
@@ -56,7 +54,7 @@ fn issued_and_fetched<N: LockName, R: Wait>(
         seat: one.into_seat(),
         before,
         after,
-        handed: are(&frames, NONCE_FRAMES),
+        handed: issues == Work::Did && answers == Work::Did && are(&frames, NONCE_FRAMES),
     })
 }
 

@@ -8,8 +8,6 @@ use std::marker::Brand;
 use std::sync::Wait;
 use std::sync::atomic::{AtomicU64, Ordering};
 use std::test::Fail;
-use std::thread;
-use std::thread::Threads;
 use xfs_base::{Bytes, Clock, FixedClock, Moment, Service};
 use xfs_board::{Caller, ClientBoard, LockName, close};
 use xfs_server::{MemLink, OpenGate, Over, serve_client};
@@ -147,57 +145,6 @@ fn served<N: LockName, R: Wait, C: Clock>(
     Some((over, board.leave().into_seat()))
 }
 
-/// A session that has ended.
-#[derive(Drop)]
-struct Ended {
-    link: MemLink,
-    over: Over,
-    seat: Seat<Shared>,
-}
-
-// A session over a link of its own.
-fn session<N: LockName, R: Wait>(
-    rt: &R,
-    turn: &Turn<Shared>,
-    seat: Seat<Shared>,
-    mut link: MemLink,
-) -> Option<Ended>
-    requires name { turn.now ≡ N.lock }
-    requires lock { seat.lock ≡ N.lock }
-    ensures lock { IfSome result (λ ended. ended.seat.lock ≡ N.lock) }
-{
-    let clock = FixedClock(0);
-    let (over, seat) = served::<N, R, _>(rt, turn, seat, Service::Cash, &mut link, &clock)?;
-    Some(Ended { link, over, seat })
-}
-
-// Two sessions, each in a thread of its own.
-fn side_by_side<N: LockName + Send + Sync, R: Threads + Wait + Sync>(
-    rt: &R,
-    turn: &Turn<Shared>,
-    mut seat: Seat<Shared>,
-    one: MemLink,
-    two: MemLink,
-) -> Option<(Ended, Ended)>
-    requires name { turn.now ≡ N.lock }
-    requires lock { seat.lock ≡ N.lock }
-    ensures locks { IfSome result (λ ended. (ended.0.seat.lock ≡ N.lock) × (ended.1.seat.lock ≡ N.lock)) }
-{
-    let other = turn.split(&mut seat).ok()?;
-    let (one, two) = thread::join(
-        rt,
-        || -> Option<Ended>
-            requires { (turn.now ≡ N.lock) × (seat.lock ≡ N.lock) }
-            ensures { IfSome result (λ ended. ended.seat.lock ≡ N.lock) }
-        { session::<N, R>(rt, turn, seat, one) },
-        || -> Option<Ended>
-            requires { (turn.now ≡ N.lock) × (other.lock ≡ N.lock) }
-            ensures { IfSome result (λ ended. ended.seat.lock ≡ N.lock) }
-        { session::<N, R>(rt, turn, other, two) },
-    );
-    Some((one?, two?))
-}
-
 #[test]
 fn a_session_sends_what_its_board_hands_over(rt: HostRuntime) -> Result<(), Fail> {
     let alloc = rt.alloc();
@@ -221,26 +168,5 @@ fn a_session_sends_what_its_board_hands_over(rt: HostRuntime) -> Result<(), Fail
         let machine = close(&rt, turn, seat);
         assert_eq!(rt; machine.open_count(), 0);
     }
-    Ok(())
-}
-
-// Whether a session over the texts of the first case came to its end.
-fn is_served(ended: &Ended) -> bool {
-    ended.over == Over::Closed && ended.link.sent().len() == 4
-}
-
-#[test]
-fn two_sessions_side_by_side_are_issued_a_nonce_each(rt: HostRuntime) -> Result<(), Fail> {
-    let alloc = rt.alloc();
-    let (turn, seat) = opened(alloc)?;
-    let one = link_of(alloc, CASES[0].texts)?;
-    let two = link_of(alloc, CASES[0].texts)?;
-    let (one, two) = side_by_side::<Brand, _>(&rt, &turn, seat, one, two).ok_or("two sessions")?;
-    assert!(rt; is_served(&one) && is_served(&two));
-    let mut seat = one.seat;
-    turn.join(&mut seat, two.seat);
-    // The bench, the Boot and two Issues.
-    assert_eq!(rt; seat.seen(), 4);
-    assert_eq!(rt; close(&rt, turn, seat).records().len(), 3);
     Ok(())
 }

@@ -1,4 +1,4 @@
-use Rattle.std.proofs.Common.{◌≡◌, [], append-nil, ap, sym, ◌∙◌}
+use Rattle.std.proofs.Common.{[], append-nil, ap, sym, ◌∙◌}
 use Rattle.xfs_board.specs.Chronicles.{chronicle}
 use Rattle.xfs_board.proofs.caller.Caller.wants.Goals as goal
 
