@@ -1,5 +1,5 @@
-ghost use Rattle.std.specs.Prelude.{◌≡◌, OnOk, IfErr};
-ghost use Rattle.xfs_server.specs.Workers.{Rounds, Between, Halts, Sensed, Unsensed};
+ghost use Rattle.std.specs.Prelude.{OnOk, OnErr, IfErr};
+ghost use Rattle.xfs_serving.specs.Workers.{CannotSense, HaltsRound, MakesRound, Senses, view};
 
 use xfs_base::Memory;
 use xfs_mech::{News, Watch};
@@ -7,8 +7,8 @@ use xfs_server::{Over2, Tended};
 
 /// One round of a worker, as `tend` makes it, without its pause.
 pub(crate) fn round<B: Tended, W: Watch>(board: &mut B, watch: &mut W) -> Result<(), Over2>
-    ensures ok { OnOk result (Rounds 1 Between (W.coming watch.old) (W.coming watch.new) (W.faults watch.old) (W.faults watch.new) (B.log board.old) (B.log board.new)) }
-    ensures err { IfErr result (λ over. Halts 0 over (W.coming watch.old) (W.coming watch.new) (W.faults watch.old) (W.faults watch.new) (B.log board.old) (B.log board.new)) }
+    ensures ok { OnOk result (MakesRound (view B.log W.coming W.faults board.old watch.old) (view B.log W.coming W.faults board.new watch.new)) }
+    ensures err { IfErr result (HaltsRound (view B.log W.coming W.faults board.old watch.old) (view B.log W.coming W.faults board.new watch.new)) }
 {
     if board.closing() {
         return Err(Over2::Done);
@@ -25,8 +25,8 @@ pub(crate) fn round<B: Tended, W: Watch>(board: &mut B, watch: &mut W) -> Result
 
 // Hands on one news of the watch, where news is wanted.
 fn sense<B: Tended, W: Watch>(board: &mut B, watch: &mut W) -> Result<(), Memory>
-    ensures ok { OnOk result (Sensed (W.coming watch.old) (W.coming watch.new) (W.faults watch.old) (W.faults watch.new) (B.log board.old) (B.log board.new)) }
-    ensures err { IfErr result (λ _. Unsensed (W.coming watch.old) (W.coming watch.new) (W.faults watch.old) (W.faults watch.new) (B.log board.old) (B.log board.new)) }
+    ensures ok { OnOk result (Senses (view B.log W.coming W.faults board.old watch.old) (view B.log W.coming W.faults board.new watch.new)) }
+    ensures err { OnErr result (CannotSense (view B.log W.coming W.faults board.old watch.old) (view B.log W.coming W.faults board.new watch.new)) }
 {
     if !board.wants() {
         return Ok(());
