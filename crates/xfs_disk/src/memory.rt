@@ -1,6 +1,6 @@
 //! A disk in memory. It keeps what each call since the last sync changed, so a crash may leave all that the contract allows.
 //! What changed before is kept for proofs alone.
-ghost use Rattle.std.specs.Prelude.{◌≡◌, ◌+◌, ◌-◌, ◌<◌, ◌≤◌, min, ◌++◌, [], ◌∷◌, Some, length, take, drop, replicate, reverse, IsTrue, OnOk, OnErr};
+ghost use Rattle.std.specs.Prelude.{◌≡◌, ◌+◌, ◌-◌, ◌<◌, ◌≤◌, min, ◌++◌, [], ◌∷◌, Some, length, take, drop, replicate, reverse, IsTrue, IfOk, OnOk, OnErr};
 ghost use Rattle.xfs_base.specs.Causes.{Rose};
 ghost use Rattle.xfs_disk.specs.declared.step.Step.TheVariants.{Write, Resize, Sync};
 ghost use Rattle.xfs_disk.specs.Disk.{overlaid, resized};
@@ -21,6 +21,8 @@ pub struct MemDisk {
     bytes: Vec<u8>,
     // Since the last sync.
     steps: Vec<Step>,
+    // Memory for the bytes that the next write covers.
+    spare: Vec<u8>,
     // The steps that each sync settled. They have no bytes, since only proofs read them.
     settled: Vec<Snapshot<Vec<Step>>>,
     reads: u64,
@@ -45,6 +47,7 @@ impl MemDisk {
             alloc,
             bytes,
             steps: Vec::new(alloc),
+            spare: Vec::new(alloc),
             settled: Vec::new(alloc),
             reads: 0,
             widest: 0,
@@ -152,6 +155,7 @@ impl Disk for MemDisk {
             self.alloc,
             &mut self.bytes,
             &mut self.steps,
+            &mut self.spare,
             at as usize,
             bytes,
         )
@@ -185,7 +189,7 @@ impl Disk for MemDisk {
         ensures unread { IsUnread self.old self.new }
         ensures refused { OnErr result (IsUndone self.old self.new) }
     {
-        if settle(&mut self.steps, &mut self.settled).is_err() {
+        if settle(&mut self.steps, &mut self.spare, &mut self.settled).is_err() {
             return Err(fault(&mut self.faults));
         }
         Ok(())
@@ -201,14 +205,21 @@ fn fault(faults: &mut u64) -> Failed
     Failed
 }
 
-// Notes a sync, and lets go of the steps that it settles.
-fn settle(steps: &mut Vec<Step>, settled: &mut Vec<Snapshot<Vec<Step>>>) -> Result<(), AllocError>
+// Notes a sync, and lets go of the steps that it settles, but for the memory of a write.
+fn settle(
+    steps: &mut Vec<Step>,
+    spare: &mut Vec<u8>,
+    settled: &mut Vec<Snapshot<Vec<Step>>>,
+) -> Result<(), AllocError>
     ensures none { OnOk result (steps.new.items ≡ []) }
     ensures ok { OnOk result (history settled.new.items steps.new.items ≡ history settled.old.items steps.old.items ++ Sync ∷ []) }
     ensures err { OnErr result ((steps.new.items ≡ steps.old.items) × (settled.new.items ≡ settled.old.items)) }
 {
     settled.reserve(1)?;
     settled.push_reserved(Snapshot::of(steps));
+    if let Some(Step::Write { was, .. }) = steps.pop() {
+        *spare = was;
+    }
     steps.clear();
     Ok(())
 }
@@ -218,6 +229,7 @@ fn overwrite(
     alloc: Global,
     all: &mut Vec<u8>,
     steps: &mut Vec<Step>,
+    spare: &mut Vec<u8>,
     at: usize,
     bytes: &[u8],
 ) -> Result<(), AllocError>
@@ -228,7 +240,7 @@ fn overwrite(
     ensures err { OnErr result ((all.new.items ≡ all.old.items) × (steps.new.items ≡ steps.old.items)) }
 {
     let over = bytes.len().min(all.len() - at);
-    let was = all[at..at + over].to_vec(alloc)?;
+    let was = copy_into(alloc, spare, &all[at..at + over])?;
     steps.reserve(1)?;
     all.extend_from_slice(&bytes[over..])?;
     all[at..at + over].copy_from_slice(&bytes[..over]);
@@ -238,6 +250,16 @@ fn overwrite(
         was,
     });
     Ok(())
+}
+
+// A copy in memory that is to spare.
+fn copy_into(alloc: Global, spare: &mut Vec<u8>, bytes: &[u8]) -> Result<Vec<u8>, AllocError>
+    ensures { IfOk result (λ copy. copy.items ≡ bytes.now) }
+{
+    let mut copy = mem::replace(spare, Vec::new(alloc));
+    copy.clear();
+    copy.extend_from_slice(bytes)?;
+    Ok(copy)
 }
 
 // Sets the length and notes the step, or leaves both as they are.
