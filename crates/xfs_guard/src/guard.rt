@@ -228,10 +228,13 @@ impl<M: Mechanism, D: Disk> Guard<M, D> {
         Ok(Nonce::of(number, self.words.at(number)))
     }
 
-    /// Whether an order is open.
+    /// Whether an order is open. Its clause `upheld` tells what stands between calls.
     pub fn ordering(&self) -> bool
-        ensures { IsTrue result ↔ (self.now.state.open_order ≢ No) }
+        ensures open { IsTrue result ↔ (self.now.state.open_order ≢ No) }
+        ensures upheld { IsUpheld D.Disk self.now }
     {
+        // Its clause tells what the images stand for.
+        let _told = self.ledger.shut();
         !matches!(self.open_order, Open::No)
     }
 

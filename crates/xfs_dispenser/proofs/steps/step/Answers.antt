@@ -13,6 +13,6 @@ returns-then-is_some-clause-keeps g c =
 pub returns-in-Load-clause-works : goal.returns-in-Load-clause-works
 returns-in-Load-clause-works g c =
     let parts = c.args.plan.now.parts.items in
-    let none = none-open c.args.guard.now.state.open_order (λ some. let t = c.ordering.ensures.1 some in let e = rw c.if-ordering.false at t in cc) in
+    let none = none-open c.args.guard.now.state.open_order (λ some. let t = c.ordering.ensures.open.1 some in let e = rw c.if-ordering.false at t in cc) in
     let is = first-is parts _ (Load c.in-Load.unit c.in-Load.count) (c.requires.some_left none) (rw c.as_slice.ensures.value at c.in-Load.is) in
     IfOk-weaker c.load.result _ _ (λ p f. works-part _ c.args.plan.now _ _ _ (Load c.in-Load.unit c.in-Load.count) (drop 1 parts) none is (f (drop 1 parts) is)) c.load.ensures.loads
