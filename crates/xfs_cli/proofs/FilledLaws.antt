@@ -14,7 +14,7 @@ filled_at token (b ∷ rest) zero within is none = rw is
 filled_at token (b ∷ rest) (suc place) within is none =
     rw (ne_eqb b 64 (none 0 (omega arith))) (ap (λ l. b ∷ l) (filled_at token rest place (omega arith) is (λ k below. none (suc k) (omega arith))))
 
-filled_rest : (token message : List ℕ) → IsFirstByte (is_byte 64) message None → filled token message ≡ message
+pub filled_rest : (token message : List ℕ) → IsFirstByte (is_byte 64) message None → filled token message ≡ message
 filled_rest token message none = filled_none token message (λ k below is. none k (omega arith) below (eq-eqb _ _ is))
 
 filled_run : (token message : List ℕ) (place : ℕ) → IsFirstByte (is_byte 64) message (Some place)

@@ -1,21 +1,24 @@
 //! The line `rest`.
 
-ghost use Rattle.std.specs.Prelude.{IfOk, OnErr};
+ghost use Rattle.std.specs.Prelude.{◌≡◌, ◌++◌, ◌∷◌, [], codes, decimal, IfOk, OnErr};
 ghost use Rattle.xfs_guard.specs.Keeps.{Proceeds};
 ghost use Rattle.xfs_machine.specs.MachineView.{guard_of};
-ghost use Rattle.xfs_script.specs.Answered.{Tells};
+ghost use Rattle.xfs_script.specs.Answered.{Tells, lines_text};
 ghost use Rattle.xfs_script.specs.declared.replay_line.ReplayLine.TheVariants as verbs;
 ghost use Rattle.xfs_cli.specs.ReplayEvents.{AnswersVerb};
 ghost use Rattle.xfs_cli.specs.ReplayCommand.{IsPartDone};
 ghost use Rattle.xfs_cli.specs.ReplayStates.{played};
 
 use crate::player::Player;
-use crate::text::line;
 use itoa::Buffer;
+use std::alloc::Global;
 use xfs_base::Memory;
 use xfs_disk::Disk;
 use xfs_load::rest;
 use xfs_mech::Mechanism;
+
+// So many bytes the frames of a few completions have.
+const FRAMES: usize = 512;
 
 impl<M: Mechanism, D: Disk> Player<M, D> {
     pub fn rest(&mut self) -> Result<Vec<u8>, Memory>
@@ -24,7 +27,17 @@ impl<M: Mechanism, D: Disk> Player<M, D> {
         ensures proceeds { Proceeds D.Disk (guard_of self.old.machine) (guard_of self.new.machine) }
     {
         let count = rest(&mut self.machine, self.now, &mut self.tally)?;
-        let mut digits = Buffer::new();
-        line(self.alloc, b"rested ", digits.format(count).as_bytes())
+        rested(self.alloc, count)
     }
+}
+
+// The line with the count, in memory for the frames that mostly come behind it.
+fn rested(alloc: Global, count: u32) -> Result<Vec<u8>, Memory>
+    ensures { IfOk result (λ text. text.items ≡ lines_text ((codes "rested " ++ decimal count) ∷ [])) }
+{
+    let mut text = Vec::with_capacity(alloc, FRAMES)?;
+    text.extend_from_slice(b"rested ")?;
+    text.extend_from_slice(Buffer::new().format(count).as_bytes())?;
+    text.push(b'\n')?;
+    Ok(text)
 }

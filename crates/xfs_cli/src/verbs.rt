@@ -102,9 +102,9 @@ impl<M: Mechanism, D: Disk> Player<M, D> {
         let Some(pass) = self.clients.pass(number) else {
             return no_client(self.alloc);
         };
-        let message = filled(self.alloc, message, token_bytes(&self.last))?;
-        self.machine
-            .post(pass, &message, self.now, &mut self.tally)?;
+        let mut kept = Vec::new(self.alloc);
+        let message = said(self.alloc, message, token_bytes(&self.last), &mut kept)?;
+        self.machine.post(pass, message, self.now, &mut self.tally)?;
         Ok(Vec::new(self.alloc))
     }
 
@@ -191,6 +191,24 @@ fn token_bytes(last: &Option<Bytes>) -> &[u8]
     match last {
         Some(token) => token.list(),
         None => b"",
+    }
+}
+
+// The message with the token in place of each `@`. Only where it has one it is copied, into memory that is kept.
+fn said<'a>(
+    alloc: Global,
+    message: &'a [u8],
+    token: &[u8],
+    kept: &'a mut Vec<u8>,
+) -> Result<&'a [u8], Memory>
+    ensures { IfOk result (λ text. text.now ≡ filled token.now message.now) }
+{
+    match memchr(b'@', message) {
+        None => Ok(message),
+        Some(_) => {
+            *kept = filled(alloc, message, token)?;
+            Ok(kept)
+        }
     }
 }
 

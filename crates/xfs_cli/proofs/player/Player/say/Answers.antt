@@ -28,7 +28,7 @@ returns-clause-answer g c =
     let s = played c.args.self.now in
     let verb = Say c.args.number c.args.message.now in
     let some = pass-some _ _ _ _ c.pass.ensures c.in-Some.is in
-    let step = rw (c.in_ok-post.was, c.deref.ensures.value, c.in_ok-message.ensures, c.token_bytes.ensures) at c.post.ensures.step in
+    let step = rw (c.in_ok-post.was, c.in_ok-message.ensures, c.token_bytes.ensures) at c.post.ensures.step in
     tells-event s _ verb (event_of s verb) _ _ _ _ _ (rw some refl) step refl refl c.new.ensures.items
 
 pub returns-clause-proceeds : goal.returns-clause-proceeds
