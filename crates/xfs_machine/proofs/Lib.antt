@@ -19,5 +19,6 @@ pub mod Unsent
 pub mod AnswerLaws
 pub mod HeardLaws
 pub mod PlanLaws
+pub mod Sent
 pub mod TouchLaws
 pub mod WorkLaws
