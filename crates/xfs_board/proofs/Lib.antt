@@ -1,1 +1,2 @@
-mod Chronicles
+pub mod Chronicles
+pub mod Sent

@@ -1,0 +1,3 @@
+pub mod Chronicles
+pub mod Sent
+pub mod Unserved
