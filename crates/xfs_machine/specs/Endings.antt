@@ -53,6 +53,12 @@ pub record IsFinishedThrough {D : Type 0} (g : Ghosts D) (old : GuardView D) (di
   pub through : ClosesThrough g old.state.open_order old last
   pub disk_is : disk ≡ last.disk
 
+-- a crash inside a refused restart finds the journal's list or that list with its Boot, and the last disk is this one
+pub record IsRefusedThrough {D : Type 0} (g : Ghosts D) (old : GuardView D) (disk : D) : Type 0 where
+  pub last : GuardView D
+  pub keeps : Keeps g NoEntry old last
+  pub disk_is : disk ≡ last.disk
+
 -- A refused restart: why, and mechanism and disk come back as it left them. But for want of memory it is a step of a machine that is gone then.
 pub record IsRefused {M D : Type 0} (m : Mechanisms M) (g : Ghosts D) (old : State) (why : BootFault) (mech : M) (disk : D) : Type 0 where
   pub last : Seen

@@ -2,11 +2,11 @@
 
 ghost use Rattle.std.specs.Prelude.{◌≡◌, ◌≢◌, false, List, None, IfOk, IfErr, OnOk, OnErr, Err, length, is_ok, is_some};
 ghost use Rattle.xfs_dispenser.specs.Seen.{seen};
-ghost use Rattle.xfs_guard.specs.Keeps.{Keeps, NoEntry, Proceeds};
+ghost use Rattle.xfs_guard.specs.Keeps.{Keeps, NoEntry};
 ghost use Rattle.xfs_guard.specs.Booting.{LeavesListOf, LeavesRecorded};
 ghost use Rattle.xfs_base.specs.Causes.{Rose};
 ghost use Rattle.xfs_guard.specs.declared.fail.BootFault.TheVariants.{Disk as BootDisk, Memory as BootMemory};
-ghost use Rattle.xfs_machine.specs.Endings.{Finishes, IsFinishedThrough, IsHandedBack, IsRefused, RefusesAs};
+ghost use Rattle.xfs_machine.specs.Endings.{Finishes, IsFinishedThrough, IsHandedBack, IsRefused, IsRefusedThrough, RefusesAs};
 ghost use Rattle.xfs_machine.specs.Laws.{IsLawful};
 ghost use Rattle.xfs_machine.specs.MachineView.{guard_of};
 ghost use Rattle.xfs_model.specs.Events.{restart, restarted, unrestarted, end_, ended, memory};
@@ -58,7 +58,8 @@ impl<M: Mechanism, D: Disk> Machine<M, D> {
         ensures step { IfOk result (λ m. Step self.state restart restarted m.state) }
         ensures laws { IfOk result (λ m. IsLawful self.state restart restarted m.state) }
         ensures refused { IfErr result (λ f. IsRefused M.Mechanism D.Disk self.state f.why f.mech f.disk) }
-        ensures proceeds { IfOk result (λ m. Proceeds D.Disk (guard_of self) (guard_of m)) }
+        ensures keeps { IfOk result (λ m. Keeps D.Disk NoEntry (guard_of self) (guard_of m)) }
+        ensures through { IfErr result (λ f. IsRefusedThrough D.Disk (guard_of self) f.disk) }
         ensures left { IfErr result (λ f. LeavesRecorded D.Disk f.disk self.state.seen.guard.key self.state.seen.guard.units (M.motions f.mech)) }
     {
         match self.reboot() {
