@@ -3,9 +3,11 @@
 
 mod command;
 mod reading;
+mod spelling;
 mod table;
 #[cfg(test)]
 mod tests;
 
 pub use command::{Command, WordsFault};
 pub use reading::read;
+pub use spelling::spelled;

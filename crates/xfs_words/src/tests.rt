@@ -1,14 +1,22 @@
-use crate::{Command, WordsFault, read};
+use crate::{Command, WordsFault, read, spelled};
 use std::alloc::{AllocError, Global};
 use std::test::Fail;
 use xfs_base::Currency;
 
-fn read_all(alloc: Global, words: &[&str]) -> Result<Result<Command, WordsFault>, AllocError> {
+fn owned(alloc: Global, words: &[&str]) -> Result<Vec<String>, AllocError> {
     let mut owned = Vec::new(alloc);
     for word in words {
         owned.push(String::from_str(alloc, word)?)?;
     }
-    Ok(read(alloc, &owned))
+    Ok(owned)
+}
+
+fn read_all(alloc: Global, words: &[&str]) -> Result<Result<Command, WordsFault>, AllocError> {
+    Ok(read(alloc, &owned(alloc, words)?))
+}
+
+fn spell_all(alloc: Global, words: &[&str]) -> Result<Option<Command>, AllocError> {
+    Ok(spelled(&owned(alloc, words)?))
 }
 
 #[test]
@@ -43,6 +51,7 @@ fn words_of_the_table(rt: HostRuntime) -> Result<(), Fail> {
     ];
     for (words, command) in rows {
         assert_eq!(rt; read_all(rt.alloc(), words)?, Ok(command), "{words:?}");
+        assert_eq!(rt; spell_all(rt.alloc(), words)?, Some(command), "{words:?}");
     }
     Ok(())
 }
@@ -113,6 +122,7 @@ fn words_of_no_command(rt: HostRuntime) -> Result<(), Fail> {
             Err(WordsFault::Usage),
             "{words:?}"
         );
+        assert_eq!(rt; spell_all(rt.alloc(), words)?, None, "{words:?}");
     }
     Ok(())
 }
