@@ -13,11 +13,11 @@ use std::alloc::Global;
 use std::process::Abort;
 use std::test::Fail;
 use xfs_base::{Counts, Currency, Kind, MemSink, MemSource};
-use xfs_cli::run;
+use xfs_cli::guard;
 use xfs_disk::MemDisk;
 use xfs_guard::Core;
 use xfs_mech::{Mechanism, Motion, SimMech, places_fit};
-use xfs_simulated::{LIMITS, empty};
+use xfs_simulated::{LIMITS, empty, quiet_bench};
 use xfs_testbench::{GENUINE, failing_core, lines_of, listed, shown, sim_on, units, words_of};
 
 const NONE: Counts = Counts([0; 8]);
@@ -56,7 +56,8 @@ fn run_cut(
     let mut source = MemSource::new(listed(alloc, script)?, Vec::new(alloc));
     let mut sink = MemSink::new(alloc, Vec::new(alloc));
     let words = words_of(alloc, &["guard"])?;
-    let ended = run(alloc, words.as_slice(), &mut source, &mut sink, core);
+    let bench = quiet_bench(alloc, core);
+    let ended = guard(alloc, words.as_slice(), &mut source, &mut sink, bench);
     let places = ended.mech.survey();
     assert!(rt; places_fit(&units, &places));
     let motions = copied(alloc, ended.mech.motions())?;
@@ -82,7 +83,8 @@ fn run_again(alloc: Global, script: &[u8], core: Core<SimMech, MemDisk>) -> Resu
     let mut source = MemSource::new(listed(alloc, script)?, Vec::new(alloc));
     let mut sink = MemSink::new(alloc, Vec::new(alloc));
     let words = words_of(alloc, &["guard"])?;
-    let ended = run(alloc, words.as_slice(), &mut source, &mut sink, core);
+    let bench = quiet_bench(alloc, core);
+    let ended = guard(alloc, words.as_slice(), &mut source, &mut sink, bench);
     told(alloc, ended.status, &sink, &ended.mech)
 }
 

@@ -19,7 +19,7 @@ use Rattle.xfs_cli.specs.Restarts.{EndsRestart, HasNoRoom, IsFull, RestartCause}
 use Rattle.xfs_cli.specs.GuardStarts.{AtEntry, IsStart, opened}
 use Rattle.xfs_cli.specs.Runs.{IsEnd, IsFullAtEnd, IsStillAt}
 use Rattle.xfs_cli.specs.Streams.{Streams}
-use Rattle.xfs_cli.specs.declared.ended.Ended.{Ended as EndedOf}
+use Rattle.xfs_cli.specs.Returns.{Return}
 use Rattle.xfs_disk.specs.declared.disk.Disk.{Ghosts as Disks}
 use Rattle.xfs_mech.specs.declared.mechanism.Mechanism.{Ghosts as Mechanisms}
 use Rattle.xfs_script.specs.Commands.{Command}
@@ -31,7 +31,7 @@ use Rattle.xfs_cli.specs.GuardStates.{GuardState, IsStill, guard_state}
 use Rattle.xfs_script.specs.Lines.{behind, first_line}
 
 -- the last state is that of a guard which is over
-pub ends-at : {M D : Type 0} (m : Mechanisms M) (d : Disks D) (g : GuardView D) (last : Option (List ℕ)) (result : EndedOf M D)
+pub ends-at : {M D : Type 0} (m : Mechanisms M) (d : Disks D) (g : GuardView D) (last : Option (List ℕ)) (result : Return M D)
     → m.motions result.mech ≡ g.state.motions → m.places result.mech ≡ g.state.places → m.faults result.mech ≡ g.state.faults → result.disk ≡ g.disk
     → IfTold (d.held result.disk) (λ _. (bytes : List ℕ) → d.images result.disk bytes → HasPossible g.state.records g.state.in_doubt bytes)
     → (s : GuardState) → s ≡ guard_state d.faults g last → IsEnd m d result s
@@ -39,7 +39,7 @@ ends-at m d g last result motions places faults disk stored s is =
     rw is (record { motions = sym motions; places = sym places; mech_faults = sym faults; disk_faults = ap d.faults (sym disk); stored = stored })
 
 -- such a guard leaves the mechanism as it stood in an earlier state, where it is still so
-pub still-at : {M D : Type 0} (m : Mechanisms M) (d : Disks D) (g : GuardView D) (last : Option (List ℕ)) (result : EndedOf M D)
+pub still-at : {M D : Type 0} (m : Mechanisms M) (d : Disks D) (g : GuardView D) (last : Option (List ℕ)) (result : Return M D)
     → m.motions result.mech ≡ g.state.motions → m.places result.mech ≡ g.state.places → m.faults result.mech ≡ g.state.faults → result.disk ≡ g.disk
     → (end s : GuardState) → end ≡ guard_state d.faults g last → IsStill end.guard.motions end.guard.places end.guard.faults end.disk_faults s → IsStillAt m d result s
 still-at m d g last result motions places faults disk end s is still = rw (motions, places, faults, disk) (rw is at still)

@@ -1,5 +1,6 @@
 pub mod BegunLaws
 pub mod BootedLaws
+pub mod BootsOnceLaws
 pub mod ClientLaws
 pub mod CompleteLaws
 pub mod CompleteOrders
@@ -9,6 +10,7 @@ pub mod EndLaws
 pub mod EndingLaws
 pub mod FilledLaws
 pub mod GuardStateLaws
+pub mod KeptLaws
 pub mod LastLaws
 pub mod LoadLaws
 pub mod MailLaws
@@ -17,6 +19,7 @@ pub mod NumberLaws
 pub mod RestartLaws
 pub mod RunLaws
 pub mod RunsLaws
+pub mod ServeLaws
 pub mod StartLaws
 pub mod TokenEndLaws
 pub mod TokenTexts

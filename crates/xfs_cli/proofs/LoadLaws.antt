@@ -12,7 +12,7 @@ use Rattle.xfs_journal.specs.declared.record.Rec.{Rec}
 use Rattle.xfs_journal.specs.declared.record.Rec.TheVariants.{Boot}
 use Rattle.xfs_journal.proofs.Unique.{stands_for_one}
 use Rattle.xfs_guard.specs.Keeps.{Proceeds}
-use Rattle.xfs_guard.specs.View.{View}
+use Rattle.xfs_guard.specs.View.{GuardView, View}
 use Rattle.xfs_guard.specs.declared.fail.BootFault.{BootFault}
 use Rattle.xfs_guard.specs.declared.fail.BootFault.TheVariants.{NotJournal, Disk, Full, Memory}
 use Rattle.xfs_guard.specs.declared.machine_core.Core.{Core}
@@ -27,16 +27,16 @@ use Rattle.xfs_cli.specs.LoadEnds.{EndsLoad, Output, TellsOrNot}
 use Rattle.xfs_cli.specs.LoadRuns.{RunsLoad, on_disk, output_of, guard_state_of}
 use Rattle.xfs_cli.specs.Statuses.{IsFinished, IsStatus}
 use Rattle.xfs_cli.specs.Streams.{Streams}
-use Rattle.xfs_cli.specs.declared.ended.Ended.{Ended}
-use Rattle.xfs_cli.proofs.BootedLaws.{ends-at, ends-failed, ends-full, starts-run, told-any}
+use Rattle.xfs_cli.specs.Returns.{Return}
+use Rattle.xfs_cli.proofs.BootedLaws.{ends-at, ends-failed, starts-run, told-any}
+use Rattle.xfs_cli.proofs.BootsOnceLaws.{boots-refused, boots-served}
 use Rattle.xfs_cli.proofs.EndingLaws.{boot-least}
 use Rattle.xfs_cli.proofs.NumberLaws.{newer-run, newer-same}
-use Rattle.xfs_cli.proofs.RunLaws.{Starts, due-full, due-unread, ends-unread, fits-run, journal-run}
+use Rattle.xfs_cli.proofs.RunLaws.{Starts}
 use Rattle.xfs_cli.proofs.RunsLaws.{HasBooted, HasEnded, IsRefused}
-use Rattle.xfs_cli.proofs.UnreadLaws.{unwritten-quiet}
 
 -- a boot that nothing hinders is refused for want of memory alone
-refused-finishes : (why : BootFault) (held : Option (List ℕ)) (limits : Limits) (places : Places) (status faults now : ℕ) → status ≡ boot_status why
+pub refused-finishes : (why : BootFault) (held : Option (List ℕ)) (limits : Limits) (places : Places) (status faults now : ℕ) → status ≡ boot_status why
     → ((at : ℕ) → why ≡ NotJournal at → IfTold held (λ bytes. CeasesAt bytes at × IsNoJournal bytes)) → (why ≡ Disk → Rose faults now)
     → (why ≡ Full → (J : List Rec) × IfTold held (λ bytes. StandsFor bytes J) × BootExceeds limits places J) → ¬ (Rose faults now)
     → IfTold held (λ bytes. (J : List Rec) → StandsFor bytes J → ¬ (BootExceeds limits places J) → IsFinished status)
@@ -49,8 +49,8 @@ refused-finishes Full (Some bytes) limits places status faults now is ceases fai
     absurd (fits (rw same f.2))
 refused-finishes Memory (Some bytes) limits places status faults now is ceases failed full fine = λ J stands fits. inr is
 
--- where the boot was refused
-pub loads-refused : {M D : Type 0} (m : Mechanisms M) (d : Disks D) (core : Core M D) (rounds : ℕ) (why : BootFault) (result : Ended M D) (io : Streams)
+-- a load whose boot was refused
+pub loads-refused : {M D : Type 0} (m : Mechanisms M) (d : Disks D) (core : Core M D) (rounds : ℕ) (why : BootFault) (result : Return M D) (io : Streams)
     → IsRefused m d core why result.mech result.disk → result.status ≡ boot_status why → WritesBoot why io → io.left ≡ io.input → RunsLoad m d core rounds result io
 loads-refused m d core rounds why result io f status written unread = record {
   loads = inl (record { why = why; status_is = status; unread = unread; written = written; unmoved = f.mech_is });
@@ -58,12 +58,7 @@ loads-refused m d core rounds why result io f status written unread = record {
   not_of_input = (λ three. absurd (omega (arith, low, status, three)), λ four. absurd (omega (arith, low, status, four)), λ ten. (boot-least why).1 (omega (arith, status, ten)));
   write = λ five. absurd (omega (arith, low, status, five));
   disk_fault = λ six. ends-failed _ _ _ _ _ status written f.failed six;
-  not_journal = λ seven. ends-unread _ _ _ _ status written f.not_journal seven;
-  full = λ twelve. ends-full _ _ _ _ _ _ status written f.full twelve;
-  unread = due-unread _ _ _ status f.full;
-  unwritten = unwritten-quiet d core.disk result.disk f.unlisted;
-  unmoved = told-any (d.held core.disk) (λ bytes. IsNoJournal bytes → result.mech ≡ core.mech) (λ bytes none. f.mech_is);
-  overfull = due-full _ _ _ _ _ status f.not_journal;
+  boots_once = boots-refused m d core why result io f status written;
   newer = rw f.mech_is (newer-same _ _);
   finishes = λ sink disk. refused-finishes why _ _ _ _ _ _ status f.not_journal f.failed f.full disk;
 }
@@ -77,7 +72,7 @@ ends-status key rounds s new status o (inl p) = elim p.tells [ inl w ↦ inl w.s
 ends-status key rounds s new status o (inr r) = inr (inr r.silent.status_is)
 
 -- where it was not refused
-pub loads-served : {M D : Type 0} (m : Mechanisms M) (d : Disks D) → ((disk : D) (all : List ℕ) → d.held disk ≡ Some all → d.images disk all) → (core : Core M D) (rounds : ℕ) (result : Ended M D) (io : Streams) (start end : MachineView D)
+pub loads-served : {M D : Type 0} (m : Mechanisms M) (d : Disks D) → ((disk : D) (all : List ℕ) → d.held disk ≡ Some all → d.images disk all) → (core : Core M D) (rounds : ℕ) (result : Return M D) (io : Streams) (start end : MachineView D)
     → HasBooted m d core (guard_of start) → start.state ≡ bare start.state.seen core.life (length start.state.seen.guard.records) → Proceeds d (guard_of start) (guard_of end)
     → EndsLoad core.key rounds start.state end.state result.status (output_of io) → HasEnded m d (guard_of end) result → io.left ≡ io.input
     → Starts (d.held core.disk) (d.images core.disk) core.key core.units (m.motions core.mech) → RunsLoad m d core rounds result io
@@ -95,12 +90,7 @@ loads-served m d as_read core rounds result io start end b bare_is proceeds load
   not_of_input = (λ three. no 3 three (omega arith) (omega arith) (omega arith), λ four. no 4 four (omega arith) (omega arith) (omega arith), λ ten. no 10 ten (omega arith) (omega arith) (omega arith));
   write = λ five. cause five;
   disk_fault = λ six. absurd (no 6 six (omega arith) (omega arith) (omega arith));
-  not_journal = λ seven. absurd (no 7 seven (omega arith) (omega arith) (omega arith));
-  full = λ twelve. absurd (no 12 twelve (omega arith) (omega arith) (omega arith));
-  unread = journal-run b.records _ _ b.stands;
-  unwritten = journal-run b.records _ _ b.stands;
-  unmoved = journal-run b.records _ _ b.stands;
-  overfull = fits-run _ _ (guard_of start).state b.records _ _ (ap (λ (v : View). v.records) b.guard_is) b.stands b.fits;
+  boots_once = boots-served m d core (guard_of start) result io b (λ seven. no 7 seven (omega arith) (omega arith) (omega arith)) (λ twelve. no 12 twelve (omega arith) (omega arith) (omega arith));
   newer = newer-run (opened (at_entry m d core) (b.records ++ Boot (m.places core.mech) ∷ [])) (guard_of end).state b.records _ _ _ refl refl b.stands starts (as_read core.disk) (rw b.guard_is at proceeds.continues) e.motions;
   finishes = λ sink disk. told-any (d.held core.disk) _ (λ bytes J stands fits. done sink);
 }

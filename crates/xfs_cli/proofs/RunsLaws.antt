@@ -26,7 +26,7 @@ use Rattle.xfs_cli.specs.GuardStates.{GuardState, guard_state}
 use Rattle.xfs_cli.specs.Served.{EndsUnbooted, Serves}
 use Rattle.xfs_cli.specs.Statuses.{IsCaused, IsStatus}
 use Rattle.xfs_cli.specs.Streams.{Streams}
-use Rattle.xfs_cli.specs.declared.ended.Ended.{Ended}
+use Rattle.xfs_cli.specs.Returns.{Return}
 use Rattle.xfs_cli.proofs.BootedLaws.{EndsAtRestarts, failed-end, untold-end, left-full, ends-at, still-at, told-more, told-any, ends-failed, ends-full, none-told, full-end, full-line}
 use Rattle.xfs_cli.proofs.EndLaws.{finishes, causes-served, causes-refused}
 use Rattle.xfs_cli.proofs.EndingLaws.{boot-least}
@@ -43,7 +43,7 @@ pub record HasBooted {M D : Type 0} (m : Mechanisms M) (d : Disks D) (core : Cor
   pub fits : exceeds core.limits g.state.records ≡ false
 
 -- the mechanism and the disk of a guard that is over
-pub record HasEnded {M D : Type 0} (m : Mechanisms M) (d : Disks D) (g : GuardView D) (result : Ended M D) : Type 0 where
+pub record HasEnded {M D : Type 0} (m : Mechanisms M) (d : Disks D) (g : GuardView D) (result : Return M D) : Type 0 where
   pub motions : m.motions result.mech ≡ g.state.motions
   pub places : m.places result.mech ≡ g.state.places
   pub faults : m.faults result.mech ≡ g.state.faults
@@ -80,7 +80,7 @@ module _ {M D S A : Type 0} (m : Mechanisms M) (d : Disks D) (c : Command S Boot
   still_told a b k = told_is b ∙ ((keeps a b k).continues.disk_told ∙ sym (told_is a))
 
   -- where the boot was not refused
-  pub runs-served : (core : Core M D) (result : Ended M D) (io : Streams) (start end : A) → HasBooted m d core (guard start) → IsStartOf (state start) → IsServed c Keeps state start end result.status io → HasEnded m d (guard end) result
+  pub runs-served : (core : Core M D) (result : Return M D) (io : Streams) (start end : A) → HasBooted m d core (guard start) → IsStartOf (state start) → IsServed c Keeps state start end result.status io → HasEnded m d (guard end) result
       → Starts (d.held core.disk) (d.images core.disk) core.key core.units (m.motions core.mech) → Runs c see IsStartOf m d core result io
   runs-served core result io start end b begins s e starts = record {
     serves = told-more io.input _ _ (λ text serves. inr (record {
@@ -133,7 +133,7 @@ pub record IsRefused {M D : Type 0} (m : Mechanisms M) (d : Disks D) (core : Cor
   pub unlisted : IfTold (d.held core.disk) (λ all. ((records : List Rec) → ¬ StandsFor all records) → IsQuiet d core.disk disk)
 
 -- where it was refused
-pub runs-refused : {M D S : Type 0} (m : Mechanisms M) (d : Disks D) (c : Command S BootFault) (see : S → GuardState) (IsStartOf : S → Type 0) → c.IsLine [] → (core : Core M D) (why : BootFault) (result : Ended M D) (io : Streams)
+pub runs-refused : {M D S : Type 0} (m : Mechanisms M) (d : Disks D) (c : Command S BootFault) (see : S → GuardState) (IsStartOf : S → Type 0) → c.IsLine [] → (core : Core M D) (why : BootFault) (result : Return M D) (io : Streams)
     → IsRefused m d core why result.mech result.disk → result.status ≡ boot_status why → WritesBoot why io → io.left ≡ io.input → Runs c see IsStartOf m d core result io
 runs-refused m d c see IsStartOf empty core why result io f status written unread = record {
   serves = told-any io.input _ (λ text. inl (record { why = why; status_is = status; unread = unread; written = written; unmoved = f.mech_is }));

@@ -1,4 +1,5 @@
 -- A run of `guard`.
+use Rattle.std.specs.Prelude.{List, String}
 use Rattle.xfs_disk.specs.declared.disk.Disk.{Ghosts as Disks}
 use Rattle.xfs_mech.specs.declared.mechanism.Mechanism.{Ghosts as Mechanisms}
 use Rattle.xfs_guard.specs.declared.machine_core.Core.{Core}
@@ -7,8 +8,15 @@ use Rattle.xfs_cli.specs.GuardStarts.{IsStart, at_entry}
 use Rattle.xfs_cli.specs.Runs.{Runs}
 use Rattle.xfs_cli.specs.GuardStates.{GuardState}
 use Rattle.xfs_cli.specs.Streams.{Streams}
+use Rattle.xfs_cli.specs.Returns.{Return, back}
+use Rattle.std.specs.declared.alloc.Global.{Global}
 use Rattle.xfs_cli.specs.declared.ended.Ended.{Ended}
+use Rattle.xfs_cli.specs.Run.{IsGuard}
 
 -- its lines are answered from the state that the boot begins, which is seen whole
-abbrev pub RunsGuard : {M D : Type 0} → Mechanisms M → Disks D → Core M D → Ended M D → Streams → Type 0
+abbrev pub RunsGuard : {M D : Type 0} → Mechanisms M → Disks D → Core M D → Return M D → Streams → Type 0
 RunsGuard m d core result io = Runs guard_lines (λ (s : GuardState). s) (IsStart (at_entry m d core)) m d core result io
+
+-- so where the words are `guard`
+abbrev pub RunsGuardOf : {M D L : Type 0} → List (String Global) → Mechanisms M → Disks D → Core M D → Ended M D L → Streams → Type 0
+RunsGuardOf words m d core ended io = IsGuard words → RunsGuard m d core (back ended) io

@@ -1,6 +1,8 @@
 pub mod Begun
 pub mod BootLines
 pub mod Boots
+pub mod BootsOnce
+pub mod ClientRuns
 pub mod Complete
 pub mod Dispenses
 pub mod GuardCommand
@@ -21,8 +23,10 @@ pub mod ReplayEvents
 pub mod ReplayRuns
 pub mod ReplayStates
 pub mod Restarts
+pub mod Returns
 pub mod Run
 pub mod Runs
+pub mod ServeRuns
 pub mod Served
 pub mod Statuses
 pub mod Streams

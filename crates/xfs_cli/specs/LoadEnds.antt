@@ -3,23 +3,13 @@ use Rattle.std.specs.Prelude.{◌≡◌, ◌⊎◌, ℕ, List, [], ◌∷◌}
 use Rattle.std.specs.declared.option.Option.{Option}
 use Rattle.std.specs.Io.KnownBytes.{Appends}
 use Rattle.xfs_base.specs.Causes.{Rose, TookPrefix}
-use Rattle.xfs_base.specs.declared.stream.Sink.{Ghosts as Sinks}
 use Rattle.xfs_load.specs.Plays.{RoundsInPart}
 use Rattle.xfs_load.specs.Summaries.{IsSummary, summary_line}
 use Rattle.xfs_load.specs.declared.summary.Summary.{Summary}
 use Rattle.xfs_model.specs.State.{State}
 use Rattle.xfs_script.specs.Answered.{lines_text}
+pub use Rattle.xfs_cli.specs.Streams.{Output, output}
 use Rattle.xfs_cli.specs.declared.status.TheConstants.{NO_MEMORY, READ_TO_END, WRITE_FAULT}
-
--- the output before and after, where it is told, and how often it failed
-pub record Output : Type 0 where
-  pub faults : ℕ
-  pub faults_now : ℕ
-  pub held : Option (List ℕ)
-  pub held_now : Option (List ℕ)
-
-abbrev pub output : {K : Type 0} → Sinks K → K → K → Output
-output k sink sink' = record { faults = k.faults sink; faults_now = k.faults sink'; held = k.held sink; held_now = k.held sink' }
 
 -- the whole text was written, or the sink failed and took a prefix of it
 pub record IsWritten (text : List ℕ) (status : ℕ) (o : Output) : Type 0 where

@@ -8,16 +8,18 @@ use Rattle.xfs_mech.specs.declared.mechanism.Mechanism.{Ghosts as Mechanisms}
 use Rattle.xfs_guard.specs.declared.machine_core.Core.{Core}
 use Rattle.xfs_machine.specs.MachineView.{MachineView}
 use Rattle.xfs_model.specs.State.{State, bare}
-use Rattle.xfs_cli.specs.Boots.{BootExceeds, EndsFailed, EndsFull, EndsUnread, IsDue, IsUnwritten}
+use Rattle.xfs_cli.specs.Boots.{BootExceeds, EndsFailed}
+use Rattle.xfs_cli.specs.BootsOnce.{BootsOnce}
 use Rattle.xfs_cli.specs.GuardStarts.{AtEntry, IsStart, at_entry}
 use Rattle.xfs_cli.specs.LoadEnds.{EndsLoad, Output}
 use Rattle.xfs_cli.specs.Run.{IsLoadOf}
-use Rattle.xfs_cli.specs.Runs.{AtEntryList, FromStart, IsEnd, IsUnbooted, WhereNoJournal}
+use Rattle.xfs_cli.specs.Runs.{AtEntryList, FromStart, IsEnd, IsUnbooted}
 use Rattle.xfs_cli.specs.GuardStates.{GuardState}
 use Rattle.xfs_cli.specs.Statuses.{IsFinished}
 use Rattle.xfs_cli.specs.Streams.{Streams}
+use Rattle.xfs_cli.specs.Returns.{Return, back}
 use Rattle.xfs_cli.specs.declared.ended.Ended.{Ended}
-use Rattle.xfs_cli.specs.declared.status.TheConstants.{DISK_FAULT, INPUT_TOO_LONG, JOURNAL_FULL, NOT_A_JOURNAL, NOT_A_LINE, READ_FAULT, WRITE_FAULT}
+use Rattle.xfs_cli.specs.declared.status.TheConstants.{DISK_FAULT, INPUT_TOO_LONG, NOT_A_LINE, READ_FAULT, WRITE_FAULT}
 
 -- a machine, and how often the disk of its journal failed
 pub record MachineOnDisk : Type 0 where
@@ -40,7 +42,7 @@ abbrev pub output_of : Streams → Output
 output_of io = record { faults = io.write_faults; faults_now = io.write_faults_now; held = io.output; held_now = io.output_now }
 
 -- the rounds are played from a state on, until that of the mechanism and the disk that come back
-pub record LoadsUntil {M D : Type 0} (m : Mechanisms M) (d : Disks D) (core : Core M D) (rounds : ℕ) (result : Ended M D) (io : Streams) (start : MachineOnDisk) : Type 0 where
+pub record LoadsUntil {M D : Type 0} (m : Mechanisms M) (d : Disks D) (core : Core M D) (rounds : ℕ) (result : Return M D) (io : Streams) (start : MachineOnDisk) : Type 0 where
   pub end : MachineOnDisk
   pub ends : IsEnd m d result (guard_state_of end)
   pub loads : EndsLoad core.key rounds start.machine end.machine result.status (output_of io)
@@ -49,7 +51,7 @@ pub record LoadsUntil {M D : Type 0} (m : Mechanisms M) (d : Disks D) (core : Co
 abbrev pub IsNotOfInput : ℕ → Type 0
 IsNotOfInput status = (status ≢ READ_FAULT) × (status ≢ NOT_A_LINE) × (status ≢ INPUT_TOO_LONG)
 
-pub record RunsLoad {M D : Type 0} (m : Mechanisms M) (d : Disks D) (core : Core M D) (rounds : ℕ) (result : Ended M D) (io : Streams) : Type 0 where
+pub record RunsLoad {M D : Type 0} (m : Mechanisms M) (d : Disks D) (core : Core M D) (rounds : ℕ) (result : Return M D) (io : Streams) : Type 0 where
   -- what is played and written: the rounds from the boot on, and the line of their summary; or the boot is refused
   pub loads : IsUnbooted core result io ⊎ FromStart (Begins (at_entry m d core) core.life) (LoadsUntil m d core rounds result io)
   pub unread_input : io.left ≡ io.input
@@ -57,14 +59,7 @@ pub record RunsLoad {M D : Type 0} (m : Mechanisms M) (d : Disks D) (core : Core
   pub write : result.status ≡ WRITE_FAULT → Rose io.write_faults io.write_faults_now
   -- the statuses of a boot are those of a refused one
   pub disk_fault : result.status ≡ DISK_FAULT → EndsFailed (d.faults core.disk) (d.faults result.disk) io
-  pub not_journal : result.status ≡ NOT_A_JOURNAL → EndsUnread (d.held core.disk) io
-  pub full : result.status ≡ JOURNAL_FULL → EndsFull core.limits (m.places core.mech) (d.held core.disk) io
-  -- a disk that is no journal is due its status, and stays as it was, and so does the mechanism
-  pub unread : WhereNoJournal d core.disk (IsDue NOT_A_JOURNAL result.status)
-  pub unwritten : WhereNoJournal d core.disk (IsUnwritten (d.held core.disk) (d.held result.disk) (d.images core.disk) (d.images result.disk))
-  pub unmoved : WhereNoJournal d core.disk (result.mech ≡ core.mech)
-  -- a journal that has no room for the Boot is due its status
-  pub overfull : AtEntryList d core.disk (λ records. BootExceeds core.limits (m.places core.mech) records → IsDue JOURNAL_FULL result.status)
+  pub boots_once : BootsOnce m d core result io
   -- the mechanism's new numbers lie behind the journal's
   pub newer : AtEntryList d core.disk (λ records. IsNewer (length records) (m.motions core.mech) (m.motions result.mech))
   -- a run that nothing hinders is done
@@ -72,5 +67,5 @@ pub record RunsLoad {M D : Type 0} (m : Mechanisms M) (d : Disks D) (core : Core
       → AtEntryList d core.disk (λ records. ¬ (BootExceeds core.limits (m.places core.mech) records) → IsFinished result.status)
 
 -- so of the rounds that the words say
-abbrev pub RunsLoadOf : {M D : Type 0} → List (String Global) → Mechanisms M → Disks D → Core M D → Ended M D → Streams → Type 0
-RunsLoadOf words m d core result io = (rounds : ℕ) → IsLoadOf rounds words → RunsLoad m d core rounds result io
+abbrev pub RunsLoadOf : {M D L : Type 0} → List (String Global) → Mechanisms M → Disks D → Core M D → Ended M D L → Streams → Type 0
+RunsLoadOf words m d core ended io = (rounds : ℕ) → IsLoadOf rounds words → RunsLoad m d core rounds (back ended) io

@@ -11,7 +11,7 @@ use Rattle.xfs_journal.specs.declared.record.Rec.{Rec}
 use Rattle.xfs_guard.specs.Crashed.{IsLost}
 use Rattle.xfs_guard.specs.Lives.{BeginsWith}
 use Rattle.xfs_guard.specs.declared.machine_core.Core.{Core}
-use Rattle.xfs_cli.specs.declared.ended.Ended.{Ended}
+use Rattle.xfs_cli.specs.Returns.{Return}
 
 -- the list is a front of the records, or it is one without its last record, whose number no motion has
 abbrev pub IsFront : List Rec → Option (List Motion) → List Rec → Type 0
@@ -25,6 +25,6 @@ pub record WasOnTheWay (entry : List Rec) (held : Option (List ℕ)) (motions : 
   pub front : IfTold held (λ now. (records : List Rec) → StandsFor now records → IsFront records motions list)
 
 -- so at each moment of a run, from the list of records that the disk's bytes stood for
-abbrev pub WasOnTheWayAll : {M D : Type 0} → Mechanisms M → Disks D → Core M D → Ended M D → Type 0
+abbrev pub WasOnTheWayAll : {M D : Type 0} → Mechanisms M → Disks D → Core M D → Return M D → Type 0
 WasOnTheWayAll m d core result = IfTold (d.held core.disk) (λ bytes. (records : List Rec) → StandsFor bytes records
     → LeavesOnly d core.disk result.disk (WasOnTheWay records (d.held result.disk) (m.motions result.mech)))

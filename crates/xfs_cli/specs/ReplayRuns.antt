@@ -1,5 +1,5 @@
 -- A run of `replay`.
-use Rattle.std.specs.Prelude.{◌≡◌, ℕ, [], length}
+use Rattle.std.specs.Prelude.{◌≡◌, ℕ, List, String, [], length}
 use Rattle.xfs_disk.specs.declared.disk.Disk.{Ghosts as Disks}
 use Rattle.xfs_mech.specs.declared.mechanism.Mechanism.{Ghosts as Mechanisms}
 use Rattle.xfs_guard.specs.declared.machine_core.Core.{Core}
@@ -9,7 +9,10 @@ use Rattle.xfs_cli.specs.ReplayCommand.{replay_lines}
 use Rattle.xfs_cli.specs.ReplayStates.{ReplayState, guard_state_of}
 use Rattle.xfs_cli.specs.Runs.{Runs}
 use Rattle.xfs_cli.specs.Streams.{Streams}
+use Rattle.xfs_cli.specs.Returns.{Return, back}
+use Rattle.std.specs.declared.alloc.Global.{Global}
 use Rattle.xfs_cli.specs.declared.ended.Ended.{Ended}
+use Rattle.xfs_cli.specs.Run.{IsReplay}
 
 -- the state that the boot begins: a machine over the guard that the boot of `guard` begins too, with this life of a nonce; no client is joined, the moment is 0, and no token was minted
 pub record Begins (e : AtEntry) (life : ℕ) (start : ReplayState) : Type 0 where
@@ -19,5 +22,9 @@ pub record Begins (e : AtEntry) (life : ℕ) (start : ReplayState) : Type 0 wher
   pub now : start.played.now.0 ≡ 0
 
 -- its lines are answered from there on
-abbrev pub RunsReplay : {M D : Type 0} → Mechanisms M → Disks D → Core M D → Ended M D → Streams → Type 0
+abbrev pub RunsReplay : {M D : Type 0} → Mechanisms M → Disks D → Core M D → Return M D → Streams → Type 0
 RunsReplay m d core result io = Runs replay_lines guard_state_of (Begins (at_entry m d core) core.life) m d core result io
+
+-- so where the words are `replay`
+abbrev pub RunsReplayOf : {M D L : Type 0} → List (String Global) → Mechanisms M → Disks D → Core M D → Ended M D L → Streams → Type 0
+RunsReplayOf words m d core ended io = IsReplay words → RunsReplay m d core (back ended) io

@@ -1,8 +1,11 @@
--- The words that a run of the program takes: those of the table of commands whose commands are built.
+-- The words that a run of the program takes: those of the table of commands.
 use Rattle.std.specs.Prelude.{◌≡◌, ◌⊎◌, ℕ, List, [], ◌∷◌, String}
 use Rattle.std.specs.declared.alloc.Global.{Global}
 use Rattle.xfs_words.specs.Words.{Names, texts}
-use Rattle.xfs_words.specs.declared.command.Command.TheVariants.{Guard, Token, Replay, Load}
+use Rattle.xfs_cli.specs.declared.words.Task.{Task}
+use Rattle.xfs_cli.specs.declared.words.Task.TheVariants as Task
+use Rattle.xfs_words.specs.declared.command.Command.{Command}
+use Rattle.xfs_words.specs.declared.command.Command.TheVariants.{Guard, Token, Replay, Load, Serve, Client}
 
 -- the words are this one word
 abbrev pub IsWord : List ℕ → List (String Global) → Type 0
@@ -24,6 +27,30 @@ IsLoadOf rounds words = Names (Load rounds) (texts words)
 abbrev pub IsLoad : List (String Global) → Type 0
 IsLoad words = (rounds : ℕ) × IsLoadOf rounds words
 
--- the words name a command that is built
+-- the words are `serve` and so many connections
+abbrev pub IsServeOf : ℕ → List (String Global) → Type 0
+IsServeOf connections words = Names (Serve connections) (texts words)
+
+abbrev pub IsServe : List (String Global) → Type 0
+IsServe words = (connections : ℕ) × IsServeOf connections words
+
+-- the words are `client`, a currency and an amount
+abbrev pub IsClientOf : List ℕ → ℕ → List (String Global) → Type 0
+IsClientOf currency amount words = Names (Client currency amount) (texts words)
+
+abbrev pub IsClient : List (String Global) → Type 0
+IsClient words = (currency : List ℕ) × (amount : ℕ) × IsClientOf currency amount words
+
+-- the words name a command
 abbrev pub IsCommand : List (String Global) → Type 0
-IsCommand words = IsGuard words ⊎ (IsToken words ⊎ (IsReplay words ⊎ IsLoad words))
+IsCommand words = (command : Command) × Names command (texts words)
+
+-- a command that reads no input
+abbrev pub IsUnread : List (String Global) → Type 0
+IsUnread words = IsLoad words ⊎ (IsServe words ⊎ IsClient words)
+
+-- what the words ask of the doors
+abbrev pub IsTask : List (String Global) → Task → Type 0
+IsTask words (Task.Serve connections) = IsServeOf connections words
+IsTask words Task.Client = IsClient words
+IsTask words Task.Other = (¬ (IsServe words)) × (¬ (IsClient words))

@@ -19,7 +19,7 @@ use Rattle.xfs_cli.specs.GuardStates.{IsStill, GuardState}
 use Rattle.xfs_cli.specs.Served.{Serves}
 use Rattle.xfs_cli.specs.Statuses.{HasFullRestart, IsFinished, IsUnhindered}
 use Rattle.xfs_cli.specs.Streams.{Streams}
-use Rattle.xfs_cli.specs.declared.ended.Ended.{Ended}
+use Rattle.xfs_cli.specs.Returns.{Return}
 use Rattle.xfs_cli.specs.declared.status.TheConstants.{DISK_FAULT, JOURNAL_FULL, NOT_A_JOURNAL, NOT_A_LINE, READ_TO_END}
 
 -- the boot begins such a state, and the lines are answered from there on
@@ -29,7 +29,7 @@ pub record FromStart {S : Type 0} (IsStartOf Writes : S → Type 0) : Type 0 whe
   pub writes : Writes start
 
 -- the mechanism and the disk that come back are those of the last state
-pub record IsEnd {M D : Type 0} (m : Mechanisms M) (d : Disks D) (result : Ended M D) (last : GuardState) : Type 0 where
+pub record IsEnd {M D : Type 0} (m : Mechanisms M) (d : Disks D) (result : Return M D) (last : GuardState) : Type 0 where
   pub motions : last.guard.motions ≡ m.motions result.mech
   pub places : last.guard.places ≡ m.places result.mech
   pub mech_faults : last.guard.faults ≡ m.faults result.mech
@@ -38,13 +38,13 @@ pub record IsEnd {M D : Type 0} (m : Mechanisms M) (d : Disks D) (result : Ended
   pub stored : IfTold (d.held result.disk) (λ _. (bytes : List ℕ) → d.images result.disk bytes → HasPossible last.guard.records last.guard.in_doubt bytes)
 
 -- the lines are served from a state on, until that of the mechanism and the disk that come back
-pub record ServesUntil {M D S : Type 0} (c : Command S BootFault) (see : S → GuardState) (m : Mechanisms M) (d : Disks D) (result : Ended M D) (io : Streams) (text : List ℕ) (start : S) : Type 0 where
+pub record ServesUntil {M D S : Type 0} (c : Command S BootFault) (see : S → GuardState) (m : Mechanisms M) (d : Disks D) (result : Return M D) (io : Streams) (text : List ℕ) (start : S) : Type 0 where
   pub end : S
   pub ends : IsEnd m d result (see end)
   pub serves : Serves c start end result.status io text
 
 -- the boot was refused: nothing was read of the input, the last line is the boot's, and the mechanism is as it was
-pub record IsUnbooted {M D : Type 0} (core : Core M D) (result : Ended M D) (io : Streams) : Type 0 where
+pub record IsUnbooted {M D : Type 0} (core : Core M D) (result : Return M D) (io : Streams) : Type 0 where
   pub why : BootFault
   pub status_is : result.status ≡ boot_status why
   pub unread : io.left ≡ io.input
@@ -72,10 +72,10 @@ pub record NothingFailed (io : Streams) (disk_faults now : ℕ) : Type 0 where
   pub disk : ¬ (Rose disk_faults now)
 
 -- the mechanism that comes back is still as a state has it
-abbrev pub IsStillAt : {M D : Type 0} → Mechanisms M → Disks D → Ended M D → GuardState → Type 0
+abbrev pub IsStillAt : {M D : Type 0} → Mechanisms M → Disks D → Return M D → GuardState → Type 0
 IsStillAt m d result = IsStill (m.motions result.mech) (m.places result.mech) (m.faults result.mech) (d.faults result.disk)
 
-pub record Runs {M D S : Type 0} (c : Command S BootFault) (see : S → GuardState) (IsStartOf : S → Type 0) (m : Mechanisms M) (d : Disks D) (core : Core M D) (result : Ended M D) (io : Streams) : Type 0 where
+pub record Runs {M D S : Type 0} (c : Command S BootFault) (see : S → GuardState) (IsStartOf : S → Type 0) (m : Mechanisms M) (d : Disks D) (core : Core M D) (result : Return M D) (io : Streams) : Type 0 where
   -- what is written: the answers of the lines from the boot on, and at most one last line
   pub serves : IfTold io.input (λ text. IsUnbooted core result io ⊎ FromStart IsStartOf (ServesUntil c see m d result io text))
   pub lines : result.status ≡ READ_TO_END → IfTold io.input (AllLines c.IsLine)

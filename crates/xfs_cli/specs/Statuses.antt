@@ -1,6 +1,7 @@
 -- The statuses of the program, and when a run of a command that boots ends with its input: where every line is one, the input is short enough, the journal has room for each Boot, and nothing failed.
-use Rattle.std.specs.Prelude.{◌≡◌, ◌⊎◌, ℕ, ◌<◌, List, [], ◌∷◌, length, codes}
+use Rattle.std.specs.Prelude.{◌≡◌, ◌⊎◌, ℕ, ◌<◌, List, String, [], ◌∷◌, length, codes}
 use Rattle.std.specs.Io.KnownBytes.{IsAtEnd}
+use Rattle.std.specs.declared.alloc.Global.{Global}
 use Rattle.xfs_base.specs.Causes.{IfTold, Rose}
 use Rattle.xfs_base.specs.declared.counts.Places.{Places}
 use Rattle.xfs_journal.specs.declared.limits.Limits.{Limits}
@@ -12,6 +13,7 @@ use Rattle.xfs_script.specs.Lines.{behind, first_line, first_lines, AllLines}
 use Rattle.xfs_script.specs.Reading.{GaveAll}
 use Rattle.xfs_guard.specs.declared.fail.BootFault.{BootFault}
 use Rattle.xfs_cli.specs.Restarts.{HasNoRoom}
+use Rattle.xfs_cli.specs.Run.{IsClient, IsServe}
 use Rattle.xfs_cli.specs.GuardStates.{GuardState}
 use Rattle.xfs_cli.specs.Streams.{Streams}
 use Rattle.xfs_cli.specs.declared.status.TheConstants.{DISK_FAULT, INPUT_TOO_LONG, JOURNAL_FULL, NOT_A_JOURNAL, NOT_A_LINE, NO_MEMORY, READ_FAULT, READ_TO_END, USAGE, WRITE_FAULT}
@@ -24,6 +26,10 @@ IsOneOf (x ∷ xs) n = (n ≡ x) ⊎ IsOneOf xs n
 
 abbrev pub IsStatus : ℕ → Type 0
 IsStatus status = IsOneOf (READ_TO_END ∷ USAGE ∷ READ_FAULT ∷ NOT_A_LINE ∷ WRITE_FAULT ∷ DISK_FAULT ∷ NOT_A_JOURNAL ∷ NO_MEMORY ∷ INPUT_TOO_LONG ∷ JOURNAL_FULL ∷ []) status
+
+-- so of words that are neither `serve` nor `client`, whose runs have statuses of their own
+abbrev pub IsStatusOf : List (String Global) → ℕ → Type 0
+IsStatusOf words status = ¬ (IsServe words) → ¬ (IsClient words) → IsStatus status
 
 -- each status of the input and the output has its cause
 pub record IsCaused (status : ℕ) (io : Streams) : Type 0 where

@@ -1,5 +1,5 @@
 -- The input and the output of a run, before it and after it.
-use Rattle.std.specs.Prelude.{ℕ, List}
+use Rattle.std.specs.Prelude.{ℕ, List, None}
 use Rattle.std.specs.declared.option.Option.{Option}
 use Rattle.xfs_base.specs.declared.stream.Source.{Ghosts as Sources}
 use Rattle.xfs_base.specs.declared.stream.Sink.{Ghosts as Sinks}
@@ -26,4 +26,27 @@ io_of s k source source' sink sink' = record {
   output_now = k.held sink';
   write_faults = k.faults sink;
   write_faults_now = k.faults sink';
+}
+
+-- the output before and after, where it is told, and how often it failed
+pub record Output : Type 0 where
+  pub faults : ℕ
+  pub faults_now : ℕ
+  pub held : Option (List ℕ)
+  pub held_now : Option (List ℕ)
+
+abbrev pub output : {K : Type 0} → Sinks K → K → K → Output
+output k sink sink' = record { faults = k.faults sink; faults_now = k.faults sink'; held = k.held sink; held_now = k.held sink' }
+
+-- the streams of a run that reads nothing
+abbrev pub unread_io : Output → Streams
+unread_io o = record {
+  input = None;
+  left = None;
+  read_faults = 0;
+  read_faults_now = 0;
+  output = o.held;
+  output_now = o.held_now;
+  write_faults = o.faults;
+  write_faults_now = o.faults_now;
 }

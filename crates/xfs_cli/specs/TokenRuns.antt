@@ -1,5 +1,5 @@
 -- A run of `token`: what it writes, and its statuses; and a run of words that are no command.
-use Rattle.std.specs.Prelude.{◌≡◌, ◌≢◌, ◌<◌, [], ◌∷◌, length}
+use Rattle.std.specs.Prelude.{◌≡◌, ◌≢◌, ◌<◌, List, String, [], ◌∷◌, length}
 use Rattle.xfs_base.specs.Causes.{IfTold, Rose}
 use Rattle.xfs_guard.specs.declared.machine_core.Core.{Core}
 use Rattle.xfs_script.specs.Lines.{AllLines, StopsAtLine}
@@ -7,12 +7,15 @@ use Rattle.xfs_cli.specs.Served.{Serves, WritesLast, usage_line}
 use Rattle.xfs_cli.specs.Statuses.{IsFinished}
 use Rattle.xfs_cli.specs.Streams.{Streams}
 use Rattle.xfs_cli.specs.TokenVerbs.{IsLineOfToken, token_lines}
-use Rattle.xfs_cli.specs.declared.ended.Ended.{Ended}
+use Rattle.xfs_cli.specs.Returns.{Return, back}
 use Rattle.xfs_cli.specs.declared.status.TheConstants.{DISK_FAULT, JOURNAL_FULL, NOT_A_JOURNAL, NOT_A_LINE, READ_TO_END}
 use Rattle.xfs_script.specs.declared.feed.TheConstants.{QUOTA}
+use Rattle.std.specs.declared.alloc.Global.{Global}
+use Rattle.xfs_cli.specs.declared.ended.Ended.{Ended}
+use Rattle.xfs_cli.specs.Run.{IsToken}
 
 -- the mechanism and the disk come back as they were
-pub record IsKept {M D : Type 0} (core : Core M D) (result : Ended M D) : Type 0 where
+pub record IsKept {M D : Type 0} (core : Core M D) (result : Return M D) : Type 0 where
   pub mech : result.mech ≡ core.mech
   pub disk : result.disk ≡ core.disk
 
@@ -20,7 +23,7 @@ pub record IsKept {M D : Type 0} (core : Core M D) (result : Ended M D) : Type 0
 abbrev pub WritesUsage : Streams → Type 0
 WritesUsage io = WritesLast (usage_line ∷ []) io.write_faults io.write_faults_now io.output io.output_now
 
-pub record RunsToken {M D : Type 0} (core : Core M D) (result : Ended M D) (io : Streams) : Type 0 where
+pub record RunsToken {M D : Type 0} (core : Core M D) (result : Return M D) (io : Streams) : Type 0 where
   -- what is written: the answers of the lines, and at most one last line
   pub serves : IfTold io.input (Serves token_lines core.key core.key result.status io)
   pub lines : result.status ≡ READ_TO_END → IfTold io.input (AllLines IsLineOfToken)
@@ -31,3 +34,7 @@ pub record RunsToken {M D : Type 0} (core : Core M D) (result : Ended M D) (io :
   -- a run that nothing hinders ends with its input
   pub finishes : ¬ (Rose io.read_faults io.read_faults_now) → ¬ (Rose io.write_faults io.write_faults_now)
       → IfTold io.input (λ text. AllLines IsLineOfToken text → length text < QUOTA → IsFinished result.status)
+
+-- so where the words are `token`
+abbrev pub RunsTokenOf : {M D L : Type 0} → List (String Global) → Core M D → Ended M D L → Streams → Type 0
+RunsTokenOf words core ended io = IsToken words → RunsToken core (back ended) io

@@ -1,7 +1,10 @@
 //! The top call of the program, and the commands that it runs.
 #![tactic(auto)]
 
+mod bench;
+mod client_command;
 mod clients;
+mod doorless;
 mod ended;
 mod guard_answer;
 mod guard_command;
@@ -16,6 +19,7 @@ mod replay_command;
 mod rest;
 mod say;
 mod serve;
+mod serve_command;
 pub mod status;
 mod text;
 mod token_answer;
@@ -25,6 +29,7 @@ mod top;
 mod verbs;
 mod words;
 
+pub use bench::Bench;
 pub use ended::Ended;
 pub use guard_command::guard;
 pub use load_command::load;

@@ -3,13 +3,15 @@
 ghost use Rattle.std.specs.Prelude.{◌≡◌, ◌↔◌, is_some};
 ghost use Rattle.xfs_mech.specs.Moves.{AddsUp};
 ghost use Rattle.xfs_cli.specs.Moments.{WasOnTheWayAll};
-ghost use Rattle.xfs_cli.specs.ReplayRuns.{RunsReplay};
+ghost use Rattle.xfs_cli.specs.ReplayRuns.{RunsReplayOf};
+ghost use Rattle.xfs_cli.specs.Returns.{back};
 ghost use Rattle.xfs_cli.specs.Run.{IsReplay};
 ghost use Rattle.xfs_cli.specs.Statuses.{IsCaused, IsStatus};
 ghost use Rattle.xfs_cli.specs.Streams.{io_of};
 ghost use Rattle.xfs_cli.specs.TokenRuns.{IsKept, WritesUsage};
 ghost use Rattle.xfs_cli.specs.Upholds.{AtRest, Starts, UpholdsAll};
 
+use crate::bench::Bench;
 use crate::clients::Clients;
 use crate::ended::Ended;
 use crate::last_line::{unbooted, usage};
@@ -23,39 +25,43 @@ use xfs_base::{Moment, Sink, Source};
 use xfs_disk::Disk;
 use xfs_guard::{BootFail, Core};
 use xfs_machine::{Machine, Tally};
-use xfs_mech::Mechanism;
+use xfs_mech::{Mechanism, Watch};
 
 /// Reads replay lines and answers each of them from a machine, before the next line is read.
-pub fn replay<S: Source, K: Sink, M: Mechanism, D: Disk>(
+pub fn replay<S: Source, K: Sink, M: Mechanism, D: Disk, P: Watch, Q: Watch>(
     alloc: Global,
     words: &[String],
     source: &mut S,
     sink: &mut K,
-    core: Core<M, D>,
-) -> Ended<M, D>
-    requires units { M.units core.mech ≡ core.units }
-    requires starts { Starts M.Mechanism D.Disk core }
-    requires at_rest { AtRest D.Disk core.disk }
-    ensures upholds { UpholdsAll M.Mechanism D.Disk core result }
-    ensures any_moment { WasOnTheWayAll M.Mechanism D.Disk core result }
-    ensures runs { IsReplay words.now → RunsReplay M.Mechanism D.Disk core result (io_of S.Source K.Sink source.old source.new sink.old sink.new) }
+    bench: Bench<M, D, P, Q>,
+) -> Ended<M, D, ()>
+    requires units { M.units bench.core.mech ≡ bench.core.units }
+    requires starts { Starts M.Mechanism D.Disk bench.core }
+    requires at_rest { AtRest D.Disk bench.core.disk }
+    ensures upholds { UpholdsAll M.Mechanism D.Disk bench.core (back result) }
+    ensures any_moment { WasOnTheWayAll M.Mechanism D.Disk bench.core (back result) }
+    ensures runs { RunsReplayOf words.now M.Mechanism D.Disk bench.core result (io_of S.Source K.Sink source.old source.new sink.old sink.new) }
     ensures usage { (result.status ≡ USAGE) ↔ ¬ (IsReplay words.now) }
     ensures usage_written { result.status ≡ USAGE → WritesUsage (io_of S.Source K.Sink source.old source.new sink.old sink.new) }
     ensures unread { result.status ≡ USAGE → source.new ≡ source.old }
-    ensures idle { result.status ≡ USAGE → IsKept core result }
+    ensures idle { result.status ≡ USAGE → IsKept bench.core (back result) }
     ensures statuses { IsStatus result.status }
     ensures causes { IsCaused result.status (io_of S.Source K.Sink source.old source.new sink.old sink.new) }
-    ensures adds { AddsUp (M.motions core.mech) (M.motions result.mech) (M.places core.mech) (M.places result.mech) }
-    ensures units { M.units result.mech ≡ core.units }
-    ensures told { is_some (M.motions result.mech) ≡ is_some (M.motions core.mech) }
-    ensures told_disk { is_some (D.held result.disk) ≡ is_some (D.held core.disk) }
+    ensures adds { AddsUp (M.motions bench.core.mech) (M.motions result.mech) (M.places bench.core.mech) (M.places result.mech) }
+    ensures units { M.units result.mech ≡ bench.core.units }
+    ensures told { is_some (M.motions result.mech) ≡ is_some (M.motions bench.core.mech) }
+    ensures told_disk { is_some (D.held result.disk) ≡ is_some (D.held bench.core.disk) }
 {
+    let Bench { core, cards, keys } = bench;
+    drop(cards);
+    drop(keys);
     if !is_word(words, "replay") {
         usage(sink);
         return Ended {
             status: USAGE,
             mech: core.mech,
             disk: core.disk,
+            link: None,
         };
     }
     let key = core.key;
@@ -72,12 +78,18 @@ pub fn replay<S: Source, K: Sink, M: Mechanism, D: Disk>(
             };
             let status = serve(alloc, &mut player, source, sink);
             let (mech, disk) = player.machine.end();
-            Ended { status, mech, disk }
+            Ended {
+                status,
+                mech,
+                disk,
+                link: None,
+            }
         }
         Err(BootFail { why, mech, disk }) => Ended {
             status: unbooted(sink, why),
             mech,
             disk,
+            link: None,
         },
     }
 }

@@ -1,11 +1,13 @@
 //! The command `token`.
 
 ghost use Rattle.std.specs.Prelude.{◌≡◌, ◌↔◌};
+ghost use Rattle.xfs_cli.specs.Returns.{back};
 ghost use Rattle.xfs_cli.specs.Run.{IsToken};
 ghost use Rattle.xfs_cli.specs.Statuses.{IsCaused, IsStatus};
 ghost use Rattle.xfs_cli.specs.Streams.{io_of};
-ghost use Rattle.xfs_cli.specs.TokenRuns.{IsKept, RunsToken, WritesUsage};
+ghost use Rattle.xfs_cli.specs.TokenRuns.{IsKept, RunsTokenOf, WritesUsage};
 
+use crate::bench::Bench;
 use crate::ended::Ended;
 use crate::last_line::usage;
 use crate::serve::serve;
@@ -17,24 +19,27 @@ use std::alloc::Global;
 use xfs_base::{Sink, Source};
 use xfs_disk::Disk;
 use xfs_guard::Core;
-use xfs_mech::Mechanism;
+use xfs_mech::{Mechanism, Watch};
 
 /// Reads token lines and answers each of them under the core's key, before the next line is read.
-pub fn token<S: Source, K: Sink, M: Mechanism, D: Disk>(
+pub fn token<S: Source, K: Sink, M: Mechanism, D: Disk, P: Watch, Q: Watch>(
     alloc: Global,
     words: &[String],
     source: &mut S,
     sink: &mut K,
-    core: Core<M, D>,
-) -> Ended<M, D>
-    ensures kept { IsKept core result }
-    ensures runs { IsToken words.now → RunsToken core result (io_of S.Source K.Sink source.old source.new sink.old sink.new) }
+    bench: Bench<M, D, P, Q>,
+) -> Ended<M, D, ()>
+    ensures kept { IsKept bench.core (back result) }
+    ensures runs { RunsTokenOf words.now bench.core result (io_of S.Source K.Sink source.old source.new sink.old sink.new) }
     ensures usage { (result.status ≡ USAGE) ↔ ¬ (IsToken words.now) }
     ensures usage_written { result.status ≡ USAGE → WritesUsage (io_of S.Source K.Sink source.old source.new sink.old sink.new) }
     ensures unread { result.status ≡ USAGE → source.new ≡ source.old }
     ensures statuses { IsStatus result.status }
     ensures causes { IsCaused result.status (io_of S.Source K.Sink source.old source.new sink.old sink.new) }
 {
+    let Bench { core, cards, keys } = bench;
+    drop(cards);
+    drop(keys);
     let Core {
         mech,
         disk,
@@ -50,6 +55,7 @@ pub fn token<S: Source, K: Sink, M: Mechanism, D: Disk>(
             status: USAGE,
             mech,
             disk,
+            link: None,
         };
     }
     let mut tokens = Tokens {
@@ -57,5 +63,10 @@ pub fn token<S: Source, K: Sink, M: Mechanism, D: Disk>(
         key: TokenKey::new(key),
     };
     let status = serve(alloc, &mut tokens, source, sink);
-    Ended { status, mech, disk }
+    Ended {
+        status,
+        mech,
+        disk,
+        link: None,
+    }
 }

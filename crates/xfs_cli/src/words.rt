@@ -1,14 +1,12 @@
 //! The words of the command line.
 
-ghost use Rattle.std.specs.Prelude.{◌≡◌, ◌↔◌, ℕ, IfNone, IfSome, IsTrue};
-ghost use Rattle.xfs_cli.specs.Run.{IsCommand, IsLoad, IsLoadOf, IsWord};
-ghost use Rattle.xfs_words.specs.Words.{IsNumber, Names, texts};
+ghost use Rattle.std.specs.Prelude.{◌≡◌, ◌↔◌, IfNone, IfSome, IsTrue};
+ghost use Rattle.xfs_cli.specs.Run.{IsClient, IsClientOf, IsCommand, IsLoad, IsLoadOf, IsTask, IsWord};
+ghost use Rattle.xfs_words.specs.Words.{Names, texts};
 
 use std::alloc::Global;
-use xfs_words::{Command, WordsFault, read};
-
-// The most rounds of a load.
-const MOST_ROUNDS: u64 = 10_000;
+use xfs_base::Currency;
+use xfs_words::{Command, WordsFault, read, spelled};
 
 /// Whether the words are this one word.
 pub fn is_word(words: &[String], word: &str) -> bool
@@ -40,43 +38,43 @@ pub fn rounds_of(alloc: Global, words: &[String]) -> Option<u32>
 {
     match command_of(alloc, words) {
         Some(Command::Load(rounds)) => Some(rounds as u32),
-        _ => None,
+        Some(Command::Guard | Command::Token | Command::Replay) => None,
+        Some(Command::Serve(_) | Command::Client(_, _)) => None,
+        None => None,
     }
 }
 
-// The command that the words spell, of those that are built. It takes no memory.
-fn spelled(words: &[String]) -> Option<Command>
-    ensures named { IfSome result (λ command. Names command (texts words.now)) }
-    ensures none { IfNone result (¬ (IsCommand words.now)) }
+/// The currency and the amount of the words `client CUR AMOUNT`. None exactly where the words are others.
+pub fn withdrawal_of(alloc: Global, words: &[String]) -> Option<(Currency, u32)>
+    ensures named { IfSome result (λ terms. IsClientOf terms.0 terms.1 words.now) }
+    ensures none { IfNone result (¬ (IsClient words.now)) }
 {
-    if is_word(words, "guard") {
-        Some(Command::Guard)
-    } else if is_word(words, "token") {
-        Some(Command::Token)
-    } else if is_word(words, "replay") {
-        Some(Command::Replay)
-    } else {
-        Some(Command::Load(spelled_rounds(words)?))
+    match &command_of(alloc, words) {
+        Some(Command::Client(currency, amount)) => Some((*currency, *amount as u32)),
+        Some(Command::Guard | Command::Token | Command::Replay) => None,
+        Some(Command::Load(_) | Command::Serve(_)) => None,
+        None => None,
     }
 }
 
-fn spelled_rounds(words: &[String]) -> Option<u64>
-    ensures named { IfSome result (λ rounds. IsLoadOf rounds words.now) }
-    ensures none { IfNone result (¬ (IsLoad words.now)) }
-{
-    match words {
-        [word, number] if word.as_str() == "load" => rounds_in(number.as_str()),
-        _ => None,
-    }
+/// What words ask of the doors.
+pub enum Task {
+    /// `serve N`: to take so many connections.
+    Serve(u32),
+    /// `client CUR AMOUNT`: to dial.
+    Client,
+    /// Nothing.
+    Other,
 }
 
-// The number of rounds that a word writes.
-fn rounds_in(word: &str) -> Option<u64>
-    ensures number { IfSome result (λ rounds. IsNumber 10000 word.now rounds) }
-    ensures none { IfNone result ((rounds : ℕ) → ¬ (IsNumber 10000 word.now rounds)) }
+/// What the words ask of the doors.
+pub fn task_of(alloc: Global, words: &[String]) -> Task
+    ensures { IsTask words.now result }
 {
-    match word.parse::<u64>() {
-        Ok(rounds) if rounds >= 1 && rounds <= MOST_ROUNDS => Some(rounds),
-        _ => None,
+    match command_of(alloc, words) {
+        Some(Command::Serve(connections)) => Task::Serve(connections as u32),
+        Some(Command::Client(_, _)) => Task::Client,
+        Some(Command::Guard | Command::Token | Command::Replay | Command::Load(_)) => Task::Other,
+        None => Task::Other,
     }
 }

@@ -12,14 +12,17 @@ ghost use Rattle.xfs_guard.specs.Recorded.{IsRecorded};
 ghost use Rattle.xfs_guard.specs.declared.open.Open.TheVariants.{No};
 
 use std::alloc::Global;
+use std::sync::Wait;
 use std::test::Fail;
-use xfs_base::{MemSink, MemSource, UnitTable};
-use xfs_cli::run;
+use std::thread::Threads;
+use xfs_base::{FixedClock, MemSink, MemSource, UnitTable};
+use xfs_cli::{guard, replay, run};
 use xfs_disk::{Disk, FailDisk, MemDisk};
 use xfs_guard::{Core, Guard};
 use xfs_journal::Limits;
 use xfs_mech::{Fault, Mechanism, SilentMech, SimMech};
-use xfs_simulated::{KEY, LIMITS, SEED, core_on, empty, mechanism};
+use xfs_server::{MemDoors, OpenGate};
+use xfs_simulated::{KEY, LIMITS, SEED, core_on, empty, mechanism, quiet_bench};
 
 /// The units of the simulated machine.
 pub fn units() -> Result<UnitTable, Fail> {
@@ -118,8 +121,10 @@ pub struct Written {
     pub bytes: Vec<u8>,
 }
 
-/// Runs the program with these words on a script; the calls of source and sink at these places fail.
-pub fn run_on(
+/// Runs the program with these words on a script; the calls of source and sink at these places fail. Nobody comes to
+/// its doors, and nobody is there to be dialled.
+pub fn run_on<R: Threads + Wait + Sync>(
+    rt: &R,
     alloc: Global,
     words: &[&str],
     script: &[u8],
@@ -131,12 +136,17 @@ pub fn run_on(
     let mut source = MemSource::new(listed(alloc, script)?, numbers(alloc, failing_reads)?);
     let mut sink = MemSink::new(alloc, numbers(alloc, failing_writes)?);
     let core = core_on(mech, units, empty(alloc), LIMITS);
+    let mut doors = MemDoors::new(Vec::new(alloc), None, Vec::new(alloc));
     let ended = run(
+        rt,
         alloc,
         words_of(alloc, words)?.as_slice(),
         &mut source,
         &mut sink,
-        core,
+        quiet_bench(alloc, core),
+        &FixedClock(0),
+        &mut doors,
+        &OpenGate,
     );
     told(alloc, ended.status, &sink, &ended.disk)
 }
@@ -150,7 +160,8 @@ pub fn replay_on(alloc: Global, script: &[u8], life: u32) -> Result<Written, Fai
     let mut core = core_on(mech, units, empty(alloc), LIMITS);
     core.life = life;
     let words = words_of(alloc, &["replay"])?;
-    let ended = run(alloc, words.as_slice(), &mut source, &mut sink, core);
+    let bench = quiet_bench(alloc, core);
+    let ended = replay(alloc, words.as_slice(), &mut source, &mut sink, bench);
     told(alloc, ended.status, &sink, &ended.disk)
 }
 
@@ -170,7 +181,8 @@ pub fn replay_failing(
     let mut core = failing_core(mech, units, empty(alloc), LIMITS, numbers(alloc, failing)?);
     core.life = life;
     let words = words_of(alloc, &["replay"])?;
-    let ended = run(alloc, words.as_slice(), &mut source, &mut sink, core);
+    let bench = quiet_bench(alloc, core);
+    let ended = replay(alloc, words.as_slice(), &mut source, &mut sink, bench);
     told(alloc, ended.status, &sink, &ended.disk.inner())
 }
 
@@ -225,12 +237,12 @@ fn guard_with<M: Mechanism>(
     let mut source = MemSource::new(listed(alloc, script)?, Vec::new(alloc));
     let mut sink = MemSink::new(alloc, Vec::new(alloc));
     let core = core_on(mech, units, empty(alloc), limits);
-    let ended = run(
+    let ended = guard(
         alloc,
         words_of(alloc, &["guard"])?.as_slice(),
         &mut source,
         &mut sink,
-        core,
+        quiet_bench(alloc, core),
     );
     told(alloc, ended.status, &sink, &ended.disk)
 }
@@ -242,12 +254,12 @@ pub fn guard_failing(alloc: Global, script: &[u8], failing: &[u64]) -> Result<Wr
     let mut source = MemSource::new(listed(alloc, script)?, Vec::new(alloc));
     let mut sink = MemSink::new(alloc, Vec::new(alloc));
     let core = failing_core(mech, units, empty(alloc), LIMITS, numbers(alloc, failing)?);
-    let ended = run(
+    let ended = guard(
         alloc,
         words_of(alloc, &["guard"])?.as_slice(),
         &mut source,
         &mut sink,
-        core,
+        quiet_bench(alloc, core),
     );
     told(alloc, ended.status, &sink, &ended.disk.inner())
 }
@@ -259,12 +271,12 @@ pub fn guard_on_no_journal(alloc: Global, script: &[u8]) -> Result<Written, Fail
     let mut source = MemSource::new(listed(alloc, script)?, Vec::new(alloc));
     let mut sink = MemSink::new(alloc, Vec::new(alloc));
     let core = core_on(mech, units, no_journal(alloc)?, LIMITS);
-    let ended = run(
+    let ended = guard(
         alloc,
         words_of(alloc, &["guard"])?.as_slice(),
         &mut source,
         &mut sink,
-        core,
+        quiet_bench(alloc, core),
     );
     told(alloc, ended.status, &sink, &ended.disk)
 }

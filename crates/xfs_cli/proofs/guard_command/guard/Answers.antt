@@ -5,7 +5,7 @@ use Rattle.xfs_script.specs.declared.guard_line.GuardLine.TheVariants.{Skip}
 use Rattle.xfs_cli.specs.GuardCommand.{guard_lines}
 use Rattle.xfs_cli.specs.GuardLines.{IsLine}
 use Rattle.xfs_cli.specs.GuardStates.{GuardState, guard_state}
-use Rattle.xfs_cli.specs.declared.ended.Ended.{Ended}
+use Rattle.xfs_cli.specs.Returns.{Return}
 use Rattle.xfs_cli.specs.declared.guard_player.GuardPlayer.{GuardPlayer}
 use Rattle.xfs_cli.proofs.BootedLaws.{starts-run}
 use Rattle.xfs_cli.proofs.MomentLaws.{moments-same, moments-refused, moments-run}
@@ -20,12 +20,12 @@ pub returns-in-Ok-clause-upholds : goal.returns-in-Ok-clause-upholds
 returns-in-Ok-clause-upholds g c =
     let ok = c.in-Ok.ensures.ok in
     let continues = rw ok.2 at c.serve-status.ensures.keeps.continues in
-    upholds-run _ _ ok.0 _ _ _ _ _ _ refl refl ok.1 c.requires.starts (g.met.D.Disk.as_read c.args.core.disk) continues c.ended-mech.ensures.stored
+    upholds-run _ _ ok.0 _ _ _ _ _ _ refl refl ok.1 c.requires.starts (g.met.D.Disk.as_read c.args.bench.core.disk) continues c.ended-mech.ensures.stored
     (λ told bytes image J stands. c.ended-mech.ensures.recorded J (record { told = told; bytes = bytes; left = image; stands = stands })) c.ended-mech.ensures.motions c.ended-mech.ensures.places
 
 pub returns-in-Err-clause-upholds : goal.returns-in-Err-clause-upholds
 returns-in-Err-clause-upholds g c =
-    rw c.in-Err.ensures.mech (upholds-refused _ _ _ _ _ _ _ _ c.requires.starts c.requires.at_rest (g.met.D.Disk.as_read c.args.core.disk) c.in-Err.ensures.either)
+    rw c.in-Err.ensures.mech (upholds-refused _ _ _ _ _ _ _ _ c.requires.starts c.requires.at_rest (g.met.D.Disk.as_read c.args.bench.core.disk) c.in-Err.ensures.either)
 
 empty : IsLine []
 empty = record { verb = Skip; reads = tt; short = omega arith }
@@ -36,9 +36,9 @@ returns-in-Ok-clause-runs g c = λ guard.
     let s = c.serve-status.ensures in
     let e = c.ended-mech.ensures in
     let keeps = λ (a b : GuardPlayer g.row.M.Denot g.row.D.Denot). Proceeds g.D.Disk a.guard b.guard in
-    let over : Ended g.row.M.Denot g.row.D.Denot = record { status = c.serve-status.result; mech = c.ended-mech.result.0; disk = c.ended-mech.result.1 } in
+    let over : Return g.row.M.Denot g.row.D.Denot = record { status = c.serve-status.result; mech = c.ended-mech.result.0; disk = c.ended-mech.result.1 } in
     runs-served g.M.Mechanism g.D.Disk guard_lines (λ (s : GuardState). s) _ keeps (λ a. guard_state g.D.Disk.faults a.guard a.last) (λ a. a.guard) (λ a. a.last) g.met.D.Disk.as_read (λ s text why end ends. ends) empty (λ a. refl) (λ a b kept. kept)
-    c.args.core over _ _ c.serve-status.new.answerer (record { records = ok.0; stands = ok.1; guard_is = ok.2; later = c.in-Ok.ensures.faults; fits = c.in-Ok.ensures.fits })
+    c.args.bench.core over _ _ c.serve-status.new.answerer (record { records = ok.0; stands = ok.1; guard_is = ok.2; later = c.in-Ok.ensures.faults; fits = c.in-Ok.ensures.fits })
     (starts-run g.D.Disk.faults c.in-Ok.guard _ ok.0 ok.1 ok.2 c.in-Ok.ensures.faults)
     (record { kept = s.keeps; serves = s.serves; unbooted = s.unbooted; lines = s.lines; not_a_line = s.not_a_line; usage = s.usage; statuses = s.statuses; causes = s.causes })
     (record { motions = e.motions; places = e.places; faults = e.faults; disk = e.disk; stored = e.stored }) c.requires.starts
@@ -46,8 +46,8 @@ returns-in-Ok-clause-runs g c = λ guard.
 pub returns-in-Err-clause-runs : goal.returns-in-Err-clause-runs
 returns-in-Err-clause-runs g c = λ guard.
     let f = c.in-Err.ensures in
-    let over : Ended g.row.M.Denot g.row.D.Denot = record { status = c.unbooted.result; mech = c.in-Err.field-0.mech; disk = c.in-Err.field-0.disk } in
-    runs-refused g.M.Mechanism g.D.Disk guard_lines (λ (s : GuardState). s) _ empty c.args.core c.in-Err.field-0.why over _
+    let over : Return g.row.M.Denot g.row.D.Denot = record { status = c.unbooted.result; mech = c.in-Err.field-0.mech; disk = c.in-Err.field-0.disk } in
+    runs-refused g.M.Mechanism g.D.Disk guard_lines (λ (s : GuardState). s) _ empty c.args.bench.core c.in-Err.field-0.why over _
     (record { mech_is = f.mech; not_journal = f.not_journal; full = f.full; failed = f.disk; unlisted = f.unlisted }) c.unbooted.ensures.status c.unbooted.ensures.written refl
 
 pub boot-requires-clause-recorded : goal.boot-requires-clause-recorded

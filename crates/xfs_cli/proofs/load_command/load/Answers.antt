@@ -1,7 +1,7 @@
 use Rattle.std.proofs.Common.{refl, ap, sym, ◌∙◌}
 use Rattle.xfs_guard.specs.View.{View}
 use Rattle.xfs_machine.specs.MachineView.{guard_of}
-use Rattle.xfs_cli.specs.declared.ended.Ended.{Ended}
+use Rattle.xfs_cli.specs.Returns.{Return}
 use Rattle.xfs_cli.proofs.LoadLaws.{ends-one, loads-refused, loads-served}
 use Rattle.xfs_cli.proofs.MomentLaws.{moments-same, moments-refused, moments-run}
 use Rattle.xfs_cli.proofs.RunLaws.{recorded-start, upholds-same, upholds-refused, upholds-run}
@@ -19,21 +19,21 @@ returns-in-Ok-clause-upholds g c =
     let ok = c.in-Ok.ensures.ok in
     let back = c.end-mech.ensures.back in
     let continues = rw ok.2 at c.play_on-status.ensures.proceeds.continues in
-    upholds-run _ _ ok.0 _ _ _ _ _ _ refl refl ok.1 c.requires.starts (g.met.D.Disk.as_read c.args.core.disk) continues back.stored
+    upholds-run _ _ ok.0 _ _ _ _ _ _ refl refl ok.1 c.requires.starts (g.met.D.Disk.as_read c.args.bench.core.disk) continues back.stored
     (λ told bytes image J stands. c.end-mech.ensures.recorded J (record { told = told; bytes = bytes; left = image; stands = stands })) back.motions back.places
 
 pub returns-in-Err-clause-upholds : goal.returns-in-Err-clause-upholds
 returns-in-Err-clause-upholds g c =
-    rw c.in-Err.ensures.mech (upholds-refused _ _ _ _ _ _ _ _ c.requires.starts c.requires.at_rest (g.met.D.Disk.as_read c.args.core.disk) c.in-Err.ensures.either)
+    rw c.in-Err.ensures.mech (upholds-refused _ _ _ _ _ _ _ _ c.requires.starts c.requires.at_rest (g.met.D.Disk.as_read c.args.bench.core.disk) c.in-Err.ensures.either)
 
 pub returns-in-Ok-clause-runs : goal.returns-in-Ok-clause-runs
 returns-in-Ok-clause-runs g c = λ rounds says.
     let ok = c.in-Ok.ensures.ok in
     let p = c.play_on-status.ensures in
     let e = c.end-mech.ensures in
-    let over : Ended g.row.M.Denot g.row.D.Denot = record { status = c.play_on-status.result; mech = c.end-mech.result.0; disk = c.end-mech.result.1 } in
+    let over : Return g.row.M.Denot g.row.D.Denot = record { status = c.play_on-status.result; mech = c.end-mech.result.0; disk = c.end-mech.result.1 } in
     let is = same-rounds c.args.words.now rounds c.in-Some.rounds says c.in-Some.ensures.named in
-    loads-served g.M.Mechanism g.D.Disk g.met.D.Disk.as_read c.args.core rounds over _ c.in-Ok.machine c.play_on-status.new.machine
+    loads-served g.M.Mechanism g.D.Disk g.met.D.Disk.as_read c.args.bench.core rounds over _ c.in-Ok.machine c.play_on-status.new.machine
     (record { records = ok.0; stands = ok.1; guard_is = ok.2; later = c.in-Ok.ensures.faults; fits = c.in-Ok.ensures.fits })
     c.in-Ok.ensures.bare p.proceeds (rw is p.ends)
     (record { motions = e.back.motions; places = e.back.places; faults = e.back.faults; disk = e.disk; stored = e.back.stored }) refl c.requires.starts
@@ -41,8 +41,8 @@ returns-in-Ok-clause-runs g c = λ rounds says.
 pub returns-in-Err-clause-runs : goal.returns-in-Err-clause-runs
 returns-in-Err-clause-runs g c = λ rounds says.
     let f = c.in-Err.ensures in
-    let over : Ended g.row.M.Denot g.row.D.Denot = record { status = c.unbooted.result; mech = c.in-Err.field-0.mech; disk = c.in-Err.field-0.disk } in
-    loads-refused g.M.Mechanism g.D.Disk c.args.core rounds c.in-Err.field-0.why over _
+    let over : Return g.row.M.Denot g.row.D.Denot = record { status = c.unbooted.result; mech = c.in-Err.field-0.mech; disk = c.in-Err.field-0.disk } in
+    loads-refused g.M.Mechanism g.D.Disk c.args.bench.core rounds c.in-Err.field-0.why over _
     (record { mech_is = f.mech; not_journal = f.not_journal; full = f.full; failed = f.disk; unlisted = f.unlisted }) c.unbooted.ensures.status c.unbooted.ensures.written refl
 
 pub returns-in_default-clause-any_moment : goal.returns-in_default-clause-any_moment

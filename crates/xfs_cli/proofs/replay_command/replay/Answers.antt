@@ -5,7 +5,7 @@ use Rattle.xfs_machine.specs.MachineView.{guard_of}
 use Rattle.xfs_script.specs.declared.replay_line.ReplayLine.TheVariants.{Skip}
 use Rattle.xfs_cli.specs.ReplayCommand.{IsLine, replay_lines}
 use Rattle.xfs_cli.specs.ReplayStates.{guard_state_of, state_in}
-use Rattle.xfs_cli.specs.declared.ended.Ended.{Ended}
+use Rattle.xfs_cli.specs.Returns.{Return}
 use Rattle.xfs_cli.specs.declared.player.Player.{Player}
 use Rattle.xfs_cli.proofs.BootedLaws.{starts-run}
 use Rattle.xfs_cli.proofs.MomentLaws.{moments-same, moments-refused, moments-run}
@@ -27,12 +27,12 @@ returns-in-Ok-clause-upholds g c =
     let ok = c.in-Ok.ensures.ok in
     let back = c.end-mech.ensures.back in
     let continues = rw ok.2 at c.serve-status.ensures.keeps.continues in
-    upholds-run _ _ ok.0 _ _ _ _ _ _ refl refl ok.1 c.requires.starts (g.met.D.Disk.as_read c.args.core.disk) continues back.stored
+    upholds-run _ _ ok.0 _ _ _ _ _ _ refl refl ok.1 c.requires.starts (g.met.D.Disk.as_read c.args.bench.core.disk) continues back.stored
     (λ told bytes image J stands. c.end-mech.ensures.recorded J (record { told = told; bytes = bytes; left = image; stands = stands })) back.motions back.places
 
 pub returns-in-Err-clause-upholds : goal.returns-in-Err-clause-upholds
 returns-in-Err-clause-upholds g c =
-    rw c.in-Err.ensures.mech (upholds-refused _ _ _ _ _ _ _ _ c.requires.starts c.requires.at_rest (g.met.D.Disk.as_read c.args.core.disk) c.in-Err.ensures.either)
+    rw c.in-Err.ensures.mech (upholds-refused _ _ _ _ _ _ _ _ c.requires.starts c.requires.at_rest (g.met.D.Disk.as_read c.args.bench.core.disk) c.in-Err.ensures.either)
 
 pub returns-in-Ok-clause-runs : goal.returns-in-Ok-clause-runs
 returns-in-Ok-clause-runs g c = λ replay.
@@ -40,9 +40,9 @@ returns-in-Ok-clause-runs g c = λ replay.
     let s = c.serve-status.ensures in
     let e = c.end-mech.ensures in
     let keeps = λ (a b : Player g.row.M.Denot g.row.D.Denot g.M.Mechanism g.D.Disk). Proceeds g.D.Disk (guard_of a.machine) (guard_of b.machine) in
-    let over : Ended g.row.M.Denot g.row.D.Denot = record { status = c.serve-status.result; mech = c.end-mech.result.0; disk = c.end-mech.result.1 } in
+    let over : Return g.row.M.Denot g.row.D.Denot = record { status = c.serve-status.result; mech = c.end-mech.result.0; disk = c.end-mech.result.1 } in
     runs-served g.M.Mechanism g.D.Disk replay_lines guard_state_of _ keeps (λ a. state_in g.D.Disk.faults a) (λ a. guard_of a.machine) (λ a. a.last) g.met.D.Disk.as_read (λ s text why end ends. ends) empty (λ a. refl) (λ a b kept. kept)
-    c.args.core over _ _ c.serve-status.new.answerer (record { records = ok.0; stands = ok.1; guard_is = ok.2; later = c.in-Ok.ensures.faults; fits = c.in-Ok.ensures.fits })
+    c.args.bench.core over _ _ c.serve-status.new.answerer (record { records = ok.0; stands = ok.1; guard_is = ok.2; later = c.in-Ok.ensures.faults; fits = c.in-Ok.ensures.fits })
     (record { boots = starts-run g.D.Disk.faults (guard_of c.in-Ok.machine) _ ok.0 ok.1 ok.2 c.in-Ok.ensures.faults; machine = c.in-Ok.ensures.bare; clients = c.new-in-Ok.ensures; now = refl })
     (record { kept = s.keeps; serves = s.serves; unbooted = s.unbooted; lines = s.lines; not_a_line = s.not_a_line; usage = s.usage; statuses = s.statuses; causes = s.causes })
     (record { motions = e.back.motions; places = e.back.places; faults = e.back.faults; disk = e.disk; stored = e.back.stored }) c.requires.starts
@@ -50,8 +50,8 @@ returns-in-Ok-clause-runs g c = λ replay.
 pub returns-in-Err-clause-runs : goal.returns-in-Err-clause-runs
 returns-in-Err-clause-runs g c = λ replay.
     let f = c.in-Err.ensures in
-    let over : Ended g.row.M.Denot g.row.D.Denot = record { status = c.unbooted.result; mech = c.in-Err.field-0.mech; disk = c.in-Err.field-0.disk } in
-    runs-refused g.M.Mechanism g.D.Disk replay_lines guard_state_of _ empty c.args.core c.in-Err.field-0.why over _
+    let over : Return g.row.M.Denot g.row.D.Denot = record { status = c.unbooted.result; mech = c.in-Err.field-0.mech; disk = c.in-Err.field-0.disk } in
+    runs-refused g.M.Mechanism g.D.Disk replay_lines guard_state_of _ empty c.args.bench.core c.in-Err.field-0.why over _
     (record { mech_is = f.mech; not_journal = f.not_journal; full = f.full; failed = f.disk; unlisted = f.unlisted }) c.unbooted.ensures.status c.unbooted.ensures.written refl
 
 pub returns-then-not-is_word-clause-any_moment : goal.returns-then-not-is_word-clause-any_moment

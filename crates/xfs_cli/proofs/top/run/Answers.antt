@@ -1,16 +1,36 @@
-use Rattle.std.proofs.Common.{refl}
-use Rattle.xfs_cli.proofs.RunLaws.{upholds-same}
-use Rattle.xfs_cli.proofs.MomentLaws.{moments-same}
+use Rattle.std.proofs.Common.{inl, inr}
+use Rattle.xfs_words.specs.declared.command.Command.TheVariants.{Serve, Client}
+use Rattle.xfs_cli.specs.Returns.{back}
+use Rattle.xfs_cli.proofs.KeptLaws.{covers-upholds}
+use Rattle.xfs_cli.proofs.ServeLaws.{served-no-usage}
 use Rattle.xfs_cli.proofs.top.run.Goals as goal
 
-pub returns-in-Some-Token-clause-upholds : goal.returns-in-Some-Token-clause-upholds
-returns-in-Some-Token-clause-upholds g c = rw (c.token.ensures.kept.mech, c.token.ensures.kept.disk) (upholds-same _ _ _ _ _ _ c.requires.starts c.requires.at_rest)
+pub returns-in-Serve-clause-usage : goal.returns-in-Serve-clause-usage
+returns-in-Serve-clause-usage g c =
+    (λ two is. served-no-usage _ c.serve_machine.ensures.runs.status_is two, λ none. absurd (none (Serve c.in-Serve.connections, c.in-Serve.ensures)))
 
-pub returns-in_default-clause-upholds : goal.returns-in_default-clause-upholds
-returns-in_default-clause-upholds g c = upholds-same _ _ _ _ _ _ c.requires.starts c.requires.at_rest
+pub returns-in-Client-clause-covers : goal.returns-in-Client-clause-covers
+returns-in-Client-clause-covers g c = covers-upholds g.M.Mechanism g.D.Disk c.args.bench.core (back c.client.result) c.client.ensures.upholds
 
-pub returns-in-Some-Token-clause-any_moment : goal.returns-in-Some-Token-clause-any_moment
-returns-in-Some-Token-clause-any_moment g c = moments-same g.D.Disk g.met.D.Disk.as_read _ _ _ g.met.D.Disk.only_now c.requires.at_rest c.token.ensures.kept.disk
+pub returns-in-Client-clause-usage : goal.returns-in-Client-clause-usage
+returns-in-Client-clause-usage g c =
+    let client = c.in-Client.ensures in
+    (λ two is. (c.client.ensures.usage.0 two) client, λ none. absurd (none (Client client.0 client.1, client.2)))
 
-pub returns-in_default-clause-any_moment : goal.returns-in_default-clause-any_moment
-returns-in_default-clause-any_moment g c = moments-same g.D.Disk g.met.D.Disk.as_read _ _ _ g.met.D.Disk.only_now c.requires.at_rest refl
+pub returns-in-Other-clause-covers : goal.returns-in-Other-clause-covers
+returns-in-Other-clause-covers g c = covers-upholds g.M.Mechanism g.D.Disk c.args.bench.core (back c.run_without_doors.result) c.run_without_doors.ensures.upholds
+
+pub returns-in-Other-clause-serve : goal.returns-in-Other-clause-serve
+returns-in-Other-clause-serve g c = λ connections says. absurd (c.in-Other.ensures.0 (connections, says))
+
+pub returns-in-Other-clause-unread : goal.returns-in-Other-clause-unread
+returns-in-Other-clause-unread g c = λ either. elim either [
+  | inl two ↦ c.run_without_doors.ensures.unread two
+  | inr unread ↦ elim unread [
+    | inl load ↦ c.run_without_doors.ensures.load_unread load
+    | inr doors ↦ elim doors [ inl serve ↦ absurd (c.in-Other.ensures.0 serve) | inr client ↦ absurd (c.in-Other.ensures.1 client) ]
+  ]
+]
+
+pub returns-in-Other-clause-causes : goal.returns-in-Other-clause-causes
+returns-in-Other-clause-causes g c = λ reads. c.run_without_doors.ensures.causes (λ load. reads (inl load))

@@ -1,0 +1,226 @@
+-- A run of `serve` is as its record says: where its connections were taken, and where the boot was refused.
+use Rattle.std.proofs.Common.{◌≡◌, ◌≢◌, ◌≤◌, ◌∷◌, [], ◌++◌, ◌⊎◌, ℕ, true, List, None, Some, Result, Ok, Err, inl, inr, refl, subst, sym, ap, ◌∙◌, arith, length}
+use Rattle.std.specs.Prelude.{is_some}
+use Rattle.std.specs.declared.option.Option.{Option}
+use mathlib.Core.List.{IsPrefix}
+use Rattle.xfs_base.specs.Causes.{IfTold, Rose, next_count}
+use Rattle.xfs_base.specs.declared.counts.Places.{Places}
+use Rattle.xfs_base.specs.declared.money.NoteKind.{NoteKind}
+use Rattle.xfs_board.specs.Chronicles.{chronicle}
+use Rattle.xfs_disk.specs.declared.disk.Disk.{Ghosts as Disks}
+use Rattle.xfs_mech.specs.declared.mechanism.Mechanism.{Ghosts as Mechanisms}
+use Rattle.xfs_mech.specs.declared.motion.Motion.{Motion}
+use Rattle.xfs_journal.specs.Image.{StandsFor}
+use Rattle.xfs_journal.specs.JournalView.{HasPossible}
+use Rattle.xfs_journal.specs.declared.record.Rec.{Rec}
+use Rattle.xfs_guard.specs.Lives.{BeginsWith}
+use Rattle.xfs_guard.specs.Recorded.{IsRecorded}
+use Rattle.xfs_guard.proofs.CrashedLaws.{begins-possible, begins-trans}
+use Rattle.xfs_guard.specs.declared.deny.Deny.{Deny}
+use Rattle.xfs_guard.specs.declared.fail.BootFault.{BootFault}
+use Rattle.xfs_guard.specs.declared.fail.BootFault.TheVariants.{NotJournal, Disk, Full, Memory}
+use Rattle.xfs_guard.specs.declared.machine_core.Core.{Core}
+use Rattle.xfs_machine.specs.Answers.{finished}
+use Rattle.xfs_machine.specs.Endings.{Finishes}
+use Rattle.xfs_machine.specs.MachineView.{MachineView, guard_of}
+use Rattle.xfs_model.specs.Events.{finish}
+use Rattle.xfs_model.specs.State.{State, bare}
+use Rattle.xfs_model.specs.Step.{gone}
+use Rattle.xfs_model.proofs.Advancing.{advances}
+use Rattle.xfs_server.specs.Counted.{counted}
+use Rattle.xfs_server.specs.Doors.{DoorLog}
+use Rattle.xfs_serving.specs.Takings.{Takes, faults_in}
+use Rattle.xfs_serving.specs.declared.ending.Ending.{Ending}
+use Rattle.xfs_serving.specs.declared.ending.Ending.TheVariants as taking
+use Rattle.xfs_cli.specs.Boots.{WritesBoot, boot_status}
+use Rattle.xfs_cli.specs.GuardStarts.{at_entry}
+use Rattle.xfs_cli.specs.LoadRuns.{on_disk}
+use Rattle.xfs_cli.specs.Returns.{Return}
+use Rattle.xfs_cli.specs.ServeRuns.{IsUnsettled, RunsServe, StandsForMore, served_line, served_status}
+use Rattle.xfs_cli.specs.Served.{WritesLast}
+use Rattle.xfs_cli.specs.Statuses.{IsFinished, IsOneOf}
+use Rattle.xfs_cli.specs.Streams.{Output, unread_io}
+use Rattle.xfs_cli.specs.Upholds.{IsCovered}
+use Rattle.xfs_cli.specs.declared.status.TheConstants.{DISK_FAULT, JOURNAL_FULL, LINK_FAILED, NOT_A_JOURNAL, NO_MEMORY, READ_TO_END}
+use Rattle.xfs_cli.proofs.BootedLaws.{ends-failed, starts-run, told-any}
+use Rattle.xfs_cli.proofs.BootsOnceLaws.{boots-refused, boots-served}
+use Rattle.xfs_cli.proofs.EndingLaws.{boot-least}
+use Rattle.xfs_cli.proofs.LoadLaws.{refused-finishes}
+use Rattle.xfs_cli.proofs.RunLaws.{UpholdsAll}
+use Rattle.xfs_cli.proofs.RunsLaws.{HasBooted, IsRefused}
+
+-- ---- the headline
+
+-- the headline of a run, for what its end leaves of the disk
+abbrev pub CoversAll : Option (List ℕ) → Option (List ℕ) → (List ℕ → Type 0) → List ℕ → List NoteKind → Option (List Motion) → Type 0
+CoversAll held held' images' key units motions' = IfTold held (λ bytes. (records : List Rec) → StandsFor bytes records → IfTold held' (λ _. (image : List ℕ) → images' image → IsCovered key units image motions'))
+
+-- each image stands for a possible list of the guard that was handed back, and each list of an image is recorded
+pub covers-left : (held held' : Option (List ℕ)) (images' : List ℕ → Type 0) (key : List ℕ) (units : List NoteKind) (motions' : Option (List Motion)) (records : List Rec) (doubt : Option Rec)
+    → IfTold held' (λ _. (image : List ℕ) → images' image → HasPossible records doubt image)
+    → (is_some held' ≡ true → (image : List ℕ) → images' image → (J : List Rec) → StandsFor image J → IsRecorded key units J motions')
+    → CoversAll held held' images' key units motions'
+covers-left None held' images' key units motions' records doubt stored recorded = tt
+covers-left (Some bytes) None images' key units motions' records doubt stored recorded = λ J stands. tt
+covers-left (Some bytes) (Some now) images' key units motions' records doubt stored recorded = λ J stands image left.
+    let kept = stored image left in
+    record { records = kept.0; stands = inl kept.2; recorded = recorded refl image left kept.0 (inl kept.2) }
+
+-- ---- the records at the end begin with those of the boot
+
+stands-more : (held' : Option (List ℕ)) (images' : List ℕ → Type 0) (from records : List Rec) (doubt : Option Rec) → BeginsWith records from
+    → IfTold held' (λ _. (image : List ℕ) → images' image → HasPossible records doubt image) → IfTold held' (λ _. (image : List ℕ) → images' image → StandsForMore from image)
+stands-more None images' from records doubt begins stored = tt
+stands-more (Some now) images' from records doubt begins stored = λ image left.
+    let kept = stored image left in
+    record { list = kept.0; stands = inl kept.2; begins = begins-trans from records kept.0 begins (begins-possible records doubt kept.0 kept.1) }
+
+-- ---- the statuses of a server that has booted
+
+served-one : (ending : Ending) (settled : Result Unit Deny) (status : ℕ) → status ≡ served_status ending settled
+    → (status ≡ DISK_FAULT × ((deny : Deny) × (settled ≡ Err deny))) ⊎ ((status ≡ READ_TO_END × (ending ≡ taking.Served)) ⊎ ((status ≡ LINK_FAILED × (ending ≡ taking.Failed)) ⊎ (status ≡ NO_MEMORY)))
+served-one ending (Err deny) status is = inl (is, (deny, refl))
+served-one taking.Served (Ok done) status is = inr (inl (is, refl))
+served-one taking.Failed (Ok done) status is = inr (inr (inl (is, refl)))
+served-one taking.Memory (Ok done) status is = inr (inr (inr is))
+
+-- where the boot was not refused
+pub serves-booted : {M D : Type 0} (m : Mechanisms M) (d : Disks D) (core : Core M D) (connections : ℕ) (result : Return M D) (before now : DoorLog) (o : Output) (start : MachineView D) (last : State) (ending : Ending) (settled : Result Unit Deny)
+    → HasBooted m d core (guard_of start) → start.state ≡ bare start.state.seen core.life (length start.state.seen.guard.records)
+    → Takes connections ending before now → IsPrefix (chronicle start.state) (chronicle last) → IsPrefix start.state.seen.guard.records last.seen.guard.records
+    → Finishes m d last settled result.mech result.disk → result.status ≡ served_status ending settled
+    → WritesLast (served_line settled) o.faults o.faults_now o.held o.held_now → RunsServe m d core connections result before now o
+serves-booted m d core connections result before now o start last ending settled b bare_is takes goes_on prefix f status line = record {
+  serves = inr (record {
+    start = on_disk d.faults start;
+    begins = record { boots = starts-run d.faults (guard_of start) (at_entry m d core) b.records b.stands b.guard_is b.later; machine = bare_is };
+    writes = record {
+      ending = ending;
+      takes = takes;
+      last = last;
+      goes_on = goes_on;
+      settled = settled;
+      finishes = f;
+      status_is = status;
+      line = line;
+      begins = stands-more _ _ _ f.0.guard.records f.0.guard.in_doubt begun f.2.stored;
+    };
+  });
+  status_is = elim one [
+    | inl disk ↦ inr (inl disk.0)
+    | inr (inl all) ↦ inl all.0
+    | inr (inr (inl failed)) ↦ inr (inr (inr (inr (inl failed.0))))
+    | inr (inr (inr memory)) ↦ inr (inr (inr (inl memory)))
+  ];
+  came = λ zero_is. came_all zero_is;
+  failed = λ nine. doors_failed nine;
+  undialled = ap (λ (l : DoorLog). l.dials) takes.is;
+  disk_fault = λ six. inr (record { last = last; deny = (unsettled six).0; finishes = subst (λ s. Finishes m d last s result.mech result.disk) (unsettled six).1 f });
+  boots_once = boots-served m d core (guard_of start) result (unread_io o) b (λ seven. no_7 seven) (λ twelve. no_12 twelve);
+  finishes = λ doors disk settled_. told-any (d.held core.disk) _ (λ bytes J stands fits. done doors settled_);
+}
+  where
+    one : (result.status ≡ DISK_FAULT × ((deny : Deny) × (settled ≡ Err deny))) ⊎ ((result.status ≡ READ_TO_END × (ending ≡ taking.Served)) ⊎ ((result.status ≡ LINK_FAILED × (ending ≡ taking.Failed)) ⊎ (result.status ≡ NO_MEMORY)))
+    one = served-one ending settled result.status status
+
+    begun : BeginsWith f.0.guard.records start.state.seen.guard.records
+    begun = begins-trans _ last.seen.guard.records _ (record { more = prefix.0; is = sym prefix.1 }) (advances last (gone last f.0) finish (finished settled) f.1).records
+
+    came_all : result.status ≡ READ_TO_END → now.came ≡ counted connections before.came
+    came_all zero_is = elim one [
+      | inl disk ↦ absurd (let s = disk.0 in omega (arith, s, zero_is))
+      | inr (inl all) ↦ ap (λ (l : DoorLog). l.came) takes.is ∙ ap (λ n. counted n before.came) (takes.all all.1)
+      | inr (inr (inl failed)) ↦ absurd (let s = failed.0 in omega (arith, s, zero_is))
+      | inr (inr (inr memory)) ↦ absurd (omega (arith, memory, zero_is))
+    ]
+
+    rose : ending ≡ taking.Failed → Rose before.faults now.faults
+    rose is =
+        let same : now.faults ≡ next_count before.faults = ap (λ (l : DoorLog). l.faults) takes.is ∙ ap (λ e. counted (faults_in e) before.faults) is in
+        omega (arith, same)
+
+    doors_failed : result.status ≡ LINK_FAILED → Rose before.faults now.faults
+    doors_failed nine = elim one [
+      | inl disk ↦ absurd (let s = disk.0 in omega (arith, s, nine))
+      | inr (inl all) ↦ absurd (let s = all.0 in omega (arith, s, nine))
+      | inr (inr (inl failed)) ↦ rose failed.1
+      | inr (inr (inr memory)) ↦ absurd (omega (arith, memory, nine))
+    ]
+
+    unsettled : result.status ≡ DISK_FAULT → (deny : Deny) × (settled ≡ Err deny)
+    unsettled six = elim one [
+      | inl disk ↦ disk.1
+      | inr (inl all) ↦ absurd (let s = all.0 in omega (arith, s, six))
+      | inr (inr (inl failed)) ↦ absurd (let s = failed.0 in omega (arith, s, six))
+      | inr (inr (inr memory)) ↦ absurd (omega (arith, memory, six))
+    ]
+
+    done : ¬ (Rose before.faults now.faults) → ¬ (IsUnsettled m d result) → IsFinished result.status
+    done doors settled_ = elim one [
+      | inl disk ↦ absurd (settled_ (record { last = last; deny = disk.1.0; finishes = subst (λ s. Finishes m d last s result.mech result.disk) disk.1.1 f }))
+      | inr (inl all) ↦ inl all.0
+      | inr (inr (inl failed)) ↦ absurd (doors (rose failed.1))
+      | inr (inr (inr memory)) ↦ inr memory
+    ]
+
+    no : (n : ℕ) → result.status ≡ n → n ≢ 6 → n ≢ 0 → n ≢ 9 → n ≢ 8 → ⊥
+    no n is not_6 not_0 not_9 not_8 = elim one [
+      | inl disk ↦ not_6 (let s = disk.0 in omega (arith, is, s))
+      | inr (inl all) ↦ not_0 (let s = all.0 in omega (arith, is, s))
+      | inr (inr (inl failed)) ↦ not_9 (let s = failed.0 in omega (arith, is, s))
+      | inr (inr (inr memory)) ↦ not_8 (omega (arith, is, memory))
+    ]
+
+    no_7 : result.status ≢ 7
+    no_7 seven = no 7 seven (omega arith) (omega arith) (omega arith) (omega arith)
+
+    no_12 : result.status ≢ 12
+    no_12 twelve = no 12 twelve (omega arith) (omega arith) (omega arith) (omega arith)
+
+-- where it was refused
+pub serves-refused : {M D : Type 0} (m : Mechanisms M) (d : Disks D) (core : Core M D) (connections : ℕ) (why : BootFault) (result : Return M D) (before now : DoorLog) (o : Output)
+    → IsRefused m d core why result.mech result.disk → result.status ≡ boot_status why → WritesBoot why (unread_io o) → now ≡ before → RunsServe m d core connections result before now o
+serves-refused m d core connections why result before now o f status written same = record {
+  serves = inl (record { unbooted = record { why = why; status_is = status; unread = refl; written = written; unmoved = f.mech_is }; untaken = same });
+  status_is = refused-one why result.status status;
+  came = λ zero_is. absurd (omega (arith, low, status, zero_is));
+  failed = λ nine. absurd (not-nine why (sym status ∙ nine));
+  undialled = ap (λ (l : DoorLog). l.dials) same;
+  disk_fault = λ six. inl (ends-failed _ _ _ _ _ status written f.failed six);
+  boots_once = boots-refused m d core why result (unread_io o) f status written;
+  finishes = λ doors disk settled_. refused-finishes why _ _ _ _ _ _ status f.not_journal f.failed f.full disk;
+}
+  where
+    low : 6 ≤ boot_status why
+    low = (boot-least why).0
+
+    refused-one : (why : BootFault) (status : ℕ) → status ≡ boot_status why → IsOneOf (READ_TO_END ∷ DISK_FAULT ∷ NOT_A_JOURNAL ∷ NO_MEMORY ∷ LINK_FAILED ∷ JOURNAL_FULL ∷ []) status
+    refused-one (NotJournal at) status is = inr (inr (inl is))
+    refused-one Disk status is = inr (inl is)
+    refused-one Full status is = inr (inr (inr (inr (inr (inl is)))))
+    refused-one Memory status is = inr (inr (inr (inl is)))
+
+    not-nine : (why : BootFault) → boot_status why ≡ LINK_FAILED → ⊥
+    not-nine (NotJournal at) is = absurd (omega (arith, is))
+    not-nine Disk is = absurd (omega (arith, is))
+    not-nine Full is = absurd (omega (arith, is))
+    not-nine Memory is = absurd (omega (arith, is))
+
+-- the headline where the boot was refused: the images stand for the list at entry, or for that one with the Boot
+pub covers-upheld : (held held' : Option (List ℕ)) (images' : List ℕ → Type 0) (key : List ℕ) (units : List NoteKind) (motions motions' : Option (List Motion)) (places places' : Places)
+    → UpholdsAll held held' images' key units motions places motions' places' → CoversAll held held' images' key units motions'
+covers-upheld None held' images' key units motions motions' places places' upholds = tt
+covers-upheld (Some bytes) None images' key units motions motions' places places' upholds = λ J stands. tt
+covers-upheld (Some bytes) (Some now) images' key units motions motions' places places' upholds = λ J stands image left.
+    let u = upholds J stands image left in
+    record { records = u.records; stands = u.stands; recorded = u.recorded }
+
+-- no status of a server is that of words that are no command
+pub served-no-usage : (status : ℕ) → IsOneOf (READ_TO_END ∷ DISK_FAULT ∷ NOT_A_JOURNAL ∷ NO_MEMORY ∷ LINK_FAILED ∷ JOURNAL_FULL ∷ []) status → status ≢ 2
+served-no-usage status (inl is) two = omega (arith, is, two)
+served-no-usage status (inr (inl is)) two = omega (arith, is, two)
+served-no-usage status (inr (inr (inl is))) two = omega (arith, is, two)
+served-no-usage status (inr (inr (inr (inl is)))) two = omega (arith, is, two)
+served-no-usage status (inr (inr (inr (inr (inl is))))) two = omega (arith, is, two)
+served-no-usage status (inr (inr (inr (inr (inr (inl is)))))) two = omega (arith, is, two)
+served-no-usage status (inr (inr (inr (inr (inr (inr none)))))) two = absurd none

@@ -1,0 +1,95 @@
+-- A run of `serve`: the connections that it takes from its boot on, its statuses with their causes, and what the mechanism and the disk that come back are.
+use Rattle.std.specs.Prelude.{◌≡◌, ◌⊎◌, ◌∷◌, ℕ, List, [], Ok, Err, Result, String}
+use Rattle.std.specs.declared.alloc.Global.{Global}
+use mathlib.Core.List.{IsPrefix}
+use Rattle.xfs_base.specs.Causes.{IfTold, Rose}
+use Rattle.xfs_board.specs.Chronicles.{chronicle}
+use Rattle.xfs_disk.specs.declared.disk.Disk.{Ghosts as Disks}
+use Rattle.xfs_mech.specs.declared.mechanism.Mechanism.{Ghosts as Mechanisms}
+use Rattle.xfs_journal.specs.Image.{StandsFor}
+use Rattle.xfs_journal.specs.declared.record.Rec.{Rec}
+use Rattle.xfs_guard.specs.Lives.{BeginsWith}
+use Rattle.xfs_guard.specs.declared.deny.Deny.{Deny}
+use Rattle.xfs_guard.specs.declared.fail.BootFault.TheVariants.{Disk}
+use Rattle.xfs_guard.specs.declared.machine_core.Core.{Core}
+use Rattle.xfs_machine.specs.Endings.{Finishes}
+use Rattle.xfs_model.specs.State.{State}
+use Rattle.xfs_server.specs.Counted.{counted}
+use Rattle.xfs_server.specs.Doors.{DoorLog}
+use Rattle.xfs_serving.specs.Takings.{Takes}
+use Rattle.xfs_serving.specs.declared.ending.Ending.{Ending}
+use Rattle.xfs_serving.specs.declared.ending.Ending.TheVariants.{Served, Failed, Memory}
+use Rattle.xfs_cli.specs.Boots.{BootExceeds, EndsFailed, boot_line}
+use Rattle.xfs_cli.specs.BootsOnce.{BootsOnce}
+use Rattle.xfs_cli.specs.GuardStarts.{at_entry}
+use Rattle.xfs_cli.specs.LoadRuns.{Begins, MachineOnDisk}
+use Rattle.xfs_cli.specs.Returns.{Return, back}
+use Rattle.xfs_cli.specs.Run.{IsServeOf}
+use Rattle.xfs_cli.specs.Runs.{AtEntryList, FromStart, IsUnbooted}
+use Rattle.xfs_cli.specs.Served.{WritesLast}
+use Rattle.xfs_cli.specs.Statuses.{IsFinished, IsOneOf}
+use Rattle.xfs_cli.specs.Streams.{Output, unread_io}
+use Rattle.xfs_cli.specs.declared.ended.Ended.{Ended}
+use Rattle.xfs_cli.specs.declared.status.TheConstants.{DISK_FAULT, JOURNAL_FULL, LINK_FAILED, NOT_A_JOURNAL, NO_MEMORY, READ_TO_END}
+
+-- the status of a server whose taking ended so, unless the disk failed at the settling of an open order
+abbrev pub served_status : Ending → Result Unit Deny → ℕ
+served_status ending (Err deny) = DISK_FAULT
+served_status Served (Ok done) = READ_TO_END
+served_status Failed (Ok done) = LINK_FAILED
+served_status Memory (Ok done) = NO_MEMORY
+
+-- its last line, where it has one
+abbrev pub served_line : Result Unit Deny → List (List ℕ)
+served_line (Err deny) = boot_line Disk
+served_line (Ok done) = []
+
+-- the bytes stand for a list that begins with these records
+pub record StandsForMore (records : List Rec) (bytes : List ℕ) : Type 0 where
+  pub list : List Rec
+  pub stands : StandsFor bytes list
+  pub begins : BeginsWith list records
+
+-- so many connections are taken at the doors from a machine on, until one whose finish hands back the mechanism and the disk
+pub record ServesUntil {M D : Type 0} (m : Mechanisms M) (d : Disks D) (connections : ℕ) (result : Return M D) (before now : DoorLog) (o : Output) (start : MachineOnDisk) : Type 0 where
+  pub ending : Ending
+  pub takes : Takes connections ending before now
+  -- the last machine goes on from the first: its key and units are the same, and its records begin with those
+  pub last : State
+  pub goes_on : IsPrefix (chronicle start.machine) (chronicle last)
+  pub settled : Result Unit Deny
+  pub finishes : Finishes m d last settled result.mech result.disk
+  pub status_is : result.status ≡ served_status ending settled
+  pub line : WritesLast (served_line settled) o.faults o.faults_now o.held o.held_now
+  -- every image of the disk begins with the records of the boot
+  pub begins : IfTold (d.held result.disk) (λ _. (image : List ℕ) → d.images result.disk image → StandsForMore start.machine.seen.guard.records image)
+
+-- nothing was taken
+pub record IsUnserved {M D : Type 0} (core : Core M D) (result : Return M D) (before now : DoorLog) (o : Output) : Type 0 where
+  pub unbooted : IsUnbooted core result (unread_io o)
+  pub untaken : now ≡ before
+
+-- the disk failed when the open order of the last machine was settled
+pub record IsUnsettled {M D : Type 0} (m : Mechanisms M) (d : Disks D) (result : Return M D) : Type 0 where
+  pub last : State
+  pub deny : Deny
+  pub finishes : Finishes m d last (Err deny) result.mech result.disk
+
+pub record RunsServe {M D : Type 0} (m : Mechanisms M) (d : Disks D) (core : Core M D) (connections : ℕ) (result : Return M D) (before now : DoorLog) (o : Output) : Type 0 where
+  -- what is served: the connections from the boot on; or the boot is refused
+  pub serves : IsUnserved core result before now o ⊎ FromStart (Begins (at_entry m d core) core.life) (ServesUntil m d connections result before now o)
+  pub status_is : IsOneOf (READ_TO_END ∷ DISK_FAULT ∷ NOT_A_JOURNAL ∷ NO_MEMORY ∷ LINK_FAILED ∷ JOURNAL_FULL ∷ []) result.status
+  -- all connections came, or the doors failed
+  pub came : result.status ≡ READ_TO_END → now.came ≡ counted connections before.came
+  pub failed : result.status ≡ LINK_FAILED → Rose before.faults now.faults
+  pub undialled : now.dials ≡ before.dials
+  -- the statuses of a boot are those of a refused one; the disk may also have failed at the end
+  pub disk_fault : result.status ≡ DISK_FAULT → EndsFailed (d.faults core.disk) (d.faults result.disk) (unread_io o) ⊎ IsUnsettled m d result
+  pub boots_once : BootsOnce m d core result (unread_io o)
+  -- a run that nothing hinders takes all its connections, or memory runs out
+  pub finishes : ¬ (Rose before.faults now.faults) → ¬ (Rose (d.faults core.disk) (d.faults result.disk)) → ¬ (IsUnsettled m d result)
+      → AtEntryList d core.disk (λ records. ¬ (BootExceeds core.limits (m.places core.mech) records) → IsFinished result.status)
+
+-- so of the connections that the words say
+abbrev pub RunsServeOf : {M D L : Type 0} → List (String Global) → Mechanisms M → Disks D → Core M D → Ended M D L → DoorLog → DoorLog → Output → Type 0
+RunsServeOf words m d core ended before now o = (connections : ℕ) → IsServeOf connections words → RunsServe m d core connections (back ended) before now o

@@ -1,0 +1,63 @@
+//! The command `client`.
+
+ghost use Rattle.std.specs.Prelude.{◌≡◌, ◌↔◌, None};
+ghost use Rattle.xfs_cli.specs.ClientRuns.{RunsClientOf};
+ghost use Rattle.xfs_cli.specs.Moments.{WasOnTheWayAll};
+ghost use Rattle.xfs_cli.specs.Returns.{back};
+ghost use Rattle.xfs_cli.specs.Run.{IsClient};
+ghost use Rattle.xfs_cli.specs.Streams.{output};
+ghost use Rattle.xfs_cli.specs.TokenRuns.{IsKept};
+ghost use Rattle.xfs_cli.specs.Upholds.{AtRest, Starts, UpholdsAll};
+
+use crate::bench::Bench;
+use crate::ended::Ended;
+use crate::last_line::usage;
+use crate::status::USAGE;
+use crate::words::withdrawal_of;
+use std::alloc::Global;
+use std::sync::Wait;
+use xfs_base::{Clock, Sink};
+use xfs_disk::Disk;
+use xfs_mech::{Mechanism, Watch};
+use xfs_server::Doors;
+use xfs_withdraw::withdraw;
+
+/// Withdraws an amount over a link that is dialled for it, with a token under the core's key. It boots nothing and reads
+/// no input.
+pub fn client<R: Wait, K: Sink, M: Mechanism, D: Disk, P: Watch, Q: Watch, C: Clock, O: Doors>(
+    rt: &R,
+    alloc: Global,
+    words: &[String],
+    sink: &mut K,
+    bench: Bench<M, D, P, Q>,
+    clock: &C,
+    doors: &mut O,
+) -> Ended<M, D, O::Link>
+    requires starts { Starts M.Mechanism D.Disk bench.core }
+    requires at_rest { AtRest D.Disk bench.core.disk }
+    ensures upholds { UpholdsAll M.Mechanism D.Disk bench.core (back result) }
+    ensures any_moment { WasOnTheWayAll M.Mechanism D.Disk bench.core (back result) }
+    ensures kept { IsKept bench.core (back result) }
+    ensures runs { RunsClientOf words.now O.Link.log bench.core result (O.log doors.old) (O.log doors.new) (output K.Sink sink.old sink.new) }
+    ensures usage { (result.status ≡ USAGE) ↔ ¬ (IsClient words.now) }
+{
+    let Bench { core, cards, keys } = bench;
+    drop(cards);
+    drop(keys);
+    let Some((currency, amount)) = withdrawal_of(alloc, words) else {
+        usage(sink);
+        return Ended {
+            status: USAGE,
+            mech: core.mech,
+            disk: core.disk,
+            link: None,
+        };
+    };
+    let withdrawn = withdraw(rt, alloc, currency, amount, core.key, doors, clock, sink);
+    Ended {
+        status: withdrawn.ending.status(),
+        mech: core.mech,
+        disk: core.disk,
+        link: withdrawn.link,
+    }
+}

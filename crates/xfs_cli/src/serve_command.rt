@@ -1,0 +1,98 @@
+//! The command `serve`.
+
+ghost use Rattle.std.specs.Prelude.{◌≡◌, ◌≤◌};
+ghost use Rattle.xfs_cli.specs.Returns.{back};
+ghost use Rattle.xfs_cli.specs.ServeRuns.{RunsServe, served_line, served_status};
+ghost use Rattle.xfs_cli.specs.Served.{WritesLast};
+ghost use Rattle.xfs_cli.specs.Streams.{output};
+ghost use Rattle.xfs_cli.specs.Upholds.{AtRest, CoversAll, Starts};
+
+use crate::bench::Bench;
+use crate::ended::Ended;
+use crate::last_line::unbooted;
+use crate::status::{LINK_FAILED, NO_MEMORY, READ_TO_END};
+use std::alloc::Global;
+use std::sync::Wait;
+use std::thread::Threads;
+use xfs_base::{Clock, Sink};
+use xfs_disk::Disk;
+use xfs_guard::{BootFail, BootFault, Deny};
+use xfs_machine::Machine;
+use xfs_mech::{Mechanism, Watch};
+use xfs_server::{Doors, Gate};
+use xfs_serving::Ending;
+use xfs_serving_machine::{Served, serve_connections};
+
+/// Boots a machine, takes so many connections at the doors and serves them at once, each in a session of its own, and
+/// carries an open order out at the end. It reads no input.
+pub fn serve_machine<
+    R: Threads + Wait + Sync,
+    K: Sink,
+    M: Mechanism + Send,
+    D: Disk + Send,
+    P: Watch + Send,
+    Q: Watch + Send,
+    C: Clock + Sync,
+    O: Doors,
+    G: Gate + Sync,
+>(
+    rt: &R,
+    alloc: Global,
+    connections: u32,
+    sink: &mut K,
+    bench: Bench<M, D, P, Q>,
+    clock: &C,
+    doors: &mut O,
+    gate: &G,
+) -> Ended<M, D, O::Link>
+    requires units { M.units bench.core.mech ≡ bench.core.units }
+    requires starts { Starts M.Mechanism D.Disk bench.core }
+    requires at_rest { AtRest D.Disk bench.core.disk }
+    ensures covers { CoversAll M.Mechanism D.Disk bench.core (back result) }
+    ensures runs { RunsServe M.Mechanism D.Disk bench.core connections (back result) (O.log doors.old) (O.log doors.new) (output K.Sink sink.old sink.new) }
+    ensures units { M.units result.mech ≡ bench.core.units }
+    ensures undialled { result.link ≡ None }
+{
+    let Bench { core, cards, keys } = bench;
+    match Machine::boot(alloc, core) {
+        Ok(machine) => {
+            let Served { ending, machine } = serve_connections(
+                rt,
+                alloc,
+                connections,
+                machine,
+                doors,
+                clock,
+                gate,
+                cards,
+                keys,
+            );
+            let (settled, mech, disk) = machine.finish();
+            Ended {
+                status: settle(sink, ending, settled),
+                mech,
+                disk,
+                link: None,
+            }
+        }
+        Err(BootFail { why, mech, disk }) => Ended {
+            status: unbooted(sink, why),
+            mech,
+            disk,
+            link: None,
+        },
+    }
+}
+
+// The status of a server, once the line was written that the disk failed at the end, if it did.
+fn settle<K: Sink>(sink: &mut K, ending: Ending, settled: Result<(), Deny>) -> u8
+    ensures status { result ≡ served_status ending settled }
+    ensures line { WritesLast (served_line settled) (K.faults sink.old) (K.faults sink.new) (K.held sink.old) (K.held sink.new) }
+{
+    match (settled, ending) {
+        (Err(_), _) => unbooted(sink, BootFault::Disk),
+        (Ok(()), Ending::Served) => READ_TO_END,
+        (Ok(()), Ending::Failed) => LINK_FAILED,
+        (Ok(()), Ending::Memory) => NO_MEMORY,
+    }
+}
