@@ -1,40 +1,119 @@
-//! The program `xfs`: it makes the mechanism, an empty disk and the rest of the core, calls `run`, and ends with its status.
+//! The program `xfs`: it reads the files of the key and of the seed, makes the bench, calls `run`, and ends with its
+//! status. Only `serve` listens on ports and keeps its journal in a file; `client` dials.
 #![tactic(auto)]
 
-use std::io::ErrorKind;
-use std::process::ExitCode;
-use std::{env, io};
-use xfs_base::{StdSink, StdSource};
-use xfs_cli::run;
-use xfs_cli::status::NO_MEMORY;
-use xfs_simulated::{LIMITS, core_on, empty, mechanism, units};
+mod outside;
+mod start_fault;
 
-fn words_of(rt: &HostRuntime) -> io::Result<Vec<String>> {
-    let mut words = Vec::new(rt.alloc());
-    for word in env::args(rt)?.skip(1) {
-        words.push(word)?;
-    }
-    Ok(words)
-}
+use crate::outside::{open_journal, read_secrets, read_words};
+use crate::start_fault::StartFault;
+use std::alloc::Global;
+use std::io;
+use std::process::ExitCode;
+use std::sync::Wait;
+use std::thread::Threads;
+use xfs_base::{StdClock, StdSink, StdSource};
+use xfs_cli::{Bench, run};
+use xfs_disk::FileDisk;
+use xfs_mech::SimWatch;
+use xfs_server::OpenGate;
+use xfs_simulated::{
+    LIMITS, Secrets, card_news, core_resumed, core_under, empty, key_news, mechanism, units,
+};
+use xfs_sockets::{Ports, TcpDoors};
+use xfs_words::{Command, spelled};
+
+const PORTS: Ports = Ports {
+    publisher: 5846,
+    card: 5847,
+    keys: 5848,
+    cash: 5849,
+};
 
 fn main(rt: HostRuntime) -> ExitCode {
-    let alloc = rt.alloc();
-    let words = match words_of(&rt) {
-        Ok(words) => words,
-        Err(error) if error.kind() == ErrorKind::OutOfMemory => return ExitCode::from(NO_MEMORY),
-        // A word that is no text is of no table: no words give the same status.
-        Err(_) => Vec::new(alloc),
+    let status = match started(&rt, &rt) {
+        Ok(status) => status,
+        Err(fault) => fault.told(&rt),
     };
-    // Neither of these fails; every other status would claim a cause.
-    let Some(units) = units() else {
-        return ExitCode::from(NO_MEMORY);
+    ExitCode::from(status)
+}
+
+// Threads and waiting are had from `rt`; files, sockets and streams from `host`.
+fn started<R: Threads + Wait + Sync>(rt: &R, host: &HostRuntime) -> Result<u8, StartFault> {
+    let secrets = read_secrets(host)?;
+    let words = read_words(host)?;
+    match spelled(&words) {
+        Some(Command::Serve(_)) => serve(rt, host, &words, secrets),
+        _ => other(rt, host, &words, secrets),
+    }
+}
+
+// The ports come before the file, so that a server that runs already keeps its journal to itself.
+fn serve<R: Threads + Wait + Sync>(
+    rt: &R,
+    host: &HostRuntime,
+    words: &[String],
+    secrets: Secrets,
+) -> Result<u8, StartFault> {
+    let alloc = host.alloc();
+    let clock = StdClock::new(host);
+    let mut doors = TcpDoors::open(host, alloc, &clock, PORTS)?;
+    let disk = FileDisk::new(open_journal(host)?);
+    let bench = Bench {
+        core: core_resumed(alloc, disk, secrets)?,
+        cards: card_news(alloc)?,
+        keys: key_news(alloc)?,
     };
-    let Some(mech) = mechanism(alloc, &units, Vec::new(alloc)) else {
-        return ExitCode::from(NO_MEMORY);
+    let mut source = StdSource::new(host.reader());
+    let mut sink = StdSink::new(io::writer(host));
+    let ended = run(
+        rt,
+        alloc,
+        words,
+        &mut source,
+        &mut sink,
+        bench,
+        &clock,
+        &mut doors,
+        &OpenGate,
+    );
+    Ok(ended.status)
+}
+
+// Every other command: its doors only dial, and its disk is in memory.
+fn other<R: Threads + Wait + Sync>(
+    rt: &R,
+    host: &HostRuntime,
+    words: &[String],
+    secrets: Secrets,
+) -> Result<u8, StartFault> {
+    let alloc = host.alloc();
+    let clock = StdClock::new(host);
+    let mut doors = TcpDoors::outward(host, alloc, &clock, PORTS)?;
+    let units = units().ok_or(StartFault::Memory)?;
+    let mech = mechanism(alloc, &units, Vec::new(alloc)).ok_or(StartFault::Memory)?;
+    let bench = Bench {
+        core: core_under(secrets, mech, units, empty(alloc), LIMITS),
+        cards: silent(alloc),
+        keys: silent(alloc),
     };
-    let core = core_on(mech, units, empty(alloc), LIMITS);
-    let mut source = StdSource::new(rt.reader());
-    let mut sink = StdSink::new(io::writer(&rt));
-    let ended = run(alloc, words.as_slice(), &mut source, &mut sink, core);
-    ExitCode::from(ended.status)
+    let mut source = StdSource::new(host.reader());
+    let mut sink = StdSink::new(io::writer(host));
+    let ended = run(
+        rt,
+        alloc,
+        words,
+        &mut source,
+        &mut sink,
+        bench,
+        &clock,
+        &mut doors,
+        &OpenGate,
+    );
+    Ok(ended.status)
+}
+
+// A watch that has nothing to tell.
+fn silent(alloc: Global) -> SimWatch {
+    SimWatch::new(Vec::new(alloc), Vec::new(alloc))
 }

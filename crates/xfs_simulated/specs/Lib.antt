@@ -1,1 +1,5 @@
+pub mod Leaving
+pub mod News
+pub mod Resumed
+pub mod Secrets
 pub mod Simulated

@@ -1,9 +1,20 @@
-//! The simulated machine that the program runs on: its units, notes, limits, key and seed, its mechanism and its disk.
+//! What main hands to the program: the simulated machine with its units, notes, limits, mechanism and disk, its key and
+//! seed, the news of its card slot and key pad, and the machine that goes on where a journal leaves it.
 #![tactic(auto)]
 
+mod leaving;
 mod machine;
+mod news;
+mod resumed;
+mod secret;
 
-pub use machine::{KEY, LIMITS, SEED, core_on, empty, mechanism, places, units};
+pub use leaving::places_left;
+pub use machine::{
+    KEY, LIMITS, SEED, core_on, core_under, empty, mechanism, places, quiet_bench, units,
+};
+pub use news::{card_news, key_news};
+pub use resumed::{LIFE, core_resumed};
+pub use secret::{OWN, Secrets, secret_in};
 
 #[cfg(test)]
 mod tests;

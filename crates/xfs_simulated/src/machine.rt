@@ -8,12 +8,14 @@ ghost use Rattle.xfs_journal.specs.declared.record.Rec.{Rec};
 ghost use Rattle.xfs_mech.specs.Sim.{units_of, places_of, motions_of, faults_of, failures_of};
 ghost use Rattle.xfs_simulated.specs.Simulated.{four_units, filled};
 
+use crate::secret::{OWN, Secrets};
 use std::alloc::Global;
 use xfs_base::{Counts, Currency, NoteKind, Places, UnitTable};
-use xfs_disk::MemDisk;
+use xfs_cli::Bench;
+use xfs_disk::{Disk, MemDisk};
 use xfs_guard::Core;
 use xfs_journal::Limits;
-use xfs_mech::{Fault, Mechanism, SimMech, places_fit};
+use xfs_mech::{Fault, Mechanism, SimMech, SimWatch, places_fit};
 
 /// The key of the tokens' HMAC: 32 bytes 0x0b.
 pub const KEY: [u8; 32] = [0x0b; 32];
@@ -103,13 +105,49 @@ pub fn core_on<M: Mechanism>(
     ensures starts { (image : List ℕ) → MayBe result.disk image → (records : List Rec) → StandsFor image records → IsRecorded result.key result.units records (M.motions result.mech) }
     ensures at_rest { Only (bytes_of result.disk) (MayBe result.disk) }
 {
+    core_under(OWN, mech, units, disk, limits)
+}
+
+/// The same with other secrets. A nonce lives without an end.
+pub fn core_under<M: Mechanism>(
+    secrets: Secrets,
+    mech: M,
+    units: UnitTable,
+    disk: MemDisk,
+    limits: Limits,
+) -> Core<M, MemDisk>
+    requires fresh { IfTold (M.motions mech) (λ motions. motions ≡ []) }
+    requires units { M.units mech ≡ units }
+    requires settled { steps_of disk ≡ [] }
+    requires none { (records : List Rec) → ¬ IsImage (bytes_of disk) records }
+    ensures handed { (result.mech ≡ mech) × (result.disk ≡ disk) × (result.units ≡ units) × (result.limits ≡ limits) }
+    ensures secrets { (result.key ≡ secrets.key) × (result.seed ≡ secrets.seed) × (result.life ≡ 0) }
+    ensures units { M.units result.mech ≡ result.units }
+    ensures starts { (image : List ℕ) → MayBe result.disk image → (records : List Rec) → StandsFor image records → IsRecorded result.key result.units records (M.motions result.mech) }
+    ensures at_rest { Only (bytes_of result.disk) (MayBe result.disk) }
+{
+    let Secrets { key, seed } = secrets;
     Core {
         mech,
         disk,
-        key: KEY,
-        seed: SEED,
+        key,
+        seed,
         units,
         limits,
         life: 0,
+    }
+}
+
+/// A bench over this core, whose card slot and key pad have no news.
+pub fn quiet_bench<M: Mechanism, D: Disk>(
+    alloc: Global,
+    core: Core<M, D>,
+) -> Bench<M, D, SimWatch, SimWatch>
+    ensures { result.core ≡ core }
+{
+    Bench {
+        core,
+        cards: SimWatch::new(Vec::new(alloc), Vec::new(alloc)),
+        keys: SimWatch::new(Vec::new(alloc), Vec::new(alloc)),
     }
 }

@@ -1,5 +1,16 @@
-use crate::{LIMITS, core_on, empty, mechanism, places, units};
+ghost use Rattle.std.specs.Prelude.{IfOk};
+ghost use Rattle.xfs_journal.specs.Image.{HasUnit};
+
+use crate::{
+    LIFE, LIMITS, OWN, card_news, core_on, core_resumed, empty, key_news, mechanism, places,
+    secret_in, units,
+};
+use std::alloc::Global;
 use std::test::Fail;
+use xfs_base::{Counts, Kind, Places};
+use xfs_disk::MemDisk;
+use xfs_journal::{Journal, Rec, Survey};
+use xfs_mech::{KeyName, Mechanism, News, Touch, Watch};
 
 #[test]
 fn the_machine_is_made(rt: HostRuntime) -> Result<(), Fail> {
@@ -10,5 +21,157 @@ fn the_machine_is_made(rt: HostRuntime) -> Result<(), Fail> {
     let core = core_on(mech, units, empty(alloc), LIMITS);
     assert_eq!(rt; core.limits, LIMITS);
     assert_eq!(rt; places().units.notes(), 400);
+    Ok(())
+}
+
+#[test]
+fn secrets_are_64_digits_and_at_most_a_line_feed(rt: HostRuntime) {
+    let digits = "000102030405060708090A0B0C0D0E0F101112131415161718191a1b1c1d1e1f";
+    let mut bytes = [0u8; 32];
+    for place in 0..32u8 {
+        bytes[usize::from(place)] = place;
+    }
+    for end in ["", "\n"] {
+        let text = format!(in rt.alloc(); "{digits}{end}").expect(&rt, "memory");
+        assert_eq!(rt; secret_in(text.as_bytes()), Some(bytes), "{end:?}");
+    }
+    for end in ["0", "00", "\n\n", "\r\n", " ", "\u{0}"] {
+        let text = format!(in rt.alloc(); "{digits}{end}").expect(&rt, "memory");
+        assert_eq!(rt; secret_in(text.as_bytes()), None, "{end:?}");
+    }
+    for front in ["", "0", "\n", "0x", "-", "g"] {
+        let rest = digits
+            .as_bytes()
+            .get(front.len() + 1..)
+            .expect(&rt, "digits");
+        let rest = std::str::from_utf8(rest).expect(&rt, "digits");
+        let text = format!(in rt.alloc(); "{front}{rest}").expect(&rt, "memory");
+        assert_eq!(rt; secret_in(text.as_bytes()), None, "{front:?}");
+    }
+}
+
+#[test]
+fn cards_come_and_are_taken(rt: HostRuntime) -> Result<(), Fail> {
+    let mut watch = card_news(rt.alloc())?;
+    for _ in 0..100 {
+        let News::Touch(Touch::CardIn(tracks)) = watch.next() else {
+            return Err("a card".into());
+        };
+        assert_eq!(rt; tracks.track(2), Some(b";1234".as_slice()));
+        assert!(rt; tracks.track(1).is_none() && tracks.track(3).is_none());
+        assert!(rt; matches!(watch.next(), News::Touch(Touch::CardTaken)));
+    }
+    assert!(rt; matches!(watch.next(), News::Quiet));
+    Ok(())
+}
+
+#[test]
+fn entries_end_with_enter(rt: HostRuntime) -> Result<(), Fail> {
+    let mut watch = key_news(rt.alloc())?;
+    for _ in 0..100 {
+        for key in [
+            KeyName::One,
+            KeyName::Two,
+            KeyName::Three,
+            KeyName::Four,
+            KeyName::Enter,
+        ] {
+            let News::Touch(Touch::Key(pressed)) = watch.next() else {
+                return Err("a key".into());
+            };
+            assert_eq!(rt; pressed, key);
+        }
+    }
+    assert!(rt; matches!(watch.next(), News::Quiet));
+    Ok(())
+}
+
+// So many notes of EUR 20, the second unit.
+fn twenties(count: u32) -> Counts {
+    Counts([0, count, 0, 0, 0, 0, 0, 0])
+}
+
+// A Boot with so many notes of EUR 20 in their unit, and none elsewhere.
+fn boot(alloc: Global, count: u32) -> Result<Rec, Fail>
+    ensures { IfOk result HasUnit }
+{
+    let places = Places {
+        units: twenties(count),
+        ..places_of_none()
+    };
+    Ok(Rec::Boot {
+        places: Survey::new(alloc, places)?,
+    })
+}
+
+fn places_of_none() -> Places {
+    Places {
+        units: Counts([0; 8]),
+        ..places()
+    }
+}
+
+// A disk with a journal: so many notes of EUR 20 at its Boot, of which some were stacked and presented.
+fn paid(alloc: Global, count: u32, moved: u32) -> Result<Journal<MemDisk>, Fail> {
+    let Ok(mut journal) = Journal::mount(alloc, empty(alloc), LIMITS) else {
+        return Err("a journal".into());
+    };
+    journal.append(boot(alloc, 1)?)?;
+    journal.append(boot(alloc, count)?)?;
+    for kind in [Kind::Stack, Kind::Present] {
+        journal.append(Rec::Order {
+            kind,
+            counts: twenties(moved),
+        })?;
+        journal.append(Rec::Done {
+            moved: twenties(moved),
+            diverted: twenties(0),
+        })?;
+    }
+    Ok(journal)
+}
+
+#[test]
+fn the_machine_goes_on_where_its_journal_leaves_it(rt: HostRuntime) -> Result<(), Fail> {
+    let alloc = rt.alloc();
+    let mut journal = paid(alloc, 9, 2)?;
+    journal.append(Rec::Load { unit: 2, count: 5 })?;
+    journal.append(Rec::Order {
+        kind: Kind::Stack,
+        counts: twenties(3),
+    })?;
+    let core = core_resumed(alloc, journal.end(), OWN)?;
+    let left = Places {
+        units: twenties(12),
+        taken: twenties(2),
+        ..places_of_none()
+    };
+    assert_eq!(rt; core.mech.survey(), left);
+    assert_eq!(rt; core.mech.motions().len(), 4);
+    assert_eq!(rt; core.life, LIFE);
+    Ok(())
+}
+
+#[test]
+fn places_that_no_machine_has_are_not_taken(rt: HostRuntime) -> Result<(), Fail> {
+    let alloc = rt.alloc();
+    for (count, moved) in [(10_001, 0), (1, 2), (4_000_000_001, 4_000_000_001)] {
+        let journal = paid(alloc, count, moved)?;
+        let core = core_resumed(alloc, journal.end(), OWN)?;
+        assert_eq!(rt; core.mech.survey(), places(), "{count}");
+    }
+    Ok(())
+}
+
+#[test]
+fn a_disk_without_a_journal_has_a_full_machine(rt: HostRuntime) -> Result<(), Fail> {
+    let alloc = rt.alloc();
+    for bytes in [b"".as_slice(), &[0xff; 9], &[0xff; 10]] {
+        let disk = MemDisk::new(alloc, Vec::from_slice(alloc, bytes)?);
+        let core = core_resumed(alloc, disk, OWN)?;
+        assert_eq!(rt; core.mech.survey(), places());
+        assert!(rt; core.mech.motions().is_empty());
+        assert!(rt; bytes.len() < 10 || core.disk.bytes() == bytes);
+    }
     Ok(())
 }

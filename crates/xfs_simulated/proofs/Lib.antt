@@ -1,0 +1,3 @@
+pub mod LeavingLaws
+pub mod NewsLaws
+pub mod ResumedLaws

@@ -1,0 +1,107 @@
+//! The machine that goes on where a journal leaves it.
+
+ghost use Rattle.std.specs.Prelude.{◌≡◌, ◌≢◌, ◌⊎◌, List, IfOk, IfSome};
+ghost use Rattle.xfs_base.specs.Causes.{IfTold, Rose};
+ghost use Rattle.xfs_journal.specs.Image.{StandsFor};
+ghost use Rattle.xfs_journal.specs.declared.faults.MountFault.TheVariants.{Memory as NoMemory};
+ghost use Rattle.xfs_journal.specs.declared.record.Rec.{Rec};
+ghost use Rattle.xfs_mech.specs.Sim.{motions_of as done_by, places_of, units_of};
+ghost use Rattle.xfs_simulated.specs.Resumed.{GoesOn, IsResumed};
+ghost use Rattle.xfs_simulated.specs.Simulated.{four_units};
+
+use crate::leaving::places_left;
+use crate::machine::{LIMITS, places, units};
+use crate::secret::Secrets;
+use std::alloc::Global;
+use xfs_base::{Memory, Places, UnitTable};
+use xfs_disk::Disk;
+use xfs_guard::{Core, motions_of};
+use xfs_journal::{Journal, MountFail, MountFault, Rec};
+use xfs_mech::{Motion, SimMech, places_fit};
+
+/// For how many milliseconds a nonce lives in a server.
+pub const LIFE: u32 = 600_000;
+
+/// A core whose mechanism goes on where the journal on the disk leaves it: with the motions that the records stand for,
+/// and the notes where they leave them. Where they leave them nowhere, and where the disk's bytes can't be used, each
+/// unit has 100 notes. It is refused only for want of memory.
+pub fn core_resumed<D: Disk>(
+    alloc: Global,
+    disk: D,
+    secrets: Secrets,
+) -> Result<Core<SimMech, D>, Memory>
+    ensures handed { IfOk result (λ core. (core.key ≡ secrets.key) × (core.seed ≡ secrets.seed) × (core.units ≡ four_units) × (core.limits ≡ LIMITS) × (core.life ≡ LIFE)) }
+    ensures units { IfOk result (λ core. units_of core.mech ≡ core.units) }
+    ensures resumed { IfOk result (λ core. IfTold (D.held disk) (λ bytes. (records : List Rec) → StandsFor bytes records → Rose (D.faults disk) (D.faults core.disk) ⊎ IsResumed records core.mech)) }
+{
+    let Secrets { key, seed } = secrets;
+    let units = units().ok_or(Memory)?;
+    let (disk, told) = read_back(alloc, &units, disk)?;
+    let mech = resumed(alloc, &units, told).ok_or(Memory)?;
+    Ok(Core {
+        mech,
+        disk,
+        key,
+        seed,
+        units,
+        limits: LIMITS,
+        life: LIFE,
+    })
+}
+
+// What a journal tells of the mechanism.
+#[derive(Drop)]
+struct Told {
+    motions: Vec<Motion>,
+    places: Places,
+}
+
+// None where the notes pass the limits of the units, which they never do.
+fn resumed(alloc: Global, units: &UnitTable, told: Told) -> Option<SimMech>
+    ensures units { IfSome result (λ mech. units_of mech ≡ units.now) }
+    ensures told { IfSome result (λ mech. (done_by mech ≡ told.motions.items) × (places_of mech ≡ told.places)) }
+{
+    if places_fit(units, &told.places) {
+        Some(SimMech::resume(alloc, units.copied(), told.places, told.motions))
+    } else {
+        None
+    }
+}
+
+// Reads the journal of a disk, and hands the disk back.
+fn read_back<D: Disk>(alloc: Global, units: &UnitTable, disk: D) -> Result<(D, Told), Memory>
+    ensures { IfOk result (λ back. IfTold (D.held disk) (λ bytes. (records : List Rec) → StandsFor bytes records
+        → Rose (D.faults disk) (D.faults back.0) ⊎ GoesOn units.now records back.1.motions.items back.1.places)) }
+{
+    match Journal::mount(alloc, disk, LIMITS) {
+        Ok(journal) => {
+            let told = told_by(alloc, units, journal.records())?;
+            Ok((journal.end(), told))
+        }
+        Err(MountFail { why, disk }) => Ok((disk, untold(alloc, why)?)),
+    }
+}
+
+// Bytes that can't be used tell nothing.
+fn untold(alloc: Global, why: MountFault) -> Result<Told, Memory>
+    ensures { IfOk result (λ _. why ≢ NoMemory) }
+{
+    match why {
+        MountFault::Memory => Err(Memory),
+        MountFault::NotJournal { .. } | MountFault::Disk => Ok(Told {
+            motions: Vec::new(alloc),
+            places: places(),
+        }),
+    }
+}
+
+fn told_by(alloc: Global, units: &UnitTable, records: &[Rec]) -> Result<Told, Memory>
+    ensures { IfOk result (λ told. GoesOn units.now records.now told.motions.items told.places) }
+{
+    let motions = motions_of(alloc, records)?;
+    let places = match places_left(alloc, units, records)? {
+        Some(left) => left,
+        None => places(),
+    };
+    Ok(Told { motions, places })
+}
