@@ -1,5 +1,5 @@
-//! A withdrawal by the command `guard` over a disk that fails from one of its calls on, and a second run over what
-//! came back.
+//! A withdrawal by the commands `guard` and `replay` over a disk that dies at one of its calls, and a second run over
+//! what came back.
 
 ghost use Rattle.std.specs.Prelude.{◌≡◌, ℕ, List, Some, IfOk};
 ghost use Rattle.xfs_mech.specs.Sim.{units_of, motions_of};
@@ -8,16 +8,18 @@ ghost use Rattle.xfs_disk.specs.MemDisk.{IsImage as MayBe, bytes_of};
 ghost use Rattle.xfs_journal.specs.Image.{StandsFor};
 ghost use Rattle.xfs_journal.specs.declared.record.Rec.{Rec};
 ghost use Rattle.xfs_guard.specs.Recorded.{IsRecorded};
+ghost use Rattle.xfs_cli.specs.Returns.{back};
+ghost use Rattle.xfs_cli.specs.Upholds.{AtRest, Starts, UpholdsAll};
 
 use std::alloc::Global;
 use std::process::Abort;
 use std::test::Fail;
 use xfs_base::{Counts, Currency, Kind, MemSink, MemSource};
-use xfs_cli::guard;
-use xfs_disk::MemDisk;
+use xfs_cli::{Bench, Ended, guard, replay};
+use xfs_disk::{Disk, MemDisk};
 use xfs_guard::Core;
-use xfs_mech::{Mechanism, Motion, SimMech, places_fit};
-use xfs_simulated::{LIMITS, empty, quiet_bench};
+use xfs_mech::{Mechanism, Motion, SimMech, SimWatch, places_fit};
+use xfs_simulated::{LIMITS, empty};
 use xfs_testbench::{GENUINE, failing_core, lines_of, listed, shown, sim_on, units, words_of};
 
 const NONE: Counts = Counts([0; 8]);
@@ -36,11 +38,53 @@ struct Run {
     motions: Vec<Motion>,
 }
 
-// Runs `guard` on a script over an empty disk whose calls at these places fail. Then the power is cut: the machine
+/// The command by which a script is played.
+#[derive(Clone, Copy)]
+enum Command {
+    Guard,
+    Replay,
+}
+
+impl Command {
+    fn word(self) -> &'static str {
+        match self {
+            Command::Guard => "guard",
+            Command::Replay => "replay",
+        }
+    }
+}
+
+// Plays the script of a source by a command, where no card and no key comes.
+fn played<M: Mechanism, D: Disk>(
+    alloc: Global,
+    command: Command,
+    words: &[String],
+    source: &mut MemSource,
+    sink: &mut MemSink,
+    core: Core<M, D>,
+) -> Ended<M, D, ()>
+    requires units { M.units core.mech ≡ core.units }
+    requires starts { Starts M.Mechanism D.Disk core }
+    requires at_rest { AtRest D.Disk core.disk }
+    ensures upholds { UpholdsAll M.Mechanism D.Disk core (back result) }
+{
+    let bench = Bench {
+        core,
+        cards: SimWatch::new(Vec::new(alloc), Vec::new(alloc)),
+        keys: SimWatch::new(Vec::new(alloc), Vec::new(alloc)),
+    };
+    match command {
+        Command::Guard => guard(alloc, words, source, sink, bench),
+        Command::Replay => replay(alloc, words, source, sink, bench),
+    }
+}
+
+// Runs a command on a script over an empty disk whose calls at these places fail. Then the power is cut: the machine
 // that comes back has the image of its disk that this picks.
 fn run_cut(
     rt: &impl Abort,
     alloc: Global,
+    command: Command,
     script: &[u8],
     failing: Vec<u64>,
     pick: u64,
@@ -55,9 +99,8 @@ fn run_cut(
     let (key, seed, units) = (core.key, core.seed, core.units.copied());
     let mut source = MemSource::new(listed(alloc, script)?, Vec::new(alloc));
     let mut sink = MemSink::new(alloc, Vec::new(alloc));
-    let words = words_of(alloc, &["guard"])?;
-    let bench = quiet_bench(alloc, core);
-    let ended = guard(alloc, words.as_slice(), &mut source, &mut sink, bench);
+    let words = words_of(alloc, &[command.word()])?;
+    let ended = played(alloc, command, &words, &mut source, &mut sink, core);
     let places = ended.mech.survey();
     assert!(rt; places_fit(&units, &places));
     let motions = copied(alloc, ended.mech.motions())?;
@@ -74,17 +117,21 @@ fn run_cut(
     Ok((told, core))
 }
 
-// Runs `guard` on a script over a machine that came back.
-fn run_again(alloc: Global, script: &[u8], core: Core<SimMech, MemDisk>) -> Result<Run, Fail>
+// Runs a command on a script over a machine that came back.
+fn run_again(
+    alloc: Global,
+    command: Command,
+    script: &[u8],
+    core: Core<SimMech, MemDisk>,
+) -> Result<Run, Fail>
     requires units { units_of core.mech ≡ core.units }
     requires starts { (c : List ℕ) → MayBe core.disk c → (records : List Rec) → StandsFor c records → IsRecorded core.key core.units records (Some (motions_of core.mech)) }
     requires at_rest { Only (bytes_of core.disk) (MayBe core.disk) }
 {
     let mut source = MemSource::new(listed(alloc, script)?, Vec::new(alloc));
     let mut sink = MemSink::new(alloc, Vec::new(alloc));
-    let words = words_of(alloc, &["guard"])?;
-    let bench = quiet_bench(alloc, core);
-    let ended = guard(alloc, words.as_slice(), &mut source, &mut sink, bench);
+    let words = words_of(alloc, &[command.word()])?;
+    let ended = played(alloc, command, &words, &mut source, &mut sink, core);
     told(alloc, ended.status, &sink, &ended.mech)
 }
 
@@ -198,7 +245,7 @@ fn a_withdrawal_whose_disk_fails_puts_out_no_more_and_is_over_at_the_next_run(
     ];
     for (first, last, status, answers, motions) in rows {
         for call in first..=last {
-            for pick in [0, 1] {
+            for pick in 0..=7 {
                 let told = withdrawn(&rt, rt.alloc(), call, pick, motions)?;
                 assert_eq!(rt; told.0, status, "status from call {call} on");
                 assert_eq!(rt;
@@ -227,12 +274,19 @@ fn withdrawn(
     motions: usize,
 ) -> Result<(u8, Vec<u8>), Fail> {
     let lines = lines_of(alloc, PAY.as_bytes())?;
-    let (first, core) = run_cut(rt, alloc, &lines, from_on(alloc, call)?, pick)?;
+    let (first, core) = run_cut(
+        rt,
+        alloc,
+        Command::Guard,
+        &lines,
+        from_on(alloc, call)?,
+        pick,
+    )?;
     let moved = paid_out();
     let moved = moved.get(..motions).ok_or("more motions")?;
     assert!(rt; first.motions.as_slice() == moved, "from call {call} on");
     let script = format!(in alloc; "dispense {GENUINE} unit3:1\nmint 50EUR\npresent\n")?;
-    let again = run_again(alloc, script.as_bytes(), core)?;
+    let again = run_again(alloc, Command::Guard, script.as_bytes(), core)?;
     let boot = boot_after(call, pick);
     let answers = format!(in alloc;
         "refused noCommandNonce record {boot}/token none/refused noCommandNonce record {boot}"
@@ -248,4 +302,72 @@ fn withdrawn(
         "after call {call}, pick {pick}"
     );
     Ok((first.status, first.answers))
+}
+
+// A nonce, a token for it, and a note of EUR 50 that is stacked and presented.
+const PAY_BY_MESSAGES: &[u8] =
+    b"join 1 cash\nsay 1 {\"header\":{\"name\":\"Common.GetCommandNonce\",\"requestId\":1,\"type\":\"command\"}}\nrest\nmint 50.00EUR\nsay 1 {\"header\":{\"name\":\"CashDispenser.Dispense\",\"requestId\":2,\"type\":\"command\"},\"payload\":{\"denomination\":{\"values\":{\"unit3\":1}},\"mix\":\"individual\",\"token\":\"@\"}}\nrest\nsay 1 {\"header\":{\"name\":\"CashDispenser.Present\",\"requestId\":3,\"type\":\"command\"}}\nrest\n";
+
+// The token of that nonce is used once more, and what lies on the transport is to be presented.
+const AGAIN: &str =
+    "join 1 cash\nsay 1 {\"header\":{\"name\":\"CashDispenser.Dispense\",\"requestId\":1,\"type\":\"command\"},\"payload\":{\"denomination\":{\"values\":{\"unit3\":1}},\"mix\":\"individual\",\"token\":\"TOKEN\"}}\nrest\nsay 1 {\"header\":{\"name\":\"CashDispenser.Present\",\"requestId\":2,\"type\":\"command\"}}\nrest\nshow\n";
+
+// What is answered to that where the nonce is over, with BOOT for the number of the Boot that ended it and UNIT for the
+// places of the notes of EUR 50.
+const OVER: &str =
+    "joined 1/1 {\"header\":{\"name\":\"CashDispenser.Dispense\",\"requestId\":1,\"type\":\"acknowledge\",\"version\":\"2.0\"}}/rested 2/1 {\"header\":{\"completionCode\":\"noCommandNonce\",\"name\":\"CashDispenser.Dispense\",\"requestId\":1,\"type\":\"completion\",\"version\":\"2.0\"},\"payload\":{\"journalRecord\":BOOT}}/1 {\"header\":{\"name\":\"CashDispenser.Present\",\"requestId\":2,\"type\":\"acknowledge\",\"version\":\"2.0\"}}/rested 3/1 {\"header\":{\"completionCode\":\"noCommandNonce\",\"name\":\"CashDispenser.Present\",\"requestId\":2,\"type\":\"completion\",\"version\":\"2.0\"},\"payload\":{\"journalRecord\":BOOT}}/unit1 100 0 0 0 0 0/unit2 100 0 0 0 0 0/unit3 UNIT/unit4 100 0 0 0 0 0";
+
+// Where the machine's disk dies from this call on, the mechanism makes so many of the withdrawal's motions. The next
+// machine has the notes where they lie, carries no order out, and the token serves no more.
+fn is_over_after(
+    rt: &impl Abort,
+    alloc: Global,
+    call: u64,
+    pick: u64,
+    motions: usize,
+    unit: &str,
+) -> Result<u8, Fail> {
+    let failing = from_on(alloc, call)?;
+    let (first, core) = run_cut(rt, alloc, Command::Replay, PAY_BY_MESSAGES, failing, pick)?;
+    let moved = paid_out();
+    let moved = moved.get(..motions).ok_or("more motions")?;
+    assert!(rt; first.motions.as_slice() == moved, "from call {call} on");
+    let script = AGAIN.replace(alloc, "TOKEN", GENUINE)?;
+    let again = run_again(alloc, Command::Replay, script.as_bytes(), core)?;
+    let boot = format!(in alloc; "{}", boot_after(call, pick))?;
+    let answers = OVER.replace(alloc, "BOOT", &boot)?;
+    let answers = answers.replace(alloc, "UNIT", unit)?;
+    assert_eq!(rt; again.status, 0, "status after call {call}, pick {pick}");
+    assert_eq!(rt;
+        again.answers.as_slice(),
+        answers.as_bytes(),
+        "after call {call}, pick {pick}"
+    );
+    assert!(rt;
+        again.motions.as_slice() == moved,
+        "after call {call}, pick {pick}"
+    );
+    Ok(first.status)
+}
+
+// Behind the boot's 8 calls, the Issue, the Bind, and the Order and the Done of each of the two orders make 4 each.
+#[test]
+fn a_machine_whose_disk_dies_has_its_withdrawal_over_at_the_next_boot(
+    rt: HostRuntime,
+) -> Result<(), Fail> {
+    let rows: [(u64, u64, u8, usize, &str); 4] = [
+        (1, 8, 6, 0, "100 0 0 0 0 0"),
+        (9, 20, 0, 0, "100 0 0 0 0 0"),
+        (21, 28, 0, 1, "99 1 0 0 0 0"),
+        (29, 33, 0, 2, "99 0 1 0 0 0"),
+    ];
+    for (first, last, status, motions, unit) in rows {
+        for call in first..=last {
+            for pick in 0..=7 {
+                let told = is_over_after(&rt, rt.alloc(), call, pick, motions, unit)?;
+                assert_eq!(rt; told, status, "status from call {call} on");
+            }
+        }
+    }
+    Ok(())
 }

@@ -20,6 +20,6 @@ upheld-starts key units L L' P P' c J upheld stands = rw (stands_for_one c J uph
 pub returns-clause-starts : goal.returns-clause-starts
 returns-clause-starts g c = λ left may J stands.
     let start : StandsFor (bytes_of (failing_inner c.failing_core-core.result.disk)) [] = rw c.failing_core-core.ensures.disk (inr (refl, rw c.empty.ensures.empty (omega arith), c.empty.ensures.none)) in
-    let image : MayBe (failing_inner c.run-ended.result.disk) left = rw (at_rest-memory c.crash.result c.crash.ensures.settled left may) (rw c.inner.ensures at c.crash.ensures.image) in
+    let image : MayBe (failing_inner c.played-ended.result.disk) left = rw (at_rest-memory c.crash.result c.crash.ensures.settled left may) (rw c.inner.ensures at c.crash.ensures.image) in
     rw c.copied-units.ensures (rw c.resume.ensures.motions (rw c.in_ok-motions.ensures (rw c.motions.ensures
-    (upheld-starts _ _ _ _ _ _ left J (c.run-ended.ensures.upholds [] start left image) stands))))
+    (upheld-starts _ _ _ _ _ _ left J (c.played-ended.ensures.upholds [] start left image) stands))))
