@@ -159,7 +159,29 @@ fn scripts_are_answered_over_mechanisms_that_tell_and_that_do_not(
 }
 
 // Scripts over a mechanism that fails in the call named.
-const FAULTS: [(u64, u32, u32, &str, &str); 8] = [
+const FAULTS: [(u64, u32, u32, &str, &str); 11] = [
+    // A withdrawal in two parts, whose first stack, first present or first take fails.
+    (
+        1,
+        0,
+        0,
+        "issue/mint 50.00EUR/dispense @ unit2:1/present/take/dispense @ unit1:3/present/take/dispense @ unit1:1",
+        "N/T/fault moved none/refused noItems/taken none/moved unit1:3/moved unit1:3/taken unit1:3/moved unit1:1",
+    ),
+    (
+        2,
+        0,
+        0,
+        "issue/mint 50.00EUR/dispense @ unit2:1/present/take/dispense @ unit1:3/present/take/dispense @ unit1:1",
+        "N/T/moved unit2:1/fault moved none/taken none/moved unit1:3/moved unit1:3,unit2:1/taken unit1:3,unit2:1/refused invalidToken left 0",
+    ),
+    (
+        3,
+        0,
+        0,
+        "issue/mint 50.00EUR/dispense @ unit2:1/present/take/dispense @ unit1:3/present/take/dispense @ unit1:1",
+        "N/T/moved unit2:1/moved unit2:1/fault taken none/moved unit1:3/refused sequenceError/taken unit2:1/refused invalidToken left 0",
+    ),
     (
         2,
         1,
