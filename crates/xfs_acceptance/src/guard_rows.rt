@@ -37,7 +37,7 @@ fn scripts_are_answered_line_by_line(rt: HostRuntime) -> Result<(), Fail> {
         ),
     ];
     for (script, status, text) in rows {
-        let written = run_on(&rt, rt.alloc(), &["guard"], script.as_bytes(), &[], &[])?;
+        let written = run_on(rt.alloc(), &["guard"], script.as_bytes(), &[], &[])?;
         assert_eq!(rt; written.status, status, "status of {script}");
         assert_eq!(rt;
             written.text.as_slice(),
@@ -50,15 +50,15 @@ fn scripts_are_answered_line_by_line(rt: HostRuntime) -> Result<(), Fail> {
 
 #[test]
 fn each_failing_stream_has_its_status(rt: HostRuntime) -> Result<(), Fail> {
-    let written = run_on(&rt, rt.alloc(), &["guard"], b"issue\n", &[2], &[])?;
+    let written = run_on(rt.alloc(), &["guard"], b"issue\n", &[2], &[])?;
     assert_eq!(rt; written.status, 3);
     assert_eq!(rt; written.text.as_slice(), NONCE.as_bytes());
-    let written = run_on(&rt, rt.alloc(), &["guard"], b"issue\n", &[], &[1])?;
+    let written = run_on(rt.alloc(), &["guard"], b"issue\n", &[], &[1])?;
     assert_eq!(rt; written.status, 5);
     // The journal has its Boot and its Issue.
     assert_eq!(rt; written.bytes.len(), 225);
     // The lines of one answer are one write.
-    let written = run_on(&rt, rt.alloc(), &["guard"], b"show\nissue\n", &[], &[2])?;
+    let written = run_on(rt.alloc(), &["guard"], b"show\nissue\n", &[], &[2])?;
     assert_eq!(rt; written.status, 5);
     assert_eq!(rt; written.text.as_slice(), SHOWN.as_bytes());
     Ok(())
@@ -78,7 +78,7 @@ fn other_words_are_told_the_usage(rt: HostRuntime) -> Result<(), Fail> {
         &["replay", "guard"],
     ];
     for words in rows {
-        let written = run_on(&rt, rt.alloc(), words, b"issue\n", &[], &[])?;
+        let written = run_on(rt.alloc(), words, b"issue\n", &[], &[])?;
         assert_eq!(rt; written.status, 2, "words {words:?}");
         assert_eq!(rt;
             written.text.as_slice(),
@@ -93,7 +93,7 @@ fn other_words_are_told_the_usage(rt: HostRuntime) -> Result<(), Fail> {
 fn a_comment_of_70001_bytes_is_no_line(rt: HostRuntime) -> Result<(), Fail> {
     let mut script = Vec::new(rt.alloc());
     comment_of(&mut script, 70_001)?;
-    let written = run_on(&rt, rt.alloc(), &["guard"], &script, &[], &[])?;
+    let written = run_on(rt.alloc(), &["guard"], &script, &[], &[])?;
     assert_eq!(rt; written.status, 4);
     assert_eq!(rt;
         written.text.as_slice(),
@@ -115,7 +115,7 @@ fn a_token_of_a_dispense_has_at_most_2000_bytes(rt: HostRuntime) -> Result<(), F
         let mut script = Vec::from_slice(rt.alloc(), b"dispense ")?;
         push_times(&mut script, b'A', count)?;
         script.extend_from_slice(b" unit1:1\n")?;
-        let written = run_on(&rt, rt.alloc(), &["guard"], &script, &[], &[])?;
+        let written = run_on(rt.alloc(), &["guard"], &script, &[], &[])?;
         assert_eq!(rt; written.status, status, "status of {count} bytes");
         assert_eq!(rt; written.text.as_slice(), text.as_bytes(), "{count} bytes");
     }
@@ -132,7 +132,7 @@ fn a_run_goes_on_to_the_first_line_that_is_none(rt: HostRuntime) -> Result<(), F
         let mut script = Vec::new(rt.alloc());
         push_times(&mut script, b'\n', skipped)?;
         script.extend_from_slice(line.as_bytes())?;
-        let written = run_on(&rt, rt.alloc(), &["guard"], &script, &[], &[])?;
+        let written = run_on(rt.alloc(), &["guard"], &script, &[], &[])?;
         assert_eq!(rt; written.status, status);
         assert_eq!(rt; written.text.as_slice(), text.as_bytes());
     }
@@ -146,7 +146,7 @@ fn an_input_of_67108864_bytes_is_too_long(rt: HostRuntime) -> Result<(), Fail> {
         comment_of(&mut script, 65_535)?;
     }
     assert_eq!(rt; script.len(), 67_108_864);
-    let written = run_on(&rt, rt.alloc(), &["guard"], &script, &[], &[])?;
+    let written = run_on(rt.alloc(), &["guard"], &script, &[], &[])?;
     assert_eq!(rt; written.status, 10);
     assert_eq!(rt; written.text.as_slice(), b"input: too long\n".as_slice());
     Ok(())

@@ -2,14 +2,10 @@
 #![tactic(auto)]
 
 #[cfg(test)]
-mod client_rows;
-#[cfg(test)]
 mod guard_rows;
 #[cfg(test)]
 mod guard_scripts;
 #[cfg(test)]
 mod journal_rows;
-#[cfg(test)]
-mod serve_rows;
 #[cfg(test)]
 mod token_rows;

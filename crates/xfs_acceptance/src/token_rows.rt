@@ -81,7 +81,7 @@ fn each_line_has_its_answer(rt: HostRuntime) -> Result<(), Fail> {
     ];
     for (line, answer) in rows {
         let text = format!(in rt.alloc(); "{answer}\n")?;
-        let written = run_on(&rt, rt.alloc(), &["token"], line.as_bytes(), &[], &[])?;
+        let written = run_on(rt.alloc(), &["token"], line.as_bytes(), &[], &[])?;
         assert_eq!(rt; written.status, 0, "status of {line}");
         assert_eq!(rt;
             written.text.as_slice(),
@@ -125,7 +125,7 @@ fn lines_are_answered_in_order_up_to_the_end(rt: HostRuntime) -> Result<(), Fail
         ("make  1EUR\n", 4, "line 1: not a script line\n"),
     ];
     for (script, status, text) in rows {
-        let written = run_on(&rt, rt.alloc(), &["token"], script.as_bytes(), &[], &[])?;
+        let written = run_on(rt.alloc(), &["token"], script.as_bytes(), &[], &[])?;
         assert_eq!(rt; written.status, status, "status of {script}");
         assert_eq!(rt; written.bytes.len(), 0);
         assert_eq!(rt;
@@ -140,13 +140,13 @@ fn lines_are_answered_in_order_up_to_the_end(rt: HostRuntime) -> Result<(), Fail
 #[test]
 fn a_stream_that_fails_leaves_the_answers_before(rt: HostRuntime) -> Result<(), Fail> {
     let script = b"read x\nmac - -\n".as_slice();
-    let written = run_on(&rt, rt.alloc(), &["token"], script, &[2], &[])?;
+    let written = run_on(rt.alloc(), &["token"], script, &[2], &[])?;
     assert_eq!(rt; written.status, 3);
     assert_eq!(rt;
         written.text.as_slice(),
         b"fault Format 0\nmac b613679a0814d9ec772f95d778c35fc5ff1697c493715653c6c712144292c5ad\n".as_slice()
     );
-    let written = run_on(&rt, rt.alloc(), &["token"], script, &[], &[2])?;
+    let written = run_on(rt.alloc(), &["token"], script, &[], &[2])?;
     assert_eq!(rt; written.status, 5);
     assert_eq!(rt; written.text.as_slice(), b"fault Format 0\n".as_slice());
     Ok(())
@@ -171,7 +171,7 @@ fn a_token_has_at_most_1024_bytes(rt: HostRuntime) -> Result<(), Fail> {
         push_times(&mut line, b'a', count)?;
         line.extend_from_slice(b",HMACSHA256=")?;
         push_times(&mut line, b'0', 64)?;
-        let written = run_on(&rt, rt.alloc(), &["token"], &line, &[], &[])?;
+        let written = run_on(rt.alloc(), &["token"], &line, &[], &[])?;
         assert_eq!(rt; written.status, 0);
         assert_eq!(rt;
             written.text.as_slice(),
@@ -202,7 +202,7 @@ fn bytes_that_are_no_text_are_read_as_bytes(rt: HostRuntime) -> Result<(), Fail>
         (b"# \xff\nre\xe4d x\n", 4, b"line 2: not a script line\n"),
     ];
     for (script, status, text) in rows {
-        let written = run_on(&rt, rt.alloc(), &["token"], script, &[], &[])?;
+        let written = run_on(rt.alloc(), &["token"], script, &[], &[])?;
         assert_eq!(rt; written.status, status);
         assert_eq!(rt; written.text.as_slice(), text);
     }

@@ -4,9 +4,9 @@ use std::alloc::Global;
 use std::process::Abort;
 use std::test::Fail;
 use xfs_base::{MemSink, MemSource};
-use xfs_cli::load;
-use xfs_mech::Fault;
-use xfs_simulated::{LIMITS, empty, quiet_bench};
+use xfs_cli::{Bench, load};
+use xfs_mech::{Fault, TakerWatch};
+use xfs_simulated::{LIMITS, empty};
 use xfs_testbench::{failing_core, run_on, sim_on, units, words_of};
 
 // The first call of the disk behind the boot: each record makes four, the Issue first.
@@ -25,7 +25,11 @@ fn load_failing(alloc: Global, faults: &[Fault], failing: &[u64]) -> Result<(u8,
     let mut sink = MemSink::new(alloc, Vec::new(alloc));
     let core = failing_core(mech, units, empty(alloc), LIMITS, places);
     let words = words_of(alloc, &["load", "16"])?;
-    let bench = quiet_bench(alloc, core);
+    let bench = Bench {
+        core,
+        cards: TakerWatch,
+        keys: TakerWatch,
+    };
     let ended = load(alloc, words.as_slice(), &mut source, &mut sink, bench);
     let mut text = Vec::new(alloc);
     text.extend_from_slice(sink.bytes())?;
@@ -128,7 +132,7 @@ fn a_disk_that_fails_in_the_boot(rt: HostRuntime) -> Result<(), Fail> {
 
 #[test]
 fn a_failing_output(rt: HostRuntime) -> Result<(), Fail> {
-    let written = run_on(&rt, rt.alloc(), &["load", "16"], b"", &[], &[1])?;
+    let written = run_on(rt.alloc(), &["load", "16"], b"", &[], &[1])?;
     assert_eq!(rt; (written.status, written.text.len()), (5, 0));
     Ok(())
 }

@@ -25,7 +25,7 @@ fn a_line_sums_up_the_rounds(rt: HostRuntime) -> Result<(), Fail> {
         ),
     ];
     for (number, line) in rows {
-        let written = run_on(&rt, rt.alloc(), &["load", number], b"no line\n", &[1], &[])?;
+        let written = run_on(rt.alloc(), &["load", number], b"no line\n", &[1], &[])?;
         assert_eq!(rt;
             String::from_utf8(written.text)?.as_str(),
             line,
@@ -40,7 +40,7 @@ fn a_line_sums_up_the_rounds(rt: HostRuntime) -> Result<(), Fail> {
 // 21 orders 37 and of its outcome 68, and of each of three loads 9.
 #[test]
 fn the_journal_has_every_record(rt: HostRuntime) -> Result<(), Fail> {
-    let written = run_on(&rt, rt.alloc(), &["load", "8"], b"", &[], &[])?;
+    let written = run_on(rt.alloc(), &["load", "8"], b"", &[], &[])?;
     assert_eq!(rt;
         written.bytes.len(),
         9 + 196 + 8 * (20 + 168) + 21 * (37 + 68) + 3 * 9
@@ -79,7 +79,7 @@ fn other_words_are_told_the_usage(rt: HostRuntime) -> Result<(), Fail> {
         &["load", "--help"],
     ];
     for words in rows {
-        let written = run_on(&rt, rt.alloc(), words, b"issue\n", &[], &[])?;
+        let written = run_on(rt.alloc(), words, b"issue\n", &[], &[])?;
         assert_eq!(rt; written.status, 2, "words {words:?}");
         assert_eq!(rt;
             written.text.as_slice(),

@@ -15,12 +15,12 @@ use std::alloc::Global;
 use std::io;
 use std::process::ExitCode;
 use xfs_base::{MemSource, Sink, StdSink, UnitTable};
-use xfs_cli::guard;
 use xfs_cli::status::NO_MEMORY;
+use xfs_cli::{Bench, guard};
 use xfs_disk::{Disk, FuseDisk, MemDisk};
 use xfs_guard::Core;
-use xfs_mech::{Fault, Mechanism, SimMech, places_fit};
-use xfs_simulated::{KEY, LIMITS, SEED, core_on, empty, mechanism, quiet_bench, units};
+use xfs_mech::{Fault, Mechanism, SimMech, TakerWatch, places_fit};
+use xfs_simulated::{KEY, LIMITS, SEED, core_on, empty, mechanism, units};
 
 const WITHDRAWAL: &[u8] = b"issue\nmint 150.00EUR\ndispense @ unit3:3\npresent\nshow\n";
 
@@ -53,7 +53,11 @@ fn jam<K: Sink>(alloc: Global, sink: &mut K) -> Option<()> {
     let mech = mechanism(alloc, &units, faults)?;
     let core = core_on(mech, units, empty(alloc), LIMITS);
     let mut source = lines(alloc, WITHDRAWAL)?;
-    let bench = quiet_bench(alloc, core);
+    let bench = Bench {
+        core,
+        cards: TakerWatch,
+        keys: TakerWatch,
+    };
     guard(alloc, words(alloc)?.as_slice(), &mut source, sink, bench);
     Some(())
 }
@@ -62,7 +66,11 @@ fn jam<K: Sink>(alloc: Global, sink: &mut K) -> Option<()> {
 fn cut<K: Sink>(alloc: Global, sink: &mut K) -> Option<()> {
     let core = cut_off(alloc, sink)?;
     let mut source = lines(alloc, AFTERWARDS)?;
-    let bench = quiet_bench(alloc, core);
+    let bench = Bench {
+        core,
+        cards: TakerWatch,
+        keys: TakerWatch,
+    };
     guard(alloc, words(alloc)?.as_slice(), &mut source, sink, bench);
     Some(())
 }
@@ -77,7 +85,11 @@ fn cut_off<K: Sink>(alloc: Global, sink: &mut K) -> Option<Core<SimMech, MemDisk
     let mech = mechanism(alloc, &units, Vec::new(alloc))?;
     let core = dying(mech, units.copied(), empty(alloc));
     let mut source = lines(alloc, WITHDRAWAL)?;
-    let bench = quiet_bench(alloc, core);
+    let bench = Bench {
+        core,
+        cards: TakerWatch,
+        keys: TakerWatch,
+    };
     let ended = guard(alloc, words(alloc)?.as_slice(), &mut source, sink, bench);
     let places = ended.mech.survey();
     if !places_fit(&units, &places) {

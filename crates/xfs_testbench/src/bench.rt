@@ -12,17 +12,14 @@ ghost use Rattle.xfs_guard.specs.Recorded.{IsRecorded};
 ghost use Rattle.xfs_guard.specs.declared.open.Open.TheVariants.{No};
 
 use std::alloc::Global;
-use std::sync::Wait;
 use std::test::Fail;
-use std::thread::Threads;
-use xfs_base::{FixedClock, MemSink, MemSource, UnitTable};
-use xfs_cli::{guard, replay, run};
+use xfs_base::{MemSink, MemSource, UnitTable};
+use xfs_cli::{Bench, guard, load, replay, token};
 use xfs_disk::{Disk, FailDisk, MemDisk};
 use xfs_guard::{Core, Guard};
 use xfs_journal::Limits;
-use xfs_mech::{Fault, Mechanism, SilentMech, SimMech};
-use xfs_server::{MemDoors, OpenGate};
-use xfs_simulated::{KEY, LIMITS, SEED, core_on, empty, mechanism, quiet_bench};
+use xfs_mech::{Fault, Mechanism, SilentMech, SimMech, TakerWatch};
+use xfs_simulated::{KEY, LIMITS, SEED, core_on, empty, mechanism};
 
 /// The units of the simulated machine.
 pub fn units() -> Result<UnitTable, Fail> {
@@ -121,10 +118,8 @@ pub struct Written {
     pub bytes: Vec<u8>,
 }
 
-/// Runs the program with these words on a script; the calls of source and sink at these places fail. Nobody comes to
-/// its doors, and nobody is there to be dialled.
-pub fn run_on<R: Threads + Wait + Sync>(
-    rt: &R,
+/// Runs the command of the first of these words on a script; the calls of source and sink at these places fail.
+pub fn run_on(
     alloc: Global,
     words: &[&str],
     script: &[u8],
@@ -135,19 +130,19 @@ pub fn run_on<R: Threads + Wait + Sync>(
     let mech = sim_on(alloc, &units, Vec::new(alloc))?;
     let mut source = MemSource::new(listed(alloc, script)?, numbers(alloc, failing_reads)?);
     let mut sink = MemSink::new(alloc, numbers(alloc, failing_writes)?);
-    let core = core_on(mech, units, empty(alloc), LIMITS);
-    let mut doors = MemDoors::new(Vec::new(alloc), None, Vec::new(alloc));
-    let ended = run(
-        rt,
-        alloc,
-        words_of(alloc, words)?.as_slice(),
-        &mut source,
-        &mut sink,
-        quiet_bench(alloc, core),
-        &FixedClock(0),
-        &mut doors,
-        &OpenGate,
-    );
+    let bench = Bench {
+        core: core_on(mech, units, empty(alloc), LIMITS),
+        cards: TakerWatch,
+        keys: TakerWatch,
+    };
+    let owned = words_of(alloc, words)?;
+    let ended = match words.first() {
+        Some(&"token") => token(alloc, owned.as_slice(), &mut source, &mut sink, bench),
+        Some(&"replay") => replay(alloc, owned.as_slice(), &mut source, &mut sink, bench),
+        Some(&"load") => load(alloc, owned.as_slice(), &mut source, &mut sink, bench),
+        // Words that are of no command are told the usage by each.
+        _ => guard(alloc, owned.as_slice(), &mut source, &mut sink, bench),
+    };
     told(alloc, ended.status, &sink, &ended.disk)
 }
 
@@ -160,7 +155,11 @@ pub fn replay_on(alloc: Global, script: &[u8], life: u32) -> Result<Written, Fai
     let mut core = core_on(mech, units, empty(alloc), LIMITS);
     core.life = life;
     let words = words_of(alloc, &["replay"])?;
-    let bench = quiet_bench(alloc, core);
+    let bench = Bench {
+        core,
+        cards: TakerWatch,
+        keys: TakerWatch,
+    };
     let ended = replay(alloc, words.as_slice(), &mut source, &mut sink, bench);
     told(alloc, ended.status, &sink, &ended.disk)
 }
@@ -181,7 +180,11 @@ pub fn replay_failing(
     let mut core = failing_core(mech, units, empty(alloc), LIMITS, numbers(alloc, failing)?);
     core.life = life;
     let words = words_of(alloc, &["replay"])?;
-    let bench = quiet_bench(alloc, core);
+    let bench = Bench {
+        core,
+        cards: TakerWatch,
+        keys: TakerWatch,
+    };
     let ended = replay(alloc, words.as_slice(), &mut source, &mut sink, bench);
     told(alloc, ended.status, &sink, &ended.disk.inner())
 }
@@ -237,13 +240,13 @@ fn guard_with<M: Mechanism>(
     let mut source = MemSource::new(listed(alloc, script)?, Vec::new(alloc));
     let mut sink = MemSink::new(alloc, Vec::new(alloc));
     let core = core_on(mech, units, empty(alloc), limits);
-    let ended = guard(
-        alloc,
-        words_of(alloc, &["guard"])?.as_slice(),
-        &mut source,
-        &mut sink,
-        quiet_bench(alloc, core),
-    );
+    let bench = Bench {
+        core,
+        cards: TakerWatch,
+        keys: TakerWatch,
+    };
+    let words = words_of(alloc, &["guard"])?;
+    let ended = guard(alloc, words.as_slice(), &mut source, &mut sink, bench);
     told(alloc, ended.status, &sink, &ended.disk)
 }
 
@@ -254,13 +257,13 @@ pub fn guard_failing(alloc: Global, script: &[u8], failing: &[u64]) -> Result<Wr
     let mut source = MemSource::new(listed(alloc, script)?, Vec::new(alloc));
     let mut sink = MemSink::new(alloc, Vec::new(alloc));
     let core = failing_core(mech, units, empty(alloc), LIMITS, numbers(alloc, failing)?);
-    let ended = guard(
-        alloc,
-        words_of(alloc, &["guard"])?.as_slice(),
-        &mut source,
-        &mut sink,
-        quiet_bench(alloc, core),
-    );
+    let bench = Bench {
+        core,
+        cards: TakerWatch,
+        keys: TakerWatch,
+    };
+    let words = words_of(alloc, &["guard"])?;
+    let ended = guard(alloc, words.as_slice(), &mut source, &mut sink, bench);
     told(alloc, ended.status, &sink, &ended.disk.inner())
 }
 
@@ -271,13 +274,13 @@ pub fn guard_on_no_journal(alloc: Global, script: &[u8]) -> Result<Written, Fail
     let mut source = MemSource::new(listed(alloc, script)?, Vec::new(alloc));
     let mut sink = MemSink::new(alloc, Vec::new(alloc));
     let core = core_on(mech, units, no_journal(alloc)?, LIMITS);
-    let ended = guard(
-        alloc,
-        words_of(alloc, &["guard"])?.as_slice(),
-        &mut source,
-        &mut sink,
-        quiet_bench(alloc, core),
-    );
+    let bench = Bench {
+        core,
+        cards: TakerWatch,
+        keys: TakerWatch,
+    };
+    let words = words_of(alloc, &["guard"])?;
+    let ended = guard(alloc, words.as_slice(), &mut source, &mut sink, bench);
     told(alloc, ended.status, &sink, &ended.disk)
 }
 

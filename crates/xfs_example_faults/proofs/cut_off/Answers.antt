@@ -27,8 +27,8 @@ gave (Err e) value is = cc
 pub returns-clause-starts : goal.returns-clause-starts
 returns-clause-starts g c = λ left may records stands.
     let start : StandsFor (bytes_of (fuse_inner c.dying-core.result.disk)) [] = rw c.dying-core.ensures.disk (inr (refl, rw c.empty.ensures.empty (omega arith), c.empty.ensures.none)) in
-    let image : MayBe (fuse_inner c.run-ended.result.disk) left = rw (at_rest-memory c.crash.result c.crash.ensures.settled left (rw c.core_of.ensures.handed.1 at may)) (rw c.inner.ensures at c.crash.ensures.image) in
-    let recorded = upheld-starts _ _ _ _ _ _ left records (c.run-ended.ensures.upholds [] start left image) stands in
+    let image : MayBe (fuse_inner c.guard-ended.result.disk) left = rw (at_rest-memory c.crash.result c.crash.ensures.settled left (rw c.core_of.ensures.handed.1 at may)) (rw c.inner.ensures at c.crash.ensures.image) in
+    let recorded = upheld-starts _ _ _ _ _ _ left records (c.guard-ended.ensures.upholds [] start left image) stands in
     let copied = rw (gave _ _ c.in_ok-ok.ensures.value) at c.extend_from_slice.ensures.items in
     rw (c.core_of.ensures.key, c.core_of.ensures.handed.0, c.core_of.ensures.handed.2, c.resume-mech.ensures.motions, copied, c.new-motions.ensures.items, c.motions.ensures)
     (rw (c.dying-core.ensures.key, c.dying-core.ensures.units.1, c.copied.ensures) at recorded)

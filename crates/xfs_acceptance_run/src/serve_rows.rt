@@ -1,16 +1,10 @@
 //! Runs of `serve` over doors in memory.
 
+use crate::program::program;
 use std::alloc::Global;
-use std::sync::Wait;
 use std::test::Fail;
-use std::thread::Threads;
-use xfs_base::{Bytes, Clock, MemSink, MemSource, Service, StdClock};
-use xfs_cli::{Ended, run};
-use xfs_disk::FailDisk;
-use xfs_mech::SimMech;
-use xfs_server::{MemDoors, MemLink, OpenGate};
-use xfs_simulated::{LIMITS, empty, quiet_bench};
-use xfs_testbench::{failing_core, sim_on, units, words_of};
+use xfs_base::{Bytes, MemSink, Service, StdClock};
+use xfs_server::{MemDoors, MemLink};
 
 const STATUS: &str =
     "{\"header\":{\"name\":\"Common.Status\",\"requestId\":1,\"type\":\"command\"}}";
@@ -27,7 +21,7 @@ struct Row {
     line: &'static str,
 }
 
-const ROWS: [Row; 6] = [
+const ROWS: [Row; 5] = [
     Row {
         clients: 1,
         words: &["serve", "1"],
@@ -68,14 +62,6 @@ const ROWS: [Row; 6] = [
         status: 6,
         line: "boot: disk\n",
     },
-    Row {
-        clients: 1,
-        words: &["serve", "0"],
-        failing_doors: &[],
-        failing_disk: &[],
-        status: 2,
-        line: "usage: xfs guard | token | replay | load N | serve N | client CUR AMOUNT\n",
-    },
 ];
 
 fn doors_of(alloc: Global, row: Row) -> Result<MemDoors, Fail> {
@@ -90,40 +76,22 @@ fn doors_of(alloc: Global, row: Row) -> Result<MemDoors, Fail> {
     Ok(MemDoors::new(coming, None, failing))
 }
 
-fn serve_on<R: Threads + Wait + Sync, C: Clock + Sync>(
-    rt: &R,
-    alloc: Global,
-    clock: &C,
-    row: Row,
-    sink: &mut MemSink,
-) -> Result<Ended<SimMech, FailDisk, MemLink>, Fail> {
-    let units = units()?;
-    let mech = sim_on(alloc, &units, Vec::new(alloc))?;
-    let failing = Vec::from_slice(alloc, row.failing_disk)?;
-    let core = failing_core(mech, units, empty(alloc), LIMITS, failing);
-    let words = words_of(alloc, row.words)?;
-    let mut source = MemSource::new(Vec::new(alloc), Vec::new(alloc));
-    let mut doors = doors_of(alloc, row)?;
-    Ok(run(
-        rt,
-        alloc,
-        words.as_slice(),
-        &mut source,
-        sink,
-        quiet_bench(alloc, core),
-        clock,
-        &mut doors,
-        &OpenGate,
-    ))
-}
-
 #[test]
 fn a_server_over_doors_in_memory(rt: HostRuntime) -> Result<(), Fail> {
     let alloc = rt.alloc();
     let clock = StdClock::new(&rt);
     for row in ROWS {
         let mut sink = MemSink::new(alloc, Vec::new(alloc));
-        let ended = serve_on(&rt, alloc, &clock, row, &mut sink)?;
+        let mut doors = doors_of(alloc, row)?;
+        let ended = program(
+            &rt,
+            alloc,
+            row.words,
+            row.failing_disk,
+            &clock,
+            &mut doors,
+            &mut sink,
+        )?;
         assert_eq!(rt; ended.status, row.status);
         assert!(rt; sink.bytes() == row.line.as_bytes());
         assert!(rt; ended.link.is_none());

@@ -1,16 +1,10 @@
 //! Runs of `client` over a link in memory.
 
+use crate::program::program;
 use std::alloc::Global;
-use std::sync::Wait;
 use std::test::Fail;
-use std::thread::Threads;
-use xfs_base::{Bytes, FixedClock, MemSink, MemSource};
-use xfs_cli::{Ended, run};
-use xfs_disk::MemDisk;
-use xfs_mech::SimMech;
-use xfs_server::{MemDoors, MemLink, OpenGate};
-use xfs_simulated::{LIMITS, core_on, empty, quiet_bench};
-use xfs_testbench::{sim_on, units, words_of};
+use xfs_base::{Bytes, FixedClock, MemSink};
+use xfs_server::{MemDoors, MemLink};
 
 const A_NONCE: &str =
     "{\"header\":{\"name\":\"Common.GetCommandNonce\",\"requestId\":1,\"type\":\"acknowledge\",\"version\":\"2.0\"}}";
@@ -101,40 +95,25 @@ fn doors_of(alloc: Global, row: Row) -> Result<MemDoors, Fail> {
     Ok(MemDoors::new(Vec::new(alloc), Some(link), failing))
 }
 
-fn client_on<R: Threads + Wait + Sync>(
-    rt: &R,
-    alloc: Global,
-    doors: &mut MemDoors,
-    sink: &mut MemSink,
-) -> Result<Ended<SimMech, MemDisk, MemLink>, Fail> {
-    let units = units()?;
-    let mech = sim_on(alloc, &units, Vec::new(alloc))?;
-    let core = core_on(mech, units, empty(alloc), LIMITS);
-    let words = words_of(alloc, &["client", "EUR", "70"])?;
-    let mut source = MemSource::new(Vec::new(alloc), Vec::new(alloc));
-    Ok(run(
-        rt,
-        alloc,
-        words.as_slice(),
-        &mut source,
-        sink,
-        quiet_bench(alloc, core),
-        &FixedClock(0),
-        doors,
-        &OpenGate,
-    ))
-}
-
 #[test]
 fn a_withdrawal_over_each_link(rt: HostRuntime) -> Result<(), Fail> {
     let alloc = rt.alloc();
     for row in ROWS {
         let mut doors = doors_of(alloc, row)?;
         let mut sink = MemSink::new(alloc, Vec::new(alloc));
-        let ended = client_on(&rt, alloc, &mut doors, &mut sink)?;
+        let words = ["client", "EUR", "70"];
+        let ended = program(
+            &rt,
+            alloc,
+            &words,
+            &[],
+            &FixedClock(0),
+            &mut doors,
+            &mut sink,
+        )?;
         assert_eq!(rt; ended.status, row.status);
         assert!(rt; sink.bytes() == row.line.as_bytes());
-        assert_eq!(rt; ended.disk.bytes().len(), 0);
+        assert_eq!(rt; ended.disk.inner().bytes().len(), 0);
         match &ended.link {
             Some(link) => assert_eq!(rt; link.sent().len(), row.asks),
             None => assert!(rt; !row.dials),
