@@ -34,13 +34,22 @@ module _ (a : NamedLft) (N M D R : RattleType) (n : LockName.Ghosts N.Denot) (m 
       let fields = in_caller.the_type a N M D R n m d in
       view_send (in_caller.the_row a N M D R n m d) _ _ _ _
       (recorded_send (in_caller.the_field a N M D R n m d).row _ _ fields.to_one
-      (struct_send (shape fields)
-      ( shr_send _ _ _ yr
-      , ((search (shared_send, turn.the_sync, sendable) depth 20)
-      , ((search (optional.the_field_send, shared_send, seat.the_send) depth 20)
-      , (tally.the_send
-      , (phantom.the_field_send N
-      , tt)))))))
+      (struct_send (shape fields) (
+        shr_send _ _ _ yr,
+        (
+          (search (shared_send, turn.the_sync, sendable) depth 20),
+          (
+            (search (optional.the_field_send, shared_send, seat.the_send) depth 20),
+            (
+              tally.the_send,
+              (
+                phantom.the_field_send N,
+                tt,
+              ),
+            ),
+          ),
+        ),
+      )))
 
   module _ (C : RattleType) (yc : IsSync C) where
     pub client_send : IsSend (client.the_row a N M D R C n m d)

@@ -56,17 +56,40 @@ machine_send M D m d sm sd =
     let fields = in_machine.the_type M D m d in
     view_send (in_machine.the_row M D m d) _ _ _ _
     (recorded_send (in_machine.the_field M D m d).row _ _ fields.to_one
-    (struct_send (shape fields)
-    ( heap.the_field_send
-    , (guard.the_send M D m d sm sd
-    , (plain_send _ _ _ _ _
-    , (moment.the_field_send
-    , (plain_send _ _ _ _ _
-    , (plain_send _ _ _ _ _
-    , (moment.the_field_send
-    , (card.the_send
-    , (keys.the_send
-    , (plain_send _ _ _ _ _
-    , (connections.the_send
-    , (queues_send
-    , tt))))))))))))))
+    (struct_send (shape fields) (
+      heap.the_field_send,
+      (
+        guard.the_send M D m d sm sd,
+        (
+          plain_send _ _ _ _ _,
+          (
+            moment.the_field_send,
+            (
+              plain_send _ _ _ _ _,
+              (
+                plain_send _ _ _ _ _,
+                (
+                  moment.the_field_send,
+                  (
+                    card.the_send,
+                    (
+                      keys.the_send,
+                      (
+                        plain_send _ _ _ _ _,
+                        (
+                          connections.the_send,
+                          (
+                            queues_send,
+                            tt,
+                          ),
+                        ),
+                      ),
+                    ),
+                  ),
+                ),
+              ),
+            ),
+          ),
+        ),
+      ),
+    )))
