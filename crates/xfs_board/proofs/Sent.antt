@@ -14,6 +14,7 @@ use Rattle.xfs_board.specs.contracts.client.ClientBoard.TheInside as in_client
 use Rattle.xfs_board.specs.contracts.device.DeviceBoard as device
 use Rattle.xfs_board.specs.contracts.device.DeviceBoard.TheInside as in_device
 use Rattle.xfs_board.specs.contracts.shared.SharedMachine as shared
+use Rattle.xfs_board.specs.contracts.shared.SharedMachine.TheInside as in_shared
 use Rattle.xfs_board.specs.declared.caller.LockName as LockName
 use Rattle.xfs_disk.specs.declared.disk.Disk as Disk
 use Rattle.xfs_machine.proofs.Sent.{machine_send}
@@ -25,8 +26,9 @@ use Rattle.xfs_turn.proofs.turn.Turn.TheSendSync as turn
 
 pub shared_send : (M D : RattleType) (m : Mechanism.Ghosts M.Denot) (d : Disk.Ghosts D.Denot) → IsSend M → IsSend D → IsSend (shared.the_row M D m d)
 shared_send M D m d sm sd =
-    let fields = shared.the_type M D m d in
-    recorded_send (shared.the_field M D m d).row _ _ fields.to_one (struct_send (shape fields) (machine_send M D m d sm sd, tt))
+    let fields = in_shared.the_type M D m d in
+    view_send (in_shared.the_row M D m d) _ _ _ _
+    (recorded_send (in_shared.the_field M D m d).row _ _ fields.to_one (struct_send (shape fields) (machine_send M D m d sm sd, ((search (owned.crosses, sendable) depth 20), tt))))
 
 module _ (a : NamedLft) (N M D R : RattleType) (n : LockName.Ghosts N.Denot) (m : Mechanism.Ghosts M.Denot) (d : Disk.Ghosts D.Denot) (sm : IsSend M) (sd : IsSend D) (yr : IsSync R) where
   pub caller_send : IsSend (caller.the_row a N M D R n m d)

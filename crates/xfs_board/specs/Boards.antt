@@ -7,18 +7,18 @@ use Rattle.xfs_server.specs.Tendeds.{TendedLog}
 use Rattle.xfs_board.specs.Callers.{CallerView}
 
 -- the board of the connection with this pass
-pub record ClientView : Type 0 where
-  pub caller : CallerView
+pub record ClientView (M D : Type 0) : Type 0 where
+  pub caller : CallerView M D
   pub pass : Pass
 
 -- the object of the worker of a service, and whether it has told that it is closing
-pub record DeviceView : Type 0 where
-  pub caller : CallerView
+pub record DeviceView (M D : Type 0) : Type 0 where
+  pub caller : CallerView M D
   pub service : Service
   pub closing : Bool
 
-abbrev pub client_log : ClientView → BoardLog
+abbrev pub client_log : {M D : Type 0} → ClientView M D → BoardLog
 client_log b = record { texts = None; handed = None; latest = None; posts = b.caller.tally.posts; turns = b.caller.tally.works; fetches = b.caller.tally.outboxes }
 
-abbrev pub device_log : DeviceView → TendedLog
+abbrev pub device_log : {M D : Type 0} → DeviceView M D → TendedLog
 device_log b = record { touched = None; faults = None; wanted = None; unwanted = None; stays = None; closing = b.closing; touches = b.caller.tally.touches; turns = b.caller.tally.works }

@@ -4,12 +4,12 @@ use Rattle.xfs_machine.specs.Tallies.{TallyView}
 use Rattle.xfs_turn.specs.Seats.{Seated}
 use Rattle.xfs_board.specs.declared.shared.Entry.{Entry}
 
-pub record CallerView : Type 0 where
-  pub seen : List Entry
+pub record CallerView (M D : Type 0) : Type 0 where
+  pub seen : List (Entry M D)
   pub tally : TallyView
 
 -- a caller that has made no calls
-abbrev pub fresh : List Entry → CallerView
+abbrev pub fresh : {M D : Type 0} → List (Entry M D) → CallerView M D
 fresh seen = record { seen = seen; tally = record { posts = 0; touches = 0; works = 0; outboxes = 0 } }
 
 -- what a seat has seen, where it is there

@@ -1,8 +1,26 @@
--- The chronicle of a machine: its key and the kinds of notes of its units, and then the records of its journal. A record's place is one more than its number.
+-- What lies behind the lock: a machine, and its guard as it was when the lock was opened, from which it went on. Its chronicle is that guard, and then the records of the journal: a record's place is one more than its number.
 use Rattle.std.specs.Prelude.{List, ◌∷◌, map}
-use Rattle.xfs_model.specs.State.{State}
+use mathlib.Core.List.{IsPrefix}
+use Rattle.xfs_disk.specs.declared.disk.Disk.{Ghosts}
+use Rattle.xfs_guard.specs.Keeps.{Proceeds}
+use Rattle.xfs_guard.specs.View.{GuardView}
+use Rattle.xfs_machine.specs.MachineView.{MachineView, guard_of}
 use Rattle.xfs_board.specs.declared.shared.Entry.{Entry}
-use Rattle.xfs_board.specs.declared.shared.Entry.TheVariants.{Bench, Written}
+use Rattle.xfs_board.specs.declared.shared.Entry.TheVariants.{Began, Written}
 
-abbrev pub chronicle : State → List Entry
-chronicle s = Bench s.seen.guard.key s.seen.guard.units ∷ map Written s.seen.guard.records
+pub record Shared (D : Type 0) : Type 0 where
+  pub start : GuardView D
+  pub machine : MachineView D
+
+-- a machine at the opening of the lock
+abbrev pub opened : {D : Type 0} → MachineView D → Shared D
+opened machine = record { start = guard_of machine; machine = machine }
+
+abbrev pub chronicle : {M D : Type 0} → Shared D → List (Entry M D)
+chronicle s = Began s.start ∷ map Written s.machine.state.seen.guard.records
+
+-- this machine comes back of the lock: it went on from a guard that was put behind it, and what was seen begins its chronicle
+pub record ComesBack {M D : Type 0} (g : Ghosts D) (seen : List (Entry M D)) (last : MachineView D) : Type 0 where
+  pub start : GuardView D
+  pub begins : IsPrefix seen (chronicle (record { start = start; machine = last }))
+  pub proceeds : Proceeds g start (guard_of last)

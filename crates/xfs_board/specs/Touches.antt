@@ -14,17 +14,17 @@ use Rattle.xfs_board.specs.Turns.{IsTurn}
 use Rattle.xfs_board.specs.declared.shared.Entry.{Entry}
 
 -- one turn in which the machine takes this touch, and answers want of memory exactly where the call does
-abbrev pub IsTouched : List Entry → List Entry → Touch → Result Unit Memory → Type 0
+abbrev pub IsTouched : {M D : Type 0} → List (Entry M D) → List (Entry M D) → Touch → Result Unit Memory → Type 0
 IsTouched seen after touch (Ok done) = (answer : Touched) × IsTurn seen after (event.touch touch) (touched_as (Ok answer))
 IsTouched seen after touch (Err memory) = IsTurn seen after (event.touch touch) event.memory
 
 -- such a turn, which the tally counts
-pub record CountsTouch (old new : CallerView) (touch : Touch) (result : Result Unit Memory) : Type 0 where
+pub record CountsTouch {M D : Type 0} (old new : CallerView M D) (touch : Touch) (result : Result Unit Memory) : Type 0 where
   pub turn : IsTouched old.seen new.seen touch result
   pub tally : new.tally ≡ record old.tally { touches = next_count old.tally.touches }
 
 -- a fault of the card slot or of the key pad is such a touch, and one of another service's watch nothing
-abbrev pub TakesFault : Service → CallerView → CallerView → Result Unit Memory → Type 0
+abbrev pub TakesFault : {M D : Type 0} → Service → CallerView M D → CallerView M D → Result Unit Memory → Type 0
 TakesFault Card old new result = CountsTouch old new CardFault result
 TakesFault Keys old new result = CountsTouch old new KeyFault result
 TakesFault Publisher old new result = (new ≡ old) × (result ≡ Ok tt)

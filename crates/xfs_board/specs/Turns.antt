@@ -5,30 +5,29 @@ use Rattle.xfs_base.specs.declared.moment.Service.{Service}
 use Rattle.xfs_machine.specs.Laws.{IsLawful}
 use Rattle.xfs_machine.specs.Wanted.{wants}
 use Rattle.xfs_model.specs.Events.{Event, Answer}
-use Rattle.xfs_model.specs.State.{State}
 use Rattle.xfs_model.specs.Step.{Step}
 use Rattle.xfs_model.specs.Told.{AllTell}
-use Rattle.xfs_board.specs.Chronicles.{chronicle}
+use Rattle.xfs_board.specs.Chronicles.{Shared, chronicle}
 use Rattle.xfs_board.specs.declared.shared.Entry.{Entry}
 
 -- one turn in which the machine takes one lawful step: what the seat had seen begins the chronicle of the machine that was found and what it has seen after, the whole chronicle of the machine that was left
-pub record IsTurn (seen after : List Entry) (event : Event) (answer : Answer) : Type 0 where
-  pub found : State
-  pub left : State
+pub record IsTurn {M D : Type 0} (seen after : List (Entry M D)) (event : Event) (answer : Answer) : Type 0 where
+  pub found : Shared D
+  pub left : Shared D
   pub begins : IsPrefix seen (chronicle found)
-  pub step : Step found event answer left
-  pub laws : IsLawful found event answer left
+  pub step : Step found.machine.state event answer left.machine.state
+  pub laws : IsLawful found.machine.state event answer left.machine.state
   pub after_is : after ≡ chronicle left
   pub grown : IsPrefix seen after
 
 -- such a turn, in which these frames are handed over: what they tell of the journal stands in the chronicle that the seat has seen
-pub record HandsTold (seen after : List Entry) (event : Event) (answer : Answer) (frames : List (List ℕ)) : Type 0 where
+pub record HandsTold {M D : Type 0} (seen after : List (Entry M D)) (event : Event) (answer : Answer) (frames : List (List ℕ)) : Type 0 where
   pub turn : IsTurn seen after event answer
-  pub told : AllTell turn.left frames
+  pub told : AllTell turn.left.machine.state frames
 
 -- one turn in which the machine is asked whether it waits for the world at a service, and stays as it was
-pub record IsLook (seen after : List Entry) (service : Service) (wanted : Bool) : Type 0 where
-  pub found : State
+pub record IsLook {M D : Type 0} (seen after : List (Entry M D)) (service : Service) (wanted : Bool) : Type 0 where
+  pub found : Shared D
   pub begins : IsPrefix seen (chronicle found)
-  pub answer : wanted ≡ wants found service
+  pub answer : wanted ≡ wants found.machine.state service
   pub after_is : after ≡ chronicle found

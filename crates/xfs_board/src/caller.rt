@@ -49,7 +49,7 @@ impl<'a, N: LockName, M: Mechanism, D: Disk, R: Wait> Model for Caller<'a, N, M,
     ghost use Rattle.std.specs.Prelude.{◌≡◌, MatchOption};
     ghost use Rattle.xfs_board.specs.Callers.{CallerView, seen_by};
 
-    ghost Value = { CallerView };
+    ghost Value = { CallerView M D };
 
     ghost view = { λ c. record { seen = seen_by c.seat; tally = c.tally } };
 
@@ -190,7 +190,7 @@ impl<'a, N: LockName, M: Mechanism, D: Disk, R: Wait> Caller<'a, N, M, D, R> {
         ensures tally { self.new.tally ≡ self.old.tally }
     {
         let mut held = self.turn.enter(self.rt, take(&mut self.seat));
-        let wanted = held.value().machine.wants(service);
+        let wanted = held.value().wants(service);
         self.seat = Some(self.turn.leave(held));
         wanted
     }

@@ -28,7 +28,7 @@ impl<'a, N: LockName, M: Mechanism, D: Disk, R: Wait, C: Clock> Model
     for ClientBoard<'a, N, M, D, R, C> {
     ghost use Rattle.xfs_board.specs.Boards.{ClientView};
 
-    ghost Value = { ClientView };
+    ghost Value = { ClientView M D };
 
     ghost view = { λ b. record { caller = b.caller; pass = b.pass } };
 }

@@ -28,7 +28,7 @@ impl<'a, N: LockName, M: Mechanism, D: Disk, R: Wait, C: Clock> Model
     for DeviceBoard<'a, N, M, D, R, C> {
     ghost use Rattle.xfs_board.specs.Boards.{DeviceView};
 
-    ghost Value = { DeviceView };
+    ghost Value = { DeviceView M D };
 
     ghost view = { λ b. record { caller = b.caller; service = b.service; closing = b.closing } };
 }

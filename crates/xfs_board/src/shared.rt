@@ -1,52 +1,73 @@
 //! The machine as a chronicle, and the lock that it stands behind.
 
-ghost use Rattle.std.specs.Prelude.{◌≡◌, ◌≤◌, ◌∷◌, ℕ, List, IfOk, IfErr};
+ghost use Rattle.std.specs.Prelude.{◌≡◌, ◌≤◌, IfOk, IfErr};
 ghost use mathlib.Core.List.{IsPrefix};
 ghost use Rattle.xfs_base.specs.Causes.{next_count};
-ghost use Rattle.xfs_base.specs.declared.money.NoteKind.{NoteKind};
 ghost use Rattle.xfs_base.specs.declared.moment.TheConstants.{LAST_MOMENT};
-ghost use Rattle.xfs_board.specs.Chronicles.{chronicle};
-ghost use Rattle.xfs_board.specs.declared.shared.Entry.{Entry};
-ghost use Rattle.xfs_board.specs.declared.shared.Entry.TheVariants.{Bench};
+ghost use Rattle.xfs_board.specs.Chronicles.{ComesBack, chronicle, opened};
+ghost use Rattle.xfs_guard.specs.Keeps.{Proceeds};
 ghost use Rattle.xfs_machine.specs.Answers.{joined_as, posted, touched_as, worked};
 ghost use Rattle.xfs_machine.specs.Laws.{IsLawful};
+ghost use Rattle.xfs_machine.specs.MachineView.{guard_of};
+ghost use Rattle.xfs_machine.specs.Wanted.{wants};
 ghost use Rattle.xfs_model.specs.Events as event;
 ghost use Rattle.xfs_model.specs.Step.{Step};
 ghost use Rattle.xfs_model.specs.Told.{AllTell};
 
 use std::alloc::Global;
+use std::marker::Model;
+use std::snapshot::Snapshot;
 use std::sync::Wait;
-use xfs_base::{Memory, Moment, Service, UnitTable};
+use xfs_base::{Memory, Moment, Service};
 use xfs_disk::Disk;
+use xfs_guard::Guard;
 use xfs_journal::Rec;
 use xfs_machine::{Frames, JoinFault, Machine, Pass, Tally, Touched, Work};
 use xfs_mech::{Mechanism, Touch};
 use xfs_turn::{Chronicle, Seat, Turn};
 
 /// An entry of the machine's chronicle. No value of it is made.
-pub enum Entry {
-    /// The first: the key of the device's tokens, and the kinds of notes of its units.
-    Bench { key: [u8; 32], units: UnitTable },
+pub enum Entry<M: Mechanism, D: Disk> {
+    /// The first: the machine's guard as it was when the lock was opened.
+    Began(Guard<M, D>),
     /// A record of the journal.
     Written(Rec),
 }
 
-/// A machine whose chronicle grows with its journal.
+/// A machine whose chronicle grows with its journal, beside what it was when the lock was opened: it has gone on
+/// from there by its own calls.
 #[derive(Drop)]
 pub struct SharedMachine<M: Mechanism, D: Disk> {
-    pub machine: Machine<M, D>,
+    machine: Machine<M, D>,
+    start: Snapshot<Machine<M, D>>,
+}
+
+impl<M: Mechanism, D: Disk> Model for SharedMachine<M, D> {
+    ghost use Rattle.std.specs.Coded.{codes};
+    ghost use Rattle.xfs_board.specs.Chronicles.{Shared};
+    ghost use Rattle.xfs_guard.specs.Keeps.{Proceeds};
+    ghost use Rattle.xfs_machine.specs.DataCodes.{data_code};
+    ghost use Rattle.xfs_machine.specs.MachineView.{guard_of};
+
+    ghost Value = { Shared D };
+
+    ghost coded = { Prim.hlevel (codes, data_code) };
+
+    ghost view = { λ s. record { start = guard_of s.start.value; machine = s.machine } };
+
+    ghost invariant = { λ s. Proceeds D.Disk (guard_of s.start.value) (guard_of s.machine) };
 }
 
 impl<M: Mechanism, D: Disk> Chronicle for SharedMachine<M, D> {
     ghost use Rattle.std.specs.Prelude.{◌≡◌, length};
     ghost use Rattle.xfs_board.specs.Chronicles.{chronicle};
 
-    type Entry = Entry;
+    type Entry = Entry<M, D>;
 
-    ghost list = { λ shared. chronicle shared.machine.state };
+    ghost list = { chronicle };
 
     fn count(&self) -> u64
-        ensures { result ≡ length (chronicle self.now.machine.state) }
+        ensures { result ≡ length (chronicle {M = M} self.now) }
     {
         1 + self.machine.records().len() as u64
     }
@@ -54,10 +75,31 @@ impl<M: Mechanism, D: Disk> Chronicle for SharedMachine<M, D> {
 
 // Each call is the machine's, and its chronicle is a front of the one behind it.
 impl<M: Mechanism, D: Disk> SharedMachine<M, D> {
+    fn open(machine: Machine<M, D>) -> SharedMachine<M, D>
+        ensures { result ≡ opened machine }
+    {
+        let start = Snapshot::of(&machine);
+        SharedMachine { machine, start }
+    }
+
+    fn close(self) -> Machine<M, D>
+        ensures same { result ≡ self.machine }
+        ensures proceeds { Proceeds D.Disk self.start (guard_of result) }
+    {
+        let SharedMachine { machine, start: _ } = self;
+        machine
+    }
+
+    pub(crate) fn wants(&self, service: Service) -> bool
+        ensures { result ≡ wants self.now.machine.state service }
+    {
+        self.machine.wants(service)
+    }
+
     pub(crate) fn join(&mut self, service: Service) -> Result<Pass, JoinFault>
         ensures step { Step self.old.machine.state (event.join service) (joined_as result) self.new.machine.state }
         ensures laws { IsLawful self.old.machine.state (event.join service) (joined_as result) self.new.machine.state }
-        ensures grown { IsPrefix (chronicle self.old.machine.state) (chronicle self.new.machine.state) }
+        ensures grown { IsPrefix (chronicle {M = M} self.old) (chronicle self.new) }
     {
         self.machine.join(service)
     }
@@ -72,7 +114,7 @@ impl<M: Mechanism, D: Disk> SharedMachine<M, D> {
         requires { now.0 ≤ LAST_MOMENT }
         ensures step { Step self.old.machine.state (event.post pass.now text.now now) (posted result) self.new.machine.state }
         ensures laws { IsLawful self.old.machine.state (event.post pass.now text.now now) (posted result) self.new.machine.state }
-        ensures grown { IsPrefix (chronicle self.old.machine.state) (chronicle self.new.machine.state) }
+        ensures grown { IsPrefix (chronicle {M = M} self.old) (chronicle self.new) }
         ensures tally { tally.new ≡ record tally.old { posts = next_count tally.old.posts } }
     {
         self.machine.post(pass, text, now, tally)
@@ -81,7 +123,7 @@ impl<M: Mechanism, D: Disk> SharedMachine<M, D> {
     pub(crate) fn touch(&mut self, touch: Touch, tally: &mut Tally) -> Result<Touched, Memory>
         ensures step { Step self.old.machine.state (event.touch touch) (touched_as result) self.new.machine.state }
         ensures laws { IsLawful self.old.machine.state (event.touch touch) (touched_as result) self.new.machine.state }
-        ensures grown { IsPrefix (chronicle self.old.machine.state) (chronicle self.new.machine.state) }
+        ensures grown { IsPrefix (chronicle {M = M} self.old) (chronicle self.new) }
         ensures tally { tally.new ≡ record tally.old { touches = next_count tally.old.touches } }
     {
         self.machine.touch(touch, tally)
@@ -96,7 +138,7 @@ impl<M: Mechanism, D: Disk> SharedMachine<M, D> {
         requires { now.0 ≤ LAST_MOMENT }
         ensures step { Step self.old.machine.state (event.work service now) (worked result) self.new.machine.state }
         ensures laws { IsLawful self.old.machine.state (event.work service now) (worked result) self.new.machine.state }
-        ensures grown { IsPrefix (chronicle self.old.machine.state) (chronicle self.new.machine.state) }
+        ensures grown { IsPrefix (chronicle {M = M} self.old) (chronicle self.new) }
         ensures tally { tally.new ≡ record tally.old { works = next_count tally.old.works } }
     {
         self.machine.work(service, now, tally)
@@ -106,7 +148,7 @@ impl<M: Mechanism, D: Disk> SharedMachine<M, D> {
         ensures step { Step self.old.machine.state (event.outbox pass.now) (event.handed result) self.new.machine.state }
         ensures laws { IsLawful self.old.machine.state (event.outbox pass.now) (event.handed result) self.new.machine.state }
         ensures told { AllTell self.new.machine.state result }
-        ensures grown { IsPrefix (chronicle self.old.machine.state) (chronicle self.new.machine.state) }
+        ensures grown { IsPrefix (chronicle {M = M} self.old) (chronicle self.new) }
         ensures tally { tally.new ≡ record tally.old { outboxes = next_count tally.old.outboxes } }
     {
         self.machine.outbox(pass, tally)
@@ -115,7 +157,7 @@ impl<M: Mechanism, D: Disk> SharedMachine<M, D> {
     pub(crate) fn leave(&mut self, pass: Pass)
         ensures step { Step self.old.machine.state (event.leave pass) event.done self.new.machine.state }
         ensures laws { IsLawful self.old.machine.state (event.leave pass) event.done self.new.machine.state }
-        ensures grown { IsPrefix (chronicle self.old.machine.state) (chronicle self.new.machine.state) }
+        ensures grown { IsPrefix (chronicle {M = M} self.old) (chronicle self.new) }
     {
         self.machine.leave(pass)
     }
@@ -127,26 +169,24 @@ pub fn open<M: Mechanism, D: Disk>(
     alloc: Global,
     machine: Machine<M, D>,
 ) -> Result<(Turn<SharedMachine<M, D>>, Seat<SharedMachine<M, D>>), (Machine<M, D>, Memory)>
-    ensures seat { IfOk result (λ t. t.1 ≡ record { lock = t.0; seen = chronicle machine.state }) }
+    ensures seat { IfOk result (λ t. t.1 ≡ record { lock = t.0; seen = chronicle (opened machine) }) }
     ensures memory { IfErr result (λ e. e.0 ≡ machine) }
 {
-    match Turn::new(alloc, SharedMachine { machine }) {
+    match Turn::new(alloc, SharedMachine::open(machine)) {
         Ok(opened) => Ok(opened),
-        Err((shared, memory)) => Err((shared.machine, memory)),
+        Err((shared, memory)) => Err((shared.close(), memory)),
     }
 }
 
-/// Takes the last turn, which may wait, and hands out the machine: what the seat has seen begins its
-/// chronicle, so its key and units are those of the first entry.
+/// Takes the last turn, which may wait, and hands out the machine: it went on from the one that was put behind the
+/// lock, and what the seat has seen begins its chronicle.
 pub fn close<M: Mechanism, D: Disk, R: Wait>(
     rt: &R,
     turn: Turn<SharedMachine<M, D>>,
     seat: Seat<SharedMachine<M, D>>,
 ) -> Machine<M, D>
     requires lock { seat.lock ≡ turn }
-    ensures seen { IsPrefix seat.seen (chronicle result.state) }
-    ensures bench { (key : List ℕ) (units : List NoteKind) (rest : List Entry) → seat.seen ≡ Bench key units ∷ rest
-        → (result.state.seen.guard.key ≡ key) × (result.state.seen.guard.units ≡ units) }
+    ensures { ComesBack D.Disk seat.seen result }
 {
-    turn.close(rt, seat).machine
+    turn.close(rt, seat).close()
 }

@@ -1,4 +1,4 @@
--- A run that leaves mechanism and disk as they were upholds what was there; and what a run upholds covers what it put out.
+-- A run that leaves mechanism and disk as they were upholds what was there.
 use Rattle.std.proofs.Common.{◌≡◌, ℕ, List, Some}
 use Rattle.xfs_disk.specs.declared.disk.Disk.{Ghosts as Disks}
 use Rattle.xfs_mech.specs.declared.mechanism.Mechanism.{Ghosts as Mechanisms}
@@ -6,10 +6,9 @@ use Rattle.xfs_guard.specs.declared.machine_core.Core.{Core}
 use Rattle.xfs_cli.specs.Moments.{WasOnTheWayAll}
 use Rattle.xfs_cli.specs.Returns.{Return}
 use Rattle.xfs_cli.specs.TokenRuns.{IsKept}
-use Rattle.xfs_cli.specs.Upholds.{AtRest, CoversAll, Starts, UpholdsAll}
+use Rattle.xfs_cli.specs.Upholds.{AtRest, Starts, UpholdsAll}
 use Rattle.xfs_cli.proofs.MomentLaws.{moments-same}
 use Rattle.xfs_cli.proofs.RunLaws.{upholds-same}
-use Rattle.xfs_cli.proofs.ServeLaws.{covers-upheld}
 
 module _ {M D : Type 0} (m : Mechanisms M) (d : Disks D) (core : Core M D) (r : Return M D) where
   pub upholds-kept : IsKept core r → Starts m d core → AtRest d core.disk → UpholdsAll m d core r
@@ -18,6 +17,3 @@ module _ {M D : Type 0} (m : Mechanisms M) (d : Disks D) (core : Core M D) (r : 
   pub moments-kept : ((disk : D) (all : List ℕ) → d.held disk ≡ Some all → d.images disk all) → ((disk : D) (left : List ℕ) → d.images_since disk (d.moment disk) left → d.images disk left)
       → IsKept core r → AtRest d core.disk → WasOnTheWayAll m d core r
   moments-kept as_read only_now kept rest = moments-same d as_read core.disk r.disk (m.motions r.mech) only_now rest kept.disk
-
-  pub covers-upholds : UpholdsAll m d core r → CoversAll m d core r
-  covers-upholds upholds = covers-upheld (d.held core.disk) (d.held r.disk) (d.images r.disk) core.key core.units (m.motions core.mech) (m.motions r.mech) (m.places core.mech) (m.places r.mech) upholds

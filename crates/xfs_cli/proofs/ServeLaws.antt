@@ -1,20 +1,14 @@
 -- A run of `serve` is as its record says: where its connections were taken, and where the boot was refused.
 use Rattle.std.proofs.Common.{◌≡◌, ◌≢◌, ◌≤◌, ◌∷◌, [], ◌++◌, ◌⊎◌, ℕ, true, List, None, Some, Result, Ok, Err, inl, inr, refl, subst, sym, ap, ◌∙◌, arith, length}
-use Rattle.std.specs.Prelude.{is_some}
 use Rattle.std.specs.declared.option.Option.{Option}
-use mathlib.Core.List.{IsPrefix}
 use Rattle.xfs_base.specs.Causes.{IfTold, Rose, next_count}
-use Rattle.xfs_base.specs.declared.counts.Places.{Places}
-use Rattle.xfs_base.specs.declared.money.NoteKind.{NoteKind}
-use Rattle.xfs_board.specs.Chronicles.{chronicle}
 use Rattle.xfs_disk.specs.declared.disk.Disk.{Ghosts as Disks}
 use Rattle.xfs_mech.specs.declared.mechanism.Mechanism.{Ghosts as Mechanisms}
-use Rattle.xfs_mech.specs.declared.motion.Motion.{Motion}
 use Rattle.xfs_journal.specs.Image.{StandsFor}
 use Rattle.xfs_journal.specs.JournalView.{HasPossible}
 use Rattle.xfs_journal.specs.declared.record.Rec.{Rec}
+use Rattle.xfs_guard.specs.Continues.{Continues}
 use Rattle.xfs_guard.specs.Lives.{BeginsWith}
-use Rattle.xfs_guard.specs.Recorded.{IsRecorded}
 use Rattle.xfs_guard.proofs.CrashedLaws.{begins-possible, begins-trans}
 use Rattle.xfs_guard.specs.declared.deny.Deny.{Deny}
 use Rattle.xfs_guard.specs.declared.fail.BootFault.{BootFault}
@@ -40,31 +34,12 @@ use Rattle.xfs_cli.specs.ServeRuns.{IsUnsettled, RunsServe, StandsForMore, serve
 use Rattle.xfs_cli.specs.Served.{WritesLast}
 use Rattle.xfs_cli.specs.Statuses.{IsFinished, IsOneOf}
 use Rattle.xfs_cli.specs.Streams.{Output, unread_io}
-use Rattle.xfs_cli.specs.Upholds.{IsCovered}
 use Rattle.xfs_cli.specs.declared.status.TheConstants.{DISK_FAULT, JOURNAL_FULL, LINK_FAILED, NOT_A_JOURNAL, NO_MEMORY, READ_TO_END}
 use Rattle.xfs_cli.proofs.BootedLaws.{ends-failed, starts-run, told-any}
 use Rattle.xfs_cli.proofs.BootsOnceLaws.{boots-refused, boots-served}
 use Rattle.xfs_cli.proofs.EndingLaws.{boot-least}
 use Rattle.xfs_cli.proofs.LoadLaws.{refused-finishes}
-use Rattle.xfs_cli.proofs.RunLaws.{UpholdsAll}
 use Rattle.xfs_cli.proofs.RunsLaws.{HasBooted, IsRefused}
-
--- ---- the headline
-
--- the headline of a run, for what its end leaves of the disk
-abbrev pub CoversAll : Option (List ℕ) → Option (List ℕ) → (List ℕ → Type 0) → List ℕ → List NoteKind → Option (List Motion) → Type 0
-CoversAll held held' images' key units motions' = IfTold held (λ bytes. (records : List Rec) → StandsFor bytes records → IfTold held' (λ _. (image : List ℕ) → images' image → IsCovered key units image motions'))
-
--- each image stands for a possible list of the guard that was handed back, and each list of an image is recorded
-pub covers-left : (held held' : Option (List ℕ)) (images' : List ℕ → Type 0) (key : List ℕ) (units : List NoteKind) (motions' : Option (List Motion)) (records : List Rec) (doubt : Option Rec)
-    → IfTold held' (λ _. (image : List ℕ) → images' image → HasPossible records doubt image)
-    → (is_some held' ≡ true → (image : List ℕ) → images' image → (J : List Rec) → StandsFor image J → IsRecorded key units J motions')
-    → CoversAll held held' images' key units motions'
-covers-left None held' images' key units motions' records doubt stored recorded = tt
-covers-left (Some bytes) None images' key units motions' records doubt stored recorded = λ J stands. tt
-covers-left (Some bytes) (Some now) images' key units motions' records doubt stored recorded = λ J stands image left.
-    let kept = stored image left in
-    record { records = kept.0; stands = inl kept.2; recorded = recorded refl image left kept.0 (inl kept.2) }
 
 -- ---- the records at the end begin with those of the boot
 
@@ -87,10 +62,10 @@ served-one taking.Memory (Ok done) status is = inr (inr (inr is))
 -- where the boot was not refused
 pub serves-booted : {M D : Type 0} (m : Mechanisms M) (d : Disks D) (core : Core M D) (connections : ℕ) (result : Return M D) (before now : DoorLog) (o : Output) (start : MachineView D) (last : State) (ending : Ending) (settled : Result Unit Deny)
     → HasBooted m d core (guard_of start) → start.state ≡ bare start.state.seen core.life (length start.state.seen.guard.records)
-    → Takes connections ending before now → IsPrefix (chronicle start.state) (chronicle last) → IsPrefix start.state.seen.guard.records last.seen.guard.records
+    → Takes connections ending before now → Continues start.state.seen.guard last.seen.guard
     → Finishes m d last settled result.mech result.disk → result.status ≡ served_status ending settled
     → WritesLast (served_line settled) o.faults o.faults_now o.held o.held_now → RunsServe m d core connections result before now o
-serves-booted m d core connections result before now o start last ending settled b bare_is takes goes_on prefix f status line = record {
+serves-booted m d core connections result before now o start last ending settled b bare_is takes goes_on f status line = record {
   serves = inr (record {
     start = on_disk d.faults start;
     begins = record { boots = starts-run d.faults (guard_of start) (at_entry m d core) b.records b.stands b.guard_is b.later; machine = bare_is };
@@ -124,7 +99,7 @@ serves-booted m d core connections result before now o start last ending settled
     one = served-one ending settled result.status status
 
     begun : BeginsWith f.0.guard.records start.state.seen.guard.records
-    begun = begins-trans _ last.seen.guard.records _ (record { more = prefix.0; is = sym prefix.1 }) (advances last (gone last f.0) finish (finished settled) f.1).records
+    begun = begins-trans _ last.seen.guard.records _ goes_on.grew (advances last (gone last f.0) finish (finished settled) f.1).records
 
     came_all : result.status ≡ READ_TO_END → now.came ≡ counted connections before.came
     came_all zero_is = elim one [
@@ -205,15 +180,6 @@ serves-refused m d core connections why result before now o f status written sam
     not-nine Disk is = absurd (omega (arith, is))
     not-nine Full is = absurd (omega (arith, is))
     not-nine Memory is = absurd (omega (arith, is))
-
--- the headline where the boot was refused: the images stand for the list at entry, or for that one with the Boot
-pub covers-upheld : (held held' : Option (List ℕ)) (images' : List ℕ → Type 0) (key : List ℕ) (units : List NoteKind) (motions motions' : Option (List Motion)) (places places' : Places)
-    → UpholdsAll held held' images' key units motions places motions' places' → CoversAll held held' images' key units motions'
-covers-upheld None held' images' key units motions motions' places places' upholds = tt
-covers-upheld (Some bytes) None images' key units motions motions' places places' upholds = λ J stands. tt
-covers-upheld (Some bytes) (Some now) images' key units motions motions' places places' upholds = λ J stands image left.
-    let u = upholds J stands image left in
-    record { records = u.records; stands = u.stands; recorded = u.recorded }
 
 -- no status of a server is that of words that are no command
 pub served-no-usage : (status : ℕ) → IsOneOf (READ_TO_END ∷ DISK_FAULT ∷ NOT_A_JOURNAL ∷ NO_MEMORY ∷ LINK_FAILED ∷ JOURNAL_FULL ∷ []) status → status ≢ 2

@@ -1,13 +1,12 @@
 -- A run of `serve`: the connections that it takes from its boot on, its statuses with their causes, and what the mechanism and the disk that come back are.
 use Rattle.std.specs.Prelude.{◌≡◌, ◌⊎◌, ◌∷◌, ℕ, List, [], Ok, Err, Result, String}
 use Rattle.std.specs.declared.alloc.Global.{Global}
-use mathlib.Core.List.{IsPrefix}
 use Rattle.xfs_base.specs.Causes.{IfTold, Rose}
-use Rattle.xfs_board.specs.Chronicles.{chronicle}
 use Rattle.xfs_disk.specs.declared.disk.Disk.{Ghosts as Disks}
 use Rattle.xfs_mech.specs.declared.mechanism.Mechanism.{Ghosts as Mechanisms}
 use Rattle.xfs_journal.specs.Image.{StandsFor}
 use Rattle.xfs_journal.specs.declared.record.Rec.{Rec}
+use Rattle.xfs_guard.specs.Continues.{Continues}
 use Rattle.xfs_guard.specs.Lives.{BeginsWith}
 use Rattle.xfs_guard.specs.declared.deny.Deny.{Deny}
 use Rattle.xfs_guard.specs.declared.fail.BootFault.TheVariants.{Disk}
@@ -54,9 +53,9 @@ pub record StandsForMore (records : List Rec) (bytes : List ℕ) : Type 0 where
 pub record ServesUntil {M D : Type 0} (m : Mechanisms M) (d : Disks D) (connections : ℕ) (result : Return M D) (before now : DoorLog) (o : Output) (start : MachineOnDisk) : Type 0 where
   pub ending : Ending
   pub takes : Takes connections ending before now
-  -- the last machine goes on from the first: its key and units are the same, and its records begin with those
+  -- the last machine goes on from the first
   pub last : State
-  pub goes_on : IsPrefix (chronicle start.machine) (chronicle last)
+  pub goes_on : Continues start.machine.seen.guard last.seen.guard
   pub settled : Result Unit Deny
   pub finishes : Finishes m d last settled result.mech result.disk
   pub status_is : result.status ≡ served_status ending settled

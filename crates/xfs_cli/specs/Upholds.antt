@@ -40,17 +40,6 @@ abbrev pub UpholdsAll : {M D : Type 0} → Mechanisms M → Disks D → Core M D
 UpholdsAll m d core result = IfTold (d.held core.disk) (λ bytes. (records : List Rec) → StandsFor bytes records → IfTold (d.held result.disk) (λ _. (image : List ℕ) → d.images result.disk image
     → Upholds core.key core.units records (m.motions core.mech) (m.places core.mech) image (m.motions result.mech) (m.places result.mech)))
 
--- these bytes stand for a list of records that is numbered, agrees with the mechanism's list, and puts out no more than its tokens cover
-pub record IsCovered (key : List ℕ) (units : List NoteKind) (bytes : List ℕ) (motions : Option (List Motion)) : Type 0 where
-  pub records : List Rec
-  pub stands : StandsFor bytes records
-  pub recorded : IsRecorded key units records motions
-
--- so of each image of the disk that comes back, where the disk's bytes at entry stood for a list of records
-abbrev pub CoversAll : {M D : Type 0} → Mechanisms M → Disks D → Core M D → Return M D → Type 0
-CoversAll m d core result = IfTold (d.held core.disk) (λ bytes. (records : List Rec) → StandsFor bytes records → IfTold (d.held result.disk) (λ _. (image : List ℕ) → d.images result.disk image
-    → IsCovered core.key core.units image (m.motions result.mech)))
-
 -- the mechanism's notes add up, and what told its list or its bytes still does
 pub record Accounts {M D : Type 0} (m : Mechanisms M) (d : Disks D) (core : Core M D) (result : Return M D) : Type 0 where
   pub adds : AddsUp (m.motions core.mech) (m.motions result.mech) (m.places core.mech) (m.places result.mech)

@@ -1,10 +1,9 @@
 //! The command `load`.
 
-ghost use Rattle.std.specs.Prelude.{◌≡◌, ◌↔◌, ◌∷◌, [], IfOk, is_some, length};
+ghost use Rattle.std.specs.Prelude.{◌≡◌, ◌↔◌, ◌∷◌, [], IfOk, length};
 ghost use Rattle.xfs_guard.specs.Keeps.{Proceeds};
 ghost use Rattle.xfs_load.specs.Summaries.{summary_line};
 ghost use Rattle.xfs_machine.specs.MachineView.{guard_of};
-ghost use Rattle.xfs_mech.specs.Moves.{AddsUp};
 ghost use Rattle.xfs_model.specs.State.{bare};
 ghost use Rattle.xfs_script.specs.Answered.{lines_text};
 ghost use Rattle.xfs_cli.specs.LoadEnds.{EndsLoad, TellsOrNot, output};
@@ -15,7 +14,7 @@ ghost use Rattle.xfs_cli.specs.Run.{IsLoad};
 ghost use Rattle.xfs_cli.specs.Statuses.{IsStatus};
 ghost use Rattle.xfs_cli.specs.Streams.{io_of};
 ghost use Rattle.xfs_cli.specs.TokenRuns.{IsKept, WritesUsage};
-ghost use Rattle.xfs_cli.specs.Upholds.{AtRest, Starts, UpholdsAll};
+ghost use Rattle.xfs_cli.specs.Upholds.{Accounts, AtRest, Starts, UpholdsAll};
 
 use crate::bench::Bench;
 use crate::ended::Ended;
@@ -51,10 +50,8 @@ pub fn load<S: Source, K: Sink, M: Mechanism, D: Disk, P: Watch, Q: Watch>(
     ensures unread { source.new ≡ source.old }
     ensures idle { result.status ≡ USAGE → IsKept bench.core (back result) }
     ensures statuses { IsStatus result.status }
-    ensures adds { AddsUp (M.motions bench.core.mech) (M.motions result.mech) (M.places bench.core.mech) (M.places result.mech) }
+    ensures accounts { Accounts M.Mechanism D.Disk bench.core (back result) }
     ensures units { M.units result.mech ≡ bench.core.units }
-    ensures told { is_some (M.motions result.mech) ≡ is_some (M.motions bench.core.mech) }
-    ensures told_disk { is_some (D.held result.disk) ≡ is_some (D.held bench.core.disk) }
 {
     let Bench { core, cards, keys } = bench;
     drop(cards);

@@ -1,7 +1,6 @@
 //! The command `replay`.
 
-ghost use Rattle.std.specs.Prelude.{◌≡◌, ◌↔◌, is_some};
-ghost use Rattle.xfs_mech.specs.Moves.{AddsUp};
+ghost use Rattle.std.specs.Prelude.{◌≡◌, ◌↔◌};
 ghost use Rattle.xfs_cli.specs.Moments.{WasOnTheWayAll};
 ghost use Rattle.xfs_cli.specs.ReplayRuns.{RunsReplayOf};
 ghost use Rattle.xfs_cli.specs.Returns.{back};
@@ -9,7 +8,7 @@ ghost use Rattle.xfs_cli.specs.Run.{IsReplay};
 ghost use Rattle.xfs_cli.specs.Statuses.{IsCaused, IsStatus};
 ghost use Rattle.xfs_cli.specs.Streams.{io_of};
 ghost use Rattle.xfs_cli.specs.TokenRuns.{IsKept, WritesUsage};
-ghost use Rattle.xfs_cli.specs.Upholds.{AtRest, Starts, UpholdsAll};
+ghost use Rattle.xfs_cli.specs.Upholds.{Accounts, AtRest, Starts, UpholdsAll};
 
 use crate::bench::Bench;
 use crate::clients::Clients;
@@ -47,10 +46,8 @@ pub fn replay<S: Source, K: Sink, M: Mechanism, D: Disk, P: Watch, Q: Watch>(
     ensures idle { result.status ≡ USAGE → IsKept bench.core (back result) }
     ensures statuses { IsStatus result.status }
     ensures causes { IsCaused result.status (io_of S.Source K.Sink source.old source.new sink.old sink.new) }
-    ensures adds { AddsUp (M.motions bench.core.mech) (M.motions result.mech) (M.places bench.core.mech) (M.places result.mech) }
+    ensures accounts { Accounts M.Mechanism D.Disk bench.core (back result) }
     ensures units { M.units result.mech ≡ bench.core.units }
-    ensures told { is_some (M.motions result.mech) ≡ is_some (M.motions bench.core.mech) }
-    ensures told_disk { is_some (D.held result.disk) ≡ is_some (D.held bench.core.disk) }
 {
     let Bench { core, cards, keys } = bench;
     drop(cards);

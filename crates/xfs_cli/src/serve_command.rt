@@ -1,11 +1,12 @@
 //! The command `serve`.
 
 ghost use Rattle.std.specs.Prelude.{◌≡◌, ◌≤◌};
+ghost use Rattle.xfs_cli.specs.Moments.{WasOnTheWayAll};
 ghost use Rattle.xfs_cli.specs.Returns.{back};
 ghost use Rattle.xfs_cli.specs.ServeRuns.{RunsServe, served_line, served_status};
 ghost use Rattle.xfs_cli.specs.Served.{WritesLast};
 ghost use Rattle.xfs_cli.specs.Streams.{output};
-ghost use Rattle.xfs_cli.specs.Upholds.{AtRest, CoversAll, Starts};
+ghost use Rattle.xfs_cli.specs.Upholds.{Accounts, AtRest, Starts, UpholdsAll};
 
 use crate::bench::Bench;
 use crate::ended::Ended;
@@ -48,8 +49,10 @@ pub fn serve_machine<
     requires units { M.units bench.core.mech ≡ bench.core.units }
     requires starts { Starts M.Mechanism D.Disk bench.core }
     requires at_rest { AtRest D.Disk bench.core.disk }
-    ensures covers { CoversAll M.Mechanism D.Disk bench.core (back result) }
+    ensures upholds { UpholdsAll M.Mechanism D.Disk bench.core (back result) }
+    ensures any_moment { WasOnTheWayAll M.Mechanism D.Disk bench.core (back result) }
     ensures runs { RunsServe M.Mechanism D.Disk bench.core connections (back result) (O.log doors.old) (O.log doors.new) (output K.Sink sink.old sink.new) }
+    ensures accounts { Accounts M.Mechanism D.Disk bench.core (back result) }
     ensures units { M.units result.mech ≡ bench.core.units }
     ensures undialled { result.link ≡ None }
 {

@@ -7,12 +7,12 @@ ghost use Rattle.xfs_cli.specs.LoadRuns.{RunsLoadOf};
 ghost use Rattle.xfs_cli.specs.Moments.{WasOnTheWayAll};
 ghost use Rattle.xfs_cli.specs.ReplayRuns.{RunsReplayOf};
 ghost use Rattle.xfs_cli.specs.Returns.{back};
-ghost use Rattle.xfs_cli.specs.Run.{IsClient, IsCommand, IsServe, IsUnread};
+ghost use Rattle.xfs_cli.specs.Run.{IsClient, IsCommand, IsUnread};
 ghost use Rattle.xfs_cli.specs.ServeRuns.{RunsServeOf};
 ghost use Rattle.xfs_cli.specs.Statuses.{IsCaused, IsStatusOf};
 ghost use Rattle.xfs_cli.specs.Streams.{io_of, output};
 ghost use Rattle.xfs_cli.specs.TokenRuns.{IsKept, RunsTokenOf, WritesUsage};
-ghost use Rattle.xfs_cli.specs.Upholds.{Accounts, AtRest, CoversAll, Starts, UpholdsAll};
+ghost use Rattle.xfs_cli.specs.Upholds.{Accounts, AtRest, Starts, UpholdsAll};
 
 use crate::bench::Bench;
 use crate::client_command::client;
@@ -57,13 +57,11 @@ pub fn run<
     requires starts { Starts M.Mechanism D.Disk bench.core }
     requires at_rest { AtRest D.Disk bench.core.disk }
 
-    // The headline: what was put out is within the tokens, whatever a crash leaves of the disk.
-    ensures covers { CoversAll M.Mechanism D.Disk bench.core (back result) }
-
-    // It follows what was there at entry; and a crash at any moment of the run leaves a list that begins with the records
-    // at entry, and is a prefix of those at the end but for its last record, whose number then no motion has.
-    ensures upholds { ¬ (IsServe words.now) → UpholdsAll M.Mechanism D.Disk bench.core (back result) }
-    ensures any_moment { ¬ (IsServe words.now) → WasOnTheWayAll M.Mechanism D.Disk bench.core (back result) }
+    // The headline: what was put out is within the tokens, whatever a crash leaves of the disk, and it follows what was
+    // there at entry. A crash at any moment of the run leaves a list that begins with the records at entry, and is a
+    // prefix of those at the end but for its last record, whose number then no motion has.
+    ensures upholds { UpholdsAll M.Mechanism D.Disk bench.core (back result) }
+    ensures any_moment { WasOnTheWayAll M.Mechanism D.Disk bench.core (back result) }
 
     // What each command does.
     ensures guard { RunsGuardOf words.now M.Mechanism D.Disk bench.core result (io_of S.Source K.Sink source.old source.new sink.old sink.new) }
@@ -85,7 +83,7 @@ pub fn run<
 
     // What comes back: the mechanism's notes add up, its table of units is the one that was handed in, and what told
     // its list or its bytes still does. Only `client` dials, and its link comes back.
-    ensures accounts { ¬ (IsServe words.now) → Accounts M.Mechanism D.Disk bench.core (back result) }
+    ensures accounts { Accounts M.Mechanism D.Disk bench.core (back result) }
     ensures units { M.units result.mech ≡ bench.core.units }
     ensures undialled { ¬ (IsClient words.now) → IsUndialled result.link (O.log doors.old) (O.log doors.new) }
 {

@@ -1,10 +1,10 @@
 -- How a machine ends, or is refused a restart, and what comes back of it.
 use Rattle.std.specs.Prelude.{◌≡◌, ◌≢◌, Result, is_some}
 use Rattle.xfs_disk.specs.declared.disk.Disk.{Ghosts}
-use Rattle.xfs_dispenser.specs.Seen.{Becomes, Seen}
+use Rattle.xfs_dispenser.specs.Seen.{Becomes, Seen, seen}
 use Rattle.xfs_dispenser.specs.Steps.{IsFull, IsUnknown, IsUnread}
 use Rattle.xfs_guard.specs.CrashOutcomes.{MayMove}
-use Rattle.xfs_guard.specs.Keeps.{Keeps, NoEntry}
+use Rattle.xfs_guard.specs.Keeps.{Keeps, NoEntry, Proceeds}
 use Rattle.xfs_guard.specs.Stored.{IsStored}
 use Rattle.xfs_guard.specs.View.{GuardView}
 use Rattle.xfs_guard.specs.declared.deny.Deny.{Deny}
@@ -47,10 +47,12 @@ ClosesThrough g No old new = new ≡ old
 ClosesThrough g (Written kind counts) old new = ActsThenSettles g old new
 ClosesThrough g (Acted kind moved diverted failed) old new = Keeps g NoEntry old new
 
--- a machine is finished through such states, and the last has this disk
-pub record IsFinishedThrough {D : Type 0} (g : Ghosts D) (old : GuardView D) (disk : D) : Type 0 where
+-- a machine is finished through such states, and mechanism and disk are those of the last
+pub record IsFinishedThrough {M D : Type 0} (m : Mechanisms M) (g : Ghosts D) (old : GuardView D) (mech : M) (disk : D) : Type 0 where
   pub last : GuardView D
   pub through : ClosesThrough g old.state.open_order old last
+  pub proceeds : Proceeds g old last
+  pub back : IsHandedBack m g (seen g last) mech disk
   pub disk_is : disk ≡ last.disk
 
 -- a crash inside a refused restart finds the journal's list or that list with its Boot, and the last disk is this one

@@ -89,7 +89,7 @@ impl<M: Mechanism, D: Disk> Machine<M, D> {
     pub fn finish(self) -> (Result<(), Deny>, M, D)
         ensures step { Finishes M.Mechanism D.Disk self.state result.0 result.1 result.2 }
         ensures err { IfErr result.0 (λ e. e ≡ Deny.Disk) }
-        ensures through { IsFinishedThrough D.Disk (guard_of self) result.2 }
+        ensures through { IsFinishedThrough M.Mechanism D.Disk (guard_of self) result.1 result.2 }
         ensures recorded { LeavesRecorded D.Disk result.2 self.state.seen.guard.key self.state.seen.guard.units (M.motions result.1) }
     {
         let mut guard = self.into_guard();

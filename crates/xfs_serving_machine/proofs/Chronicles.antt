@@ -1,15 +1,18 @@
--- What a chronicle tells that begins with another.
-use Rattle.std.proofs.Common.{List, [], ◌∷◌, map, refl}
+-- A chronicle that begins with another has the same first entry: the guard as it was when the lock was opened.
+use Rattle.std.proofs.Common.{◌≡◌, List, subst}
 use mathlib.Core.List.{IsPrefix}
-use Rattle.xfs_journal.specs.declared.record.Rec.{Rec}
-use Rattle.xfs_model.specs.State.{State}
-use Rattle.xfs_board.specs.Chronicles.{chronicle}
-use Rattle.xfs_board.specs.declared.shared.Entry.TheVariants.{Written}
+use Rattle.xfs_disk.specs.declared.disk.Disk.{Ghosts}
+use Rattle.xfs_guard.specs.Keeps.{Proceeds}
+use Rattle.xfs_machine.specs.MachineView.{MachineView, guard_of}
+use Rattle.xfs_turn.proofs.Prefixes.{begins_longer}
+use Rattle.xfs_board.specs.Chronicles.{ComesBack, Shared, chronicle, opened}
+use Rattle.xfs_board.specs.declared.shared.Entry.{Entry}
 
-written_begin : (xs ys : List Rec) → IsPrefix (map Written xs) (map Written ys) → IsPrefix xs ys
-written_begin [] ys p = (ys, refl)
-written_begin (x ∷ xs) [] p = absurd (cc p.1)
-written_begin (x ∷ xs) (y ∷ ys) p = let more = written_begin xs ys (p.0, cc p.1) in (more.0, cc (p.1, more.1))
+same_start : {M D : Type 0} (s t : Shared D) → IsPrefix (chronicle {M = M} s) (chronicle t) → t.start ≡ s.start
+same_start s t p = cc p.1
 
-pub records_begin : (s t : State) → IsPrefix (chronicle s) (chronicle t) → IsPrefix s.seen.guard.records t.seen.guard.records
-records_begin s t p = written_begin s.seen.guard.records t.seen.guard.records (p.0, cc p.1)
+-- a machine that comes back of the lock, whose seat had seen the chronicle at its opening, went on from the one that was put there
+pub went_on : {M D : Type 0} (g : Ghosts D) (machine last : MachineView D) (seen : List (Entry M D)) → IsPrefix (chronicle {M = M} (opened machine)) seen → ComesBack g seen last → Proceeds g (guard_of machine) (guard_of last)
+went_on g machine last seen opened_ back =
+    let found : Shared _ = record { start = back.start; machine = last } in
+    subst (λ v. Proceeds g v (guard_of last)) (same_start (opened machine) found (begins_longer (chronicle (opened machine)) seen (chronicle found) opened_ back.begins)) back.proceeds

@@ -37,7 +37,7 @@ impl<
     ghost use Rattle.xfs_machine.specs.Answers.{joined_as};
     ghost use Rattle.xfs_model.specs.Events as event;
 
-    type Entry = Entry;
+    type Entry = Entry<M, D>;
 
     type Board = ClientBoard<'a, N, M, D, R, C>;
 

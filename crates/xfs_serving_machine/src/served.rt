@@ -2,7 +2,8 @@
 
 ghost use Rattle.std.specs.Prelude.{◌≡◌};
 ghost use mathlib.Core.List.{IsPrefix};
-ghost use Rattle.xfs_board.specs.Chronicles.{chronicle};
+ghost use Rattle.xfs_guard.specs.Keeps.{Proceeds};
+ghost use Rattle.xfs_machine.specs.MachineView.{guard_of};
 ghost use Rattle.xfs_serving.specs.Takings.{Takes};
 
 use crate::backend::MachineBackend;
@@ -53,11 +54,8 @@ pub fn serve_connections<
     // It has served only where all connections came, and failed only where the doors did. It dials none.
     ensures doors { Takes count result.ending (O.log doors.old) (O.log doors.new) }
 
-    // The machine that comes back goes on from the one that was handed in.
-    ensures chronicle { IsPrefix (chronicle machine.state) (chronicle result.machine.state) }
-    ensures records { IsPrefix machine.state.seen.guard.records result.machine.state.seen.guard.records }
-    ensures key { result.machine.state.seen.guard.key ≡ machine.state.seen.guard.key }
-    ensures units { result.machine.state.seen.guard.units ≡ machine.state.seen.guard.units }
+    // The machine that comes back goes on from the one that was handed in, by calls of its guard alone.
+    ensures proceeds { Proceeds D.Disk (guard_of machine) (guard_of result.machine) }
 {
     let (turn, seat) = match open(alloc, machine) {
         Ok(opened) => opened,

@@ -1,5 +1,6 @@
-use Rattle.xfs_board.proofs.Chronicles.{first_is}
 use Rattle.xfs_board.proofs.shared.close.Goals as goal
 
-pub returns-clause-bench : goal.returns-clause-bench
-returns-clause-bench g c key units rest is = first_is c.close.result.machine.state c.args.seat.seen key units rest c.close.ensures.seen is
+pub returns : goal.returns
+returns g c =
+    let back = c.close-2.ensures in
+    record { start = c.close.result.start; begins = rw back.same c.close.ensures.seen; proceeds = back.proceeds }

@@ -1,7 +1,5 @@
 use Rattle.std.proofs.Common.{inl, inr}
 use Rattle.xfs_words.specs.declared.command.Command.TheVariants.{Serve, Client}
-use Rattle.xfs_cli.specs.Returns.{back}
-use Rattle.xfs_cli.proofs.KeptLaws.{covers-upholds}
 use Rattle.xfs_cli.proofs.ServeLaws.{served-no-usage}
 use Rattle.xfs_cli.proofs.top.run.Goals as goal
 
@@ -9,16 +7,10 @@ pub returns-in-Serve-clause-usage : goal.returns-in-Serve-clause-usage
 returns-in-Serve-clause-usage g c =
     (λ two is. served-no-usage _ c.serve_machine.ensures.runs.status_is two, λ none. absurd (none (Serve c.in-Serve.connections, c.in-Serve.ensures)))
 
-pub returns-in-Client-clause-covers : goal.returns-in-Client-clause-covers
-returns-in-Client-clause-covers g c = covers-upholds g.M.Mechanism g.D.Disk c.args.bench.core (back c.client.result) c.client.ensures.upholds
-
 pub returns-in-Client-clause-usage : goal.returns-in-Client-clause-usage
 returns-in-Client-clause-usage g c =
     let client = c.in-Client.ensures in
     (λ two is. (c.client.ensures.usage.0 two) client, λ none. absurd (none (Client client.0 client.1, client.2)))
-
-pub returns-in-Other-clause-covers : goal.returns-in-Other-clause-covers
-returns-in-Other-clause-covers g c = covers-upholds g.M.Mechanism g.D.Disk c.args.bench.core (back c.run_without_doors.result) c.run_without_doors.ensures.upholds
 
 pub returns-in-Other-clause-serve : goal.returns-in-Other-clause-serve
 returns-in-Other-clause-serve g c = λ connections says. absurd (c.in-Other.ensures.0 (connections, says))

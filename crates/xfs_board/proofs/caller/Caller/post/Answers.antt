@@ -5,5 +5,5 @@ use Rattle.xfs_board.proofs.caller.Caller.post.Goals as goal
 
 pub returns-clause-turn : goal.returns-clause-turn
 returns-clause-turn g c =
-    makes_turn _ _ _ _ _ _ _ _ (sym (ap seen_by c.take.ensures) ∙ ap (λ v. v.seen) c.self.view_is) c.enter-held.ensures.seen (ap (λ v. v.machine.state) c.value.ensures.now)
-    c.post-result.ensures.step c.post-result.ensures.laws (ap (λ s. s.seen) c.leave.ensures.seat)
+    makes_turn _ _ _ _ _ _ _ c.post-result.new.self (sym (ap seen_by c.take.ensures) ∙ ap (λ v. v.seen) c.self.view_is) c.enter-held.ensures.seen c.value.ensures.now
+    c.post-result.ensures.step c.post-result.ensures.laws c.post-result.ensures.grown (ap (λ s. s.seen) c.leave.ensures.seat)

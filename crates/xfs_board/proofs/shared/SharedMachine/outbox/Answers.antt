@@ -1,5 +1,16 @@
+use Rattle.std.proofs.Common.{refl, subst, sym}
+use mathlib.Core.List.{IsPrefix}
+use Rattle.xfs_guard.specs.Keeps.{Proceeds}
+use Rattle.xfs_machine.specs.MachineView.{guard_of}
+use Rattle.xfs_board.specs.Chronicles.{Shared, chronicle}
 use Rattle.xfs_board.proofs.Chronicles.{grows}
 use Rattle.xfs_board.proofs.shared.SharedMachine.outbox.Goals as goal
 
+pub invariant_of-self : goal.invariant_of-self
+invariant_of-self g c = subst (λ v. Proceeds g.D.Disk (guard_of c.self.inside.start.value) v) (sym c.outbox.ensures.guard) c.self.invariant
+
 pub returns-clause-grown : goal.returns-clause-grown
-returns-clause-grown g c = grows _ _ _ _ c.outbox.ensures.laws
+returns-clause-grown g c =
+    let old : Shared g.row.D.Denot = record { start = guard_of c.self.inside.start.value; machine = c.self.inside.machine } in
+    let left : Shared g.row.D.Denot = record { start = old.start; machine = c.outbox.new.self } in
+    subst (λ s. IsPrefix (chronicle {M = g.row.M.Denot} s) (chronicle left)) c.self.view_is (grows old left _ _ refl c.outbox.ensures.laws)

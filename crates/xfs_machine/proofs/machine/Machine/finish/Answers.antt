@@ -3,6 +3,7 @@ use Rattle.std.specs.Prelude.{is_ok}
 use Rattle.xfs_dispenser.specs.Seen.{Seen, seen}
 use Rattle.xfs_machine.proofs.Endings.{finishes}
 use Rattle.xfs_machine.proofs.machine.Machine.finish.Goals as goal
+use Rattle.xfs_guard.specs.Keeps.{Proceeds}
 use Rattle.xfs_guard.specs.View.{GuardView}
 use Rattle.xfs_machine.specs.Endings.{ClosesThrough}
 use Rattle.xfs_model.specs.Guards.{Closes}
@@ -19,8 +20,12 @@ returns-clause-step g c =
 
 pub returns-clause-through : goal.returns-clause-through
 returns-clause-through g c =
-    record {
-      last = c.close-settled.new.guard;
-      through = subst (λ (v : GuardView g.row.D.Denot). ClosesThrough g.D.Disk v.state.open_order v c.close-settled.new.guard) c.into_guard-guard.ensures.guard c.close-settled.ensures.through;
-      disk_is = c.end-mech.ensures.disk;
+    let left = c.close-settled.new.guard in
+    let its = c.into_guard-guard.ensures.guard in
+    let back = c.end-mech.ensures in record {
+      last = left;
+      through = subst (λ (v : GuardView g.row.D.Denot). ClosesThrough g.D.Disk v.state.open_order v left) its c.close-settled.ensures.through;
+      proceeds = subst (λ (v : GuardView g.row.D.Denot). Proceeds g.D.Disk v left) its c.close-settled.ensures.proceeds;
+      back = record { stored = back.stored; told = back.told; disk_faults = ap g.D.Disk.faults back.disk; motions = back.motions; places = back.places; units = back.units; faults = back.faults };
+      disk_is = back.disk;
     }

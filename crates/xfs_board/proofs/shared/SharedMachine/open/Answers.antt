@@ -1,0 +1,9 @@
+use Rattle.std.proofs.Common.{subst, sym}
+use Rattle.xfs_guard.specs.Keeps.{Proceeds}
+use Rattle.xfs_machine.specs.MachineView.{guard_of}
+use Rattle.xfs_guard.proofs.KeepsLaws.{Proceeds-same}
+use Rattle.xfs_board.proofs.shared.SharedMachine.open.Goals as goal
+
+pub invariant_of-result : goal.invariant_of-result
+invariant_of-result g c =
+    subst (λ m. Proceeds g.D.Disk (guard_of m) (guard_of c.args.machine)) (sym c.of-start.ensures) (Proceeds-same g.D.Disk _ g.met.D.Disk.only_now)
