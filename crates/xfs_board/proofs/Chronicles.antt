@@ -1,5 +1,5 @@
 -- A lawful step keeps the chronicle, and adds the journal's new records behind it. So what a seat had seen begins what it has seen after a turn.
-use Rattle.std.proofs.Common.{◌≡◌, ℕ, Bool, List, ◌∷◌, ◌++◌, map, refl, sym, ap, subst, ◌∙◌}
+use Rattle.std.proofs.Common.{◌≡◌, ℕ, Bool, List, map, refl, sym, subst}
 use mathlib.Core.List.{IsPrefix}
 use Rattle.std.proofs.lemmas.List.{map-append}
 use Rattle.xfs_base.specs.declared.moment.Service.{Service}
@@ -12,7 +12,7 @@ use Rattle.xfs_turn.proofs.Prefixes.{begins_longer}
 use Rattle.xfs_board.specs.Chronicles.{Shared, chronicle}
 use Rattle.xfs_board.specs.Turns.{HandsTold, IsLook, IsTurn}
 use Rattle.xfs_board.specs.declared.shared.Entry.{Entry}
-use Rattle.xfs_board.specs.declared.shared.Entry.TheVariants.{Began, Written}
+use Rattle.xfs_board.specs.declared.shared.Entry.TheVariants.{Written}
 
 module _ {M D : Type 0} where
   pub grows : (old new : Shared D) (event : Event) (answer : Answer) → new.start ≡ old.start → IsLawful old.machine.state event answer new.machine.state

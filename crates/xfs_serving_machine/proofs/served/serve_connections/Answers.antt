@@ -3,7 +3,6 @@ use mathlib.Core.List.{IsPrefix}
 use Rattle.xfs_guard.proofs.KeepsLaws.{Proceeds-same}
 use Rattle.xfs_guard.specs.Keeps.{Proceeds}
 use Rattle.xfs_machine.specs.MachineView.{guard_of}
-use Rattle.xfs_board.specs.Chronicles.{chronicle, opened}
 use Rattle.xfs_serving_machine.proofs.Chronicles.{went_on}
 use Rattle.xfs_serving_machine.proofs.Unserved.{none_taken}
 use Rattle.xfs_serving_machine.proofs.served.serve_connections.Goals as goal
