@@ -1,5 +1,5 @@
 -- A restart of the machine that is refused ends a run of `replay` as one of the guard ends a run of `guard`.
-use Rattle.std.proofs.Common.{◌≡◌, ◌≤◌, ◌⊎◌, ◌++◌, ◌∷◌, [], ℕ, List, Option, None, Result, Ok, Err, inl, inr, refl, ap, sym, subst, ◌∙◌}
+use Rattle.std.proofs.Common.{◌≡◌, ◌≤◌, ◌⊎◌, ℕ, List, Option, Result, Ok, Err, inl, inr, refl, ap, sym, subst, ◌∙◌}
 use Rattle.std.specs.Prelude.{IsErrAnd}
 use Rattle.xfs_base.specs.Causes.{Rose}
 use Rattle.xfs_dispenser.specs.Seen as Of
@@ -9,7 +9,7 @@ use Rattle.xfs_guard.specs.declared.fail.BootFault.TheVariants.{NotJournal, Disk
 use Rattle.xfs_journal.specs.JournalView.{IsPossible}
 use Rattle.xfs_journal.specs.declared.record.Rec.{Rec}
 use Rattle.xfs_machine.specs.Endings.{RefusesAs}
-use Rattle.xfs_cli.specs.Restarts.{HasNoRoom, IsFull, RestartCause, RestartFails}
+use Rattle.xfs_cli.specs.Restarts.{IsFull, RestartFails}
 use Rattle.xfs_cli.specs.GuardStates.{IsStill, GuardState}
 use Rattle.xfs_cli.proofs.GuardStateLaws.{IsFault}
 use Rattle.xfs_cli.specs.declared.guard_player.NoAnswer.{NoAnswer}

@@ -1,10 +1,9 @@
 -- A run of `serve` is as its record says: where its connections were taken, and where the boot was refused.
-use Rattle.std.proofs.Common.{◌≡◌, ◌≢◌, ◌≤◌, ◌∷◌, [], ◌++◌, ◌⊎◌, ℕ, true, List, None, Some, Result, Ok, Err, inl, inr, refl, subst, sym, ap, ◌∙◌, arith, length}
+use Rattle.std.proofs.Common.{◌≡◌, ◌≢◌, ◌≤◌, ◌∷◌, [], ◌⊎◌, ℕ, List, None, Some, Result, Ok, Err, inl, inr, refl, subst, sym, ap, ◌∙◌, arith, length}
 use Rattle.std.specs.declared.option.Option.{Option}
 use Rattle.xfs_base.specs.Causes.{IfTold, Rose, next_count}
 use Rattle.xfs_disk.specs.declared.disk.Disk.{Ghosts as Disks}
 use Rattle.xfs_mech.specs.declared.mechanism.Mechanism.{Ghosts as Mechanisms}
-use Rattle.xfs_journal.specs.Image.{StandsFor}
 use Rattle.xfs_journal.specs.JournalView.{HasPossible}
 use Rattle.xfs_journal.specs.declared.record.Rec.{Rec}
 use Rattle.xfs_guard.specs.Continues.{Continues}

@@ -1,6 +1,5 @@
 -- How a load ends once its machine has booted: it is played whole and its line is told, or memory runs out.
 use Rattle.std.specs.Prelude.{◌≡◌, ◌⊎◌, ℕ, List, [], ◌∷◌}
-use Rattle.std.specs.declared.option.Option.{Option}
 use Rattle.std.specs.Io.KnownBytes.{Appends}
 use Rattle.xfs_base.specs.Causes.{Rose, TookPrefix}
 use Rattle.xfs_load.specs.Plays.{RoundsInPart}

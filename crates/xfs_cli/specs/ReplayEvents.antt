@@ -1,10 +1,7 @@
 -- The answers of the command `replay`: the events of the machine that a line stands for, the text of their answers, and the frames that wait then.
-use Rattle.std.specs.Prelude.{◌≡◌, ◌≤◌, ◌==◌, ◌+◌, ◌-◌, ℕ, suc, List, [], ◌∷◌, ◌++◌, length, map, flat_map, codes, decimal, if◌then◌else◌, None, Some}
+use Rattle.std.specs.Prelude.{◌≡◌, ◌≤◌, ◌==◌, ℕ, List, [], ◌∷◌, ◌++◌, length, map, flat_map, codes, decimal, if◌then◌else◌, None, Some}
 use Rattle.std.specs.declared.option.Option.{Option}
 use Rattle.std.specs.Option.{option_map}
-use Rattle.xfs_base.specs.declared.moment.Moment.{Moment}
-use Rattle.xfs_base.specs.declared.moment.Service.{Service}
-use Rattle.xfs_base.specs.declared.moment.Service.TheVariants as service
 use Rattle.xfs_guard.specs.Nonce.{live_in}
 use Rattle.xfs_guard.specs.declared.nonce.Nonce.{Nonce}
 use Rattle.xfs_mech.specs.declared.touch.Touch.{Touch}

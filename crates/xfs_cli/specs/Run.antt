@@ -3,7 +3,6 @@ use Rattle.std.specs.Prelude.{◌≡◌, ◌⊎◌, ℕ, List, [], ◌∷◌, St
 use Rattle.std.specs.declared.alloc.Global.{Global}
 use Rattle.xfs_words.specs.Words.{Names, texts}
 use Rattle.xfs_cli.specs.declared.words.Task.{Task}
-use Rattle.xfs_cli.specs.declared.words.Task.TheVariants as Task
 use Rattle.xfs_words.specs.declared.command.Command.{Command}
 use Rattle.xfs_words.specs.declared.command.Command.TheVariants.{Guard, Token, Replay, Load, Serve, Client}
 

@@ -2,7 +2,7 @@ use Rattle.std.proofs.Common.{refl, ap, sym, ◌∙◌}
 use Rattle.xfs_guard.specs.View.{View}
 use Rattle.xfs_machine.specs.MachineView.{guard_of}
 use Rattle.xfs_cli.specs.Returns.{Return}
-use Rattle.xfs_cli.proofs.LoadLaws.{ends-one, loads-refused, loads-served}
+use Rattle.xfs_cli.proofs.LoadLaws.{loads-refused, loads-served}
 use Rattle.xfs_cli.proofs.MomentLaws.{moments-same, moments-refused, moments-run}
 use Rattle.xfs_cli.proofs.RunLaws.{recorded-start, upholds-same, upholds-refused, upholds-run}
 use Rattle.xfs_cli.proofs.WordLaws.{same-rounds}
