@@ -28,7 +28,7 @@ pub shared_send : (M D : RattleType) (m : Mechanism.Ghosts M.Denot) (d : Disk.Gh
 shared_send M D m d sm sd =
     let fields = in_shared.the_type M D m d in
     view_send (in_shared.the_row M D m d) _ _ _ _
-    (recorded_send (in_shared.the_field M D m d).row _ _ fields.to_one (struct_send (shape fields) (machine_send M D m d sm sd, ((search (owned.crosses, sendable) depth 20), tt))))
+    (recorded_send (in_shared.the_field M D m d).row _ _ fields.to_one (struct_send (shape fields) ((search (owned.crosses, machine_send, sendable) depth 20), ((search (owned.crosses, sendable) depth 20), tt))))
 
 module _ (a : NamedLft) (N M D R : RattleType) (n : LockName.Ghosts N.Denot) (m : Mechanism.Ghosts M.Denot) (d : Disk.Ghosts D.Denot) (sm : IsSend M) (sd : IsSend D) (yr : IsSync R) where
   pub caller_send : IsSend (caller.the_row a N M D R n m d)

@@ -35,10 +35,10 @@ pub enum Entry<M: Mechanism, D: Disk> {
 }
 
 /// A machine whose chronicle grows with its journal, beside what it was when the lock was opened: it has gone on
-/// from there by its own calls.
+/// from there by its own calls. It lies in a box, since each turn moves what lies behind the lock.
 #[derive(Drop)]
 pub struct SharedMachine<M: Mechanism, D: Disk> {
-    machine: Machine<M, D>,
+    machine: Box<Machine<M, D>>,
     start: Snapshot<Machine<M, D>>,
 }
 
@@ -53,9 +53,9 @@ impl<M: Mechanism, D: Disk> Model for SharedMachine<M, D> {
 
     ghost coded = { Prim.hlevel (codes, data_code) };
 
-    ghost view = { λ s. record { start = guard_of s.start.value; machine = s.machine } };
+    ghost view = { λ s. record { start = guard_of s.start.value; machine = s.machine.value } };
 
-    ghost invariant = { λ s. Proceeds D.Disk (guard_of s.start.value) (guard_of s.machine) };
+    ghost invariant = { λ s. Proceeds D.Disk (guard_of s.start.value) (guard_of s.machine.value) };
 }
 
 impl<M: Mechanism, D: Disk> Chronicle for SharedMachine<M, D> {
@@ -75,11 +75,16 @@ impl<M: Mechanism, D: Disk> Chronicle for SharedMachine<M, D> {
 
 // Each call is the machine's, and its chronicle is a front of the one behind it.
 impl<M: Mechanism, D: Disk> SharedMachine<M, D> {
-    fn open(machine: Machine<M, D>) -> SharedMachine<M, D>
-        ensures { result ≡ opened machine }
+    // Where memory ran out the machine comes back.
+    fn open(alloc: Global, machine: Machine<M, D>) -> Result<SharedMachine<M, D>, Machine<M, D>>
+        ensures ok { IfOk result (λ shared. shared ≡ opened machine) }
+        ensures memory { IfErr result (λ refused. refused ≡ machine) }
     {
         let start = Snapshot::of(&machine);
-        SharedMachine { machine, start }
+        match Box::new(alloc, machine) {
+            Ok(machine) => Ok(SharedMachine { machine, start }),
+            Err(refused) => Err(refused.value),
+        }
     }
 
     fn close(self) -> Machine<M, D>
@@ -87,7 +92,7 @@ impl<M: Mechanism, D: Disk> SharedMachine<M, D> {
         ensures proceeds { Proceeds D.Disk self.start (guard_of result) }
     {
         let SharedMachine { machine, start: _ } = self;
-        machine
+        Box::into_inner(machine)
     }
 
     pub(crate) fn wants(&self, service: Service) -> bool
@@ -172,7 +177,11 @@ pub fn open<M: Mechanism, D: Disk>(
     ensures seat { IfOk result (λ t. t.1 ≡ record { lock = t.0; seen = chronicle (opened machine) }) }
     ensures memory { IfErr result (λ e. e.0 ≡ machine) }
 {
-    match Turn::new(alloc, SharedMachine::open(machine)) {
+    let shared = match SharedMachine::open(alloc, machine) {
+        Ok(shared) => shared,
+        Err(machine) => return Err((machine, Memory)),
+    };
+    match Turn::new(alloc, shared) {
         Ok(opened) => Ok(opened),
         Err((shared, memory)) => Err((shared.close(), memory)),
     }

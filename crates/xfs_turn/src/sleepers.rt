@@ -3,7 +3,7 @@ use std::sync::atomic::{AtomicU64, Ordering};
 // After a wake so many turns may pass before the next one, as long as no sleeper has come back: a seat
 // that is woken needs longer than many turns last, and each wake is a system call. The number also bounds
 // what it costs that a wake came just before its sleeper slept.
-const PASSES: u64 = 1024;
+const PASSES: u64 = 16;
 
 /// Who sleeps for the turn. These are hints, on which only the length of a wait rests.
 #[derive(Drop)]

@@ -20,8 +20,11 @@ use xfs_base::Memory;
 // How often a seat looks whether the turn is free before it sleeps.
 const LOOKS: u32 = 100;
 
-// The longest sleep, in milliseconds, so that a lost wake costs delay only.
-const NAP: u64 = 50;
+// The first sleep and the longest, in microseconds. A wake is lost where it comes just before its sleeper sleeps: then
+// the first sleeps, each twice the one before, end soon, and the longest costs a seat little that waits for long.
+const FIRST_NAP: u64 = 125;
+
+const LONGEST_NAP: u64 = 50_000;
 
 const TURN: usize = 0;
 
@@ -86,12 +89,14 @@ impl<T: Chronicle + Drop> Turn<T> {
         ensures seen { IsPrefix seat.seen (T.list result.value) }
     {
         let Seat { mut seat, count: _ } = seat;
+        let mut nap = FIRST_NAP;
         for _ in rt.forever() {
             if self.take(&mut seat) {
                 return self.carry_out(seat);
             }
             if !self.looks_free() {
-                self.sleep(rt);
+                self.sleep(rt, nap);
+                nap = nap.saturating_mul(2).min(LONGEST_NAP);
             }
         }
         unreachable!()
@@ -190,12 +195,12 @@ impl<T: Chronicle + Drop> Turn<T> {
         false
     }
 
-    // Sleeps while the turn is taken, until a wake or the nap's end.
-    fn sleep<R: Wait>(&self, rt: &R) {
+    // Sleeps while the turn is taken, until a wake or the nap's end, in microseconds.
+    fn sleep<R: Wait>(&self, rt: &R, nap: u64) {
         self.sleepers.enter();
         self.table
             .shared
-            .park_timeout(rt, TURN, 1, Duration::from_millis(NAP));
+            .park_timeout(rt, TURN, 1, Duration::from_micros(nap));
         self.sleepers.leave();
     }
 

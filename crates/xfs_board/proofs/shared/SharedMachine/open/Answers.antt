@@ -6,4 +6,6 @@ use Rattle.xfs_board.proofs.shared.SharedMachine.open.Goals as goal
 
 pub invariant_of-result : goal.invariant_of-result
 invariant_of-result g c =
-    subst (λ m. Proceeds g.D.Disk (guard_of m) (guard_of c.args.machine)) (sym c.of-start.ensures) (Proceeds-same g.D.Disk _ g.met.D.Disk.only_now)
+    let boxed = c.in-Ok.machine.value in
+    subst (λ m. Proceeds g.D.Disk (guard_of m) (guard_of boxed)) (sym c.of-start.ensures)
+    (subst (λ m. Proceeds g.D.Disk (guard_of c.args.machine) (guard_of m)) (sym c.in-Ok.ensures.ok) (Proceeds-same g.D.Disk _ g.met.D.Disk.only_now))

@@ -1,4 +1,4 @@
-use Rattle.std.proofs.Common.{refl, subst, sym}
+use Rattle.std.proofs.Common.{◌≡◌, refl, subst, sym}
 use mathlib.Core.List.{IsPrefix}
 use Rattle.xfs_guard.specs.Keeps.{Proceeds}
 use Rattle.xfs_machine.specs.MachineView.{guard_of}
@@ -7,10 +7,14 @@ use Rattle.xfs_board.proofs.Chronicles.{grows}
 use Rattle.xfs_board.proofs.shared.SharedMachine.outbox.Goals as goal
 
 pub invariant_of-self : goal.invariant_of-self
-invariant_of-self g c = subst (λ v. Proceeds g.D.Disk (guard_of c.self.inside.start.value) v) (sym c.outbox.ensures.guard) c.self.invariant
+invariant_of-self g c =
+    let start = guard_of c.self.inside.start.value in
+    let before = subst (λ m. Proceeds g.D.Disk start (guard_of m)) (sym c.deref_mut.ensures.value) c.self.invariant in
+    subst (λ v. Proceeds g.D.Disk start v) (sym c.outbox.ensures.guard) before
 
 pub returns-clause-grown : goal.returns-clause-grown
 returns-clause-grown g c =
-    let old : Shared g.row.D.Denot = record { start = guard_of c.self.inside.start.value; machine = c.self.inside.machine } in
-    let left : Shared g.row.D.Denot = record { start = old.start; machine = c.outbox.new.self } in
-    subst (λ s. IsPrefix (chronicle {M = g.row.M.Denot} s) (chronicle left)) c.self.view_is (grows old left _ _ refl c.outbox.ensures.laws)
+    let found : Shared g.row.D.Denot = record { start = guard_of c.self.inside.start.value; machine = c.deref_mut.result.now } in
+    let left : Shared g.row.D.Denot = record { start = found.start; machine = c.outbox.new.self } in
+    let entered = subst (λ m. record { start = found.start; machine = m } ≡ c.args.self.now) (sym c.deref_mut.ensures.value) c.self.view_is in
+    subst (λ s. IsPrefix (chronicle {M = g.row.M.Denot} s) (chronicle left)) entered (grows found left _ _ refl c.outbox.ensures.laws)

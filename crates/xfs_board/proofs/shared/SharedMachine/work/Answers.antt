@@ -1,5 +1,6 @@
-use Rattle.std.proofs.Common.{refl, subst}
+use Rattle.std.proofs.Common.{◌≡◌, refl, subst, sym}
 use mathlib.Core.List.{IsPrefix}
+use Rattle.xfs_guard.specs.Keeps.{Proceeds}
 use Rattle.xfs_guard.proofs.KeepsLaws.{Proceeds-trans}
 use Rattle.xfs_machine.specs.MachineView.{guard_of}
 use Rattle.xfs_board.specs.Chronicles.{Shared, chronicle}
@@ -7,10 +8,14 @@ use Rattle.xfs_board.proofs.Chronicles.{grows}
 use Rattle.xfs_board.proofs.shared.SharedMachine.work.Goals as goal
 
 pub invariant_of-self : goal.invariant_of-self
-invariant_of-self g c = Proceeds-trans g.D.Disk _ _ _ g.met.D.Disk.counts_now c.self.invariant c.work.ensures.proceeds
+invariant_of-self g c =
+    let start = guard_of c.self.inside.start.value in
+    let before = subst (λ m. Proceeds g.D.Disk start (guard_of m)) (sym c.deref_mut.ensures.value) c.self.invariant in
+    Proceeds-trans g.D.Disk start (guard_of c.deref_mut.result.now) (guard_of c.work.new.self) g.met.D.Disk.counts_now before c.work.ensures.proceeds
 
 pub returns-clause-grown : goal.returns-clause-grown
 returns-clause-grown g c =
-    let old : Shared g.row.D.Denot = record { start = guard_of c.self.inside.start.value; machine = c.self.inside.machine } in
-    let left : Shared g.row.D.Denot = record { start = old.start; machine = c.work.new.self } in
-    subst (λ s. IsPrefix (chronicle {M = g.row.M.Denot} s) (chronicle left)) c.self.view_is (grows old left _ _ refl c.work.ensures.laws)
+    let found : Shared g.row.D.Denot = record { start = guard_of c.self.inside.start.value; machine = c.deref_mut.result.now } in
+    let left : Shared g.row.D.Denot = record { start = found.start; machine = c.work.new.self } in
+    let entered = subst (λ m. record { start = found.start; machine = m } ≡ c.args.self.now) (sym c.deref_mut.ensures.value) c.self.view_is in
+    subst (λ s. IsPrefix (chronicle {M = g.row.M.Denot} s) (chronicle left)) entered (grows found left _ _ refl c.work.ensures.laws)
