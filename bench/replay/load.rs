@@ -1,14 +1,15 @@
 //! Rounds of withdrawals by one client, and the line that sums them up.
 
+use crate::MemoryJournal;
 use crate::json::{Value, parse};
+use crate::machine::{Journal, Machine, worth};
 use crate::token::mint;
-use crate::{Machine, worth};
 
 const CLIENT: u32 = 1;
 
 /// What the client keeps of what comes back.
 struct Load<'a> {
-    machine: &'a mut Machine,
+    machine: &'a mut Machine<MemoryJournal>,
     asked: u64,
     nonce: Option<String>,
     failed: bool,
@@ -49,8 +50,8 @@ impl Load<'_> {
     }
 }
 
-pub fn play(machine: &mut Machine, rounds: u64) -> String {
-    machine.join("1 cash");
+pub fn play(machine: &mut Machine<MemoryJournal>, rounds: u64) -> String {
+    machine.connect(CLIENT, true);
     let mut load = Load { machine, asked: 0, nonce: None, failed: false };
     let (mut refused, mut presented) = (0, 0);
     for i in 0..rounds {
@@ -62,5 +63,5 @@ pub fn play(machine: &mut Machine, rounds: u64) -> String {
             load.refill();
         }
     }
-    format!("rounds {rounds} presented EUR {presented} refused {refused} records {}", load.machine.journal.records)
+    format!("rounds {rounds} presented EUR {presented} refused {refused} records {}", load.machine.journal.records())
 }

@@ -1,8 +1,8 @@
 //! Commands, as a client says them.
 
 use crate::json::{Members, Value, parse};
+use crate::machine::{Counts, NONE};
 use crate::token::are_digits;
-use crate::{Counts, NONE};
 
 /// The notes of a dispense: counts, None where a name is that of no unit; or so much of a currency in as few as can be.
 pub enum Notes {
@@ -10,8 +10,9 @@ pub enum Notes {
     Least { currency: String, amount: u64 },
 }
 
-/// What a command asks. The counts are None where a name is that of no unit.
+/// What a command asks, of which Status alone is answered at once. The counts are None where a name is that of no unit.
 pub enum Ask {
+    Status,
     Issue,
     Dispense { notes: Notes, token: Option<String> },
     Present,
@@ -64,6 +65,7 @@ fn read_counts(members: &Members, count_of: impl Fn(&Value) -> Option<u64>) -> O
 /// What a command asks of the dispenser, or None where it has none of this name here.
 pub fn read_ask(name: &str, payload: &Value) -> Option<Ask> {
     Some(match name {
+        "Common.Status" => Ask::Status,
         "Common.GetCommandNonce" => Ask::Issue,
         "CashDispenser.Dispense" => read_dispense(payload).unwrap_or(Ask::Bad),
         "CashDispenser.Present" => Ask::Present,
