@@ -10,10 +10,11 @@ use std::time::{Duration, Instant};
 
 const MASK: [u8; 4] = [0x37, 0xfa, 0x21, 0x3d];
 const LONGEST: Duration = Duration::from_secs(10);
-// A server that starts is tried so many times.
+// A server that starts is tried so many times, and a Present while notes lie in the outlet.
 const TRIES: u32 = 500;
 const TRY: Duration = Duration::from_millis(20);
-// In this time the notes of a withdrawal are taken, at which the worker of the outlet looks each millisecond.
+const LOOK: Duration = Duration::from_millis(1);
+// Between two withdrawals, and not counted: the worker of the outlet looks each millisecond whether notes are to be taken.
 const TAKEN: Duration = Duration::from_millis(5);
 
 const STATUS: &str = r#"{"header":{"name":"Common.Status","requestId":1,"type":"command","version":"2.0"},"payload":{}}"#;
@@ -146,8 +147,18 @@ impl Client {
         let token = mint(key, nonce, &vec![(currency.to_string(), 1000 * amount)]);
         let denomination = format!(r#"{{"currencies":{{"{currency}":{amount}}}}}"#);
         self.ask("CashDispenser.Dispense", &format!(r#"{{"denomination":{denomination},"mix":"minimum","token":"{token}"}}"#))?;
-        self.ask("CashDispenser.Present", "{}")?;
-        Ok(())
+        self.present()
+    }
+
+    /// Has the notes presented, once those of the withdrawal before are taken.
+    fn present(&mut self) -> Result<()> {
+        for _ in 1..TRIES {
+            match self.ask("CashDispenser.Present", "{}") {
+                Err(error) if error.to_string().contains("sequenceError") => thread::sleep(LOOK),
+                done => return done.map(drop),
+            }
+        }
+        self.ask("CashDispenser.Present", "{}").map(drop)
     }
 }
 
