@@ -20,7 +20,7 @@ const READS: u32 = 4;
 const ANSWERS: u32 = 2;
 
 // How long a read waits where no answer is owed: an idle session wakes less often.
-const IDLE_MILLIS: u64 = 16;
+const IDLE_MILLIS: u64 = 48;
 
 /// A socket, and how its reads wait. While an answer is owed the reads come back at once for a while, so
 /// that the board is turned for it; where none is owed a read waits for the peer.
