@@ -1,0 +1,31 @@
+//! A simulated machine that has booted.
+
+ghost use Rattle.std.specs.Prelude.{◌≡◌, ℕ, List};
+ghost use Rattle.xfs_guard.specs.Recorded.{IsRecorded};
+ghost use Rattle.xfs_journal.specs.Image.{StandsFor};
+ghost use Rattle.xfs_journal.specs.declared.record.Rec.{Rec};
+
+use std::alloc::Global;
+use std::test::Fail;
+use xfs_disk::{Disk, MemDisk};
+use xfs_guard::Core;
+use xfs_machine::Machine;
+use xfs_mech::{Mechanism, SimMech};
+use xfs_simulated::{LIMITS, core_on, empty, mechanism, units};
+
+fn booted<M: Mechanism, D: Disk>(alloc: Global, core: Core<M, D>) -> Result<Machine<M, D>, Fail>
+    requires units { M.units core.mech ≡ core.units }
+    requires starts { (image : List ℕ) → D.images core.disk image → (records : List Rec) → StandsFor image records → IsRecorded core.key core.units records (M.motions core.mech) }
+{
+    match Machine::boot(alloc, core) {
+        Ok(machine) => Ok(machine),
+        Err(fail) => Err(fail.why.into()),
+    }
+}
+
+/// A machine with 100 notes each of EUR 10, EUR 20, EUR 50 and USD 20, over an empty disk.
+pub fn machine(alloc: Global) -> Result<Machine<SimMech, MemDisk>, Fail> {
+    let units = units().ok_or("the units")?;
+    let mech = mechanism(alloc, &units, Vec::new(alloc)).ok_or("the mechanism")?;
+    booted(alloc, core_on(mech, units, empty(alloc), LIMITS))
+}
