@@ -8,6 +8,3 @@ mod state;
 
 pub use ask::{CardAsk, CardFail, read_card};
 pub use state::{CardEffect, CardEvent, CardState, step};
-
-#[cfg(test)]
-mod tests;

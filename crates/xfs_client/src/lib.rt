@@ -11,6 +11,3 @@ mod withdrawal;
 pub use desk::{AskFault, Desk, LAST_ID};
 pub use heard::{HearFault, Heard};
 pub use withdrawal::{Move, Withdrawal};
-
-#[cfg(test)]
-mod tests;

@@ -9,6 +9,3 @@ mod payloads;
 pub use cancel::{CancelWhat, ReadFail, read_cancel};
 pub use error::ErrorCode;
 pub use payloads::{Fit2, capabilities, error_code, nonce, nothing, record_note, services, status};
-
-#[cfg(test)]
-mod tests;

@@ -7,8 +7,6 @@ mod file;
 mod fuse;
 mod memory;
 mod step;
-#[cfg(test)]
-mod tests;
 
 pub use disk::Disk;
 pub use fail::FailDisk;

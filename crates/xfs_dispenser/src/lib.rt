@@ -30,6 +30,3 @@ pub use plan::Plan;
 pub use progress::Progress;
 pub use refusal::Refusal;
 pub use steps::work;
-
-#[cfg(test)]
-mod tests;

@@ -14,6 +14,3 @@ pub use code::{Code, Status};
 pub use command::{Envelope, LONGEST_MESSAGE, Refuse, Why, read};
 pub use messages::{acknowledge, completion, event, unsolicited};
 pub use name::{Name, NameFault};
-
-#[cfg(test)]
-mod tests;

@@ -25,6 +25,3 @@ pub use record::Rec;
 pub use survey::Survey;
 pub use text::Text;
 pub use xfs_base::Kind;
-
-#[cfg(test)]
-mod tests;

@@ -10,6 +10,3 @@ mod state;
 pub use ask::{EntryAsk, read_entry};
 pub use keys::KeySet;
 pub use state::{KeyEffect, KeyEvent, KeyState, step};
-
-#[cfg(test)]
-mod tests;

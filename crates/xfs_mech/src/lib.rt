@@ -13,8 +13,6 @@ mod places;
 mod silent;
 mod sim;
 mod sim_watch;
-#[cfg(test)]
-mod tests;
 mod touch;
 mod tracks;
 mod watch;

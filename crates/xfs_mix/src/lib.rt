@@ -4,11 +4,7 @@
 mod asked;
 mod mix;
 mod reach;
-#[cfg(test)]
-mod search;
 mod steps;
-#[cfg(test)]
-mod tests;
 
 pub use asked::{CountFault, check};
 pub use mix::{MixFault, least};

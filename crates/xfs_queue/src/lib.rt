@@ -4,8 +4,6 @@
 mod command;
 mod deadlines;
 mod queue;
-#[cfg(test)]
-mod tests;
 
 pub use command::{Command, Ids, Line, OfferFault, Pending, Stage, Ticket};
 pub use queue::Queue;

@@ -4,8 +4,6 @@
 mod amounts;
 mod answerer;
 mod answering;
-#[cfg(test)]
-mod answering_tests;
 mod counts;
 mod counts_field;
 mod dispense;
@@ -17,10 +15,6 @@ mod lines;
 mod number;
 mod replay_fields;
 mod replay_line;
-#[cfg(test)]
-mod replay_tests;
-#[cfg(test)]
-mod tests;
 mod token_line;
 mod tracks_field;
 mod word;

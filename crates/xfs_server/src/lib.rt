@@ -25,6 +25,3 @@ pub use mem_tended::MemTended;
 pub use session::{Over, serve_client};
 pub use tended::Tended;
 pub use worker::{Over2, tend};
-
-#[cfg(test)]
-mod tests;

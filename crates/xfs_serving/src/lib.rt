@@ -14,6 +14,3 @@ mod worker;
 pub use backend::{Backend, Refusal};
 pub use ending::Ending;
 pub use server::serve;
-
-#[cfg(test)]
-mod tests;

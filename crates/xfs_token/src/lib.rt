@@ -2,8 +2,6 @@
 #![tactic(auto)]
 
 mod amount;
-#[cfg(test)]
-mod amount_tests;
 mod digits;
 mod dispense;
 mod faults;
@@ -14,8 +12,6 @@ mod pair;
 mod reader;
 mod reading;
 mod signing;
-#[cfg(test)]
-mod tests;
 mod text;
 mod token;
 

@@ -5,8 +5,6 @@ mod command;
 mod reading;
 mod spelling;
 mod table;
-#[cfg(test)]
-mod tests;
 
 pub use command::{Command, WordsFault};
 pub use reading::read;

@@ -1,7 +1,7 @@
-use crate::{Command, WordsFault, read, spelled};
 use std::alloc::{AllocError, Global};
 use std::test::Fail;
 use xfs_base::Currency;
+use xfs_words::{Command, WordsFault, read, spelled};
 
 fn owned(alloc: Global, words: &[&str]) -> Result<Vec<String>, AllocError> {
     let mut owned = Vec::new(alloc);

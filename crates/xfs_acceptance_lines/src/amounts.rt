@@ -1,6 +1,6 @@
-use crate::{Token, amounts, read_amount};
 use std::test::Fail;
 use xfs_base::{Currency, Milli};
+use xfs_token::{Token, amounts, read_amount};
 
 #[test]
 fn an_amount_is_read_in_thousandths(rt: HostRuntime) -> Result<(), Fail> {

@@ -1,7 +1,7 @@
-use crate::{CardAsk, CardEffect, CardEvent, CardFail, CardState, read_card, step};
 use std::alloc::Global;
 use std::process::Abort;
 use std::test::Fail;
+use xfs_card::{CardAsk, CardEffect, CardEvent, CardFail, CardState, read_card, step};
 use xfs_json::parse;
 use xfs_mech::Tracks;
 

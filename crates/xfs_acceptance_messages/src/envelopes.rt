@@ -2,10 +2,13 @@ ghost use Rattle.std.specs.Prelude.{IfOk};
 ghost use Rattle.serde_json.specs.View.{view};
 ghost use Rattle.xfs_envelope.specs.Messages.{IsPayload};
 
-use super::*;
 use serde_json::json;
 use std::alloc::{AllocError, Global};
 use std::test::Fail;
+use xfs_envelope::{
+    Answer, AnswerFault, Code, Name, NameFault, Status, Why, acknowledge, completion, event, read,
+    read_answer, unsolicited,
+};
 use xfs_json::{Map, Value};
 
 const STATUS: &str =

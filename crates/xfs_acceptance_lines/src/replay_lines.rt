@@ -1,8 +1,8 @@
-use crate::{ReplayLine, ScriptFault, read_replay};
 use std::alloc::Global;
 use std::test::Fail;
 use xfs_base::{Moment, Service};
 use xfs_mech::Tracks;
+use xfs_script::{ReplayLine, ScriptFault, read_replay};
 
 // What a line says: its verb, its number, and its other fields.
 #[derive(Drop)]

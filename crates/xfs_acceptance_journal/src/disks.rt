@@ -1,10 +1,10 @@
 ghost use Rattle.std.specs.Prelude.{◌≡◌, IfOk};
 ghost use Rattle.xfs_disk.specs.MemDisk.{bytes_of};
 
-use crate::{Disk, FailDisk, FileDisk, FuseDisk, MemDisk};
 use std::alloc::Global;
 use std::fs::{self, File};
 use std::test::Fail;
+use xfs_disk::{Disk, FailDisk, FileDisk, FuseDisk, MemDisk};
 
 fn disk(alloc: Global, bytes: &[u8]) -> Result<MemDisk, Fail>
     ensures { IfOk result (λ d. bytes_of d ≡ bytes.now) }

@@ -1,6 +1,6 @@
-use crate::{MixFault, least};
 use std::process::Abort;
 use xfs_base::{Counts, Currency, NoteKind, UnitTable};
+use xfs_mix::{MixFault, least};
 
 fn currency(rt: &impl Abort, letters: &[u8]) -> Currency {
     Currency::new(letters).expect(rt, "three letters")

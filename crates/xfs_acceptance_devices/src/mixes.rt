@@ -1,7 +1,7 @@
-use crate::{CountFault, MixFault, check, least};
 use std::process::Abort;
 use std::test::Fail;
 use xfs_base::{Counts, Currency, NoteKind, UnitTable};
+use xfs_mix::{CountFault, MixFault, check, least};
 
 fn currency(rt: &impl Abort, letters: &[u8]) -> Currency {
     Currency::new(letters).expect(rt, "three letters")

@@ -1,8 +1,8 @@
-use crate::{Amounts, BuildFault, MakeFault, Token, TokenFault, genuine, make, read, write};
 use std::alloc::Global;
 use std::test::Fail;
 use xfs_base::{Currency, Milli};
 use xfs_hmac::mac;
+use xfs_token::{Amounts, BuildFault, MakeFault, Token, TokenFault, genuine, make, read, write};
 
 const NONCE: &[u8; 32] = b"254611E63B2531576314E86527338D61";
 

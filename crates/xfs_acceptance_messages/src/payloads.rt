@@ -1,12 +1,12 @@
-use crate::{
-    CancelWhat, ErrorCode, Fit2, ReadFail, capabilities, error_code, nonce, nothing, read_cancel,
-    record_note, services, status,
-};
 use serde_json::Value;
 use std::alloc::Global;
 use std::process::Abort;
 use std::test::Fail;
 use xfs_base::{Memory, Service};
+use xfs_common::{
+    CancelWhat, ErrorCode, Fit2, ReadFail, capabilities, error_code, nonce, nothing, read_cancel,
+    record_note, services, status,
+};
 use xfs_json::parse;
 
 fn has_text(

@@ -1,12 +1,14 @@
 ghost use Rattle.std.specs.Prelude.{IfOk};
 ghost use Rattle.xfs_journal.specs.Image.{HasUnit};
 
-use crate::{AppendFault, BodyFault, Journal, Limits, MountFault, Rec, Survey, Text, read_body};
 use std::alloc::Global;
 use std::fs::{self, File};
 use std::test::Fail;
 use xfs_base::{Counts, Kind, Places};
 use xfs_disk::{Disk, FailDisk, FileDisk, FuseDisk, MemDisk};
+use xfs_journal::{
+    AppendFault, BodyFault, Journal, Limits, MountFault, Rec, Survey, Text, read_body,
+};
 
 const LIMITS: Limits = Limits {
     records: 1_000_000,

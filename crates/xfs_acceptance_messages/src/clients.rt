@@ -3,11 +3,11 @@ ghost use Rattle.serde_json.specs.Data.{depth};
 ghost use Rattle.serde_json.specs.View.{view};
 ghost use Rattle.serde_json.specs.Written.{has_float};
 
-use super::*;
 use serde_json::json;
 use std::alloc::{AllocError, Global};
 use std::test::Fail;
 use xfs_base::Currency;
+use xfs_client::{Desk, HearFault, Heard, Move, Withdrawal};
 use xfs_envelope::Status;
 use xfs_json::{Map, Value};
 

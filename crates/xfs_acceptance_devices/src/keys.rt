@@ -1,9 +1,9 @@
-use crate::{EntryAsk, KeyEffect, KeyEvent, KeySet, KeyState, read_entry, step};
 use serde_json::Value;
 use std::alloc::Global;
 use std::process::Abort;
 use std::test::Fail;
 use xfs_json::{Shape, parse};
+use xfs_keyboard::{EntryAsk, KeyEffect, KeyEvent, KeySet, KeyState, read_entry, step};
 use xfs_mech::KeyName;
 
 fn asked(alloc: Global, text: &str) -> Result<EntryAsk, Fail> {

@@ -1,7 +1,7 @@
-use crate::{Ids, Line, OfferFault, Queue, Ticket};
 use std::alloc::AllocError;
 use std::test::Fail;
 use xfs_base::{ClientId, Moment, Numbers};
+use xfs_queue::{Ids, Line, OfferFault, Queue, Ticket};
 
 const GREATEST: u64 = 9_223_372_036_854_775_807;
 

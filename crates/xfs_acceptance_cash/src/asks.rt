@@ -1,8 +1,8 @@
-use crate::{CashAsk, CashFail, Named, Notes, read_ask};
 use std::alloc::Global;
 use std::process::Abort;
 use std::test::Fail;
 use xfs_base::{Counts, Currency};
+use xfs_dispenser::{CashAsk, CashFail, Named, Notes, read_ask};
 use xfs_json::parse;
 
 fn ask(alloc: Global, name: &str, text: &str) -> Result<Result<CashAsk, CashFail>, Fail> {

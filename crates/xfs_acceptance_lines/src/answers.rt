@@ -2,11 +2,11 @@
 
 ghost use Rattle.std.specs.Prelude.{None};
 
-use crate::{Answerer, Ending, Unanswered, answer_lines};
 use std::alloc::Global;
 use std::cell::Cell;
 use std::test::Fail;
 use xfs_base::{Failed, MemSink, MemSource, Sink, Source};
+use xfs_script::{Answerer, Ending, Unanswered, answer_lines};
 
 /// Answers a line by itself. `no` is no line of it, and it ends at `end`.
 #[derive(Drop)]

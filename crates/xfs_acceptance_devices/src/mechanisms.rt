@@ -1,14 +1,14 @@
 ghost use Rattle.std.specs.Prelude.{◌≡◌};
 ghost use Rattle.xfs_mech.specs.Mechanism.{source_of};
 
-use crate::{
-    Fault, KeyName, Kind, Mechanism, Motion, News, Order, Outcome, SilentMech, SimMech, SimWatch,
-    Touch, Tracks, Watch, can_load, lies_in, places_fit,
-};
 use std::alloc::Global;
 use std::process::Abort;
 use std::test::Fail;
 use xfs_base::{Counts, Currency, NoteKind, Places, UnitTable};
+use xfs_mech::{
+    Fault, KeyName, Kind, Mechanism, Motion, News, Order, Outcome, SilentMech, SimMech, SimWatch,
+    Touch, Tracks, Watch, can_load, lies_in, places_fit,
+};
 
 const NONE: Counts = Counts([0; 8]);
 

@@ -1,12 +1,12 @@
 ghost use Rattle.std.specs.Prelude.{None};
 
-use crate::{
-    Given, GuardLine, Line, LineFault, Lines, ScriptFault, TokenLine, counts_text, read_guard,
-    read_token,
-};
 use std::alloc::Global;
 use std::test::Fail;
 use xfs_base::{Counts, Currency, Failed, MemSource, Milli, Source};
+use xfs_script::{
+    Given, GuardLine, Line, LineFault, Lines, ScriptFault, TokenLine, counts_text, read_guard,
+    read_token,
+};
 
 /// Gives one byte a call.
 #[derive(Drop)]

@@ -1,12 +1,12 @@
-use crate::{
-    DialFault, Door, Doors, Gate, GateAt, Link, MemBoard, MemDoors, MemLink, MemTended, Over,
-    Over2, Taking, serve_client, tend,
-};
 use std::alloc::Global;
 use std::sync::atomic::{AtomicU64, Ordering};
 use std::test::Fail;
 use xfs_base::{Bytes, ClientId, Clock, FixedClock, Memory, Moment, Service};
 use xfs_mech::{KeyName, SimWatch, Touch};
+use xfs_server::{
+    DialFault, Door, Doors, Gate, GateAt, Link, MemBoard, MemDoors, MemLink, MemTended, Over,
+    Over2, Taking, serve_client, tend,
+};
 
 fn texts(alloc: Global, list: &[&[u8]]) -> Result<Vec<Bytes>, Memory> {
     let mut texts = Vec::new(alloc);

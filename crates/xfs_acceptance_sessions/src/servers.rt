@@ -1,4 +1,3 @@
-use crate::{Backend, Ending, Refusal, serve};
 use std::alloc::Global;
 use std::sync::Wait;
 use std::sync::atomic::{AtomicBool, AtomicU64, Ordering};
@@ -10,6 +9,7 @@ use xfs_server::{
     Board, DialFault, Door, Doors, GiveFault, Link, MemDoors, MemLink, OpenGate, Taking, Tended,
     Work2,
 };
+use xfs_serving::{Backend, Ending, Refusal, serve};
 
 // Notes an event by a digit behind those before.
 fn note(order: &AtomicU64, digit: u8) {

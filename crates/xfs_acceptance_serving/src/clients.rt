@@ -1,0 +1,83 @@
+//! Clients, by what they say and hear.
+
+use crate::doors::Client;
+use xfs_base::Service;
+
+pub const STATUS: Client = Client {
+    service: Service::Card,
+    says: "{\"header\":{\"name\":\"Common.Status\",\"requestId\":1,\"type\":\"command\"}}",
+    hears: &[
+        "{\"header\":{\"name\":\"Common.Status\",\"requestId\":1,\"type\":\"acknowledge\",\"version\":\"2.0\"}}",
+        "{\"header\":{\"completionCode\":\"success\",\"name\":\"Common.Status\",\"requestId\":1,\"type\":\"completion\",\"version\":\"2.0\"},\"payload\":{\"common\":{\"device\":\"online\"}}}",
+    ],
+    failing: None,
+};
+
+/// Its link fails before it says anything.
+pub const LOST: Client = Client {
+    failing: Some(1),
+    ..STATUS
+};
+
+/// Its link fails once it was answered.
+pub const CUT_OFF: Client = Client {
+    failing: Some(2),
+    ..STATUS
+};
+
+/// It has no room, and hears nothing.
+pub const TURNED_AWAY: Client = Client {
+    hears: &[],
+    ..STATUS
+};
+
+/// It is told the first nonce.
+pub const NONCE: Client = Client {
+    service: Service::Cash,
+    says: GET_NONCE,
+    hears: &[
+        NONCE_TAKEN,
+        "{\"header\":{\"completionCode\":\"success\",\"name\":\"Common.GetCommandNonce\",\"requestId\":1,\"type\":\"completion\",\"version\":\"2.0\"},\"payload\":{\"commandNonce\":\"E56A5D4028BD86530000000000000001\"}}",
+    ],
+    failing: None,
+};
+
+/// It is told the second.
+pub const NONCE_2: Client = Client {
+    hears: &[
+        NONCE_TAKEN,
+        "{\"header\":{\"completionCode\":\"success\",\"name\":\"Common.GetCommandNonce\",\"requestId\":1,\"type\":\"completion\",\"version\":\"2.0\"},\"payload\":{\"commandNonce\":\"B819D2BD1AED8DA00000000000000002\"}}",
+    ],
+    ..NONCE
+};
+
+const GET_NONCE: &str =
+    "{\"header\":{\"name\":\"Common.GetCommandNonce\",\"requestId\":1,\"type\":\"command\"}}";
+
+const NONCE_TAKEN: &str =
+    "{\"header\":{\"name\":\"Common.GetCommandNonce\",\"requestId\":1,\"type\":\"acknowledge\",\"version\":\"2.0\"}}";
+
+/// It waits for a card, which is put in.
+pub const READ: Client = Client {
+    service: Service::Card,
+    says: "{\"header\":{\"name\":\"CardReader.ReadRawData\",\"requestId\":1,\"type\":\"command\"},\"payload\":{\"track2\":true}}",
+    hears: &[
+        "{\"header\":{\"name\":\"CardReader.ReadRawData\",\"requestId\":1,\"type\":\"acknowledge\",\"version\":\"2.0\"}}",
+        "{\"header\":{\"name\":\"CardReader.InsertCardEvent\",\"requestId\":1,\"type\":\"event\",\"version\":\"2.0\"},\"payload\":{}}",
+        "{\"header\":{\"name\":\"CardReader.MediaInsertedEvent\",\"requestId\":1,\"type\":\"event\",\"version\":\"2.0\"},\"payload\":{}}",
+        "{\"header\":{\"completionCode\":\"success\",\"name\":\"CardReader.ReadRawData\",\"requestId\":1,\"type\":\"completion\",\"version\":\"2.0\"},\"payload\":{\"track2\":{\"data\":\"OzEyMzQ=\",\"status\":\"ok\"}}}",
+    ],
+    failing: None,
+};
+
+/// It waits for one key, which is pressed.
+pub const ENTRY: Client = Client {
+    service: Service::Keys,
+    says: "{\"header\":{\"name\":\"Keyboard.DataEntry\",\"requestId\":1,\"type\":\"command\"},\"payload\":{\"maxLen\":1,\"autoEnd\":true,\"activeKeys\":{\"one\":{}}}}",
+    hears: &[
+        "{\"header\":{\"name\":\"Keyboard.DataEntry\",\"requestId\":1,\"type\":\"acknowledge\",\"version\":\"2.0\"}}",
+        "{\"header\":{\"name\":\"Keyboard.KeyEvent\",\"requestId\":1,\"type\":\"event\",\"version\":\"2.0\"},\"payload\":{\"digit\":\"one\"}}",
+        "{\"header\":{\"completionCode\":\"success\",\"name\":\"Keyboard.DataEntry\",\"requestId\":1,\"type\":\"completion\",\"version\":\"2.0\"},\"payload\":{\"completion\":\"auto\",\"keys\":1,\"pinKeys\":[{\"digit\":\"one\"}]}}",
+    ],
+    failing: None,
+};

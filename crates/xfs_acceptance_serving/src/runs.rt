@@ -1,0 +1,92 @@
+//! The program under `serve`.
+
+use crate::bench::{a_card, a_key};
+use crate::clients::{CUT_OFF, READ, STATUS};
+use crate::doors::{Client, PatientDoors, crowd};
+use crate::scene::{Scene, Until};
+use std::alloc::Global;
+use std::sync::Wait;
+use std::sync::atomic::Ordering;
+use std::test::Fail;
+use std::thread::Threads;
+use std::time;
+use xfs_base::{Clock, MemSink, MemSource, StdClock};
+use xfs_cli::{Bench, run};
+use xfs_server::{Doors, Gate};
+use xfs_simulated::{LIMITS, core_on, empty, mechanism, units};
+
+/// The status, and how many bytes were written and stand in the journal.
+#[derive(Clone, Copy)]
+struct Report {
+    status: u8,
+    written: usize,
+    journal: usize,
+}
+
+// Serves two connections of the simulated machine.
+fn serve_two<R: Threads + Wait + Sync, O: Doors, C: Clock + Sync, G: Gate + Sync>(
+    rt: &R,
+    alloc: Global,
+    doors: &mut O,
+    clock: &C,
+    gate: &G,
+) -> Result<Report, Fail> {
+    let units = units().ok_or("the units")?;
+    let mech = mechanism(alloc, &units, Vec::new(alloc)).ok_or("the mechanism")?;
+    let cards = a_card(alloc)?;
+    let keys = a_key(alloc)?;
+    let core = core_on(mech, units, empty(alloc), LIMITS);
+    let mut words = Vec::new(alloc);
+    words.push(String::from_str(alloc, "serve")?)?;
+    words.push(String::from_str(alloc, "2")?)?;
+    let mut source = MemSource::new(Vec::new(alloc), Vec::new(alloc));
+    let mut sink = MemSink::new(alloc, Vec::new(alloc));
+    let ended = run(
+        rt,
+        alloc,
+        words.as_slice(),
+        &mut source,
+        &mut sink,
+        Bench { core, cards, keys },
+        clock,
+        doors,
+        gate,
+    );
+    Ok(Report {
+        status: ended.status,
+        written: sink.bytes().len(),
+        journal: ended.disk.bytes().len(),
+    })
+}
+
+// What becomes of a server of these two clients, of whom the gate holds so many back until another is answered.
+fn served<R: Threads + Wait + time::Clock + Sync>(
+    rt: &R,
+    alloc: Global,
+    clients: &[Client; 2],
+    last: u32,
+) -> Result<(Report, bool), Fail> {
+    let clock = StdClock::new(rt);
+    let scene = Scene::new(&clock, last, Until::Answered);
+    let clients = crowd(alloc, clients, 1)?;
+    let mut doors = PatientDoors::new(alloc, clients, false, &scene);
+    let report = serve_two(rt, alloc, &mut doors, &clock, &scene)?;
+    let both = scene.answered.load(Ordering::SeqCst) == 2;
+    let held = scene.held.load(Ordering::SeqCst) == (last > 0);
+    let amiss = scene.amiss.load(Ordering::SeqCst);
+    Ok((report, both && held && !amiss))
+}
+
+// The client that reads a card is held until the other is answered; then the card of the bench is put in. A client whose
+// link fails leaves the other as it is. The journal has its Boot alone.
+#[test]
+fn both_clients_are_answered_side_by_side(rt: HostRuntime) -> Result<(), Fail> {
+    for (clients, last) in [([READ, STATUS], 1), ([CUT_OFF, STATUS], 0)] {
+        let (report, answered) = served(&rt, rt.alloc(), &clients, last)?;
+        assert!(rt; answered, "{last} held back");
+        assert_eq!(rt; report.status, 0);
+        assert_eq!(rt; report.written, 0);
+        assert_eq!(rt; report.journal, 205);
+    }
+    Ok(())
+}

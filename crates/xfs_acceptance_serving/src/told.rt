@@ -1,0 +1,41 @@
+//! What a machine tells once its server has ended.
+
+use std::alloc::Global;
+use xfs_base::Memory;
+use xfs_disk::Disk;
+use xfs_journal::Rec;
+use xfs_machine::Machine;
+use xfs_mech::Mechanism;
+
+/// How many connections are open, the number of the live nonce, and the journal's records: a `B` for a
+/// Boot, its number for an Issue.
+#[derive(Drop)]
+pub struct Told {
+    pub open: u32,
+    pub live: Option<u64>,
+    pub records: Vec<u8>,
+}
+
+/// What this machine tells.
+pub fn told_by<M: Mechanism, D: Disk>(
+    alloc: Global,
+    machine: &Machine<M, D>,
+) -> Result<Told, Memory> {
+    let mut records = Vec::new(alloc);
+    for rec in machine.records() {
+        records.push(letter_of(rec))?;
+    }
+    Ok(Told {
+        open: machine.open_count(),
+        live: machine.live().map(|nonce| nonce.number),
+        records,
+    })
+}
+
+fn letter_of(rec: &Rec) -> u8 {
+    match rec {
+        Rec::Boot { places: _ } => b'B',
+        Rec::Issue { number, word: _ } if *number < 10 => b'0' + *number as u8,
+        _ => b'?',
+    }
+}
