@@ -12,7 +12,7 @@ const READS: u32 = 4;
 const ANSWERS: u32 = 2;
 // How long a read waits then, and where no answer is owed.
 const READ_MILLIS: u64 = 1;
-const IDLE_MILLIS: u64 = 16;
+const IDLE_MILLIS: u64 = 48;
 
 const READ_BYTES: usize = 16_384;
 

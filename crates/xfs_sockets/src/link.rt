@@ -8,8 +8,9 @@ use std::random::RandomSource;
 use xfs_server::{GiveFault, Link, Taking};
 
 /// A connection over a WebSocket. A binary message is taken as its bytes; pings are answered, and a close
-/// is answered before Closed is told. A stream that ends without a close has failed, and so has a peer
-/// that doesn't read for 10 seconds. A message above 1 MiB ends the connection.
+/// is answered before Closed is told. Texts that were given leave with the next take, or when the link is
+/// dropped. A stream that ends without a close has failed, and so has a peer that doesn't read for 10
+/// seconds. A message above 1 MiB ends the connection.
 #[derive(Drop)]
 pub struct SocketLink<R: RandomSource + Drop> {
     alloc: Global,

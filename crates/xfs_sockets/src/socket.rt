@@ -48,10 +48,11 @@ impl<R: RandomSource + Drop> Socket<R> {
         }
     }
 
-    pub fn send(&mut self, message: Message) -> Result<(), Error> {
+    /// Writes a message, which waits to be sent.
+    pub fn write(&mut self, message: Message) -> Result<(), Error> {
         match self {
-            Socket::Server(socket) => socket.send(message),
-            Socket::Client(socket) => socket.send(message),
+            Socket::Server(socket) => socket.write(message),
+            Socket::Client(socket) => socket.write(message),
         }
     }
 

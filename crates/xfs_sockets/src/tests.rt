@@ -211,6 +211,7 @@ fn a_link_finds_what_its_peer_writes(rt: HostRuntime) {
         let pieces = [&MASKED[..cut], &MASKED[cut..]];
         assert!(rt; finds(&mut link, &mut peer, &pieces, &Found::Text(b"Hello")));
         assert_eq!(rt; link.give(b"Hello"), Ok(()));
+        assert!(rt; matches!(link.take(), Taking::Quiet));
         assert!(rt; reads(&mut peer, UNMASKED));
     }
     // a text of 70,000 bytes

@@ -23,14 +23,29 @@ const ANSWERS: u32 = 2;
 const IDLE_MILLIS: u64 = 48;
 
 /// A socket, and how its reads wait. While an answer is owed the reads come back at once for a while, so
-/// that the board is turned for it; where none is owed a read waits for the peer.
-#[derive(Drop)]
+/// that the board is turned for it; where none is owed a read waits for the peer. What is given leaves with
+/// the next take, so that the frames which answer a text are one write, or when the wire is let go.
 pub struct Wire<R: RandomSource + Drop> {
     socket: Socket<R>,
+    unsent: bool,
     waits: bool,
     pause: u64,
     owed: u32,
     looks: u32,
+}
+
+impl<R: RandomSource + Drop> Drop for Wire<R> {
+    fn drop(mut self) {
+        let _ = self.send_given();
+        let Wire {
+            socket: _,
+            unsent: _,
+            waits: _,
+            pause: _,
+            owed: _,
+            looks: _,
+        } = self;
+    }
 }
 
 /// What a read found.
@@ -49,6 +64,7 @@ impl<R: RandomSource + Drop> Wire<R> {
     pub fn new(socket: Socket<R>, waits: bool) -> Wire<R> {
         Wire {
             socket,
+            unsent: false,
             waits,
             pause: READ_MILLIS,
             owed: 0,
@@ -57,7 +73,7 @@ impl<R: RandomSource + Drop> Wire<R> {
     }
 
     pub fn take(&mut self, alloc: Global) -> Taking {
-        if self.prepare_read().is_err() {
+        if self.send_given().is_err() || self.prepare_read().is_err() {
             return Taking::Failed;
         }
         match self.look(alloc) {
@@ -101,11 +117,25 @@ impl<R: RandomSource + Drop> Wire<R> {
         if self.set_waits(true).is_err() {
             return Err(GiveFault::Failed);
         }
-        let sent = self.socket.send(message);
-        given(sent)?;
+        let written = given(self.socket.write(message));
+        self.unsent = match written {
+            Ok(()) => true,
+            Err(GiveFault::Memory) => self.unsent,
+            Err(GiveFault::Failed) => false,
+        };
+        written?;
         self.owed = self.owed.saturating_sub(1);
         self.looks = 0;
         Ok(())
+    }
+
+    // Sends what was given. The stream's writes wait, since `give` has left it so.
+    fn send_given(&mut self) -> Result<(), Error> {
+        if !self.unsent {
+            return Ok(());
+        }
+        self.unsent = false;
+        self.socket.flush()
     }
 
     // The peer has closed: the reply goes out before anything else.
