@@ -1,19 +1,21 @@
-//! The lock over a simulated machine, and the frames that are looked for.
+//! The lock over a simulated machine, a session over a link, and the frames that are looked for.
 
-ghost use Rattle.std.specs.Prelude.{◌≡◌, ℕ, List, IfOk};
+ghost use Rattle.std.specs.Prelude.{◌≡◌, ℕ, List, IfOk, IfSome};
 ghost use Rattle.xfs_guard.specs.Recorded.{IsRecorded};
 ghost use Rattle.xfs_journal.specs.Image.{StandsFor};
 ghost use Rattle.xfs_journal.specs.declared.record.Rec.{Rec};
 
 use std::alloc::Global;
+use std::marker::Brand;
 use std::sync::Wait;
 use std::test::Fail;
-use xfs_base::{Bytes, Service};
-use xfs_board::{Caller, LockName, SharedMachine, open};
+use xfs_base::{Bytes, Clock, Service};
+use xfs_board::{Caller, ClientBoard, LockName, SharedMachine, close, open};
 use xfs_disk::{Disk, MemDisk};
 use xfs_guard::Core;
 use xfs_machine::{Machine, Pass};
 use xfs_mech::{Mechanism, SimMech};
+use xfs_server::{MemLink, OpenGate, Over, serve_client};
 use xfs_simulated::{LIMITS, core_on, empty, mechanism, units};
 use xfs_turn::{Seat, Turn};
 
@@ -58,4 +60,56 @@ pub fn are(frames: &[Bytes], expected: &[&str]) -> bool {
             .iter()
             .zip(expected.iter())
             .all(|(frame, text)| frame.list() == text.as_bytes())
+}
+
+/// A link on which these texts come before it closes, where the takes and gives at these places fail.
+pub fn link_of(
+    alloc: Global,
+    list: &[&str],
+    takes: &[u64],
+    gives: &[u64],
+) -> Result<MemLink, Fail> {
+    let mut texts = Vec::new(alloc);
+    for text in list {
+        texts.push(Bytes::new(Vec::from_slice(alloc, text.as_bytes())?))?;
+    }
+    let takes = Vec::from_slice(alloc, takes)?;
+    let gives = Vec::from_slice(alloc, gives)?;
+    Ok(MemLink::new(alloc, texts, true, takes, gives))
+}
+
+// A session over the link, which leaves the machine at its end.
+fn served<N: LockName, R: Wait, C: Clock>(
+    rt: &R,
+    turn: &Turn<Shared>,
+    seat: Seat<Shared>,
+    service: Service,
+    link: &mut MemLink,
+    clock: &C,
+) -> Option<(Over, Seat<Shared>)>
+    requires name { turn.now ≡ N.lock }
+    requires lock { seat.lock ≡ N.lock }
+    ensures lock { IfSome result (λ ended. ended.1.lock ≡ N.lock) }
+{
+    let mut caller: Caller<'_, N, _, _, R> = Caller::new(rt, turn, seat);
+    let pass = joined(&mut caller, service)?;
+    let client = pass.client();
+    let mut board = ClientBoard::new(caller, pass, clock);
+    let over = serve_client(link, &mut board, &OpenGate, clock, client);
+    Some((over, board.leave().into_seat()))
+}
+
+/// How a session over the link ends at a machine of its own, and how many connections are open there then.
+pub fn ended<R: Wait, C: Clock>(
+    rt: &R,
+    alloc: Global,
+    service: Service,
+    link: &mut MemLink,
+    clock: &C,
+) -> Result<(Over, u32), Fail> {
+    let (turn, seat) = opened(alloc)?;
+    let ended = served::<Brand, _, _>(rt, &turn, seat, service, link, clock);
+    let (over, seat) = ended.ok_or("a session")?;
+    let machine = close(rt, turn, seat);
+    Ok((over, machine.open_count()))
 }

@@ -3,7 +3,9 @@
 ghost use Rattle.std.specs.Prelude.{◌≡◌, IfOk};
 
 use crate::bench::{Shared, are, joined, opened};
+use std::alloc::Global;
 use std::marker::Brand;
+use std::process::Abort;
 use std::sync::Wait;
 use std::test::Fail;
 use xfs_base::{Moment, Service};
@@ -58,15 +60,20 @@ fn issued_and_fetched<N: LockName, R: Wait>(
     })
 }
 
-#[test]
-fn what_one_caller_posts_another_finds(rt: HostRuntime) -> Result<(), Fail> {
-    let (turn, seat) = opened(rt.alloc())?;
-    let report = issued_and_fetched::<Brand, _>(&rt, &turn, seat)?;
+// What is told of the journal, before and after, and what is left at the end.
+fn is_found<R: Wait + Abort>(rt: &R, alloc: Global) -> Result<(), Fail> {
+    let (turn, seat) = opened(alloc)?;
+    let report = issued_and_fetched::<Brand, _>(rt, &turn, seat)?;
     assert_eq!(rt; report.before, 2);
     assert_eq!(rt; report.after, 3);
     assert!(rt; report.handed);
-    let machine = close(&rt, turn, report.seat);
+    let machine = close(rt, turn, report.seat);
     assert_eq!(rt; machine.records().len(), 2);
     assert_eq!(rt; machine.open_count(), 0);
     Ok(())
+}
+
+#[test]
+fn what_one_caller_posts_another_finds(rt: HostRuntime) -> Result<(), Fail> {
+    is_found(&rt, rt.alloc())
 }

@@ -6,6 +6,10 @@ mod bench;
 #[cfg(test)]
 mod callers;
 #[cfg(test)]
+mod failing;
+#[cfg(test)]
+mod hostile;
+#[cfg(test)]
 mod sessions;
 #[cfg(test)]
 mod workers;

@@ -1,17 +1,12 @@
 //! Sessions over their boards.
 
-ghost use Rattle.std.specs.Prelude.{◌≡◌, IfSome};
-
-use crate::bench::{Shared, are, joined, opened};
+use crate::bench::{are, ended, link_of};
 use std::alloc::Global;
-use std::marker::Brand;
 use std::sync::Wait;
 use std::sync::atomic::{AtomicU64, Ordering};
 use std::test::Fail;
-use xfs_base::{Bytes, Clock, FixedClock, Moment, Service};
-use xfs_board::{Caller, ClientBoard, LockName, close};
-use xfs_server::{MemLink, OpenGate, Over, serve_client};
-use xfs_turn::{Seat, Turn};
+use xfs_base::{Clock, FixedClock, Moment, Service};
+use xfs_server::Over;
 
 /// A clock that goes on by a step each time that it is asked.
 #[derive(Drop)]
@@ -39,7 +34,7 @@ struct Case {
     sent: &'static [&'static str],
 }
 
-const CASES: [Case; 3] = [
+const CASES: [Case; 4] = [
     // A nonce is issued in one step of work, and told in the next.
     Case {
         service: Service::Cash,
@@ -53,6 +48,21 @@ const CASES: [Case; 3] = [
             "{\"header\":{\"name\":\"Common.Status\",\"requestId\":2,\"type\":\"acknowledge\",\"version\":\"2.0\"}}",
             "{\"header\":{\"completionCode\":\"success\",\"name\":\"Common.Status\",\"requestId\":2,\"type\":\"completion\",\"version\":\"2.0\"},\"payload\":{\"common\":{\"device\":\"online\"}}}",
             "{\"header\":{\"completionCode\":\"success\",\"name\":\"Common.GetCommandNonce\",\"requestId\":1,\"type\":\"completion\",\"version\":\"2.0\"},\"payload\":{\"commandNonce\":\"E56A5D4028BD86530000000000000001\"}}",
+        ],
+    },
+    // An amount that isn't written in digits alone: the command is accepted, and its members are bad.
+    Case {
+        service: Service::Cash,
+        step: 0,
+        texts: &[
+            "{\"header\":{\"name\":\"CashDispenser.Dispense\",\"requestId\":1,\"type\":\"command\"},\"payload\":{\"denomination\":{\"currencies\":{\"EUR\":1e1}},\"mix\":\"minimum\"}}",
+            STATUS_2,
+        ],
+        sent: &[
+            "{\"header\":{\"name\":\"CashDispenser.Dispense\",\"requestId\":1,\"type\":\"acknowledge\",\"version\":\"2.0\"}}",
+            STATUS_2_TAKEN,
+            STATUS_2_DONE,
+            "{\"header\":{\"completionCode\":\"invalidData\",\"name\":\"CashDispenser.Dispense\",\"requestId\":1,\"type\":\"completion\",\"version\":\"2.0\"},\"payload\":{}}",
         ],
     },
     // The clock stands: a read of a card waits on.
@@ -86,25 +96,27 @@ const CASES: [Case; 3] = [
     },
 ];
 
-const READ_FOR_100: &str =
+/// A read of a card, and the frames by which it waits.
+pub const READ_FOR_100: &str =
     "{\"header\":{\"name\":\"CardReader.ReadRawData\",\"requestId\":1,\"timeout\":100,\"type\":\"command\"},\"payload\":{\"track2\":true}}";
 
-const READ_TAKEN: &str =
+pub const READ_TAKEN: &str =
     "{\"header\":{\"name\":\"CardReader.ReadRawData\",\"requestId\":1,\"type\":\"acknowledge\",\"version\":\"2.0\"}}";
 
-const INSERT_CARD: &str =
+pub const INSERT_CARD: &str =
     "{\"header\":{\"name\":\"CardReader.InsertCardEvent\",\"requestId\":1,\"type\":\"event\",\"version\":\"2.0\"},\"payload\":{}}";
 
 const READ_TIMED_OUT: &str =
     "{\"header\":{\"completionCode\":\"timeOut\",\"name\":\"CardReader.ReadRawData\",\"requestId\":1,\"type\":\"completion\",\"version\":\"2.0\"},\"payload\":{}}";
 
-const STATUS_2: &str =
+/// A Status of the id 2, and the frames that answer it.
+pub const STATUS_2: &str =
     "{\"header\":{\"name\":\"Common.Status\",\"requestId\":2,\"type\":\"command\"}}";
 
-const STATUS_2_TAKEN: &str =
+pub const STATUS_2_TAKEN: &str =
     "{\"header\":{\"name\":\"Common.Status\",\"requestId\":2,\"type\":\"acknowledge\",\"version\":\"2.0\"}}";
 
-const STATUS_2_DONE: &str =
+pub const STATUS_2_DONE: &str =
     "{\"header\":{\"completionCode\":\"success\",\"name\":\"Common.Status\",\"requestId\":2,\"type\":\"completion\",\"version\":\"2.0\"},\"payload\":{\"common\":{\"device\":\"online\"}}}";
 
 const STATUS_3: &str =
@@ -116,57 +128,22 @@ const STATUS_3_TAKEN: &str =
 const STATUS_3_DONE: &str =
     "{\"header\":{\"completionCode\":\"success\",\"name\":\"Common.Status\",\"requestId\":3,\"type\":\"completion\",\"version\":\"2.0\"},\"payload\":{\"common\":{\"device\":\"online\"}}}";
 
-fn link_of(alloc: Global, list: &[&str]) -> Result<MemLink, Fail> {
-    let mut texts = Vec::new(alloc);
-    for text in list {
-        texts.push(Bytes::new(Vec::from_slice(alloc, text.as_bytes())?))?;
-    }
-    Ok(MemLink::new(alloc, texts, true, Vec::new(alloc), Vec::new(alloc)))
-}
-
-// A session over the link, which leaves the machine at its end.
-fn served<N: LockName, R: Wait, C: Clock>(
-    rt: &R,
-    turn: &Turn<Shared>,
-    seat: Seat<Shared>,
-    service: Service,
-    link: &mut MemLink,
-    clock: &C,
-) -> Option<(Over, Seat<Shared>)>
-    requires name { turn.now ≡ N.lock }
-    requires lock { seat.lock ≡ N.lock }
-    ensures lock { IfSome result (λ ended. ended.1.lock ≡ N.lock) }
-{
-    let mut caller: Caller<'_, N, _, _, R> = Caller::new(rt, turn, seat);
-    let pass = joined(&mut caller, service)?;
-    let client = pass.client();
-    let mut board = ClientBoard::new(caller, pass, clock);
-    let over = serve_client(link, &mut board, &OpenGate, clock, client);
-    Some((over, board.leave().into_seat()))
+// Whether a session sends what is due of its case, and leaves.
+fn is_sent<R: Wait>(rt: &R, alloc: Global, case: &Case) -> Result<bool, Fail> {
+    let mut link = link_of(alloc, case.texts, &[], &[])?;
+    let clock = StepClock {
+        now: AtomicU64::new(0),
+        step: case.step,
+    };
+    let (over, open) = ended(rt, alloc, case.service, &mut link, &clock)?;
+    Ok(over == Over::Closed && are(link.sent(), case.sent) && open == 0)
 }
 
 #[test]
 fn a_session_sends_what_its_board_hands_over(rt: HostRuntime) -> Result<(), Fail> {
-    let alloc = rt.alloc();
     for case in CASES.iter() {
-        let (turn, seat) = opened(alloc)?;
-        let mut link = link_of(alloc, case.texts)?;
-        let clock = StepClock {
-            now: AtomicU64::new(0),
-            step: case.step,
-        };
-        let (over, seat) = served::<Brand, _, _>(
-            &rt,
-            &turn,
-            seat,
-            case.service,
-            &mut link,
-            &clock,
-        ).ok_or("a session")?;
-        assert_eq!(rt; over, Over::Closed);
-        assert!(rt; are(link.sent(), case.sent));
-        let machine = close(&rt, turn, seat);
-        assert_eq!(rt; machine.open_count(), 0);
+        let sent = is_sent(&rt, rt.alloc(), case)?;
+        assert!(rt; sent, "{:?}", case.texts);
     }
     Ok(())
 }

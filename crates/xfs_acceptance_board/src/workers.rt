@@ -148,17 +148,20 @@ fn tended<N: LockName, R: Wait>(
     })
 }
 
+// Whether the client of a worker is handed what is due of its case.
+fn is_handed<R: Wait>(rt: &R, alloc: Global, case: &Case) -> Result<bool, Fail> {
+    let (turn, seat) = opened(alloc)?;
+    let mut watch = watch_of(alloc, case.told)?;
+    let report = tended::<Brand, _>(rt, &turn, seat, case, &mut watch)?;
+    let machine = close(rt, turn, report.seat);
+    Ok(report.over == Over2::Done && are(&report.frames, case.frames) && machine.open_count() == 1)
+}
+
 #[test]
 fn a_worker_hands_on_what_its_watch_tells(rt: HostRuntime) -> Result<(), Fail> {
-    let alloc = rt.alloc();
     for case in CASES.iter() {
-        let (turn, seat) = opened(alloc)?;
-        let mut watch = watch_of(alloc, case.told)?;
-        let report = tended::<Brand, _>(&rt, &turn, seat, case, &mut watch)?;
-        assert_eq!(rt; report.over, Over2::Done);
-        assert!(rt; are(&report.frames, case.frames));
-        let machine = close(&rt, turn, report.seat);
-        assert_eq!(rt; machine.open_count(), 1);
+        let handed = is_handed(&rt, rt.alloc(), case)?;
+        assert!(rt; handed, "{}", case.text);
     }
     Ok(())
 }

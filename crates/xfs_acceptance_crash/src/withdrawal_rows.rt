@@ -26,9 +26,17 @@ const NONE: Counts = Counts([0; 8]);
 
 const FIFTY: Counts = Counts([0, 0, 1, 0, 0, 0, 0, 0]);
 
+const TWENTY: Counts = Counts([0, 1, 0, 0, 0, 0, 0, 0]);
+
+const THIRTY: Counts = Counts([3, 0, 0, 0, 0, 0, 0, 0]);
+
 // The script pay.txt of the examples.
 const PAY: &str =
     "issue/mint 50.00EUR/dispense @ unit3:1/present/dispense @ unit1:1/clear/dispense @ unit1:1";
+
+// EUR 50 are paid out in two parts, and a third part is refused.
+const PAY_IN_PARTS: &str =
+    "issue/mint 50.00EUR/dispense @ unit2:1/present/take/dispense @ unit1:3/present/take/dispense @ unit1:1";
 
 // What a run came to: its status, its answers, and what the mechanism has done.
 #[derive(Drop)]
@@ -175,15 +183,56 @@ fn boot_after(call: u64, pick: u64) -> u64 {
     }
 }
 
-// What the order to stack a note of EUR 50 moved, and what the order to present it did.
-fn paid_out() -> [Motion; 2] {
-    [(4, Kind::Stack), (6, Kind::Present)].map(|(number, kind)| Motion::Moved {
-        number,
-        kind,
-        moved: FIFTY,
-        diverted: NONE,
-    })
-}
+// A note of EUR 50 is stacked by the order that is record 4, and presented by record 6.
+const STACKED_50: Motion = Motion::Moved {
+    number: 4,
+    kind: Kind::Stack,
+    moved: FIFTY,
+    diverted: NONE,
+};
+
+const PRESENTED_50: Motion = Motion::Moved {
+    number: 6,
+    kind: Kind::Present,
+    moved: FIFTY,
+    diverted: NONE,
+};
+
+// The same of EUR 20, and then of EUR 30.
+const STACKED_20: Motion = Motion::Moved {
+    number: 4,
+    kind: Kind::Stack,
+    moved: TWENTY,
+    diverted: NONE,
+};
+
+const PRESENTED_20: Motion = Motion::Moved {
+    number: 6,
+    kind: Kind::Present,
+    moved: TWENTY,
+    diverted: NONE,
+};
+
+const STACKED_30: Motion = Motion::Moved {
+    number: 8,
+    kind: Kind::Stack,
+    moved: THIRTY,
+    diverted: NONE,
+};
+
+const PRESENTED_30: Motion = Motion::Moved {
+    number: 10,
+    kind: Kind::Present,
+    moved: THIRTY,
+    diverted: NONE,
+};
+
+// What the customer takes.
+const TOOK_NOTHING: Motion = Motion::Taken { counts: NONE };
+
+const TOOK_20: Motion = Motion::Taken { counts: TWENTY };
+
+const TOOK_30: Motion = Motion::Taken { counts: THIRTY };
 
 // Behind the boot's 8 calls, the Issue, the Bind, the Order and the Done of the dispense, those of the present, and
 // the Clear make 4 each. In the last row nothing fails.
@@ -191,71 +240,59 @@ fn paid_out() -> [Motion; 2] {
 fn a_withdrawal_whose_disk_fails_puts_out_no_more_and_is_over_at_the_next_run(
     rt: HostRuntime,
 ) -> Result<(), Fail> {
-    let rows: [(u64, u64, u8, &str, usize); 8] = [
-        (1, 8, 6, "boot: disk", 0),
+    let rows: [Row; 8] = [
+        (1, 8, 6, "boot: disk", &[]),
         (
             9,
             12,
             0,
             "refused deviceNotReady/token none/refused deviceNotReady/refused deviceNotReady/refused deviceNotReady/refused deviceNotReady/refused deviceNotReady",
-            0,
+            &[],
         ),
         (
             13,
             20,
             0,
             "N/T/refused deviceNotReady/refused deviceNotReady/refused deviceNotReady/refused deviceNotReady/refused deviceNotReady",
-            0,
+            &[],
         ),
         (
             21,
             24,
             0,
             "N/T/refused deviceNotReady/refused deviceNotReady/refused deviceNotReady/refused deviceNotReady/refused deviceNotReady",
-            1,
+            &[STACKED_50],
         ),
         (
             25,
             28,
             0,
             "N/T/moved unit3:1/refused deviceNotReady/refused deviceNotReady/refused deviceNotReady/refused deviceNotReady",
-            1,
+            &[STACKED_50],
         ),
         (
             29,
             32,
             0,
             "N/T/moved unit3:1/refused deviceNotReady/refused deviceNotReady/refused deviceNotReady/refused deviceNotReady",
-            2,
+            &[STACKED_50, PRESENTED_50],
         ),
         (
             33,
             36,
             0,
             "N/T/moved unit3:1/moved unit3:1/refused invalidToken left 0/refused deviceNotReady/refused deviceNotReady",
-            2,
+            &[STACKED_50, PRESENTED_50],
         ),
         (
             37,
             37,
             0,
             "N/T/moved unit3:1/moved unit3:1/refused invalidToken left 0/cleared/refused noCommandNonce record 8",
-            2,
+            &[STACKED_50, PRESENTED_50],
         ),
     ];
-    for (first, last, status, answers, motions) in rows {
-        for call in first..=last {
-            for pick in 0..=7 {
-                let told = withdrawn(&rt, rt.alloc(), call, pick, motions)?;
-                assert_eq!(rt; told.0, status, "status from call {call} on");
-                assert_eq!(rt;
-                    told.1.as_slice(),
-                    answers.as_bytes(),
-                    "from call {call} on"
-                );
-            }
-        }
-    }
+    check(&rt, rt.alloc(), PAY, &rows)?;
     // What is put out at most is worth the token's EUR 50.
     assert_eq!(rt;
         FIFTY.value(&units()?, Currency::new(b"EUR").ok_or("letters")?),
@@ -264,16 +301,133 @@ fn a_withdrawal_whose_disk_fails_puts_out_no_more_and_is_over_at_the_next_run(
     Ok(())
 }
 
-// The status and the answers of a withdrawal whose disk fails from this call on. The mechanism makes so many of its
-// motions. Then no nonce lives: the token serves no more, and nothing is put out.
+// Each order of the second part makes 8 calls too; the token is bound already.
+#[test]
+fn a_withdrawal_in_parts_whose_disk_fails_puts_out_no_more_and_is_over_at_the_next_run(
+    rt: HostRuntime,
+) -> Result<(), Fail> {
+    let rows: [Row; 11] = [
+        (1, 8, 6, "boot: disk", &[]),
+        (
+            9,
+            12,
+            0,
+            "refused deviceNotReady/token none/refused deviceNotReady/refused deviceNotReady/taken none/refused deviceNotReady/refused deviceNotReady/taken none/refused deviceNotReady",
+            &[TOOK_NOTHING, TOOK_NOTHING],
+        ),
+        (
+            13,
+            20,
+            0,
+            "N/T/refused deviceNotReady/refused deviceNotReady/taken none/refused deviceNotReady/refused deviceNotReady/taken none/refused deviceNotReady",
+            &[TOOK_NOTHING, TOOK_NOTHING],
+        ),
+        (
+            21,
+            24,
+            0,
+            "N/T/refused deviceNotReady/refused deviceNotReady/taken none/refused deviceNotReady/refused deviceNotReady/taken none/refused deviceNotReady",
+            &[STACKED_20, TOOK_NOTHING, TOOK_NOTHING],
+        ),
+        (
+            25,
+            28,
+            0,
+            "N/T/moved unit2:1/refused deviceNotReady/taken none/refused deviceNotReady/refused deviceNotReady/taken none/refused deviceNotReady",
+            &[STACKED_20, TOOK_NOTHING, TOOK_NOTHING],
+        ),
+        (
+            29,
+            32,
+            0,
+            "N/T/moved unit2:1/refused deviceNotReady/taken unit2:1/refused deviceNotReady/refused deviceNotReady/taken none/refused deviceNotReady",
+            &[STACKED_20, PRESENTED_20, TOOK_20, TOOK_NOTHING],
+        ),
+        (
+            33,
+            36,
+            0,
+            "N/T/moved unit2:1/moved unit2:1/taken unit2:1/refused deviceNotReady/refused deviceNotReady/taken none/refused deviceNotReady",
+            &[STACKED_20, PRESENTED_20, TOOK_20, TOOK_NOTHING],
+        ),
+        (
+            37,
+            40,
+            0,
+            "N/T/moved unit2:1/moved unit2:1/taken unit2:1/refused deviceNotReady/refused deviceNotReady/taken none/refused deviceNotReady",
+            &[STACKED_20, PRESENTED_20, TOOK_20, STACKED_30, TOOK_NOTHING],
+        ),
+        (
+            41,
+            44,
+            0,
+            "N/T/moved unit2:1/moved unit2:1/taken unit2:1/moved unit1:3/refused deviceNotReady/taken none/refused deviceNotReady",
+            &[STACKED_20, PRESENTED_20, TOOK_20, STACKED_30, TOOK_NOTHING],
+        ),
+        (
+            45,
+            48,
+            0,
+            "N/T/moved unit2:1/moved unit2:1/taken unit2:1/moved unit1:3/refused deviceNotReady/taken unit1:3/refused deviceNotReady",
+            &[
+                STACKED_20,
+                PRESENTED_20,
+                TOOK_20,
+                STACKED_30,
+                PRESENTED_30,
+                TOOK_30,
+            ],
+        ),
+        (
+            49,
+            49,
+            0,
+            "N/T/moved unit2:1/moved unit2:1/taken unit2:1/moved unit1:3/moved unit1:3/taken unit1:3/refused invalidToken left 0",
+            &[
+                STACKED_20,
+                PRESENTED_20,
+                TOOK_20,
+                STACKED_30,
+                PRESENTED_30,
+                TOOK_30,
+            ],
+        ),
+    ];
+    check(&rt, rt.alloc(), PAY_IN_PARTS, &rows)
+}
+
+// The first and the last of the calls from which on the disk fails, the status and the answers of a withdrawal whose
+// disk fails so, and what the mechanism does.
+type Row<'a> = (u64, u64, u8, &'a str, &'a [Motion]);
+
+fn check(rt: &impl Abort, alloc: Global, script: &str, rows: &[Row]) -> Result<(), Fail> {
+    for (first, last, status, answers, motions) in rows {
+        for call in *first..=*last {
+            for pick in 0..=7 {
+                let told = withdrawn(rt, alloc, script, motions, call, pick)?;
+                assert_eq!(rt; told.0, *status, "status from call {call} on");
+                assert_eq!(rt;
+                    told.1.as_slice(),
+                    answers.as_bytes(),
+                    "from call {call} on"
+                );
+            }
+        }
+    }
+    Ok(())
+}
+
+// The status and the answers of a withdrawal whose disk fails from this call on. The mechanism makes these motions.
+// Then no nonce lives: the token serves no more, and nothing is put out.
 fn withdrawn(
     rt: &impl Abort,
     alloc: Global,
+    script: &str,
+    motions: &[Motion],
     call: u64,
     pick: u64,
-    motions: usize,
 ) -> Result<(u8, Vec<u8>), Fail> {
-    let lines = lines_of(alloc, PAY.as_bytes())?;
+    let lines = lines_of(alloc, script.as_bytes())?;
     let (first, core) = run_cut(
         rt,
         alloc,
@@ -282,9 +436,7 @@ fn withdrawn(
         from_on(alloc, call)?,
         pick,
     )?;
-    let moved = paid_out();
-    let moved = moved.get(..motions).ok_or("more motions")?;
-    assert!(rt; first.motions.as_slice() == moved, "from call {call} on");
+    assert!(rt; first.motions.as_slice() == motions, "from call {call} on");
     let script = format!(in alloc; "dispense {GENUINE} unit3:1\nmint 50EUR\npresent\n")?;
     let again = run_again(alloc, Command::Guard, script.as_bytes(), core)?;
     let boot = boot_after(call, pick);
@@ -298,7 +450,7 @@ fn withdrawn(
         "after call {call}, pick {pick}"
     );
     assert!(rt;
-        again.motions.as_slice() == moved,
+        again.motions.as_slice() == motions,
         "after call {call}, pick {pick}"
     );
     Ok((first.status, first.answers))
@@ -329,7 +481,7 @@ fn is_over_after(
 ) -> Result<u8, Fail> {
     let failing = from_on(alloc, call)?;
     let (first, core) = run_cut(rt, alloc, Command::Replay, PAY_BY_MESSAGES, failing, pick)?;
-    let moved = paid_out();
+    let moved = [STACKED_50, PRESENTED_50];
     let moved = moved.get(..motions).ok_or("more motions")?;
     assert!(rt; first.motions.as_slice() == moved, "from call {call} on");
     let script = AGAIN.replace(alloc, "TOKEN", GENUINE)?;

@@ -10,13 +10,10 @@ use std::test::Fail;
 use xfs_base::{Bytes, Moment, Service};
 use xfs_disk::{Disk, MemDisk};
 use xfs_guard::Core;
-use xfs_machine::{Machine, Pass, Tally};
+use xfs_machine::{Machine, Pass, Tally, Work};
 use xfs_mech::{Mechanism, SimMech};
 use xfs_simulated::{LIMITS, core_on, empty};
 use xfs_testbench::{sim_on, units};
-
-/// The machine of the tests.
-pub type Sim = Machine<SimMech, MemDisk>;
 
 fn booted<M: Mechanism, D: Disk>(alloc: Global, core: Core<M, D>) -> Result<Machine<M, D>, Fail>
     requires units { M.units core.mech ≡ core.units }
@@ -29,14 +26,17 @@ fn booted<M: Mechanism, D: Disk>(alloc: Global, core: Core<M, D>) -> Result<Mach
 }
 
 /// A machine with 100 notes each of EUR 10, EUR 20, EUR 50 and USD 20.
-pub fn machine(alloc: Global) -> Result<Sim, Fail> {
+pub fn machine(alloc: Global) -> Result<Machine<SimMech, MemDisk>, Fail> {
     let units = units()?;
     let mech = sim_on(alloc, &units, Vec::new(alloc))?;
     booted(alloc, core_on(mech, units, empty(alloc), LIMITS))
 }
 
 /// A connection to a service.
-pub fn joined(machine: &mut Sim, service: Service) -> Result<Pass, Fail> {
+pub fn joined<M: Mechanism, D: Disk>(
+    machine: &mut Machine<M, D>,
+    service: Service,
+) -> Result<Pass, Fail> {
     match machine.join(service) {
         Ok(pass) => Ok(pass),
         Err(_) => Err("a connection".into()),
@@ -44,9 +44,27 @@ pub fn joined(machine: &mut Sim, service: Service) -> Result<Pass, Fail> {
 }
 
 /// Posts a text, and hands over what waits then.
-pub fn said(machine: &mut Sim, pass: &Pass, text: &[u8]) -> Result<Vec<Bytes>, Fail> {
+pub fn said<M: Mechanism, D: Disk>(
+    machine: &mut Machine<M, D>,
+    pass: &Pass,
+    text: &[u8],
+) -> Result<Vec<Bytes>, Fail> {
     let mut tally = Tally::new();
     machine.post(pass, text, Moment(0), &mut tally)?;
+    Ok(machine.outbox(pass, &mut tally).into_list())
+}
+
+/// Has the machine work at the dispenser until it has nothing to do, and hands over what waits then.
+pub fn worked<M: Mechanism, D: Disk>(
+    machine: &mut Machine<M, D>,
+    pass: &Pass,
+) -> Result<Vec<Bytes>, Fail> {
+    let mut tally = Tally::new();
+    for _ in 0..100u32 {
+        if machine.work(Service::Cash, Moment(0), &mut tally)? == Work::Idle {
+            break;
+        }
+    }
     Ok(machine.outbox(pass, &mut tally).into_list())
 }
 

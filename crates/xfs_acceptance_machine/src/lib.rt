@@ -7,3 +7,5 @@ mod connection_rows;
 mod counter;
 #[cfg(test)]
 mod text_rows;
+#[cfg(test)]
+mod token_rows;

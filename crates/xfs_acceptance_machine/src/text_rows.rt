@@ -1,8 +1,12 @@
 //! Texts and the frames that answer them at once.
 
-use crate::counter::{Sim, are, joined, machine, said};
+use crate::counter::{are, joined, machine, said};
+use std::process::Abort;
 use std::test::Fail;
 use xfs_base::{Bytes, Service};
+use xfs_disk::Disk;
+use xfs_machine::Machine;
+use xfs_mech::Mechanism;
 
 /// A text that the client of a service posts, and the frames that answer it.
 struct Row {
@@ -134,24 +138,36 @@ const ROWS: [Row; 17] = [
 ];
 
 // What a client that connects for this text alone hears.
-fn heard(machine: &mut Sim, row: &Row) -> Result<Vec<Bytes>, Fail> {
+fn heard<M: Mechanism, D: Disk>(
+    machine: &mut Machine<M, D>,
+    row: &Row,
+) -> Result<Vec<Bytes>, Fail> {
     let pass = joined(machine, row.service)?;
     let frames = said(machine, &pass, row.text.as_bytes())?;
     machine.leave(pass);
     Ok(frames)
 }
 
-fn is_answered(machine: &mut Sim, row: &Row) -> Result<bool, Fail> {
+fn is_answered<M: Mechanism, D: Disk>(
+    machine: &mut Machine<M, D>,
+    row: &Row,
+) -> Result<bool, Fail> {
     let frames = heard(machine, row)?;
     Ok(are(&frames, row.frames))
 }
 
-#[test]
-fn texts_are_answered_at_once(rt: HostRuntime) -> Result<(), Fail> {
-    let mut machine = machine(rt.alloc())?;
+fn answers_all<M: Mechanism, D: Disk>(
+    rt: &impl Abort,
+    machine: &mut Machine<M, D>,
+) -> Result<(), Fail> {
     for row in ROWS.iter() {
-        let answered = is_answered(&mut machine, row)?;
+        let answered = is_answered(machine, row)?;
         assert!(rt; answered, "{}", row.text);
     }
     Ok(())
+}
+
+#[test]
+fn texts_are_answered_at_once(rt: HostRuntime) -> Result<(), Fail> {
+    answers_all(&rt, &mut machine(rt.alloc())?)
 }
