@@ -24,4 +24,4 @@ pub use mem_link::MemLink;
 pub use mem_tended::MemTended;
 pub use session::{Over, serve_client};
 pub use tended::Tended;
-pub use worker::{Over2, tend};
+pub use worker::{Over2, round, tend};

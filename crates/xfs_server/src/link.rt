@@ -19,7 +19,7 @@ pub enum Taking {
     Memory,
 }
 
-/// Why a text was not given. Nothing was sent.
+/// Why a text was not given. Nothing of it is sent.
 #[derive(Clone, Copy, Debug, PartialEq, Eq)]
 pub enum GiveFault {
     /// The connection failed. The count of faults rose by one.
@@ -38,7 +38,7 @@ pub trait Link: Drop {
         ensures log { log self.new ≡ after_take (log self.old) result }
         ensures next { IfTold (log self.old).coming (λ texts. IsNextOf texts result) };
 
-    /// Sends a text.
+    /// Gives a text to be sent behind those given before: at the latest with the next `take`, or as the link ends.
     fn give(&mut self, text: &[u8]) -> Result<(), GiveFault>
         ensures { log self.new ≡ after_give (log self.old) text.now result };
 }

@@ -1,5 +1,5 @@
-ghost use Rattle.std.specs.Prelude.{◌≡◌, OnOk, IfErr};
-ghost use Rattle.xfs_server.specs.Workers.{Rounds, Between, Halts, Tending, Sensed, Unsensed};
+ghost use Rattle.std.specs.Prelude.{OnOk, OnErr, IfErr};
+ghost use Rattle.xfs_server.specs.Workers.{CannotSense, HaltsRound, MakesRound, Senses, Tending, view};
 
 use crate::{Tended, Work2};
 use std::sync::Wait;
@@ -36,10 +36,10 @@ pub fn tend<R: Wait, B: Tended, W: Watch, C: Clock>(
     unreachable!()
 }
 
-// Idle where there was no touch and nothing to do.
-fn round<B: Tended, W: Watch>(board: &mut B, watch: &mut W) -> Result<Work2, Over2>
-    ensures ok { OnOk result (Rounds 1 Between (W.coming watch.old) (W.coming watch.new) (W.faults watch.old) (W.faults watch.new) (B.log board.old) (B.log board.new)) }
-    ensures err { IfErr result (λ over. Halts 0 over (W.coming watch.old) (W.coming watch.new) (W.faults watch.old) (W.faults watch.new) (B.log board.old) (B.log board.new)) }
+/// One round of a worker, as `tend` makes it, without its pause. Idle where there was no touch and nothing to do.
+pub fn round<B: Tended, W: Watch>(board: &mut B, watch: &mut W) -> Result<Work2, Over2>
+    ensures ok { OnOk result (MakesRound (view B.log W.coming W.faults board.old watch.old) (view B.log W.coming W.faults board.new watch.new)) }
+    ensures err { IfErr result (HaltsRound (view B.log W.coming W.faults board.old watch.old) (view B.log W.coming W.faults board.new watch.new)) }
 {
     if board.closing() {
         return Err(Over2::Done);
@@ -57,8 +57,8 @@ fn round<B: Tended, W: Watch>(board: &mut B, watch: &mut W) -> Result<Work2, Ove
 
 // Hands on one news of the watch, where news is wanted, and answers whether it was a touch.
 fn sense<B: Tended, W: Watch>(board: &mut B, watch: &mut W) -> Result<bool, Memory>
-    ensures ok { OnOk result (Sensed (W.coming watch.old) (W.coming watch.new) (W.faults watch.old) (W.faults watch.new) (B.log board.old) (B.log board.new)) }
-    ensures err { IfErr result (λ _. Unsensed (W.coming watch.old) (W.coming watch.new) (W.faults watch.old) (W.faults watch.new) (B.log board.old) (B.log board.new)) }
+    ensures ok { OnOk result (Senses (view B.log W.coming W.faults board.old watch.old) (view B.log W.coming W.faults board.new watch.new)) }
+    ensures err { OnErr result (CannotSense (view B.log W.coming W.faults board.old watch.old) (view B.log W.coming W.faults board.new watch.new)) }
 {
     if !board.wants() {
         return Ok(false);

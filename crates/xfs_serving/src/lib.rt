@@ -5,7 +5,6 @@
 mod backend;
 mod ending;
 mod hall;
-mod round;
 mod server;
 mod session;
 mod staff;

@@ -1,13 +1,12 @@
 ghost use Rattle.xfs_serving.specs.Workers.{TendsOrReturns};
 
 use crate::hall::Hall;
-use crate::round::round;
 use std::sync::Wait;
 use std::sync::atomic::{AtomicBool, Ordering};
 use std::thread::{JoinHandle, Scope, Threads};
 use xfs_base::Clock;
 use xfs_mech::Watch;
-use xfs_server::{Over2, Tended, tend};
+use xfs_server::{Over2, Tended, round, tend};
 
 /// What a worker works on.
 #[derive(Drop)]
@@ -49,7 +48,9 @@ impl<B: Tended + Send + Drop, W: Watch + Send> Worker<B, W> {
     pub fn turn(&mut self) -> bool {
         match self {
             Worker::Started(_) => true,
-            Worker::Here(job) => round(&mut job.board, &mut job.watch) != Err(Over2::Memory),
+            Worker::Here(job) => {
+                !matches!(round(&mut job.board, &mut job.watch), Err(Over2::Memory))
+            }
         }
     }
 
