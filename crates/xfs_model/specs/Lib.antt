@@ -12,6 +12,7 @@ pub mod GuardCalls
 pub mod Guards
 pub mod Immediate
 pub mod Kept
+pub mod Laws
 pub mod Pendings
 pub mod Posts
 pub mod Results

@@ -11,14 +11,15 @@ ghost use Rattle.xfs_model.specs.Advances.{Advances};
 ghost use Rattle.xfs_model.specs.Causes.{HasCauses, MarksHaveCauses};
 ghost use Rattle.xfs_model.specs.Connections.{connection_at};
 ghost use Rattle.xfs_model.specs.Conversations.{IsTalk, Keeps};
-ghost use Rattle.xfs_model.specs.Events.{Answer, Event, handed, outbox};
+ghost use Rattle.xfs_model.specs.Events.{Answer, Event};
 ghost use Rattle.xfs_model.specs.Faults.{FaultsHaveCauses, RefusalsHaveCauses};
 ghost use Rattle.xfs_model.specs.GuardCalls.{AtMostOneCall, IsPlain};
 ghost use Rattle.xfs_model.specs.Kept.{IsMachine};
 ghost use Rattle.xfs_model.specs.Pendings.{pending_at};
-ghost use Rattle.xfs_model.specs.Runs.{IsFirm, IsReached};
+ghost use Rattle.xfs_model.specs.Laws.{EachFirmRun, EachHanding, EachStep};
+ghost use Rattle.xfs_model.specs.Runs.{IsReached};
 ghost use Rattle.xfs_model.specs.Sound.{IsSound};
-ghost use Rattle.xfs_model.specs.State.{Connection, Pass, State, bare};
+ghost use Rattle.xfs_model.specs.State.{Connection, State, bare};
 ghost use Rattle.xfs_model.specs.Step.{Step};
 ghost use Rattle.xfs_model.specs.Successes.{OrdersFollow, SuccessesHaveCauses};
 ghost use Rattle.xfs_model.specs.Told.{AllTell, HasToldTruly, IsTold, KeepsTold};
@@ -31,7 +32,7 @@ pub fn steps_keep_conversations()
 /// Each step keeps that at most 64 connections are open, that their client numbers rise, that the
 /// ids of a client differ while they are pending, and that at most one command of a service runs.
 pub fn steps_keep_the_machine()
-    ensures { (old new : State) (event : Event) (answer : Answer) → IsMachine old → Step old event answer new → IsMachine new }
+    ensures { EachStep (λ old _. IsMachine old) (λ _ _ new. IsMachine new) }
 {}
 
 /// From a boot on, what a client posted since its join and what it was handed, with what waits for it
@@ -43,8 +44,8 @@ pub fn runs_are_conversations()
 /// From a boot of a guard with no order open, every machine that is reached is sound. All that a client
 /// was handed since its join, and all that waits, tells what stands in the journal's list now.
 pub fn runs_are_sound()
-    ensures sound { (mine : ClientId) (now : State) (texts frames : List (List ℕ)) → (is : IsReached mine now texts frames) → IsFirm is.seen → IsSound now }
-    ensures told { (mine : ClientId) (now : State) (texts frames : List (List ℕ)) → (is : IsReached mine now texts frames) → IsFirm is.seen → HasToldTruly now frames }
+    ensures sound { EachFirmRun (λ now _. IsSound now) }
+    ensures told { EachFirmRun HasToldTruly }
 {}
 
 /// From a boot on, each text of a connected client has one acknowledge, and each command that was
@@ -58,13 +59,13 @@ pub fn commands_complete_once()
 /// A step that is no restart and no finish makes at most one call of the guard, so that what each of
 /// these calls keeps is kept.
 pub fn steps_call_the_guard_once()
-    ensures { (old new : State) (event : Event) (answer : Answer) → IsPlain event → Step old event answer new → AtMostOneCall old.seen new.seen }
+    ensures { EachStep (λ _ event. IsPlain event) (λ old _ new. AtMostOneCall old.seen new.seen) }
 {}
 
 /// Each step keeps that a ready command has its result, that one with the result `canceled` is marked, and that one with the result
 /// `timeOut` has a timeout whose deadline has come.
 pub fn results_have_their_causes()
-    ensures { (old new : State) (event : Event) (answer : Answer) → IsMachine old → Step old event answer new → HasCauses old → HasCauses new }
+    ensures { EachStep (λ old _. IsMachine old) (λ old _ new. HasCauses old → HasCauses new) }
 {}
 
 /// A command that is marked behind a step was marked before it, or the step is a Cancel that its own
@@ -76,7 +77,7 @@ pub fn marks_have_their_causes()
 
 /// Each step keeps the machine sound: what its type keeps from call to call.
 pub fn steps_keep_the_machine_sound()
-    ensures { (old new : State) (event : Event) (answer : Answer) → IsSound old → Step old event answer new → IsSound new }
+    ensures { EachStep (λ old _. IsSound old) (λ _ _ new. IsSound new) }
 {}
 
 /// A machine with no connection and no command is sound, where no order is open.
@@ -94,8 +95,8 @@ pub fn steps_advance_the_guard()
 /// Issues and marks of its list. So does each frame that a client is handed. The guard's list has a mark
 /// from its first Boot on.
 pub fn steps_keep_what_was_told()
-    ensures kept { (old new : State) (event : Event) (answer : Answer) → IsSound old → Step old event answer new → KeepsTold old new }
-    ensures handed { (old new : State) (pass : Pass) (frames : List (List ℕ)) → Step old (outbox pass) (handed frames) new → IsTold old → AllTell old frames }
+    ensures kept { EachStep (λ old _. IsSound old) (λ old _ new. KeepsTold old new) }
+    ensures handed { EachHanding (λ old frames. IsTold old → AllTell old frames) }
     ensures bare { (seen : Seen) (life boot : ℕ) → IsTold (bare seen life boot) }
 {}
 
@@ -103,24 +104,24 @@ pub fn steps_keep_what_was_told()
 /// dispenser while the mechanism's count of faults rose, at the card reader or keyboard while its device
 /// had a fault. So it is of the mark that an order's failure leaves in its plan until it is settled.
 pub fn faults_have_their_causes()
-    ensures { (old new : State) (event : Event) (answer : Answer) → IsSound old → Step old event answer new → FaultsHaveCauses old event new }
+    ensures { EachStep (λ old _. IsSound old) FaultsHaveCauses }
 {}
 
 /// A command that has the result deviceNotReady behind a step had it before, or it is of the dispenser,
 /// and in that step the journal took no more records, or its disk failed, or the journal wasn't read again.
 pub fn refusals_have_their_causes()
-    ensures { (old new : State) (event : Event) (answer : Answer) → IsSound old → Step old event answer new → RefusalsHaveCauses old new }
+    ensures { EachStep (λ old _. IsSound old) (λ old _ new. RefusalsHaveCauses old new) }
 {}
 
 /// A command that has the result success behind a step had it before, or was done at once, or by its
 /// device, or no part of its plan is left and its last order was carried out in full.
 pub fn successes_have_their_causes()
-    ensures { (old new : State) (event : Event) (answer : Answer) → IsSound old → Step old event answer new → SuccessesHaveCauses old new }
+    ensures { EachStep (λ old _. IsSound old) (λ old _ new. SuccessesHaveCauses old new) }
 {}
 
 /// An order that is open behind a step that is no restart and no finish was open before, or it was written
 /// in it, of all the notes of its place, or it was written before and is carried out in it: in full
 /// where the mechanism didn't fail.
 pub fn orders_follow_each_other()
-    ensures { (old new : State) (event : Event) (answer : Answer) → IsPlain event → Step old event answer new → OrdersFollow old new }
+    ensures { EachStep (λ _ event. IsPlain event) (λ old _ new. OrdersFollow old new) }
 {}
