@@ -8,6 +8,7 @@ pub mod Continues
 pub mod Covered
 pub mod CrashOutcomes
 pub mod Crashed
+pub mod Entries
 pub mod Fits
 pub mod Follows
 pub mod Keeps

@@ -1,12 +1,11 @@
-ghost use Rattle.std.specs.Prelude.{MatchResult, ◌≡◌, ◌≢◌, ◌↔◌, ℕ, true, List, ◌+◌, ◌<◌, ◌≤◌, [], ◌∷◌, ◌++◌, length, false, true, is_some, OnOk, OnErr, IfOk, IfErr, IsTrue, Some, None, Err, unwrap_or};
-ghost use Rattle.std.specs.List.{Contains};
+ghost use Rattle.std.specs.Prelude.{MatchResult, ◌≡◌, ◌≢◌, ◌↔◌, ℕ, true, ◌<◌, ◌≤◌, [], ◌∷◌, ◌++◌, length, false, true, is_some, OnOk, OnErr, IfOk, IfErr, IsTrue, Some, None, Err};
 ghost use Rattle.std.specs.Option.{option_or};
 ghost use Rattle.xfs_base.specs.Causes.{IfTold, Rose};
-ghost use Rattle.xfs_journal.specs.declared.record.Rec.TheVariants.{Issue, Clear, Expire, Boot, Bind, Order, Done};
-ghost use Rattle.xfs_journal.specs.Journal.{next_issue, nonce_text};
+ghost use Rattle.xfs_journal.specs.declared.record.Rec.TheVariants.{Issue, Clear, Expire, Boot, Order};
+ghost use Rattle.xfs_journal.specs.Journal.{next_issue};
 ghost use Rattle.xfs_guard.specs.declared.open.Open.TheVariants.{No, Written};
-ghost use Rattle.xfs_guard.specs.Balance.{no_notes};
-ghost use Rattle.xfs_guard.specs.Booting.{IsFound, LacksRoom, LeavesEither, LeavesListOf, LeavesRecorded, SparesAll, SparesUnlisted};
+ghost use Rattle.xfs_guard.specs.Booting.{LacksRoom, LeavesEither, LeavesListOf, LeavesRecorded, SparesAll, SparesUnlisted};
+ghost use Rattle.xfs_guard.specs.Entries.{Begins, entry_of};
 ghost use Rattle.xfs_guard.specs.Nonce.{Ends, live_in, live_nonce};
 ghost use Rattle.xfs_guard.specs.View.{shut_at};
 ghost use Rattle.xfs_guard.specs.Upheld.{IsUpheld};
@@ -17,13 +16,11 @@ ghost use Rattle.xfs_guard.specs.CrashOutcomes.{EachStands, IsOldOrBooted, Leave
 ghost use Rattle.xfs_guard.specs.Keeps.{Keeps, NoEntry};
 ghost use Rattle.xfs_guard.specs.LedgerView.{IsWriteFault};
 ghost use Rattle.xfs_guard.specs.Lives.{WasNeverAnswered};
-ghost use Rattle.xfs_guard.specs.Stored.{IsStored, MayLeave};
-ghost use Rattle.xfs_guard.specs.Recorded.{IsRecorded};
+ghost use Rattle.xfs_guard.specs.Stored.{IsStored};
 ghost use Rattle.xfs_guard.specs.declared.fail.BootFault.TheVariants.{NotJournal, Disk as BootDisk, Full as BootFull};
-ghost use Rattle.xfs_journal.specs.Image.{StandsFor};
-ghost use Rattle.xfs_journal.specs.JournalView.{IsNoJournal, IsPossible, StandsForEither, exceeds};
+ghost use Rattle.xfs_journal.specs.JournalView.{IsNoJournal, exceeds};
 ghost use Rattle.xfs_disk.specs.Moments.{LeavesOnly};
-ghost use Rattle.xfs_journal.specs.Paging.{CeasesAt, IsOldOrShort, IsQuiet};
+ghost use Rattle.xfs_journal.specs.Paging.{IsQuiet};
 ghost use Rattle.xfs_journal.specs.declared.record.Rec.{Rec};
 ghost use Rattle.xfs_guard.specs.Continues.{ContinuesFound};
 ghost use Rattle.xfs_guard.specs.Orders.{IsWritten, IsActed, Acts, Settles, Unsettles, kind_unacted};
@@ -92,24 +89,7 @@ impl<M: Mechanism, D: Disk> Guard<M, D> {
     ) -> Result<Guard<M, D>, BootFail<M, D>>
         requires units { M.units mech ≡ units }
         requires recorded { LeavesRecorded D.Disk disk key units (M.motions mech) }
-        ensures ok { IfOk result (λ g. IsFound (D.held disk) (λ records. g.state ≡ record {
-          key = key;
-          seed = seed;
-          units = units;
-          records = records ++ Boot (M.places mech) ∷ [];
-          bound = None;
-          open_order = No;
-          motions = M.motions mech;
-          places = M.places mech;
-          booted = M.places mech;
-          loaded = no_notes;
-          faults = M.faults mech;
-          limits = limits;
-          shut = false;
-          boot_missing = false;
-          in_doubt = None;
-          disk_told = is_some (D.held disk);
-        })) }
+        ensures ok { IfOk result (λ g. Begins (entry_of M.Mechanism D.Disk mech disk key seed units limits) g.state) }
         ensures fits { IfOk result (λ g. exceeds limits g.state.records ≡ false) }
         ensures continues { IfOk result (λ g. ContinuesFound (M.places mech) g.state) }
 

@@ -1,14 +1,16 @@
 -- What the parts of a call make is a step of the machine, and it keeps what every call keeps.
 use Rattle.std.proofs.Common.{◌≡◌, ◌≢◌, ℕ, ◌+◌, ◌<◌, ◌≤◌, ◌==◌, nat_le, not, Bool, true, false, cond, List, [], ◌∷◌, ◌++◌, length, map, filter, find, Option, None, Some, Result, Ok, Err, MatchOption, refl, ap, sym, ◌∙◌, inl, inr}
-use Rattle.std.specs.Prelude.{OnOk, is_err}
+use Rattle.std.specs.Prelude.{IsErrAnd, OnOk, is_err}
 use Rattle.std.specs.Option.{option_map}
 use Rattle.std.proofs.lemmas.Bool.{cases_Bool, eqb-true, eq-eqb, false≢true, ne_eqb}
 use Rattle.std.proofs.lemmas.Option.{none-some}
+use Rattle.xfs_base.specs.declared.faults.Memory.{Memory}
 use Rattle.xfs_base.specs.declared.moment.ClientId.{ClientId}
 use Rattle.xfs_base.specs.declared.moment.Moment.{Moment}
 use Rattle.xfs_base.specs.declared.moment.Service.{Service}
 use Rattle.xfs_base.specs.declared.moment.TheConstants.{LAST_MOMENT}
 use Rattle.xfs_envelope.specs.Commands.{command_in}
+use Rattle.xfs_machine.specs.Answers.{posted}
 use Rattle.xfs_machine.specs.MachineView.{IsWhole}
 use Rattle.xfs_machine.specs.Seats.{IsSeen, with_both}
 use Rattle.xfs_model.specs.Connections.{connection_of, is_client, without_mail}
@@ -39,6 +41,11 @@ join_wants s service = wanting refl refl
 
 pub post_wants : (s : State) (pass : Pass) (text : List ℕ) (now : Moment) → Step s (post pass text now) memory s
 post_wants s pass text now = wanting refl refl
+
+-- the same of a call's result
+pub post_refused : (r : Result Unit Memory) (why : Memory) (s : State) (pass : Pass) (text : List ℕ) (now : Moment) → IsErrAnd r (λ e. e ≡ why) → Step s (post pass text now) (posted r) s
+post_refused (Ok it) why s pass text now err = absurd err
+post_refused (Err wants) why s pass text now err = post_wants s pass text now
 
 pub is_full : (s : State) (service : Service) → IsWhole s → IsFull s → Step s (join service) full s
 is_full s service whole is = happens (whole.there) (is, refl)

@@ -1,4 +1,5 @@
 pub mod Answers
+pub mod Changes
 pub mod Chosen
 pub mod DataCodes
 pub mod Endings
@@ -7,6 +8,7 @@ pub mod Laws
 pub mod Lending
 pub mod MachineView
 pub mod Parts
+pub mod Readings
 pub mod Tallies
 pub mod Wanted
 pub mod Withdrawals

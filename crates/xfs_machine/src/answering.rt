@@ -1,10 +1,10 @@
 //! The first command that has its result is answered.
 
 ghost use Rattle.std.specs.Prelude.{◌≡◌, OnErr, OnOk, IfOk, find, option_map};
+ghost use Rattle.xfs_machine.specs.Changes.{FirstIsAnswered};
 ghost use Rattle.xfs_machine.specs.Parts.{HasResult, mailed};
-ghost use Rattle.xfs_model.specs.Cases.{AnswersFirst};
 ghost use Rattle.xfs_model.specs.Frames.{Announces, IsCompletion};
-ghost use Rattle.xfs_model.specs.State.{State, queue_of};
+ghost use Rattle.xfs_model.specs.State.{queue_of};
 ghost use Rattle.xfs_queue.specs.Commands.{is_ready};
 
 use crate::connections::Connections;
@@ -24,7 +24,7 @@ pub(crate) fn answer_first(
     service: Service,
 ) -> Result<(), Memory>
     requires { HasResult (queue_of queues.old service) }
-    ensures answers { OnOk result ((s : State) → AnswersFirst (record s { connections = connections.old; queues = queues.old }) service (record s { connections = connections.new; queues = queues.new })) }
+    ensures answers { OnOk result (FirstIsAnswered service connections.old connections.new queues.old queues.new) }
     ensures memory { OnErr result ((connections.new ≡ connections.old) × (queues.new ≡ queues.old)) }
 {
     let Some(command) = first_ready(queues.at(service)) else {

@@ -8,16 +8,16 @@ ghost use Rattle.xfs_envelope.specs.Messages.{IsPayload};
 ghost use Rattle.xfs_guard.specs.Keeps.{Keeps, NoEntry, Proceeds};
 ghost use Rattle.xfs_guard.specs.Upheld.{IsUpheld};
 ghost use Rattle.xfs_guard.specs.declared.open.Open.TheVariants.{No};
+ghost use Rattle.xfs_machine.specs.Changes.{CardBegins, EntryBegins};
 ghost use Rattle.xfs_machine.specs.Jobs.{changed_at};
-ghost use Rattle.xfs_machine.specs.Parts.{HasDeviceAsk, at_begin, at_card};
-ghost use Rattle.xfs_model.specs.Cases.{BeginsAs, BeginsFirst, with_start};
+ghost use Rattle.xfs_machine.specs.Parts.{HasDeviceAsk, at_begin};
+ghost use Rattle.xfs_model.specs.Cases.{BeginsFirst, with_start};
 ghost use Rattle.xfs_model.specs.Results.{running, with_plan};
 ghost use Rattle.xfs_model.specs.Sound.{IsFitting};
 ghost use Rattle.xfs_base.specs.declared.moment.Service.TheVariants as Service;
-ghost use Rattle.xfs_model.specs.State.{Job as JobView, State, card, entry, queue_of, with_queue};
+ghost use Rattle.xfs_model.specs.State.{State, card, queue_of, with_queue};
 ghost use Rattle.xfs_queue.specs.Commands.{is_running, ticket_of, waits_on};
 ghost use Rattle.xfs_queue.specs.Queue.{IsWaiting};
-ghost use Rattle.xfs_queue.specs.declared.command.Command.{Command as Pending};
 ghost use Rattle.xfs_queue.specs.declared.command.Line.TheVariants as Line;
 
 use crate::connections::Connections;
@@ -150,7 +150,7 @@ fn begin_card(
 ) -> Result<(), Memory>
     requires waiting { IsWaiting (queue_of queues.old service) ticket }
     requires idle { find (λ a. is_running a.stage) (queue_of queues.old service) ≡ None }
-    ensures begins { OnOk result ((s : State) (a : Pending JobView) → ticket ≡ ticket_of a → BeginsAs (card ask) (at_card s slot.old connections.old queues.old) service a (at_card s slot.new connections.new queues.new)) }
+    ensures begins { OnOk result (CardBegins ask service ticket slot.old slot.new connections.old connections.new queues.old queues.new) }
     ensures memory { OnErr result ((slot.new ≡ slot.old) × (connections.new ≡ connections.old) × (queues.new ≡ queues.old)) }
 {
     if let CardAsk::Read { tracks } = ask {
@@ -176,7 +176,7 @@ fn begin_read(
 ) -> Result<(), Memory>
     requires waiting { IsWaiting (queue_of queues.old service) ticket }
     requires idle { find (λ a. is_running a.stage) (queue_of queues.old service) ≡ None }
-    ensures begins { OnOk result ((s : State) (a : Pending JobView) → ticket ≡ ticket_of a → BeginsAs (card (CardAsk.Read tracks)) (at_card s slot.old connections.old queues.old) service a (at_card s slot.new connections.new queues.new)) }
+    ensures begins { OnOk result (CardBegins (CardAsk.Read tracks) service ticket slot.old slot.new connections.old connections.new queues.old queues.new) }
     ensures memory { OnErr result ((slot.new ≡ slot.old) × (connections.new ≡ connections.old) × (queues.new ≡ queues.old)) }
 {
     let frame = insert_card(alloc, ticket.id)?;
@@ -210,7 +210,7 @@ fn begin_entry(
 ) -> Result<(), Memory>
     requires waiting { IsWaiting (queue_of queues.old service) ticket }
     requires idle { find (λ a. is_running a.stage) (queue_of queues.old service) ≡ None }
-    ensures begins { OnOk result ((s : State) (a : Pending JobView) → ticket ≡ ticket_of a → BeginsAs (entry ask) (record s { keypad = keypad.old; queues = queues.old }) service a (record s { keypad = keypad.new; queues = queues.new })) }
+    ensures begins { OnOk result (EntryBegins ask service ticket keypad.old keypad.new queues.old queues.new) }
     ensures memory { OnErr result ((keypad.new ≡ keypad.old) × (queues.new ≡ queues.old)) }
 {
     xfs_keyboard::step(alloc, keypad, KeyEvent::Begin(ask))?;

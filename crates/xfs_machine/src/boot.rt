@@ -1,12 +1,12 @@
 //! How a machine begins.
 
-ghost use Rattle.std.specs.Prelude.{MatchResult, ◌≡◌, ◌≢◌, ℕ, true, false, List, ◌≤◌, [], ◌∷◌, ◌++◌, length, is_some, IfOk, IfErr, None};
+ghost use Rattle.std.specs.Prelude.{MatchResult, ◌≡◌, ◌≢◌, ℕ, false, ◌≤◌, length, is_some, IfOk, IfErr};
 ghost use Rattle.xfs_base.specs.Causes.{IfTold, Rose};
 ghost use Rattle.xfs_disk.specs.Moments.{LeavesOnly};
-ghost use Rattle.xfs_guard.specs.Balance.{no_notes};
-ghost use Rattle.xfs_guard.specs.Booting.{IsFound, LacksRoom, LeavesEither, LeavesRecorded, SparesAll, SparesUnlisted};
+ghost use Rattle.xfs_guard.specs.Booting.{LacksRoom, LeavesEither, LeavesRecorded, SparesAll, SparesUnlisted};
 ghost use Rattle.xfs_guard.specs.Continues.{ContinuesFound};
 ghost use Rattle.xfs_guard.specs.CrashOutcomes.{EachStands, IsOldOrBooted, StandsRecorded};
+ghost use Rattle.xfs_guard.specs.Entries.{Begins, at_entry};
 ghost use Rattle.xfs_guard.specs.declared.fail.BootFault.TheVariants.{NotJournal, Disk as BootDisk, Full as BootFull};
 ghost use Rattle.xfs_guard.specs.declared.open.Open.TheVariants.{No};
 ghost use Rattle.xfs_journal.specs.JournalView.{exceeds, IsNoJournal};
@@ -34,24 +34,7 @@ impl<M: Mechanism, D: Disk> Machine<M, D> {
         requires units { M.units bench.mech ≡ bench.units }
         requires recorded { LeavesRecorded D.Disk bench.disk bench.key bench.units (M.motions bench.mech) }
         ensures bare { IfOk result (λ m. m.state ≡ bare m.state.seen bench.life (length m.state.seen.guard.records)) }
-        ensures ok { IfOk result (λ m. IsFound (D.held bench.disk) (λ records. m.state.seen.guard ≡ record {
-          key = bench.key;
-          seed = bench.seed;
-          units = bench.units;
-          records = records ++ Boot (M.places bench.mech) ∷ [];
-          bound = None;
-          open_order = No;
-          motions = M.motions bench.mech;
-          places = M.places bench.mech;
-          booted = M.places bench.mech;
-          loaded = no_notes;
-          faults = M.faults bench.mech;
-          limits = bench.limits;
-          shut = false;
-          boot_missing = false;
-          in_doubt = None;
-          disk_told = is_some (D.held bench.disk);
-        })) }
+        ensures ok { IfOk result (λ m. Begins (at_entry M.Mechanism D.Disk bench) m.state.seen.guard) }
         ensures fits { IfOk result (λ m. exceeds bench.limits m.state.seen.guard.records ≡ false) }
         ensures continues { IfOk result (λ m. ContinuesFound (M.places bench.mech) m.state.seen.guard) }
         ensures mech { IfErr result (λ f. f.mech ≡ bench.mech) }

@@ -1,12 +1,10 @@
 //! What touches of the world do to the card reader and the keyboard, and what their running command hears.
 
-ghost use Rattle.std.specs.Prelude.{◌≡◌, [], OnErr, OnOk, Some, find, option_map};
+ghost use Rattle.std.specs.Prelude.{◌≡◌, OnErr, OnOk, Some, find, option_map};
 ghost use Rattle.xfs_queue.specs.Commands.{is_running, ticket_of};
 ghost use Rattle.xfs_card.specs.declared.state.CardEvent.TheVariants as CardEvent;
 ghost use Rattle.xfs_keyboard.specs.declared.state.KeyEvent.TheVariants as KeyEvent;
-ghost use Rattle.xfs_machine.specs.Parts.{at_card, at_keys};
-ghost use Rattle.xfs_model.specs.State.{State};
-ghost use Rattle.xfs_model.specs.Touches.{IsHeard, TouchesCard, TouchesKeys, running_at};
+ghost use Rattle.xfs_machine.specs.Changes.{CardFails, CardTakes, KeysFail, KeysTake, RunningHas};
 
 use crate::connections::Connections;
 use crate::job::Outcome;
@@ -29,7 +27,7 @@ pub(crate) fn put_card(
     queues: &mut Queues,
     card: Tracks,
 ) -> Result<(), Memory>
-    ensures touches { OnOk result ((s : State) → TouchesCard (at_card s slot.old connections.old queues.old) (CardEvent.Inserted card) (at_card s slot.new connections.new queues.new)) }
+    ensures touches { OnOk result (CardTakes (CardEvent.Inserted card) slot.old slot.new connections.old connections.new queues.old queues.new) }
     ensures memory { OnErr result ((slot.new ≡ slot.old) × (connections.new ≡ connections.old) × (queues.new ≡ queues.old)) }
 {
     match queues.at(Service::Card).running() {
@@ -51,7 +49,7 @@ fn put_card_for(
     card: Tracks,
 ) -> Result<(), Memory>
     requires { Some ticket ≡ option_map ticket_of (find (λ a. is_running a.stage) queues.old.card) }
-    ensures touches { OnOk result ((s : State) → TouchesCard (at_card s slot.old connections.old queues.old) (CardEvent.Inserted card) (at_card s slot.new connections.new queues.new)) }
+    ensures touches { OnOk result (CardTakes (CardEvent.Inserted card) slot.old slot.new connections.old connections.new queues.old queues.new) }
     ensures memory { OnErr result ((slot.new ≡ slot.old) × (connections.new ≡ connections.old) × (queues.new ≡ queues.old)) }
 {
     // Their clause tells that the ids differ.
@@ -83,7 +81,7 @@ pub(crate) fn take_card(
     connections: &mut Connections,
     queues: &Queues,
 ) -> Result<(), Memory>
-    ensures touches { OnOk result ((s : State) → TouchesCard (at_card s slot.old connections.old queues.now) CardEvent.Removed (at_card s slot.new connections.new queues.now)) }
+    ensures touches { OnOk result (CardTakes CardEvent.Removed slot.old slot.new connections.old connections.new queues.now queues.now) }
     ensures memory { OnErr result ((slot.new ≡ slot.old) × (connections.new ≡ connections.old)) }
 {
     // Their clause tells that the ids differ.
@@ -109,7 +107,7 @@ pub(crate) fn fail_card(
     slot: &mut CardState,
     queues: &mut Queues,
 ) -> Result<(), Memory>
-    ensures touches { OnOk result ((s : State) → TouchesCard (record s { slot = slot.old; queues = queues.old }) CardEvent.Fault (record s { slot = slot.new; queues = queues.new })) }
+    ensures touches { OnOk result (CardFails slot.old slot.new queues.old queues.new) }
     ensures memory { OnErr result ((slot.new ≡ slot.old) × (queues.new ≡ queues.old)) }
 {
     // Their clause tells that the ids differ.
@@ -132,7 +130,7 @@ pub(crate) fn press_key(
     queues: &mut Queues,
     key: KeyName,
 ) -> Result<(), Memory>
-    ensures touches { OnOk result ((s : State) → TouchesKeys (at_keys s keypad.old connections.old queues.old) (KeyEvent.Key key) (at_keys s keypad.new connections.new queues.new)) }
+    ensures touches { OnOk result (KeysTake (KeyEvent.Key key) keypad.old keypad.new connections.old connections.new queues.old queues.new) }
     ensures memory { OnErr result ((keypad.new ≡ keypad.old) × (connections.new ≡ connections.old) × (queues.new ≡ queues.old)) }
 {
     match queues.at(Service::Keys).running() {
@@ -154,7 +152,7 @@ fn press_key_for(
     key: KeyName,
 ) -> Result<(), Memory>
     requires { Some ticket ≡ option_map ticket_of (find (λ a. is_running a.stage) queues.old.keys) }
-    ensures touches { OnOk result ((s : State) → TouchesKeys (at_keys s keypad.old connections.old queues.old) (KeyEvent.Key key) (at_keys s keypad.new connections.new queues.new)) }
+    ensures touches { OnOk result (KeysTake (KeyEvent.Key key) keypad.old keypad.new connections.old connections.new queues.old queues.new) }
     ensures memory { OnErr result ((keypad.new ≡ keypad.old) × (connections.new ≡ connections.old) × (queues.new ≡ queues.old)) }
 {
     // Their clause tells that the ids differ.
@@ -186,7 +184,7 @@ pub(crate) fn fail_keys(
     keypad: &mut KeyState,
     queues: &mut Queues,
 ) -> Result<(), Memory>
-    ensures touches { OnOk result ((s : State) → TouchesKeys (record s { keypad = keypad.old; queues = queues.old }) KeyEvent.Fault (record s { keypad = keypad.new; queues = queues.new })) }
+    ensures touches { OnOk result (KeysFail keypad.old keypad.new queues.old queues.new) }
     ensures memory { OnErr result ((keypad.new ≡ keypad.old) × (queues.new ≡ queues.old)) }
 {
     // Their clause tells that the ids differ.
@@ -204,7 +202,7 @@ pub(crate) fn fail_keys(
 
 // The command that runs at a service has its result, if one runs.
 fn end_running(queues: &mut Queues, service: Service, outcome: Outcome)
-    ensures { (s : State) → IsHeard (record s { queues = queues.old }) service (running_at (record s { queues = queues.old }) service) (record { events = []; result = Some outcome }) (record s { queues = queues.new }) }
+    ensures { RunningHas service outcome queues.old queues.new }
 {
     match queues.at(service).running() {
         Some(ticket) => queues.set_result(service, ticket, outcome),

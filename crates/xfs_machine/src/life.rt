@@ -7,7 +7,7 @@ ghost use Rattle.xfs_guard.specs.Keeps.{Keeps, NoEntry, Proceeds};
 ghost use Rattle.xfs_guard.specs.Nonce.{live_in};
 ghost use Rattle.xfs_guard.specs.Upheld.{IsUpheld};
 ghost use Rattle.xfs_guard.specs.declared.open.Open.TheVariants.{No};
-ghost use Rattle.xfs_model.specs.Cases.{EndsLife};
+ghost use Rattle.xfs_machine.specs.Changes.{LifeEnds};
 ghost use Rattle.xfs_model.specs.State.{State};
 ghost use Rattle.xfs_model.specs.Work.{is_life_over};
 
@@ -48,7 +48,7 @@ pub(crate) fn expire<M: Mechanism, D: Disk>(
     requires none { guard.old.state.open_order ≡ No }
     requires live { live_in guard.old.state.boot_missing guard.old.state.records ≢ None }
     requires fit { unfit guard.old.state ≡ None }
-    ensures ends { OnOk result ((s : State) → EndsLife (record s { seen = seen D.Disk guard.old; connections = connections.old }) (record s { seen = seen D.Disk guard.new; connections = connections.new })) }
+    ensures ends { OnOk result (LifeEnds (seen D.Disk guard.old) (seen D.Disk guard.new) connections.old connections.new) }
     ensures memory { OnErr result ((guard.new ≡ guard.old) × (connections.new ≡ connections.old)) }
     ensures keeps { IsUpheld D.Disk guard.old → Keeps D.Disk NoEntry guard.old guard.new }
     ensures proceeds { Proceeds D.Disk guard.old guard.new }

@@ -18,6 +18,7 @@ use crate::notes_taken::is_shutter_closed;
 use crate::pass::{JoinFault, Pass};
 use crate::post::{Seat, take};
 use crate::queues::Queues;
+use crate::reading::Reading;
 use crate::tally::Tally;
 use std::alloc::Global;
 use std::marker::Model;
@@ -104,6 +105,24 @@ impl<M: Mechanism, D: Disk> Machine<M, D> {
         ensures guard { guard_of self.new ≡ guard_of self.old }
         ensures tally { tally.new ≡ record tally.old { posts = next_count tally.old.posts } }
     {
+        let reading = Reading::of(self.alloc, text);
+        self.post_read(pass, reading, now, tally)
+    }
+
+    /// Takes a text of a client that is read already.
+    pub fn post_read(
+        &mut self,
+        pass: &Pass,
+        reading: Reading<'_>,
+        now: Moment,
+        tally: &mut Tally,
+    ) -> Result<(), Memory>
+        requires { now.0 ≤ LAST_MOMENT }
+        ensures step { Step self.old.state (post pass.now reading.entry now) (posted result) self.new.state }
+        ensures laws { IsLawful self.old.state (post pass.now reading.entry now) (posted result) self.new.state }
+        ensures guard { guard_of self.new ≡ guard_of self.old }
+        ensures tally { tally.new ≡ record tally.old { posts = next_count tally.old.posts } }
+    {
         tally.count_post();
         let Some(service) = self.service_of(pass) else {
             return Ok(());
@@ -119,7 +138,7 @@ impl<M: Mechanism, D: Disk> Machine<M, D> {
             &mut self.connections,
             &mut self.queues,
             seat,
-            text,
+            reading,
             now,
         )?;
         self.moment = now;

@@ -7,13 +7,12 @@ ghost use Rattle.xfs_dispenser.specs.Seen.{seen};
 ghost use Rattle.xfs_guard.specs.Keeps.{Keeps, NoEntry, Proceeds};
 ghost use Rattle.xfs_guard.specs.Upheld.{IsUpheld};
 ghost use Rattle.xfs_guard.specs.declared.open.Open.TheVariants.{No};
+ghost use Rattle.xfs_machine.specs.Changes.{FirstOfNonces, NonceCleared, NonceDone};
 ghost use Rattle.xfs_machine.specs.Jobs.{ask_seen};
-ghost use Rattle.xfs_machine.specs.Parts.{HasNonceAsk, at_nonce_line};
-ghost use Rattle.xfs_model.specs.Cases.{TakesNonce};
-ghost use Rattle.xfs_model.specs.Guards.{NonceCommand};
+ghost use Rattle.xfs_machine.specs.Parts.{HasNonceAsk};
 ghost use Rattle.xfs_envelope.specs.declared.code.Code.TheVariants.{DeviceNotReady};
 ghost use Rattle.xfs_model.specs.Results.{plain, success};
-ghost use Rattle.xfs_model.specs.State.{State, clear, cleared as ended, issue};
+ghost use Rattle.xfs_model.specs.State.{clear, cleared as ended, issue};
 ghost use Rattle.xfs_queue.specs.Commands.{ticket_of, waits_on};
 ghost use Rattle.xfs_queue.specs.Queue.{IsQueue, IsWaiting};
 ghost use Rattle.xfs_queue.specs.declared.command.Line.TheVariants as Line;
@@ -40,7 +39,7 @@ pub(crate) fn take_first<M: Mechanism, D: Disk>(
     requires none { guard.old.state.open_order ≡ No }
     requires moment { now.0 ≤ LAST_MOMENT }
     requires asks { HasNonceAsk queues.old.cash }
-    ensures takes { OnOk result ((s : State) → TakesNonce (at_nonce_line s (seen D.Disk guard.old) issued.old now queues.old) (at_nonce_line s (seen D.Disk guard.new) issued.new now queues.new)) }
+    ensures takes { OnOk result (FirstOfNonces now (seen D.Disk guard.old) (seen D.Disk guard.new) issued.old issued.new queues.old queues.new) }
     ensures memory { OnErr result ((guard.new ≡ guard.old) × (issued.new ≡ issued.old) × (queues.new ≡ queues.old)) }
     ensures proceeds { Proceeds D.Disk guard.old guard.new }
     ensures keeps { IsUpheld D.Disk guard.old → Keeps D.Disk NoEntry guard.old guard.new }
@@ -78,7 +77,7 @@ fn done<M: Mechanism, D: Disk>(
 ) -> Result<Outcome, Memory>
     requires none { guard.old.state.open_order ≡ No }
     requires asks { (ask_seen ask.now ≡ issue) ⊎ (ask_seen ask.now ≡ clear) }
-    ensures done { IfOk result (λ o. (s : State) → NonceCommand (record s { seen = seen D.Disk guard.old; issued = issued.old; now = now }) (ask_seen ask.now) o (seen D.Disk guard.new) issued.new) }
+    ensures done { IfOk result (NonceDone (ask_seen ask.now) now (seen D.Disk guard.old) (seen D.Disk guard.new) issued.old issued.new) }
     ensures memory { OnErr result ((guard.new ≡ guard.old) × (issued.new ≡ issued.old)) }
     ensures proceeds { Proceeds D.Disk guard.old guard.new }
     ensures keeps { Keeps D.Disk NoEntry guard.old guard.new }
@@ -98,7 +97,7 @@ fn issue<M: Mechanism, D: Disk>(
     now: Moment,
 ) -> Result<Outcome, Memory>
     requires { guard.old.state.open_order ≡ No }
-    ensures done { IfOk result (λ o. (s : State) → NonceCommand (record s { seen = seen D.Disk guard.old; issued = issued.old; now = now }) issue o (seen D.Disk guard.new) issued.new) }
+    ensures done { IfOk result (NonceDone issue now (seen D.Disk guard.old) (seen D.Disk guard.new) issued.old issued.new) }
     ensures memory { OnErr result ((guard.new ≡ guard.old) × (issued.new ≡ issued.old)) }
     ensures proceeds { Proceeds D.Disk guard.old guard.new }
     ensures keeps { Keeps D.Disk NoEntry guard.old guard.new }
@@ -120,7 +119,7 @@ fn issue<M: Mechanism, D: Disk>(
 // Ends the live nonce, if there is one.
 fn clear<M: Mechanism, D: Disk>(alloc: Global, guard: &mut Guard<M, D>) -> Result<Outcome, Memory>
     requires { guard.old.state.open_order ≡ No }
-    ensures done { IfOk result (λ o. (s : State) → NonceCommand (record s { seen = seen D.Disk guard.old }) clear o (seen D.Disk guard.new) s.issued) }
+    ensures done { IfOk result (NonceCleared (seen D.Disk guard.old) (seen D.Disk guard.new)) }
     ensures memory { OnErr result (guard.new ≡ guard.old) }
     ensures proceeds { Proceeds D.Disk guard.old guard.new }
     ensures keeps { Keeps D.Disk NoEntry guard.old guard.new }

@@ -6,9 +6,8 @@ ghost use Rattle.xfs_guard.specs.CrashOutcomes.{MayTake};
 ghost use Rattle.xfs_guard.specs.Keeps.{Keeps, Proceeds};
 ghost use Rattle.xfs_machine.specs.declared.answer.Touched.TheVariants as Touched;
 ghost use Rattle.xfs_machine.specs.Answers.{touched_as};
+ghost use Rattle.xfs_machine.specs.Changes.{NotesAreTaken};
 ghost use Rattle.xfs_model.specs.Guards.{is_shutter_closed};
-ghost use Rattle.xfs_model.specs.State.{State};
-ghost use Rattle.xfs_model.specs.Touches.{TakesNotes};
 
 use crate::answer::Touched;
 use xfs_base::{Kind, Memory};
@@ -25,7 +24,7 @@ pub(crate) fn is_shutter_closed<M: Mechanism, D: Disk>(guard: &Guard<M, D>) -> b
 
 /// Takes the notes, where the shutter is open.
 pub(crate) fn take_notes<M: Mechanism, D: Disk>(guard: &mut Guard<M, D>) -> Result<Touched, Memory>
-    ensures takes { IfOk result (λ t. (s : State) → TakesNotes (record s { seen = seen D.Disk guard.old }) (touched_as (Ok t)) (record s { seen = seen D.Disk guard.new })) }
+    ensures takes { IfOk result (λ t. NotesAreTaken (seen D.Disk guard.old) (seen D.Disk guard.new) (touched_as (Ok t))) }
     ensures memory { OnErr result (guard.new ≡ guard.old) }
     ensures keeps { IfOk result (λ t. t ≢ Touched.Closed → Keeps D.Disk (MayTake guard.old.state) guard.old guard.new) }
     ensures closed { result ≡ Ok Touched.Closed → guard.new ≡ guard.old }

@@ -6,11 +6,10 @@ ghost use Rattle.xfs_envelope.specs.Messages.{IsPayload};
 ghost use Rattle.xfs_dispenser.specs.Seen.{seen};
 ghost use Rattle.xfs_guard.specs.Keeps.{Keeps, NoEntry, Proceeds};
 ghost use Rattle.xfs_guard.specs.Upheld.{IsUpheld};
+ghost use Rattle.xfs_machine.specs.Changes.{PlanGoesOn};
 ghost use Rattle.xfs_machine.specs.Jobs.{changed_at};
-ghost use Rattle.xfs_machine.specs.Parts.{MayStep, HasPlan, at_cash, with_job_plan, with_plan_kept, with_step};
-ghost use Rattle.xfs_model.specs.Cases.{WorksOnPlan};
+ghost use Rattle.xfs_machine.specs.Parts.{MayStep, HasPlan, with_job_plan, with_plan_kept, with_step};
 ghost use Rattle.xfs_model.specs.Guards.{is_live};
-ghost use Rattle.xfs_model.specs.State.{State};
 ghost use Rattle.xfs_queue.specs.Queue.{IsPending, command_at};
 
 use crate::job::{Job, Outcome};
@@ -32,7 +31,7 @@ pub(crate) fn work_on_plan<M: Mechanism, D: Disk>(
     queues: &mut Queues,
 ) -> Result<(), Memory>
     requires { HasPlan guard.old.state queues.old.cash }
-    ensures works { OnOk result ((s : State) → WorksOnPlan (at_cash s (seen D.Disk guard.old) queues.old) (at_cash s (seen D.Disk guard.new) queues.new)) }
+    ensures works { OnOk result (PlanGoesOn (seen D.Disk guard.old) (seen D.Disk guard.new) queues.old queues.new) }
     ensures memory { OnErr result ((guard.new.state ≡ guard.old.state) × (queues.new ≡ queues.old)) }
     ensures proceeds { Proceeds D.Disk guard.old guard.new }
     ensures keeps { OnOk result (Keeps D.Disk (MayStep guard.old.state queues.old.cash) guard.old guard.new) }

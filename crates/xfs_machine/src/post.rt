@@ -20,11 +20,12 @@ use crate::connections::Connections;
 use crate::immediate::do_at_once;
 use crate::job::Job;
 use crate::queues::Queues;
+use crate::reading::Reading;
 use std::alloc::Global;
 use xfs_base::{Bytes, ClientId, Memory, Moment, Service};
 use xfs_conversation::is_request_id;
 use xfs_disk::Disk;
-use xfs_envelope::{Envelope, Refuse, Status, Why, acknowledge, read};
+use xfs_envelope::{Envelope, Refuse, Status, Why, acknowledge};
 use xfs_guard::Guard;
 use xfs_mech::Mechanism;
 use xfs_queue::{Command, Line, Queue, Ticket};
@@ -43,16 +44,16 @@ pub(crate) fn take<M: Mechanism, D: Disk>(
     connections: &mut Connections,
     queues: &mut Queues,
     seat: Seat,
-    text: &[u8],
+    reading: Reading<'_>,
     now: Moment,
 ) -> Result<(), Memory>
     requires { now.0 ≤ LAST_MOMENT }
     ensures ok { OnOk result ((s : State) (k : ConnectionView) → IsSeen now seat s k → s.seen.guard ≡ guard.now.state
-        → Takes (with_both s connections.old queues.old) k (command_in text.now) (with_both s connections.new queues.new)) }
+        → Takes (with_both s connections.old queues.old) k (command_in reading.entry) (with_both s connections.new queues.new)) }
     ensures connections { OnErr result (connections.new ≡ connections.old) }
     ensures queues { OnErr result (queues.new ≡ queues.old) }
 {
-    match read(alloc, text) {
+    match reading.outcome() {
         Ok(command) => take_command(alloc, guard, connections, queues, seat, command, now),
         Err(refuse) => {
             if refuse.why == Why::Memory {

@@ -3,9 +3,8 @@
 ghost use Rattle.std.specs.Prelude.{◌≡◌, ◌≤◌, ◌||◌, ◌&&◌, true, find, IfSome, OnErr, OnOk, option_map};
 ghost use Rattle.std.specs.List.{list_any};
 ghost use Rattle.xfs_base.specs.declared.moment.TheConstants.{LAST_MOMENT};
-ghost use Rattle.xfs_model.specs.Cases.{IsTooLate, Stops};
-ghost use Rattle.xfs_model.specs.Devices.{device_stopped};
-ghost use Rattle.xfs_model.specs.State.{State, queue_of};
+ghost use Rattle.xfs_machine.specs.Changes.{DeviceStops, FirstIsTooLate, WaitEnds};
+ghost use Rattle.xfs_model.specs.State.{queue_of};
 ghost use Rattle.xfs_queue.specs.Commands.{is_due, is_running, ticket_of, waits_on};
 ghost use Rattle.xfs_queue.specs.Queue.{IsPending, IsQueue};
 ghost use Rattle.xfs_queue.specs.declared.command.Line.TheVariants as Line;
@@ -24,7 +23,7 @@ use xfs_queue::{Command, Queue, Stage};
 pub(crate) fn time_out(alloc: Global, queues: &mut Queues, service: Service, now: Moment)
     requires moment { now.0 ≤ LAST_MOMENT }
     requires some { list_any (λ a. waits_on Line.Device a && is_due now a) (queue_of queues.old service) ≡ true }
-    ensures { (s : State) → IsTooLate (record s { now = now; queues = queues.old }) service (record s { now = now; queues = queues.new }) }
+    ensures { FirstIsTooLate now service queues.old queues.new }
 {
     let Some(ticket) = queues.at(service).expire(now) else {
         unreachable!()
@@ -42,7 +41,7 @@ pub(crate) fn stop_running(
     now: Moment,
 ) -> Result<(), Memory>
     requires { list_any (λ a. is_running a.stage && (a.marked || is_due now a)) (queue_of queues.old service) ≡ true }
-    ensures stops { OnOk result ((s : State) → Stops (record s { now = now; slot = slot.old; keypad = keypad.old; queues = queues.old }) service (record s { now = now; slot = slot.new; keypad = keypad.new; queues = queues.new })) }
+    ensures stops { OnOk result (DeviceStops now service slot.old slot.new keypad.old keypad.new queues.old queues.new) }
     ensures memory { OnErr result ((slot.new ≡ slot.old) × (keypad.new ≡ keypad.old) × (queues.new ≡ queues.old)) }
 {
     let Some(command) = running(queues.at(service)) else {
@@ -78,7 +77,7 @@ fn forget(
     keypad: &mut KeyState,
     service: Service,
 ) -> Result<(), Memory>
-    ensures ok { OnOk result ((s : State) → record s { slot = slot.new; keypad = keypad.new } ≡ device_stopped (record s { slot = slot.old; keypad = keypad.old }) service) }
+    ensures ok { OnOk result (WaitEnds service slot.old slot.new keypad.old keypad.new) }
     ensures memory { OnErr result ((slot.new ≡ slot.old) × (keypad.new ≡ keypad.old)) }
 {
     match service {
