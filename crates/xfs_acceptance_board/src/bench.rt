@@ -81,6 +81,7 @@ pub fn link_of(
 // A session over the link, which leaves the machine at its end.
 fn served<N: LockName, R: Wait, C: Clock>(
     rt: &R,
+    alloc: Global,
     turn: &Turn<Shared>,
     seat: Seat<Shared>,
     service: Service,
@@ -94,7 +95,7 @@ fn served<N: LockName, R: Wait, C: Clock>(
     let mut caller: Caller<'_, N, _, _, R> = Caller::new(rt, turn, seat);
     let pass = joined(&mut caller, service)?;
     let client = pass.client();
-    let mut board = ClientBoard::new(caller, pass, clock);
+    let mut board = ClientBoard::new(alloc, caller, pass, clock);
     let over = serve_client(link, &mut board, &OpenGate, clock, client);
     Some((over, board.leave().into_seat()))
 }
@@ -108,7 +109,7 @@ pub fn ended<R: Wait, C: Clock>(
     clock: &C,
 ) -> Result<(Over, u32), Fail> {
     let (turn, seat) = opened(alloc)?;
-    let ended = served::<Brand, _, _>(rt, &turn, seat, service, link, clock);
+    let ended = served::<Brand, _, _>(rt, alloc, &turn, seat, service, link, clock);
     let (over, seat) = ended.ok_or("a session")?;
     let machine = close(rt, turn, seat);
     Ok((over, machine.open_count()))

@@ -10,7 +10,7 @@ use std::sync::Wait;
 use std::test::Fail;
 use xfs_base::{Moment, Service};
 use xfs_board::{Caller, LockName, close};
-use xfs_machine::Work;
+use xfs_machine::{Reading, Work};
 use xfs_turn::{Seat, Turn};
 
 const GET_NONCE: &str =
@@ -34,6 +34,7 @@ struct Report {
 // One caller has a nonce issued, and the other fetches the frames.
 fn issued_and_fetched<N: LockName, R: Wait>(
     rt: &R,
+    alloc: Global,
     turn: &Turn<Shared>,
     seat: Seat<Shared>,
 ) -> Result<Report, Fail>
@@ -44,7 +45,7 @@ fn issued_and_fetched<N: LockName, R: Wait>(
     let mut one: Caller<'_, N, _, _, R> = Caller::new(rt, turn, seat);
     let mut two = one.split()?;
     let pass = joined(&mut one, Service::Cash).ok_or("a connection")?;
-    one.post(&pass, GET_NONCE.as_bytes(), Moment(0))?;
+    one.post(&pass, Reading::of(alloc, GET_NONCE.as_bytes()), Moment(0))?;
     let issues = one.work(Service::Cash, Moment(0))?;
     let answers = one.work(Service::Cash, Moment(0))?;
     let before = two.split()?.into_seat().seen();
@@ -63,7 +64,7 @@ fn issued_and_fetched<N: LockName, R: Wait>(
 // What is told of the journal, before and after, and what is left at the end.
 fn is_found<R: Wait + Abort>(rt: &R, alloc: Global) -> Result<(), Fail> {
     let (turn, seat) = opened(alloc)?;
-    let report = issued_and_fetched::<Brand, _>(rt, &turn, seat)?;
+    let report = issued_and_fetched::<Brand, _>(rt, alloc, &turn, seat)?;
     assert_eq!(rt; report.before, 2);
     assert_eq!(rt; report.after, 3);
     assert!(rt; report.handed);

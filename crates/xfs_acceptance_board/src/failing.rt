@@ -26,6 +26,7 @@ struct Report {
 // Two clients connect; a session is served over the one's link and then over the other's, and both leave.
 fn both_served<N: LockName, R: Wait>(
     rt: &R,
+    alloc: Global,
     turn: &Turn<Shared>,
     seat: Seat<Shared>,
     first: &mut MemLink,
@@ -41,8 +42,8 @@ fn both_served<N: LockName, R: Wait>(
     let card = joined(&mut one, Service::Card).ok_or("a connection")?;
     let cash = joined(&mut two, Service::Cash).ok_or("a second connection")?;
     let (card_client, cash_client) = (card.client(), cash.client());
-    let mut card = ClientBoard::new(one, card, &clock);
-    let mut cash = ClientBoard::new(two, cash, &clock);
+    let mut card = ClientBoard::new(alloc, one, card, &clock);
+    let mut cash = ClientBoard::new(alloc, two, cash, &clock);
     let first = serve_client(first, &mut card, &OpenGate, &clock, card_client);
     let second = serve_client(second, &mut cash, &OpenGate, &clock, cash_client);
     let mut one = card.leave();
@@ -65,7 +66,7 @@ fn fails_alone<R: Wait>(
     let (turn, seat) = opened(alloc)?;
     let mut first = link_of(alloc, &[READ_FOR_100, STATUS_2], takes, gives)?;
     let mut second = link_of(alloc, &[STATUS_2], &[], &[])?;
-    let report = both_served::<Brand, _>(rt, &turn, seat, &mut first, &mut second)?;
+    let report = both_served::<Brand, _>(rt, alloc, &turn, seat, &mut first, &mut second)?;
     let machine = close(rt, turn, report.seat);
     Ok(
         report.first == Over::Failed

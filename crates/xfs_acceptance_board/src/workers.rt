@@ -10,6 +10,7 @@ use std::sync::atomic::{AtomicBool, Ordering};
 use std::test::Fail;
 use xfs_base::{Bytes, Clock, Moment, Service};
 use xfs_board::{Caller, DeviceBoard, LockName, close};
+use xfs_machine::Reading;
 use xfs_mech::{KeyName, SimWatch, Touch, Tracks};
 use xfs_server::{Over2, tend};
 use xfs_turn::{Seat, Turn};
@@ -122,6 +123,7 @@ struct Report {
 // A command is posted, and the worker of its service works until it has nothing to do.
 fn tended<N: LockName, R: Wait>(
     rt: &R,
+    alloc: Global,
     turn: &Turn<Shared>,
     seat: Seat<Shared>,
     case: &Case,
@@ -133,7 +135,7 @@ fn tended<N: LockName, R: Wait>(
 {
     let mut caller: Caller<'_, N, _, _, R> = Caller::new(rt, turn, seat);
     let pass = joined(&mut caller, case.service).ok_or("a connection")?;
-    caller.post(&pass, case.text.as_bytes(), Moment(0))?;
+    caller.post(&pass, Reading::of(alloc, case.text.as_bytes()), Moment(0))?;
     let clock = LastClock {
         ended: AtomicBool::new(false),
     };
@@ -152,7 +154,7 @@ fn tended<N: LockName, R: Wait>(
 fn is_handed<R: Wait>(rt: &R, alloc: Global, case: &Case) -> Result<bool, Fail> {
     let (turn, seat) = opened(alloc)?;
     let mut watch = watch_of(alloc, case.told)?;
-    let report = tended::<Brand, _>(rt, &turn, seat, case, &mut watch)?;
+    let report = tended::<Brand, _>(rt, alloc, &turn, seat, case, &mut watch)?;
     let machine = close(rt, turn, report.seat);
     Ok(report.over == Over2::Done && are(&report.frames, case.frames) && machine.open_count() == 1)
 }

@@ -4,6 +4,7 @@ use denote.Ref.{NamedLft}
 use denote.Param.Send.{IsSend, IsSync, plain_send, shr_send, struct_send, recorded_send, view_send, sendable}
 use denote.Struct.Declared.{shape}
 use Rattle.std.proofs.Crossing as owned
+use Rattle.std.proofs.alloc.Global.TheSendSync as heap
 use Rattle.std.proofs.marker.PhantomData.TheSendSync as phantom
 use Rattle.std.proofs.option.Option.TheSendSync as optional
 use Rattle.xfs_base.proofs.moment.Service.TheSendSync as service
@@ -59,7 +60,7 @@ module _ (a : NamedLft) (N M D R : RattleType) (n : LockName.Ghosts N.Denot) (m 
         let fields = in_client.the_type a N M D R C n m d in
         view_send (in_client.the_row a N M D R C n m d) _ _ _ _
         (recorded_send (in_client.the_field a N M D R C n m d).row _ _ fields.to_one
-        (struct_send (shape fields) (caller_send, (pass.the_send, (shr_send _ _ _ yc, tt)))))
+        (struct_send (shape fields) (heap.the_field_send, (caller_send, (pass.the_send, (shr_send _ _ _ yc, tt))))))
 
     pub device_send : IsSend (device.the_row a N M D R C n m d)
     device_send =

@@ -15,7 +15,7 @@ use std::marker::{Brand, Model, PhantomData};
 use std::sync::Wait;
 use xfs_base::{Memory, Moment, Service};
 use xfs_disk::Disk;
-use xfs_machine::{Frames, JoinFault, Pass, Tally, Touched, Work};
+use xfs_machine::{Frames, JoinFault, Pass, Reading, Tally, Touched, Work};
 use xfs_mech::{Mechanism, Touch};
 use xfs_turn::{Chronicle, Seat, Turn};
 
@@ -127,14 +127,14 @@ impl<'a, N: LockName, M: Mechanism, D: Disk, R: Wait> Caller<'a, N, M, D, R> {
         result
     }
 
-    /// Takes a text of a client.
-    pub fn post(&mut self, pass: &Pass, text: &[u8], now: Moment) -> Result<(), Memory>
+    /// Takes a text of a client, which was read before the turn: others need not wait while it is read.
+    pub fn post(&mut self, pass: &Pass, reading: Reading<'_>, now: Moment) -> Result<(), Memory>
         requires { now.0 ≤ LAST_MOMENT }
-        ensures turn { IsTurn self.old.seen self.new.seen (event.post pass.now text.now now) (posted result) }
+        ensures turn { IsTurn self.old.seen self.new.seen (event.post pass.now reading.entry now) (posted result) }
         ensures tally { self.new.tally ≡ record self.old.tally { posts = next_count self.old.tally.posts } }
     {
         let mut held = self.turn.enter(self.rt, take(&mut self.seat));
-        let result = held.value().post(pass, text, now, &mut self.tally);
+        let result = held.value().post(pass, reading, now, &mut self.tally);
         self.seat = Some(self.turn.leave(held));
         result
     }

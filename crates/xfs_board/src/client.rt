@@ -7,11 +7,12 @@ ghost use Rattle.xfs_machine.specs.Answers.{worked};
 ghost use Rattle.xfs_model.specs.Events as event;
 
 use crate::caller::{Caller, LockName};
+use std::alloc::Global;
 use std::marker::Model;
 use std::sync::Wait;
 use xfs_base::{Bytes, Clock, Memory};
 use xfs_disk::Disk;
-use xfs_machine::{Pass, Work};
+use xfs_machine::{Pass, Reading, Work};
 use xfs_mech::Mechanism;
 use xfs_server::{Board, Work2};
 
@@ -19,6 +20,7 @@ use xfs_server::{Board, Work2};
 /// called once with the connection's pass and the clock's moment.
 #[derive(Drop)]
 pub struct ClientBoard<'a, N: LockName, M: Mechanism, D: Disk, R: Wait, C: Clock> {
+    alloc: Global,
     caller: Caller<'a, N, M, D, R>,
     pass: Pass,
     clock: &'a C,
@@ -36,6 +38,7 @@ impl<'a, N: LockName, M: Mechanism, D: Disk, R: Wait, C: Clock> Model
 impl<'a, N: LockName, M: Mechanism, D: Disk, R: Wait, C: Clock> ClientBoard<'a, N, M, D, R, C> {
     /// The board of the connection with this pass.
     pub fn new(
+        alloc: Global,
         caller: Caller<'a, N, M, D, R>,
         pass: Pass,
         clock: &'a C,
@@ -43,6 +46,7 @@ impl<'a, N: LockName, M: Mechanism, D: Disk, R: Wait, C: Clock> ClientBoard<'a, 
         ensures { result ≡ record { caller = caller.entry; pass = pass } }
     {
         ClientBoard {
+            alloc,
             caller,
             pass,
             clock,
@@ -55,6 +59,7 @@ impl<'a, N: LockName, M: Mechanism, D: Disk, R: Wait, C: Clock> ClientBoard<'a, 
         ensures tally { result.tally ≡ self.entry.caller.tally }
     {
         let ClientBoard {
+            alloc: _,
             mut caller,
             pass,
             clock: _,
@@ -82,8 +87,9 @@ impl<'a, N: LockName, M: Mechanism, D: Disk, R: Wait, C: Clock> Board
         ensures turn { (now : Moment) × IsTurn self.old.caller.seen self.new.caller.seen (event.post self.old.pass text.now now) (posted result) }
         ensures pass { self.new.pass ≡ self.old.pass }
     {
+        let reading = Reading::of(self.alloc, text);
         let now = self.clock.now();
-        self.caller.post(&self.pass, text, now)
+        self.caller.post(&self.pass, reading, now)
     }
 
     fn turn(&mut self) -> Result<Work2, Memory>

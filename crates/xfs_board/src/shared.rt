@@ -22,7 +22,7 @@ use xfs_base::{Memory, Moment, Service};
 use xfs_disk::Disk;
 use xfs_guard::Guard;
 use xfs_journal::Rec;
-use xfs_machine::{Frames, JoinFault, Machine, Pass, Tally, Touched, Work};
+use xfs_machine::{Frames, JoinFault, Machine, Pass, Reading, Tally, Touched, Work};
 use xfs_mech::{Mechanism, Touch};
 use xfs_turn::{Chronicle, Seat, Turn};
 
@@ -112,17 +112,17 @@ impl<M: Mechanism, D: Disk> SharedMachine<M, D> {
     pub(crate) fn post(
         &mut self,
         pass: &Pass,
-        text: &[u8],
+        reading: Reading<'_>,
         now: Moment,
         tally: &mut Tally,
     ) -> Result<(), Memory>
         requires { now.0 ≤ LAST_MOMENT }
-        ensures step { Step self.old.machine.state (event.post pass.now text.now now) (posted result) self.new.machine.state }
-        ensures laws { IsLawful self.old.machine.state (event.post pass.now text.now now) (posted result) self.new.machine.state }
+        ensures step { Step self.old.machine.state (event.post pass.now reading.entry now) (posted result) self.new.machine.state }
+        ensures laws { IsLawful self.old.machine.state (event.post pass.now reading.entry now) (posted result) self.new.machine.state }
         ensures grown { IsPrefix (chronicle {M = M} self.old) (chronicle self.new) }
         ensures tally { tally.new ≡ record tally.old { posts = next_count tally.old.posts } }
     {
-        self.machine.post(pass, text, now, tally)
+        self.machine.post_read(pass, reading, now, tally)
     }
 
     pub(crate) fn touch(&mut self, touch: Touch, tally: &mut Tally) -> Result<Touched, Memory>

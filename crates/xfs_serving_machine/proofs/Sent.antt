@@ -4,6 +4,7 @@ use denote.Ref.{NamedLft}
 use denote.Param.Send.{IsSend, IsSync, shr_send, struct_send, recorded_send, sendable}
 use denote.Struct.Declared.{shape}
 use Rattle.std.proofs.Crossing as owned
+use Rattle.std.proofs.alloc.Global.TheSendSync as heap
 use Rattle.xfs_board.proofs.Sent.{caller_send}
 use Rattle.xfs_board.specs.declared.caller.LockName as LockName
 use Rattle.xfs_disk.specs.declared.disk.Disk as Disk
@@ -15,4 +16,4 @@ module _ (a : NamedLft) (N M D R C : RattleType) (n : LockName.Ghosts N.Denot) (
   backend_send sm sd yr yc =
       let fields = backend.the_type a N M D R C n m d in
       recorded_send (backend.the_field a N M D R C n m d).row _ _ fields.to_one
-      (struct_send (shape fields) (caller_send a N M D R n m d sm sd yr, (shr_send _ _ _ yc, ((search (owned.crosses, sendable) depth 20), tt))))
+      (struct_send (shape fields) (heap.the_field_send, (caller_send a N M D R n m d sm sd yr, (shr_send _ _ _ yc, ((search (owned.crosses, sendable) depth 20), tt)))))

@@ -3,6 +3,7 @@
 ghost use Rattle.std.specs.Prelude.{◌≡◌};
 ghost use mathlib.Core.List.{IsPrefix};
 
+use std::alloc::Global;
 use std::sync::Wait;
 use std::sync::atomic::{AtomicBool, Ordering};
 use xfs_base::{ClientId, Clock, Memory, Service};
@@ -16,6 +17,7 @@ use xfs_turn::Seat;
 /// The caller of the loop at the doors, from which those of the sessions and the workers are split.
 #[derive(Drop)]
 pub(crate) struct MachineBackend<'a, N: LockName, M: Mechanism, D: Disk, R: Wait, C: Clock> {
+    pub alloc: Global,
     pub caller: Caller<'a, N, M, D, R>,
     pub clock: &'a C,
     // Raised once no further connection is taken and all sessions have ended.
@@ -65,7 +67,13 @@ impl<
             return Err(Refusal::Memory);
         };
         match caller.join(service) {
-            Ok(pass) => Ok((pass.client(), ClientBoard::new(caller, pass, self.clock))),
+            Ok(pass) => {
+                let client = pass.client();
+                Ok((
+                    client,
+                    ClientBoard::new(self.alloc, caller, pass, self.clock),
+                ))
+            }
             Err(fault) => {
                 self.caller.merge(caller);
                 Err(refusal_of(fault))
@@ -105,6 +113,7 @@ impl<'a, N: LockName, M: Mechanism, D: Disk, R: Wait, C: Clock> MachineBackend<'
         ensures seen { result.seen ≡ self.entry.caller.seen }
     {
         let MachineBackend {
+            alloc: _,
             caller,
             clock: _,
             ended: _,

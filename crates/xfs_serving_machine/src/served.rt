@@ -106,6 +106,7 @@ fn serve_at<
 {
     let ended = AtomicBool::new(false);
     let backend: MachineBackend<N, M, D, R, C> = MachineBackend {
+        alloc,
         caller: Caller::new(rt, turn, seat),
         clock,
         ended: &ended,

@@ -10,11 +10,11 @@ pub invariant_of-self : goal.invariant_of-self
 invariant_of-self g c =
     let start = guard_of c.self.inside.start.value in
     let before = subst (λ m. Proceeds g.D.Disk start (guard_of m)) (sym c.deref_mut.ensures.value) c.self.invariant in
-    subst (λ v. Proceeds g.D.Disk start v) (sym c.post.ensures.guard) before
+    subst (λ v. Proceeds g.D.Disk start v) (sym c.post_read.ensures.guard) before
 
 pub returns-clause-grown : goal.returns-clause-grown
 returns-clause-grown g c =
     let found : Shared g.row.D.Denot = record { start = guard_of c.self.inside.start.value; machine = c.deref_mut.result.now } in
-    let left : Shared g.row.D.Denot = record { start = found.start; machine = c.post.new.self } in
+    let left : Shared g.row.D.Denot = record { start = found.start; machine = c.post_read.new.self } in
     let entered = subst (λ m. record { start = found.start; machine = m } ≡ c.args.self.now) (sym c.deref_mut.ensures.value) c.self.view_is in
-    subst (λ s. IsPrefix (chronicle {M = g.row.M.Denot} s) (chronicle left)) entered (grows found left _ _ refl c.post.ensures.laws)
+    subst (λ s. IsPrefix (chronicle {M = g.row.M.Denot} s) (chronicle left)) entered (grows found left _ _ refl c.post_read.ensures.laws)
