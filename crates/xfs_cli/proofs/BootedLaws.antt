@@ -16,7 +16,8 @@ use Rattle.xfs_cli.specs.Statuses.{HasFullRestart}
 use Rattle.xfs_guard.specs.declared.fail.BootFault.{BootFault}
 use Rattle.xfs_guard.specs.declared.fail.BootFault.TheVariants.{NotJournal, Disk, Full, Memory as BootMemory}
 use Rattle.xfs_cli.specs.Restarts.{EndsRestart, HasNoRoom, IsFull, RestartCause}
-use Rattle.xfs_cli.specs.GuardStarts.{AtEntry, IsStart, opened}
+use Rattle.xfs_guard.specs.Entries.{AtEntry, opened}
+use Rattle.xfs_cli.specs.GuardStarts.{IsStart}
 use Rattle.xfs_cli.specs.Runs.{IsEnd, IsFullAtEnd, IsStillAt}
 use Rattle.xfs_cli.specs.Streams.{Streams}
 use Rattle.xfs_cli.specs.Returns.{Return}

@@ -18,7 +18,7 @@ use Rattle.xfs_guard.specs.declared.machine_core.Core.{Core}
 use Rattle.xfs_machine.specs.MachineView.{MachineView, guard_of}
 use Rattle.xfs_model.specs.State.{State, bare}
 use Rattle.xfs_cli.specs.Boots.{BootExceeds, IsNoJournal, WritesBoot, boot_status}
-use Rattle.xfs_cli.specs.GuardStarts.{at_entry, opened}
+use Rattle.xfs_guard.specs.Entries.{at_entry, opened}
 use Rattle.xfs_load.specs.Summaries.{IsSummary, summary_line}
 use Rattle.xfs_load.specs.declared.summary.Summary.{Summary}
 use Rattle.xfs_script.specs.Answered.{lines_text}

@@ -19,7 +19,7 @@ use Rattle.xfs_script.specs.Commands.{Command}
 use Rattle.xfs_script.specs.Lines.{AllLines, StopsAtLine}
 use Rattle.xfs_cli.specs.BootLines.{IsOfBoot}
 use Rattle.xfs_cli.specs.Boots.{IsNoJournal, WritesBoot, boot_status}
-use Rattle.xfs_cli.specs.GuardStarts.{at_entry, opened}
+use Rattle.xfs_guard.specs.Entries.{at_entry, opened}
 use Rattle.xfs_cli.specs.Restarts.{IsFull}
 use Rattle.xfs_cli.specs.Runs.{IsFullAtEnd, Runs}
 use Rattle.xfs_cli.specs.GuardStates.{GuardState, guard_state}

@@ -7,13 +7,14 @@ use Rattle.xfs_mech.specs.declared.motion.Motion.TheVariants.{Loaded}
 use Rattle.xfs_mech.specs.declared.motion.Outcome.{Outcome}
 use Rattle.xfs_guard.specs.Fits.{unfit}
 use Rattle.xfs_guard.specs.Reports.{HasReported}
+use Rattle.xfs_guard.specs.declared.ask.Ask.{Ask}
 use Rattle.xfs_dispenser.specs.Carried.{StacksFirst}
 use Rattle.xfs_dispenser.specs.declared.leave.Leave.{Leave}
 use Rattle.xfs_script.specs.Guard.{IsGuardLine}
 use Rattle.xfs_script.specs.declared.guard_line.GuardLine.{GuardLine}
 use Rattle.xfs_script.specs.declared.guard_line.GuardLine.TheVariants.{Dispense, Fill, Restart}
 use Rattle.xfs_cli.specs.GuardStates.{GuardState, Becomes, guard_of}
-use Rattle.xfs_cli.specs.Moves.{MechCalled}
+use Rattle.xfs_cli.specs.Moves.{MechCalled, Moves}
 use Rattle.xfs_cli.specs.Dispenses.{IsAllowed, named}
 use Rattle.xfs_cli.specs.GuardVerbs.{AnswersGuard, IsAnswer, IsLoaded}
 use Rattle.xfs_cli.specs.Restarts.{RestartFails}
@@ -24,7 +25,11 @@ use Rattle.xfs_script.specs.declared.feed.TheConstants.{LONGEST_LINE}
 abbrev pub AllOrNothing : (List ℕ → GuardState → Type 0) → GuardState → GuardState → Type 0
 AllOrNothing Answer s end = (end ≡ s) ⊎ ((line : List ℕ) × Answer line end)
 
--- the same of a verb
+-- the same of an order of all the notes of a place
+abbrev pub MovesOrNot : GuardState → Ask → GuardState → Type 0
+MovesOrNot s ask end = AllOrNothing (Moves s ask) s end
+
+-- and of a verb
 abbrev pub WholeOrNone : GuardState → GuardLine → GuardState → Type 0
 WholeOrNone s verb end = AllOrNothing (IsAnswer s verb) s end
 

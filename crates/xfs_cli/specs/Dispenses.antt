@@ -1,5 +1,5 @@
 -- The line `dispense`: the leave to stack its notes, and its orders, rising by unit.
-use Rattle.std.specs.Prelude.{◌≡◌, ◌⊎◌, ℕ, List, codes, Some, Ok, Err}
+use Rattle.std.specs.Prelude.{◌≡◌, ◌≢◌, ◌⊎◌, ℕ, List, codes, Some, Ok, Err}
 use Rattle.std.specs.declared.option.Option.{Option}
 use Rattle.std.specs.declared.result.Result.{Result}
 use Rattle.xfs_base.specs.declared.counts.Counts.{Counts as CountsOf}
@@ -11,6 +11,7 @@ use Rattle.xfs_dispenser.specs.declared.leave.Leave.{Leave}
 use Rattle.xfs_dispenser.specs.declared.named.Named.TheVariants.{These}
 use Rattle.xfs_dispenser.specs.declared.notes.Notes.TheVariants.{Individual}
 use Rattle.xfs_dispenser.specs.declared.refusal.Refusal.{Refusal}
+use Rattle.xfs_dispenser.specs.declared.refusal.Refusal.TheVariants.{Memory as Unremembered}
 use Rattle.xfs_script.specs.declared.guard_line.Given.{Given}
 use Rattle.xfs_script.specs.declared.guard_line.Given.TheVariants.{Last, Text}
 use Rattle.xfs_cli.specs.Refused.{refusal_text}
@@ -31,6 +32,10 @@ pub record IsAllowed (s : GuardState) (token : Option (List ℕ)) (counts : Coun
 abbrev pub IsAllowedFor : GuardState → Given → CountsOf → Result Leave Refusal → GuardState → Type 0
 IsAllowedFor s given counts result next = IsAllowed s (named s.last given) counts result next
 
+-- where it is no want of memory, this holds
+abbrev pub IfRemembered : Result Leave Refusal → Type 0 → Type 0
+IfRemembered result Then = result ≢ Err Unremembered → Then
+
 -- the orders of a dispense that is allowed, and its answer: what was stacked, or what the order that ended it is refused for
 pub record IsOrdered (s : GuardState) (token : Option (List ℕ)) (counts : CountsOf) (line : List ℕ) (next : GuardState) : Type 0 where
   pub leave : Leave
@@ -50,3 +55,7 @@ pub record IsRefusedEarly (s : GuardState) (token : Option (List ℕ)) (counts :
 -- the answer to `dispense`
 abbrev pub Dispenses : GuardState → Option (List ℕ) → CountsOf → List ℕ → GuardState → Type 0
 Dispenses s token counts line next = IsRefusedEarly s token counts line next ⊎ IsOrdered s token counts line next
+
+-- the same of a token as a line gives it
+abbrev pub DispensesFor : GuardState → Given → CountsOf → List ℕ → GuardState → Type 0
+DispensesFor s given counts line next = Dispenses s (named s.last given) counts line next

@@ -4,7 +4,8 @@ use Rattle.xfs_disk.specs.declared.disk.Disk.{Ghosts as Disks}
 use Rattle.xfs_mech.specs.declared.mechanism.Mechanism.{Ghosts as Mechanisms}
 use Rattle.xfs_guard.specs.declared.machine_core.Core.{Core}
 use Rattle.xfs_cli.specs.GuardCommand.{guard_lines}
-use Rattle.xfs_cli.specs.GuardStarts.{IsStart, at_entry}
+use Rattle.xfs_guard.specs.Entries.{at_entry}
+use Rattle.xfs_cli.specs.GuardStarts.{IsStart}
 use Rattle.xfs_cli.specs.Runs.{Runs}
 use Rattle.xfs_cli.specs.GuardStates.{GuardState}
 use Rattle.xfs_cli.specs.Streams.{Streams}

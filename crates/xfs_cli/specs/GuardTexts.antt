@@ -1,8 +1,10 @@
 -- What the lines of `guard` are answered: the notes that were moved or taken, and the six places of each unit.
-use Rattle.std.specs.Prelude.{ℕ, zero, suc, ◌+◌, Bool, true, false, List, [], ◌∷◌, ◌++◌, codes, decimal}
+use Rattle.std.specs.Prelude.{ℕ, zero, suc, ◌+◌, Bool, true, false, List, [], ◌∷◌, ◌++◌, codes, decimal, length}
 use Rattle.xfs_base.specs.Counts.{at}
 use Rattle.xfs_base.specs.declared.counts.Places.{Places}
 use Rattle.xfs_mech.specs.declared.motion.Outcome.{Outcome}
+use Rattle.xfs_guard.specs.View.{View}
+use Rattle.xfs_script.specs.Answered.{lines_text}
 use Rattle.xfs_script.specs.Counts.{counts_text}
 
 -- `fault` where the mechanism failed
@@ -32,3 +34,7 @@ unit_line p u = codes "unit" ++ decimal (u + 1) ++ unit_counts p u
 abbrev pub show_lines : ℕ → Places → List (List ℕ)
 show_lines zero p = []
 show_lines (suc u) p = show_lines u p ++ unit_line p u ∷ []
+
+-- the answer to `show`
+abbrev pub shown : View → List ℕ
+shown v = lines_text (show_lines (length v.units) v.places)

@@ -21,7 +21,7 @@ use Rattle.xfs_cli.specs.GuardTexts.{outcome_text, show_lines}
 use Rattle.xfs_cli.specs.GuardStates.{GuardState}
 use Rattle.xfs_cli.specs.OneRecord.{IsRefused, WritesOne, WritesNone}
 use Rattle.xfs_cli.specs.Moves.{MechCalled, Moves}
-use Rattle.xfs_cli.specs.Dispenses.{Dispenses, named}
+use Rattle.xfs_cli.specs.Dispenses.{DispensesFor}
 use Rattle.xfs_cli.specs.Restarts.{Restarts}
 use Rattle.xfs_common.specs.declared.error.ErrorCode.TheVariants.{InvalidUnit, StorageFull}
 use Rattle.xfs_dispenser.specs.declared.refusal.Refusal.{Refusal}
@@ -98,7 +98,7 @@ IsAnswer s Skip line next = ⊥
 IsAnswer s Issue line next = Issues s line next
 IsAnswer s Clear line next = Clears (live_nonce s.guard.records) s line next
 IsAnswer s (Mint amounts) line next = Mints (live_in s.guard.boot_missing s.guard.records) s amounts line next
-IsAnswer s (Dispense token counts) line next = Dispenses s (named s.last token) counts line next
+IsAnswer s (Dispense token counts) line next = DispensesFor s token counts line next
 IsAnswer s (Fill unit count) line next = Fills s unit count line next
 IsAnswer s Present line next = Moves s Ask.Present line next
 IsAnswer s Reject line next = Moves s Ask.Reject line next

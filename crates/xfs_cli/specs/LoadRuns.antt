@@ -10,7 +10,8 @@ use Rattle.xfs_machine.specs.MachineView.{MachineView}
 use Rattle.xfs_model.specs.State.{State, bare}
 use Rattle.xfs_cli.specs.Boots.{BootExceeds, EndsFailed}
 use Rattle.xfs_cli.specs.BootsOnce.{BootsOnce}
-use Rattle.xfs_cli.specs.GuardStarts.{AtEntry, IsStart, at_entry}
+use Rattle.xfs_guard.specs.Entries.{AtEntry, at_entry}
+use Rattle.xfs_cli.specs.GuardStarts.{IsStart}
 use Rattle.xfs_cli.specs.LoadEnds.{EndsLoad, Output}
 use Rattle.xfs_cli.specs.Run.{IsLoadOf}
 use Rattle.xfs_cli.specs.Runs.{AtEntryList, FromStart, IsEnd, IsUnbooted}

@@ -4,7 +4,8 @@ use Rattle.xfs_disk.specs.declared.disk.Disk.{Ghosts as Disks}
 use Rattle.xfs_mech.specs.declared.mechanism.Mechanism.{Ghosts as Mechanisms}
 use Rattle.xfs_guard.specs.declared.machine_core.Core.{Core}
 use Rattle.xfs_model.specs.State.{bare}
-use Rattle.xfs_cli.specs.GuardStarts.{AtEntry, IsStart, at_entry}
+use Rattle.xfs_guard.specs.Entries.{AtEntry, at_entry}
+use Rattle.xfs_cli.specs.GuardStarts.{IsStart}
 use Rattle.xfs_cli.specs.ReplayCommand.{replay_lines}
 use Rattle.xfs_cli.specs.ReplayStates.{ReplayState, guard_state_of}
 use Rattle.xfs_cli.specs.Runs.{Runs}

@@ -1,5 +1,5 @@
 -- The line `restart`: the journal is read again and gets a Boot; or the run ends as a refused boot does.
-use Rattle.std.specs.Prelude.{◌≡◌, ℕ, false, List, [], ◌∷◌, ◌++◌, codes, None}
+use Rattle.std.specs.Prelude.{◌≡◌, ℕ, false, List, [], ◌∷◌, ◌++◌, codes, None, Result, Err}
 use Rattle.xfs_base.specs.Causes.{Rose}
 use Rattle.xfs_journal.specs.JournalView.{IsPossible, exceeds}
 use Rattle.xfs_journal.specs.declared.record.Rec.{Rec}
@@ -10,6 +10,8 @@ use Rattle.xfs_guard.specs.declared.fail.BootFault.{BootFault}
 use Rattle.xfs_guard.specs.declared.fail.BootFault.TheVariants.{NotJournal, Disk, Full, Memory}
 use Rattle.xfs_cli.specs.Boots.{BootExceeds}
 use Rattle.xfs_cli.specs.GuardStates.{GuardState, Becomes, IsLater, IsStill}
+use Rattle.xfs_cli.specs.declared.guard_player.NoAnswer.{NoAnswer}
+use Rattle.xfs_cli.specs.declared.guard_player.NoAnswer.TheVariants.{Unbooted}
 
 -- the journal is read as the kept list, or as that one with the record in doubt, and its Boot passes no limit; the token that was minted last stays
 pub record Restarts (s : GuardState) (line : List ℕ) (next : GuardState) : Type 0 where
@@ -41,6 +43,10 @@ RestartCause s Memory next = Becomes s s.guard next
 pub record RestartFails (s : GuardState) (fault : BootFault) (next : GuardState) : Type 0 where
   pub still : IsStill next.guard.motions next.guard.places next.guard.faults next.disk_faults s
   pub cause : RestartCause s fault next
+
+-- where a verb has no answer, since a restart was refused, this holds of why
+abbrev pub IfUnbooted : {A : Type 0} → Result A NoAnswer → (BootFault → Type 0) → Type 0
+IfUnbooted result Then = (why : BootFault) → result ≡ Err (Unbooted why) → Then why
 
 -- the line is `restart`, which is refused for this, and goes on from what stood before it; S is the state that lines are answered from, and `see` what is seen of it
 pub record EndsRestart {S : Type 0} (see : S → GuardState) (s : S) (text : List ℕ) (why : BootFault) (end : S) : Type 0 where

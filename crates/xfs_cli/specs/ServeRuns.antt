@@ -20,7 +20,7 @@ use Rattle.xfs_serving.specs.declared.ending.Ending.{Ending}
 use Rattle.xfs_serving.specs.declared.ending.Ending.TheVariants.{Served, Failed, Memory}
 use Rattle.xfs_cli.specs.Boots.{BootExceeds, EndsFailed, boot_line}
 use Rattle.xfs_cli.specs.BootsOnce.{BootsOnce}
-use Rattle.xfs_cli.specs.GuardStarts.{at_entry}
+use Rattle.xfs_guard.specs.Entries.{at_entry}
 use Rattle.xfs_cli.specs.LoadRuns.{Begins, MachineOnDisk}
 use Rattle.xfs_cli.specs.Returns.{Return, back}
 use Rattle.xfs_cli.specs.Run.{IsServeOf}

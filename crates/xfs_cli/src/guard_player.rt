@@ -1,6 +1,6 @@
 //! What the guard answers to a verb.
 
-ghost use Rattle.std.specs.Prelude.{◌≡◌, ◌≢◌, ◌≤◌, ◌⊎◌, Err, OnErr, IfOk, IfErr, Some, None, length};
+ghost use Rattle.std.specs.Prelude.{◌≡◌, ◌≢◌, ◌≤◌, ◌⊎◌, Err, OnErr, IfOk, IfErr, Some, None};
 ghost use Rattle.std.specs.Option.{option_map};
 ghost use Rattle.xfs_guard.specs.declared.open.Open.TheVariants.{No};
 ghost use Rattle.xfs_guard.specs.Keeps.{Proceeds};
@@ -8,18 +8,18 @@ ghost use Rattle.xfs_mech.specs.Mechanism.{CanLoad};
 ghost use Rattle.xfs_guard.specs.Fits.{unfit};
 ghost use Rattle.xfs_guard.specs.Refusals.{IsAsk};
 ghost use Rattle.xfs_guard.specs.declared.deny.Deny.TheVariants as Deny;
-ghost use Rattle.xfs_script.specs.Answered.{lines_text, Tells};
-ghost use Rattle.xfs_cli.specs.Begun.{AllOrNothing, FailsRestart, LeavesOfLoad, LeavesOfVerb, WholeOrNone};
-ghost use Rattle.xfs_cli.specs.GuardTexts.{show_lines};
+ghost use Rattle.xfs_script.specs.Answered.{Tells};
+ghost use Rattle.xfs_cli.specs.Begun.{FailsRestart, LeavesOfLoad, LeavesOfVerb, MovesOrNot, WholeOrNone};
+ghost use Rattle.xfs_cli.specs.GuardTexts.{shown};
 ghost use Rattle.xfs_cli.specs.GuardStates.{state_in};
 ghost use Rattle.xfs_cli.specs.Moves.{Moves};
-ghost use Rattle.xfs_cli.specs.Dispenses.{IsAllowedFor, named};
+ghost use Rattle.xfs_cli.specs.Dispenses.{DispensesFor, IfRemembered, IsAllowedFor, named};
 ghost use Rattle.xfs_cli.specs.GuardVerbs.{AreAnswer, IsAnswer, IsLoaded};
-ghost use Rattle.xfs_cli.specs.Restarts.{RestartFails, Restarts};
+ghost use Rattle.xfs_cli.specs.Restarts.{IfUnbooted, RestartFails, Restarts};
 ghost use Rattle.xfs_guard.specs.declared.fail.BootFault.{BootFault};
 ghost use Rattle.xfs_script.specs.declared.guard_line.GuardLine.TheVariants.{Issue, Clear, Mint, Dispense, Fill, Take, Restart};
 ghost use Rattle.xfs_cli.specs.declared.guard_player.NoAnswer.TheVariants.{Unbooted};
-ghost use Rattle.xfs_dispenser.specs.declared.refusal.Refusal.TheVariants.{Deny as Denied, Memory as Unremembered};
+ghost use Rattle.xfs_dispenser.specs.declared.refusal.Refusal.TheVariants.{Deny as Denied};
 
 use crate::refused::refusal_text;
 use crate::text::{ended, joined, outcome_text, show_text};
@@ -80,7 +80,7 @@ impl<M: Mechanism, D: Disk> GuardPlayer<M, D> {
         requires key { self.old.key ≡ self.old.guard.state.key }
         ensures answer { IfOk result (λ text. Tells (AreAnswer (state_in D.faults self.old) verb.now) text.items (state_in D.faults self.new)) }
         ensures memory { result ≡ Err NoAnswer.Memory → LeavesOfVerb (state_in D.faults self.old) verb.now (state_in D.faults self.new) }
-        ensures unbooted { (f : BootFault) → result ≡ Err (Unbooted f) → FailsRestart (state_in D.faults self.old) verb.now f (state_in D.faults self.new) }
+        ensures unbooted { IfUnbooted result (λ why. FailsRestart (state_in D.faults self.old) verb.now why (state_in D.faults self.new)) }
         ensures proceeds { Proceeds D.Disk self.old.guard self.new.guard }
         ensures none { self.new.guard.state.open_order ≡ No }
         ensures key { self.new.key ≡ self.new.guard.state.key }
@@ -213,7 +213,7 @@ impl<M: Mechanism, D: Disk> GuardPlayer<M, D> {
         requires { self.old.guard.state.open_order ≡ No }
         ensures answer { IfOk result (λ text. Restarts (state_in D.faults self.old) text.items (state_in D.faults self.new)) }
         ensures memory { result ≡ Err NoAnswer.Memory → WholeOrNone (state_in D.faults self.old) Restart (state_in D.faults self.new) }
-        ensures unbooted { (fault : BootFault) → result ≡ Err (Unbooted fault) → RestartFails (state_in D.faults self.old) fault (state_in D.faults self.new) }
+        ensures unbooted { IfUnbooted result (λ why. RestartFails (state_in D.faults self.old) why (state_in D.faults self.new)) }
         ensures proceeds { Proceeds D.Disk self.old.guard self.new.guard }
         ensures none { self.new.guard.state.open_order ≡ No }
         ensures key { self.new.key ≡ self.old.key }
@@ -223,7 +223,7 @@ impl<M: Mechanism, D: Disk> GuardPlayer<M, D> {
     }
 
     fn show(&mut self) -> Result<Vec<u8>, Memory>
-        ensures answer { IfOk result (λ text. text.items ≡ lines_text (show_lines (length self.old.guard.state.units) self.old.guard.state.places)) }
+        ensures answer { IfOk result (λ text. text.items ≡ shown self.old.guard.state) }
         ensures same { self.new ≡ self.old }
     {
         show_text(self.alloc, self.guard.units().len(), &self.guard.places())
@@ -234,7 +234,7 @@ impl<M: Mechanism, D: Disk> GuardPlayer<M, D> {
         requires none { self.old.guard.state.open_order ≡ No }
         requires asked { IsAsk self.old.guard.state ask }
         ensures answer { IfOk result (λ text. Moves (state_in D.faults self.old) ask text.items (state_in D.faults self.new)) }
-        ensures memory { OnErr result (AllOrNothing (Moves (state_in D.faults self.old) ask) (state_in D.faults self.old) (state_in D.faults self.new)) }
+        ensures memory { OnErr result (MovesOrNot (state_in D.faults self.old) ask (state_in D.faults self.new)) }
         ensures proceeds { Proceeds D.Disk self.old.guard self.new.guard }
         ensures none { self.new.guard.state.open_order ≡ No }
         ensures key { self.new.key ≡ self.old.key }
@@ -247,7 +247,7 @@ impl<M: Mechanism, D: Disk> GuardPlayer<M, D> {
 
     fn dispense(&mut self, token: &Given, counts: &Counts) -> Result<Vec<u8>, Memory>
         requires { self.old.guard.state.open_order ≡ No }
-        ensures answer { IfOk result (λ text. IsAnswer (state_in D.faults self.old) (Dispense token.now counts.now) text.items (state_in D.faults self.new)) }
+        ensures answer { IfOk result (λ text. DispensesFor (state_in D.faults self.old) token.now counts.now text.items (state_in D.faults self.new)) }
         ensures memory { OnErr result (LeavesOfVerb (state_in D.faults self.old) (Dispense token.now counts.now) (state_in D.faults self.new)) }
         ensures proceeds { Proceeds D.Disk self.old.guard self.new.guard }
         ensures none { self.new.guard.state.open_order ≡ No }
@@ -266,7 +266,7 @@ impl<M: Mechanism, D: Disk> GuardPlayer<M, D> {
     // The leave to stack these notes on the token that the line names.
     fn allowed(&mut self, token: &Given, counts: &Counts) -> Result<Leave, Refusal>
         requires { self.old.guard.state.open_order ≡ No }
-        ensures allowed { result ≢ Err Unremembered → IsAllowedFor (state_in D.faults self.old) token.now counts.now result (state_in D.faults self.new) }
+        ensures allowed { IfRemembered result (IsAllowedFor (state_in D.faults self.old) token.now counts.now result (state_in D.faults self.new)) }
         ensures same { IfErr result (λ r. r ≢ Denied Deny.Disk → self.new.guard ≡ self.old.guard) }
         ensures proceeds { Proceeds D.Disk self.old.guard self.new.guard }
         ensures none { self.new.guard.state.open_order ≡ No }
