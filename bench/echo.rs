@@ -20,7 +20,7 @@ fn serve() -> Result<()> {
     let mut answered = 0u64;
     while let Ok(taken) = link.take() {
         if let Some(text) = taken {
-            link.give(&text)?;
+            link.give(&text);
             answered += 1;
         }
     }

@@ -21,6 +21,7 @@ pub struct Link {
     stream: TcpStream,
     buffer: Vec<u8>,
     held: Vec<u8>,
+    given: Vec<u8>,
     waits: bool,
     pause: u64,
     owed: u32,
@@ -35,7 +36,7 @@ impl Link {
         stream.set_read_timeout(Some(Duration::from_secs(2)))?;
         accept(&mut stream)?;
         stream.set_read_timeout(Some(Duration::from_millis(IDLE_MILLIS)))?;
-        Ok(Link { stream, buffer: vec![0; READ_BYTES], held: Vec::new(), waits: true, pause: IDLE_MILLIS, owed: 0, looks: 0 })
+        Ok(Link { stream, buffer: vec![0; READ_BYTES], held: Vec::new(), given: Vec::new(), waits: true, pause: IDLE_MILLIS, owed: 0, looks: 0 })
     }
 
     fn set_waits(&mut self, waits: bool) -> Result<()> {
@@ -65,8 +66,20 @@ impl Link {
         self.set_waits(true)
     }
 
+    /// Sends what was given.
+    fn send(&mut self) -> Result<()> {
+        if self.given.is_empty() {
+            return Ok(());
+        }
+        self.set_waits(true)?;
+        self.stream.write_all(&self.given)?;
+        self.given.clear();
+        Ok(())
+    }
+
     /// The next text, if one has come.
     pub fn take(&mut self) -> Result<Option<Vec<u8>>> {
+        self.send()?;
         self.prepare_read()?;
         for _ in 0..if self.waits { 1 } else { READS } {
             if let Some(text) = self.read()? {
@@ -116,22 +129,18 @@ impl Link {
         }
     }
 
-    /// Sends a text below 65,536 bytes.
-    pub fn give(&mut self, text: &[u8]) -> Result<()> {
-        let mut frame = Vec::with_capacity(4 + text.len());
-        frame.push(0x81);
+    /// A text below 65,536 bytes, which is sent with the next take.
+    pub fn give(&mut self, text: &[u8]) {
+        self.given.push(0x81);
         match text.len() {
-            short @ 0..=125 => frame.push(short as u8),
+            short @ 0..=125 => self.given.push(short as u8),
             long => {
-                frame.push(126);
-                frame.extend_from_slice(&(long as u16).to_be_bytes());
+                self.given.push(126);
+                self.given.extend_from_slice(&(long as u16).to_be_bytes());
             }
         }
-        frame.extend_from_slice(text);
-        self.set_waits(true)?;
-        self.stream.write_all(&frame)?;
+        self.given.extend_from_slice(text);
         self.owed = self.owed.saturating_sub(1);
         self.looks = 0;
-        Ok(())
     }
 }

@@ -78,7 +78,7 @@ fn converse(hall: &Hall, client: u32, is_cash: bool, stream: TcpStream) -> Resul
         }
         hall.work(is_cash);
         for frame in hall.outbox(client) {
-            link.give(frame.as_bytes())?;
+            link.give(frame.as_bytes());
         }
     }
     Ok(())
