@@ -15,3 +15,7 @@ mod runs;
 mod scene;
 #[cfg(test)]
 mod told;
+#[cfg(test)]
+mod turn_calls;
+#[cfg(test)]
+mod withdraw_calls;

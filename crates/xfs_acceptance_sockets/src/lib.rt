@@ -8,6 +8,8 @@ mod bench;
 #[cfg(test)]
 mod clients;
 #[cfg(test)]
+mod socket_calls;
+#[cfg(test)]
 mod steps;
 #[cfg(test)]
 mod withdrawals;

@@ -22,6 +22,3 @@ pub use money::{Milli, NoteKind, UnitTable};
 pub use std_clock::StdClock;
 pub use std_stream::{StdSink, StdSource};
 pub use stream::{Sink, Source, write_all};
-
-#[cfg(test)]
-mod tests;

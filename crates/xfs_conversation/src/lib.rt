@@ -2,9 +2,6 @@
 //! every such conversation.
 #![tactic(auto)]
 
-#[cfg(test)]
-mod tests;
-
 ghost use Rattle.std.specs.Prelude.{ℕ, ◌≡◌, ◌∷◌, ◌++◌, List, [], All};
 ghost use Rattle.xfs_conversation.specs.Conversation.{Conversation};
 ghost use Rattle.xfs_conversation.specs.Fronts.{IsFront, WasPosted};

@@ -18,9 +18,6 @@ ghost use Rattle.xfs_hearing.specs.Withdraws.{Withdraws};
 pub use desk::{ask, hear};
 pub use withdrawal::next;
 
-#[cfg(test)]
-mod tests;
-
 /// A desk that hears a front of the frames of a lawful conversation, whose texts are a front of its
 /// asks, is told something by the next of them: no stranger, and no other shape.
 pub fn desks_know_what_they_hear()

@@ -10,8 +10,6 @@ pub use pieces::Mac;
 
 mod key;
 mod pieces;
-#[cfg(test)]
-mod tests;
 
 /// The HMAC of a whole message under a key of any length.
 pub fn mac(key: &[u8], message: &[u8]) -> [u8; 32]

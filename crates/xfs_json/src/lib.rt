@@ -10,6 +10,3 @@ pub use texts::{JsonFault, parse, text};
 
 /// The members of an object, in the order of their names' bytes.
 pub type Map = serde_json::Map<String, Value>;
-
-#[cfg(test)]
-mod tests;

@@ -15,6 +15,3 @@ pub use machine::{
 pub use news::{card_news, key_news};
 pub use resumed::{LIFE, core_resumed};
 pub use secret::{OWN, Secrets, secret_in};
-
-#[cfg(test)]
-mod tests;

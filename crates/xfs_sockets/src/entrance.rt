@@ -59,6 +59,7 @@ pub struct Entrance {
 }
 
 impl Entrance {
+    /// The entrance at these ports. Memory is wanted for 64 handshakes.
     pub fn new(alloc: Global, ports: Vec<Port>) -> Result<Entrance, AllocError> {
         Ok(Entrance {
             ports,

@@ -10,7 +10,5 @@ mod socket;
 mod wire;
 
 pub use doors::{OpenFault, Ports, TcpDoors};
+pub use entrance::{Entrance, Port, is_broken};
 pub use link::SocketLink;
-
-#[cfg(test)]
-mod tests;

@@ -13,6 +13,3 @@ pub use held::Held;
 pub use rule::rule_of_turns;
 pub use seat::Seat;
 pub use turn::Turn;
-
-#[cfg(test)]
-mod tests;

@@ -8,6 +8,3 @@ mod payloads;
 pub use added::{Added, AddedFault, read_added, unit_of};
 pub use book::Book;
 pub use payloads::{name_of, storage, text_of};
-
-#[cfg(test)]
-mod tests;

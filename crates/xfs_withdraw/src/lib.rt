@@ -9,6 +9,3 @@ mod talk;
 pub use client::{Withdrawn, withdraw};
 pub use ending::{ENDED, Ending, LINK_FAILED, NO_MEMORY, STAYED_QUIET};
 pub use talk::MOST_QUIETS;
-
-#[cfg(test)]
-mod tests;

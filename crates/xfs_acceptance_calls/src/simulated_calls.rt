@@ -1,16 +1,16 @@
 ghost use Rattle.std.specs.Prelude.{IfOk};
 ghost use Rattle.xfs_journal.specs.Image.{HasUnit};
 
-use crate::{
-    LIFE, LIMITS, OWN, card_news, core_on, core_resumed, empty, key_news, mechanism, places,
-    secret_in, units,
-};
 use std::alloc::Global;
 use std::test::Fail;
 use xfs_base::{Counts, Kind, Places};
 use xfs_disk::MemDisk;
 use xfs_journal::{Journal, Rec, Survey};
 use xfs_mech::{KeyName, Mechanism, News, Touch, Watch};
+use xfs_simulated::{
+    LIFE, LIMITS, OWN, card_news, core_on, core_resumed, empty, key_news, mechanism, places,
+    secret_in, units,
+};
 
 #[test]
 fn the_machine_is_made(rt: HostRuntime) -> Result<(), Fail> {

@@ -1,9 +1,9 @@
-use crate::withdraw;
 use std::alloc::Global;
 use std::sync::atomic::{AtomicU64, Ordering};
 use std::test::Fail;
 use xfs_base::{Bytes, Clock, Currency, FixedClock, MemSink, Memory, Moment};
 use xfs_server::{MemDoors, MemLink};
+use xfs_withdraw::withdraw;
 
 /// A clock that counts its pauses.
 #[derive(Drop)]

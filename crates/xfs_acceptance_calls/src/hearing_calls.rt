@@ -4,11 +4,11 @@ ghost use Rattle.serde_json.specs.Find.{as_object};
 ghost use Rattle.serde_json.specs.View.{view};
 ghost use Rattle.serde_json.specs.Written.{has_float};
 
-use super::{ask, hear, next};
 use std::alloc::Global;
 use std::test::Fail;
 use xfs_base::Currency;
 use xfs_client::{Desk, HearFault, Heard, Move, Withdrawal};
+use xfs_hearing::{ask, hear, next};
 use xfs_json::{Map, Value};
 
 const ACCEPTED: &str =

@@ -1,10 +1,10 @@
 ghost use Rattle.std.specs.Prelude.{IfSome, [], ◌∷◌};
 ghost use Rattle.xfs_conversation.specs.Conversation.{Conversation};
 
-use super::is_request_id;
 use serde_json::{Map, Value};
 use std::alloc::Global;
 use std::test::Fail;
+use xfs_conversation::is_request_id;
 use xfs_envelope::{Code, acknowledge, completion, read};
 
 #[test]

@@ -1,6 +1,6 @@
-use super::*;
 use serde_json::json;
 use std::test::Fail;
+use xfs_json::{JsonFault, Shape, object, parse, text, truth, whole, words};
 
 // Texts of the grammar of RFC 8259, and others.
 #[test]

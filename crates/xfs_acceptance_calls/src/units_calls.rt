@@ -1,8 +1,8 @@
-use crate::{AddedFault, Book, read_added, storage};
 use std::test::Fail;
 use xfs_base::{Counts, Currency, NoteKind, Places, UnitTable};
 use xfs_json::parse;
 use xfs_mech::{Kind, Mechanism, Order, Outcome, SimMech, lies_in, places_fit};
+use xfs_units::{AddedFault, Book, read_added, storage};
 
 // 100 notes each of EUR 10 and USD 20, and one more on the transport.
 #[test]

@@ -1,4 +1,4 @@
-use crate::{Key, Mac, mac, upper};
+use xfs_hmac::{Key, Mac, mac, upper};
 
 const COUNTED_KEY: [u8; 25] = [
     1, 2, 3, 4, 5, 6, 7, 8, 9, 10, 11, 12, 13, 14, 15, 16, 17, 18, 19, 20, 21, 22, 23, 24, 25,

@@ -1,9 +1,9 @@
-use crate::{
+use std::process::Abort;
+use std::test::Fail;
+use xfs_base::{
     Bytes, Clock, Counts, Currency, Failed, FixedClock, MemSink, MemSource, Moment, NoteKind,
     Numbers, Sink, Source, StdClock, StdSink, StdSource, UnitTable, WriteFault, write_all,
 };
-use std::process::Abort;
-use std::test::Fail;
 
 fn currency(rt: &impl Abort, letters: &[u8]) -> Currency {
     Currency::new(letters).expect(rt, "three letters")

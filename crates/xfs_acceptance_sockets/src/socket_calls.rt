@@ -1,5 +1,3 @@
-use crate::entrance::{Entrance, Port, is_broken};
-use crate::{Ports, SocketLink, TcpDoors};
 use std::io::{ErrorKind, Read, Write};
 use std::net::{Net, Shutdown, TcpListener, TcpStream};
 use std::os::fd::OwnedFd;
@@ -8,6 +6,7 @@ use std::sync::atomic::{AtomicU64, Ordering};
 use std::{io, thread};
 use xfs_base::{Clock, Moment, Service};
 use xfs_server::{DialFault, Door, Doors, GiveFault, Link, Taking};
+use xfs_sockets::{Entrance, Port, Ports, SocketLink, TcpDoors, is_broken};
 
 const ANY: Ports = Ports {
     publisher: 0,

@@ -2,13 +2,13 @@ ghost use Rattle.std.specs.Prelude.{◌≡◌, ◌+◌, ◌*◌, ◌^◌, ◌<�
 ghost use Rattle.std.specs.Thread.{IsSync};
 ghost use mathlib.Core.List.{IsPrefix};
 
-use crate::{Chronicle, Seat, Turn};
 use std::alloc::{AllocError, Global};
 use std::sync::Wait;
 use std::test::Fail;
 use std::thread;
 use std::thread::Threads;
 use xfs_base::Memory;
+use xfs_turn::{Chronicle, Seat, Turn};
 
 /// Numbers in the order in which they came.
 #[derive(Drop)]
