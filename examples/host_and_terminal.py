@@ -1,7 +1,7 @@
 #!/usr/bin/env python3
 """A bank's host and a terminal of another make: a withdrawal from `xfs serve`, by docs/TOKEN.md and docs/MESSAGES.md alone.
 
-    ../xfs serve 1 &        # once its ports listen:
+    ../xfs serve 1 &        # it says when it listens; then:
     ./host_and_terminal.py [amount]        # EUR 70 where none is given
 
 It shows each message. The host's key is that of the file xfs.key of the working folder, as the server's is, or 32 bytes 0x0b.

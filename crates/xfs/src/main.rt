@@ -5,7 +5,7 @@
 mod outside;
 mod start_fault;
 
-use crate::outside::{open_journal, read_secrets, read_words};
+use crate::outside::{open_journal, read_secrets, read_words, tell_listening};
 use crate::start_fault::StartFault;
 use std::alloc::Global;
 use std::io;
@@ -59,6 +59,7 @@ fn serve<R: Threads + Wait + Sync>(
     let clock = StdClock::new(host);
     let mut doors = TcpDoors::open(host, alloc, &clock, PORTS)?;
     let disk = FileDisk::new(open_journal(host)?);
+    tell_listening(host, &doors.ports(), &secrets);
     let bench = Bench {
         core: core_resumed(alloc, disk, secrets)?,
         cards: card_news(alloc)?,

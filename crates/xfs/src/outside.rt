@@ -1,10 +1,11 @@
-//! What main takes from outside: the words, and the files of the working folder.
+//! What main takes from outside, the words and the files of the working folder, and what it tells there.
 
 use crate::start_fault::StartFault;
 use std::fs::File;
 use std::io::ErrorKind;
 use std::{env, fs, io};
 use xfs_simulated::{OWN, Secrets, secret_in};
+use xfs_sockets::Ports;
 
 const KEY_FILE: &str = "xfs.key";
 
@@ -59,4 +60,23 @@ pub fn open_journal(rt: &HostRuntime) -> Result<File, StartFault> {
         Err(error) if error.kind() == ErrorKind::OutOfMemory => Err(StartFault::Memory),
         Err(_) => Err(StartFault::CannotOpen),
     }
+}
+
+/// Says on standard error that `serve` listens: at which addresses, with which journal, and under whose key. A line that
+/// can't be written changes nothing.
+pub fn tell_listening(rt: &HostRuntime, ports: &Ports, secrets: &Secrets) {
+    let Ports {
+        publisher,
+        card,
+        keys,
+        cash,
+    } = ports;
+    let whose = if secrets.key == OWN.key {
+        "the public key of the examples"
+    } else {
+        KEY_FILE
+    };
+    let _written = eprintln!(rt;
+        "xfs: listening on 127.0.0.1:{publisher} (publisher), 127.0.0.1:{card} (card reader), 127.0.0.1:{keys} (keyboard) and 127.0.0.1:{cash} (cash dispenser); journal {JOURNAL_FILE}; key {whose}"
+    );
 }
