@@ -13,8 +13,9 @@ use std::process::ExitCode;
 use std::sync::Wait;
 use std::thread::Threads;
 use xfs_base::{StdClock, StdSink, StdSource};
-use xfs_cli::{Bench, run};
+use xfs_cli::run;
 use xfs_disk::FileDisk;
+use xfs_guard::Bench;
 use xfs_mech::SimWatch;
 use xfs_server::OpenGate;
 use xfs_simulated::{

@@ -11,7 +11,8 @@ use std::test::Fail;
 use std::thread::Threads;
 use std::time;
 use xfs_base::{Clock, MemSink, MemSource, StdClock};
-use xfs_cli::{Bench, run};
+use xfs_cli::run;
+use xfs_guard::Bench;
 use xfs_server::{Doors, Gate};
 use xfs_simulated::{LIMITS, core_on, empty, mechanism, units};
 

@@ -3,10 +3,11 @@ use Rattle.std.proofs.Common.{◌≡◌, ℕ, List, Some}
 use Rattle.xfs_disk.specs.declared.disk.Disk.{Ghosts as Disks}
 use Rattle.xfs_mech.specs.declared.mechanism.Mechanism.{Ghosts as Mechanisms}
 use Rattle.xfs_guard.specs.declared.machine_core.Core.{Core}
+use Rattle.xfs_guard.specs.Starts.{AtRest, Starts}
 use Rattle.xfs_cli.specs.Moments.{WasOnTheWayAll}
 use Rattle.xfs_cli.specs.Returns.{Return}
 use Rattle.xfs_cli.specs.TokenRuns.{IsKept}
-use Rattle.xfs_cli.specs.Upholds.{AtRest, Starts, UpholdsAll}
+use Rattle.xfs_cli.specs.Upholds.{UpholdsAll}
 use Rattle.xfs_cli.proofs.MomentLaws.{moments-same}
 use Rattle.xfs_cli.proofs.RunLaws.{upholds-same}
 

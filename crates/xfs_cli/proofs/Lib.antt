@@ -20,7 +20,6 @@ pub mod RestartLaws
 pub mod RunLaws
 pub mod RunsLaws
 pub mod ServeLaws
-pub mod StartLaws
 pub mod TokenEndLaws
 pub mod TokenTexts
 pub mod UnreadLaws

@@ -4,7 +4,6 @@ use Rattle.std.specs.declared.option.Option.{Option}
 use Rattle.xfs_base.specs.Causes.{IfTold}
 use Rattle.xfs_base.specs.declared.money.NoteKind.{NoteKind}
 use Rattle.xfs_base.specs.declared.counts.Places.{Places}
-use Rattle.xfs_disk.specs.Disk.{Only}
 use Rattle.xfs_disk.specs.declared.disk.Disk.{Ghosts as Disks}
 use Rattle.xfs_mech.specs.Moves.{AddsUp}
 use Rattle.xfs_mech.specs.declared.mechanism.Mechanism.{Ghosts as Mechanisms}
@@ -26,14 +25,6 @@ pub record Upholds (key : List ℕ) (units : List NoteKind) (entry : List Rec) (
   pub stands : StandsFor bytes records
   pub recorded : IsRecorded key units records motions'
   pub follows : FollowsWhereTold entry motions places records motions' places'
-
--- the condition at entry: each list of records that an image of the disk stands for is numbered, agrees with the mechanism's list, and puts out no more than its tokens cover
-abbrev pub Starts : {M D : Type 0} → Mechanisms M → Disks D → Core M D → Type 0
-Starts m d core = IfTold (d.held core.disk) (λ _. (image : List ℕ) → d.images core.disk image → (records : List Rec) → StandsFor image records → IsRecorded core.key core.units records (m.motions core.mech))
-
--- a crash leaves what the disk reads as
-abbrev pub AtRest : {D : Type 0} → Disks D → D → Type 0
-AtRest d disk = IfTold (d.held disk) (λ bytes. Only bytes (d.images disk))
 
 -- so of each image of the disk that comes back, from the list of records that the disk's bytes stood for
 abbrev pub UpholdsAll : {M D : Type 0} → Mechanisms M → Disks D → Core M D → Return M D → Type 0

@@ -1,15 +1,15 @@
 //! The command `client`.
 
 ghost use Rattle.std.specs.Prelude.{◌≡◌, ◌↔◌, None};
+ghost use Rattle.xfs_guard.specs.Starts.{AtRest, Starts};
 ghost use Rattle.xfs_cli.specs.ClientRuns.{RunsClientOf};
 ghost use Rattle.xfs_cli.specs.Moments.{WasOnTheWayAll};
 ghost use Rattle.xfs_cli.specs.Returns.{back};
 ghost use Rattle.xfs_cli.specs.Run.{IsClient};
 ghost use Rattle.xfs_cli.specs.Streams.{output};
 ghost use Rattle.xfs_cli.specs.TokenRuns.{IsKept};
-ghost use Rattle.xfs_cli.specs.Upholds.{AtRest, Starts, UpholdsAll};
+ghost use Rattle.xfs_cli.specs.Upholds.{UpholdsAll};
 
-use crate::bench::Bench;
 use crate::ended::Ended;
 use crate::last_line::usage;
 use crate::status::USAGE;
@@ -18,6 +18,7 @@ use std::alloc::Global;
 use std::sync::Wait;
 use xfs_base::{Clock, Sink};
 use xfs_disk::Disk;
+use xfs_guard::Bench;
 use xfs_mech::{Mechanism, Watch};
 use xfs_server::Doors;
 use xfs_withdraw::withdraw;

@@ -1,6 +1,7 @@
 //! The commands that ask nothing of the doors.
 
 ghost use Rattle.std.specs.Prelude.{◌≡◌, ◌↔◌, ◌∷◌, [], None};
+ghost use Rattle.xfs_guard.specs.Starts.{AtRest, Starts};
 ghost use Rattle.xfs_cli.specs.GuardRuns.{RunsGuardOf};
 ghost use Rattle.xfs_cli.specs.LoadRuns.{RunsLoadOf};
 ghost use Rattle.xfs_cli.specs.Moments.{WasOnTheWayAll};
@@ -11,9 +12,8 @@ ghost use Rattle.xfs_cli.specs.Served.{WritesLast, usage_line};
 ghost use Rattle.xfs_cli.specs.Statuses.{IsCaused, IsStatus};
 ghost use Rattle.xfs_cli.specs.Streams.{io_of};
 ghost use Rattle.xfs_cli.specs.TokenRuns.{IsKept, RunsTokenOf, WritesUsage};
-ghost use Rattle.xfs_cli.specs.Upholds.{Accounts, AtRest, Starts, UpholdsAll};
+ghost use Rattle.xfs_cli.specs.Upholds.{Accounts, UpholdsAll};
 
-use crate::bench::Bench;
 use crate::ended::Ended;
 use crate::guard_command::guard;
 use crate::last_line::usage;
@@ -25,6 +25,7 @@ use crate::words::command_of;
 use std::alloc::Global;
 use xfs_base::{Sink, Source};
 use xfs_disk::Disk;
+use xfs_guard::Bench;
 use xfs_mech::{Mechanism, Watch};
 use xfs_words::Command;
 

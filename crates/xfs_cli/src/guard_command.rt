@@ -3,6 +3,7 @@
 ghost use Rattle.std.specs.Prelude.{◌≡◌, ◌≢◌, ◌↔◌, ℕ, List, is_some};
 ghost use Rattle.xfs_guard.specs.Booting.{LeavesRecorded};
 ghost use Rattle.xfs_guard.specs.Stored.{IsStored};
+ghost use Rattle.xfs_guard.specs.Starts.{AtRest, Starts};
 ghost use Rattle.xfs_cli.specs.GuardRuns.{RunsGuardOf};
 ghost use Rattle.xfs_cli.specs.Moments.{WasOnTheWayAll};
 ghost use Rattle.xfs_cli.specs.Returns.{back};
@@ -10,9 +11,8 @@ ghost use Rattle.xfs_cli.specs.Run.{IsGuard};
 ghost use Rattle.xfs_cli.specs.Statuses.{IsCaused, IsStatus};
 ghost use Rattle.xfs_cli.specs.Streams.{io_of};
 ghost use Rattle.xfs_cli.specs.TokenRuns.{IsKept, WritesUsage};
-ghost use Rattle.xfs_cli.specs.Upholds.{Accounts, AtRest, Starts, UpholdsAll};
+ghost use Rattle.xfs_cli.specs.Upholds.{Accounts, UpholdsAll};
 
-use crate::bench::Bench;
 use crate::ended::Ended;
 use crate::guard_player::GuardPlayer;
 use crate::last_line::{unbooted, usage};
@@ -23,7 +23,7 @@ use crate::words::is_word;
 use std::alloc::Global;
 use xfs_base::{Sink, Source};
 use xfs_disk::Disk;
-use xfs_guard::{BootFail, Core, Guard};
+use xfs_guard::{Bench, BootFail, Core, Guard};
 use xfs_mech::{Mechanism, Watch};
 
 /// Reads guard lines and answers each of them, before the next line is read.

@@ -1,7 +1,6 @@
 //! The top call of the program, and the commands that it runs.
 #![tactic(auto)]
 
-mod bench;
 mod client_command;
 mod clients;
 mod doorless;
@@ -29,7 +28,6 @@ mod top;
 mod verbs;
 mod words;
 
-pub use bench::Bench;
 pub use ended::Ended;
 pub use guard_command::guard;
 pub use load_command::load;

@@ -2,6 +2,7 @@
 
 ghost use Rattle.std.specs.Prelude.{◌≡◌, ◌↔◌, ◌∷◌, [], IfOk, length};
 ghost use Rattle.xfs_guard.specs.Keeps.{Proceeds};
+ghost use Rattle.xfs_guard.specs.Starts.{AtRest, Starts};
 ghost use Rattle.xfs_load.specs.Summaries.{summary_line};
 ghost use Rattle.xfs_machine.specs.MachineView.{guard_of};
 ghost use Rattle.xfs_model.specs.State.{bare};
@@ -14,9 +15,8 @@ ghost use Rattle.xfs_cli.specs.Run.{IsLoad};
 ghost use Rattle.xfs_cli.specs.Statuses.{IsStatus};
 ghost use Rattle.xfs_cli.specs.Streams.{io_of};
 ghost use Rattle.xfs_cli.specs.TokenRuns.{IsKept, WritesUsage};
-ghost use Rattle.xfs_cli.specs.Upholds.{Accounts, AtRest, Starts, UpholdsAll};
+ghost use Rattle.xfs_cli.specs.Upholds.{Accounts, UpholdsAll};
 
-use crate::bench::Bench;
 use crate::ended::Ended;
 use crate::last_line::{unbooted, usage};
 use crate::status::{NO_MEMORY, READ_TO_END, USAGE, WRITE_FAULT};
@@ -25,7 +25,7 @@ use crate::words::rounds_of;
 use std::alloc::Global;
 use xfs_base::{Memory, Sink, Source, write_all};
 use xfs_disk::Disk;
-use xfs_guard::{BootFail, Core};
+use xfs_guard::{Bench, BootFail};
 use xfs_load::{Summary, play};
 use xfs_machine::Machine;
 use xfs_mech::{Mechanism, Watch};

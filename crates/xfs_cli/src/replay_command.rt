@@ -1,6 +1,7 @@
 //! The command `replay`.
 
 ghost use Rattle.std.specs.Prelude.{◌≡◌, ◌↔◌};
+ghost use Rattle.xfs_guard.specs.Starts.{AtRest, Starts};
 ghost use Rattle.xfs_cli.specs.Moments.{WasOnTheWayAll};
 ghost use Rattle.xfs_cli.specs.ReplayRuns.{RunsReplayOf};
 ghost use Rattle.xfs_cli.specs.Returns.{back};
@@ -8,9 +9,8 @@ ghost use Rattle.xfs_cli.specs.Run.{IsReplay};
 ghost use Rattle.xfs_cli.specs.Statuses.{IsCaused, IsStatus};
 ghost use Rattle.xfs_cli.specs.Streams.{io_of};
 ghost use Rattle.xfs_cli.specs.TokenRuns.{IsKept, WritesUsage};
-ghost use Rattle.xfs_cli.specs.Upholds.{Accounts, AtRest, Starts, UpholdsAll};
+ghost use Rattle.xfs_cli.specs.Upholds.{Accounts, UpholdsAll};
 
-use crate::bench::Bench;
 use crate::clients::Clients;
 use crate::ended::Ended;
 use crate::last_line::{unbooted, usage};
@@ -22,7 +22,7 @@ use crate::words::is_word;
 use std::alloc::Global;
 use xfs_base::{Moment, Sink, Source};
 use xfs_disk::Disk;
-use xfs_guard::{BootFail, Core};
+use xfs_guard::{Bench, BootFail};
 use xfs_machine::{Machine, Tally};
 use xfs_mech::{Mechanism, Watch};
 

@@ -1,14 +1,14 @@
 //! The command `serve`.
 
 ghost use Rattle.std.specs.Prelude.{◌≡◌, ◌≤◌};
+ghost use Rattle.xfs_guard.specs.Starts.{AtRest, Starts};
 ghost use Rattle.xfs_cli.specs.Moments.{WasOnTheWayAll};
 ghost use Rattle.xfs_cli.specs.Returns.{back};
 ghost use Rattle.xfs_cli.specs.ServeRuns.{RunsServe, served_line, served_status};
 ghost use Rattle.xfs_cli.specs.Served.{WritesLast};
 ghost use Rattle.xfs_cli.specs.Streams.{output};
-ghost use Rattle.xfs_cli.specs.Upholds.{Accounts, AtRest, Starts, UpholdsAll};
+ghost use Rattle.xfs_cli.specs.Upholds.{Accounts, UpholdsAll};
 
-use crate::bench::Bench;
 use crate::ended::Ended;
 use crate::last_line::unbooted;
 use crate::status::{LINK_FAILED, NO_MEMORY, READ_TO_END};
@@ -17,7 +17,7 @@ use std::sync::Wait;
 use std::thread::Threads;
 use xfs_base::{Clock, Sink};
 use xfs_disk::Disk;
-use xfs_guard::{BootFail, BootFault, Deny};
+use xfs_guard::{Bench, BootFail, BootFault, Deny};
 use xfs_machine::Machine;
 use xfs_mech::{Mechanism, Watch};
 use xfs_server::{Doors, Gate};

@@ -7,7 +7,6 @@ ghost use Rattle.xfs_cli.specs.Statuses.{IsCaused, IsStatus};
 ghost use Rattle.xfs_cli.specs.Streams.{io_of};
 ghost use Rattle.xfs_cli.specs.TokenRuns.{IsKept, RunsTokenOf, WritesUsage};
 
-use crate::bench::Bench;
 use crate::ended::Ended;
 use crate::last_line::usage;
 use crate::serve::serve;
@@ -18,7 +17,7 @@ use crate::words::is_word;
 use std::alloc::Global;
 use xfs_base::{Sink, Source};
 use xfs_disk::Disk;
-use xfs_guard::Core;
+use xfs_guard::{Bench, Core};
 use xfs_mech::{Mechanism, Watch};
 
 /// Reads token lines and answers each of them under the core's key, before the next line is read.

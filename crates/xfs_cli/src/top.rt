@@ -1,6 +1,7 @@
 //! The top call.
 
 ghost use Rattle.std.specs.Prelude.{◌≡◌, ◌⊎◌, ◌↔◌, None};
+ghost use Rattle.xfs_guard.specs.Starts.{AtRest, Starts};
 ghost use Rattle.xfs_cli.specs.ClientRuns.{IsUndialled, RunsClientOf};
 ghost use Rattle.xfs_cli.specs.GuardRuns.{RunsGuardOf};
 ghost use Rattle.xfs_cli.specs.LoadRuns.{RunsLoadOf};
@@ -12,9 +13,8 @@ ghost use Rattle.xfs_cli.specs.ServeRuns.{RunsServeOf};
 ghost use Rattle.xfs_cli.specs.Statuses.{IsCaused, IsStatusOf};
 ghost use Rattle.xfs_cli.specs.Streams.{io_of, output};
 ghost use Rattle.xfs_cli.specs.TokenRuns.{IsKept, RunsTokenOf, WritesUsage};
-ghost use Rattle.xfs_cli.specs.Upholds.{Accounts, AtRest, Starts, UpholdsAll};
+ghost use Rattle.xfs_cli.specs.Upholds.{Accounts, UpholdsAll};
 
-use crate::bench::Bench;
 use crate::client_command::client;
 use crate::doorless::run_without_doors;
 use crate::ended::Ended;
@@ -26,6 +26,7 @@ use std::sync::Wait;
 use std::thread::Threads;
 use xfs_base::{Clock, Sink, Source};
 use xfs_disk::Disk;
+use xfs_guard::Bench;
 use xfs_mech::{Mechanism, Watch};
 use xfs_server::{Doors, Gate};
 

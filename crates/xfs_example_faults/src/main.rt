@@ -15,10 +15,10 @@ use std::alloc::Global;
 use std::io;
 use std::process::ExitCode;
 use xfs_base::{MemSource, Sink, StdSink, UnitTable};
+use xfs_cli::guard;
 use xfs_cli::status::NO_MEMORY;
-use xfs_cli::{Bench, guard};
 use xfs_disk::{Disk, FuseDisk, MemDisk};
-use xfs_guard::Core;
+use xfs_guard::{Bench, Core};
 use xfs_mech::{Fault, Mechanism, SimMech, TakerWatch, places_fit};
 use xfs_simulated::{KEY, LIMITS, SEED, core_on, empty, mechanism, units};
 

@@ -26,6 +26,7 @@ pub mod RereadLaws
 pub mod RestoreLaws
 pub mod SizeLaws
 pub mod SoundLaws
+pub mod StartLaws
 pub mod StoredLaws
 pub mod UpheldLaws
 pub mod WithinLaws

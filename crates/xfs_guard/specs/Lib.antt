@@ -29,6 +29,7 @@ pub mod Refusals
 pub mod Replayed
 pub mod Reports
 pub mod Sound
+pub mod Starts
 pub mod Stored
 pub mod TokenDeny
 pub mod Upheld

@@ -3,6 +3,7 @@
 #![tactic(auto)]
 
 mod ask;
+mod bench;
 mod bound;
 mod budget;
 mod check;
@@ -22,6 +23,7 @@ mod signer;
 mod words;
 
 pub use ask::Ask;
+pub use bench::Bench;
 pub use claim::{Claim, Permit};
 pub use deny::Deny;
 pub use fail::{BootFail, BootFault};

@@ -11,9 +11,8 @@ ghost use Rattle.xfs_simulated.specs.Simulated.{four_units, filled};
 use crate::secret::{OWN, Secrets};
 use std::alloc::Global;
 use xfs_base::{Counts, Currency, NoteKind, Places, UnitTable};
-use xfs_cli::Bench;
 use xfs_disk::{Disk, MemDisk};
-use xfs_guard::Core;
+use xfs_guard::{Bench, Core};
 use xfs_journal::Limits;
 use xfs_mech::{Fault, Mechanism, SimMech, SimWatch, places_fit};
 

@@ -12,7 +12,7 @@ use Rattle.xfs_journal.specs.declared.record.Rec.{Rec}
 use Rattle.xfs_journal.proofs.Unique.{stands_for_one}
 use Rattle.xfs_guard.specs.Recorded.{IsRecorded}
 use Rattle.xfs_cli.specs.Upholds.{Upholds}
-use Rattle.xfs_cli.proofs.StartLaws.{at_rest-memory}
+use Rattle.xfs_guard.proofs.StartLaws.{at_rest-memory}
 use Rattle.xfs_example_faults.proofs.cut_off.Goals as goal
 
 -- what a run upholds is what the next one starts from

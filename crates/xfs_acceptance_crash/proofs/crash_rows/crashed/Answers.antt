@@ -1,5 +1,5 @@
 use Rattle.std.proofs.Common.{refl}
-use Rattle.xfs_cli.proofs.StartLaws.{at_rest-memory}
+use Rattle.xfs_guard.proofs.StartLaws.{at_rest-memory}
 use Rattle.xfs_acceptance_crash.proofs.crash_rows.crashed.Goals as goal
 
 pub returns-clause-starts : goal.returns-clause-starts

@@ -1,5 +1,5 @@
 use Rattle.std.proofs.Common.{arith}
-use Rattle.xfs_cli.proofs.StartLaws.{short-no_image}
+use Rattle.xfs_guard.proofs.StartLaws.{short-no_image}
 use Rattle.xfs_simulated.proofs.machine.empty.Goals as goal
 
 pub returns-clause-none : goal.returns-clause-none

@@ -1,5 +1,5 @@
 use Rattle.std.proofs.Common.{◌∙◌, arith}
-use Rattle.xfs_cli.proofs.StartLaws.{other-no_image}
+use Rattle.xfs_guard.proofs.StartLaws.{other-no_image}
 use Rattle.xfs_testbench.proofs.bench.no_journal.Goals as goal
 
 pub returns-clause-none : goal.returns-clause-none

@@ -1,9 +1,9 @@
+use crate::machine_core::Core;
 use xfs_disk::Disk;
-use xfs_guard::Core;
 use xfs_mech::{Mechanism, Watch};
 
 /// What a command works on: the core of its guard or its machine, and the news of the card slot and of the key pad,
-/// which `serve` alone takes.
+/// which a server alone takes.
 #[derive(Drop)]
 pub struct Bench<M: Mechanism, D: Disk, P: Watch, Q: Watch> {
     pub core: Core<M, D>,
