@@ -1,7 +1,6 @@
 -- How a run of disk calls goes on, moment by moment.
 use Rattle.std.proofs.Common.{inl, inr, ⊎_elim, ℕ, ◌⊎◌, List, arith}
 use Rattle.std.proofs.Common.{◌∙◌}
-use Rattle.std.specs.declared.option.Option.{Option}
 use Rattle.xfs_disk.specs.Disk.{Elapses}
 use Rattle.xfs_disk.specs.Moments.{LeavesOnly}
 use Rattle.xfs_disk.specs.declared.disk.Disk.{Ghosts}

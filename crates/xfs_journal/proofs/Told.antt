@@ -19,6 +19,14 @@ pub if_ok : {T E : Type 0} (r : Result T E) (P Q : T → Type 0) → ((x : T) �
 if_ok (Ok x) P Q f p = f x p
 if_ok (Err e) P Q f p = p
 
+pub if_err : {T E : Type 0} (r : Result T E) (P Q : E → Type 0) → ((e : E) → P e → Q e) → IfErr r P → IfErr r Q
+if_err (Ok x) P Q f p = tt
+if_err (Err e) P Q f p = f e p
+
+pub if_err_both : {T E : Type 0} (r : Result T E) (P Q R : E → Type 0) → ((e : E) → P e → Q e → R e) → IfErr r P → IfErr r Q → IfErr r R
+if_err_both (Ok x) P Q R f p q = tt
+if_err_both (Err e) P Q R f p q = f e p q
+
 pub goes : {X : Type 0} (A B C : X → Type 0) → ((x : X) → A x → B x) → ((x : X) → B x → C x) → (x : X) → A x → C x
 goes A B C f g x a = g x (f x a)
 

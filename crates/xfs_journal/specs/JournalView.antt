@@ -40,6 +40,10 @@ exceeds limits records = nat_lt limits.records (length records) || nat_lt limits
 abbrev pub refusal : {D : Type 0} → JournalView D → Rec → Option AppendFault
 refusal j r = if j.shut then Some Shut else (if exceeds j.limits (j.records ++ r ∷ []) then Some Full else None)
 
+-- the same of what a journal has
+abbrev pub stops : Bool → Limits → List Rec → Rec → Option AppendFault
+stops shut limits records r = if shut then Some Shut else (if exceeds limits (records ++ r ∷ []) then Some Full else None)
+
 -- the bytes stand for the list, or for the list with the record
 abbrev pub StandsForEither : List Rec → Rec → List ℕ → Type 0
 StandsForEither records r bytes = StandsFor bytes records ⊎ StandsFor bytes (records ++ r ∷ [])

@@ -11,7 +11,7 @@ pub enum AppendFault {
 }
 
 /// Why bytes weren't read as a record.
-#[derive(Clone, Copy, Debug, PartialEq, Eq)]
+#[derive(Clone, Copy, PartialEq, Eq)]
 pub enum BodyFault {
     /// They are the body of no record.
     Form,

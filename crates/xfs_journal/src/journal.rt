@@ -1,10 +1,10 @@
 //! The journal on a disk: a list of records, each on the disk before it counts.
-ghost use Rattle.std.specs.Prelude.{MatchResult, ◌≡◌, ◌≢◌, ◌⊎◌, ℕ, List, ◌+◌, ◌-◌, ◌≤◌, ◌<◌, ◌||◌, nat_lt, [], ◌∷◌, ◌++◌, is_some, length, true, false, Some, None, Err, IfOk, IfErr, OnOk, OnErr, IfSome};
+ghost use Rattle.std.specs.Prelude.{MatchResult, ◌≡◌, ◌≢◌, ◌⊎◌, ℕ, List, ◌+◌, ◌-◌, ◌≤◌, ◌<◌, ◌||◌, nat_lt, [], ◌∷◌, ◌++◌, is_some, length, true, false, Some, None, Err, IfOk, IfErr, OnOk, OnErr, IfSome, vec_len, vec_capacity};
 ghost use Rattle.xfs_base.specs.Causes.{IfTold, Rose};
 ghost use Rattle.xfs_disk.specs.Moments.{LeavesOnly};
 ghost use Rattle.xfs_journal.specs.declared.body.TheConstants.{MOST};
-ghost use Rattle.xfs_journal.specs.Image.{HasUnit, StandsFor, framed, contents, size};
-ghost use Rattle.xfs_journal.specs.JournalView.{exceeds, refusal, IsNoJournal, IsPossible, LeavesWithOrWithout, LeavesList, LeavesOneOf, StandsForEither, MayPartAt};
+ghost use Rattle.xfs_journal.specs.Image.{HasUnit, StandsFor, framed, contents, size, IsRecord};
+ghost use Rattle.xfs_journal.specs.JournalView.{exceeds, refusal, stops, IsNoJournal, IsPossible, LeavesWithOrWithout, LeavesList, LeavesOneOf, StandsForEither, MayPartAt};
 ghost use Rattle.xfs_journal.specs.declared.faults.AppendFault.TheVariants.{Disk as DiskFault, Memory as NoMemory};
 ghost use Rattle.xfs_journal.specs.Paging.{CeasesAt, IsOldOrShort, IsQuiet};
 ghost use Rattle.xfs_journal.specs.declared.faults.MountFault.TheVariants.{NotJournal, Disk as MountDisk, Memory as MountMemory};
@@ -196,9 +196,8 @@ impl<D: Disk> Journal<D> {
                 self.in_doubt = None;
                 Ok(())
             }
-            Err(MountFault::Memory) => Err(MountFault::Memory),
             Err(why) => {
-                self.shut = true;
+                self.shut = is_shut_by(self.shut, why);
                 Err(why)
             }
         }
@@ -233,15 +232,16 @@ impl<D: Disk> Journal<D> {
         ensures images { self.old.shut ≡ false → LeavesWithOrWithout D.Disk self.old.disk self.new.disk self.old.records rec }
         ensures acknowledged { OnOk result (LeavesList D.Disk self.new.disk self.new.records) }
     {
-        if self.shut {
-            return Err(AppendFault::Shut);
-        }
-        fill(&mut self.buffer, &rec);
-        if is_full(self.limits, &self.records, &rec, self.end, &self.buffer) {
-            return Err(AppendFault::Full);
-        }
-        if self.records.reserve(1).is_err() {
-            return Err(AppendFault::Memory);
+        let ready = prepare(
+            self.shut,
+            self.limits,
+            &mut self.records,
+            &rec,
+            self.end,
+            &mut self.buffer,
+        );
+        if let Err(fault) = ready {
+            return Err(fault);
         }
         if write_record(&mut self.disk, &self.records, &rec, self.end, &self.buffer).is_err() {
             self.shut = true;
@@ -252,6 +252,56 @@ impl<D: Disk> Journal<D> {
         self.records.push_reserved(rec);
         Ok(self.records.len() as u64)
     }
+}
+
+// Whether a journal is shut once it wasn't read again for this: want of memory leaves it as it was.
+fn is_shut_by(shut: bool, why: MountFault) -> bool
+    ensures memory { why ≡ MountMemory → result ≡ shut }
+    ensures other { why ≢ MountMemory → result ≡ true }
+{
+    match why {
+        MountFault::Memory => shut,
+        MountFault::NotJournal { .. } | MountFault::Disk => true,
+    }
+}
+
+// Fills the buffer with what a record takes behind the gate, and makes room for it in the list, where nothing
+// refuses it.
+fn prepare(
+    shut: bool,
+    limits: Limits,
+    records: &mut Vec<Rec>,
+    rec: &Rec,
+    end: u64,
+    buffer: &mut Vec<u8>,
+) -> Result<(), AppendFault>
+    requires unit { HasUnit rec.now }
+    requires place { end ≡ length (contents records.old.items) }
+    requires capacity { MOST ≤ vec_capacity buffer.old }
+    ensures refused { IfSome (stops shut limits records.old.items rec.now) (λ f. result ≡ Err f) }
+    ensures only { IfErr result (λ f. (stops shut limits records.old.items rec.now ≡ Some f) ⊎ (f ≡ NoMemory)) }
+    ensures not_disk { IfErr result (λ f. f ≢ DiskFault) }
+    ensures reserved { 1 ≤ vec_capacity records.old - vec_len records.old → IfErr result (λ f. f ≢ NoMemory) }
+    ensures open { OnOk result (shut ≡ false) }
+    ensures room { OnOk result (vec_len records.new + 1 ≤ vec_capacity records.new) }
+    ensures bytes { OnOk result (buffer.new.items ≡ framed rec.now ++ 0 ∷ []) }
+    ensures of_table { OnOk result (IsRecord rec.now) }
+    ensures small { OnOk result (end + length buffer.new.items < limits.bytes) }
+    ensures items { records.new.items ≡ records.old.items }
+    ensures kept { vec_capacity records.old ≤ vec_capacity records.new }
+    ensures capacity { MOST ≤ vec_capacity buffer.new }
+{
+    if shut {
+        return Err(AppendFault::Shut);
+    }
+    fill(buffer, rec);
+    if is_full(limits, records, rec, end, buffer) {
+        return Err(AppendFault::Full);
+    }
+    if records.reserve(1).is_err() {
+        return Err(AppendFault::Memory);
+    }
+    Ok(())
 }
 
 // Whether the record whose bytes these are exceeds a limit.

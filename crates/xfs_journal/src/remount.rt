@@ -1,11 +1,11 @@
 //! Reading a disk's journal again, and comparing it with the list that was kept.
-ghost use Rattle.std.specs.Prelude.{◌≡◌, ◌≤◌, ◌+◌, ◌∷◌, ◌++◌, [], List, ℕ, false, None, length, is_some, vec_len, vec_capacity, IfOk, IfErr, IfSome, OnOk, OnErr};
+ghost use Rattle.std.specs.Prelude.{◌≡◌, ◌≢◌, ◌≤◌, ◌+◌, ◌∷◌, ◌++◌, [], List, ℕ, false, None, length, is_some, vec_len, vec_capacity, IfOk, IfErr, IfSome, OnOk, OnErr};
 ghost use Rattle.std.specs.List.{AllByRecursion};
 ghost use Rattle.xfs_base.specs.Causes.{IfTold, Rose};
 ghost use Rattle.xfs_disk.specs.Disk.{Only};
 ghost use Rattle.xfs_journal.specs.declared.body.TheConstants.{MOST};
-ghost use Rattle.xfs_journal.specs.Image.{IsImage, IsRecord};
-ghost use Rattle.xfs_journal.specs.JournalView.{IsKept, IsPossible, LeavesOneOf, MayPartAt};
+ghost use Rattle.xfs_journal.specs.Image.{IsImage, IsRecord, contents};
+ghost use Rattle.xfs_journal.specs.JournalView.{DiffersAt, IsKept, IsPossible, LeavesOneOf, MayPartAt};
 ghost use Rattle.xfs_journal.specs.Paging.{IsQuiet, MayCease};
 ghost use Rattle.xfs_journal.specs.declared.faults.MountFault.TheVariants.{NotJournal, Disk as DiskFault};
 ghost use Rattle.xfs_journal.specs.declared.record.Rec.{Rec};
@@ -49,6 +49,39 @@ fn read_again<D: Disk>(
     }
 }
 
+// The list that was read, with room for one record more, where it's the kept one, or that one with the record in doubt.
+fn possible(
+    alloc: Global,
+    listed: Listed,
+    kept: &[Rec],
+    in_doubt: &Option<Rec>,
+    block: &mut Vec<u8>,
+) -> Result<Listed, MountFault>
+    requires room { MOST ≤ vec_capacity block.old }
+    requires of_table { AllByRecursion IsRecord kept.now × IfSome in_doubt.now IsRecord }
+    requires found { AllByRecursion IsRecord listed.records.items }
+    requires place { listed.end ≡ length (contents listed.records.items) }
+    ensures same { IfOk result (λ l. (l.records.items ≡ listed.records.items) × (l.end ≡ listed.end)) }
+    ensures possible { IfOk result (λ l. IsPossible kept.now in_doubt.now l.records.items) }
+    ensures reserved { IfOk result (λ l. vec_len l.records + 1 ≤ vec_capacity l.records) }
+    ensures other { IfErr result (λ f. (at : ℕ) → f ≡ NotJournal at → ¬ IsPossible kept.now in_doubt.now listed.records.items) }
+    ensures differs { IfErr result (λ f. (at : ℕ) → f ≡ NotJournal at → DiffersAt kept.now in_doubt.now listed.records.items at) }
+    ensures not_disk { IfErr result (λ f. f ≢ DiskFault) }
+    ensures capacity { MOST ≤ vec_capacity block.new }
+{
+    let mut listed = listed;
+    if listed.records.reserve(1).is_err() {
+        return Err(MountFault::Memory);
+    }
+    let Ok(mut second) = Vec::with_capacity(alloc, MOST) else {
+        return Err(MountFault::Memory);
+    };
+    match differs_at(&listed.records, kept, in_doubt, block, &mut second) {
+        Some(at) => Err(MountFault::NotJournal { at }),
+        None => Ok(listed),
+    }
+}
+
 // Syncs a disk and reads its records again, which are the kept ones, or those with the record in doubt.
 pub(crate) fn reload<D: Disk>(
     alloc: Global,
@@ -73,15 +106,6 @@ pub(crate) fn reload<D: Disk>(
     ensures capacity { MOST ≤ vec_capacity block.new }
 {
     let len = sync_len(disk)?;
-    let mut listed = read_again(alloc, disk, len, block, kept)?;
-    if listed.records.reserve(1).is_err() {
-        return Err(MountFault::Memory);
-    }
-    let Ok(mut second) = Vec::with_capacity(alloc, MOST) else {
-        return Err(MountFault::Memory);
-    };
-    match differs_at(&listed.records, kept, in_doubt, block, &mut second) {
-        Some(at) => Err(MountFault::NotJournal { at }),
-        None => Ok(listed),
-    }
+    let listed = read_again(alloc, disk, len, block, kept)?;
+    possible(alloc, listed, kept, in_doubt, block)
 }
