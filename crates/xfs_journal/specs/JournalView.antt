@@ -36,13 +36,12 @@ pub record IsKept (held : Option (List ℕ)) (images : List ℕ → Type 0) (rec
 abbrev pub exceeds : Limits → List Rec → Bool
 exceeds limits records = nat_lt limits.records (length records) || nat_lt limits.bytes (size records)
 
--- the first refusal that applies, in the order in which they are looked at
-abbrev pub refusal : {D : Type 0} → JournalView D → Rec → Option AppendFault
-refusal j r = if j.shut then Some Shut else (if exceeds j.limits (j.records ++ r ∷ []) then Some Full else None)
-
--- the same of what a journal has
+-- the first refusal that applies, in the order in which they are looked at: of a journal that is shut or not, by its limits and its list
 abbrev pub stops : Bool → Limits → List Rec → Rec → Option AppendFault
 stops shut limits records r = if shut then Some Shut else (if exceeds limits (records ++ r ∷ []) then Some Full else None)
+
+abbrev pub refusal : {D : Type 0} → JournalView D → Rec → Option AppendFault
+refusal j r = stops j.shut j.limits j.records r
 
 -- the bytes stand for the list, or for the list with the record
 abbrev pub StandsForEither : List Rec → Rec → List ℕ → Type 0
