@@ -1,5 +1,5 @@
 -- The upper-case hexadecimal digits are the lower-case ones in upper case.
-use Rattle.std.proofs.Common.{◌≡◌, ℕ, zero, suc, ◌/◌, ◌%◌, ◌<◌, ◌==◌, Bool, true, ◌&&◌, inl, inr, List, [], ◌∷◌, map, slice_index, refl, sym, ap, ◌∙◌, arith}
+use Rattle.std.proofs.Common.{◌≡◌, ℕ, zero, suc, ◌/◌, ◌%◌, ◌<◌, ◌==◌, Bool, true, ◌&&◌, inl, inr, List, [], ◌∷◌, map, slice_index, refl, arith}
 use Rattle.std.proofs.lemmas.Bool.{and_parts, cases_lt, eqb-true}
 use Rattle.std.specs.Char.{to_ascii_uppercase}
 use Rattle.hex.specs.Hex.{IsBytes, encode_lower, encode_upper, encode_with, lower_digits, upper_digits}

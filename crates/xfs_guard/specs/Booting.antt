@@ -1,5 +1,5 @@
 -- What a boot finds on a disk and leaves there, and what a restore makes of a guard.
-use Rattle.std.specs.Prelude.{◌≡◌, ◌⊎◌, ℕ, true, List, [], ◌∷◌, ◌++◌, is_some, None}
+use Rattle.std.specs.Prelude.{◌≡◌, ℕ, true, List, [], ◌∷◌, ◌++◌, is_some, None}
 use Rattle.std.specs.declared.option.Option.{Option}
 use Rattle.xfs_base.specs.Causes.{IfTold}
 use Rattle.xfs_base.specs.declared.counts.Places.{Places}
@@ -13,7 +13,6 @@ use Rattle.xfs_journal.specs.Paging.{IsOldOrShort, IsQuiet}
 use Rattle.xfs_journal.specs.declared.limits.Limits.{Limits}
 use Rattle.xfs_journal.specs.declared.record.Rec.{Rec}
 use Rattle.xfs_journal.specs.declared.record.Rec.TheVariants.{Boot}
-use Rattle.xfs_guard.specs.LedgerView.{LedgerView}
 use Rattle.xfs_guard.specs.Recorded.{IsRecorded}
 use Rattle.xfs_guard.specs.Stored.{MayLeave}
 use Rattle.xfs_guard.specs.View.{View, reread, restarted, unbooted, unread}

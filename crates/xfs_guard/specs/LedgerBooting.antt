@@ -1,6 +1,5 @@
 -- What a restore makes of a ledger, and what an append makes of its journal.
-use Rattle.std.specs.Prelude.{◌≡◌, ◌⊎◌, ℕ, ◌+◌, ◌<◌, ◌^◌, Bool, true, false, List, [], ◌∷◌, ◌++◌, ◌||◌, Some, None}
-use Rattle.std.specs.declared.option.Option.{Option}
+use Rattle.std.specs.Prelude.{◌≡◌, ◌⊎◌, ℕ, ◌+◌, ◌<◌, ◌^◌, true, false, List, [], ◌∷◌, ◌++◌, ◌||◌, Some, None}
 use Rattle.xfs_base.specs.Causes.{IfTold, Rose}
 use Rattle.xfs_base.specs.Money.{value}
 use Rattle.xfs_base.specs.declared.counts.Counts.{Counts}
@@ -9,7 +8,6 @@ use Rattle.xfs_base.specs.declared.counts.Kind.TheVariants.{Present}
 use Rattle.xfs_base.specs.declared.money.NoteKind.{NoteKind}
 use Rattle.xfs_base.specs.declared.counts.Places.{Places}
 use Rattle.xfs_disk.specs.declared.disk.Disk.{Ghosts}
-use Rattle.xfs_journal.specs.Image.{StandsFor}
 use Rattle.xfs_journal.specs.JournalView.{JournalView, exceeds, IsPossible, StandsForEither}
 use Rattle.xfs_journal.specs.declared.record.Rec.{Rec}
 use Rattle.xfs_journal.specs.declared.record.Rec.TheVariants.{Boot}

@@ -3,7 +3,7 @@ use xfs_journal::Text;
 use xfs_token::Amounts;
 
 /// A token that passed every check, with its amounts. It is spent by `allow`.
-#[derive(Debug, Drop)]
+#[derive(Drop)]
 pub struct Claim {
     pub(crate) token: Text,
     pub(crate) amounts: Amounts,
@@ -18,7 +18,7 @@ impl Model for Claim {
 }
 
 /// The leave to stack notes for the nonce of this issue number.
-#[derive(Clone, Copy, Debug, PartialEq, Eq)]
+#[derive(Clone, Copy)]
 pub struct Permit {
     pub issue: u64,
 }

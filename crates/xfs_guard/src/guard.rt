@@ -373,6 +373,25 @@ impl<M: Mechanism, D: Disk> Guard<M, D> {
             return Err(deny);
         }
         let (kind, counts) = self.admitted(ask)?;
+        self.write_order(kind, counts)
+    }
+
+    // Writes an order that nothing refuses.
+    fn write_order(&mut self, kind: Kind, counts: Counts) -> Result<(), Deny>
+        requires none { self.old.state.open_order ≡ No }
+        requires fit { unfit self.old.state ≡ None }
+        requires admitted { (ask : _) × IsAdmitted self.old.state ask (kind, counts) }
+        ensures err { IfErr result IsWriteFault }
+        ensures ok { OnOk result (self.new.state ≡ record self.old.state {
+          records = self.old.state.records ++ Order kind counts ∷ [];
+          open_order = Written kind counts;
+        }) }
+        ensures disk { result ≡ Err Deny.Disk → self.new.state ≡ shut_at (Order kind counts) self.old.state }
+        ensures cause { result ≡ Err Deny.Disk → Rose (D.faults self.old.disk) (D.faults self.new.disk) }
+        ensures same { IfErr result (λ e. e ≢ Deny.Disk → self.new ≡ self.old) }
+        ensures keeps { Keeps D.Disk NoEntry self.old self.new }
+        ensures kept { OnOk result (Leaves D.Disk self.new.disk self.new.state.records) }
+    {
         self.mech.ready()?;
         self.ledger.reserve_two()?;
         self.ledger.order(kind, counts)?;

@@ -5,7 +5,7 @@ ghost use Rattle.xfs_journal.specs.Journal.{nonce_text};
 
 /// A nonce: its text of 32 upper-case hexadecimal digits, and the number of its issue. The text is
 /// 16 digits of the word that the seed gave for the issue, then 16 of the number.
-#[derive(Clone, Copy, Debug, PartialEq, Eq)]
+#[derive(Clone, Copy)]
 pub struct Nonce {
     pub text: [u8; 32],
     pub number: u64,

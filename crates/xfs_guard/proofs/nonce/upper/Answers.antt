@@ -1,4 +1,4 @@
-use Rattle.std.proofs.Common.{◌∙◌, ap, sym, map}
+use Rattle.std.proofs.Common.{◌∙◌, ap, map}
 use Rattle.std.specs.Char.{to_ascii_uppercase}
 use Rattle.xfs_guard.proofs.DigitLaws.{upper-encoded}
 use Rattle.xfs_guard.proofs.nonce.upper.Goals as goal
