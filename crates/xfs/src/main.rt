@@ -2,6 +2,9 @@
 //! status. Only `serve` listens on ports and keeps its journal in a file; `client` dials.
 #![tactic(auto)]
 
+ghost use Rattle.std.specs.Prelude.{◌≡◌};
+ghost use Rattle.xfs_guard.specs.Starts.{AtRest, Starts};
+
 mod outside;
 mod start_fault;
 
@@ -12,12 +15,12 @@ use std::io;
 use std::process::ExitCode;
 use std::sync::Wait;
 use std::thread::Threads;
-use xfs_base::{StdClock, StdSink, StdSource};
+use xfs_base::{Clock, StdClock, StdSink, StdSource};
 use xfs_cli::run;
-use xfs_disk::FileDisk;
+use xfs_disk::{Disk, FileDisk};
 use xfs_guard::Bench;
-use xfs_mech::SimWatch;
-use xfs_server::OpenGate;
+use xfs_mech::{Mechanism, SimWatch};
+use xfs_server::{Doors, OpenGate};
 use xfs_simulated::{
     LIMITS, Secrets, card_news, core_resumed, core_under, empty, key_news, mechanism, units,
 };
@@ -66,20 +69,7 @@ fn serve<R: Threads + Wait + Sync>(
         cards: card_news(alloc)?,
         keys: key_news(alloc)?,
     };
-    let mut source = StdSource::new(host.reader());
-    let mut sink = StdSink::new(io::writer(host));
-    let ended = run(
-        rt,
-        alloc,
-        words,
-        &mut source,
-        &mut sink,
-        bench,
-        &clock,
-        &mut doors,
-        &OpenGate,
-    );
-    Ok(ended.status)
+    Ok(run_over(rt, host, words, bench, &clock, &mut doors))
 }
 
 // Every other command: its doors only dial, and its disk is in memory.
@@ -99,20 +89,42 @@ fn other<R: Threads + Wait + Sync>(
         cards: silent(alloc),
         keys: silent(alloc),
     };
+    Ok(run_over(rt, host, words, bench, &clock, &mut doors))
+}
+
+// Runs the program from standard input to standard output; the status.
+fn run_over<
+    R: Threads + Wait + Sync,
+    M: Mechanism + Send,
+    D: Disk + Send,
+    C: Clock + Sync,
+    O: Doors,
+>(
+    rt: &R,
+    host: &HostRuntime,
+    words: &[String],
+    bench: Bench<M, D, SimWatch, SimWatch>,
+    clock: &C,
+    doors: &mut O,
+) -> u8
+    requires units { M.units bench.core.mech ≡ bench.core.units }
+    requires starts { Starts M.Mechanism D.Disk bench.core }
+    requires at_rest { AtRest D.Disk bench.core.disk }
+{
     let mut source = StdSource::new(host.reader());
     let mut sink = StdSink::new(io::writer(host));
     let ended = run(
         rt,
-        alloc,
+        host.alloc(),
         words,
         &mut source,
         &mut sink,
         bench,
-        &clock,
-        &mut doors,
+        clock,
+        doors,
         &OpenGate,
     );
-    Ok(ended.status)
+    ended.status
 }
 
 // A watch that has nothing to tell.

@@ -11,6 +11,23 @@ use std::thread::Threads;
 use std::time::{Clock, Duration};
 use xfs_turn::{Seat, Turn};
 
+/// How many turns so many threads took, under the turn lock, under std's Mutex, or as those that wait for one. None for a
+/// name of neither, and where memory ran out.
+pub fn taken<R: Threads + Wait + Clock + Sync>(
+    rt: &R,
+    alloc: Global,
+    lock: &str,
+    threads: u32,
+    turns: u32,
+) -> Option<u64> {
+    match lock {
+        "turn" => under_turn(rt, alloc, threads, turns),
+        "mutex" => Some(under_mutex(rt, threads, turns)),
+        "wait" => waiting(rt, alloc, threads, turns),
+        _ => None,
+    }
+}
+
 // The turns of one thread.
 fn take_turns<R: Wait>(rt: &R, turn: &Turn<Tally>, mut seat: Seat<Tally>, turns: u32) -> Seat<Tally>
     requires lock { seat.lock ≡ turn.now }
@@ -59,8 +76,8 @@ fn side_by_side<R: Threads + Wait + Sync>(
     one
 }
 
-/// So many threads take so many turns each under the turn lock: how many were taken. None where memory ran out.
-pub fn under_turn<R: Threads + Wait + Sync>(
+// So many threads take so many turns each under the turn lock: how many were taken. None where memory ran out.
+fn under_turn<R: Threads + Wait + Sync>(
     rt: &R,
     alloc: Global,
     threads: u32,
@@ -108,8 +125,8 @@ fn take_held<R: Threads + Wait + Sync>(
     unreachable!()
 }
 
-/// So many threads wait for so many turns each, the first while another holds it for a second: how many were taken.
-pub fn waiting<R: Threads + Wait + Clock + Sync>(
+// So many threads wait for so many turns each, the first while another holds it for a second: how many were taken.
+fn waiting<R: Threads + Wait + Clock + Sync>(
     rt: &R,
     alloc: Global,
     threads: u32,
@@ -164,8 +181,8 @@ fn locks_side_by_side<R: Threads + Wait + Sync>(
     );
 }
 
-/// The same as `under_turn` under std's Mutex.
-pub fn under_mutex<R: Threads + Wait + Sync>(rt: &R, threads: u32, turns: u32) -> u64 {
+// The same as `under_turn` under std's Mutex.
+fn under_mutex<R: Threads + Wait + Sync>(rt: &R, threads: u32, turns: u32) -> u64 {
     let tally = Mutex::new(Tally { taken: 0 });
     locks_side_by_side(rt, &tally, threads, turns);
     tally.into_inner().taken

@@ -1,5 +1,5 @@
 use Rattle.std.proofs.Common.{◌≡◌}
-use Rattle.xfs_turn_bench.proofs.turns.take_turns.Given as goal
+use Rattle.xfs_bench.proofs.turns.take_turns.Given as goal
 
 -- the seat is of this lock
 abbrev pub invariant-loop : goal.invariant-loop
