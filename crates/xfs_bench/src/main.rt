@@ -31,6 +31,7 @@ const THREADS: u32 = 8;
 
 // A turn and a text cost much less than the dearest of the works.
 const TURNS_A_WORK: u32 = 500;
+
 const TEXTS_A_WORK: u32 = 50;
 
 // Does a work and prints its line. False where an answer was not right.
