@@ -1,0 +1,431 @@
+ghost use Rattle.std.specs.Prelude.{IfOk};
+ghost use Rattle.xfs_journal.specs.Image.{HasUnit};
+
+use std::alloc::Global;
+use std::fs::{self, File};
+use std::test::Fail;
+use xfs_base::{Counts, Kind, Places};
+use xfs_disk::{Disk, FailDisk, FileDisk, FuseDisk, MemDisk};
+use xfs_journal::{
+    AppendFault, BodyFault, Journal, Limits, MountFault, Rec, Survey, Text, read_body,
+};
+
+const LIMITS: Limits = Limits {
+    records: 1_000_000,
+    bytes: 268_435_456,
+};
+
+const NONE: Counts = Counts([0; 8]);
+
+fn disk(alloc: Global, bytes: &[u8]) -> Result<MemDisk, Fail> {
+    Ok(MemDisk::new(alloc, bytes.to_vec(alloc)?))
+}
+
+fn mounted<D: Disk>(alloc: Global, disk: D) -> Result<Journal<D>, Fail> {
+    match Journal::mount(alloc, disk, LIMITS) {
+        Ok(journal) => Ok(journal),
+        Err(_) => Err("the disk is not mounted")?,
+    }
+}
+
+// 100 notes in each of four units, and none elsewhere.
+fn boot(alloc: Global) -> Result<Rec, Fail>
+    ensures { IfOk result HasUnit }
+{
+    let places = Places {
+        units: Counts([100, 100, 100, 100, 0, 0, 0, 0]),
+        transport: NONE,
+        outlet: NONE,
+        taken: NONE,
+        retracted: NONE,
+        rejected: NONE,
+    };
+    let places = Survey::new(alloc, places)?;
+    Ok(Rec::Boot { places })
+}
+
+fn issue() -> Rec
+    ensures { HasUnit result }
+{
+    Rec::Issue {
+        number: 1,
+        word: 0xE56A_5D40_28BD_8653,
+    }
+}
+
+// The file after the boot of an empty disk with four units of 100 notes, and an issue.
+fn short_file(alloc: Global) -> Result<Vec<u8>, Fail> {
+    let mut bytes = b"XFSJRNL1\x01\x00\xC1\x42".to_vec(alloc)?;
+    for _ in 0..4 {
+        bytes.extend_from_slice(&[0, 0, 0, 100])?;
+    }
+    for _ in 0..176 {
+        bytes.push(0)?;
+    }
+    bytes.extend_from_slice(&[1, 0, 17, 0x49, 0, 0, 0, 0, 0, 0, 0, 1])?;
+    bytes.extend_from_slice(&[0xE5, 0x6A, 0x5D, 0x40, 0x28, 0xBD, 0x86, 0x53, 0])?;
+    Ok(bytes)
+}
+
+// The first 204 bytes of it, and a closed gate.
+fn boot_file(alloc: Global) -> Result<Vec<u8>, Fail> {
+    let mut bytes = short_file(alloc)?;
+    bytes.truncate(204);
+    bytes.push(0)?;
+    Ok(bytes)
+}
+
+#[test]
+fn a_boot_and_an_issue_are_205_and_225_bytes(rt: HostRuntime) -> Result<(), Fail> {
+    let alloc = rt.alloc();
+    let mut journal = mounted(alloc, disk(alloc, &[])?)?;
+    assert!(rt; journal.reserve(2).is_ok());
+    assert!(rt; journal.append(boot(alloc)?) == Ok(1));
+    assert!(rt;
+        journal.left()
+            == Limits {
+                records: 999_999,
+                bytes: 268_435_251
+            }
+    );
+    let file = journal.end();
+    assert_eq!(rt; file.bytes(), boot_file(alloc)?.as_slice());
+    let mut again = mounted(alloc, file)?;
+    assert!(rt; again.append(issue()) == Ok(2));
+    assert!(rt; !again.shut());
+    assert_eq!(rt; again.records().len(), 2);
+    assert_eq!(rt; again.end().bytes(), short_file(alloc)?.as_slice());
+    Ok(())
+}
+
+#[test]
+fn an_expire_is_one_letter(rt: HostRuntime) -> Result<(), Fail> {
+    let alloc = rt.alloc();
+    let mut journal = mounted(alloc, MemDisk::new(alloc, short_file(alloc)?))?;
+    assert!(rt; journal.append(Rec::Expire) == Ok(3));
+    let mut bytes = short_file(alloc)?;
+    bytes.truncate(224);
+    bytes.extend_from_slice(&[1, 0, 1, 0x45, 0])?;
+    let file = journal.end();
+    assert_eq!(rt; file.bytes(), bytes.as_slice());
+    let again = mounted(alloc, file)?;
+    assert!(rt;
+        matches!(
+            again.records(),
+            [Rec::Boot { .. }, Rec::Issue { .. }, Rec::Expire]
+        )
+    );
+    Ok(())
+}
+
+// How many records a crash leaves of the booted file, where an issue was begun on it and the disk failed after so
+// many calls, and whether the issue was acknowledged.
+fn crashed(alloc: Global, calls: u64, pick: u64) -> Result<(usize, bool), Fail> {
+    let file = boot_file(alloc)?;
+    match Journal::mount(alloc, FuseDisk::new(disk(alloc, &file)?, calls), LIMITS) {
+        Ok(mut journal) => {
+            let acknowledged = journal.append(issue()).is_ok();
+            let left = mounted(alloc, journal.end().inner().crash(pick))?;
+            Ok((left.records().len(), acknowledged))
+        }
+        Err(refused) => {
+            let left = mounted(alloc, refused.disk.inner().crash(pick))?;
+            Ok((left.records().len(), false))
+        }
+    }
+}
+
+// A mount of one page makes three calls, and an append four.
+#[test]
+fn an_append_is_there_whole_or_not_after_a_crash_in_any_call(rt: HostRuntime) -> Result<(), Fail> {
+    for calls in 0..=7 {
+        for pick in 0..=7 {
+            let (records, acknowledged) = crashed(rt.alloc(), calls, pick)?;
+            assert_eq!(rt; acknowledged, calls == 7, "after {calls} calls");
+            let opened = calls == 7 || calls == 6 && pick == 1;
+            assert_eq!(rt;
+                records,
+                if opened { 2 } else { 1 },
+                "after {calls} calls, pick {pick}"
+            );
+        }
+    }
+    Ok(())
+}
+
+#[test]
+fn a_gate_byte_opens_for_one_alone_of_its_256_values(rt: HostRuntime) -> Result<(), Fail> {
+    for byte in 0..=255 {
+        let (records, _) = crashed(rt.alloc(), 6, 256 + byte)?;
+        assert_eq!(rt; records, if byte == 1 { 2 } else { 1 }, "left {byte}");
+    }
+    Ok(())
+}
+
+// The number of records of a file, or the place from which it is no journal.
+fn count_in(alloc: Global, bytes: &[u8]) -> Result<Result<usize, u64>, Fail> {
+    match Journal::mount(alloc, disk(alloc, bytes)?, LIMITS) {
+        Ok(journal) => Ok(Ok(journal.records().len())),
+        Err(refused) => match refused.why {
+            MountFault::NotJournal { at } => {
+                let same = refused.disk.bytes() == bytes;
+                if same {
+                    Ok(Err(at))
+                } else {
+                    Err("a refused file was written")?
+                }
+            }
+            _ => Err("the disk failed")?,
+        },
+    }
+}
+
+#[test]
+fn a_file_that_is_cut_is_refused_at_the_record_that_is_not_whole(
+    rt: HostRuntime,
+) -> Result<(), Fail> {
+    let alloc = rt.alloc();
+    let file = short_file(alloc)?;
+    for (from, to, answer) in [
+        (0, 10, Ok(0)),
+        (10, 204, Err(8)),
+        (204, 224, Err(204)),
+        (224, 225, Err(224)),
+        (225, 226, Ok(2)),
+    ] {
+        for len in from..to {
+            let prefix = file.get(..len).ok_or("shorter")?;
+            assert_eq!(rt; count_in(alloc, prefix)?, answer, "cut to {len}");
+        }
+    }
+    assert_eq!(rt; count_in(alloc, &[0xFF; 9])?, Ok(0));
+    assert_eq!(rt; count_in(alloc, &[0xFF; 10])?, Err(0));
+    Ok(())
+}
+
+#[test]
+fn a_body_of_another_form_is_refused(rt: HostRuntime) -> Result<(), Fail> {
+    let alloc = rt.alloc();
+    let rows: [(&[u8], bool); 10] = [
+        (b"C", true),
+        (b"C\0", false),
+        (b"", false),
+        (b"I\0\0\0\0\0\0\0\x01\0\0\0\0\0\0\0\x02", true),
+        (b"I\0\0\0\0\0\0\0\x01\0\0\0\0\0\0\0", false),
+        (b"L\x08\0\0\0\x05", true),
+        (b"L\0\0\0\0\x05", false),
+        (b"L\x09\0\0\0\x05", false),
+        (b"Ttoken", true),
+        (b"T", false),
+    ];
+    for (body, is_one) in rows {
+        match read_body(alloc, body) {
+            Ok(_) => assert!(rt; is_one),
+            Err(fault) => assert!(rt; fault == BodyFault::Form && !is_one),
+        }
+    }
+    assert!(rt;
+        Text::new(b"token".to_vec(alloc)?).is_some_and(|text| text.bytes() == b"token".as_slice())
+    );
+    Ok(())
+}
+
+// So many orders, each of another count; a record of 37 bytes begins at every offset of a page.
+fn orders_file(alloc: Global, count: u32) -> Result<Vec<u8>, Fail> {
+    let mut bytes = b"XFSJRNL1".to_vec(alloc)?;
+    for number in 0..count {
+        bytes.extend_from_slice(&[1, 0, 34, 0x4F, 2])?;
+        bytes.extend_from_slice(&number.to_be_bytes())?;
+        for _ in 0..28 {
+            bytes.push(0)?;
+        }
+    }
+    bytes.push(0)?;
+    Ok(bytes)
+}
+
+fn first_count(rec: &Rec) -> Option<u32> {
+    match rec {
+        Rec::Order {
+            kind: Kind::Present,
+            counts,
+        } => Some(counts.0[0]),
+        _ => None,
+    }
+}
+
+#[test]
+fn records_cross_pages_at_every_offset_and_each_page_is_read_once(
+    rt: HostRuntime,
+) -> Result<(), Fail> {
+    let alloc = rt.alloc();
+    for (orders, reads) in [(0, 1), (120, 2), (4096, 38)] {
+        let journal = mounted(alloc, disk(alloc, &orders_file(alloc, orders)?)?)?;
+        assert_eq!(rt; journal.records().len(), orders as usize);
+        let mut number = 0;
+        for rec in journal.records() {
+            assert_eq!(rt; first_count(rec), Some(number));
+            number = number.wrapping_add(1);
+        }
+        let file = journal.end();
+        assert_eq!(rt; file.reads(), reads, "of {orders} orders");
+        assert_eq!(rt; file.widest(), 4096);
+    }
+    Ok(())
+}
+
+// The body behind an open gate byte, and what follows it.
+fn split_block(block: &[u8]) -> Option<(&[u8], &[u8])> {
+    let ([_, high, low], behind) = block.split_first_chunk::<3>()?;
+    behind.split_at_checked(usize::from(u16::from_be_bytes([*high, *low])))
+}
+
+// A plain reader: the whole file is one slice. It shows the records, or the place from which they are none.
+fn plain(alloc: Global, bytes: &[u8]) -> Result<Result<String, u64>, Fail> {
+    let Some(mut rest) = bytes.strip_prefix(b"XFSJRNL1".as_slice()) else {
+        return Ok(Err(0));
+    };
+    let mut records = Vec::new(alloc);
+    for _ in 0..bytes.len() {
+        let at = bytes.len().saturating_sub(rest.len()) as u64;
+        match rest.first() {
+            Some(1) => {}
+            Some(_) => return Ok(Ok(format!(in alloc; "{:?}", records.as_slice())?)),
+            None => return Ok(Err(at)),
+        }
+        let Some((body, behind)) = split_block(rest) else {
+            return Ok(Err(at));
+        };
+        match read_body(alloc, body) {
+            Ok(rec) => records.push(rec)?,
+            Err(_) => return Ok(Err(at)),
+        }
+        rest = behind;
+    }
+    Err("the file has no end")?
+}
+
+fn paged(alloc: Global, bytes: &[u8]) -> Result<Result<String, u64>, Fail> {
+    match Journal::mount(alloc, disk(alloc, bytes)?, LIMITS) {
+        Ok(journal) => Ok(Ok(format!(in alloc; "{:?}", journal.records())?)),
+        Err(refused) => match refused.why {
+            MountFault::NotJournal { at } => Ok(Err(at)),
+            _ => Err("the disk failed")?,
+        },
+    }
+}
+
+// Records of every kind, across the end of the first page.
+fn mixed_file(alloc: Global) -> Result<Vec<u8>, Fail> {
+    let mut bytes = orders_file(alloc, 110)?;
+    bytes.truncate(4078);
+    bytes.extend_from_slice(b"\x01\0\x01C\x01\0\x06Ttoken\x01\0\x06L\x08\0\0\0\x05\x01\0\x41D")?;
+    for _ in 0..64 {
+        bytes.push(1)?;
+    }
+    let booted = short_file(alloc)?;
+    bytes.extend_from_slice(booted.get(8..).ok_or("shorter")?)?;
+    Ok(bytes)
+}
+
+// One byte is another in each of 200 files, and every fourth of them ends behind it.
+#[test]
+fn the_paged_reader_finds_what_a_plain_one_finds(rt: HostRuntime) -> Result<(), Fail> {
+    let alloc = rt.alloc();
+    for number in 0..200 {
+        let mut file = mixed_file(alloc)?;
+        let place = 4075 + number;
+        if number % 4 == 3 {
+            file.truncate(place + 1);
+        }
+        *file.get_mut(place).ok_or("shorter")? = [0, 1, 2, 64, 255][number % 5];
+        assert_eq!(rt; paged(alloc, &file)?, plain(alloc, &file)?, "file {number}");
+    }
+    Ok(())
+}
+
+// A remount of the booted file over a disk whose call of this number, from 1, fails in an append.
+fn remounted(alloc: Global, call: u64) -> Result<(usize, usize), Fail> {
+    let failing = FailDisk::new(disk(alloc, &boot_file(alloc)?)?, [call].to_vec(alloc)?);
+    let mut journal = mounted(alloc, failing)?;
+    let refused = journal.append(issue()) == Err(AppendFault::Disk);
+    if !refused || !journal.shut() || journal.append(boot(alloc)?) != Err(AppendFault::Shut) {
+        Err("the append is not refused")?
+    }
+    journal.remount()?;
+    let read = journal.records().len();
+    journal.append(issue())?;
+    let left = mounted(alloc, journal.end().inner().crash(0))?;
+    Ok((read, left.records().len()))
+}
+
+// The mount makes three calls. A call that fails does nothing, so the record is there where its last sync failed.
+#[test]
+fn a_journal_goes_on_after_a_fault_in_each_call_of_an_append(rt: HostRuntime) -> Result<(), Fail> {
+    for (call, read) in [(4, 1), (5, 1), (6, 1), (7, 2)] {
+        assert_eq!(rt;
+            remounted(rt.alloc(), call)?,
+            (read, read + 1),
+            "call {call}"
+        );
+    }
+    Ok(())
+}
+
+// A file holds what others write into it, and tells nothing of it.
+#[test]
+fn a_file_with_another_list_is_refused_where_it_differs(rt: HostRuntime) -> Result<(), Fail> {
+    let alloc = rt.alloc();
+    let kept = short_file(alloc)?;
+    fs::write(&rt, "xfs_journal.test", kept.as_slice())?;
+    let file = File::options()
+        .read(true)
+        .write(true)
+        .open(&rt, "xfs_journal.test")?;
+    let mut journal = mounted(alloc, FileDisk::new(file))?;
+    let rows: [(usize, &[u8], u64); 5] = [
+        (204, b"\0", 204),
+        (204, b"\x01\0\x01C\0", 204),
+        (224, b"\x01\0\x01C\0", 224),
+        (8, b"\x01\0", 8),
+        (0, b"nothing", 8),
+    ];
+    for (len, behind, at) in rows {
+        let mut other = kept.get(..len).ok_or("shorter")?.to_vec(alloc)?;
+        other.extend_from_slice(behind)?;
+        fs::write(&rt, "xfs_journal.test", other.as_slice())?;
+        assert!(rt;
+            journal.remount() == Err(MountFault::NotJournal { at }),
+            "at {at}"
+        );
+        assert!(rt; journal.shut());
+        assert_eq!(rt;
+            fs::read(&rt, "xfs_journal.test")?.as_slice(),
+            other.as_slice()
+        );
+        fs::write(&rt, "xfs_journal.test", kept.as_slice())?;
+        assert!(rt; journal.remount() == Ok(()));
+        assert!(rt; !journal.shut());
+    }
+    assert!(rt; journal.append(Rec::Clear) == Ok(3));
+    fs::remove_file(&rt, "xfs_journal.test")?;
+    Ok(())
+}
+
+#[test]
+fn at_most_9_bytes_are_made_an_empty_journal_again(rt: HostRuntime) -> Result<(), Fail> {
+    let alloc = rt.alloc();
+    fs::write(&rt, "xfs_journal_short.test", b"")?;
+    let file = File::options()
+        .read(true)
+        .write(true)
+        .open(&rt, "xfs_journal_short.test")?;
+    let mut journal = mounted(alloc, FileDisk::new(file))?;
+    fs::write(&rt, "xfs_journal_short.test", b"short")?;
+    assert!(rt; journal.remount() == Ok(()));
+    assert!(rt; journal.append(boot(alloc)?) == Ok(1));
+    let bytes = fs::read(&rt, "xfs_journal_short.test")?;
+    assert_eq!(rt; bytes.as_slice(), boot_file(alloc)?.as_slice());
+    fs::remove_file(&rt, "xfs_journal_short.test")?;
+    Ok(())
+}
