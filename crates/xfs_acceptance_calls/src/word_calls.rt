@@ -4,7 +4,7 @@ use std::process::Abort;
 use std::test::Fail;
 use xfs_words::{read, spelled};
 
-// Words with strokes between them, and the command that they name.
+// Words with strokes between them, and the command that they name; the letters are those of EUR.
 const WORDS: &str = "guard => Guard
 token => Token
 replay => Replay
@@ -19,11 +19,11 @@ serve/1 => Serve(1)
 serve/10001 => Serve(10001)
 serve/1000000 => Serve(1000000)
 serve/+0000016 => Serve(16)
-client/EUR/70 => Client(EUR, 70)
-client/EUR/1 => Client(EUR, 1)
-client/EUR/+0070 => Client(EUR, 70)
-client/EUR/10001 => Client(EUR, 10001)
-client/EUR/1000000 => Client(EUR, 1000000)
+client/EUR/70 => Client(Currency { letters: [69, 85, 82] }, 70)
+client/EUR/1 => Client(Currency { letters: [69, 85, 82] }, 1)
+client/EUR/+0070 => Client(Currency { letters: [69, 85, 82] }, 70)
+client/EUR/10001 => Client(Currency { letters: [69, 85, 82] }, 10001)
+client/EUR/1000000 => Client(Currency { letters: [69, 85, 82] }, 1000000)
  => none
 /8 => none
   => none
