@@ -82,28 +82,6 @@ fn a_run_ends_with_its_input_or_at_a_line(rt: HostRuntime) -> Result<(), Fail> {
     Ok(())
 }
 
-/// Gives `a` so many times and then `no`, a line a call.
-#[derive(Drop)]
-struct Many {
-    left: u32,
-}
-
-impl Source for Many {
-    ghost left = { λ _. None };
-
-    ghost faults = { λ _. 0 };
-
-    fn read(&mut self, into: &mut [u8]) -> Result<usize, Failed> {
-        if self.left == 0 || into.len() < 3 {
-            return Ok(0);
-        }
-        self.left -= 1;
-        let line: &[u8; 3] = if self.left == 0 { b"no\n" } else { b"#a\n" };
-        into[..3].copy_from_slice(line);
-        Ok(3)
-    }
-}
-
 /// Counts the lines that it takes.
 #[derive(Drop)]
 struct Tally<'a> {
@@ -121,28 +99,6 @@ impl<'a> Sink for Tally<'a> {
         }
         Ok(bytes.len())
     }
-}
-
-#[test]
-fn a_run_goes_on_past_100_000_lines_to_the_first_that_is_none(rt: HostRuntime) -> Result<(), Fail> {
-    let alloc = rt.alloc();
-    for number in [1_001u32, 100_001] {
-        let taken = Cell::new(0);
-        let ending = answer_lines(
-            alloc,
-            &mut Echo { alloc },
-            &mut Many { left: number },
-            &mut Tally { taken: &taken },
-        );
-        assert_eq!(rt;
-            ending,
-            Ending::NotALine {
-                number: u64::from(number)
-            }
-        );
-        assert_eq!(rt; taken.get(), number - 1);
-    }
-    Ok(())
 }
 
 /// Gives a line a call, and sees whether the answers to those before were taken.

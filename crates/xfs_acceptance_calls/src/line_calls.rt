@@ -4,7 +4,7 @@ use crate::tables::halves;
 use std::alloc::Global;
 use std::test::Fail;
 use xfs_base::{Counts, Failed, MemSource, Source};
-use xfs_script::{Given, GuardLine, Line, LineFault, Lines, counts_text, read_guard};
+use xfs_script::{Given, GuardLine, LineFault, Lines, counts_text, read_guard};
 
 /// Gives one byte a call.
 #[derive(Drop)]
@@ -57,36 +57,6 @@ fn lines_in_whatever_pieces(rt: HostRuntime) -> Result<(), Fail> {
             inner: MemSource::new(input.as_bytes().to_vec(alloc)?, Vec::new(alloc)),
         };
         assert!(rt; joined(alloc, &mut drip)?.as_slice() == expected.as_bytes());
-    }
-    Ok(())
-}
-
-// What comes first of an input of so many bytes `#` and these behind them.
-fn first(alloc: Global, count: usize, end: &str) -> Result<Result<Option<Line>, LineFault>, Fail> {
-    let mut bytes = vec![in alloc; b'#'; count]?;
-    bytes.extend_from_slice(end.as_bytes())?;
-    let mut source = MemSource::new(bytes, Vec::new(alloc));
-    Ok(Lines::new(alloc).next(&mut source))
-}
-
-#[test]
-fn a_line_has_at_most_70_000_bytes(rt: HostRuntime) -> Result<(), Fail> {
-    for (count, end, fits) in [
-        (70_000, "", true),
-        (70_000, "\r\nshow\n", true),
-        (70_000, "\n", true),
-        (70_001, "", false),
-        (70_001, "\r\n", false),
-        (70_000, "\r\r\n", false),
-        (70_001, "\nshow\n", false),
-        (300_000, "\n", false),
-    ] {
-        let is_due = match first(rt.alloc(), count, end)? {
-            Ok(Some(line)) => fits && line.number == 1 && line.text.list().len() == 70_000,
-            Ok(None) => false,
-            Err(fault) => !fits && fault == LineFault::TooLong { number: 1 },
-        };
-        assert!(rt; is_due, "{count}");
     }
     Ok(())
 }
