@@ -163,7 +163,12 @@ fn answers_are_written(rt: HostRuntime) -> Result<(), Fail> {
     let (cancel, clear) = (cancel.ok().ok_or("a name")?, clear.ok().ok_or("a name")?);
     stand_at(&rt, &acknowledges(rt.alloc(), &cancel)?, 0);
     stand_at(&rt, &others(rt.alloc(), &clear)?, 4);
-    let last = record_note(rt.alloc(), u64::MAX)?.to_vec(rt.alloc())?;
-    assert!(rt; last.as_slice() == b"{\"journalRecord\":18446744073709551615}".as_slice());
+    for (number, due) in [
+        (6, "{\"journalRecord\":6}"),
+        (u64::MAX, "{\"journalRecord\":18446744073709551615}"),
+    ] {
+        let note = record_note(rt.alloc(), number)?.to_vec(rt.alloc())?;
+        assert!(rt; note.as_slice() == due.as_bytes());
+    }
     Ok(())
 }

@@ -11,19 +11,16 @@ fn bench() -> Result<UnitTable, Fail> {
     Ok(UnitTable::new(&kinds).ok_or("a table")?)
 }
 
-// Units of EUR with these values.
-fn euros<const N: usize>(values: [u32; N]) -> Result<UnitTable, Fail> {
-    let currency = Currency::new(b"EUR").ok_or("letters")?;
-    let kinds = values.map(|value| NoteKind { currency, value });
-    Ok(UnitTable::new(&kinds).ok_or("a table")?)
-}
-
 // More notes than a unit of a machine has, and another currency; what comes of two of 25 or of one of 40 and one of 10.
 #[test]
 fn the_fewest_notes(rt: HostRuntime) -> Result<(), Fail> {
     let euro = Currency::new(b"EUR").ok_or("letters")?;
     let pound = Currency::new(b"GBP").ok_or("letters")?;
-    let ones = euros([1; 8])?;
+    let kind = |value| NoteKind {
+        currency: euro,
+        value,
+    };
+    let ones = UnitTable::new(&[kind(1); 8]).ok_or("a table")?;
     for (first, fault) in [(1_000_000, MixFault::TooMany), (999_999, MixFault::Nothing)] {
         let have = Counts([first, 0, 0, 0, 0, 0, 0, 0]);
         let mix = least(rt.alloc(), &ones, &have, euro, 1_000_000);
@@ -31,7 +28,7 @@ fn the_fewest_notes(rt: HostRuntime) -> Result<(), Fail> {
     }
     let have = Counts([100, 100, 100, 100, 0, 0, 0, 0]);
     assert!(rt; least(rt.alloc(), &bench()?, &have, pound, 10) == Err(MixFault::Nothing));
-    let fives = euros([40, 25, 10, 5, 1])?;
+    let fives = UnitTable::new(&[40, 25, 10, 5, 1].map(kind)).ok_or("a table")?;
     let have = Counts([9, 9, 9, 9, 9, 0, 0, 0]);
     let mix = least(rt.alloc(), &fives, &have, euro, 50);
     assert!(rt; mix.map(|mix| mix.notes()) == Ok(2));
