@@ -4,7 +4,11 @@
 #[cfg(test)]
 mod base_calls;
 #[cfg(test)]
+mod cash_calls;
+#[cfg(test)]
 mod conversation_calls;
+#[cfg(test)]
+mod crash_calls;
 #[cfg(test)]
 mod hearing_calls;
 #[cfg(test)]
