@@ -6,9 +6,13 @@ mod answer_calls;
 #[cfg(test)]
 mod base_calls;
 #[cfg(test)]
+mod cash_calls;
+#[cfg(test)]
 mod client_calls;
 #[cfg(test)]
 mod conversation_calls;
+#[cfg(test)]
+mod crash_calls;
 #[cfg(test)]
 mod device_calls;
 #[cfg(test)]
