@@ -1,8 +1,9 @@
+use crate::tables::halves;
 use std::test::Fail;
 use xfs_base::{Counts, Currency, NoteKind, Places, UnitTable};
 use xfs_json::parse;
 use xfs_mech::{Kind, Mechanism, Order, Outcome, SimMech, lies_in, places_fit};
-use xfs_units::{AddedFault, Book, read_added, storage};
+use xfs_units::{Book, read_added, storage};
 
 // 100 notes each of EUR 10 and USD 20, and one more on the transport.
 #[test]
@@ -36,36 +37,24 @@ fn storage_tells_the_notes_in_the_units(rt: HostRuntime) -> Result<(), Fail> {
     Ok(())
 }
 
+const ADDED: &str = "{} => Err(Shape)
+{\"storage\":{}} => Err(Shape)
+{\"storage\":{\"unit1\":null}} => Err(Shape)
+{\"storage\":{\"unit1\":{\"added\":0}}} => Err(Shape)
+{\"storage\":{\"unit1\":{\"added\":10001}}} => Err(Shape)
+{\"storage\":{\"unit1\":{\"added\":1.0}}} => Err(Shape)
+{\"storage\":{\"unit9\":{\"added\":1}}} => Err(Unit)
+{\"storage\":{\"unit9\":{\"added\":1},\"unit1\":{}}} => Err(Shape)
+{\"storage\":{\"unit8\":{\"added\":10000},\"unit1\":{\"added\":1}}} => Ok(Counts([1, 0, 0, 0, 0, 0, 0, 10000]))";
+
 #[test]
 fn what_is_added_has_its_shape_and_its_names(rt: HostRuntime) -> Result<(), Fail> {
-    for (payload, fault) in [
-        ("{}", AddedFault::Shape),
-        ("{\"storage\":{}}", AddedFault::Shape),
-        ("{\"storage\":{\"unit1\":null}}", AddedFault::Shape),
-        ("{\"storage\":{\"unit1\":{\"added\":0}}}", AddedFault::Shape),
-        (
-            "{\"storage\":{\"unit1\":{\"added\":10001}}}",
-            AddedFault::Shape,
-        ),
-        (
-            "{\"storage\":{\"unit1\":{\"added\":1.0}}}",
-            AddedFault::Shape,
-        ),
-        ("{\"storage\":{\"unit9\":{\"added\":1}}}", AddedFault::Unit),
-        (
-            "{\"storage\":{\"unit9\":{\"added\":1},\"unit1\":{}}}",
-            AddedFault::Shape,
-        ),
-    ] {
+    for row in ADDED.lines() {
+        let (payload, due) = halves(row);
         let value = parse(rt.alloc(), payload.as_bytes()).ok().ok_or("JSON")?;
-        assert_eq!(rt; read_added(&value), Err(fault), "{payload}");
+        let told = format!(in rt.alloc(); "{:?}", read_added(&value))?;
+        assert_eq!(rt; told.as_str(), due, "{payload}");
     }
-    let payload = "{\"storage\":{\"unit8\":{\"added\":10000},\"unit1\":{\"added\":1}}}";
-    let value = parse(rt.alloc(), payload.as_bytes()).ok().ok_or("JSON")?;
-    assert_eq!(rt;
-        read_added(&value),
-        Ok(Counts([1, 0, 0, 0, 0, 0, 0, 10_000]))
-    );
     Ok(())
 }
 

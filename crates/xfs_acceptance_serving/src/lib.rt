@@ -1,8 +1,20 @@
-//! The simulated machine, served over doors in memory, as tests.
+//! Sessions, workers, servers and clients over doors and links in memory, as tests: threads that come and end by themselves.
 #![tactic(auto)]
 
 #[cfg(test)]
 mod bench;
+#[cfg(test)]
+mod board_bench;
+#[cfg(test)]
+mod board_callers;
+#[cfg(test)]
+mod board_failing;
+#[cfg(test)]
+mod board_hostile;
+#[cfg(test)]
+mod board_sessions;
+#[cfg(test)]
+mod board_workers;
 #[cfg(test)]
 mod clients;
 #[cfg(test)]
@@ -10,9 +22,19 @@ mod doors;
 #[cfg(test)]
 mod rows;
 #[cfg(test)]
+mod run_client;
+#[cfg(test)]
+mod run_program;
+#[cfg(test)]
+mod run_serve;
+#[cfg(test)]
 mod runs;
 #[cfg(test)]
 mod scene;
+#[cfg(test)]
+mod servers;
+#[cfg(test)]
+mod sessions;
 #[cfg(test)]
 mod told;
 #[cfg(test)]

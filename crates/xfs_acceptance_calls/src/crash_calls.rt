@@ -1,0 +1,170 @@
+//! A machine that is switched off behind an order that was carried out and not settled.
+
+ghost use Rattle.std.specs.Prelude.{◌≡◌, Some, IfOk, IfErr};
+ghost use Rattle.xfs_guard.specs.Booting.{LeavesRecorded};
+ghost use Rattle.xfs_guard.specs.declared.open.Open.TheVariants.{No};
+ghost use Rattle.xfs_mech.specs.Sim.{units_of, motions_of};
+
+use std::alloc::Global;
+use std::process::Abort;
+use std::test::Fail;
+use xfs_base::{Counts, Currency, Kind};
+use xfs_disk::{Disk, MemDisk};
+use xfs_guard::{Ask, Core, Deny, Guard};
+use xfs_journal::Rec;
+use xfs_mech::{Mechanism, Motion, SimMech};
+use xfs_simulated::{LIMITS, core_on, empty, mechanism, units};
+
+const NONE: Counts = Counts([0; 8]);
+
+const TWENTY: Counts = Counts([0, 1, 0, 0, 0, 0, 0, 0]);
+
+// A token of EUR 50 for the first nonce, under the bench's key. The HMAC is that of Python's hmac and hashlib.
+const TOKEN: &[u8] =
+    b"NONCE=E56A5D4028BD86530000000000000001,TOKENFORMAT=1,TOKENLENGTH=0164,DISPENSE1=50.00EUR,HMACSHA256=3D5C9E3C4712EA6A5C3803CA4CB0E54958CB4C8778ACBBB26FEA1F6935956AC2";
+
+/// The simulated machine over an empty disk.
+pub fn fresh(alloc: Global) -> Result<Core<SimMech, MemDisk>, Fail>
+    ensures units { IfOk result (λ core. units_of core.mech ≡ core.units) }
+    ensures starts { IfOk result (λ core. LeavesRecorded ⟦<MemDisk as Disk>⟧ core.disk core.key core.units (Some (motions_of core.mech))) }
+{
+    let units = units().ok_or("the units")?;
+    let mech = mechanism(alloc, &units, Vec::new(alloc)).ok_or("the mechanism")?;
+    Ok(core_on(mech, units, empty(alloc), LIMITS))
+}
+
+/// A guard over a core, or the core as the refused boot handed it back.
+pub fn begun<M: Mechanism, D: Disk>(
+    alloc: Global,
+    core: Core<M, D>,
+) -> Result<Guard<M, D>, Core<M, D>>
+    requires units { M.units core.mech ≡ core.units }
+    requires starts { LeavesRecorded D.Disk core.disk core.key core.units (M.motions core.mech) }
+    ensures ok { IfOk result (λ g. (g.state.open_order ≡ No) × (g.state.key ≡ core.key)) }
+    ensures units { IfErr result (λ c. M.units c.mech ≡ c.units) }
+    ensures starts { IfErr result (λ c. LeavesRecorded D.Disk c.disk c.key c.units (M.motions c.mech)) }
+    ensures key { IfErr result (λ c. c.key ≡ core.key) }
+{
+    let Core {
+        mech,
+        disk,
+        key,
+        seed,
+        units,
+        limits,
+        life,
+    } = core;
+    match Guard::boot(alloc, mech, disk, key, seed, units.copied(), limits) {
+        Ok(guard) => Ok(guard),
+        Err(fail) => Err(Core {
+            mech: fail.mech,
+            disk: fail.disk,
+            key,
+            seed,
+            units,
+            limits,
+            life,
+        }),
+    }
+}
+
+// The machine, switched off.
+fn ended<M: Mechanism, D: Disk>(guard: Guard<M, D>, key: [u8; 32]) -> Core<M, D>
+    requires key { guard.state.key ≡ key }
+    ensures units { M.units result.mech ≡ result.units }
+    ensures starts { LeavesRecorded D.Disk result.disk result.key result.units (M.motions result.mech) }
+{
+    let units = guard.units().copied();
+    let (mech, disk) = guard.end();
+    Core {
+        mech,
+        disk,
+        key,
+        seed: [0; 32],
+        units,
+        limits: LIMITS,
+        life: 0,
+    }
+}
+
+// Stacks a note of EUR 20 on the token.
+fn stack<D: Disk>(rt: &impl Abort, guard: &mut Guard<SimMech, D>) -> Result<(), Deny>
+    requires none { guard.old.state.open_order ≡ No }
+    ensures none { guard.new.state.open_order ≡ No }
+    ensures key { guard.new.state.key ≡ guard.old.state.key }
+{
+    let claim = guard.check(TOKEN)?;
+    let issue = guard.allow(claim, &TWENTY)?.issue;
+    assert!(rt; 2 <= guard.units().len());
+    guard.order(Ask::Stack {
+        issue,
+        unit: 2,
+        count: 1,
+    })?;
+    guard.act();
+    guard.settle()
+}
+
+// Pays a note of EUR 20 out, and is cut off before the order to present is settled.
+fn present_unsettled<D: Disk>(
+    rt: &impl Abort,
+    guard: &mut Guard<SimMech, D>,
+) -> Result<Counts, Deny>
+    requires none { guard.old.state.open_order ≡ No }
+    ensures key { guard.new.state.key ≡ guard.old.state.key }
+{
+    guard.issue()?;
+    stack(rt, guard)?;
+    guard.order(Ask::Present)?;
+    Ok(guard.act().moved)
+}
+
+#[test]
+fn notes_that_were_put_out_and_not_settled_lie_in_the_outlet(rt: HostRuntime) -> Result<(), Fail> {
+    let core = fresh(rt.alloc())?;
+    let key = core.key;
+    let Ok(mut guard) = begun(rt.alloc(), core) else {
+        return Err("the machine doesn't boot")?;
+    };
+    assert_eq!(rt; present_unsettled(&rt, &mut guard)?, TWENTY);
+    let Ok(guard) = begun(rt.alloc(), ended(guard, key)) else {
+        return Err("the machine doesn't boot again")?;
+    };
+    let names = ["Boot", "Issue", "Bind", "Order", "Done", "Order", "Boot"];
+    let records = guard.records();
+    assert!(rt; records.len() == 7);
+    for i in 0..7 {
+        assert_eq!(rt; name_of(&records[i]), names[i], "record {i}");
+    }
+    assert_eq!(rt; guard.places().outlet, TWENTY);
+    let (mech, _disk) = guard.end();
+    assert!(rt; mech.motions() == [moved(4, Kind::Stack), moved(6, Kind::Present)].as_slice());
+    // What the order to present put out is worth EUR 20.
+    let units = units().ok_or("the units")?;
+    let currency = Currency::new(b"EUR").ok_or("letters")?;
+    assert_eq!(rt; TWENTY.value(&units, currency), 20_000);
+    Ok(())
+}
+
+fn name_of(record: &Rec) -> &'static str {
+    match record {
+        Rec::Issue { .. } => "Issue",
+        Rec::Clear => "Clear",
+        Rec::Expire => "Expire",
+        Rec::Boot { .. } => "Boot",
+        Rec::Bind { .. } => "Bind",
+        Rec::Order { .. } => "Order",
+        Rec::Done { .. } => "Done",
+        Rec::Load { .. } => "Load",
+    }
+}
+
+// What an order moved of the note.
+fn moved(number: u64, kind: Kind) -> Motion {
+    Motion::Moved {
+        number,
+        kind,
+        moved: TWENTY,
+        diverted: NONE,
+    }
+}

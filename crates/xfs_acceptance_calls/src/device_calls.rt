@@ -1,0 +1,84 @@
+//! Steps of the card slot and of the key pad that the machine never takes, since it begins one command at a time and
+//! stops one that waits alone.
+
+use crate::tables::halves;
+use std::alloc::Global;
+use std::test::Fail;
+use xfs_card::{CardAsk, CardEffect, CardEvent, CardState, step};
+use xfs_keyboard::{KeyEffect, KeyEvent, KeySet, KeyState, step as press};
+use xfs_mech::{KeyName, Tracks};
+
+// Events, and the last one's effect with the place of the card then.
+const STEPS: &str = "stop => nothing, empty
+inserted stop => nothing, inside
+inserted move stop => nothing, at the exit
+read read => insert a card, awaited
+read move => commandErrorCode {\"errorCode\":\"noMedia\"}, awaited
+read reset => success {}, awaited
+stop inserted => nothing, inside";
+
+fn event(alloc: Global, name: &str) -> Result<CardEvent, Fail> {
+    Ok(match name {
+        "read" => CardEvent::Begin(CardAsk::Read {
+            tracks: [false, true, false],
+        }),
+        "move" => CardEvent::Begin(CardAsk::Move),
+        "reset" => CardEvent::Begin(CardAsk::Reset),
+        "inserted" => {
+            let two = b";1234".to_vec(alloc)?;
+            CardEvent::Inserted(Tracks::new(None, Some(two), None).ok_or("tracks")?)
+        }
+        _ => CardEvent::Stop,
+    })
+}
+
+fn told(alloc: Global, effect: &CardEffect) -> Result<String, Fail> {
+    Ok(match effect {
+        CardEffect::Nothing => String::from_str(alloc, "nothing")?,
+        CardEffect::AskInsert => String::from_str(alloc, "insert a card")?,
+        CardEffect::Done(code, payload) => {
+            format!(in alloc; "{} {}", code.text(), payload.to_string(alloc)?)?
+        }
+        _ => return Err("an effect of no such step".into()),
+    })
+}
+
+// Where the card is, for which a reset is begun where it is not at the exit.
+fn place(alloc: Global, state: &mut CardState) -> Result<&'static str, Fail> {
+    if state.awaited() {
+        return Ok("awaited");
+    }
+    if state.at_exit() {
+        return Ok("at the exit");
+    }
+    let _effect = step(alloc, state, event(alloc, "reset")?)?;
+    Ok(if state.at_exit() { "inside" } else { "empty" })
+}
+
+fn stepped(alloc: Global, events: &str) -> Result<String, Fail> {
+    let mut state = CardState::new();
+    let mut effect = String::new(alloc);
+    for name in events.split(' ') {
+        effect = told(alloc, &step(alloc, &mut state, event(alloc, name)?)?)?;
+    }
+    Ok(format!(in alloc; "{effect}, {}", place(alloc, &mut state)?)?)
+}
+
+#[test]
+fn steps_that_the_machine_never_takes(rt: HostRuntime) -> Result<(), Fail> {
+    for row in STEPS.lines() {
+        let (events, due) = halves(row);
+        assert_eq!(rt; stepped(rt.alloc(), events)?.as_str(), due, "{events}");
+    }
+    let mut pad = KeyState::new();
+    let stopped = press(rt.alloc(), &mut pad, KeyEvent::Stop)?;
+    assert!(rt; matches!(stopped, KeyEffect::Nothing) && !pad.active());
+    Ok(())
+}
+
+#[test]
+fn sets_of_keys(rt: HostRuntime) {
+    let set = KeySet::none().with(KeyName::Backspace).with(KeyName::Zero);
+    assert!(rt; set.has(KeyName::Backspace) && set.has(KeyName::Zero));
+    assert!(rt; !set.has(KeyName::One) && !KeySet::none().has(KeyName::Zero));
+}

@@ -1,0 +1,86 @@
+use crate::tables::halves;
+use std::alloc::Global;
+use std::process::Abort;
+use std::test::Fail;
+use xfs_base::{Currency, Milli};
+use xfs_hmac::mac;
+use xfs_token::{Amounts, MakeFault, Token, genuine, make, read, read_amount, write};
+
+const NONCE: &[u8; 32] = b"254611E63B2531576314E86527338D61";
+
+const TEXT: &[u8; 164] =
+    b"NONCE=254611E63B2531576314E86527338D61,TOKENFORMAT=1,TOKENLENGTH=0164,DISPENSE1=50.00EUR,HMACSHA256=0000000000000000000000000000000000000000000000000000000000000000";
+
+// A key and a value, and why they are not added.
+const REFUSED: &str = "1KEY=1 => BadKey
+NONCE=1 => BadKey
+abc= => BadKey
+KEY= => BadValue
+KEY=a=b => BadValue";
+
+fn refuses(rt: &impl Abort, alloc: Global, token: &mut Token) -> Result<(), Fail> {
+    for row in REFUSED.lines() {
+        let (pair, due) = halves(row);
+        let (key, value) = pair.split_once("=").ok_or("a pair")?;
+        let fault = token.add(key.as_bytes(), value.as_bytes()).err();
+        let told = format!(in alloc; "{:?}", fault.ok_or("a fault")?)?;
+        assert_eq!(rt; told.as_str(), due, "{pair}");
+    }
+    Ok(())
+}
+
+// Whether a token is that of the text.
+fn is_of_text(token: &Token) -> bool {
+    token.len() == 1
+        && token.key(0) == b"DISPENSE1".as_slice()
+        && token.value(0) == b"50.00EUR".as_slice()
+        && token.nonce() == NONCE.as_slice()
+        && token.mac() == [0; 32]
+}
+
+#[test]
+fn a_token_is_built_written_and_read_back(rt: HostRuntime) -> Result<(), Fail> {
+    let alloc = rt.alloc();
+    assert!(rt; Token::begin(alloc, b"").is_err());
+    let mut token = Token::begin(alloc, NONCE)?;
+    refuses(&rt, alloc, &mut token)?;
+    token.add(b"DISPENSE1", b"50.00EUR")?;
+    assert!(rt; token.add(b"DISPENSE1", b"1.00EUR").is_err());
+    let text = write(alloc, &token)?;
+    assert!(rt; is_of_text(&token) && text.as_slice() == TEXT.as_slice());
+    assert!(rt; is_of_text(&read(alloc, &text)?));
+    Ok(())
+}
+
+#[test]
+fn a_token_is_genuine_under_its_key_alone(rt: HostRuntime) -> Result<(), Fail> {
+    let alloc = rt.alloc();
+    let mut token = read(alloc, TEXT)?;
+    assert!(rt; !genuine(&[0x0b; 32], TEXT, &token));
+    token.set_mac(mac(&[0x0b; 32], &TEXT[..88]));
+    let signed = write(alloc, &token)?;
+    assert!(rt; genuine(&[0x0b; 32], &signed, &token));
+    assert!(rt; !genuine(&[0x0c; 32], &signed, &token));
+    Ok(())
+}
+
+#[test]
+fn amounts_are_of_different_currencies_and_within_their_limit(rt: HostRuntime) -> Result<(), Fail> {
+    let euro = Currency::new(b"EUR").ok_or("EUR")?;
+    let pound = Currency::new(b"GBP").ok_or("GBP")?;
+    assert!(rt; Amounts::one(euro, Milli(1_000_000_000_000)).is_none());
+    let mut amounts = Amounts::one(euro, Milli(999_999_999_999)).ok_or("greatest")?;
+    assert!(rt; !amounts.add(euro, Milli(1)) && !amounts.add(pound, Milli(1_000_000_000_000)));
+    assert!(rt; amounts.add(pound, Milli(0)) && amounts.len() == 2);
+    assert!(rt; amounts.of(euro) == Milli(999_999_999_999) && amounts.of(pound) == Milli(0));
+    Ok(())
+}
+
+#[test]
+fn no_bytes_are_no_amount_and_small_digits_no_nonce(rt: HostRuntime) -> Result<(), Fail> {
+    let euro = Currency::new(b"EUR").ok_or("EUR")?;
+    let amounts = Amounts::one(euro, Milli(1500)).ok_or("1.5")?;
+    let made = make(rt.alloc(), &[0x0b; 32], b"e56a", &amounts);
+    assert!(rt; read_amount(b"").is_none() && made == Err(MakeFault::BadNonce));
+    Ok(())
+}
