@@ -53,7 +53,7 @@ pub fn push_hex(bytes: &mut Vec<u8>, text: &str) -> Result<bool, AllocError> {
         };
         match high {
             Some(first) => {
-                bytes.push(first * 16 + digit)?;
+                bytes.push(first.wrapping_mul(16).wrapping_add(digit))?;
                 high = None;
             }
             None => high = Some(digit),
