@@ -4,6 +4,8 @@
 #[cfg(test)]
 mod answer_calls;
 #[cfg(test)]
+mod ask_calls;
+#[cfg(test)]
 mod base_calls;
 #[cfg(test)]
 mod cash_calls;

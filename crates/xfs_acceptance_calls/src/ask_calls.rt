@@ -1,0 +1,222 @@
+//! How the commands of the cash dispenser are read: each by its name, notes by their mix, and what an operator added.
+
+use crate::tables::halves;
+use std::alloc::Global;
+use std::test::Fail;
+use xfs_base::Bytes;
+use xfs_dispenser::{CashAsk, CashFail, Named, Notes, read_ask};
+use xfs_json::parse;
+
+// A command and its payload, and what is read: the notes of a mix are an amount, or a count for each of eight units.
+const ASKS: &str = "CashDispenser.Present {\"mix\":7,\"storage\":null} => present
+CashDispenser.Reject {\"mix\":7,\"storage\":null} => reject
+CashManagement.Reset {\"mix\":7,\"storage\":null} => reset
+CashManagement.Retract {\"mix\":7,\"storage\":null} => retract
+Storage.StartExchange {\"mix\":7,\"storage\":null} => exchange begins
+Storage.EndExchange {\"mix\":7,\"storage\":null} => exchange ends
+CashDispenser.present {\"mix\":7,\"storage\":null} => unknown
+CashDispenser.Reset {\"mix\":7,\"storage\":null} => unknown
+CashManagement.Present {\"mix\":7,\"storage\":null} => unknown
+Storage.GetStorage {\"mix\":7,\"storage\":null} => unknown
+Common.Status {\"mix\":7,\"storage\":null} => unknown
+ {\"mix\":7,\"storage\":null} => unknown
+CashDispenser.Present {} => present
+CashDispenser.Reject {} => reject
+CashManagement.Reset {} => reset
+CashManagement.Retract {} => retract
+Storage.StartExchange {} => exchange begins
+Storage.EndExchange {} => exchange ends
+CashDispenser.Denominate {\"mix\":\"minimum\",\"denomination\":{\"currencies\":{\"EUR\":70},\"values\":7}} => denominate EUR 70
+CashDispenser.Dispense {\"mix\":\"minimum\",\"denomination\":{\"currencies\":{\"EUR\":70},\"values\":7}} => dispense EUR 70
+CashDispenser.Denominate {\"mix\":\"minimum\",\"denomination\":{\"currencies\":{\"EUR\":1},\"values\":7}} => denominate EUR 1
+CashDispenser.Dispense {\"mix\":\"minimum\",\"denomination\":{\"currencies\":{\"EUR\":1},\"values\":7}} => dispense EUR 1
+CashDispenser.Denominate {\"mix\":\"minimum\",\"denomination\":{\"currencies\":{\"EUR\":1000000},\"values\":7}} => denominate EUR 1000000
+CashDispenser.Dispense {\"mix\":\"minimum\",\"denomination\":{\"currencies\":{\"EUR\":1000000},\"values\":7}} => dispense EUR 1000000
+CashDispenser.Denominate {\"mix\":\"minimum\",\"denomination\":{\"currencies\":{\"EUR\":5,\"EUR\":10},\"values\":7}} => denominate EUR 10
+CashDispenser.Dispense {\"mix\":\"minimum\",\"denomination\":{\"currencies\":{\"EUR\":5,\"EUR\":10},\"values\":7}} => dispense EUR 10
+CashDispenser.Denominate {\"mix\":\"minimum\",\"denomination\":{\"currencies\":{\"EUR\":50.5},\"values\":7}} => bad
+CashDispenser.Dispense {\"mix\":\"minimum\",\"denomination\":{\"currencies\":{\"EUR\":50.5},\"values\":7}} => bad
+CashDispenser.Denominate {\"mix\":\"minimum\",\"denomination\":{\"currencies\":{\"EUR\":1000001},\"values\":7}} => bad
+CashDispenser.Dispense {\"mix\":\"minimum\",\"denomination\":{\"currencies\":{\"EUR\":1000001},\"values\":7}} => bad
+CashDispenser.Denominate {\"mix\":\"minimum\",\"denomination\":{\"currencies\":{\"EUR\":1e1},\"values\":7}} => bad
+CashDispenser.Dispense {\"mix\":\"minimum\",\"denomination\":{\"currencies\":{\"EUR\":1e1},\"values\":7}} => bad
+CashDispenser.Denominate {\"mix\":\"minimum\",\"denomination\":{\"currencies\":{\"EUR\":10.0},\"values\":7}} => bad
+CashDispenser.Dispense {\"mix\":\"minimum\",\"denomination\":{\"currencies\":{\"EUR\":10.0},\"values\":7}} => bad
+CashDispenser.Denominate {\"mix\":\"minimum\",\"denomination\":{\"currencies\":{\"EUR\":0},\"values\":7}} => bad
+CashDispenser.Dispense {\"mix\":\"minimum\",\"denomination\":{\"currencies\":{\"EUR\":0},\"values\":7}} => bad
+CashDispenser.Denominate {\"mix\":\"minimum\",\"denomination\":{\"currencies\":{\"EUR\":-0},\"values\":7}} => bad
+CashDispenser.Dispense {\"mix\":\"minimum\",\"denomination\":{\"currencies\":{\"EUR\":-0},\"values\":7}} => bad
+CashDispenser.Denominate {\"mix\":\"minimum\",\"denomination\":{\"currencies\":{\"EUR\":-10},\"values\":7}} => bad
+CashDispenser.Dispense {\"mix\":\"minimum\",\"denomination\":{\"currencies\":{\"EUR\":-10},\"values\":7}} => bad
+CashDispenser.Denominate {\"mix\":\"minimum\",\"denomination\":{\"currencies\":{\"EUR\":\"10\"},\"values\":7}} => bad
+CashDispenser.Dispense {\"mix\":\"minimum\",\"denomination\":{\"currencies\":{\"EUR\":\"10\"},\"values\":7}} => bad
+CashDispenser.Denominate {\"mix\":\"minimum\",\"denomination\":{\"currencies\":{\"EUR\":null},\"values\":7}} => bad
+CashDispenser.Dispense {\"mix\":\"minimum\",\"denomination\":{\"currencies\":{\"EUR\":null},\"values\":7}} => bad
+CashDispenser.Denominate {\"mix\":\"minimum\",\"denomination\":{\"currencies\":{\"EUR\":10,\"USD\":10},\"values\":7}} => bad
+CashDispenser.Dispense {\"mix\":\"minimum\",\"denomination\":{\"currencies\":{\"EUR\":10,\"USD\":10},\"values\":7}} => bad
+CashDispenser.Denominate {\"mix\":\"minimum\",\"denomination\":{\"currencies\":{\"eur\":10},\"values\":7}} => bad
+CashDispenser.Dispense {\"mix\":\"minimum\",\"denomination\":{\"currencies\":{\"eur\":10},\"values\":7}} => bad
+CashDispenser.Denominate {\"mix\":\"minimum\",\"denomination\":{\"currencies\":{\"EU\":10},\"values\":7}} => bad
+CashDispenser.Dispense {\"mix\":\"minimum\",\"denomination\":{\"currencies\":{\"EU\":10},\"values\":7}} => bad
+CashDispenser.Denominate {\"mix\":\"minimum\",\"denomination\":{\"currencies\":{\"EURO\":10},\"values\":7}} => bad
+CashDispenser.Dispense {\"mix\":\"minimum\",\"denomination\":{\"currencies\":{\"EURO\":10},\"values\":7}} => bad
+CashDispenser.Denominate {\"mix\":\"minimum\",\"denomination\":{\"currencies\":{},\"values\":7}} => bad
+CashDispenser.Dispense {\"mix\":\"minimum\",\"denomination\":{\"currencies\":{},\"values\":7}} => bad
+CashDispenser.Denominate {\"mix\":\"minimum\",\"denomination\":{\"currencies\":null,\"values\":7}} => bad
+CashDispenser.Dispense {\"mix\":\"minimum\",\"denomination\":{\"currencies\":null,\"values\":7}} => bad
+CashDispenser.Denominate {\"mix\":\"minimum\",\"denomination\":{\"currencies\":[],\"values\":7}} => bad
+CashDispenser.Dispense {\"mix\":\"minimum\",\"denomination\":{\"currencies\":[],\"values\":7}} => bad
+CashDispenser.Denominate {\"mix\":\"minimum\",\"denomination\":{\"currencies\":70,\"values\":7}} => bad
+CashDispenser.Dispense {\"mix\":\"minimum\",\"denomination\":{\"currencies\":70,\"values\":7}} => bad
+CashDispenser.Denominate {\"mix\":\"individual\",\"denomination\":{\"currencies\":7,\"values\":{\"unit1\":61}}} => denominate 61 0 0 0 0 0 0 0
+CashDispenser.Dispense {\"mix\":\"individual\",\"denomination\":{\"currencies\":7,\"values\":{\"unit1\":61}}} => dispense 61 0 0 0 0 0 0 0
+CashDispenser.Denominate {\"mix\":\"individual\",\"denomination\":{\"currencies\":7,\"values\":{\"unit8\":1000000,\"unit2\":1,\"unit3\":0}}} => denominate 0 1 0 0 0 0 0 1000000
+CashDispenser.Dispense {\"mix\":\"individual\",\"denomination\":{\"currencies\":7,\"values\":{\"unit8\":1000000,\"unit2\":1,\"unit3\":0}}} => dispense 0 1 0 0 0 0 0 1000000
+CashDispenser.Denominate {\"mix\":\"individual\",\"denomination\":{\"currencies\":7,\"values\":{}}} => denominate 0 0 0 0 0 0 0 0
+CashDispenser.Dispense {\"mix\":\"individual\",\"denomination\":{\"currencies\":7,\"values\":{}}} => dispense 0 0 0 0 0 0 0 0
+CashDispenser.Denominate {\"mix\":\"individual\",\"denomination\":{\"currencies\":7,\"values\":null}} => denominate 0 0 0 0 0 0 0 0
+CashDispenser.Dispense {\"mix\":\"individual\",\"denomination\":{\"currencies\":7,\"values\":null}} => dispense 0 0 0 0 0 0 0 0
+CashDispenser.Denominate {\"mix\":\"individual\",\"denomination\":{\"currencies\":7,\"values\":{\"unit9\":0,\"unit1\":1}}} => denominate other name
+CashDispenser.Dispense {\"mix\":\"individual\",\"denomination\":{\"currencies\":7,\"values\":{\"unit9\":0,\"unit1\":1}}} => dispense other name
+CashDispenser.Denominate {\"mix\":\"individual\",\"denomination\":{\"currencies\":7,\"values\":{\"unit0\":1}}} => denominate other name
+CashDispenser.Dispense {\"mix\":\"individual\",\"denomination\":{\"currencies\":7,\"values\":{\"unit0\":1}}} => dispense other name
+CashDispenser.Denominate {\"mix\":\"individual\",\"denomination\":{\"currencies\":7,\"values\":{\"unit01\":1}}} => denominate other name
+CashDispenser.Dispense {\"mix\":\"individual\",\"denomination\":{\"currencies\":7,\"values\":{\"unit01\":1}}} => dispense other name
+CashDispenser.Denominate {\"mix\":\"individual\",\"denomination\":{\"currencies\":7,\"values\":{\"Unit1\":1}}} => denominate other name
+CashDispenser.Dispense {\"mix\":\"individual\",\"denomination\":{\"currencies\":7,\"values\":{\"Unit1\":1}}} => dispense other name
+CashDispenser.Denominate {\"mix\":\"individual\",\"denomination\":{\"currencies\":7,\"values\":{\"\":1}}} => denominate other name
+CashDispenser.Dispense {\"mix\":\"individual\",\"denomination\":{\"currencies\":7,\"values\":{\"\":1}}} => dispense other name
+CashDispenser.Denominate {\"mix\":\"individual\",\"denomination\":{\"currencies\":7,\"values\":{\"unit1\":1000001}}} => bad
+CashDispenser.Dispense {\"mix\":\"individual\",\"denomination\":{\"currencies\":7,\"values\":{\"unit1\":1000001}}} => bad
+CashDispenser.Denominate {\"mix\":\"individual\",\"denomination\":{\"currencies\":7,\"values\":{\"unit1\":null}}} => bad
+CashDispenser.Dispense {\"mix\":\"individual\",\"denomination\":{\"currencies\":7,\"values\":{\"unit1\":null}}} => bad
+CashDispenser.Denominate {\"mix\":\"individual\",\"denomination\":{\"currencies\":7,\"values\":{\"unit1\":1.0}}} => bad
+CashDispenser.Dispense {\"mix\":\"individual\",\"denomination\":{\"currencies\":7,\"values\":{\"unit1\":1.0}}} => bad
+CashDispenser.Denominate {\"mix\":\"individual\",\"denomination\":{\"currencies\":7,\"values\":{\"unit1\":-1}}} => bad
+CashDispenser.Dispense {\"mix\":\"individual\",\"denomination\":{\"currencies\":7,\"values\":{\"unit1\":-1}}} => bad
+CashDispenser.Denominate {\"mix\":\"individual\",\"denomination\":{\"currencies\":7,\"values\":{\"other\":0,\"unit1\":[]}}} => bad
+CashDispenser.Dispense {\"mix\":\"individual\",\"denomination\":{\"currencies\":7,\"values\":{\"other\":0,\"unit1\":[]}}} => bad
+CashDispenser.Denominate {\"mix\":\"individual\",\"denomination\":{\"currencies\":7,\"values\":[]}} => bad
+CashDispenser.Dispense {\"mix\":\"individual\",\"denomination\":{\"currencies\":7,\"values\":[]}} => bad
+CashDispenser.Denominate {\"mix\":\"individual\",\"denomination\":{\"currencies\":7,\"values\":0}} => bad
+CashDispenser.Dispense {\"mix\":\"individual\",\"denomination\":{\"currencies\":7,\"values\":0}} => bad
+CashDispenser.Denominate {\"mix\":\"individual\",\"denomination\":{}} => denominate 0 0 0 0 0 0 0 0
+CashDispenser.Dispense {\"mix\":\"individual\",\"denomination\":{}} => dispense 0 0 0 0 0 0 0 0
+CashDispenser.Denominate {\"mix\":\"minimum\",\"denomination\":{}} => bad
+CashDispenser.Dispense {\"mix\":\"minimum\",\"denomination\":{}} => bad
+CashDispenser.Denominate {\"mix\":\"Individual\",\"denomination\":{}} => bad
+CashDispenser.Dispense {\"mix\":\"Individual\",\"denomination\":{}} => bad
+CashDispenser.Denominate {\"mix\":null,\"denomination\":{}} => bad
+CashDispenser.Dispense {\"mix\":null,\"denomination\":{}} => bad
+CashDispenser.Denominate {\"mix\":1,\"denomination\":{}} => bad
+CashDispenser.Dispense {\"mix\":1,\"denomination\":{}} => bad
+CashDispenser.Denominate {\"denomination\":{}} => bad
+CashDispenser.Dispense {\"denomination\":{}} => bad
+CashDispenser.Denominate {\"mix\":\"individual\",\"denomination\":null} => bad
+CashDispenser.Dispense {\"mix\":\"individual\",\"denomination\":null} => bad
+CashDispenser.Denominate {\"mix\":\"individual\",\"denomination\":[]} => bad
+CashDispenser.Dispense {\"mix\":\"individual\",\"denomination\":[]} => bad
+CashDispenser.Denominate {\"mix\":\"individual\"} => bad
+CashDispenser.Dispense {\"mix\":\"individual\"} => bad
+CashDispenser.Denominate {} => bad
+CashDispenser.Dispense {} => bad
+CashDispenser.Denominate {\"mix\":\"individual\",\"denomination\":{},\"token\":\"NONCE=1\"} => denominate 0 0 0 0 0 0 0 0
+CashDispenser.Dispense {\"mix\":\"individual\",\"denomination\":{},\"token\":\"NONCE=1\"} => dispense 0 0 0 0 0 0 0 0 by NONCE=1
+CashDispenser.Denominate {\"mix\":\"individual\",\"denomination\":{},\"token\":\"\"} => denominate 0 0 0 0 0 0 0 0
+CashDispenser.Dispense {\"mix\":\"individual\",\"denomination\":{},\"token\":\"\"} => dispense 0 0 0 0 0 0 0 0 by 
+CashDispenser.Denominate {\"mix\":\"individual\",\"denomination\":{},\"token\":\"\\u00e9\"} => denominate 0 0 0 0 0 0 0 0
+CashDispenser.Dispense {\"mix\":\"individual\",\"denomination\":{},\"token\":\"\\u00e9\"} => dispense 0 0 0 0 0 0 0 0 by é
+CashDispenser.Denominate {\"mix\":\"individual\",\"denomination\":{},\"token\":null} => denominate 0 0 0 0 0 0 0 0
+CashDispenser.Dispense {\"mix\":\"individual\",\"denomination\":{},\"token\":null} => dispense 0 0 0 0 0 0 0 0
+CashDispenser.Denominate {\"mix\":\"individual\",\"denomination\":{},\"token\":7} => denominate 0 0 0 0 0 0 0 0
+CashDispenser.Dispense {\"mix\":\"individual\",\"denomination\":{},\"token\":7} => bad
+CashDispenser.Denominate {\"mix\":\"individual\",\"denomination\":{},\"token\":{}} => denominate 0 0 0 0 0 0 0 0
+CashDispenser.Dispense {\"mix\":\"individual\",\"denomination\":{},\"token\":{}} => bad
+CashDispenser.Denominate {\"mix\":\"individual\",\"denomination\":{},\"token\":false} => denominate 0 0 0 0 0 0 0 0
+CashDispenser.Dispense {\"mix\":\"individual\",\"denomination\":{},\"token\":false} => bad
+Storage.SetStorage {\"storage\":{\"unit3\":{\"added\":10000},\"unit1\":{\"added\":1}}} => added 1 0 10000 0 0 0 0 0
+Storage.SetStorage {\"storage\":{\"unit9\":{\"added\":1}}} => added other name
+Storage.SetStorage {\"storage\":{\"unit9\":{\"added\":1},\"unit1\":{}}} => bad
+Storage.SetStorage {\"storage\":{\"unit1\":{\"added\":0}}} => bad
+Storage.SetStorage {\"storage\":{}} => bad
+Storage.SetStorage {\"storage\":null} => bad
+Storage.SetStorage {} => bad";
+
+fn named(alloc: Global, named: &Named) -> Result<String, Fail> {
+    let mut text = String::new(alloc);
+    match named {
+        Named::These(counts) => {
+            for count in counts.0 {
+                let blank = if text.is_empty() { "" } else { " " };
+                text.push_str(format!(in alloc; "{blank}{count}")?.as_str())?;
+            }
+        }
+        Named::OtherName => text.push_str("other name")?,
+    }
+    Ok(text)
+}
+
+fn noted(alloc: Global, notes: &Notes) -> Result<String, Fail> {
+    match notes {
+        Notes::Least { currency, amount } => {
+            let letters = currency.letters();
+            let letters = std::str::from_utf8(&letters).ok().ok_or("letters")?;
+            Ok(format!(in alloc; "{letters} {amount}")?)
+        }
+        Notes::Individual(counts) => named(alloc, counts),
+    }
+}
+
+fn dispensed(alloc: Global, notes: &Notes, token: &Option<Bytes>) -> Result<String, Fail> {
+    let notes = noted(alloc, notes)?;
+    match token {
+        Some(token) => {
+            let token = std::str::from_utf8(token.list()).ok().ok_or("a text")?;
+            Ok(format!(in alloc; "dispense {notes} by {token}")?)
+        }
+        None => Ok(format!(in alloc; "dispense {notes}")?),
+    }
+}
+
+// What is told of a command that was read.
+fn told(alloc: Global, ask: &CashAsk) -> Result<String, Fail> {
+    let word = match ask {
+        CashAsk::Denominate { notes } => {
+            let notes = noted(alloc, notes)?;
+            return Ok(format!(in alloc; "denominate {notes}")?);
+        }
+        CashAsk::Dispense { notes, token } => return dispensed(alloc, notes, token),
+        CashAsk::SetStorage { added } => {
+            let added = named(alloc, added)?;
+            return Ok(format!(in alloc; "added {added}")?);
+        }
+        CashAsk::Present => "present",
+        CashAsk::Reject => "reject",
+        CashAsk::Reset => "reset",
+        CashAsk::Retract => "retract",
+        CashAsk::StartExchange => "exchange begins",
+        CashAsk::EndExchange => "exchange ends",
+    };
+    Ok(String::from_str(alloc, word)?)
+}
+
+fn read(alloc: Global, name: &str, text: &str) -> Result<String, Fail> {
+    let payload = parse(alloc, text.as_bytes()).ok().ok_or("JSON")?;
+    match read_ask(alloc, name, &payload) {
+        Ok(ask) => told(alloc, &ask),
+        Err(CashFail::Unknown) => Ok(String::from_str(alloc, "unknown")?),
+        Err(CashFail::Shape) => Ok(String::from_str(alloc, "bad")?),
+        Err(CashFail::Memory) => Err("memory".into()),
+    }
+}
+
+#[test]
+fn commands_are_read_by_their_names_and_members(rt: HostRuntime) -> Result<(), Fail> {
+    for row in ASKS.lines() {
+        let (asked, due) = halves(row);
+        let (name, payload) = asked.split_once(" ").ok_or("a payload")?;
+        let text = read(rt.alloc(), name, payload)?;
+        assert!(rt; text.as_str() == due, "{row}: {text}");
+    }
+    Ok(())
+}
