@@ -49,6 +49,10 @@ pub restarts : (s : State) (r : Result Unit BootFault) (next : Seen) (boot : ℕ
 restarts s (Ok done) next boot there is number = happens there (record { next = next; reboots = is; is = ap (λ n. bare next s.life n) number })
 restarts s (Err why) next boot there is number = tt
 
+-- the same of a machine that is one of these parts
+pub restarts_to : (s t : State) (r : Result Unit BootFault) (next : Seen) (boot : ℕ) → t ≡ bare next s.life boot → s.boot ≢ 0 → OnOk r (Reboots s.seen next) → OnOk r (boot ≡ length next.guard.records) → OnOk r (Step s restart restarted t)
+restarts_to s t r next boot is there reboots number = subst (λ (b : State). OnOk r (Step s restart restarted b)) (sym is) (restarts s r next boot there reboots number)
+
 pub refuses : (s : State) (r : Result Unit BootFault) (next : Seen) → s.boot ≢ 0 → IfErr r (λ f. RefusesAs f s.seen next) → IfErr r (λ f. f ≢ Memory → Step s restart unrestarted (gone s next))
 refuses s (Ok done) next there is = tt
 refuses s (Err why) next there is = λ other. happens there (record { next = next; refused = unbooted_as why s.seen next is other; is = refl })
@@ -58,9 +62,9 @@ pub closed_after : (old next : Seen) (r : Result Unit BootFault) → r ≢ Err M
 closed_after old next (Ok done) other is how = ap (λ (v : View). v.open_order) is.becomes.guard_is
 closed_after old next (Err why) other is how = unbooted_closed old next (unbooted_as why old next how (λ e. other (ap Err e)))
 
-pub emptied : (r : Result Unit BootFault) (next : Seen) (life before boot : ℕ) → OnErr r (boot ≡ before) → IfErr r (λ f. f ≢ Memory → bare next life boot ≡ bare next life before)
-emptied (Ok done) next life before boot same = tt
-emptied (Err why) next life before boot same = λ other. ap (λ n. bare next life n) same
+pub emptied : (t : State) (r : Result Unit BootFault) (next : Seen) (life before boot : ℕ) → t ≡ bare next life boot → OnErr r (boot ≡ before) → IfErr r (λ f. f ≢ Memory → t ≡ bare next life before)
+emptied t (Ok done) next life before boot is same = tt
+emptied t (Err why) next life before boot is same = λ other. is ∙ ap (λ n. bare next life n) same
 
 numbered : (s : State) (r : Result Unit BootFault) (next : Seen) (boot : ℕ) → s.boot ≢ 0 → OnOk r (Reboots s.seen next) → OnOk r (boot ≡ length next.guard.records) → OnErr r (boot ≡ s.boot) → boot ≢ 0
 numbered s (Ok done) next boot there is number same e =

@@ -4,7 +4,7 @@ use Rattle.xfs_base.specs.declared.moment.Moment.{Moment}
 use Rattle.xfs_base.specs.declared.moment.TheConstants.{LAST_MOMENT}
 use Rattle.xfs_card.specs.Slot.{Slot}
 use Rattle.xfs_disk.specs.declared.disk.Disk.{Ghosts}
-use Rattle.xfs_dispenser.specs.Seen.{seen}
+use Rattle.xfs_dispenser.specs.Seen.{Seen, seen}
 use Rattle.xfs_guard.specs.View.{GuardView}
 use Rattle.xfs_keyboard.specs.Entries.{Entry}
 use Rattle.xfs_model.specs.Sound.{IsSound}
@@ -20,9 +20,9 @@ abbrev pub guard_of : {D : Type 0} → MachineView D → GuardView D
 guard_of m = record { state = m.state.seen.guard; disk = m.disk }
 
 -- a machine of these parts
-abbrev pub over : {D : Type 0} → Ghosts D → GuardView D → ℕ → Moment → ℕ → Bool → Moment → Slot → Option Entry → ℕ → List Connection → Queues → State
-over g guard life issued boot exchange now slot keypad given connections queues = record {
-  seen = seen g guard;
+abbrev pub of_parts : Seen → ℕ → Moment → ℕ → Bool → Moment → Slot → Option Entry → ℕ → List Connection → Queues → State
+of_parts seen life issued boot exchange now slot keypad given connections queues = record {
+  seen = seen;
   life = life;
   issued = issued;
   boot = boot;
@@ -34,6 +34,10 @@ over g guard life issued boot exchange now slot keypad given connections queues 
   connections = connections;
   queues = queues;
 }
+
+-- a machine over this guard
+abbrev pub over : {D : Type 0} → Ghosts D → GuardView D → ℕ → Moment → ℕ → Bool → Moment → Slot → Option Entry → ℕ → List Connection → Queues → State
+over g guard life issued boot exchange now slot keypad given connections queues = of_parts (seen g guard) life issued boot exchange now slot keypad given connections queues
 
 -- What every call of a machine keeps. What was told of the journal, and what waits to be told, stands in it.
 pub record IsWhole (s : State) : Type 0 where

@@ -1,7 +1,7 @@
 use xfs_base::Counts;
 
 /// What came of a touch of the world.
-#[derive(Clone, Copy, Debug, PartialEq, Eq)]
+#[derive(Clone, Copy)]
 pub enum Touched {
     /// The customer took these notes.
     Taken(Counts),
@@ -14,7 +14,7 @@ pub enum Touched {
 }
 
 /// What came of a step of work.
-#[derive(Clone, Copy, Debug, PartialEq, Eq)]
+#[derive(Clone, Copy, PartialEq, Eq)]
 pub enum Work {
     /// One case of the work was done.
     Did,

@@ -21,7 +21,7 @@ use xfs_mech::Mechanism;
 use xfs_queue::{Line, Queue};
 
 /// The cases of a step of work, in their order.
-#[derive(Clone, Copy, Debug, PartialEq, Eq)]
+#[derive(Clone, Copy)]
 pub(crate) enum Case {
     /// The open order is acted, or settled.
     Order,

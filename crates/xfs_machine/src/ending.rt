@@ -1,14 +1,14 @@
 //! How a machine ends, or begins anew.
 
-ghost use Rattle.std.specs.Prelude.{◌≡◌, ◌≢◌, false, List, None, IfOk, IfErr, OnOk, OnErr, Err, length, is_ok, is_some};
-ghost use Rattle.xfs_dispenser.specs.Seen.{seen};
+ghost use Rattle.std.specs.Prelude.{◌≡◌, ◌≢◌, ℕ, false, List, None, IfOk, IfErr, OnOk, OnErr, Err, length, is_ok, is_some};
+ghost use Rattle.xfs_dispenser.specs.Seen.{Seen, seen};
 ghost use Rattle.xfs_guard.specs.Keeps.{Keeps, NoEntry};
 ghost use Rattle.xfs_guard.specs.Booting.{LeavesListOf, LeavesRecorded};
 ghost use Rattle.xfs_base.specs.Causes.{Rose};
 ghost use Rattle.xfs_guard.specs.declared.fail.BootFault.TheVariants.{Disk as BootDisk, Memory as BootMemory};
 ghost use Rattle.xfs_machine.specs.Endings.{Finishes, IsFinishedThrough, IsHandedBack, IsRefused, IsRefusedThrough, RefusesAs};
 ghost use Rattle.xfs_machine.specs.Laws.{IsLawful};
-ghost use Rattle.xfs_machine.specs.MachineView.{guard_of};
+ghost use Rattle.xfs_machine.specs.MachineView.{guard_of, of_parts};
 ghost use Rattle.xfs_model.specs.Events.{restart, restarted, unrestarted, end_, ended, memory};
 ghost use Rattle.xfs_model.specs.State.{State, bare};
 ghost use Rattle.xfs_model.specs.Step.{Step, gone};
@@ -17,6 +17,7 @@ use crate::connections::Connections;
 use crate::machine::Machine;
 use crate::queues::Queues;
 use crate::reboot::{close, reboot};
+use std::alloc::Global;
 use xfs_base::Moment;
 use xfs_card::CardState;
 use xfs_disk::Disk;
@@ -42,14 +43,17 @@ impl<M: Mechanism, D: Disk> Machine<M, D> {
             return outcome;
         }
         self.boot = boot_after(&self.guard, &outcome, self.boot);
-        self.issued = Moment(0);
-        self.exchange = false;
-        self.moment = Moment(0);
-        self.slot = CardState::new();
-        self.keypad = KeyState::new();
-        self.given = 0;
-        self.connections = Connections::new(self.alloc);
-        self.queues = Queues::new(self.alloc);
+        forget(
+            self.alloc,
+            &mut self.issued,
+            &mut self.exchange,
+            &mut self.moment,
+            &mut self.slot,
+            &mut self.keypad,
+            &mut self.given,
+            &mut self.connections,
+            &mut self.queues,
+        );
         outcome
     }
 
@@ -119,6 +123,31 @@ impl<M: Mechanism, D: Disk> Machine<M, D> {
         } = self;
         guard
     }
+}
+
+// Nothing of before a boot is left: no card, entry, exchange, connection or command.
+fn forget(
+    alloc: Global,
+    issued: &mut Moment,
+    exchange: &mut bool,
+    moment: &mut Moment,
+    slot: &mut CardState,
+    keypad: &mut KeyState,
+    given: &mut u32,
+    connections: &mut Connections,
+    queues: &mut Queues,
+)
+    ensures { (seen : Seen) (life boot : ℕ) → of_parts seen life issued.new boot exchange.new moment.new
+        slot.new keypad.new given.new connections.new queues.new ≡ bare seen life boot }
+{
+    *issued = Moment(0);
+    *exchange = false;
+    *moment = Moment(0);
+    *slot = CardState::new();
+    *keypad = KeyState::new();
+    *given = 0;
+    *connections = Connections::new(alloc);
+    *queues = Queues::new(alloc);
 }
 
 // The number of the boot's Boot record, where there is a new one.

@@ -4,7 +4,7 @@ use std::marker::Model;
 use xfs_base::Bytes;
 
 /// The frames that a client is handed, in order. None of its calls takes memory.
-#[derive(Debug, Drop)]
+#[derive(Drop)]
 pub struct Frames {
     // The last first.
     rest: Vec<Bytes>,

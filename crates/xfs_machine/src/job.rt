@@ -27,7 +27,7 @@ pub enum Ask {
 }
 
 /// How a live nonce ended, where that is announced.
-#[derive(Clone, Copy, Debug, PartialEq, Eq)]
+#[derive(Clone, Copy)]
 pub enum Ending {
     Cleared,
     Reset,

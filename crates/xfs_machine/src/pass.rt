@@ -5,7 +5,7 @@ use xfs_base::{ClientId, Service};
 
 /// What a connection is told by: its client, its service, and the number of the Boot record of the boot in
 /// which it joined.
-#[derive(Debug, Drop)]
+#[derive(Drop)]
 pub struct Pass {
     pub(crate) client: ClientId,
     pub(crate) service: Service,
@@ -35,7 +35,7 @@ impl Pass {
 }
 
 /// Why a connection was not taken.
-#[derive(Clone, Copy, Debug, PartialEq, Eq)]
+#[derive(Clone, Copy, Debug)]
 pub enum JoinFault {
     /// 64 connections are open, or all client numbers were given.
     Full,

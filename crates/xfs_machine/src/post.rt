@@ -31,7 +31,7 @@ use xfs_mech::Mechanism;
 use xfs_queue::{Command, Line, Queue, Ticket};
 
 /// A client, and the service that it is connected to.
-#[derive(Clone, Copy, Debug)]
+#[derive(Clone, Copy)]
 pub(crate) struct Seat {
     pub(crate) client: ClientId,
     pub(crate) service: Service,

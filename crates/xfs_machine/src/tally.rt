@@ -4,7 +4,7 @@ ghost use Rattle.xfs_base.specs.Causes.{next_count};
 use std::marker::Model;
 
 /// How many calls of a machine were made with it. A count that stands at its last value stays there.
-#[derive(Debug, Drop)]
+#[derive(Drop)]
 pub struct Tally {
     posts: u64,
     touches: u64,
