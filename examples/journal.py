@@ -10,9 +10,10 @@ import collections, hashlib, hmac, pathlib, re, struct, sys
 UNITS = ["EUR 10", "EUR 20", "EUR 50", "USD 20"]  # no record tells them
 PLACES = ["units", "transport", "outlet", "taken", "retracted", "rejected"]
 WAYS = {1: ("units", "transport"), 2: ("transport", "outlet"), 3: ("transport", "rejected"), 4: ("outlet", "retracted")}
-TOKEN = re.compile(rb"(NONCE=([0-9A-F]{1,128}),TOKENFORMAT=1,TOKENLENGTH=(\d{4})((?:,[A-Z][A-Z0-9]{0,31}=[!-+\--<>-~]+)*)),HMACSHA256=([0-9A-F]{64})")
-key_file, faults = pathlib.Path("xfs.key"), []
+TOKEN = re.compile(rb"(NONCE=([0-9A-F]+),TOKENFORMAT=1,TOKENLENGTH=(\d{4})((?:,[A-Z][A-Z0-9]*=[!-+\--<>-~]+)*)),HMACSHA256=([0-9A-F]{64})")
+path, key_file = pathlib.Path((sys.argv + ["xfs.journal"])[1]), pathlib.Path("xfs.key")
 KEY = bytes.fromhex(key_file.read_text()) if key_file.exists() else bytes([0x0B] * 32)
+places, order, nonce, amounts, shown, issues, faults = {}, None, "", {}, collections.Counter(), 0, []
 
 
 def records(data):
@@ -23,74 +24,54 @@ def records(data):
         at += 3 + size
 
 
-def allowed(text, nonce):
-    found = TOKEN.fullmatch(text)
-    if not found or int(found[3]) != len(text) or hmac.new(KEY, found[1], hashlib.sha256).hexdigest().upper() != found[5].decode():
-        return faults.append("a token that is none, or not of this key") or {}
-    if found[2].decode() != nonce:
-        faults.append(f"a token of another nonce under {nonce}")
-    return {value[-3:].decode(): float(value[:-3]) for value in re.findall(rb",DISPENSE[1-9]=([0-9.]+[A-Z]{3})", found[4])}
+def allowed(text):
+    token = TOKEN.fullmatch(text)
+    if token and int(token[3]) == len(text) and hmac.new(KEY, token[1], hashlib.sha256).hexdigest().upper() == token[5].decode() and token[2].decode() == nonce:
+        return {value[-3:].decode(): float(value[:-3]) for value in re.findall(rb",DISPENSE[1-9]=([0-9.]+[A-Z]{3})", token[4])}
+    faults.append(f"record {number}: no token of this key and nonce")
+    return {}
 
 
-def move(number, unit, source, target, count):
-    places[source][unit] -= count
-    places[target][unit] += count
-    if target == "outlet" and count:
-        currency, value = UNITS[unit].split()
-        shown[currency] += int(value) * count
-    if places[source][unit] < 0:
-        faults.append(f"record {number}: unit{unit + 1} has no such notes in {source}")
-
-
-def booted(number, told):
-    """What was taken, and what an order without its Done moved, shows at the next Boot and nowhere else."""
-    for unit in range(8) if places else []:
-        if order and order[0] == 1:
-            move(number, unit, "units", "rejected", min(told["rejected"][unit] - places["rejected"][unit], order[1][unit]))
-        if order:
-            source, target = WAYS[order[0]]
-            move(number, unit, source, target, min(places[source][unit] - told[source][unit], order[1][unit]))
-        move(number, unit, "outlet", "taken", max(told["taken"][unit] - places["taken"][unit], 0))
-    if places and places != told:
-        faults.append(f"record {number}: the Boot has other notes than the records before it lead to")
+def count(told):
+    """Takes these places for the present ones: what came into the customer's reach was put out under the nonce."""
+    for unit, kind in enumerate(UNITS):
+        notes = sum(told[at][unit] - places[at][unit] for at in ("outlet", "taken", "retracted"))
+        shown[kind[:3]] += int(kind[4:]) * notes
+        if sum(told[at][unit] - places[at][unit] for at in PLACES) or notes < 0 or min(told[at][unit] for at in PLACES) < 0:
+            faults.append(f"record {number}: the notes of unit{unit + 1} don't add up")
+    places.update(told)
 
 
 def ended():
-    if nonce:
-        print(nonce, "allowed", amounts, "put out", dict(shown))
-    if any(count > amounts.get(currency, 0) for currency, count in shown.items()):
-        faults.append(f"more was put out under {nonce} than its token allows")
-    shown.clear()
+    print(nonce, "allowed", amounts, "put out", dict(+shown))
+    faults.extend(f"more than its token allows was put out under {nonce}" for it in shown if shown[it] > amounts.get(it, 0))
 
 
-places, order, nonce, amounts, shown, issues = {}, None, None, {}, collections.Counter(), 0
-for number, body in enumerate(records(pathlib.Path(sys.argv[1] if sys.argv[1:] else "xfs.journal").read_bytes()), 1):
-    kind, rest = body[:1], body[1:]
-    if kind == b"B":
-        told = {place: list(struct.unpack_from(">8I", rest, 32 * at)) for at, place in enumerate(PLACES)}
-        booted(number, told)
-        places = told
-    if kind in b"BICE":
-        ended()
-        nonce, amounts = None, {}
-    if kind == b"I":
-        issues += 1
-        nonce = rest[8:].hex().upper() + rest[:8].hex().upper()
-        if rest[:8] != issues.to_bytes(8, "big"):
-            faults.append(f"record {number}: not the number of the next Issue")
-    if kind == b"T":
-        amounts = allowed(rest, nonce)
+for number, (kind, body) in enumerate(((it[:1], it[1:]) for it in records(path.read_bytes())), 1):
+    if kind == b"B":  # what was taken, and what an order without its Done moved, shows here and nowhere else
+        told = {at: list(struct.unpack_from(">8I", body, 32 * row)) for row, at in enumerate(PLACES)}
+        count(told) if places else places.update(told)
     if kind == b"L":
-        places["units"][rest[0] - 1] += int.from_bytes(rest[1:], "big")
+        places["units"][body[0] - 1] += int.from_bytes(body[1:], "big")
     if kind == b"D":
-        moved, diverted = struct.unpack(">8I", rest[:32]), struct.unpack(">8I", rest[32:])
-        for unit in range(8):
-            if order[0] == 2:  # notes are presented once those before were taken
-                move(number, unit, "outlet", "taken", places["outlet"][unit])
-            move(number, unit, *WAYS[order[0]], moved[unit])
-            move(number, unit, "units", "rejected", diverted[unit] if order[0] == 1 else 0)
-    order = (rest[0], struct.unpack(">8I", rest[1:])) if kind == b"O" else None
-ended()
+        (source, target), told = WAYS[order], {at: list(places[at]) for at in PLACES}
+        if target == "outlet":  # notes are presented once those before were taken
+            told["taken"], told["outlet"] = [sum(it) for it in zip(told["taken"], told["outlet"])], [0] * 8
+        for unit, (moved, diverted) in enumerate(zip(struct.unpack_from(">8I", body), struct.unpack_from(">8I", body, 32))):
+            told[source][unit] -= moved + diverted
+            told[target][unit] += moved
+            told["rejected"][unit] += diverted
+        count(told)
+    if kind == b"T":
+        amounts = allowed(body)
+    if kind in b"BICE":
+        ended() if nonce else None
+        nonce, amounts, shown = "", {}, collections.Counter()
+    if kind == b"I":
+        issues, nonce = issues + 1, (body[8:] + body[:8]).hex().upper()
+        faults.extend([f"record {number}: not the next number"] if body[:8] != issues.to_bytes(8, "big") else [])
+    order = body[0] if kind == b"O" else None
+ended() if nonce else None
 for unit, kind in enumerate(UNITS):
-    print(kind, {place: places[place][unit] for place in PLACES})
+    print(kind, {at: places[at][unit] for at in PLACES})
 sys.exit("\n".join(faults) or 0)
