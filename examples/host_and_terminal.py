@@ -6,6 +6,7 @@
 
 It shows each message. The host's key is that of the file xfs.key of the working folder, as the server's is, or 32 bytes 0x0b.
 """
+import asyncio
 import hashlib
 import hmac
 import itertools
@@ -14,9 +15,11 @@ import pathlib
 import sys
 
 try:
-    from websockets.sync.client import connect
+    import websockets
 except ImportError:
-    sys.exit("The package `websockets` is missing: python3 -m pip install websockets")
+    sys.exit("The package `websockets` is missing: python3 -m pip install websockets, or Debian's python3-websockets")
+if int(getattr(websockets, "__version__", websockets.version.version).split(".")[0]) < 10:
+    sys.exit("The package `websockets` is too old: 10 or later is wanted")
 
 CASH = "ws://127.0.0.1:5849/xfs4iot/v1.0/cashdispenser"
 HMAC_BYTES = len(",HMACSHA256=") + 64
@@ -42,14 +45,14 @@ class Terminal:
         self.link = link
         self.ids = itertools.count(1)
 
-    def ask(self, name, payload):
+    async def ask(self, name, payload):
         """Sends a command and hears messages up to its completion. Anything but a success ends the program."""
         number = next(self.ids)
         header = {"name": name, "requestId": number, "timeout": 60000, "type": "command", "version": "2.0"}
         text = json.dumps({"header": header, "payload": payload})
         print(">", text)
-        self.link.send(text)
-        for text in self.link:
+        await self.link.send(text)
+        async for text in self.link:
             print("<", text)
             heard = json.loads(text)
             if heard["header"].get("requestId") != number:
@@ -63,17 +66,17 @@ class Terminal:
         sys.exit("the dispenser closed the connection")
 
 
-def main():
+async def main():
     amount = int(sys.argv[1]) if len(sys.argv) > 1 else 70
     file = pathlib.Path("xfs.key")
     host = Host(bytes.fromhex(file.read_text()) if file.exists() else bytes([0x0B] * 32))
-    with connect(CASH) as link:
+    async with websockets.connect(CASH) as link:
         terminal = Terminal(link)
-        nonce = terminal.ask("Common.GetCommandNonce", {})["commandNonce"]
+        nonce = (await terminal.ask("Common.GetCommandNonce", {}))["commandNonce"]
         token = host.mint(nonce, amount)
-        terminal.ask("CashDispenser.Dispense", {"denomination": {"currencies": {"EUR": amount}}, "mix": "minimum", "token": token})
-        terminal.ask("CashDispenser.Present", {})
+        await terminal.ask("CashDispenser.Dispense", {"denomination": {"currencies": {"EUR": amount}}, "mix": "minimum", "token": token})
+        await terminal.ask("CashDispenser.Present", {})
     print(f"EUR {amount} put out")
 
 
-main()
+asyncio.run(main())
