@@ -12,6 +12,7 @@ pub mod GuardStarts
 pub mod GuardStates
 pub mod GuardTexts
 pub mod GuardVerbs
+pub mod Lined
 pub mod LoadEnds
 pub mod LoadRuns
 pub mod Moments

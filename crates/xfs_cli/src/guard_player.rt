@@ -15,6 +15,7 @@ ghost use Rattle.xfs_cli.specs.GuardStates.{state_in};
 ghost use Rattle.xfs_cli.specs.Moves.{Moves};
 ghost use Rattle.xfs_cli.specs.Dispenses.{DispensesFor, IfRemembered, IsAllowedFor, named};
 ghost use Rattle.xfs_cli.specs.GuardVerbs.{AreAnswer, IsAnswer, IsLoaded};
+ghost use Rattle.xfs_cli.specs.Lined.{IsLined};
 ghost use Rattle.xfs_cli.specs.Restarts.{IfUnbooted, RestartFails, Restarts};
 ghost use Rattle.xfs_guard.specs.declared.fail.BootFault.{BootFault};
 ghost use Rattle.xfs_script.specs.declared.guard_line.GuardLine.TheVariants.{Issue, Clear, Mint, Dispense, Fill, Take, Restart};
@@ -35,7 +36,7 @@ use xfs_script::{Given, GuardLine};
 use xfs_token::Amounts;
 
 /// Why a verb has no answer.
-#[derive(Clone, Copy, Debug, PartialEq, Eq)]
+#[derive(Clone, Copy)]
 pub enum NoAnswer {
     /// The line is `restart`, and that was refused for this.
     Unbooted(BootFault),
@@ -87,15 +88,15 @@ impl<M: Mechanism, D: Disk> GuardPlayer<M, D> {
     {
         match verb {
             GuardLine::Skip => Ok(Vec::new(self.alloc)),
-            GuardLine::Issue => Ok(ended(self.issue()?)?),
-            GuardLine::Clear => Ok(ended(self.clear()?)?),
-            GuardLine::Mint(amounts) => Ok(ended(self.mint(amounts)?)?),
-            GuardLine::Dispense { token, counts } => Ok(ended(self.dispense(token, counts)?)?),
-            GuardLine::Present => Ok(ended(self.moved(Ask::Present)?)?),
-            GuardLine::Reject => Ok(ended(self.moved(Ask::Reject)?)?),
-            GuardLine::Retract => Ok(ended(self.moved(Ask::Retract)?)?),
-            GuardLine::Take => Ok(ended(self.take()?)?),
-            GuardLine::Fill { unit, count } => Ok(ended(self.fill(*unit, *count)?)?),
+            GuardLine::Issue => lined(self.issue()),
+            GuardLine::Clear => lined(self.clear()),
+            GuardLine::Mint(amounts) => lined(self.mint(amounts)),
+            GuardLine::Dispense { token, counts } => lined(self.dispense(token, counts)),
+            GuardLine::Present => lined(self.moved(Ask::Present)),
+            GuardLine::Reject => lined(self.moved(Ask::Reject)),
+            GuardLine::Retract => lined(self.moved(Ask::Retract)),
+            GuardLine::Take => lined(self.take()),
+            GuardLine::Fill { unit, count } => lined(self.fill(*unit, *count)),
             GuardLine::Show => Ok(self.show()?),
             GuardLine::Restart => Ok(ended(self.restart()?)?),
         }
@@ -281,6 +282,13 @@ impl<M: Mechanism, D: Disk> GuardPlayer<M, D> {
             given(&self.last, token),
         )
     }
+}
+
+// The answer with its line feed, where there is one.
+fn lined(text: Result<Vec<u8>, Memory>) -> Result<Vec<u8>, NoAnswer>
+    ensures { IsLined text result (λ t. t.items) }
+{
+    Ok(ended(text?)?)
 }
 
 // The text of the token that a line names, where there is one.
