@@ -10,7 +10,7 @@ use Rattle.xfs_journal.specs.declared.record.Rec.{Rec}
 use Rattle.xfs_journal.proofs.Unique.{stands_for_one}
 use Rattle.xfs_guard.specs.Recorded.{IsRecorded}
 use Rattle.xfs_cli.specs.Upholds.{Upholds}
-use Rattle.xfs_cli.proofs.StartLaws.{at_rest-memory}
+use Rattle.xfs_guard.proofs.StartLaws.{at_rest-memory}
 use Rattle.xfs_scripts.proofs.bench.cut_off.Goals as goal
 
 -- what a run upholds is what the next one starts from
@@ -18,7 +18,7 @@ upheld-starts : (key : List ℕ) (units : List NoteKind) (L L' : Option (List Mo
 upheld-starts key units L L' P P' c J upheld stands = rw (stands_for_one c J upheld.records stands upheld.stands) upheld.recorded
 
 pub returns-clause-starts : goal.returns-clause-starts
-returns-clause-starts g c = λ left may J stands.
+returns-clause-starts c = λ left may J stands.
     let start : StandsFor (bytes_of (fuse_inner c.fused_core-core.result.disk)) [] = rw c.fused_core-core.ensures.disk (inr (refl, rw c.empty.ensures.empty (omega arith), c.empty.ensures.none)) in
     let image : MayBe (fuse_inner c.played-ended.result.disk) left = rw (at_rest-memory c.crash.result c.crash.ensures.settled left may) (rw c.inner-disk.ensures at c.crash.ensures.image) in
     rw c.copied-units.ensures (rw c.resume.ensures.motions (rw c.in_ok-motions.ensures (rw c.motions.ensures

@@ -1,4 +1,4 @@
-use Rattle.xfs_cli.proofs.StartLaws.{at_rest-memory, starts-memory}
+use Rattle.xfs_guard.proofs.StartLaws.{at_rest-memory, starts-memory}
 use Rattle.xfs_scripts.proofs.bench.fused_core.Goals as goal
 
 pub returns-clause-starts : goal.returns-clause-starts
