@@ -1,0 +1,5 @@
+pub mod Maps
+pub mod OneText
+pub mod Paying
+pub mod Sound
+pub mod Steps
