@@ -2,8 +2,7 @@
 //! status. Only `serve` listens on ports and keeps its journal in a file; `client` dials.
 #![tactic(auto)]
 
-ghost use Rattle.std.specs.Prelude.{◌≡◌};
-ghost use Rattle.xfs_guard.specs.Starts.{AtRest, Starts};
+ghost use Rattle.xfs_guard.specs.Starts.{Starts};
 
 mod outside;
 mod start_fault;
@@ -107,9 +106,7 @@ fn run_over<
     clock: &C,
     doors: &mut O,
 ) -> u8
-    requires units { M.units bench.core.mech ≡ bench.core.units }
     requires starts { Starts M.Mechanism D.Disk bench.core }
-    requires at_rest { AtRest D.Disk bench.core.disk }
 {
     let mut source = StdSource::new(host.reader());
     let mut sink = StdSink::new(io::writer(host));

@@ -1,7 +1,7 @@
 //! The command `client`.
 
 ghost use Rattle.std.specs.Prelude.{◌≡◌, ◌↔◌, None};
-ghost use Rattle.xfs_guard.specs.Starts.{AtRest, Starts};
+ghost use Rattle.xfs_guard.specs.Starts.{Starts};
 ghost use Rattle.xfs_cli.specs.ClientRuns.{RunsClientOf};
 ghost use Rattle.xfs_cli.specs.Moments.{WasOnTheWayAll};
 ghost use Rattle.xfs_cli.specs.Returns.{back};
@@ -35,7 +35,6 @@ pub fn client<R: Wait, K: Sink, M: Mechanism, D: Disk, P: Watch, Q: Watch, C: Cl
     doors: &mut O,
 ) -> Ended<M, D, O::Link>
     requires starts { Starts M.Mechanism D.Disk bench.core }
-    requires at_rest { AtRest D.Disk bench.core.disk }
     ensures upholds { UpholdsAll M.Mechanism D.Disk bench.core (back result) }
     ensures any_moment { WasOnTheWayAll M.Mechanism D.Disk bench.core (back result) }
     ensures kept { IsKept bench.core (back result) }

@@ -1,7 +1,7 @@
 //! The commands that ask nothing of the doors.
 
 ghost use Rattle.std.specs.Prelude.{◌≡◌, ◌↔◌, ◌∷◌, [], None};
-ghost use Rattle.xfs_guard.specs.Starts.{AtRest, Starts};
+ghost use Rattle.xfs_guard.specs.Starts.{Starts};
 ghost use Rattle.xfs_cli.specs.GuardRuns.{RunsGuardOf};
 ghost use Rattle.xfs_cli.specs.LoadRuns.{RunsLoadOf};
 ghost use Rattle.xfs_cli.specs.Moments.{WasOnTheWayAll};
@@ -38,9 +38,7 @@ pub fn run_without_doors<S: Source, K: Sink, M: Mechanism, D: Disk, P: Watch, Q:
     sink: &mut K,
     bench: Bench<M, D, P, Q>,
 ) -> Ended<M, D, L>
-    requires units { M.units bench.core.mech ≡ bench.core.units }
     requires starts { Starts M.Mechanism D.Disk bench.core }
-    requires at_rest { AtRest D.Disk bench.core.disk }
     requires serve { ¬ (IsServe words.now) }
     requires client { ¬ (IsClient words.now) }
     ensures upholds { UpholdsAll M.Mechanism D.Disk bench.core (back result) }

@@ -1,7 +1,7 @@
 //! The command `replay`.
 
 ghost use Rattle.std.specs.Prelude.{◌≡◌, ◌↔◌};
-ghost use Rattle.xfs_guard.specs.Starts.{AtRest, Starts};
+ghost use Rattle.xfs_guard.specs.Starts.{Starts};
 ghost use Rattle.xfs_cli.specs.Moments.{WasOnTheWayAll};
 ghost use Rattle.xfs_cli.specs.ReplayRuns.{RunsReplayOf};
 ghost use Rattle.xfs_cli.specs.Returns.{back};
@@ -34,9 +34,7 @@ pub fn replay<S: Source, K: Sink, M: Mechanism, D: Disk, P: Watch, Q: Watch>(
     sink: &mut K,
     bench: Bench<M, D, P, Q>,
 ) -> Ended<M, D, ()>
-    requires units { M.units bench.core.mech ≡ bench.core.units }
     requires starts { Starts M.Mechanism D.Disk bench.core }
-    requires at_rest { AtRest D.Disk bench.core.disk }
     ensures upholds { UpholdsAll M.Mechanism D.Disk bench.core (back result) }
     ensures any_moment { WasOnTheWayAll M.Mechanism D.Disk bench.core (back result) }
     ensures runs { RunsReplayOf words.now M.Mechanism D.Disk bench.core result (io_of S.Source K.Sink source.old source.new sink.old sink.new) }

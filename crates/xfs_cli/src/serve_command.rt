@@ -1,7 +1,7 @@
 //! The command `serve`.
 
 ghost use Rattle.std.specs.Prelude.{◌≡◌, ◌≤◌};
-ghost use Rattle.xfs_guard.specs.Starts.{AtRest, Starts};
+ghost use Rattle.xfs_guard.specs.Starts.{Starts};
 ghost use Rattle.xfs_cli.specs.Moments.{WasOnTheWayAll};
 ghost use Rattle.xfs_cli.specs.Returns.{back};
 ghost use Rattle.xfs_cli.specs.ServeRuns.{RunsServe, served_line, served_status};
@@ -46,9 +46,7 @@ pub fn serve_machine<
     doors: &mut O,
     gate: &G,
 ) -> Ended<M, D, O::Link>
-    requires units { M.units bench.core.mech ≡ bench.core.units }
     requires starts { Starts M.Mechanism D.Disk bench.core }
-    requires at_rest { AtRest D.Disk bench.core.disk }
     ensures upholds { UpholdsAll M.Mechanism D.Disk bench.core (back result) }
     ensures any_moment { WasOnTheWayAll M.Mechanism D.Disk bench.core (back result) }
     ensures runs { RunsServe M.Mechanism D.Disk bench.core connections (back result) (O.log doors.old) (O.log doors.new) (output K.Sink sink.old sink.new) }

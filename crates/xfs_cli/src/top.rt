@@ -1,7 +1,7 @@
 //! The top call.
 
 ghost use Rattle.std.specs.Prelude.{◌≡◌, ◌⊎◌, ◌↔◌, None};
-ghost use Rattle.xfs_guard.specs.Starts.{AtRest, Starts};
+ghost use Rattle.xfs_guard.specs.Starts.{Starts};
 ghost use Rattle.xfs_cli.specs.ClientRuns.{IsUndialled, RunsClientOf};
 ghost use Rattle.xfs_cli.specs.GuardRuns.{RunsGuardOf};
 ghost use Rattle.xfs_cli.specs.LoadRuns.{RunsLoadOf};
@@ -54,9 +54,7 @@ pub fn run<
     doors: &mut O,
     gate: &G,
 ) -> Ended<M, D, O::Link>
-    requires units { M.units bench.core.mech ≡ bench.core.units }
     requires starts { Starts M.Mechanism D.Disk bench.core }
-    requires at_rest { AtRest D.Disk bench.core.disk }
 
     // The headline: what was put out is within the tokens, whatever a crash leaves of the disk, and it follows what was
     // there at entry. A crash at any moment of the run leaves a list that begins with the records at entry, and is a

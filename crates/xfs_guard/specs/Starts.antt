@@ -1,5 +1,5 @@
--- What a run may start from, and what a disk at rest is.
-use Rattle.std.specs.Prelude.{ℕ, List}
+-- What a run may start from.
+use Rattle.std.specs.Prelude.{◌≡◌, ℕ, List}
 use Rattle.xfs_base.specs.Causes.{IfTold}
 use Rattle.xfs_disk.specs.Disk.{Only}
 use Rattle.xfs_disk.specs.declared.disk.Disk.{Ghosts as Disks}
@@ -9,10 +9,16 @@ use Rattle.xfs_journal.specs.declared.record.Rec.{Rec}
 use Rattle.xfs_guard.specs.Recorded.{IsRecorded}
 use Rattle.xfs_guard.specs.declared.machine_core.Core.{Core}
 
--- the condition at entry: each list of records that an image of the disk stands for is numbered, agrees with the mechanism's list, and puts out no more than its tokens cover
-abbrev pub Starts : {M D : Type 0} → Mechanisms M → Disks D → Core M D → Type 0
-Starts m d core = IfTold (d.held core.disk) (λ _. (image : List ℕ) → d.images core.disk image → (records : List Rec) → StandsFor image records → IsRecorded core.key core.units records (m.motions core.mech))
+-- each list of records that an image of the disk stands for is numbered, agrees with the mechanism's list, and puts out no more than its tokens cover
+abbrev pub AllRecorded : {M D : Type 0} → Mechanisms M → Disks D → Core M D → Type 0
+AllRecorded m d core = IfTold (d.held core.disk) (λ _. (image : List ℕ) → d.images core.disk image → (records : List Rec) → StandsFor image records → IsRecorded core.key core.units records (m.motions core.mech))
 
 -- a crash leaves what the disk reads as
 abbrev pub AtRest : {D : Type 0} → Disks D → D → Type 0
 AtRest d disk = IfTold (d.held disk) (λ bytes. Only bytes (d.images disk))
+
+-- the condition at entry: the mechanism has the core's table of units, and the disk is at rest and recorded
+pub record Starts {M D : Type 0} (m : Mechanisms M) (d : Disks D) (core : Core M D) : Type 0 where
+  pub units : m.units core.mech ≡ core.units
+  pub recorded : AllRecorded m d core
+  pub at_rest : AtRest d core.disk

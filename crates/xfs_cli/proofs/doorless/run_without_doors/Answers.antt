@@ -9,22 +9,22 @@ use Rattle.xfs_cli.proofs.doorless.run_without_doors.Goals as goal
 pub returns-in-Some-Token-clause-upholds : goal.returns-in-Some-Token-clause-upholds
 returns-in-Some-Token-clause-upholds g c =
     subst (λ r. UpholdsAll g.M.Mechanism g.D.Disk c.args.bench.core (back r)) (sym c.linkless-in-Some-Token.ensures)
-    (upholds-kept g.M.Mechanism g.D.Disk c.args.bench.core (back c.token.result) c.token.ensures.kept c.requires.starts c.requires.at_rest)
+    (upholds-kept g.M.Mechanism g.D.Disk c.args.bench.core (back c.token.result) c.token.ensures.kept c.requires.starts.recorded c.requires.starts.at_rest)
 
 pub returns-in-Some-Token-clause-any_moment : goal.returns-in-Some-Token-clause-any_moment
 returns-in-Some-Token-clause-any_moment g c =
     subst (λ r. WasOnTheWayAll g.M.Mechanism g.D.Disk c.args.bench.core (back r)) (sym c.linkless-in-Some-Token.ensures)
-    (moments-kept g.M.Mechanism g.D.Disk c.args.bench.core (back c.token.result) g.met.D.Disk.as_read g.met.D.Disk.only_now c.token.ensures.kept c.requires.at_rest)
+    (moments-kept g.M.Mechanism g.D.Disk c.args.bench.core (back c.token.result) g.met.D.Disk.as_read g.met.D.Disk.only_now c.token.ensures.kept c.requires.starts.at_rest)
 
 pub returns-in-None-clause-upholds : goal.returns-in-None-clause-upholds
 returns-in-None-clause-upholds g c =
     subst (λ r. UpholdsAll g.M.Mechanism g.D.Disk c.args.bench.core (back r)) (sym c.untouched-in-None.ensures.same)
-    (upholds-kept g.M.Mechanism g.D.Disk c.args.bench.core (record { status = 2; mech = c.args.bench.core.mech; disk = c.args.bench.core.disk }) (record { mech = refl; disk = refl }) c.requires.starts c.requires.at_rest)
+    (upholds-kept g.M.Mechanism g.D.Disk c.args.bench.core (record { status = 2; mech = c.args.bench.core.mech; disk = c.args.bench.core.disk }) (record { mech = refl; disk = refl }) c.requires.starts.recorded c.requires.starts.at_rest)
 
 pub returns-in-None-clause-any_moment : goal.returns-in-None-clause-any_moment
 returns-in-None-clause-any_moment g c =
     subst (λ r. WasOnTheWayAll g.M.Mechanism g.D.Disk c.args.bench.core (back r)) (sym c.untouched-in-None.ensures.same)
-    (moments-kept g.M.Mechanism g.D.Disk c.args.bench.core (record { status = 2; mech = c.args.bench.core.mech; disk = c.args.bench.core.disk }) g.met.D.Disk.as_read g.met.D.Disk.only_now (record { mech = refl; disk = refl }) c.requires.at_rest)
+    (moments-kept g.M.Mechanism g.D.Disk c.args.bench.core (record { status = 2; mech = c.args.bench.core.mech; disk = c.args.bench.core.disk }) g.met.D.Disk.as_read g.met.D.Disk.only_now (record { mech = refl; disk = refl }) c.requires.starts.at_rest)
 
 pub returns-in-None-clause-load : goal.returns-in-None-clause-load
 returns-in-None-clause-load g c = λ rounds says. absurd (c.in-None.ensures.none (Load rounds, says))

@@ -11,7 +11,7 @@ use Rattle.xfs_cli.proofs.ServeLaws.{serves-booted, serves-refused}
 use Rattle.xfs_cli.proofs.serve_command.serve_machine.Goals as goal
 
 pub boot-requires-clause-recorded : goal.boot-requires-clause-recorded
-boot-requires-clause-recorded g c = recorded-start _ _ _ _ _ c.requires.starts
+boot-requires-clause-recorded g c = recorded-start _ _ _ _ _ c.requires.starts.recorded
 
 pub returns-in-Ok-clause-upholds : goal.returns-in-Ok-clause-upholds
 returns-in-Ok-clause-upholds g c =
@@ -21,13 +21,13 @@ returns-in-Ok-clause-upholds g c =
     let t = f.through in
     let p = Proceeds-trans g.D.Disk _ _ _ disk.counts_now c.serve_connections-ending.ensures.proceeds t.proceeds in
     let continues = rw ok.2 at p.continues in
-    upholds-run _ _ ok.0 _ _ _ _ _ _ refl refl ok.1 c.requires.starts (disk.as_read c.args.bench.core.disk) continues t.back.stored
+    upholds-run _ _ ok.0 _ _ _ _ _ _ refl refl ok.1 c.requires.starts.recorded (disk.as_read c.args.bench.core.disk) continues t.back.stored
     (λ told bytes image J stands. rw (t.proceeds.continues.key, t.proceeds.continues.units, sym t.back.motions) (f.recorded J (record { told = told; bytes = bytes; left = image; stands = stands }))) t.back.motions t.back.places
 
 pub returns-in-Err-clause-upholds : goal.returns-in-Err-clause-upholds
 returns-in-Err-clause-upholds g c =
     let disk = g.met.D.Disk g.world.𝓛 g.world.𝓜 g.world.𝓡 ((λ s x. x), (λ x. x), (λ x. x), λ x. x) in
-    rw c.in-Err.ensures.mech (upholds-refused _ _ _ _ _ _ _ _ c.requires.starts c.requires.at_rest (disk.as_read c.args.bench.core.disk) c.in-Err.ensures.either)
+    rw c.in-Err.ensures.mech (upholds-refused _ _ _ _ _ _ _ _ c.requires.starts.recorded c.requires.starts.at_rest (disk.as_read c.args.bench.core.disk) c.in-Err.ensures.either)
 
 pub returns-in-Ok-clause-any_moment : goal.returns-in-Ok-clause-any_moment
 returns-in-Ok-clause-any_moment g c =
@@ -37,7 +37,7 @@ returns-in-Ok-clause-any_moment g c =
     let t = f.through in
     let p = Proceeds-trans g.D.Disk _ _ _ disk.counts_now c.serve_connections-ending.ensures.proceeds t.proceeds in
     let told = ap (λ (v : View). v.disk_told) ok.2 in
-    rw t.disk_is (moments-run g.D.Disk disk.as_read _ (guard_of c.in-Ok.machine) t.last ok.0 _ _ disk.counts_now c.requires.at_rest (ap (λ (v : View). v.records) ok.2) ok.1
+    rw t.disk_is (moments-run g.D.Disk disk.as_read _ (guard_of c.in-Ok.machine) t.last ok.0 _ _ disk.counts_now c.requires.starts.at_rest (ap (λ (v : View). v.records) ok.2) ok.1
     (sym p.crashes.told ∙ (rw t.disk_is at t.back.told) ∙ p.continues.disk_told ∙ told)
     c.in-Ok.ensures.crashes p.continues p.crashes (rw t.disk_is at t.back.stored)
     (λ J may. rw (t.proceeds.continues.key, t.proceeds.continues.units, sym t.back.motions) ((rw t.disk_is at f.recorded) J may)) t.back.motions)
@@ -45,7 +45,7 @@ returns-in-Ok-clause-any_moment g c =
 pub returns-in-Err-clause-any_moment : goal.returns-in-Err-clause-any_moment
 returns-in-Err-clause-any_moment g c =
     let disk = g.met.D.Disk g.world.𝓛 g.world.𝓜 g.world.𝓡 ((λ s x. x), (λ x. x), (λ x. x), λ x. x) in
-    rw c.in-Err.ensures.mech (moments-refused g.D.Disk disk.as_read _ _ _ _ _ _ c.requires.starts c.requires.at_rest c.in-Err.ensures.crashes c.in-Err.ensures.either)
+    rw c.in-Err.ensures.mech (moments-refused g.D.Disk disk.as_read _ _ _ _ _ _ c.requires.starts.recorded c.requires.starts.at_rest c.in-Err.ensures.crashes c.in-Err.ensures.either)
 
 pub returns-in-Ok-clause-runs : goal.returns-in-Ok-clause-runs
 returns-in-Ok-clause-runs g c =
