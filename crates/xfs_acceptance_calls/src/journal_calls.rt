@@ -5,10 +5,8 @@ use std::alloc::Global;
 use std::fs::{self, File};
 use std::test::Fail;
 use xfs_base::{Counts, Kind, Places};
-use xfs_disk::{Disk, FailDisk, FileDisk, FuseDisk, MemDisk};
-use xfs_journal::{
-    AppendFault, BodyFault, Journal, Limits, MountFault, Rec, Survey, Text, read_body,
-};
+use xfs_disk::{Disk, FileDisk, MemDisk};
+use xfs_journal::{BodyFault, Journal, Limits, MountFault, Rec, Survey, Text, read_body};
 
 const LIMITS: Limits = Limits {
     records: 1_000_000,
@@ -95,70 +93,6 @@ fn a_boot_and_an_issue_are_205_and_225_bytes(rt: HostRuntime) -> Result<(), Fail
     assert!(rt; !again.shut());
     assert_eq!(rt; again.records().len(), 2);
     assert_eq!(rt; again.end().bytes(), short_file(alloc)?.as_slice());
-    Ok(())
-}
-
-#[test]
-fn an_expire_is_one_letter(rt: HostRuntime) -> Result<(), Fail> {
-    let alloc = rt.alloc();
-    let mut journal = mounted(alloc, MemDisk::new(alloc, short_file(alloc)?))?;
-    assert!(rt; journal.append(Rec::Expire) == Ok(3));
-    let mut bytes = short_file(alloc)?;
-    bytes.truncate(224);
-    bytes.extend_from_slice(&[1, 0, 1, 0x45, 0])?;
-    let file = journal.end();
-    assert_eq!(rt; file.bytes(), bytes.as_slice());
-    let again = mounted(alloc, file)?;
-    assert!(rt;
-        matches!(
-            again.records(),
-            [Rec::Boot { .. }, Rec::Issue { .. }, Rec::Expire]
-        )
-    );
-    Ok(())
-}
-
-// How many records a crash leaves of the booted file, where an issue was begun on it and the disk failed after so
-// many calls, and whether the issue was acknowledged.
-fn crashed(alloc: Global, calls: u64, pick: u64) -> Result<(usize, bool), Fail> {
-    let file = boot_file(alloc)?;
-    match Journal::mount(alloc, FuseDisk::new(disk(alloc, &file)?, calls), LIMITS) {
-        Ok(mut journal) => {
-            let acknowledged = journal.append(issue()).is_ok();
-            let left = mounted(alloc, journal.end().inner().crash(pick))?;
-            Ok((left.records().len(), acknowledged))
-        }
-        Err(refused) => {
-            let left = mounted(alloc, refused.disk.inner().crash(pick))?;
-            Ok((left.records().len(), false))
-        }
-    }
-}
-
-// A mount of one page makes three calls, and an append four.
-#[test]
-fn an_append_is_there_whole_or_not_after_a_crash_in_any_call(rt: HostRuntime) -> Result<(), Fail> {
-    for calls in 0..=7 {
-        for pick in 0..=7 {
-            let (records, acknowledged) = crashed(rt.alloc(), calls, pick)?;
-            assert_eq!(rt; acknowledged, calls == 7, "after {calls} calls");
-            let opened = calls == 7 || calls == 6 && pick == 1;
-            assert_eq!(rt;
-                records,
-                if opened { 2 } else { 1 },
-                "after {calls} calls, pick {pick}"
-            );
-        }
-    }
-    Ok(())
-}
-
-#[test]
-fn a_gate_byte_opens_for_one_alone_of_its_256_values(rt: HostRuntime) -> Result<(), Fail> {
-    for byte in 0..=255 {
-        let (records, _) = crashed(rt.alloc(), 6, 256 + byte)?;
-        assert_eq!(rt; records, if byte == 1 { 2 } else { 1 }, "left {byte}");
-    }
     Ok(())
 }
 
@@ -340,34 +274,6 @@ fn the_paged_reader_finds_what_a_plain_one_finds(rt: HostRuntime) -> Result<(), 
         }
         *file.get_mut(place).ok_or("shorter")? = [0, 1, 2, 64, 255][number % 5];
         assert_eq!(rt; paged(alloc, &file)?, plain(alloc, &file)?, "file {number}");
-    }
-    Ok(())
-}
-
-// A remount of the booted file over a disk whose call of this number, from 1, fails in an append.
-fn remounted(alloc: Global, call: u64) -> Result<(usize, usize), Fail> {
-    let failing = FailDisk::new(disk(alloc, &boot_file(alloc)?)?, [call].to_vec(alloc)?);
-    let mut journal = mounted(alloc, failing)?;
-    let refused = journal.append(issue()) == Err(AppendFault::Disk);
-    if !refused || !journal.shut() || journal.append(boot(alloc)?) != Err(AppendFault::Shut) {
-        Err("the append is not refused")?
-    }
-    journal.remount()?;
-    let read = journal.records().len();
-    journal.append(issue())?;
-    let left = mounted(alloc, journal.end().inner().crash(0))?;
-    Ok((read, left.records().len()))
-}
-
-// The mount makes three calls. A call that fails does nothing, so the record is there where its last sync failed.
-#[test]
-fn a_journal_goes_on_after_a_fault_in_each_call_of_an_append(rt: HostRuntime) -> Result<(), Fail> {
-    for (call, read) in [(4, 1), (5, 1), (6, 1), (7, 2)] {
-        assert_eq!(rt;
-            remounted(rt.alloc(), call)?,
-            (read, read + 1),
-            "call {call}"
-        );
     }
     Ok(())
 }

@@ -24,9 +24,9 @@ mod envelope_calls;
 #[cfg(test)]
 mod guard_bench;
 #[cfg(test)]
-mod guard_calls;
+mod guard_boot_calls;
 #[cfg(test)]
-mod guard_disk_calls;
+mod guard_calls;
 #[cfg(test)]
 mod hearing_calls;
 #[cfg(test)]

@@ -1,5 +1,5 @@
 -- The parts of a turn, and turns one behind the other.
-use Rattle.std.proofs.Common.{◌≡◌, ℕ, ◌+◌, List, [], ◌∷◌, ◌++◌, length, None, Some, Err, refl, ap, sym, ◌∙◌, append_assoc, arith, slice_get, get_or, take, drop, ◌<◌}
+use Rattle.std.proofs.Common.{◌≡◌, ℕ, zero, suc, ◌+◌, List, [], ◌∷◌, ◌++◌, length, None, Some, Err, refl, ap, sym, ◌∙◌, append_assoc, arith, slice_get, get_or, take, drop, ◌<◌}
 use Rattle.std.specs.Prelude.{option_map}
 use Rattle.std.specs.declared.option.Option.{Option}
 use Rattle.std.proofs.lemmas.List.{append-nil, length-append, take-append-drop, take_more}
@@ -8,7 +8,7 @@ use Rattle.xfs_base.specs.declared.faults.Memory.{Memory}
 use Rattle.xfs_server.specs.Boards.{BoardLog, after_post, after_turn, after_fetch}
 use Rattle.xfs_server.specs.Counted.{counted, grown}
 use Rattle.xfs_server.specs.Links.{LinkLog, after_take, after_give}
-use Rattle.xfs_server.specs.Sessions.{Stop, Course, Ends, Session, IsAtLimit, Heard, GaveFront, over_of, lost, front, kept, turns_in, fetches_in, fault_count, is_closed, Behind, AtClosed, AtFault, AtMemory, AtPost, AtTurn, AtGive}
+use Rattle.xfs_server.specs.Sessions.{Stop, Course, Turns, Ends, Session, IsAtLimit, Heard, GaveFront, over_of, lost, front, kept, turns_in, fetches_in, fault_count, is_closed, Behind, AtClosed, AtFault, AtMemory, AtPost, AtTurn, AtGive}
 use Rattle.xfs_server.specs.declared.link.GiveFault.{GiveFault}
 use Rattle.xfs_server.specs.declared.link.Taking.{Taking}
 use Rattle.xfs_server.specs.declared.session.Over.{Over}
@@ -280,21 +280,48 @@ course_join n many stop l m k b d e c f = record {
       let sums : (n + fetches_in Behind) + (many + fetches_in stop) ≡ (n + many) + fetches_in stop = omega arith in sums);
 }
 
+-- one more turn behind so many
+pub turns_more : (n : ℕ) (l m k : LinkLog) (b d e : BoardLog) → Turns n l m b d → Course 1 Behind m k d e → Turns (n + 1) l k b e
+turns_more n l m k b d e turns one =
+    let more : n + 1 ≡ suc n = omega arith in
+    rw more (m, d, turns, one)
+
+-- all that was done in them
+pub turns_course : (n : ℕ) (l m : LinkLog) (b d : BoardLog) → Turns n l m b d → Course n Behind l m b d
+turns_course zero l m b d (link_is, board_is) = rw (link_is, board_is) (course_start l b)
+turns_course (suc n) l k b e (m, d, turns, one) =
+    let more : suc n ≡ n + 1 = omega arith in
+    rw more (course_join n 1 Behind l m k b d e (turns_course n l m b d turns) one)
+
 -- whole turns and then the one that ends the session
-pub session_ends : (n : ℕ) (over : Over) (l m k : LinkLog) (b d e : BoardLog) → Course n Behind l m b d → Ends 0 over m k d e → Session over l k b e
-session_ends n over l m k b d e c f = record {
-  turns = n + 0;
-  ends = record { stop = f.stop; course = course_join n 0 f.stop l m k b d e c f.course; over_is = f.over_is; limit = no_limit over f.limit };
-}
+pub session_ends : (n : ℕ) (over : Over) (l m k : LinkLog) (b d e : BoardLog) → Turns n l m b d → Ends 0 over m k d e → Session over l k b e
+session_ends n over l m k b d e turns f =
+    let same : n + 0 ≡ n = omega arith in
+    record {
+      turns = n;
+      ends = record { stop = f.stop; course = rw same at (course_join n 0 f.stop l m k b d e (turns_course n l m b d turns) f.course); over_is = f.over_is; limit = no_limit over f.limit };
+      link_before = m;
+      board_before = d;
+      whole = turns;
+      last = f.course;
+    }
   where
-    no_limit : (o : Over) → IsAtLimit o 0 → IsAtLimit o (n + 0)
+    no_limit : (o : Over) → IsAtLimit o 0 → IsAtLimit o n
     no_limit Over.Closed p = tt
     no_limit Over.Failed p = tt
     no_limit Over.Memory p = tt
     no_limit Over.Turns p = absurd (omega (arith, p))
 
-pub session_whole : (l m : LinkLog) (b d : BoardLog) → Course 4294967296 Behind l m b d → Session Over.Turns l m b d
-session_whole l m b d c = record { turns = 4294967296; ends = record { stop = Behind; course = c; over_is = refl; limit = refl } }
+-- as many as there may be
+pub session_whole : (n : ℕ) (l m : LinkLog) (b d : BoardLog) → n ≡ 4294967296 → Turns n l m b d → Session Over.Turns l m b d
+session_whole n l m b d all turns = record {
+  turns = n;
+  ends = record { stop = Behind; course = turns_course n l m b d turns; over_is = refl; limit = all };
+  link_before = m;
+  board_before = d;
+  whole = turns;
+  last = course_start m d;
+}
 
 -- the frames up to the one at a place were given, and that one was refused
 pub gave_front : (l m k : LinkLog) (frames : List (List ℕ)) (i : ℕ) (item : List ℕ) (fault : GiveFault) → i < length frames → item ≡ get_or frames i item

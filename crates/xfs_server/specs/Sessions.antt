@@ -1,5 +1,5 @@
 -- What a session does: each of its turns takes one text or finds that none has come, posts that text, turns the board once, and gives the frames handed over.
-use Rattle.std.specs.Prelude.{◌≡◌, ℕ, ◌+◌, List, [], ◌∷◌, ◌++◌, length, Bool, true, option_map, ⊤, Ok, Err}
+use Rattle.std.specs.Prelude.{◌≡◌, ℕ, zero, suc, ◌+◌, List, [], ◌∷◌, ◌++◌, length, Bool, true, option_map, ⊤, Ok, Err}
 use Rattle.std.specs.declared.option.Option.{Option}
 use Rattle.std.specs.declared.result.Result.{Result}
 use Rattle.xfs_base.specs.Causes.{IfTold}
@@ -129,6 +129,11 @@ pub record Course (turns : ℕ) (stop : Stop) (link link' : LinkLog) (board boar
   pub worked : board'.turns ≡ counted (turns + turns_in stop) board.turns
   pub fetched : board'.fetches ≡ counted (turns + fetches_in stop) board.fetches
 
+-- so many whole turns, one behind the other: the frames of each are given before the next begins
+abbrev pub Turns : ℕ → LinkLog → LinkLog → BoardLog → BoardLog → Type 0
+Turns zero link link' board board' = (link' ≡ link) × (board' ≡ board)
+Turns (suc turns) link link' board board' = (link_before : LinkLog) × (board_before : BoardLog) × Turns turns link link_before board board_before × Course 1 Behind link_before link' board_before board'
+
 -- it ends at the limit only after 4,294,967,296 turns
 abbrev pub IsAtLimit : Over → ℕ → Type 0
 IsAtLimit Over.Closed turns = ⊤
@@ -143,10 +148,14 @@ pub record Ends (turns : ℕ) (over : Over) (link link' : LinkLog) (board board'
   pub over_is : over ≡ over_of stop
   pub limit : IsAtLimit over turns
 
--- a whole session
+-- a whole session: whole turns, then what ends it, and both together
 pub record Session (over : Over) (link link' : LinkLog) (board board' : BoardLog) : Type 0 where
   pub turns : ℕ
   pub ends : Ends turns over link link' board board'
+  pub link_before : LinkLog
+  pub board_before : BoardLog
+  pub whole : Turns turns link link_before board board_before
+  pub last : Course 0 ends.stop link_before link' board_before board'
 
 -- the first half of a turn: the link and the board after a text that was taken and posted, or after a quiet
 pub record Heard (link link' : LinkLog) (board board' : BoardLog) : Type 0 where

@@ -1,7 +1,4 @@
-//! The guard's calls over disks that fail, and its boot over files, which tell nothing.
-
-ghost use Rattle.std.specs.Prelude.{◌≡◌, IfOk};
-ghost use Rattle.xfs_guard.specs.declared.open.Open.TheVariants.{No};
+//! The guard's boot over files, which tell nothing, and its restore.
 
 use crate::guard_bench::{GENUINE, guard_on, sim, units};
 use std::alloc::Global;
@@ -9,105 +6,10 @@ use std::fs::{self, File};
 use std::process::Abort;
 use std::test::Fail;
 use xfs_base::Counts;
-use xfs_disk::{FailDisk, FileDisk};
-use xfs_guard::{Ask, BootFault, Deny, Fit, Guard};
+use xfs_disk::FileDisk;
+use xfs_guard::{Ask, BootFault, Fit, Guard};
 use xfs_journal::Rec;
-use xfs_mech::{Mechanism, SimMech};
 use xfs_simulated::{KEY, LIMITS, SEED, places};
-
-// A call of a dispense.
-#[derive(Clone, Copy, Debug, PartialEq, Eq)]
-enum Step {
-    Check,
-    Allow,
-    Order,
-    Settle,
-}
-
-// A guard with a nonce, over a disk whose call of this number fails, from 1.
-fn failing_at(alloc: Global, call: u64) -> Result<Guard<SimMech, FailDisk>, Fail>
-    ensures { IfOk result (λ g. g.state.open_order ≡ No) }
-{
-    let mut guard = guard_on(alloc, &[call])?;
-    guard.issue()?;
-    Ok(guard)
-}
-
-// One note of EUR 50 on a token: the call that is refused, and why.
-fn stacked(
-    rt: &impl Abort,
-    guard: &mut Guard<SimMech, FailDisk>,
-    token: &[u8],
-) -> Result<(), (Step, Deny)>
-    requires { guard.old.state.open_order ≡ No }
-    ensures { guard.new.state.open_order ≡ No }
-{
-    assert!(rt; guard.units().len() >= 3);
-    let claim = match guard.check(token) {
-        Ok(claim) => claim,
-        Err(deny) => return Err((Step::Check, deny)),
-    };
-    let permit = match guard.allow(claim, &Counts([0, 0, 1, 0, 0, 0, 0, 0])) {
-        Ok(permit) => permit,
-        Err(deny) => return Err((Step::Allow, deny)),
-    };
-    let ask = Ask::Stack {
-        issue: permit.issue,
-        unit: 3,
-        count: 1,
-    };
-    if let Err(deny) = guard.order(ask) {
-        return Err((Step::Order, deny));
-    }
-    guard.act();
-    match guard.settle() {
-        Ok(()) => Ok(()),
-        Err(deny) => Err((Step::Settle, deny)),
-    }
-}
-
-// A dispense whose disk fails in this call ends so, and leaves the guard shut with no order open.
-fn is_shut(
-    rt: &impl Abort,
-    alloc: Global,
-    call: u64,
-    due: Result<(), (Step, Deny)>,
-) -> Result<(), Fail> {
-    let mut guard = failing_at(alloc, call)?;
-    let told = stacked(rt, &mut guard, GENUINE.as_bytes());
-    assert!(rt; told == due && !guard.ordering(), "call {call}");
-    let shut = due.is_err();
-    assert!(rt; (guard.fit() == Fit::Shut) == shut && guard.unfit().is_some() == shut);
-    assert!(rt; (guard.unfit() == Some(Deny::Shut)) == shut);
-    assert!(rt;
-        guard.places().transport.notes() == u64::from(call >= 21),
-        "call {call}"
-    );
-    if shut {
-        assert!(rt; matches!(guard.issue(), Err(Deny::Shut)));
-    }
-    let places = guard.places();
-    let (mech, _) = guard.end();
-    assert!(rt; mech.survey() == places);
-    Ok(())
-}
-
-// The boot makes 8 calls of the disk, and the issue 4. A Bind, an Order and a Done make 4 each.
-#[test]
-fn a_guard_whose_disk_fails_in_a_dispense_is_shut_and_has_no_order_open(
-    rt: HostRuntime,
-) -> Result<(), Fail> {
-    for call in 13..26u64 {
-        let due = match (call - 13) / 4 {
-            0 => Err((Step::Allow, Deny::Disk)),
-            1 => Err((Step::Order, Deny::Disk)),
-            2 => Err((Step::Settle, Deny::Disk)),
-            _ => Ok(()),
-        };
-        is_shut(&rt, rt.alloc(), call, due)?;
-    }
-    Ok(())
-}
 
 // How a boot over a file ends: with so many records and no live nonce, or refused.
 fn booted_over(
@@ -168,6 +70,7 @@ fn a_boot_over_a_file_finds_a_journal_or_none(rt: HostRuntime) -> Result<(), Fai
 fn a_restore_gives_the_journal_a_boot_with_the_places(rt: HostRuntime) -> Result<(), Fail> {
     let mut guard = guard_on(rt.alloc(), &[])?;
     assert!(rt; guard.live().is_none() && guard.unacted().is_none() && !guard.ordering());
+    assert!(rt; guard.fit() == Fit::Ready && guard.unfit().is_none());
     let nonce = guard.issue()?;
     let live = guard.live().ok_or("a live nonce")?;
     assert!(rt; nonce.number == 1 && live.number == 1 && live.text == nonce.text);
