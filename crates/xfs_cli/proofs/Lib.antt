@@ -12,6 +12,7 @@ pub mod FilledLaws
 pub mod GuardStateLaws
 pub mod KeptLaws
 pub mod LastLaws
+pub mod LineEndLaws
 pub mod LinedLaws
 pub mod LoadLaws
 pub mod MailLaws
@@ -21,7 +22,6 @@ pub mod RestartLaws
 pub mod RunLaws
 pub mod RunsLaws
 pub mod ServeLaws
-pub mod TokenEndLaws
 pub mod TokenTexts
 pub mod UnreadLaws
 pub mod VerbLaws

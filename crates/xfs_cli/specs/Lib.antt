@@ -12,6 +12,8 @@ pub mod GuardStarts
 pub mod GuardStates
 pub mod GuardTexts
 pub mod GuardVerbs
+pub mod HostRuns
+pub mod HostVerbs
 pub mod Lined
 pub mod LoadEnds
 pub mod LoadRuns

@@ -4,7 +4,7 @@ use Rattle.std.specs.declared.alloc.Global.{Global}
 use Rattle.xfs_words.specs.Words.{Names, texts}
 use Rattle.xfs_cli.specs.declared.words.Task.{Task}
 use Rattle.xfs_words.specs.declared.command.Command.{Command}
-use Rattle.xfs_words.specs.declared.command.Command.TheVariants.{Guard, Token, Replay, Load, Serve, Client}
+use Rattle.xfs_words.specs.declared.command.Command.TheVariants.{Guard, Token, Replay, Load, Serve, Client, Host}
 
 -- the words are this one word
 abbrev pub IsWord : List ℕ → List (String Global) → Type 0
@@ -39,6 +39,9 @@ IsClientOf currency amount words = Names (Client currency amount) (texts words)
 
 abbrev pub IsClient : List (String Global) → Type 0
 IsClient words = (currency : List ℕ) × (amount : ℕ) × IsClientOf currency amount words
+
+abbrev pub IsHost : List (String Global) → Type 0
+IsHost words = Names Host (texts words)
 
 -- the words name a command
 abbrev pub IsCommand : List (String Global) → Type 0

@@ -3,6 +3,7 @@
 ghost use Rattle.std.specs.Prelude.{◌≡◌, ◌↔◌, ◌∷◌, [], None};
 ghost use Rattle.xfs_guard.specs.Starts.{Starts};
 ghost use Rattle.xfs_cli.specs.GuardRuns.{RunsGuardOf};
+ghost use Rattle.xfs_cli.specs.HostRuns.{RunsHostOf};
 ghost use Rattle.xfs_cli.specs.LoadRuns.{RunsLoadOf};
 ghost use Rattle.xfs_cli.specs.Moments.{WasOnTheWayAll};
 ghost use Rattle.xfs_cli.specs.ReplayRuns.{RunsReplayOf};
@@ -16,6 +17,7 @@ ghost use Rattle.xfs_cli.specs.Upholds.{Accounts, UpholdsAll};
 
 use crate::ended::Ended;
 use crate::guard_command::guard;
+use crate::host_command::host;
 use crate::last_line::usage;
 use crate::load_command::load;
 use crate::replay_command::replay;
@@ -47,6 +49,7 @@ pub fn run_without_doors<S: Source, K: Sink, M: Mechanism, D: Disk, P: Watch, Q:
     ensures replay { RunsReplayOf words.now M.Mechanism D.Disk bench.core result (io_of S.Source K.Sink source.old source.new sink.old sink.new) }
     ensures load { RunsLoadOf words.now M.Mechanism D.Disk bench.core result (io_of S.Source K.Sink source.old source.new sink.old sink.new) }
     ensures token { RunsTokenOf words.now bench.core result (io_of S.Source K.Sink source.old source.new sink.old sink.new) }
+    ensures host { RunsHostOf words.now bench.core result (io_of S.Source K.Sink source.old source.new sink.old sink.new) }
     ensures usage { (result.status ≡ USAGE) ↔ ¬ (IsCommand words.now) }
     ensures usage_written { result.status ≡ USAGE → WritesUsage (io_of S.Source K.Sink source.old source.new sink.old sink.new) }
     ensures idle { result.status ≡ USAGE → IsKept bench.core (back result) }
@@ -63,6 +66,7 @@ pub fn run_without_doors<S: Source, K: Sink, M: Mechanism, D: Disk, P: Watch, Q:
         Some(Command::Token) => linkless(token(alloc, words, source, sink, bench)),
         Some(Command::Replay) => linkless(replay(alloc, words, source, sink, bench)),
         Some(Command::Load(_)) => linkless(load(alloc, words, source, sink, bench)),
+        Some(Command::Host) => linkless(host(alloc, words, source, sink, bench)),
         // These two ask something of the doors.
         Some(Command::Serve(_) | Command::Client(_, _)) => untouched(sink, bench),
         None => untouched(sink, bench),

@@ -8,6 +8,9 @@ mod ended;
 mod guard_answer;
 mod guard_command;
 mod guard_player;
+mod host_answer;
+mod host_command;
+mod host_text;
 mod last_line;
 mod load_command;
 mod mail;
@@ -30,6 +33,7 @@ mod words;
 
 pub use ended::Ended;
 pub use guard_command::guard;
+pub use host_command::host;
 pub use load_command::load;
 pub use replay_command::replay;
 pub use token_command::token;

@@ -1,3 +1,5 @@
+pub mod Limits
+pub mod Listing
 pub mod Maps
 pub mod OneText
 pub mod Paying

@@ -1,5 +1,5 @@
 -- What a history comes to: the list of the calls that were answered, the oldest first. An ask is first where no earlier one has its number.
-use Rattle.std.specs.Prelude.{ℕ, ◌-◌, ◌==◌, ◌&&◌, not, nat_lt, Bool, true, false, List, [], ◌∷◌, ◌++◌, if◌then◌else◌, fold, find, is_some, None, Some}
+use Rattle.std.specs.Prelude.{ℕ, ◌-◌, ◌==◌, ◌&&◌, not, nat_lt, Bool, true, false, List, [], ◌∷◌, ◌++◌, if◌then◌else◌, fold, find, is_some, map, None, Some}
 use Rattle.std.specs.Option.{option_map}
 use Rattle.std.specs.declared.option.Option.{Option}
 use Rattle.std.specs.List.{sum_by}
@@ -131,3 +131,7 @@ balance_after calls account = option_map (λ a. a.balance) (account_in (book_of 
 -- the numbers of the open accounts, rising
 abbrev pub rising : Book → List ℕ
 rising b = fold (λ numbers o. insert_key nat_cmp numbers o.account) [] b.opened
+
+-- the open accounts by their rising numbers, with their currencies and balances
+abbrev pub listed : Book → List (ℕ × Option Account)
+listed b = map (λ n. (n, account_in b n)) (rising b)

@@ -1,5 +1,5 @@
 -- What a host has: the key of its tokens, and the history of the calls that it answered.
-use Rattle.std.specs.Prelude.{◌≡◌, ℕ, ◌&&◌, not, nat_le, List, length, if◌then◌else◌, is_some, None, Some, Err, MatchResult, ⊤}
+use Rattle.std.specs.Prelude.{◌≡◌, ℕ, ◌≤◌, ◌&&◌, not, nat_le, List, length, if◌then◌else◌, is_some, None, Some, Err, MatchResult, ⊤}
 use Rattle.std.specs.declared.option.Option.{Option}
 use Rattle.std.specs.declared.result.Result.{Result}
 use Rattle.xfs_host.specs.Ask.{Terms}
@@ -8,6 +8,11 @@ use Rattle.xfs_host.specs.declared.faults.HostFault.{HostFault}
 use Rattle.xfs_host.specs.declared.faults.HostFault.TheVariants as host
 use Rattle.xfs_host.specs.declared.faults.OpenFault.{OpenFault}
 use Rattle.xfs_host.specs.declared.faults.OpenFault.TheVariants as opening
+
+-- at most 10,000 accounts stand, and 100,000 transactions
+pub record IsWithinLimits (b : Book) : Type 0 where
+  pub accounts : length b.opened ≤ 10000
+  pub transactions : length b.asked ≤ 100000
 
 pub record State : Type 0 where
   pub key : List ℕ

@@ -3,7 +3,7 @@ use xfs_base::Currency;
 
 /// An account's currency, and its balance in thousandths of the currency's unit.
 #[derive(Clone, Copy)]
-pub(crate) struct Account {
-    pub(crate) currency: Currency,
-    pub(crate) balance: u64,
+pub struct Account {
+    pub currency: Currency,
+    pub balance: u64,
 }

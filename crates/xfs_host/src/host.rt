@@ -1,14 +1,15 @@
 //! The host.
-ghost use Rattle.std.specs.Prelude.{◌≡◌, ◌<◌, ◌≤◌, ◌++◌, ◌∷◌, [], ℕ, List, length, Some, IfOk, OnOk, OnErr, slice_get};
+ghost use Rattle.std.specs.Prelude.{◌≡◌, ◌<◌, ◌≤◌, ◌++◌, ◌∷◌, [], ℕ, List, length, map, Some, IfOk, OnOk, OnErr, slice_get};
 ghost use Rattle.std.specs.Option.{option_map};
 ghost use Rattle.xfs_hmac.specs.Hmac.{IsKey};
 ghost use Rattle.xfs_token.specs.Amounts.{IsMade};
-ghost use Rattle.xfs_host.specs.Book.{Opened, Asked, account_in, balance_after, book_of, reply_after, rising};
+ghost use Rattle.xfs_host.specs.Book.{Opened, Asked, account_in, balance_after, book_of, listed, reply_after, rising};
 ghost use Rattle.xfs_host.specs.Host.{IsRefusedAs, host_refusal, open_refusal};
 ghost use Rattle.xfs_host.specs.Reply.{IsReply};
 ghost use Rattle.xfs_host.specs.declared.faults.HostFault.TheVariants as host;
 ghost use Rattle.xfs_host.specs.declared.faults.OpenFault.TheVariants as opening;
 
+use crate::account::Account;
 use crate::ask::Ask;
 use crate::decision::Decision;
 use crate::ledger::Ledger;
@@ -36,14 +37,15 @@ pub struct Host {
 }
 
 impl Model for Host {
-    ghost use Rattle.xfs_host.specs.Host.{State};
+    ghost use Rattle.xfs_host.specs.Host.{IsWithinLimits, State};
+    ghost use Rattle.xfs_host.specs.Book.{book_of};
     ghost use Rattle.xfs_hmac.specs.Hmac.{IsKey};
 
     ghost Value = { State };
 
     ghost view = { λ h. record { key = h.secret.value; calls = h.ledger } };
 
-    ghost invariant = { λ h. IsKey h.key h.secret.value };
+    ghost invariant = { λ h. IsKey h.key h.secret.value × IsWithinLimits (book_of h.ledger) };
 }
 
 impl Host {
@@ -107,9 +109,25 @@ impl Host {
 
     /// How many accounts are open.
     pub fn len(&self) -> usize
-        ensures { result ≡ length (book_of self.now.calls).opened }
+        ensures opened { result ≡ length (book_of self.now.calls).opened }
+        ensures most { result ≤ 10000 }
     {
         self.ledger.len()
+    }
+
+    /// How many transactions are kept.
+    pub fn kept(&self) -> usize
+        ensures asked { result ≡ length (book_of self.now.calls).asked }
+        ensures most { result ≤ 100000 }
+    {
+        self.ledger.kept()
+    }
+
+    /// The open accounts by their rising numbers, read in one walk.
+    pub fn accounts(&self) -> Result<Vec<(u64, Account)>, AllocError>
+        ensures { IfOk result (λ list. map (λ e. (e.0, Some e.1)) list.items ≡ listed (book_of self.now.calls)) }
+    {
+        self.ledger.listed()
     }
 
     /// The account at a place, from 0, among the open ones by their rising numbers, with its currency and its balance.

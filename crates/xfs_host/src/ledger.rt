@@ -1,6 +1,6 @@
 //! Accounts, transactions and nonces.
-ghost use Rattle.std.specs.Prelude.{◌≡◌, ◌<◌, ◌++◌, ◌∷◌, [], length, option_map, Some, None, true, false, is_some, IfOk, OnOk, OnErr, slice_get};
-ghost use Rattle.xfs_host.specs.Book.{Opened, Asked, account_in, book_of, decided, first_in, opening_in, reply_after, rising, user_in};
+ghost use Rattle.std.specs.Prelude.{◌≡◌, ◌<◌, ◌++◌, ◌∷◌, [], length, map, option_map, Some, None, true, false, is_some, IfOk, OnOk, OnErr, slice_get};
+ghost use Rattle.xfs_host.specs.Book.{Opened, Asked, account_in, book_of, decided, first_in, listed, opening_in, reply_after, rising, user_in};
 ghost use Rattle.xfs_host.specs.Book as book;
 ghost use Rattle.xfs_host.specs.Kept.{call_of};
 ghost use Rattle.xfs_host.specs.declared.decision.Decision.TheVariants.{Paid};
@@ -11,6 +11,7 @@ use crate::changes::{add, charge, free_nonce, use_nonce};
 use crate::decision::Decision;
 use crate::event::Event;
 use crate::first::First;
+use crate::listing::pairs;
 use std::alloc::{AllocError, Global};
 use std::collections::BTreeMap;
 use std::marker::Model;
@@ -84,6 +85,13 @@ impl Ledger {
         let number = self.number_at(i);
         let account = *self.accounts.get(&number).unwrap();
         (number, account)
+    }
+
+    // The open accounts by their rising numbers.
+    pub(crate) fn listed(&self) -> Result<Vec<(u64, Account)>, AllocError>
+        ensures { IfOk result (λ list. map (λ e. (e.0, Some e.1)) list.items ≡ listed (book_of self.now)) }
+    {
+        pairs(self.alloc, &self.accounts)
     }
 
     fn number_at(&self, i: usize) -> u64

@@ -11,9 +11,11 @@ mod first;
 mod host;
 mod laws;
 mod ledger;
+mod listing;
 mod reply;
 mod text;
 
+pub use account::Account;
 pub use ask::Ask;
 pub use faults::{AskFault, HostFault, OpenFault};
 pub use host::Host;

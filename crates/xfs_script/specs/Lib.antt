@@ -7,6 +7,7 @@ pub mod Endings
 pub mod Fields
 pub mod Found
 pub mod Guard
+pub mod HostLines
 pub mod Lines
 pub mod Reading
 pub mod ReplayLines

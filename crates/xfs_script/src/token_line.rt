@@ -109,7 +109,7 @@ pub(crate) fn bytes_of(alloc: Global, text: &[u8]) -> Result<Bytes, ScriptFault>
     }
 }
 
-fn is_nonce(field: &[u8]) -> bool
+pub(crate) fn is_nonce(field: &[u8]) -> bool
     ensures { result ≡ grammar.is_nonce field.now }
 {
     field.len() >= 1 && field.len() <= 128 && are_upper_hex(field)

@@ -118,6 +118,10 @@ client_found = (
   sub_rows (codes "client") (currency_rule ∷ number_rule 1000000 ∷ []) refl refl refl,
 )
 
+pub host_found : Finds (codes "host") []
+unfolding clap_on_literals
+host_found = (sub_fault (codes "host") [] refl refl refl, sub_rows (codes "host") [] refl refl refl)
+
 -- ---- which words are taken, and what is found in them
 
 -- of a command without arguments

@@ -15,13 +15,13 @@ use Rattle.xfs_base.specs.Values.{IsCurrency}
 use Rattle.xfs_words.specs.Table.{HasName, HasNumber, IsMadeOf, IsName, IsWithdrawal, begins_with_hyphen, currency_rule, is_plain, number_rule, table}
 use Rattle.xfs_words.specs.Words.{IsNumber, IsNumbered, Names, texts}
 use Rattle.xfs_words.specs.declared.command.Command.{Command}
-use Rattle.xfs_words.specs.declared.command.Command.TheVariants.{Guard, Token, Replay, Load, Serve, Client}
+use Rattle.xfs_words.specs.declared.command.Command.TheVariants.{Guard, Token, Replay, Load, Serve, Client, Host}
 use Rattle.xfs_words.specs.declared.command.WordsFault.{WordsFault}
 use Rattle.xfs_words.specs.declared.command.WordsFault.TheVariants.{Usage}
 use Rattle.xfs_words.proofs.ClapLaws.{sub}
 use Rattle.xfs_words.proofs.LeafLaws.{client_letters}
 use Rattle.xfs_words.proofs.NumberLaws.{letters_plain, number_plain}
-use Rattle.xfs_words.proofs.TableLaws.{all_plain, amount_is_found, bare_taken, client_found, client_taken, guard_found, load_found, number_is_found, numbered_taken, replay_found, serve_found, taken_bare, taken_client, taken_numbered, token_found}
+use Rattle.xfs_words.proofs.TableLaws.{all_plain, amount_is_found, bare_taken, client_found, client_taken, guard_found, host_found, load_found, number_is_found, numbered_taken, replay_found, serve_found, taken_bare, taken_client, taken_numbered, token_found}
 
 -- ---- words that name a command
 
@@ -40,6 +40,7 @@ named_plain Replay ws h = rw h refl
 named_plain (Load n) ws h = numbered_plain (codes "load") 10000 ws n refl h
 named_plain (Serve n) ws h = numbered_plain (codes "serve") 1000000 ws n refl h
 named_plain (Client letters n) ws h = rw (h.words_are, letters_plain letters h.letters, number_plain 1000000 h.text n h.number) refl
+named_plain Host ws h = rw h refl
 
 -- their first is a name
 pub named_first : (command : Command) (ws : List Text) → Names command ws → HasName ws
@@ -48,7 +49,8 @@ named_first Token ws h = subst HasName (sym h) (inr (inl refl))
 named_first Replay ws h = subst HasName (sym h) (inr (inr (inl refl)))
 named_first (Load n) ws h = subst HasName (sym h.words_are) (inr (inr (inr (inl refl))))
 named_first (Serve n) ws h = subst HasName (sym h.words_are) (inr (inr (inr (inr (inl refl)))))
-named_first (Client letters n) ws h = subst HasName (sym h.words_are) (inr (inr (inr (inr (inr refl)))))
+named_first (Client letters n) ws h = subst HasName (sym h.words_are) (inr (inr (inr (inr (inr (inl refl))))))
+named_first Host ws h = subst HasName (sym h) (inr (inr (inr (inr (inr (inr refl))))))
 
 -- and `clap` takes them
 pub named_taken : (command : Command) (ws : List Text) → Names command ws → fault_of table ws ≡ []
@@ -64,6 +66,7 @@ named_taken (Serve n) ws h =
 named_taken (Client letters n) ws h =
     ap (fault_of table) h.words_are
     ∙ client_taken letters h.text (letters_plain letters h.letters) (number_plain 1000000 h.text n h.number) n h.number
+named_taken Host ws h = ap (fault_of table) h ∙ bare_taken (codes "host") host_found
 
 -- ---- one command
 
@@ -73,7 +76,7 @@ value_of text = digits_value 10 (without_leading_plus text)
 -- the only command that the words may name
 abbrev candidate : List Text → Option Command
 candidate [] = None
-candidate (word ∷ []) = cond (bytes_eq word (codes "guard")) (Some Guard) (cond (bytes_eq word (codes "token")) (Some Token) (Some Replay))
+candidate (word ∷ []) = cond (bytes_eq word (codes "guard")) (Some Guard) (cond (bytes_eq word (codes "token")) (Some Token) (cond (bytes_eq word (codes "replay")) (Some Replay) (Some Host)))
 candidate (word ∷ text ∷ []) = cond (bytes_eq word (codes "load")) (Some (Load (value_of text))) (Some (Serve (value_of text)))
 candidate (word ∷ letters ∷ text ∷ rest) = Some (Client letters (value_of text))
 
@@ -84,6 +87,7 @@ named_candidate Replay ws h = ap candidate h
 named_candidate (Load n) ws h = ap candidate h.words_are ∙ ap (λ k. Some (Load k)) (sym h.number.value)
 named_candidate (Serve n) ws h = ap candidate h.words_are ∙ ap (λ k. Some (Serve k)) (sym h.number.value)
 named_candidate (Client letters n) ws h = ap candidate h.words_are ∙ ap (λ k. Some (Client letters k)) (sym h.number.value)
+named_candidate Host ws h = ap candidate h
 
 -- words name one command at most
 pub one_command : (a b : Command) (ws : List Text) → Names a ws → Names b ws → b ≡ a
@@ -100,6 +104,7 @@ client_names : (command : Command) (letters text : Text) → Names command (code
 client_names Guard letters text h = absurd cc
 client_names Token letters text h = absurd cc
 client_names Replay letters text h = absurd cc
+client_names Host letters text h = absurd cc
 client_names (Load n) letters text h =
     let are = h.words_are in
     absurd cc
@@ -179,6 +184,10 @@ module _ (rest : List Text) (plain : all_plain rest ≡ true) (name : Text) (row
       let is = made.client (found_name _ _ _ _ met) two.letters (digits_value 10 (without_leading_plus two.text)) letters has in
       subst (λ ws. Answers (codes "client" ∷ ws) result) (sym two.words_are) (client_answers two.letters two.text result two.number is)
 
+  host_answers : Taken (codes "host") → Found (codes "host") → Answers (codes "host" ∷ rest) result
+  host_answers taken found =
+      bare_answers (codes "host") Host (taken_bare (codes "host") host_found rest plain taken) refl (made.host (found_name _ _ _ _ (found ∙ host_found.1 rest)))
+
   answers_of : (word : Text) → IsName word → Taken word → Found word → Answers (word ∷ rest) result
   answers_of word named = elim named [
     | inl guard ↦ from word (codes "guard") guard guard_answers
@@ -190,7 +199,10 @@ module _ (rest : List Text) (plain : all_plain rest ≡ true) (name : Text) (row
           | inl load ↦ from word (codes "load") load load_answers
           | inr others ↦ elim others [
             | inl serve ↦ from word (codes "serve") serve serve_answers
-            | inr client ↦ from word (codes "client") client withdrawal_answers
+            | inr others ↦ elim others [
+              | inl client ↦ from word (codes "client") client withdrawal_answers
+              | inr host ↦ from word (codes "host") host host_answers
+            ]
           ]
         ]
       ]
@@ -220,7 +232,10 @@ always_found (word ∷ rest) named = elim named [
         | inl e ↦ at word (codes "load") e (λ r. ap is_some (load_found.1 r))
         | inr others ↦ elim others [
           | inl e ↦ at word (codes "serve") e (λ r. ap is_some (serve_found.1 r))
-          | inr e ↦ at word (codes "client") e (λ r. ap is_some (client_found.1 r))
+          | inr others ↦ elim others [
+            | inl e ↦ at word (codes "client") e (λ r. ap is_some (client_found.1 r))
+            | inr e ↦ at word (codes "host") e (λ r. ap is_some (host_found.1 r))
+          ]
         ]
       ]
     ]

@@ -19,6 +19,8 @@ pub enum Command {
     Serve(u64),
     /// `client CUR AMOUNT`: withdraws an amount of whole units of a currency, from 1 to 1,000,000.
     Client(Currency, u64),
+    /// `host`: answers lines of accounts, and of what is asked of them for the machine's nonces.
+    Host,
 }
 
 /// Why words give no command.

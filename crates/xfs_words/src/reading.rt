@@ -61,7 +61,7 @@ fn is_name(word: &str) -> bool
 {
     matches!(
         word,
-        "guard" | "token" | "replay" | "load" | "serve" | "client"
+        "guard" | "token" | "replay" | "load" | "serve" | "client" | "host"
     )
 }
 
@@ -88,6 +88,7 @@ fn command(name: &str, found: &ArgMatches<'_>) -> Result<Command, WordsFault>
         "load" => Ok(Command::Load(number(found)?)),
         "serve" => Ok(Command::Serve(number(found)?)),
         "client" => client(found),
+        "host" => Ok(Command::Host),
         _ => Err(WordsFault::Usage),
     }
 }

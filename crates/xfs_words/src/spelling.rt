@@ -36,6 +36,7 @@ fn bare(name: &str) -> Option<Command>
         "guard" => Some(Command::Guard),
         "token" => Some(Command::Token),
         "replay" => Some(Command::Replay),
+        "host" => Some(Command::Host),
         _ => None,
     }
 }

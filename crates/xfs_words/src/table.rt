@@ -23,7 +23,8 @@ pub(crate) fn table<'a>(alloc: Global) -> Result<Command<'a>, AllocError>
         .subcommand(Command::new(alloc, "replay"))?
         .subcommand(load(alloc)?)?
         .subcommand(serve(alloc)?)?
-        .subcommand(client(alloc)?)
+        .subcommand(client(alloc)?)?
+        .subcommand(Command::new(alloc, "host"))
 }
 
 fn load<'a>(alloc: Global) -> Result<Command<'a>, AllocError>

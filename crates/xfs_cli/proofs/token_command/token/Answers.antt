@@ -1,5 +1,5 @@
 use Rattle.std.proofs.Common.{◌≢◌, refl, inl, inr}
-use Rattle.xfs_cli.proofs.TokenEndLaws.{token-finishes}
+use Rattle.xfs_cli.proofs.LineEndLaws.{empty-token, unbooted-finishes}
 use Rattle.xfs_cli.proofs.token_command.token.Goals as goal
 
 pub returns-clause-runs : goal.returns-clause-runs
@@ -12,5 +12,5 @@ returns-clause-runs g c = λ words.
       not_a_line = s.not_a_line;
       kept = record { mech = refl; disk = refl };
       unbooted = unbooted;
-      finishes = token-finishes _ _ _ _ _ s.statuses s.usage unbooted s.causes.read s.causes.write s.causes.quota s.not_a_line;
+      finishes = unbooted-finishes _ empty-token _ _ _ _ _ s.statuses s.usage unbooted s.causes.read s.causes.write s.causes.quota s.not_a_line;
     }

@@ -1,0 +1,73 @@
+//! The command `host`.
+
+ghost use Rattle.std.specs.Prelude.{◌≡◌, ◌↔◌};
+ghost use Rattle.xfs_cli.specs.HostRuns.{RunsHostOf};
+ghost use Rattle.xfs_cli.specs.Returns.{back};
+ghost use Rattle.xfs_cli.specs.Run.{IsHost};
+ghost use Rattle.xfs_cli.specs.Statuses.{IsCaused, IsStatus};
+ghost use Rattle.xfs_cli.specs.Streams.{io_of};
+ghost use Rattle.xfs_cli.specs.TokenRuns.{IsKept, WritesUsage};
+
+use crate::ended::Ended;
+use crate::host_answer::Bank;
+use crate::last_line::usage;
+use crate::serve::serve;
+use crate::status::USAGE;
+use crate::words::is_word;
+use std::alloc::Global;
+use xfs_base::{Sink, Source};
+use xfs_disk::Disk;
+use xfs_guard::{Bench, Core};
+use xfs_host::Host;
+use xfs_mech::{Mechanism, Watch};
+
+/// The bank's side: reads lines of accounts and of what is asked of them, and answers each before the next line is read. Its
+/// tokens are genuine under the core's key.
+pub fn host<S: Source, K: Sink, M: Mechanism, D: Disk, P: Watch, Q: Watch>(
+    alloc: Global,
+    words: &[String],
+    source: &mut S,
+    sink: &mut K,
+    bench: Bench<M, D, P, Q>,
+) -> Ended<M, D, ()>
+    ensures kept { IsKept bench.core (back result) }
+    ensures runs { RunsHostOf words.now bench.core result (io_of S.Source K.Sink source.old source.new sink.old sink.new) }
+    ensures usage { (result.status ≡ USAGE) ↔ ¬ (IsHost words.now) }
+    ensures usage_written { result.status ≡ USAGE → WritesUsage (io_of S.Source K.Sink source.old source.new sink.old sink.new) }
+    ensures unread { result.status ≡ USAGE → source.new ≡ source.old }
+    ensures statuses { IsStatus result.status }
+    ensures causes { IsCaused result.status (io_of S.Source K.Sink source.old source.new sink.old sink.new) }
+{
+    let Bench { core, cards, keys } = bench;
+    drop(cards);
+    drop(keys);
+    let Core {
+        mech,
+        disk,
+        key,
+        seed: _,
+        units: _,
+        limits: _,
+        life: _,
+    } = core;
+    if !is_word(words, "host") {
+        usage(sink);
+        return Ended {
+            status: USAGE,
+            mech,
+            disk,
+            link: None,
+        };
+    }
+    let mut bank = Bank {
+        alloc,
+        host: Host::new(alloc, key),
+    };
+    let status = serve(alloc, &mut bank, source, sink);
+    Ended {
+        status,
+        mech,
+        disk,
+        link: None,
+    }
+}
