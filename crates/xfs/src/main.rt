@@ -23,7 +23,7 @@ use xfs_server::{Doors, OpenGate};
 use xfs_simulated::{
     LIMITS, Secrets, card_news, core_resumed, core_under, empty, key_news, mechanism, units,
 };
-use xfs_sockets::{Ports, TcpDoors};
+use xfs_sockets::{Origins, Ports, TcpDoors};
 use xfs_words::{Command, spelled};
 
 const PORTS: Ports = Ports {
@@ -60,7 +60,7 @@ fn serve<R: Threads + Wait + Sync>(
 ) -> Result<u8, StartFault> {
     let alloc = host.alloc();
     let clock = StdClock::new(host);
-    let mut doors = TcpDoors::open(host, alloc, &clock, PORTS)?;
+    let mut doors = TcpDoors::open(host, alloc, &clock, PORTS, Origins::none())?;
     let disk = FileDisk::new(open_journal(host)?);
     tell_listening(host, &doors.ports(), &secrets);
     let bench = Bench {

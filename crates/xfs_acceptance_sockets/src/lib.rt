@@ -12,4 +12,6 @@ mod socket_calls;
 #[cfg(test)]
 mod steps;
 #[cfg(test)]
+mod visitor_calls;
+#[cfg(test)]
 mod withdrawals;

@@ -6,9 +6,9 @@ use std::sync::atomic::{AtomicU64, Ordering};
 use std::{io, thread};
 use xfs_base::{Clock, Moment, Service};
 use xfs_server::{DialFault, Door, Doors, GiveFault, Link, Taking};
-use xfs_sockets::{Entrance, Port, Ports, SocketLink, TcpDoors, is_broken};
+use xfs_sockets::{Entrance, Origins, Port, Ports, SocketLink, TcpDoors, is_broken};
 
-const ANY: Ports = Ports {
+pub const ANY: Ports = Ports {
     publisher: 0,
     card: 0,
     keys: 0,
@@ -30,8 +30,8 @@ const UNMASKED: &[u8] = &[0x81, 0x05, 0x48, 0x65, 0x6c, 0x6c, 0x6f];
 
 /// A clock that a test sets.
 #[derive(Drop)]
-struct SetClock {
-    millis: AtomicU64,
+pub struct SetClock {
+    pub millis: AtomicU64,
 }
 
 impl Clock for SetClock {
@@ -42,7 +42,7 @@ impl Clock for SetClock {
     fn pause(&self) {}
 }
 
-fn clock() -> SetClock {
+pub fn clock() -> SetClock {
     SetClock {
         millis: AtomicU64::new(0),
     }
@@ -199,7 +199,9 @@ fn reads(peer: &mut TcpStream, expected: &[u8]) -> bool {
 #[test]
 fn a_link_finds_what_its_peer_writes(rt: HostRuntime) {
     let clock = clock();
-    let mut doors = TcpDoors::open(&rt, rt.alloc(), &clock, ANY).expect(&rt, "ports");
+    let mut doors = TcpDoors::open(&rt, rt.alloc(), &clock, ANY, Origins::none()).expect(
+        &rt, "ports",
+    );
     for case in CASES.iter() {
         let (mut link, mut peer) = peer_of(&rt, &mut doors).expect(&rt, "a connection");
         assert!(rt; finds(&mut link, &mut peer, case.pieces, &case.found));
@@ -225,7 +227,9 @@ fn a_link_finds_what_its_peer_writes(rt: HostRuntime) {
 #[test]
 fn a_stream_that_ends_without_a_close_has_failed(rt: HostRuntime) {
     let clock = clock();
-    let mut doors = TcpDoors::open(&rt, rt.alloc(), &clock, ANY).expect(&rt, "ports");
+    let mut doors = TcpDoors::open(&rt, rt.alloc(), &clock, ANY, Origins::none()).expect(
+        &rt, "ports",
+    );
     for cut in [0, 1, 6, MASKED.len()] {
         let (mut link, mut peer) = peer_of(&rt, &mut doors).expect(&rt, "a connection");
         assert!(rt; peer.write_all(&MASKED[..cut]).is_ok());
@@ -240,7 +244,9 @@ fn a_stream_that_ends_without_a_close_has_failed(rt: HostRuntime) {
 #[test]
 fn a_peer_that_does_not_read_is_a_fault_after_ten_seconds(rt: HostRuntime) {
     let clock = clock();
-    let mut doors = TcpDoors::open(&rt, rt.alloc(), &clock, ANY).expect(&rt, "ports");
+    let mut doors = TcpDoors::open(&rt, rt.alloc(), &clock, ANY, Origins::none()).expect(
+        &rt, "ports",
+    );
     let (mut link, peer) = peer_of(&rt, &mut doors).expect(&rt, "a connection");
     let text = [0x61u8; 60_000];
     let mut given = Ok(());
@@ -257,7 +263,9 @@ fn a_peer_that_does_not_read_is_a_fault_after_ten_seconds(rt: HostRuntime) {
 #[test]
 fn a_handshake_that_is_cut_or_slow_keeps_nobody_out(rt: HostRuntime) {
     let clock = clock();
-    let mut doors = TcpDoors::open(&rt, rt.alloc(), &clock, ANY).expect(&rt, "ports");
+    let mut doors = TcpDoors::open(&rt, rt.alloc(), &clock, ANY, Origins::none()).expect(
+        &rt, "ports",
+    );
     let port = doors.ports().card;
     for cut in 0..REQUEST.len() {
         let mut peer = TcpStream::connect(&rt, ("127.0.0.1", port)).expect(&rt, "a stream");
@@ -308,7 +316,9 @@ fn is_open(peer: &mut TcpStream) -> bool {
 #[test]
 fn of_more_than_64_handshakes_the_oldest_is_let_go(rt: HostRuntime) {
     let clock = clock();
-    let mut doors = TcpDoors::open(&rt, rt.alloc(), &clock, ANY).expect(&rt, "ports");
+    let mut doors = TcpDoors::open(&rt, rt.alloc(), &clock, ANY, Origins::none()).expect(
+        &rt, "ports",
+    );
     let mut first = silent_peer(&rt, &mut doors).expect(&rt, "the first peer");
     let mut second = silent_peer(&rt, &mut doors).expect(&rt, "the second peer");
     let mut others = Vec::new(rt.alloc());
@@ -337,7 +347,7 @@ fn doors_fail_where_a_listener_is_broken_and_nowhere_else(rt: HostRuntime) {
             listener: TcpListener::from(OwnedFd::from(stream)),
         })
         .expect(&rt, "memory");
-    let mut entrance = Entrance::new(alloc, ports).expect(&rt, "memory");
+    let mut entrance = Entrance::new(alloc, ports, Origins::none()).expect(&rt, "memory");
     for _ in 0..2 {
         assert!(rt; matches!(entrance.next(alloc, Moment(0)), Door::Failed));
     }
@@ -377,7 +387,7 @@ fn answered<O: Doors + Drop>(mut doors: O) -> bool {
 fn a_dialled_link_is_answered(rt: HostRuntime) {
     let clock = clock();
     let alloc = rt.alloc();
-    let doors = TcpDoors::open(&rt, alloc, &clock, ANY).expect(&rt, "ports");
+    let doors = TcpDoors::open(&rt, alloc, &clock, ANY, Origins::none()).expect(&rt, "ports");
     let outward = TcpDoors::outward(&rt, alloc, &clock, doors.ports()).expect(&rt, "doors");
     let (has_asked, has_answered) = thread::join(
         &rt,

@@ -20,7 +20,7 @@ use xfs_server::{Doors, Gate};
 use xfs_serving::Ending as Over;
 use xfs_serving_machine::{Served, serve_connections};
 use xfs_simulated::units;
-use xfs_sockets::{Ports, TcpDoors};
+use xfs_sockets::{Origins, Ports, TcpDoors};
 use xfs_withdraw::Ending;
 
 const CLIENTS: usize = 8;
@@ -67,7 +67,7 @@ fn served<
     D: Disk + Send,
 >(rt: &R, alloc: Global, units: &UnitTable, machine: Machine<M, D>) -> Result<Report, Fail> {
     let clock = StdClock::new(rt);
-    let Ok(doors) = TcpDoors::open(rt, alloc, &clock, ANY) else {
+    let Ok(doors) = TcpDoors::open(rt, alloc, &clock, ANY, Origins::none()) else {
         return Err("the ports".into());
     };
     let shared = Shared::new(rt, alloc, &clock, doors.ports()).ok_or("the currency")?;

@@ -4,7 +4,7 @@ use crate::talk::{answered, asked};
 use std::thread;
 use std::thread::Threads;
 use xfs_base::StdClock;
-use xfs_sockets::{Ports, TcpDoors};
+use xfs_sockets::{Origins, Ports, TcpDoors};
 
 // The system chooses the ports.
 const ANY: Ports = Ports {
@@ -17,7 +17,7 @@ const ANY: Ports = Ports {
 /// Prints a port, and answers the one connection that comes there. None where nobody came.
 pub fn serve(host: &HostRuntime) -> Option<u64> {
     let clock = StdClock::new(host);
-    let doors = TcpDoors::open(host, host.alloc(), &clock, ANY).ok()?;
+    let doors = TcpDoors::open(host, host.alloc(), &clock, ANY, Origins::none()).ok()?;
     println!(host; "{}", doors.ports().card).ok()?;
     answered(host.alloc(), doors, &clock)
 }
@@ -26,7 +26,7 @@ pub fn serve(host: &HostRuntime) -> Option<u64> {
 pub fn ask<R: Threads + Sync>(rt: &R, host: &HostRuntime, texts: u32) -> Option<u64> {
     let alloc = host.alloc();
     let clock = StdClock::new(host);
-    let doors = TcpDoors::open(host, alloc, &clock, ANY).ok()?;
+    let doors = TcpDoors::open(host, alloc, &clock, ANY, Origins::none()).ok()?;
     let outward = TcpDoors::outward(host, alloc, &clock, doors.ports()).ok()?;
     let (back, _) = thread::join(
         rt,

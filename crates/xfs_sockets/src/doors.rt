@@ -5,6 +5,7 @@ use crate::SocketLink;
 use crate::dialling::dialled;
 use crate::entrance::{Entrance, Port};
 use crate::socket::Socket;
+use crate::visitors::Origins;
 use std::alloc::Global;
 use std::io;
 use std::net::{Net, TcpListener, TcpStream};
@@ -42,7 +43,8 @@ pub enum OpenFault {
     Memory,
 }
 
-/// Doors on 127.0.0.1. At most 64 handshakes are under way, and each has 2 seconds. `next` never waits.
+/// Doors on 127.0.0.1. At most 64 handshakes are under way, and each has 2 seconds. One that names another host, and one
+/// of a page whose origin isn't listed, is refused, as quietly as any that fails. `next` never waits.
 #[derive(Drop)]
 pub struct TcpDoors<
     'a,
@@ -53,7 +55,7 @@ pub struct TcpDoors<
     alloc: Global,
     clock: &'a C,
     ports: Ports,
-    entrance: Entrance,
+    entrance: Entrance<'a>,
     came: u64,
     dials: u64,
     quiets: u64,
@@ -65,12 +67,14 @@ impl<'a, R: Net<Listener = TcpListener, Stream = TcpStream> + RandomSource, C: C
     R,
     C,
 > {
-    /// Listens on these ports. Where one is 0 the system chooses it.
+    /// Listens on these ports, for programs of this machine and for pages of these origins. Where a port is 0 the system
+    /// chooses it.
     pub fn open(
         rt: &'a R,
         alloc: Global,
         clock: &'a C,
         ports: Ports,
+        origins: Origins<'a>,
     ) -> Result<TcpDoors<'a, R, C>, OpenFault> {
         let mut opened = ports;
         let mut listeners = Vec::new(alloc);
@@ -78,7 +82,7 @@ impl<'a, R: Net<Listener = TcpListener, Stream = TcpStream> + RandomSource, C: C
         opened.card = listen(rt, &mut listeners, Service::Card, ports.card)?;
         opened.keys = listen(rt, &mut listeners, Service::Keys, ports.keys)?;
         opened.cash = listen(rt, &mut listeners, Service::Cash, ports.cash)?;
-        TcpDoors::over(rt, alloc, clock, opened, listeners)
+        TcpDoors::over(rt, alloc, clock, opened, listeners, origins)
     }
 
     /// Doors at which nobody comes in, which dial these ports.
@@ -88,7 +92,7 @@ impl<'a, R: Net<Listener = TcpListener, Stream = TcpStream> + RandomSource, C: C
         clock: &'a C,
         ports: Ports,
     ) -> Result<TcpDoors<'a, R, C>, OpenFault> {
-        TcpDoors::over(rt, alloc, clock, ports, Vec::new(alloc))
+        TcpDoors::over(rt, alloc, clock, ports, Vec::new(alloc), Origins::none())
     }
 
     /// The ports that are listened on, or dialled.
@@ -102,8 +106,9 @@ impl<'a, R: Net<Listener = TcpListener, Stream = TcpStream> + RandomSource, C: C
         clock: &'a C,
         ports: Ports,
         listeners: Vec<Port>,
+        origins: Origins<'a>,
     ) -> Result<TcpDoors<'a, R, C>, OpenFault> {
-        let Ok(entrance) = Entrance::new(alloc, listeners) else {
+        let Ok(entrance) = Entrance::new(alloc, listeners, origins) else {
             return Err(OpenFault::Memory);
         };
         Ok(TcpDoors {

@@ -1,13 +1,12 @@
 //! Ports that are listened on, and the handshakes that are under way there.
 
 use crate::socket::{limits, prepare};
+use crate::visitors::{Origins, Visitor};
 use std::alloc::{AllocError, Global};
 use std::io;
 use std::net::{TcpListener, TcpStream};
 use tungstenite::handshake::server::start;
-use tungstenite::{
-    Error, HandshakeError, MidHandshake, NoCallback, NoMask, ServerHandshake, WebSocket,
-};
+use tungstenite::{Error, HandshakeError, MidHandshake, NoMask, ServerHandshake, WebSocket};
 use xfs_base::{Moment, Service};
 use xfs_server::Door;
 
@@ -16,6 +15,8 @@ const MOST_WAITING: usize = 64;
 
 // How long a handshake may last, from its accept on.
 const LONGEST_MILLIS: u64 = 2_000;
+
+type Handshake<'a> = MidHandshake<ServerHandshake<TcpStream, Visitor<'a>>>;
 
 // What accept(2) answers where the listener itself is broken: EBADF, EFAULT, EINVAL, ENOTSOCK and
 // EOPNOTSUPP. Everything else is the peer's, or passes.
@@ -29,17 +30,17 @@ pub struct Port {
 }
 
 #[derive(Drop)]
-struct Waiting {
+struct Waiting<'a> {
     service: Service,
     since: Moment,
-    handshake: MidHandshake<ServerHandshake<TcpStream, NoCallback>>,
+    handshake: Handshake<'a>,
 }
 
 /// How a round of a handshake ended.
 #[derive(Drop)]
-enum Shaken {
+enum Shaken<'a> {
     Done(WebSocket<TcpStream, NoMask>),
-    Goes(MidHandshake<ServerHandshake<TcpStream, NoCallback>>),
+    Goes(Handshake<'a>),
     Gone,
     Memory,
 }
@@ -53,16 +54,23 @@ enum EntryFault {
 
 /// The ports, in the order in which they are looked at, and the handshakes, the oldest first.
 #[derive(Drop)]
-pub struct Entrance {
+pub struct Entrance<'a> {
     ports: Vec<Port>,
-    waiting: Vec<Waiting>,
+    origins: Origins<'a>,
+    waiting: Vec<Waiting<'a>>,
 }
 
-impl Entrance {
-    /// The entrance at these ports. Memory is wanted for 64 handshakes.
-    pub fn new(alloc: Global, ports: Vec<Port>) -> Result<Entrance, AllocError> {
+impl<'a> Entrance<'a> {
+    /// The entrance at these ports, for programs of this machine and for pages of these origins. Memory is wanted for 64
+    /// handshakes.
+    pub fn new(
+        alloc: Global,
+        ports: Vec<Port>,
+        origins: Origins<'a>,
+    ) -> Result<Entrance<'a>, AllocError> {
         Ok(Entrance {
             ports,
+            origins,
             waiting: Vec::with_capacity(alloc, MOST_WAITING)?,
         })
     }
@@ -77,9 +85,13 @@ impl Entrance {
     }
 
     fn let_in(&mut self, alloc: Global, now: Moment) -> Result<(), EntryFault> {
+        let visitor = Visitor {
+            alloc,
+            origins: self.origins,
+        };
         for port in &self.ports {
             match port.listener.accept() {
-                Ok((stream, _)) => add(&mut self.waiting, alloc, port.service, now, stream)?,
+                Ok((stream, _)) => add(&mut self.waiting, visitor, port.service, now, stream)?,
                 Err(error) if is_broken(&error) => return Err(EntryFault::Broken),
                 Err(_) => {}
             }
@@ -121,9 +133,9 @@ impl Entrance {
 }
 
 // Begins a handshake that never blocks. A stream that can't be prepared is let go.
-fn add(
-    waiting: &mut Vec<Waiting>,
-    alloc: Global,
+fn add<'a>(
+    waiting: &mut Vec<Waiting<'a>>,
+    visitor: Visitor<'a>,
     service: Service,
     since: Moment,
     stream: TcpStream,
@@ -134,7 +146,7 @@ fn add(
     if waiting.len() >= MOST_WAITING {
         waiting.remove(0);
     }
-    let handshake = start(alloc, stream, NoCallback, Some(limits()));
+    let handshake = start(visitor.alloc, stream, visitor, Some(limits()));
     match waiting.push(Waiting {
         service,
         since,
@@ -145,7 +157,7 @@ fn add(
     }
 }
 
-fn one_round(handshake: MidHandshake<ServerHandshake<TcpStream, NoCallback>>) -> Shaken {
+fn one_round(handshake: Handshake<'_>) -> Shaken<'_> {
     match handshake.handshake() {
         Ok(socket) => Shaken::Done(socket),
         Err(HandshakeError::Interrupted(handshake)) => Shaken::Goes(handshake),

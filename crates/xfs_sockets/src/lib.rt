@@ -7,8 +7,10 @@ mod doors;
 mod entrance;
 mod link;
 mod socket;
+mod visitors;
 mod wire;
 
 pub use doors::{OpenFault, Ports, TcpDoors};
 pub use entrance::{Entrance, Port, is_broken};
 pub use link::SocketLink;
+pub use visitors::{Origins, is_own_host};
