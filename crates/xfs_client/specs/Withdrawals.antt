@@ -10,7 +10,7 @@ use Rattle.xfs_envelope.specs.declared.code.Code.TheVariants.{Success}
 use Rattle.xfs_envelope.specs.declared.code.Status.{Status}
 use Rattle.xfs_token.specs.Token.{is_nonce}
 use Rattle.xfs_token.specs.Amounts.{IsMade}
-use Rattle.xfs_client.specs.Commands.{command_text}
+use Rattle.xfs_client.specs.Commands.{ReadsAs, command_text}
 use Rattle.xfs_client.specs.Desks.{Remembered, Keeps}
 use Rattle.xfs_client.specs.History as history
 use Rattle.xfs_client.specs.History.{Told, Entry, asks, told_in}
@@ -111,11 +111,17 @@ dispense_payload currency amount token =
     (member (codes "mix") (string (codes "minimum"))
     (member (codes "token") (string token) no_members)))
 
--- the text of a Dispense with a genuine token for this nonce and the amount
+-- the text of a Dispense with a genuine token for this nonce and the amount, and a service reads it so
 pub record IsDispense (terms : Terms) (nonce text : List ℕ) : Type 0 where
   pub token : List ℕ
   pub made : IsMade terms.key nonce ((terms.currency, 1000 * terms.amount) ∷ []) token
   pub is : text ≡ command_text (codes "CashDispenser.Dispense") 2 (dispense_payload terms.currency terms.amount token)
+  pub reads_back : ReadsAs text (codes "CashDispenser.Dispense") 2 (dispense_payload terms.currency terms.amount token)
+
+-- the text of a Present, and a service reads it so
+pub record IsPresent (text : List ℕ) : Type 0 where
+  pub is : text ≡ command_text (codes "CashDispenser.Present") 3 empty
+  pub reads_back : ReadsAs text (codes "CashDispenser.Present") 3 empty
 
 abbrev pub IsAsk : (List ℕ → Type 0) → Move → Type 0
 IsAsk P (Ask text) = P text
@@ -129,7 +135,7 @@ abbrev pub IsMove : Terms → Result Step HearFault → Move → Type 0
 IsMove terms (Err e) m = ⊥
 IsMove terms (Ok waits) m = m ≡ Wait
 IsMove terms (Ok (dispenses nonce)) m = IsAsk (IsDispense terms nonce) m
-IsMove terms (Ok presents) m = IsAsk (λ text. text ≡ command_text (codes "CashDispenser.Present") 3 empty) m
+IsMove terms (Ok presents) m = IsAsk IsPresent m
 IsMove terms (Ok ends) m = m ≡ Done
 IsMove terms (Ok (fails code)) m = m ≡ Ended code
 IsMove terms (Ok (gives_up status)) m = m ≡ Refused status

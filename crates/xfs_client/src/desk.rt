@@ -126,10 +126,11 @@ impl Desk {
 
     pub(crate) fn ask_next(&mut self, name: &str, payload: &Value) -> Result<Vec<u8>, Memory>
         requires room { self.old.asked < 2147483647 }
+        requires name { IsTrue (is_name name.now) }
         requires no_float { has_float (view payload.now) ≡ false }
         requires depth { depth (view payload.now) ≤ 120 }
         ensures text { IfOk result (λ t. t.items ≡ command_text name.now (self.old.asked + 1) (view payload.now)) }
-        ensures reads_back { IfOk result (λ t. is_name name.now ≡ true → ReadsAs t.items name.now (self.old.asked + 1) (view payload.now)) }
+        ensures reads_back { IfOk result (λ t. ReadsAs t.items name.now (self.old.asked + 1) (view payload.now)) }
         ensures grown { OnOk result ((h : List Entry) → Keeps self.old h → Keeps self.new (h ++ history.ask ∷ [])) }
         ensures same { OnErr result (self.new ≡ self.old) }
     {

@@ -2,11 +2,11 @@ ghost use Rattle.std.specs.Prelude.{◌≡◌, ◌≢◌, ◌≤◌, ◌++◌, �
 ghost use Rattle.std.specs.Str.{IsUtf8};
 ghost use Rattle.serde_json.specs.View.{view};
 ghost use Rattle.xfs_envelope.specs.Fields.{empty};
-ghost use Rattle.xfs_client.specs.Commands.{command_text};
+ghost use Rattle.xfs_client.specs.Commands.{ReadsAs, command_text};
 ghost use Rattle.xfs_client.specs.Desks.{Keeps, IsOpenTo, IsEndOf};
 ghost use Rattle.xfs_client.specs.History as history;
 ghost use Rattle.xfs_client.specs.History.{Entry, Told, is_open, told};
-ghost use Rattle.xfs_client.specs.Withdrawals.{HasHeard, IsDispense, IsMove, after_completion, after_success, conversation, dispense_payload, goes_on, is_success, nonce_of, step_in, step_of};
+ghost use Rattle.xfs_client.specs.Withdrawals.{HasHeard, IsDispense, IsMove, IsPresent, after_completion, after_success, conversation, dispense_payload, goes_on, is_success, nonce_of, step_in, step_of};
 ghost use Rattle.xfs_client.specs.declared.heard.HearFault.TheVariants as HearFault;
 
 use crate::dispense::{payload_for, token_for};
@@ -76,6 +76,7 @@ impl Withdrawal {
     pub fn start(&mut self) -> Result<Vec<u8>, Memory>
         requires fresh { Keeps self.old.desk [] }
         ensures text { IfOk result (λ t. t.items ≡ command_text (codes "Common.GetCommandNonce") 1 empty) }
+        ensures reads_back { IfOk result (λ t. ReadsAs t.items (codes "Common.GetCommandNonce") 1 empty) }
         ensures heard { OnOk result (HasHeard self.new []) }
         ensures terms { self.new.terms ≡ self.old.terms }
         ensures same { OnErr result (self.new ≡ self.old) }
@@ -188,7 +189,7 @@ impl Withdrawal {
 
     fn ask_present(&mut self) -> Result<Vec<u8>, Memory>
         requires { self.old.desk.asked ≡ 2 }
-        ensures text { IfOk result (λ t. t.items ≡ command_text (codes "CashDispenser.Present") 3 empty) }
+        ensures text { IfOk result (λ t. IsPresent t.items) }
         ensures grown { OnOk result ((h : List Entry) → Keeps self.old.desk h → Keeps self.new.desk (h ++ history.ask ∷ [])) }
         ensures terms { self.new.terms ≡ self.old.terms }
         ensures same { OnErr result (self.new ≡ self.old) }
