@@ -1,8 +1,9 @@
 ghost use Rattle.std.specs.Prelude.{◌≡◌, IfOk};
 ghost use Rattle.xfs_disk.specs.MemDisk.{bytes_of};
 
+use crate::files::opened;
 use std::alloc::Global;
-use std::fs::{self, File};
+use std::fs;
 use std::test::Fail;
 use xfs_disk::{Disk, FailDisk, FileDisk, FuseDisk, MemDisk};
 
@@ -70,13 +71,8 @@ fn calls_fail_at_their_places(rt: HostRuntime) -> Result<(), Fail> {
 
 #[test]
 fn a_file_is_written_cut_synced_and_read(rt: HostRuntime) -> Result<(), Fail> {
-    let file = File::options()
-        .read(true)
-        .write(true)
-        .create(true)
-        .truncate(true)
-        .open(&rt, "xfs_disk.test")?;
-    let mut disk = FileDisk::new(file);
+    fs::write(&rt, "xfs_disk.test", b"")?;
+    let mut disk = FileDisk::new(opened(&rt, "xfs_disk.test")?);
     assert!(rt; disk.write_at(0, &[1, 2, 3, 4]).is_ok());
     assert!(rt; disk.cut(3).is_ok());
     assert!(rt; disk.sync().is_ok());
@@ -86,5 +82,13 @@ fn a_file_is_written_cut_synced_and_read(rt: HostRuntime) -> Result<(), Fail> {
     assert_eq!(rt; page, [2, 3, 0, 0, 0, 0, 0, 0]);
     assert!(rt; disk.read(3, &mut page) == Ok(0));
     fs::remove_file(&rt, "xfs_disk.test")?;
+    Ok(())
+}
+
+#[test]
+fn a_file_that_has_no_sync_fails_it(rt: HostRuntime) -> Result<(), Fail> {
+    let mut null = FileDisk::new(opened(&rt, "/dev/null")?);
+    assert!(rt; null.write_at(0, &[1]).is_ok());
+    assert!(rt; null.sync().is_err());
     Ok(())
 }

@@ -1,5 +1,6 @@
 //! The guard's boot over files, which tell nothing, and its restore.
 
+use crate::files::opened;
 use crate::guard_bench::{GENUINE, guard_on, sim, units};
 use std::alloc::Global;
 use std::fs::{self, File};
@@ -53,10 +54,7 @@ fn a_boot_over_a_file_finds_a_journal_or_none(rt: HostRuntime) -> Result<(), Fai
         ),
     ] {
         fs::write(&rt, "xfs_acceptance_boot.test", bytes)?;
-        let file = File::options()
-            .read(true)
-            .write(true)
-            .open(&rt, "xfs_acceptance_boot.test")?;
+        let file = opened(&rt, "xfs_acceptance_boot.test")?;
         let told = booted_over(&rt, rt.alloc(), file)?;
         assert_eq!(rt; told, answer, "of {} bytes", bytes.len());
         let left = fs::read(&rt, "xfs_acceptance_boot.test")?;

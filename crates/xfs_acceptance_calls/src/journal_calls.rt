@@ -1,8 +1,9 @@
 ghost use Rattle.std.specs.Prelude.{IfOk};
 ghost use Rattle.xfs_journal.specs.Image.{HasUnit};
 
+use crate::files::opened;
 use std::alloc::Global;
-use std::fs::{self, File};
+use std::fs;
 use std::test::Fail;
 use xfs_base::{Counts, Kind, Places};
 use xfs_disk::{Disk, FileDisk, MemDisk};
@@ -284,10 +285,7 @@ fn a_file_with_another_list_is_refused_where_it_differs(rt: HostRuntime) -> Resu
     let alloc = rt.alloc();
     let kept = short_file(alloc)?;
     fs::write(&rt, "xfs_journal.test", kept.as_slice())?;
-    let file = File::options()
-        .read(true)
-        .write(true)
-        .open(&rt, "xfs_journal.test")?;
+    let file = opened(&rt, "xfs_journal.test")?;
     let mut journal = mounted(alloc, FileDisk::new(file))?;
     let rows: [(usize, &[u8], u64); 5] = [
         (204, b"\0", 204),
@@ -322,10 +320,7 @@ fn a_file_with_another_list_is_refused_where_it_differs(rt: HostRuntime) -> Resu
 fn at_most_9_bytes_are_made_an_empty_journal_again(rt: HostRuntime) -> Result<(), Fail> {
     let alloc = rt.alloc();
     fs::write(&rt, "xfs_journal_short.test", b"")?;
-    let file = File::options()
-        .read(true)
-        .write(true)
-        .open(&rt, "xfs_journal_short.test")?;
+    let file = opened(&rt, "xfs_journal_short.test")?;
     let mut journal = mounted(alloc, FileDisk::new(file))?;
     fs::write(&rt, "xfs_journal_short.test", b"short")?;
     assert!(rt; journal.remount() == Ok(()));
@@ -333,5 +328,25 @@ fn at_most_9_bytes_are_made_an_empty_journal_again(rt: HostRuntime) -> Result<()
     let bytes = fs::read(&rt, "xfs_journal_short.test")?;
     assert_eq!(rt; bytes.as_slice(), boot_file(alloc)?.as_slice());
     fs::remove_file(&rt, "xfs_journal_short.test")?;
+    Ok(())
+}
+
+// Appends a record to the journal of a file: its number.
+fn append_to(rt: &HostRuntime, path: &str, rec: Rec) -> Result<u64, Fail>
+    requires { HasUnit rec }
+{
+    let mut journal = mounted(rt.alloc(), FileDisk::new(opened(rt, path)?))?;
+    Ok(journal.append(rec)?)
+}
+
+#[test]
+fn a_file_that_is_opened_twice_has_the_records_of_both(rt: HostRuntime) -> Result<(), Fail> {
+    let alloc = rt.alloc();
+    fs::write(&rt, "xfs_journal_twice.test", b"")?;
+    assert_eq!(rt; append_to(&rt, "xfs_journal_twice.test", boot(alloc)?)?, 1);
+    assert_eq!(rt; append_to(&rt, "xfs_journal_twice.test", issue())?, 2);
+    let bytes = fs::read(&rt, "xfs_journal_twice.test")?;
+    assert_eq!(rt; bytes.as_slice(), short_file(alloc)?.as_slice());
+    fs::remove_file(&rt, "xfs_journal_twice.test")?;
     Ok(())
 }

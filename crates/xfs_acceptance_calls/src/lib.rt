@@ -22,6 +22,8 @@ mod disk_calls;
 #[cfg(test)]
 mod envelope_calls;
 #[cfg(test)]
+mod files;
+#[cfg(test)]
 mod guard_bench;
 #[cfg(test)]
 mod guard_boot_calls;

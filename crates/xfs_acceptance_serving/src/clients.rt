@@ -51,6 +51,28 @@ pub const NONCE_2: Client = Client {
     ..NONCE
 };
 
+/// Its token is for the first nonce, which another client's replaced by the third record.
+pub const TOO_LATE: Client = Client {
+    service: Service::Cash,
+    says: "{\"header\":{\"name\":\"CashDispenser.Dispense\",\"requestId\":1,\"type\":\"command\"},\"payload\":{\"denomination\":{\"currencies\":{\"EUR\":50}},\"mix\":\"minimum\",\"token\":\"NONCE=E56A5D4028BD86530000000000000001,TOKENFORMAT=1,TOKENLENGTH=0164,DISPENSE1=50.00EUR,HMACSHA256=3D5C9E3C4712EA6A5C3803CA4CB0E54958CB4C8778ACBBB26FEA1F6935956AC2\"}}",
+    hears: &[
+        "{\"header\":{\"name\":\"CashDispenser.Dispense\",\"requestId\":1,\"type\":\"acknowledge\",\"version\":\"2.0\"}}",
+        "{\"header\":{\"completionCode\":\"invalidTokenNonce\",\"name\":\"CashDispenser.Dispense\",\"requestId\":1,\"type\":\"completion\",\"version\":\"2.0\"},\"payload\":{\"journalRecord\":3}}",
+    ],
+    failing: None,
+};
+
+/// The publisher alone tells the services.
+pub const SERVICES: Client = Client {
+    service: Service::Publisher,
+    says: "{\"header\":{\"name\":\"ServicePublisher.GetServices\",\"requestId\":1,\"type\":\"command\"}}",
+    hears: &[
+        "{\"header\":{\"name\":\"ServicePublisher.GetServices\",\"requestId\":1,\"type\":\"acknowledge\",\"version\":\"2.0\"}}",
+        "{\"header\":{\"completionCode\":\"success\",\"name\":\"ServicePublisher.GetServices\",\"requestId\":1,\"type\":\"completion\",\"version\":\"2.0\"},\"payload\":{\"services\":[{\"serviceURI\":\"ws://localhost:5847/xfs4iot/v1.0/cardreader\"},{\"serviceURI\":\"ws://localhost:5848/xfs4iot/v1.0/keyboard\"},{\"serviceURI\":\"ws://localhost:5849/xfs4iot/v1.0/cashdispenser\"}],\"vendorName\":\"xfs bench\"}}",
+    ],
+    failing: None,
+};
+
 const GET_NONCE: &str =
     "{\"header\":{\"name\":\"Common.GetCommandNonce\",\"requestId\":1,\"type\":\"command\"}}";
 

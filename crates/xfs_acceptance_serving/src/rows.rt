@@ -1,7 +1,9 @@
 //! Servers whose sessions and workers run side by side.
 
 use crate::bench::{a_card, a_key, machine};
-use crate::clients::{CUT_OFF, ENTRY, LOST, NONCE, NONCE_2, READ, STATUS, TURNED_AWAY};
+use crate::clients::{
+    CUT_OFF, ENTRY, LOST, NONCE, NONCE_2, READ, SERVICES, STATUS, TOO_LATE, TURNED_AWAY,
+};
 use crate::doors::{Client, PatientDoors, crowd};
 use crate::scene::{Scene, Until};
 use crate::told::{Told, told_by};
@@ -138,8 +140,9 @@ fn a_server_ends_when_its_sessions_have(rt: HostRuntime) -> Result<(), Fail> {
         all(&[LOST], 1, 0),
         issuing(all(&[LOST, NONCE], 2, 1)),
         all(&[CUT_OFF, STATUS], 2, 2),
-        // The workers of the card slot and of the key pad hand on what is waited for.
-        all(&[READ, ENTRY], 2, 2),
+        // Each service answers what it alone has; the workers of the card slot and of the key pad hand on what is
+        // waited for.
+        issuing(all(&[SERVICES, READ, ENTRY, NONCE], 4, 4)),
         failing(all(&[], 1, 0)),
         // The session that runs as the doors fail is served to its end.
         failing(issuing(all(&[NONCE], 2, 1))),
@@ -151,14 +154,14 @@ fn a_server_ends_when_its_sessions_have(rt: HostRuntime) -> Result<(), Fail> {
     Ok(())
 }
 
-// The client that came first is held until the other was told its nonce.
+// The client that came second is held until the third was told its nonce, and the first until both were answered.
 #[test]
 fn a_nonce_of_one_client_replaces_that_of_another(rt: HostRuntime) -> Result<(), Fail> {
     let row = Row {
-        last: 1,
+        last: 2,
         live: Some(2),
         records: b"B12",
-        ..all(&[NONCE_2, NONCE], 2, 2)
+        ..all(&[TOO_LATE, NONCE_2, NONCE], 3, 3)
     };
     let report = play(&rt, rt.alloc(), &row)?;
     assert!(rt; is_served(&report, &row));

@@ -10,7 +10,7 @@ pub const LOOKS: u64 = 10_000;
 /// Until when the gate holds clients back.
 #[derive(Clone, Copy, PartialEq, Eq)]
 pub enum Until {
-    /// A client has heard all its texts.
+    /// Those who came after it have heard all their texts, the last of them first.
     Answered,
     /// A link was let go.
     LetGo,
@@ -52,7 +52,10 @@ impl<'a, C: Clock> Scene<'a, C> {
             return self.held.load(Ordering::SeqCst);
         }
         match self.until {
-            Until::Answered => self.answered.load(Ordering::SeqCst) > 0,
+            Until::Answered => {
+                let behind = u64::from(self.last.saturating_sub(client.0));
+                self.answered.load(Ordering::SeqCst) > behind
+            }
             Until::LetGo => self.let_go.load(Ordering::SeqCst) > 0,
         }
     }
