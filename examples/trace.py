@@ -1,17 +1,15 @@
 #!/usr/bin/env python3
-"""Shows every text between a client and a service: a proxy on a port of its own (RFC 6455), the standard library alone.
+"""Shows every text between a client and a service: a proxy (RFC 6455) on a port of its own, the standard library alone.
 
-    ./trace.py [port [service's port]]    # 6849 before 5849, the dispenser's, where none is given; Ctrl-C ends it
+    ./trace.py [port [service's port]]    # 6849 and 5849, the dispenser's, where none is given; Ctrl-C ends it
 
-The client dials ws://127.0.0.1:6849/ in place of 5849. `>` is what it says, `<` what it hears, each with the seconds since the start.
+A client dials 6849 in place of 5849. Each line has the seconds since the start, the connection, and `>` for what the client says.
 """
-import asyncio
-import sys
-import time
+import asyncio, itertools, sys, time
 
-LISTENED, SERVICE = (list(map(int, sys.argv[1:])) + [6849, 5849][len(sys.argv) - 1 :])[:2]
+PORT, SERVICE = (int(word) for word in (sys.argv[1:] + ["6849", "5849"][len(sys.argv) - 1 :])[:2])
 KINDS = {8: "(close)", 9: "(ping)", 10: "(pong)"}
-start = time.monotonic()
+start, numbers = time.monotonic(), itertools.count(1)
 
 
 def show(number, way, text):
@@ -19,14 +17,12 @@ def show(number, way, text):
 
 
 async def frame_of(reader):
-    """The bytes of a frame as they came, whether it is the last of its message, its kind, and its payload without the mask."""
+    """A frame: its bytes as they came, whether it ends its message, its kind, and its payload without the mask."""
     raw = await reader.readexactly(2)
-    size, field = raw[1] & 127, {126: 2, 127: 8}.get(raw[1] & 127, 0)
+    field = {126: 2, 127: 8}.get(raw[1] & 127, 0)
     raw += await reader.readexactly(field + (4 if raw[1] & 128 else 0))
-    if field:
-        size = int.from_bytes(raw[2 : 2 + field], "big")
-    mask = raw[2 + field :] or bytes(4)
-    payload = await reader.readexactly(size)
+    size = int.from_bytes(raw[2 : 2 + field], "big") if field else raw[1] & 127
+    mask, payload = raw[2 + field :] or bytes(4), await reader.readexactly(size)
     return raw + payload, raw[0] & 128, raw[0] & 15, bytes(byte ^ mask[at % 4] for at, byte in enumerate(payload))
 
 
@@ -34,27 +30,23 @@ async def carry(number, way, reader, writer):
     try:
         head = await reader.readuntil(b"\r\n\r\n")
         show(number, way, head.split(b"\r\n")[0].decode())
-        writer.write(head.replace(b":%d\r\n" % LISTENED, b":%d\r\n" % SERVICE))
+        writer.write(head.replace(b":%d\r\n" % PORT, b":%d\r\n" % SERVICE))  # the Host is the service's own
         text = b""
         while True:
             raw, is_last, kind, payload = await frame_of(reader)
             writer.write(raw)
             await writer.drain()
-            text = text + payload if kind < 8 else text
-            if kind >= 8:
-                show(number, way, KINDS.get(kind, kind))
-            elif is_last:
-                show(number, way, text.decode(errors="replace"))
-                text = b""
+            text += payload if kind < 8 else b""
+            if kind >= 8 or is_last:
+                show(number, way, KINDS.get(kind) or text.decode(errors="replace"))
+                text = text if kind >= 8 else b""
     except (asyncio.IncompleteReadError, ConnectionError):
         show(number, way, "(end)")
-    finally:
         writer.close()
 
 
-async def serve(reader, writer, count=[0]):
-    count[0] += 1
-    number = count[0]
+async def connect(reader, writer):
+    number = next(numbers)
     try:
         far_reader, far_writer = await asyncio.open_connection("127.0.0.1", SERVICE)
     except OSError as error:
@@ -64,12 +56,11 @@ async def serve(reader, writer, count=[0]):
 
 
 async def main():
-    async with await asyncio.start_server(serve, "127.0.0.1", LISTENED) as server:
+    async with await asyncio.start_server(connect, "127.0.0.1", PORT) as server:
         await server.serve_forever()
 
 
-if __name__ == "__main__":
-    try:
-        asyncio.run(main())
-    except KeyboardInterrupt:
-        pass
+try:
+    asyncio.run(main())
+except KeyboardInterrupt:
+    sys.exit(0)
