@@ -3,12 +3,10 @@
 
     ./trace.py [port [service's port]]    # 6849 and 5849, the dispenser's, where none is given; Ctrl-C ends it
 
-A client dials 6849 in place of 5849. Each line has the seconds since the start, the connection, and `>` for what the client says.
-"""
-import asyncio, itertools, sys, time
+A client dials 6849 in place of 5849. Each line has the seconds since the start, the connection, and `>` for what the client says."""
+import asyncio, itertools, signal, sys, time
 
 PORT, SERVICE = (int(word) for word in (sys.argv[1:] + ["6849", "5849"][len(sys.argv) - 1 :])[:2])
-KINDS = {8: "(close)", 9: "(ping)", 10: "(pong)"}
 start, numbers = time.monotonic(), itertools.count(1)
 
 
@@ -16,8 +14,7 @@ def show(number, way, text):
     print(f"{time.monotonic() - start:9.3f} {number} {way} {text}", flush=True)
 
 
-async def frame_of(reader):
-    """A frame: its bytes as they came, whether it ends its message, its kind, and its payload without the mask."""
+async def frame_of(reader):  # its bytes as they came, whether it ends its message, its kind, its payload without the mask
     raw = await reader.readexactly(2)
     field = {126: 2, 127: 8}.get(raw[1] & 127, 0)
     raw += await reader.readexactly(field + (4 if raw[1] & 128 else 0))
@@ -38,7 +35,7 @@ async def carry(number, way, reader, writer):
             await writer.drain()
             text += payload if kind < 8 else b""
             if kind >= 8 or is_last:
-                show(number, way, KINDS.get(kind) or text.decode(errors="replace"))
+                show(number, way, {8: "(close)", 9: "(ping)", 10: "(pong)"}.get(kind) or text.decode(errors="replace"))
                 text = text if kind >= 8 else b""
     except (asyncio.IncompleteReadError, ConnectionError):
         show(number, way, "(end)")
@@ -56,11 +53,8 @@ async def connect(reader, writer):
 
 
 async def main():
-    async with await asyncio.start_server(connect, "127.0.0.1", PORT) as server:
-        await server.serve_forever()
+    await (await asyncio.start_server(connect, "127.0.0.1", PORT)).serve_forever()
 
 
-try:
-    asyncio.run(main())
-except KeyboardInterrupt:
-    sys.exit(0)
+signal.signal(signal.SIGINT, signal.SIG_DFL)
+asyncio.run(main())
