@@ -1,25 +1,30 @@
 #!/usr/bin/env python3
 """A bank's host and a terminal of another make: a withdrawal from `xfs serve`, by docs/TOKEN.md and docs/MESSAGES.md alone.
 
-    ../xfs serve 1 &        # it says when it listens; then:
-    ./host_and_terminal.py [amount]        # EUR 70 where none is given
+    ../xfs serve 1                     # in one window: it says when it listens, and ends with this connection, or by Ctrl-C
+    ./host_and_terminal.py [amount]    # in another; EUR 70 where none is given
 
 It shows each message. The host's key is that of the file xfs.key of the working folder, as the server's is, or 32 bytes 0x0b.
 """
 import asyncio
 import hashlib
 import hmac
+import importlib.metadata
 import itertools
 import json
 import pathlib
 import sys
 
 try:
-    import websockets
-except ImportError:
+    version = importlib.metadata.version("websockets")
+except importlib.metadata.PackageNotFoundError:
     sys.exit("The package `websockets` is missing: python3 -m pip install websockets, or Debian's python3-websockets")
-if int(getattr(websockets, "__version__", websockets.version.version).split(".")[0]) < 10:
-    sys.exit("The package `websockets` is too old: 10 or later is wanted")
+if int(version.split(".")[0]) < 10:
+    sys.exit(f"The package `websockets` is too old: 10 or later is wanted, and {version} is here")
+try:
+    from websockets.asyncio.client import connect  # 13 and later
+except ImportError:
+    from websockets import connect
 
 CASH = "ws://127.0.0.1:5849/xfs4iot/v1.0/cashdispenser"
 HMAC_BYTES = len(",HMACSHA256=") + 64
@@ -61,7 +66,7 @@ class Terminal:
                 sys.exit(f"refused: {heard['header']['status']}")
             if heard["header"]["type"] == "completion":
                 if heard["header"]["completionCode"] != "success":
-                    sys.exit(f"ended: {heard['header']['completionCode']}")
+                    sys.exit(f"ended: {heard['header']['completionCode']} {heard['payload'].get('errorCode', '')}")
                 return heard["payload"]
         sys.exit("the dispenser closed the connection")
 
@@ -70,7 +75,7 @@ async def main():
     amount = int(sys.argv[1]) if len(sys.argv) > 1 else 70
     file = pathlib.Path("xfs.key")
     host = Host(bytes.fromhex(file.read_text()) if file.exists() else bytes([0x0B] * 32))
-    async with websockets.connect(CASH) as link:
+    async with connect(CASH) as link:
         terminal = Terminal(link)
         nonce = (await terminal.ask("Common.GetCommandNonce", {}))["commandNonce"]
         token = host.mint(nonce, amount)
@@ -79,4 +84,7 @@ async def main():
     print(f"EUR {amount} put out")
 
 
-asyncio.run(main())
+try:
+    asyncio.run(main())
+except OSError as error:
+    sys.exit(f"nobody listens at {CASH}: {error}")
