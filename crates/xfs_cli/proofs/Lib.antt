@@ -10,6 +10,7 @@ pub mod EndLaws
 pub mod EndingLaws
 pub mod FilledLaws
 pub mod GuardStateLaws
+pub mod HostTexts
 pub mod KeptLaws
 pub mod LastLaws
 pub mod LineEndLaws

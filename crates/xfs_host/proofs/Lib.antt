@@ -1,5 +1,4 @@
-pub mod Limits
-pub mod Listing
+pub mod Entries
 pub mod Maps
 pub mod OneText
 pub mod Paying

@@ -31,3 +31,13 @@ returns-in-None-clause-load g c = λ rounds says. absurd (c.in-None.ensures.none
 
 pub returns-in-None-clause-guard : goal.returns-in-None-clause-guard
 returns-in-None-clause-guard g c = λ guard. absurd (c.in-None.ensures.none (Guard, guard))
+
+pub returns-in-Some-Host-clause-upholds : goal.returns-in-Some-Host-clause-upholds
+returns-in-Some-Host-clause-upholds g c =
+    subst (λ r. UpholdsAll g.M.Mechanism g.D.Disk c.args.bench.core (back r)) (sym c.linkless-in-Some-Host.ensures)
+    (upholds-kept g.M.Mechanism g.D.Disk c.args.bench.core (back c.host.result) c.host.ensures.kept c.requires.starts.recorded c.requires.starts.at_rest)
+
+pub returns-in-Some-Host-clause-any_moment : goal.returns-in-Some-Host-clause-any_moment
+returns-in-Some-Host-clause-any_moment g c =
+    subst (λ r. WasOnTheWayAll g.M.Mechanism g.D.Disk c.args.bench.core (back r)) (sym c.linkless-in-Some-Host.ensures)
+    (moments-kept g.M.Mechanism g.D.Disk c.args.bench.core (back c.host.result) g.met.D.Disk.as_read g.met.D.Disk.only_now c.host.ensures.kept c.requires.starts.at_rest)
