@@ -72,10 +72,10 @@ fn next_news<L: Link>(link: &mut L) -> Taking {
 }
 
 // A peer that writes its own bytes, and the link to it.
-fn peer_of<'a, R: Net<Listener = TcpListener, Stream = TcpStream> + RandomSource + Sync>(
+pub fn peer_of<'a, R: Net<Listener = TcpListener, Stream = TcpStream> + RandomSource + Sync>(
     rt: &'a R,
     doors: &mut TcpDoors<'a, R, SetClock>,
-) -> Option<(SocketLink<&'a R>, TcpStream)> {
+) -> Option<(SocketLink<'a, &'a R, SetClock>, TcpStream)> {
     let mut peer = TcpStream::connect(rt, ("127.0.0.1", doors.ports().card)).ok()?;
     peer.write_all(REQUEST).ok()?;
     let (service, link) = next_link(doors)?;

@@ -150,10 +150,10 @@ fn visits<
     Ok(visits)
 }
 
-fn visit<R: Net<Listener = TcpListener, Stream = TcpStream> + RandomSource + Wait + Sync, C: Clock>(
-    shared: &Shared<R, C>,
-    most: u32,
-) -> Visit {
+fn visit<
+    R: Net<Listener = TcpListener, Stream = TcpStream> + RandomSource + Wait + Sync,
+    C: Clock + Sync,
+>(shared: &Shared<R, C>, most: u32) -> Visit {
     match TcpDoors::outward(shared.rt, shared.alloc, shared.clock, shared.ports) {
         Ok(mut doors) => shared.withdraw(&mut doors, most),
         Err(_) => Err(Ending::Failed),
@@ -161,9 +161,10 @@ fn visit<R: Net<Listener = TcpListener, Stream = TcpStream> + RandomSource + Wai
 }
 
 // Dials and hangs up until the server has taken all its connections.
-fn fill_up<R: Net<Listener = TcpListener, Stream = TcpStream> + RandomSource + Sync, C: Clock>(
-    shared: &Shared<R, C>,
-) {
+fn fill_up<
+    R: Net<Listener = TcpListener, Stream = TcpStream> + RandomSource + Sync,
+    C: Clock + Sync,
+>(shared: &Shared<R, C>) {
     let Ok(mut doors) = TcpDoors::outward(shared.rt, shared.alloc, shared.clock, shared.ports)
     else {
         return;

@@ -1,6 +1,7 @@
 //! A client's handshake.
 
-use crate::socket::{limits, prepare};
+use crate::socket::limits;
+use crate::stream::PeerStream;
 use std::alloc::Global;
 use std::net::TcpStream;
 use std::random::RandomSource;
@@ -14,9 +15,9 @@ const LONGEST_MILLIS: u64 = 2_000;
 
 const MOST_READS: u32 = 1_000;
 
-type Dialled<S: RandomSource + Drop> = WebSocket<TcpStream, RandomKeys<S>>;
+type Dialled<S: RandomSource + Drop> = WebSocket<PeerStream, RandomKeys<S>>;
 
-type Fault<S: RandomSource + Drop> = HandshakeError<ClientHandshake<TcpStream, RandomKeys<S>>>;
+type Fault<S: RandomSource + Drop> = HandshakeError<ClientHandshake<PeerStream, RandomKeys<S>>>;
 
 // The paths of the services, as the publisher's GetServices tells them.
 fn path_of(service: Service) -> &'static str {
@@ -37,9 +38,9 @@ pub fn dialled<S: RandomSource + Drop, C: Clock>(
     port: u16,
     stream: TcpStream,
 ) -> Result<Dialled<S>, DialFault> {
-    if prepare(&stream).is_err() {
+    let Ok(stream) = PeerStream::new(stream) else {
         return Err(DialFault::Failed);
-    }
+    };
     let Ok(url) = format!(in alloc; "ws://127.0.0.1:{port}{}", path_of(service)) else {
         return Err(DialFault::Memory);
     };

@@ -8,10 +8,19 @@ use crate::socket::Socket;
 use crate::visitors::Origins;
 use std::alloc::Global;
 use std::io;
+use std::io::ErrorKind;
 use std::net::{Net, TcpListener, TcpStream};
 use std::random::RandomSource;
 use xfs_base::{Clock, Service};
 use xfs_server::{DialFault, Door, Doors};
+
+/// The ports of the services where nothing else is asked for.
+pub const PORTS: Ports = Ports {
+    publisher: 5846,
+    card: 5847,
+    keys: 5848,
+    cash: 5849,
+};
 
 /// A port for each service.
 #[derive(Clone, Copy, Debug, PartialEq, Eq)]
@@ -38,7 +47,7 @@ impl Ports {
 #[derive(Clone, Copy, Debug, PartialEq, Eq)]
 pub enum OpenFault {
     /// A port can't be listened on.
-    Failed,
+    Failed { port: u16, why: ErrorKind },
     /// Memory ran out.
     Memory,
 }
@@ -60,6 +69,7 @@ pub struct TcpDoors<
     dials: u64,
     quiets: u64,
     faults: u64,
+    unreached: Option<(u16, ErrorKind)>,
 }
 
 impl<'a, R: Net<Listener = TcpListener, Stream = TcpStream> + RandomSource, C: Clock> TcpDoors<
@@ -100,6 +110,11 @@ impl<'a, R: Net<Listener = TcpListener, Stream = TcpStream> + RandomSource, C: C
         self.ports
     }
 
+    /// The port that the last dial reached nobody at, and why.
+    pub fn unreached(&self) -> Option<(u16, ErrorKind)> {
+        self.unreached
+    }
+
     fn over(
         rt: &'a R,
         alloc: Global,
@@ -121,34 +136,39 @@ impl<'a, R: Net<Listener = TcpListener, Stream = TcpStream> + RandomSource, C: C
             dials: 0,
             quiets: 0,
             faults: 0,
+            unreached: None,
         })
     }
 
-    fn connected(&self, service: Service) -> Result<SocketLink<&'a R>, DialFault>
+    fn connected(
+        &self,
+        service: Service,
+        stream: TcpStream,
+    ) -> Result<SocketLink<'a, &'a R, C>, DialFault>
         ensures { IfOk result (λ link. IsFresh link) }
     {
         let port = self.ports.of(service);
-        let Ok(stream) = TcpStream::connect(self.rt, ("127.0.0.1", port)) else {
-            return Err(DialFault::Failed);
-        };
         let socket = dialled(self.alloc, self.rt, self.clock, service, port, stream)?;
-        Ok(SocketLink::new(self.alloc, Socket::Client(socket), true))
+        Ok(SocketLink::new(self.alloc, Socket::Client(socket), self.clock))
     }
 }
 
-impl<'a, R: Net<Listener = TcpListener, Stream = TcpStream> + RandomSource + Sync, C: Clock> Doors
-    for TcpDoors<'a, R, C> {
-    type Link = SocketLink<&'a R>;
+impl<
+    'a,
+    R: Net<Listener = TcpListener, Stream = TcpStream> + RandomSource + Sync,
+    C: Clock + Sync,
+> Doors for TcpDoors<'a, R, C> {
+    type Link = SocketLink<'a, &'a R, C>;
 
     ghost log = { λ d. record { came = d.came; dials = d.dials; quiets = d.quiets; faults = d.faults } };
 
-    fn next(&mut self) -> Door<SocketLink<&'a R>> {
+    fn next(&mut self) -> Door<SocketLink<'a, &'a R, C>> {
         match self.entrance.next(self.alloc, self.clock.now()) {
             Door::Came(service, socket) => {
                 self.came = self.came.saturating_add(1);
                 Door::Came(
                     service,
-                    SocketLink::new(self.alloc, Socket::Server(socket), false),
+                    SocketLink::new(self.alloc, Socket::Server(socket), self.clock),
                 )
             }
             Door::Quiet => {
@@ -163,9 +183,16 @@ impl<'a, R: Net<Listener = TcpListener, Stream = TcpStream> + RandomSource + Syn
         }
     }
 
-    fn dial(&mut self, service: Service) -> Result<SocketLink<&'a R>, DialFault> {
+    fn dial(&mut self, service: Service) -> Result<SocketLink<'a, &'a R, C>, DialFault> {
         self.dials = self.dials.saturating_add(1);
-        let dialled = self.connected(service);
+        let port = self.ports.of(service);
+        let dialled = match TcpStream::connect(self.rt, ("127.0.0.1", port)) {
+            Ok(stream) => self.connected(service, stream),
+            Err(error) => {
+                self.unreached = Some((port, error.kind()));
+                Err(DialFault::Failed)
+            }
+        };
         if matches!(dialled, Err(DialFault::Failed)) {
             self.faults = self.faults.saturating_add(1);
         }
@@ -180,8 +207,14 @@ fn listen<R: Net<Listener = TcpListener, Stream = TcpStream>>(
     service: Service,
     port: u16,
 ) -> Result<u16, OpenFault> {
-    let Ok((listener, port)) = listening(rt, port) else {
-        return Err(OpenFault::Failed);
+    let (listener, port) = match listening(rt, port) {
+        Ok(listening) => listening,
+        Err(error) => {
+            return Err(OpenFault::Failed {
+                port,
+                why: error.kind(),
+            });
+        }
     };
     match listeners.push(Port { service, listener }) {
         Ok(()) => Ok(port),

@@ -1,6 +1,7 @@
 //! Ports that are listened on, and the handshakes that are under way there.
 
-use crate::socket::{limits, prepare};
+use crate::socket::limits;
+use crate::stream::PeerStream;
 use crate::visitors::{Origins, Visitor};
 use std::alloc::{AllocError, Global};
 use std::io;
@@ -16,7 +17,7 @@ const MOST_WAITING: usize = 64;
 // How long a handshake may last, from its accept on.
 const LONGEST_MILLIS: u64 = 2_000;
 
-type Handshake<'a> = MidHandshake<ServerHandshake<TcpStream, Visitor<'a>>>;
+type Handshake<'a> = MidHandshake<ServerHandshake<PeerStream, Visitor<'a>>>;
 
 // What accept(2) answers where the listener itself is broken: EBADF, EFAULT, EINVAL, ENOTSOCK and
 // EOPNOTSUPP. Everything else is the peer's, or passes.
@@ -39,7 +40,7 @@ struct Waiting<'a> {
 /// How a round of a handshake ended.
 #[derive(Drop)]
 enum Shaken<'a> {
-    Done(WebSocket<TcpStream, NoMask>),
+    Done(WebSocket<PeerStream, NoMask>),
     Goes(Handshake<'a>),
     Gone,
     Memory,
@@ -76,7 +77,7 @@ impl<'a> Entrance<'a> {
     }
 
     /// Lets in one peer at each port and gives each handshake one round, up to the first that is done.
-    pub fn next(&mut self, alloc: Global, now: Moment) -> Door<WebSocket<TcpStream, NoMask>> {
+    pub fn next(&mut self, alloc: Global, now: Moment) -> Door<WebSocket<PeerStream, NoMask>> {
         match self.let_in(alloc, now) {
             Ok(()) => self.shake(now),
             Err(EntryFault::Broken) => Door::Failed,
@@ -100,7 +101,7 @@ impl<'a> Entrance<'a> {
     }
 
     // The handshakes that go on stay in their order.
-    fn shake(&mut self, now: Moment) -> Door<WebSocket<TcpStream, NoMask>> {
+    fn shake(&mut self, now: Moment) -> Door<WebSocket<PeerStream, NoMask>> {
         let mut place = 0;
         for _ in 0..self.waiting.len() {
             if place >= self.waiting.len() {
@@ -140,7 +141,10 @@ fn add<'a>(
     since: Moment,
     stream: TcpStream,
 ) -> Result<(), EntryFault> {
-    if prepare(&stream).is_err() || stream.set_nonblocking(true).is_err() {
+    let Ok(mut stream) = PeerStream::new(stream) else {
+        return Ok(());
+    };
+    if stream.set_waits(false).is_err() {
         return Ok(());
     }
     if waiting.len() >= MOST_WAITING {

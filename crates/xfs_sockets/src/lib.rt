@@ -7,10 +7,11 @@ mod doors;
 mod entrance;
 mod link;
 mod socket;
+mod stream;
 mod visitors;
 mod wire;
 
-pub use doors::{OpenFault, Ports, TcpDoors};
+pub use doors::{OpenFault, PORTS, Ports, TcpDoors};
 pub use entrance::{Entrance, Port, is_broken};
 pub use link::SocketLink;
 pub use visitors::{Origins, is_own_host};

@@ -5,22 +5,24 @@ use crate::wire::Wire;
 use std::alloc::Global;
 use std::marker::Model;
 use std::random::RandomSource;
+use xfs_base::Clock;
 use xfs_server::{GiveFault, Link, Taking};
 
 /// A connection over a WebSocket. A binary message is taken as its bytes; pings are answered, and a close
 /// is answered before Closed is told. Texts that were given leave with the next take, or when the link is
-/// dropped. A stream that ends without a close has failed, and so has a peer that doesn't read for 10
-/// seconds. A message above 1 MiB ends the connection.
+/// dropped. A stream that ends without a close has failed. So has a peer that has not taken a frame within ten
+/// seconds in all, one that was silent for a minute and then for another, though it was pinged, and one that
+/// sends 2 MiB without the end of a message. A message above 1 MiB ends the connection.
 #[derive(Drop)]
-pub struct SocketLink<R: RandomSource + Drop> {
+pub struct SocketLink<'a, R: RandomSource + Drop, C: Clock> {
     alloc: Global,
-    wire: Wire<R>,
+    wire: Wire<'a, R, C>,
     closed: bool,
     quiets: u64,
     faults: u64,
 }
 
-impl<R: RandomSource + Drop> Model for SocketLink<R> {
+impl<'a, R: RandomSource + Drop, C: Clock> Model for SocketLink<'a, R, C> {
     ghost use Rattle.std.specs.Prelude.{None};
     ghost use Rattle.xfs_server.specs.Links.{LinkLog};
 
@@ -29,14 +31,13 @@ impl<R: RandomSource + Drop> Model for SocketLink<R> {
     ghost view = { λ s. record { coming = None; taken = None; sent = None; closed = s.closed; quiets = s.quiets; faults = s.faults } };
 }
 
-impl<R: RandomSource + Drop> SocketLink<R> {
-    // `waits` is whether a read of the stream waits.
-    pub(crate) fn new(alloc: Global, socket: Socket<R>, waits: bool) -> SocketLink<R>
+impl<'a, R: RandomSource + Drop, C: Clock> SocketLink<'a, R, C> {
+    pub(crate) fn new(alloc: Global, socket: Socket<R>, clock: &'a C) -> SocketLink<'a, R, C>
         ensures { IsFresh result }
     {
         SocketLink {
             alloc,
-            wire: Wire::new(socket, waits),
+            wire: Wire::new(socket, clock),
             closed: false,
             quiets: 0,
             faults: 0,
@@ -44,7 +45,7 @@ impl<R: RandomSource + Drop> SocketLink<R> {
     }
 }
 
-impl<R: RandomSource + Drop> Link for SocketLink<R> {
+impl<'a, R: RandomSource + Drop, C: Clock> Link for SocketLink<'a, R, C> {
     ghost log = { λ log. log };
 
     fn take(&mut self) -> Taking {

@@ -1,13 +1,12 @@
 //! What a socket's reads and writes find, and when a read waits.
 
-use crate::socket::{READ_MILLIS, Socket};
+use crate::socket::Socket;
+use crate::stream::{READ_MILLIS, is_waiting};
 use std::alloc::Global;
 use std::io;
-use std::io::ErrorKind;
 use std::random::RandomSource;
-use std::time::Duration;
-use tungstenite::{Error, Message};
-use xfs_base::Bytes;
+use tungstenite::{Bytes as Payload, Error, Message};
+use xfs_base::{Bytes, Clock, Moment};
 use xfs_server::{GiveFault, Taking};
 
 // How many reads come back at once before one waits, while an answer is owed.
@@ -19,31 +18,41 @@ const READS: u32 = 4;
 // How many frames answer a text: its acknowledge and its completion.
 const ANSWERS: u32 = 2;
 
+// After how many looks that found nothing an owed answer is forgotten, a few seconds: a text that gets one frame, as one
+// that is refused does, keeps no session awake.
+const MOST_LOOKS: u32 = 1_000;
+
+// How long a peer may be silent before it is pinged, and then once more.
+const SILENT_MILLIS: u64 = 60_000;
+
 // How long a read waits where no answer is owed: an idle session wakes less often.
 const IDLE_MILLIS: u64 = 48;
 
 /// A socket, and how its reads wait. While an answer is owed the reads come back at once for a while, so
 /// that the board is turned for it; where none is owed a read waits for the peer. What is given leaves with
 /// the next take, so that the frames which answer a text are one write, or when the wire is let go.
-pub struct Wire<R: RandomSource + Drop> {
+pub struct Wire<'a, R: RandomSource + Drop, C: Clock> {
     socket: Socket<R>,
+    clock: &'a C,
     unsent: bool,
-    waits: bool,
-    pause: u64,
     owed: u32,
     looks: u32,
+    // When something was found last, or the peer was pinged.
+    since: Moment,
+    is_pinged: bool,
 }
 
-impl<R: RandomSource + Drop> Drop for Wire<R> {
+impl<'a, R: RandomSource + Drop, C: Clock> Drop for Wire<'a, R, C> {
     fn drop(mut self) {
         let _ = self.send_given();
         let Wire {
             socket: _,
+            clock: _,
             unsent: _,
-            waits: _,
-            pause: _,
             owed: _,
             looks: _,
+            since: _,
+            is_pinged: _,
         } = self;
     }
 }
@@ -59,16 +68,19 @@ enum Heard {
     Memory,
 }
 
-impl<R: RandomSource + Drop> Wire<R> {
-    /// Over a socket whose stream's reads wait, or come back at once.
-    pub fn new(socket: Socket<R>, waits: bool) -> Wire<R> {
+impl<'a, R: RandomSource + Drop, C: Clock> Wire<'a, R, C> {
+    /// Over a socket whose handshake is done.
+    pub fn new(mut socket: Socket<R>, clock: &'a C) -> Wire<'a, R, C> {
+        // The handshake is no news.
+        socket.stream().take_news();
         Wire {
             socket,
+            clock,
             unsent: false,
-            waits,
-            pause: READ_MILLIS,
             owed: 0,
             looks: 0,
+            since: clock.now(),
+            is_pinged: false,
         }
     }
 
@@ -84,7 +96,7 @@ impl<R: RandomSource + Drop> Wire<R> {
             }
             Heard::Nothing => {
                 self.looks = self.looks.saturating_add(1);
-                Taking::Quiet
+                self.await_peer()
             }
             Heard::Close => self.answer_close(),
             Heard::Ended => Taking::Closed,
@@ -95,16 +107,61 @@ impl<R: RandomSource + Drop> Wire<R> {
 
     // What a read finds. One that comes back at once is made again a few times where it found nothing.
     fn look(&mut self, alloc: Global) -> Heard {
-        let reads = if self.waits { 1 } else { READS };
+        let stream = self.socket.stream();
+        stream.begin_look();
+        let reads = if stream.waits() { 1 } else { READS };
         for _ in 1..reads {
-            let answer = self.socket.read();
+            let answer = self.read();
             match found(alloc, answer) {
                 Heard::Nothing => {}
                 heard => return heard,
             }
         }
-        let answer = self.socket.read();
+        let answer = self.read();
         found(alloc, answer)
+    }
+
+    fn read(&mut self) -> Result<Message, Error> {
+        let answer = self.socket.read();
+        if answer.is_ok() {
+            self.socket.stream().end_message();
+        }
+        answer
+    }
+
+    // No text was found. A peer that is silent for too long is pinged, and has failed where it stays so. The time is
+    // looked at by reads that wait.
+    fn await_peer(&mut self) -> Taking {
+        if !self.socket.stream().waits() {
+            return Taking::Quiet;
+        }
+        let now = self.clock.now();
+        if self.socket.stream().take_news() {
+            self.since = now;
+            self.is_pinged = false;
+        }
+        if now.0.saturating_sub(self.since.0) < SILENT_MILLIS {
+            Taking::Quiet
+        } else if self.is_pinged {
+            Taking::Failed
+        } else {
+            self.ping(now)
+        }
+    }
+
+    // Where there is no memory for it, the next look pings.
+    fn ping(&mut self, now: Moment) -> Taking {
+        let written = self.socket.write(Message::Ping(Payload::from_static(b"")));
+        match given(written) {
+            Ok(()) => {
+                self.unsent = true;
+                self.since = now;
+                self.is_pinged = true;
+                Taking::Quiet
+            }
+            Err(GiveFault::Memory) => Taking::Quiet,
+            Err(GiveFault::Failed) => Taking::Failed,
+        }
     }
 
     pub fn give(&mut self, alloc: Global, text: &[u8]) -> Result<(), GiveFault> {
@@ -114,7 +171,7 @@ impl<R: RandomSource + Drop> Wire<R> {
         let Ok(message) = Message::text(alloc, text) else {
             return Err(GiveFault::Memory);
         };
-        if self.set_waits(true).is_err() {
+        if self.socket.stream().set_waits(true).is_err() {
             return Err(GiveFault::Failed);
         }
         let written = given(self.socket.write(message));
@@ -140,7 +197,7 @@ impl<R: RandomSource + Drop> Wire<R> {
 
     // The peer has closed: the reply goes out before anything else.
     fn answer_close(&mut self) -> Taking {
-        if self.set_waits(true).is_err() {
+        if self.socket.stream().set_waits(true).is_err() {
             return Taking::Failed;
         }
         let replied = self.socket.flush();
@@ -152,33 +209,18 @@ impl<R: RandomSource + Drop> Wire<R> {
 
     // While an answer is owed, reads come back at once for a while, and then wait a little.
     fn prepare_read(&mut self) -> io::Result<()> {
+        if self.looks >= MOST_LOOKS {
+            self.owed = 0;
+        }
+        let stream = self.socket.stream();
         if self.owed == 0 {
-            self.set_pause(IDLE_MILLIS)?;
+            stream.set_pause(IDLE_MILLIS)?;
         } else if self.looks < LOOKS {
-            return self.set_waits(false);
+            return stream.set_waits(false);
         } else {
-            self.set_pause(READ_MILLIS)?;
+            stream.set_pause(READ_MILLIS)?;
         }
-        self.set_waits(true)
-    }
-
-    // How long a read waits that finds nothing. It asks the system only where that changes.
-    fn set_pause(&mut self, millis: u64) -> io::Result<()> {
-        if self.pause != millis {
-            let stream = self.socket.stream();
-            stream.set_read_timeout(Some(Duration::from_millis(millis)))?;
-            self.pause = millis;
-        }
-        Ok(())
-    }
-
-    // Whether reads and writes wait. It asks the system only where that changes.
-    fn set_waits(&mut self, waits: bool) -> io::Result<()> {
-        if self.waits != waits {
-            self.socket.stream().set_nonblocking(!waits)?;
-            self.waits = waits;
-        }
-        Ok(())
+        stream.set_waits(true)
     }
 }
 
@@ -206,13 +248,6 @@ fn copied(alloc: Global, bytes: &[u8]) -> Heard {
         Ok(text) => Heard::Text(Bytes::new(text)),
         Err(_) => Heard::Memory,
     }
-}
-
-fn is_waiting(error: &io::Error) -> bool {
-    matches!(
-        error.kind(),
-        ErrorKind::WouldBlock | ErrorKind::TimedOut | ErrorKind::Interrupted
-    )
 }
 
 // A write that waited its time is a fault like every other.
