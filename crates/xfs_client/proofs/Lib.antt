@@ -1,6 +1,6 @@
 mod DeskLaws
 pub mod Histories
 pub mod Numbers
-mod Openings
+pub mod Openings
 mod Outcomes
 mod TokenTexts

@@ -1,12 +1,13 @@
 -- What a withdrawal asked, by the frames that it heard.
-use Rattle.std.specs.Prelude.{◌≡◌, ◌+◌, ℕ, List, [], ◌∷◌, ◌++◌, codes, ⊤}
-use Rattle.xfs_client.specs.Commands.{command_text}
-use Rattle.xfs_client.specs.History.{asks}
-use Rattle.xfs_client.specs.Withdrawals.{Terms, IsMove, conversation, step_in}
+use Rattle.std.specs.Prelude.{◌≡◌, ℕ, List, [], ◌∷◌, ◌++◌, codes, None, Ok}
+use Rattle.serde_json.specs.Data.{Data}
+use Rattle.xfs_client.specs.Commands.{ReadsAs, command_text}
+use Rattle.xfs_client.specs.History.{Entry, asks, completed, told_in}
+use Rattle.xfs_client.specs.Withdrawals.{Terms, IsMove, conversation, nonce_of, step_in}
 use Rattle.xfs_client.specs.declared.withdrawal.Move.{Move}
 use Rattle.xfs_client.specs.declared.withdrawal.Move.TheVariants.{Ask, Wait, Done, Ended, Refused}
 use Rattle.xfs_envelope.specs.Fields.{empty}
-use Rattle.xfs_hearing.specs.Hearings.{IsAskAt}
+use Rattle.xfs_envelope.specs.declared.code.Code.TheVariants.{Success}
 
 -- the text that a move asks, where it asks one
 abbrev pub asked_by : Move → List (List ℕ)
@@ -16,19 +17,19 @@ asked_by Done = []
 asked_by (Ended code) = []
 asked_by (Refused status) = []
 
--- the text that a move asks is the ask with this number
-abbrev pub IsNumbered : ℕ → Move → Type 0
-IsNumbered n (Ask text) = IsAskAt n text
-IsNumbered n Wait = ⊤
-IsNumbered n Done = ⊤
-IsNumbered n (Ended code) = ⊤
-IsNumbered n (Refused status) = ⊤
-
 -- a withdrawal by these terms asked these texts and heard these frames
 pub data Withdraws (terms : Terms) : List (List ℕ) → List (List ℕ) → Type 0 where
-  -- it begins by asking for a nonce
-  started : (text : List ℕ) → text ≡ command_text (codes "Common.GetCommandNonce") 1 empty → IsAskAt 1 text → Withdraws terms (text ∷ []) []
+  -- it begins by asking for a nonce, and a service reads the text so
+  started : (text : List ℕ) → text ≡ command_text (codes "Common.GetCommandNonce") 1 empty → ReadsAs text (codes "Common.GetCommandNonce") 1 empty
+      → Withdraws terms (text ∷ []) []
   -- a frame is heard, and the move asks or doesn't
   moved : {texts frames : List (List ℕ)} → Withdraws terms texts frames
-      → (frame : List ℕ) (m : Move) → IsMove terms (step_in (conversation frames) frame) m → IsNumbered (asks (conversation frames) + 1) m
+      → (frame : List ℕ) (m : Move) → IsMove terms (step_in (conversation frames) frame) m
       → Withdraws terms (texts ++ asked_by m) (frames ++ frame ∷ [])
+
+-- behind this history the frame says that GetCommandNonce succeeded, and gives no nonce of a token's grammar
+pub record LacksNonce (h : List Entry) (frame : List ℕ) : Type 0 where
+  pub payload : Data
+  pub alone : asks h ≡ 1
+  pub succeeded : told_in h frame ≡ Ok (completed 1 Success payload)
+  pub none : nonce_of payload ≡ None

@@ -5,15 +5,15 @@
 mod desk;
 mod withdrawal;
 
-ghost use Rattle.std.specs.Prelude.{◌≡◌, ◌≢◌, ◌++◌, ◌∷◌, ℕ, List, length, Ok, Err};
+ghost use Rattle.std.specs.Prelude.{◌≡◌, ◌++◌, ◌∷◌, ℕ, List, length, Ok, Err};
 ghost use Rattle.xfs_client.specs.Desks.{Keeps, Remembered};
 ghost use Rattle.xfs_client.specs.History.{Entry, Told, told_in};
 ghost use Rattle.xfs_client.specs.Withdrawals.{Terms, conversation, step_in};
-ghost use Rattle.xfs_client.specs.declared.heard.HearFault.TheVariants as HearFault;
+ghost use Rattle.xfs_client.specs.declared.heard.HearFault.{HearFault};
 ghost use Rattle.xfs_conversation.specs.Conversation.{Conversation};
 ghost use Rattle.xfs_conversation.specs.Pending.{Pending};
 ghost use Rattle.xfs_hearing.specs.Hearings.{Hearing, Remembers};
-ghost use Rattle.xfs_hearing.specs.Withdraws.{Withdraws};
+ghost use Rattle.xfs_hearing.specs.Withdraws.{LacksNonce, Withdraws};
 
 pub use desk::{ask, hear};
 pub use withdrawal::next;
@@ -34,9 +34,9 @@ pub fn desks_remember_what_is_pending()
         → Remembers d pending (length texts) (length (texts ++ unread)) }
 {}
 
-/// The same of a withdrawal: no frame is a stranger to it.
+/// The same of a withdrawal: only a success of GetCommandNonce that gives no nonce is not heard.
 pub fn withdrawals_know_what_they_hear()
-    ensures { (terms : Terms) (texts unread heard later : List (List ℕ)) (frame : List ℕ) (pending : List Pending)
+    ensures { (terms : Terms) (texts unread heard later : List (List ℕ)) (frame : List ℕ) (pending : List Pending) (e : HearFault)
         → Withdraws terms (texts ++ unread) heard → Conversation texts (heard ++ frame ∷ later) pending
-        → step_in (conversation heard) frame ≢ Err HearFault.Stranger }
+        → step_in (conversation heard) frame ≡ Err e → LacksNonce (conversation heard) frame }
 {}
