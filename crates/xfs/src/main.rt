@@ -1,14 +1,12 @@
-//! The program `xfs`: it reads the files of the key and of the seed, makes the bench, calls `run`, and ends with its
+//! The program `xfs`: it has the files of the key and of the seed read, makes the bench, calls `run`, and ends with its
 //! status. Only `serve` listens on ports and keeps its journal in a file; `client` dials.
 #![tactic(auto)]
 
 ghost use Rattle.xfs_guard.specs.Starts.{Starts};
 
 mod outside;
-mod start_fault;
 
-use crate::outside::{open_journal, read_secrets, read_words, tell_listening};
-use crate::start_fault::StartFault;
+use crate::outside::{read_words, tell_fault, tell_listening, tell_open_files, tell_unreached};
 use std::alloc::Global;
 use std::io;
 use std::process::ExitCode;
@@ -20,30 +18,22 @@ use xfs_disk::{Disk, FileDisk};
 use xfs_guard::Bench;
 use xfs_mech::{Mechanism, SimWatch};
 use xfs_server::{Doors, OpenGate};
-use xfs_simulated::{
-    LIMITS, Secrets, card_news, core_resumed, core_under, empty, key_news, mechanism, units,
-};
-use xfs_sockets::{Origins, Ports, TcpDoors};
+use xfs_simulated::{LIMITS, Secrets, core_under, empty, mechanism, units};
+use xfs_sockets::{OpenFault, Origins, PORTS, TcpDoors};
+use xfs_start::{Folder, StartFault, server_bench};
 use xfs_words::{Command, spelled};
-
-const PORTS: Ports = Ports {
-    publisher: 5846,
-    card: 5847,
-    keys: 5848,
-    cash: 5849,
-};
 
 fn main(rt: HostRuntime) -> ExitCode {
     let status = match started(&rt, &rt) {
         Ok(status) => status,
-        Err(fault) => fault.told(&rt),
+        Err(fault) => tell_fault(&rt, fault),
     };
     ExitCode::from(status)
 }
 
 // Threads and waiting are had from `rt`; files, sockets and streams from `host`.
 fn started<R: Threads + Wait + Sync>(rt: &R, host: &HostRuntime) -> Result<u8, StartFault> {
-    let secrets = read_secrets(host)?;
+    let secrets = Folder::new(host, ".").secrets()?;
     let words = read_words(host)?;
     match spelled(&words) {
         Some(Command::Serve(_)) => serve(rt, host, &words, secrets),
@@ -60,15 +50,24 @@ fn serve<R: Threads + Wait + Sync>(
 ) -> Result<u8, StartFault> {
     let alloc = host.alloc();
     let clock = StdClock::new(host);
-    let mut doors = TcpDoors::open(host, alloc, &clock, PORTS, Origins::none())?;
-    let disk = FileDisk::new(open_journal(host)?);
-    tell_listening(host, &doors.ports(), &secrets);
-    let bench = Bench {
-        core: core_resumed(alloc, disk, secrets)?,
-        cards: card_news(alloc)?,
-        keys: key_news(alloc)?,
+    let folder = Folder::new(host, ".");
+    let listed = folder.origins()?;
+    let mut doors = match TcpDoors::open(host, alloc, &clock, PORTS, Origins::of(&listed)) {
+        Ok(doors) => doors,
+        Err(fault) => return Err(start_fault(fault)),
     };
+    let disk = FileDisk::new(folder.journal()?);
+    tell_listening(host, &doors.ports(), &secrets);
+    tell_open_files(host, &folder)?;
+    let bench = server_bench(alloc, disk, secrets)?;
     Ok(run_over(rt, host, words, bench, &clock, &mut doors))
+}
+
+fn start_fault(fault: OpenFault) -> StartFault {
+    match fault {
+        OpenFault::Failed { port, why } => StartFault::CannotListen { port, why },
+        OpenFault::Memory => StartFault::Memory,
+    }
 }
 
 // Every other command: its doors only dial, and its disk is in memory.
@@ -80,7 +79,10 @@ fn other<R: Threads + Wait + Sync>(
 ) -> Result<u8, StartFault> {
     let alloc = host.alloc();
     let clock = StdClock::new(host);
-    let mut doors = TcpDoors::outward(host, alloc, &clock, PORTS)?;
+    let mut doors = match TcpDoors::outward(host, alloc, &clock, PORTS) {
+        Ok(doors) => doors,
+        Err(fault) => return Err(start_fault(fault)),
+    };
     let units = units().ok_or(StartFault::Memory)?;
     let mech = mechanism(alloc, &units, Vec::new(alloc)).ok_or(StartFault::Memory)?;
     let bench = Bench {
@@ -88,7 +90,11 @@ fn other<R: Threads + Wait + Sync>(
         cards: silent(alloc),
         keys: silent(alloc),
     };
-    Ok(run_over(rt, host, words, bench, &clock, &mut doors))
+    let status = run_over(rt, host, words, bench, &clock, &mut doors);
+    if let Some((port, why)) = doors.unreached() {
+        tell_unreached(host, port, why);
+    }
+    Ok(status)
 }
 
 // Runs the program from standard input to standard output; the status.

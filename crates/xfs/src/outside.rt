@@ -1,17 +1,18 @@
-//! What main takes from outside, the words and the files of the working folder, and what it tells there.
+//! What main takes from outside but files, the words, and what it tells on standard error. A line that can't be written
+//! changes nothing.
 
-use crate::start_fault::StartFault;
-use std::fs::File;
 use std::io::ErrorKind;
-use std::{env, fs, io};
-use xfs_simulated::{OWN, Secrets, secret_in};
+use std::{env, io};
+use xfs_cli::status::NO_MEMORY;
+use xfs_simulated::{OWN, Secrets};
 use xfs_sockets::Ports;
+use xfs_start::{Folder, JOURNAL_FILE, KEY_FILE, SEED_FILE, StartFault};
 
-const KEY_FILE: &str = "xfs.key";
+// The status of main where a port or a file can't be opened.
+const CANNOT_OPEN: u8 = 1;
 
-const SEED_FILE: &str = "xfs.seed";
-
-const JOURNAL_FILE: &str = "xfs.journal";
+// The status of main where a key or seed file can't be used.
+const BAD_SECRET: u8 = 2;
 
 /// The words of the command line behind the program's name. A word that is no text is of no table: no words have the
 /// same status.
@@ -31,39 +32,30 @@ fn listed(rt: &HostRuntime) -> io::Result<Vec<String>> {
     Ok(words)
 }
 
-/// The key and the seed: those of their files, and of a file that isn't there the machine's own.
-pub fn read_secrets(rt: &HostRuntime) -> Result<Secrets, StartFault> {
-    Ok(Secrets {
-        key: secret(rt, KEY_FILE, OWN.key)?,
-        seed: secret(rt, SEED_FILE, OWN.seed)?,
-    })
-}
-
-fn secret(rt: &HostRuntime, path: &str, own: [u8; 32]) -> Result<[u8; 32], StartFault> {
-    match fs::read(rt, path) {
-        Ok(text) => secret_in(&text).ok_or(StartFault::BadSecret),
-        Err(error) if error.kind() == ErrorKind::NotFound => Ok(own),
-        Err(error) if error.kind() == ErrorKind::OutOfMemory => Err(StartFault::Memory),
-        Err(_) => Err(StartFault::BadSecret),
+/// Tells why no command was run; the status.
+pub fn tell_fault(rt: &HostRuntime, fault: StartFault) -> u8 {
+    match fault {
+        StartFault::BadSecret { file } => {
+            let _written = eprintln!(rt; "xfs: bad key file {file}: not 64 hexadecimal digits");
+            BAD_SECRET
+        }
+        StartFault::UnreadSecret { file, why } => {
+            let _written = eprintln!(rt; "xfs: bad key file {file}: {why}");
+            BAD_SECRET
+        }
+        StartFault::CannotOpen { file, why } => {
+            let _written = eprintln!(rt; "xfs: cannot open {file}: {why}");
+            CANNOT_OPEN
+        }
+        StartFault::CannotListen { port, why } => {
+            let _written = eprintln!(rt; "xfs: cannot open port {port}: {why}");
+            CANNOT_OPEN
+        }
+        StartFault::Memory => NO_MEMORY,
     }
 }
 
-/// The file of the journal, made where there is none, and never cut.
-pub fn open_journal(rt: &HostRuntime) -> Result<File, StartFault> {
-    let opened = File::options()
-        .read(true)
-        .write(true)
-        .create(true)
-        .open(rt, JOURNAL_FILE);
-    match opened {
-        Ok(file) => Ok(file),
-        Err(error) if error.kind() == ErrorKind::OutOfMemory => Err(StartFault::Memory),
-        Err(_) => Err(StartFault::CannotOpen),
-    }
-}
-
-/// Says on standard error that `serve` listens: at which addresses, with which journal, and under whose key. A line that
-/// can't be written changes nothing.
+/// Tells that `serve` listens: at which addresses, with which journal, and under whose key.
 pub fn tell_listening(rt: &HostRuntime, ports: &Ports, secrets: &Secrets) {
     let Ports {
         publisher,
@@ -79,4 +71,22 @@ pub fn tell_listening(rt: &HostRuntime, ports: &Ports, secrets: &Secrets) {
     let _written = eprintln!(rt;
         "xfs: listening on 127.0.0.1:{publisher} (publisher), 127.0.0.1:{card} (card reader), 127.0.0.1:{keys} (keyboard) and 127.0.0.1:{cash} (cash dispenser); journal {JOURNAL_FILE}; key {whose}"
     );
+}
+
+/// Tells which of the key, the seed and the journal others than their owner may read or write.
+pub fn tell_open_files(
+    rt: &HostRuntime,
+    folder: &Folder<'_, HostRuntime>,
+) -> Result<(), StartFault> {
+    for file in [KEY_FILE, SEED_FILE, JOURNAL_FILE] {
+        if folder.is_open_to_others(file)? {
+            let _written = eprintln!(rt; "xfs: others may read or write {file}: chmod 600 {file}");
+        }
+    }
+    Ok(())
+}
+
+/// Tells that nobody was reached.
+pub fn tell_unreached(rt: &HostRuntime, port: u16, why: ErrorKind) {
+    let _written = eprintln!(rt; "xfs: nobody listens on 127.0.0.1:{port}: {why}");
 }

@@ -8,6 +8,10 @@ mod bench;
 #[cfg(test)]
 mod clients;
 #[cfg(test)]
+mod folder_calls;
+#[cfg(test)]
+mod silence_calls;
+#[cfg(test)]
 mod socket_calls;
 #[cfg(test)]
 mod steps;
