@@ -8,8 +8,8 @@ use xfs_disk::MemDisk;
 use xfs_journal::{Journal, Rec, Survey};
 use xfs_mech::{KeyName, Mechanism, News, Touch, Watch};
 use xfs_simulated::{
-    LIFE, LIMITS, OWN, card_news, core_on, core_resumed, empty, key_news, mechanism, places,
-    secret_in, units,
+    LIMITS, OWN, card_news, core_on, core_resumed, empty, key_news, mechanism, places, secret_in,
+    units,
 };
 
 #[test]
@@ -19,8 +19,9 @@ fn the_machine_is_made(rt: HostRuntime) -> Result<(), Fail> {
     assert_eq!(rt; units.len(), 4);
     let mech = mechanism(alloc, &units, Vec::new(alloc)).ok_or("the mechanism")?;
     let core = core_on(mech, units, empty(alloc), LIMITS);
-    assert_eq!(rt; core.limits, LIMITS);
-    assert_eq!(rt; places().units.notes(), 400);
+    assert_eq!(rt; core.limits.records, 1_000_000);
+    assert_eq!(rt; core.limits.bytes, 268_435_456);
+    assert_eq!(rt; places(), full());
     Ok(())
 }
 
@@ -105,9 +106,22 @@ fn boot(alloc: Global, count: u32) -> Result<Rec, Fail>
 }
 
 fn places_of_none() -> Places {
+    let none = Counts([0; 8]);
     Places {
-        units: Counts([0; 8]),
-        ..places()
+        units: none,
+        transport: none,
+        outlet: none,
+        taken: none,
+        retracted: none,
+        rejected: none,
+    }
+}
+
+// 100 notes in each of the four units.
+fn full() -> Places {
+    Places {
+        units: Counts([100, 100, 100, 100, 0, 0, 0, 0]),
+        ..places_of_none()
     }
 }
 
@@ -148,7 +162,7 @@ fn the_machine_goes_on_where_its_journal_leaves_it(rt: HostRuntime) -> Result<()
     };
     assert_eq!(rt; core.mech.survey(), left);
     assert_eq!(rt; core.mech.motions().len(), 4);
-    assert_eq!(rt; core.life, LIFE);
+    assert_eq!(rt; core.life, 600_000);
     Ok(())
 }
 
@@ -158,7 +172,7 @@ fn places_that_no_machine_has_are_not_taken(rt: HostRuntime) -> Result<(), Fail>
     for (count, moved) in [(10_001, 0), (1, 2), (4_000_000_001, 4_000_000_001)] {
         let journal = paid(alloc, count, moved)?;
         let core = core_resumed(alloc, journal.end(), OWN)?;
-        assert_eq!(rt; core.mech.survey(), places(), "{count}");
+        assert_eq!(rt; core.mech.survey(), full(), "{count}");
     }
     Ok(())
 }
@@ -169,7 +183,7 @@ fn a_disk_without_a_journal_has_a_full_machine(rt: HostRuntime) -> Result<(), Fa
     for bytes in [b"".as_slice(), &[0xff; 9], &[0xff; 10]] {
         let disk = MemDisk::new(alloc, Vec::from_slice(alloc, bytes)?);
         let core = core_resumed(alloc, disk, OWN)?;
-        assert_eq!(rt; core.mech.survey(), places());
+        assert_eq!(rt; core.mech.survey(), full());
         assert!(rt; core.mech.motions().is_empty());
         assert!(rt; bytes.len() < 10 || core.disk.bytes() == bytes);
     }

@@ -1,10 +1,12 @@
 -- Where the notes lie after a journal's records.
-use Rattle.std.specs.Prelude.{ℕ, List, [], ◌∷◌, ◌++◌, fold}
+use Rattle.std.specs.Prelude.{◌≡◌, ◌+◌, ◌≤◌, ◌⊎◌, ℕ, List, [], ◌∷◌, ◌++◌, fold, slice_get, take, Some, ⊤}
+use Rattle.xfs_base.specs.Counts.{LiesIn, at}
 use Rattle.xfs_base.specs.declared.counts.Places.{Places}
 use Rattle.xfs_base.specs.declared.money.NoteKind.{NoteKind}
-use Rattle.xfs_mech.specs.Mechanism.{PlacesFit}
+use Rattle.xfs_mech.specs.Mechanism.{CanLoad, PlacesFit, source_of}
 use Rattle.xfs_mech.specs.Motions.{PlacesOf}
 use Rattle.xfs_mech.specs.declared.motion.Motion.{Motion}
+use Rattle.xfs_mech.specs.declared.motion.Motion.TheVariants.{Moved, Taken, Loaded}
 use Rattle.xfs_journal.specs.declared.record.Rec.{Rec}
 use Rattle.xfs_journal.specs.declared.record.Rec.TheVariants.{Boot}
 use Rattle.xfs_guard.specs.Replayed.{replayed}
@@ -31,3 +33,30 @@ LeadsSince units records places = ⊥
 -- the notes lie where the records from the last Boot on leave them
 abbrev pub IsLeft : List NoteKind → List Rec → Places → Type 0
 IsLeft units records places = LeadsSince units (since_boot records) places
+
+-- the notes of the motion lie where it takes them from, or the places have room for those that it loads
+abbrev pub CanBeMade : List NoteKind → Places → Motion → Type 0
+CanBeMade units p (Moved number kind moved diverted) = (u : ℕ) → at moved u + at diverted u ≤ at (source_of kind p) u
+CanBeMade units p (Taken counts) = LiesIn counts p.outlet
+CanBeMade units p (Loaded unit count) = CanLoad units p unit count
+
+-- a motion that can't be made where those before it lead
+pub record Stops (units : List NoteKind) (start : Places) (motions : List Motion) : Type 0 where
+  pub before : ℕ
+  pub motion : Motion
+  pub there : slice_get motions before ≡ Some motion
+  pub places : Places
+  pub leads : Leads units start (take before motions) places
+  pub stuck : ¬ CanBeMade units places motion
+
+-- the first places are none that a mechanism may have, or some motion can't be made
+abbrev pub LeadsNowhere : List NoteKind → Places → List Motion → Type 0
+LeadsNowhere units start motions = ¬ PlacesFit units start ⊎ Stops units start motions
+
+abbrev pub LeadsNowhereSince : List NoteKind → List Rec → Type 0
+LeadsNowhereSince units (Boot booted ∷ since) = LeadsNowhere units booted (replayed (Boot booted ∷ since))
+LeadsNowhereSince units records = ⊤
+
+-- there is no Boot, or the records from the last one on lead nowhere
+abbrev pub IsLost : List NoteKind → List Rec → Type 0
+IsLost units records = LeadsNowhereSince units (since_boot records)

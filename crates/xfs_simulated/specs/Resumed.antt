@@ -7,13 +7,13 @@ use Rattle.xfs_mech.specs.declared.motion.Motion.{Motion}
 use Rattle.xfs_mech.specs.declared.sim.SimMech.{SimMech}
 use Rattle.xfs_journal.specs.declared.record.Rec.{Rec}
 use Rattle.xfs_guard.specs.Replayed.{replayed}
-use Rattle.xfs_simulated.specs.Leaving.{IsLeft}
+use Rattle.xfs_simulated.specs.Leaving.{IsLeft, IsLost}
 use Rattle.xfs_simulated.specs.Simulated.{filled, four_units}
 
--- the motions are those that the records stand for, and the notes lie where these leave them, or 100 in each unit
+-- the motions are those that the records stand for, and the notes lie where these leave them; where they leave them nowhere, 100 lie in each unit
 pub record GoesOn (units : List NoteKind) (records : List Rec) (motions : List Motion) (places : Places) : Type 0 where
   pub replayed_are : motions ≡ replayed records
-  pub notes : IsLeft units records places ⊎ (places ≡ filled)
+  pub notes : IsLeft units records places ⊎ (IsLost units records × (places ≡ filled))
 
 abbrev pub IsResumed : List Rec → SimMech → Type 0
 IsResumed records mech = GoesOn four_units records (motions_of mech) (places_of mech)

@@ -1,12 +1,12 @@
 //! Where the notes lie after a journal's records.
 
-ghost use Rattle.std.specs.Prelude.{◌≡◌, ℕ, List, ◌+◌, ◌≤◌, ◌↔◌, ◌∷◌, [], IfOk, IfSome, IsTrue};
+ghost use Rattle.std.specs.Prelude.{◌≡◌, ℕ, List, ◌+◌, ◌≤◌, ◌↔◌, ◌∷◌, [], IfNone, IfOk, IfSome, IsTrue};
 ghost use Rattle.xfs_base.specs.Counts.{all_notes, at};
 ghost use Rattle.xfs_base.specs.declared.money.NoteKind.{NoteKind};
 ghost use Rattle.xfs_mech.specs.Mechanism.{PlacesFit, source_of};
 ghost use Rattle.xfs_mech.specs.Motions.{PlacesOf};
 ghost use Rattle.xfs_mech.specs.declared.motion.Motion.TheVariants.{Moved};
-ghost use Rattle.xfs_simulated.specs.Leaving.{IsLeft, Leads, since_boot};
+ghost use Rattle.xfs_simulated.specs.Leaving.{CanBeMade, IsLeft, IsLost, Leads, LeadsNowhere, since_boot};
 
 use std::alloc::Global;
 use xfs_base::{Counts, Kind, Memory, Places, UnitTable};
@@ -22,7 +22,8 @@ pub fn places_left(
     units: &UnitTable,
     records: &[Rec],
 ) -> Result<Option<Places>, Memory>
-    ensures { IfOk result (λ left. IfSome left (λ places. IsLeft units.now records.now places)) }
+    ensures left { IfOk result (λ left. IfSome left (λ places. IsLeft units.now records.now places)) }
+    ensures none { IfOk result (λ left. IfNone left (IsLost units.now records.now)) }
 {
     let since = since_boot(records);
     let Some(Rec::Boot { places }) = since.first() else {
@@ -47,7 +48,8 @@ fn since_boot(records: &[Rec]) -> &[Rec]
 
 // The places after these motions, where each of them leads to places that a mechanism may have.
 fn after_all(units: &UnitTable, start: &Places, motions: &[Motion]) -> Option<Places>
-    ensures { IfSome result (λ places. Leads units.now start.now motions.now places) }
+    ensures leads { IfSome result (λ places. Leads units.now start.now motions.now places) }
+    ensures none { IfNone result (LeadsNowhere units.now start.now motions.now) }
 {
     if !places_fit(units, start) {
         return None;
@@ -61,7 +63,8 @@ fn after_all(units: &UnitTable, start: &Places, motions: &[Motion]) -> Option<Pl
 
 fn after(units: &UnitTable, places: &Places, motion: &Motion) -> Option<Places>
     requires { PlacesFit units.now places.now }
-    ensures { IfSome result (λ new. Leads units.now places.now (motion.now ∷ []) new) }
+    ensures leads { IfSome result (λ new. Leads units.now places.now (motion.now ∷ []) new) }
+    ensures none { IfNone result (¬ CanBeMade units.now places.now motion.now) }
 {
     prove!(units.len() <= 8);
     match motion {
@@ -85,6 +88,7 @@ fn after_moving(places: &Places, kind: Kind, moved: &Counts, diverted: &Counts) 
     requires { (u : ℕ) → all_notes places.now u ≤ 4000000000 }
     ensures moved { IfSome result (λ new. (n : ℕ) → PlacesOf places.now (Moved n kind moved.now diverted.now ∷ []) new) }
     ensures fit { IfSome result (λ new. (units : List NoteKind) → PlacesFit units places.now → PlacesFit units new) }
+    ensures none { IfNone result (¬ ((u : ℕ) → at moved.now u + at diverted.now u ≤ at (source_of kind places.now) u)) }
 {
     if both_lie_in(moved, diverted, source(places, kind)) {
         Some(after_order(places, kind, moved, diverted))

@@ -5,6 +5,7 @@ ghost use Rattle.xfs_disk.specs.MemDisk.{IsImage as MayBe, bytes_of, steps_of};
 ghost use Rattle.xfs_guard.specs.Recorded.{IsRecorded};
 ghost use Rattle.xfs_journal.specs.Image.{IsImage, StandsFor};
 ghost use Rattle.xfs_journal.specs.declared.record.Rec.{Rec};
+ghost use Rattle.xfs_mech.specs.SimWatch.{touches_of};
 ghost use Rattle.xfs_mech.specs.Sim.{units_of, places_of, motions_of, faults_of, failures_of};
 ghost use Rattle.xfs_simulated.specs.Simulated.{four_units, filled};
 
@@ -99,7 +100,7 @@ pub fn core_on<M: Mechanism>(
     requires settled { steps_of disk ≡ [] }
     requires none { (records : List Rec) → ¬ IsImage (bytes_of disk) records }
     ensures handed { (result.mech ≡ mech) × (result.disk ≡ disk) × (result.units ≡ units) × (result.limits ≡ limits) }
-    ensures secrets { (result.key ≡ replicate 32 0x0b) × (result.seed ≡ replicate 32 0) }
+    ensures secrets { (result.key ≡ replicate 32 0x0b) × (result.seed ≡ replicate 32 0) × (result.life ≡ 0) }
     ensures units { M.units result.mech ≡ result.units }
     ensures starts { (image : List ℕ) → MayBe result.disk image → (records : List Rec) → StandsFor image records → IsRecorded result.key result.units records (M.motions result.mech) }
     ensures at_rest { Only (bytes_of result.disk) (MayBe result.disk) }
@@ -142,7 +143,8 @@ pub fn quiet_bench<M: Mechanism, D: Disk>(
     alloc: Global,
     core: Core<M, D>,
 ) -> Bench<M, D, SimWatch, SimWatch>
-    ensures { result.core ≡ core }
+    ensures core { result.core ≡ core }
+    ensures quiet { (touches_of result.cards ≡ []) × (touches_of result.keys ≡ []) }
 {
     Bench {
         core,

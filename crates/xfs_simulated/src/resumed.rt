@@ -30,7 +30,7 @@ pub fn core_resumed<D: Disk>(
     disk: D,
     secrets: Secrets,
 ) -> Result<Core<SimMech, D>, Memory>
-    ensures handed { IfOk result (λ core. (core.key ≡ secrets.key) × (core.seed ≡ secrets.seed) × (core.units ≡ four_units) × (core.limits ≡ LIMITS) × (core.life ≡ LIFE)) }
+    ensures handed { IfOk result (λ core. (core.key ≡ secrets.key) × (core.seed ≡ secrets.seed) × (core.units ≡ four_units) × (core.limits ≡ record { records = 1000000; bytes = 268435456 }) × (core.life ≡ 600000)) }
     ensures units { IfOk result (λ core. units_of core.mech ≡ core.units) }
     ensures resumed { IfOk result (λ core. IfTold (D.held disk) (λ bytes. (records : List Rec) → StandsFor bytes records → Rose (D.faults disk) (D.faults core.disk) ⊎ IsResumed records core.mech)) }
 {
