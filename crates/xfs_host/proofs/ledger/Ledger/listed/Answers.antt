@@ -1,4 +1,4 @@
-use Rattle.std.proofs.Common.{◌≡◌, ℕ, List, Vec, Global, Some, Option, map, subst}
+use Rattle.std.proofs.Common.{◌≡◌, List, map, subst}
 use Rattle.std.specs.Prelude.{IfOk}
 use Rattle.xfs_host.specs.Book.{Call, book_of, listed}
 use Rattle.xfs_host.specs.Kept.{call_of}
