@@ -12,6 +12,7 @@ pub mod FilledLaws
 pub mod GuardStateLaws
 pub mod KeptLaws
 pub mod LastLaws
+pub mod LaterLaws
 pub mod LinedLaws
 pub mod LoadLaws
 pub mod MailLaws

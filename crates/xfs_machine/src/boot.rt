@@ -35,6 +35,7 @@ impl<M: Mechanism, D: Disk> Machine<M, D> {
         requires recorded { LeavesRecorded D.Disk bench.disk bench.key bench.units (M.motions bench.mech) }
         ensures bare { IfOk result (λ m. m.state ≡ bare m.state.seen bench.life (length m.state.seen.guard.records)) }
         ensures ok { IfOk result (λ m. Begins (at_entry M.Mechanism D.Disk bench) m.state.seen.guard) }
+        ensures tied { IfOk result (λ m. m.state.seen.disk_faults ≡ D.faults m.disk) }
         ensures fits { IfOk result (λ m. exceeds bench.limits m.state.seen.guard.records ≡ false) }
         ensures continues { IfOk result (λ m. ContinuesFound (M.places bench.mech) m.state.seen.guard) }
         ensures mech { IfErr result (λ f. f.mech ≡ bench.mech) }

@@ -92,6 +92,7 @@ impl<M: Mechanism, D: Disk> Machine<M, D> {
     /// back. Its one refusal is `Disk`: the disk failed at the settling. It takes no memory.
     pub fn finish(self) -> (Result<(), Deny>, M, D)
         ensures step { Finishes M.Mechanism D.Disk self.state result.0 result.1 result.2 }
+        ensures tied { self.state.seen.disk_faults ≡ D.faults self.disk }
         ensures err { IfErr result.0 (λ e. e ≡ Deny.Disk) }
         ensures through { IsFinishedThrough M.Mechanism D.Disk (guard_of self) result.1 result.2 }
         ensures recorded { LeavesRecorded D.Disk result.2 self.state.seen.guard.key self.state.seen.guard.units (M.motions result.1) }
