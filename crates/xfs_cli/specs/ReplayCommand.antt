@@ -70,7 +70,7 @@ pub record Progresses {D : Type 0} (d : Disks D) (old new : MachineView D) : Typ
 pub progress-same : {D : Type 0} (d : Disks D) (m : MachineView D) → ((disk : D) (bytes : List ℕ) → d.images_since disk (d.moment disk) bytes → d.images disk bytes) → Progresses d m m
 progress-same d m only_now = record { proceeds = Proceeds-same d (guard_of m) only_now; later = omega arith }
 
-pub progress-then : {D : Type 0} (d : Disks D) (a b c : MachineView D) → ((disk : D) (bytes : List ℕ) → d.images disk bytes → d.images_since disk (d.moment disk) bytes) → Progresses d a b → Progresses d b c → Progresses d a c
+pub progress-then : {D : Type 0} (d : Disks D) (a b c : MachineView D) → ((disk : D) (t : ℕ) (bytes : List ℕ) → t ≤ d.moment disk → d.images disk bytes → d.images_since disk t bytes) → Progresses d a b → Progresses d b c → Progresses d a c
 progress-then d a b c counts_now first then = record {
   proceeds = Proceeds-trans d _ _ _ counts_now first.proceeds then.proceeds;
   later = let low = first.later in let high = then.later in omega (arith, low, high);
