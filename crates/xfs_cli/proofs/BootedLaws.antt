@@ -1,5 +1,5 @@
 -- What was written from the boot on, once the mechanism and the disk come back.
-use Rattle.std.proofs.Common.{◌≡◌, ◌≤◌, ℕ, false, ◌∷◌, [], ◌++◌, List, None, Some, inl, inr, refl, sym, ◌∙◌, ap, arith}
+use Rattle.std.proofs.Common.{◌≡◌, ◌≤◌, ℕ, false, ◌∷◌, [], ◌++◌, List, None, Some, inl, inr, refl, sym, ◌∙◌, ap, subst, arith}
 use Rattle.std.specs.Prelude.{is_some}
 use Rattle.std.specs.declared.option.Option.{Option}
 use Rattle.xfs_base.specs.Causes.{IfTold, Rose}
@@ -32,18 +32,27 @@ use Rattle.xfs_cli.specs.GuardStates.{GuardState, IsStill, guard_state}
 use Rattle.xfs_script.specs.Lines.{behind, first_line}
 
 -- the last state is that of a guard which is over
-pub ends-at : {M D : Type 0} (m : Mechanisms M) (d : Disks D) (g : GuardView D) (last : Option (List ℕ)) (result : Return M D)
-    → m.motions result.mech ≡ g.state.motions → m.places result.mech ≡ g.state.places → m.faults result.mech ≡ g.state.faults → result.disk ≡ g.disk
-    → IfTold (d.held result.disk) (λ _. (bytes : List ℕ) → d.images result.disk bytes → HasPossible g.state.records g.state.in_doubt bytes)
-    → (s : GuardState) → s ≡ guard_state d.faults g last → IsEnd m d result s
-ends-at m d g last result motions places faults disk stored s is =
-    rw is (record { motions = sym motions; places = sym places; mech_faults = sym faults; disk_faults = ap d.faults (sym disk); stored = stored })
+pub ends-at : {M D : Type 0} (m : Mechanisms M) (d : Disks D) (v : View) (result : Return M D)
+    → m.motions result.mech ≡ v.motions → m.places result.mech ≡ v.places → m.faults result.mech ≡ v.faults
+    → IfTold (d.held result.disk) (λ _. (bytes : List ℕ) → d.images result.disk bytes → HasPossible v.records v.in_doubt bytes)
+    → (s : GuardState) → s.guard ≡ v → s.disk_faults ≡ d.faults result.disk → IsEnd m d result s
+ends-at m d v result motions places faults stored s is disk = record {
+  motions = ap (λ (w : View). w.motions) is ∙ sym motions;
+  places = ap (λ (w : View). w.places) is ∙ sym places;
+  mech_faults = ap (λ (w : View). w.faults) is ∙ sym faults;
+  disk_faults = disk;
+  stored = subst (λ (w : View). IfTold (d.held result.disk) (λ _. (bytes : List ℕ) → d.images result.disk bytes → HasPossible w.records w.in_doubt bytes)) (sym is) stored;
+}
 
--- such a guard leaves the mechanism as it stood in an earlier state, where it is still so
-pub still-at : {M D : Type 0} (m : Mechanisms M) (d : Disks D) (g : GuardView D) (last : Option (List ℕ)) (result : Return M D)
-    → m.motions result.mech ≡ g.state.motions → m.places result.mech ≡ g.state.places → m.faults result.mech ≡ g.state.faults → result.disk ≡ g.disk
-    → (end s : GuardState) → end ≡ guard_state d.faults g last → IsStill end.guard.motions end.guard.places end.guard.faults end.disk_faults s → IsStillAt m d result s
-still-at m d g last result motions places faults disk end s is still = rw (motions, places, faults, disk) (rw is at still)
+-- such a state leaves the mechanism as it stood in an earlier one, where it is still so
+pub still-at : {M D : Type 0} (m : Mechanisms M) (d : Disks D) (result : Return M D) (end s : GuardState) → IsEnd m d result end
+    → IsStill end.guard.motions end.guard.places end.guard.faults end.disk_faults s → IsStillAt m d result s
+still-at m d result end s ends still = record {
+  motions_are = still.motions_are ∙ ends.motions;
+  places_are = still.places_are ∙ ends.places;
+  mech_is = still.mech_is ∙ ends.mech_faults;
+  later = let low = still.later in let same = ends.disk_faults in omega (arith, low, same);
+}
 
 -- a count that rose in a part rose in the whole
 pub rose-later : (a b c : ℕ) → a ≤ b → Rose b c → Rose a c

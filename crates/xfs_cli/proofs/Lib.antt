@@ -13,6 +13,7 @@ pub mod GuardStateLaws
 pub mod HostTexts
 pub mod KeptLaws
 pub mod LastLaws
+pub mod LaterLaws
 pub mod LineEndLaws
 pub mod LinedLaws
 pub mod LoadLaws

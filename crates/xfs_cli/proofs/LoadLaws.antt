@@ -23,11 +23,11 @@ use Rattle.xfs_load.specs.Summaries.{IsSummary, summary_line}
 use Rattle.xfs_load.specs.declared.summary.Summary.{Summary}
 use Rattle.xfs_script.specs.Answered.{lines_text}
 use Rattle.xfs_cli.specs.LoadEnds.{EndsLoad, Output, TellsOrNot}
-use Rattle.xfs_cli.specs.LoadRuns.{RunsLoad, on_disk, output_of, guard_state_of}
+use Rattle.xfs_cli.specs.LoadRuns.{RunsLoad, output_of, guard_state_of}
 use Rattle.xfs_cli.specs.Statuses.{IsFinished, IsStatus}
 use Rattle.xfs_cli.specs.Streams.{Streams}
 use Rattle.xfs_cli.specs.Returns.{Return}
-use Rattle.xfs_cli.proofs.BootedLaws.{ends-at, ends-failed, starts-run, told-any}
+use Rattle.xfs_cli.proofs.BootedLaws.{ends-at, ends-failed, told-any}
 use Rattle.xfs_cli.proofs.BootsOnceLaws.{boots-refused, boots-served}
 use Rattle.xfs_cli.proofs.EndingLaws.{boot-least}
 use Rattle.xfs_cli.proofs.NumberLaws.{newer-run, newer-same}
@@ -72,16 +72,19 @@ ends-status key rounds s new status o (inr r) = inr (inr r.silent.status_is)
 
 -- where it was not refused
 pub loads-served : {M D : Type 0} (m : Mechanisms M) (d : Disks D) → ((disk : D) (all : List ℕ) → d.held disk ≡ Some all → d.images disk all) → (core : Core M D) (rounds : ℕ) (result : Return M D) (io : Streams) (start end : MachineView D)
-    → HasBooted m d core (guard_of start) → start.state ≡ bare start.state.seen core.life (length start.state.seen.guard.records) → Proceeds d (guard_of start) (guard_of end)
-    → EndsLoad core.key rounds start.state end.state result.status (output_of io) → HasEnded m d (guard_of end) result → io.left ≡ io.input
+    → HasBooted m d core (guard_of start) → start.state.seen.disk_faults ≡ d.faults start.disk → start.state ≡ bare start.state.seen core.life (length start.state.seen.guard.records)
+    → Proceeds d (guard_of start) (guard_of end) → end.state.seen.disk_faults ≡ d.faults result.disk → EndsLoad core.key rounds start.state end.state result.status (output_of io) → HasEnded m d (guard_of end) result → io.left ≡ io.input
     → Starts (d.held core.disk) (d.images core.disk) core.key core.units (m.motions core.mech) → RunsLoad m d core rounds result io
-loads-served m d as_read core rounds result io start end b bare_is proceeds loads e unread starts = record {
+loads-served m d as_read core rounds result io start end b tied bare_is proceeds counted loads e unread starts = record {
   loads = inr (record {
-    start = on_disk d.faults start;
-    begins = record { boots = starts-run d.faults (guard_of start) (at_entry m d core) b.records b.stands b.guard_is b.later; machine = bare_is };
+    start = start.state;
+    begins = record {
+      boots = record { records = b.records; stands = b.stands; guard_is = b.guard_is; later = let low = b.later in omega (arith, low, tied); none = refl };
+      machine = bare_is;
+    };
     writes = record {
-      end = on_disk d.faults end;
-      ends = ends-at m d (guard_of end) None result e.motions e.places e.faults e.disk e.stored (guard_state_of (on_disk d.faults end)) refl;
+      end = end.state;
+      ends = ends-at m d end.state.seen.guard result e.motions e.places e.faults e.stored (guard_state_of end.state) refl counted;
       loads = loads;
     };
   });

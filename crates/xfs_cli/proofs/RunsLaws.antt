@@ -21,8 +21,8 @@ use Rattle.xfs_cli.specs.BootLines.{IsOfBoot}
 use Rattle.xfs_cli.specs.Boots.{IsNoJournal, WritesBoot, boot_status}
 use Rattle.xfs_guard.specs.Entries.{at_entry, opened}
 use Rattle.xfs_cli.specs.Restarts.{IsFull}
-use Rattle.xfs_cli.specs.Runs.{IsFullAtEnd, Runs}
-use Rattle.xfs_cli.specs.GuardStates.{GuardState, guard_state}
+use Rattle.xfs_cli.specs.Runs.{IsEnd, IsFullAtEnd, Runs}
+use Rattle.xfs_cli.specs.GuardStates.{GuardState}
 use Rattle.xfs_cli.specs.Served.{EndsUnbooted, Serves}
 use Rattle.xfs_cli.specs.Statuses.{IsCaused, IsStatus}
 use Rattle.xfs_cli.specs.Streams.{Streams}
@@ -61,32 +61,24 @@ pub record IsServed {S A : Type 0} (c : Command S BootFault) (Keeps : A → A �
   pub statuses : IsStatus status
   pub causes : IsCaused status io
 
-module _ {M D S A : Type 0} (m : Mechanisms M) (d : Disks D) (c : Command S BootFault) (see : S → GuardState) (IsStartOf : S → Type 0) (Keeps : A → A → Type 0) (state : A → S) (guard : A → GuardView D) (token : A → Option (List ℕ))
+module _ {M D S A : Type 0} (m : Mechanisms M) (d : Disks D) (c : Command S BootFault) (see : S → GuardState) (IsStartOf : S → Type 0) (Keeps : A → A → Type 0) (state : A → S) (guard : A → GuardView D)
     (as_read : (disk : D) (all : List ℕ) → d.held disk ≡ Some all → d.images disk all) (restarts : EndsAtRestarts c see) (empty : c.IsLine [])
-    (seen_is : (a : A) → see (state a) ≡ guard_state d.faults (guard a) (token a)) (keeps : (a b : A) → Keeps a b → Proceeds d (guard a) (guard b)) where
-  disk_is : (a : A) → (see (state a)).disk_faults ≡ d.faults (guard a).disk
-  disk_is a = ap (λ (s : GuardState). s.disk_faults) (seen_is a)
-
-  guard_is : (a : A) → (see (state a)).guard ≡ (guard a).state
-  guard_is a = ap (λ (s : GuardState). s.guard) (seen_is a)
-
+    (guard_is : (a : A) → (see (state a)).guard ≡ (guard a).state) (keeps : (a b : A) → Keeps a b → Proceeds d (guard a) (guard b))
+    (later : (a b : A) → Keeps a b → (see (state a)).disk_faults ≤ (see (state b)).disk_faults) where
   told_is : (a : A) → (see (state a)).guard.disk_told ≡ (guard a).state.disk_told
   told_is a = ap (λ (v : View). v.disk_told) (guard_is a)
-
-  later : (a b : A) → Keeps a b → (see (state a)).disk_faults ≤ (see (state b)).disk_faults
-  later a b k = let p = (keeps a b k).disk_faults in omega (arith, p, disk_is a, disk_is b)
 
   still_told : (a b : A) → Keeps a b → (see (state b)).guard.disk_told ≡ (see (state a)).guard.disk_told
   still_told a b k = told_is b ∙ ((keeps a b k).continues.disk_told ∙ sym (told_is a))
 
   -- where the boot was not refused
-  pub runs-served : (core : Core M D) (result : Return M D) (io : Streams) (start end : A) → HasBooted m d core (guard start) → IsStartOf (state start) → IsServed c Keeps state start end result.status io → HasEnded m d (guard end) result
+  pub runs-served : (core : Core M D) (result : Return M D) (io : Streams) (start end : A) → HasBooted m d core (guard start) → d.faults core.disk ≤ (see (state start)).disk_faults → (see (state end)).disk_faults ≡ d.faults result.disk → IsStartOf (state start) → IsServed c Keeps state start end result.status io → HasEnded m d (guard end) result
       → Starts (d.held core.disk) (d.images core.disk) core.key core.units (m.motions core.mech) → Runs c see IsStartOf m d core result io
-  runs-served core result io start end b begins s e starts = record {
+  runs-served core result io start end b low high begins s e starts = record {
     serves = told-more io.input _ _ (λ text serves. inr (record {
       start = state start;
       begins = begins;
-      writes = record { end = state end; ends = ends-at m d (guard end) (token end) result e.motions e.places e.faults e.disk e.stored (see (state end)) (seen_is end); serves = serves };
+      writes = record { end = state end; ends = ends; serves = serves };
     })) s.serves;
     lines = s.lines;
     not_a_line = s.not_a_line;
@@ -100,18 +92,20 @@ module _ {M D S A : Type 0} (m : Mechanisms M) (d : Disks D) (c : Command S Boot
     newer = newer-run (opened (at_entry m d core) (b.records ++ Boot (m.places core.mech) ∷ [])) (guard end).state b.records _ _ _ refl refl b.stands starts (as_read core.disk) (rw b.guard_is at continues) e.motions;
     finishes = λ none. finishes _ _ empty _ _ io.left _ _ _ _ _ _ (causes-served _ _ _ _ _ _ _ _ _ _ _ s.statuses s.usage failed untold
         (λ twelve. full-line c see restarts IsStartOf _ (state start) (state end) result.status io begins
-        (λ x. still-at m d (guard end) (token end) result e.motions e.places e.faults e.disk (see (state end)) x (seen_is end))
+        (λ x. still-at m d result (see (state end)) x ends)
         s.serves twelve) s.causes.read s.not_a_line s.causes.write s.causes.quota) none.source none.sink none.disk;
   }
     where
+      ends : IsEnd m d result (see (state end))
+      ends = ends-at m d (guard end).state result e.motions e.places e.faults e.stored (see (state end)) (guard_is end) high
+
       continues : Continues (guard start).state (guard end).state
       continues = (keeps start end s.kept).continues
 
       failed : result.status ≡ 6 → Rose (d.faults core.disk) (d.faults result.disk)
       failed six =
           let rose = failed-end c see restarts Keeps state start result.status (state end) later (s.unbooted (inl six)) six in
-          let here : d.faults result.disk ≡ d.faults (guard end).disk = ap d.faults e.disk in
-          omega (arith, b.later, rose, disk_is start, disk_is end, here)
+          omega (arith, low, rose, high)
 
       untold : result.status ≡ 7 → d.held core.disk ≡ None
       untold seven =

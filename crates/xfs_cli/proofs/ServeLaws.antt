@@ -1,5 +1,6 @@
 -- A run of `serve` is as its record says: where its connections were taken, and where the boot was refused.
-use Rattle.std.proofs.Common.{◌≡◌, ◌≢◌, ◌≤◌, ◌∷◌, [], ◌⊎◌, ℕ, List, None, Some, Result, Ok, Err, inl, inr, refl, subst, sym, ap, ◌∙◌, arith, length}
+use Rattle.std.proofs.Common.{◌≡◌, ◌≢◌, ◌≤◌, ◌∷◌, [], ◌⊎◌, ℕ, List, None, Some, Result, Ok, Err, false, is_ok, inl, inr, refl, subst, sym, ap, ◌∙◌, arith, length}
+use Rattle.std.proofs.lemmas.Bool.{false≢true}
 use Rattle.std.specs.declared.option.Option.{Option}
 use Rattle.xfs_base.specs.Causes.{IfTold, Rose, next_count}
 use Rattle.xfs_disk.specs.declared.disk.Disk.{Ghosts as Disks}
@@ -13,12 +14,16 @@ use Rattle.xfs_guard.specs.declared.deny.Deny.{Deny}
 use Rattle.xfs_guard.specs.declared.fail.BootFault.{BootFault}
 use Rattle.xfs_guard.specs.declared.fail.BootFault.TheVariants.{NotJournal, Disk, Full, Memory}
 use Rattle.xfs_guard.specs.declared.machine_core.Core.{Core}
+use Rattle.xfs_guard.specs.declared.open.Open.{Open}
+use Rattle.xfs_guard.specs.declared.open.Open.TheVariants.{No, Written, Acted}
+use Rattle.xfs_dispenser.specs.Seen.{Seen}
 use Rattle.xfs_machine.specs.Answers.{finished}
 use Rattle.xfs_machine.specs.Endings.{Finishes}
 use Rattle.xfs_machine.specs.MachineView.{MachineView, guard_of}
-use Rattle.xfs_model.specs.Events.{finish}
+use Rattle.xfs_model.specs.Events.{finish, unsettled as unsettled_}
+use Rattle.xfs_model.specs.Guards.{Closes, SettlesOn, unwritten}
 use Rattle.xfs_model.specs.State.{State, bare}
-use Rattle.xfs_model.specs.Step.{gone}
+use Rattle.xfs_model.specs.Step.{Step, gone, happens, wanting}
 use Rattle.xfs_model.proofs.Advancing.{advances}
 use Rattle.xfs_server.specs.Counted.{counted}
 use Rattle.xfs_server.specs.Doors.{DoorLog}
@@ -27,14 +32,13 @@ use Rattle.xfs_serving.specs.declared.ending.Ending.{Ending}
 use Rattle.xfs_serving.specs.declared.ending.Ending.TheVariants as taking
 use Rattle.xfs_cli.specs.Boots.{WritesBoot, boot_status}
 use Rattle.xfs_guard.specs.Entries.{at_entry}
-use Rattle.xfs_cli.specs.LoadRuns.{on_disk}
 use Rattle.xfs_cli.specs.Returns.{Return}
-use Rattle.xfs_cli.specs.ServeRuns.{IsUnsettled, RunsServe, StandsForMore, served_line, served_status}
+use Rattle.xfs_cli.specs.ServeRuns.{RunsServe, StandsForMore, served_line, served_status}
 use Rattle.xfs_cli.specs.Served.{WritesLast}
 use Rattle.xfs_cli.specs.Statuses.{IsFinished, IsOneOf}
 use Rattle.xfs_cli.specs.Streams.{Output, unread_io}
 use Rattle.xfs_cli.specs.declared.status.TheConstants.{DISK_FAULT, JOURNAL_FULL, LINK_FAILED, NOT_A_JOURNAL, NO_MEMORY, READ_TO_END}
-use Rattle.xfs_cli.proofs.BootedLaws.{ends-failed, starts-run, told-any}
+use Rattle.xfs_cli.proofs.BootedLaws.{ends-failed, told-any}
 use Rattle.xfs_cli.proofs.BootsOnceLaws.{boots-refused, boots-served}
 use Rattle.xfs_cli.proofs.EndingLaws.{boot-least}
 use Rattle.xfs_cli.proofs.LoadLaws.{refused-finishes}
@@ -49,6 +53,28 @@ stands-more (Some now) images' from records doubt begins stored = λ image left.
     let kept = stored image left in
     record { list = kept.0; stands = inl kept.2; begins = begins-trans from records kept.0 begins (begins-possible records doubt kept.0 kept.1) }
 
+-- ---- an open order isn't settled only where the disk failed
+
+unsettles : (old new : Seen) → SettlesOn old false new → Rose old.disk_faults new.disk_faults
+unsettles old new (unwritten now is later rose) = rose
+
+unclosed : (o : Open) (old new : Seen) → Closes o old false new → Rose old.disk_faults new.disk_faults
+unclosed No old new is = absurd (false≢true is.0)
+unclosed (Written kind counts) old new is =
+    let rose = unsettles is.between new is.settles in
+    let same = is.acts.called.disk_same in
+    omega (arith, rose, same)
+unclosed (Acted kind moved diverted failed) old new is = unsettles old new is
+
+unfinished : (old new : State) → Step old finish unsettled_ new → Rose old.seen.disk_faults new.seen.disk_faults
+unfinished old new (happens there is) = subst (λ (s : State). Rose old.seen.disk_faults s.seen.disk_faults) (sym is.is) (unclosed old.seen.guard.open_order old.seen is.next is.closes)
+unfinished old new (wanting memory wants) = absurd wants
+
+-- the line that says so
+wrote-failed : (settled : Result Unit Deny) (deny : Deny) (o : Output) → settled ≡ Err deny → WritesLast (served_line settled) o.faults o.faults_now o.held o.held_now → WritesBoot Disk (unread_io o)
+wrote-failed (Err e) deny o is line = line
+wrote-failed (Ok done) deny o is line = absurd (false≢true (sym (ap is_ok is)))
+
 -- ---- the statuses of a server that has booted
 
 served-one : (ending : Ending) (settled : Result Unit Deny) (status : ℕ) → status ≡ served_status ending settled
@@ -61,18 +87,19 @@ served-one taking.Memory (Ok done) status is = inr (inr (inr is))
 -- where the boot was not refused
 pub serves-booted : {M D : Type 0} (m : Mechanisms M) (d : Disks D) (core : Core M D) (connections : ℕ) (result : Return M D) (before now : DoorLog) (o : Output) (start : MachineView D) (last : State) (ending : Ending) (settled : Result Unit Deny)
     → HasBooted m d core (guard_of start) → start.state ≡ bare start.state.seen core.life (length start.state.seen.guard.records)
-    → Takes connections ending before now → Continues start.state.seen.guard last.seen.guard
+    → start.state.seen.disk_faults ≡ d.faults start.disk → Takes connections ending before now → Continues start.state.seen.guard last.seen.guard → start.state.seen.disk_faults ≤ last.seen.disk_faults
     → Finishes m d last settled result.mech result.disk → result.status ≡ served_status ending settled
     → WritesLast (served_line settled) o.faults o.faults_now o.held o.held_now → RunsServe m d core connections result before now o
-serves-booted m d core connections result before now o start last ending settled b bare_is takes goes_on f status line = record {
+serves-booted m d core connections result before now o start last ending settled b bare_is tied takes goes_on grown f status line = record {
   serves = inr (record {
-    start = on_disk d.faults start;
-    begins = record { boots = starts-run d.faults (guard_of start) (at_entry m d core) b.records b.stands b.guard_is b.later; machine = bare_is };
+    start = start.state;
+    begins = record { boots = record { records = b.records; stands = b.stands; guard_is = b.guard_is; later = low; none = refl }; machine = bare_is };
     writes = record {
       ending = ending;
       takes = takes;
       last = last;
       goes_on = goes_on;
+      later = grown;
       settled = settled;
       finishes = f;
       status_is = status;
@@ -89,13 +116,23 @@ serves-booted m d core connections result before now o start last ending settled
   came = λ zero_is. came_all zero_is;
   failed = λ nine. doors_failed nine;
   undialled = ap (λ (l : DoorLog). l.dials) takes.is;
-  disk_fault = λ six. inr (record { last = last; deny = (unsettled six).0; finishes = subst (λ s. Finishes m d last s result.mech result.disk) (unsettled six).1 f });
+  disk_fault = λ six. let u = unsettled six in record { cause = disk_rose u.0 u.1; written = wrote-failed settled u.0 o u.1 line };
   boots_once = boots-served m d core (guard_of start) result (unread_io o) b (λ seven. no_7 seven) (λ twelve. no_12 twelve);
-  finishes = λ doors disk settled_. told-any (d.held core.disk) _ (λ bytes J stands fits. done doors settled_);
+  finishes = λ doors disk. told-any (d.held core.disk) _ (λ bytes J stands fits. done doors disk);
 }
   where
     one : (result.status ≡ DISK_FAULT × ((deny : Deny) × (settled ≡ Err deny))) ⊎ ((result.status ≡ READ_TO_END × (ending ≡ taking.Served)) ⊎ ((result.status ≡ LINK_FAILED × (ending ≡ taking.Failed)) ⊎ (result.status ≡ NO_MEMORY)))
     one = served-one ending settled result.status status
+
+    low : d.faults core.disk ≤ start.state.seen.disk_faults
+    low = let later = b.later in omega (arith, later, tied)
+
+    disk_rose : (deny : Deny) → settled ≡ Err deny → Rose (d.faults core.disk) (d.faults result.disk)
+    disk_rose deny is =
+        let step : Step last finish (finished (Err deny)) (gone last f.0) = subst (λ (s : Result Unit Deny). Step last finish (finished s) (gone last f.0)) is f.1 in
+        let rose = unfinished last (gone last f.0) step in
+        let same = f.2.disk_faults in
+        omega (arith, low, grown, rose, same)
 
     begun : BeginsWith f.0.guard.records start.state.seen.guard.records
     begun = begins-trans _ last.seen.guard.records _ goes_on.grew (advances last (gone last f.0) finish (finished settled) f.1).records
@@ -129,9 +166,9 @@ serves-booted m d core connections result before now o start last ending settled
       | inr (inr (inr memory)) ↦ absurd (omega (arith, memory, six))
     ]
 
-    done : ¬ (Rose before.faults now.faults) → ¬ (IsUnsettled m d result) → IsFinished result.status
-    done doors settled_ = elim one [
-      | inl disk ↦ absurd (settled_ (record { last = last; deny = disk.1.0; finishes = subst (λ s. Finishes m d last s result.mech result.disk) disk.1.1 f }))
+    done : ¬ (Rose before.faults now.faults) → ¬ (Rose (d.faults core.disk) (d.faults result.disk)) → IsFinished result.status
+    done doors calm = elim one [
+      | inl disk ↦ absurd (calm (disk_rose disk.1.0 disk.1.1))
       | inr (inl all) ↦ inl all.0
       | inr (inr (inl failed)) ↦ absurd (doors (rose failed.1))
       | inr (inr (inr memory)) ↦ inr memory
@@ -160,9 +197,9 @@ serves-refused m d core connections why result before now o f status written sam
   came = λ zero_is. absurd (omega (arith, low, status, zero_is));
   failed = λ nine. absurd (not-nine why (sym status ∙ nine));
   undialled = ap (λ (l : DoorLog). l.dials) same;
-  disk_fault = λ six. inl (ends-failed _ _ _ _ _ status written f.failed six);
+  disk_fault = λ six. ends-failed _ _ _ _ _ status written f.failed six;
   boots_once = boots-refused m d core why result (unread_io o) f status written;
-  finishes = λ doors disk settled_. refused-finishes why _ _ _ _ _ _ status f.not_journal f.failed f.full disk;
+  finishes = λ doors disk. refused-finishes why _ _ _ _ _ _ status f.not_journal f.failed f.full disk;
 }
   where
     low : 6 ≤ boot_status why

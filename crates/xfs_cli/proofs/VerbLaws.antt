@@ -21,10 +21,10 @@ use Rattle.xfs_script.proofs.AnswerLaws.{lines_text-append}
 use Rattle.xfs_script.specs.ReplayLines.{IsReplayLine}
 use Rattle.xfs_script.specs.declared.replay_line.ReplayLine.{ReplayLine}
 use Rattle.xfs_script.specs.declared.replay_line.ReplayLine.TheVariants.{Skip, Join, Leave, Say, At, Work, Rest, CardIn, CardTaken, CardFault, Key, KeyFault, Take, Mint, Restart, Show}
-use Rattle.xfs_cli.specs.ReplayEvents.{AnswersEvent, AnswersVerb, HasMail, IsTouched, Mints, clients_after, event_of, told, told_to}
+use Rattle.xfs_cli.specs.ReplayEvents.{AnswersEvent, AnswersReplay, AnswersVerb, HasMail, IsTouched, Mints, clients_after, event_of, told, told_to}
 use Rattle.xfs_load.specs.Steps.{HappensInPart, rounds}
-use Rattle.xfs_cli.specs.ReplayCommand.{AnswersLine, IsPartDone}
-use Rattle.xfs_cli.specs.ReplayStates.{Played, ReplayState, is_joined}
+use Rattle.xfs_cli.specs.ReplayCommand.{IsPartDone}
+use Rattle.xfs_cli.specs.ReplayStates.{Played, is_joined}
 use Rattle.xfs_load.proofs.RestLaws.{part-none, part-one, rests-part}
 
 machine-same : (events : List Event) (s next : Played) → next.machine ≡ s.machine → HappensInPart events s.machine next.machine
@@ -166,8 +166,8 @@ pub restart-text : (text : List ℕ) (verb : ReplayLine) → IsReplayLine text v
 restart-text text verb reads is = (let P : ReplayLine → Type 0 = λ v. IsReplayLine text v in subst P is reads)
 
 -- a line is answered by its verb, and the frames behind that
-pub line-told : (s next : ReplayState) (between : Played) (text : List ℕ) (verb : ReplayLine) (bytes all : List ℕ) → IsReplayLine text verb → length text ≤ 70000 → Tells (AnswersVerb s.played verb) bytes between
-    → HasMail between.clients between.machine bytes all next.played.machine → next.played ≡ record between { machine = next.played.machine } → Tells (AnswersLine s text) all next
+pub line-told : (s next between : Played) (text : List ℕ) (verb : ReplayLine) (bytes all : List ℕ) → IsReplayLine text verb → length text ≤ 70000 → Tells (AnswersVerb s verb) bytes between
+    → HasMail between.clients between.machine bytes all next.machine → next ≡ record between { machine = next.machine } → Tells (AnswersReplay s text) all next
 line-told s next between text verb bytes all reads short t m is = record {
   output = t.output ++ m.mail;
   answer = record {
@@ -178,7 +178,7 @@ line-told s next between text verb bytes all reads short t m is = record {
     between = between;
     answer = t.answer;
     mail = m.mail;
-    machine = next.played.machine;
+    machine = next.machine;
     hands = m.hands;
     joined_text = refl;
     is = is;

@@ -6,7 +6,6 @@ use Rattle.xfs_disk.specs.declared.disk.Disk.{Ghosts as Disks}
 use Rattle.xfs_mech.specs.Moves.{IsNewer}
 use Rattle.xfs_mech.specs.declared.mechanism.Mechanism.{Ghosts as Mechanisms}
 use Rattle.xfs_guard.specs.declared.machine_core.Core.{Core}
-use Rattle.xfs_machine.specs.MachineView.{MachineView}
 use Rattle.xfs_model.specs.State.{State, bare}
 use Rattle.xfs_cli.specs.Boots.{BootExceeds, EndsFailed}
 use Rattle.xfs_cli.specs.BootsOnce.{BootsOnce}
@@ -22,31 +21,23 @@ use Rattle.xfs_cli.specs.Returns.{Return, back}
 use Rattle.xfs_cli.specs.declared.ended.Ended.{Ended}
 use Rattle.xfs_cli.specs.declared.status.TheConstants.{DISK_FAULT, INPUT_TOO_LONG, NOT_A_LINE, READ_FAULT, WRITE_FAULT}
 
--- a machine, and how often the disk of its journal failed
-pub record MachineOnDisk : Type 0 where
-  pub machine : State
-  pub disk_faults : ℕ
-
-abbrev pub on_disk : {D : Type 0} → (D → ℕ) → MachineView D → MachineOnDisk
-on_disk faults m = record { machine = m.state; disk_faults = faults m.disk }
-
--- what a run of `guard` would see of it, with no token minted
-abbrev pub guard_state_of : MachineOnDisk → GuardState
-guard_state_of s = record { guard = s.machine.seen.guard; disk_faults = s.disk_faults; last = None }
+-- what a run of `guard` would see of a machine, with no token minted
+abbrev pub guard_state_of : State → GuardState
+guard_state_of s = record { guard = s.seen.guard; disk_faults = s.seen.disk_faults; last = None }
 
 -- the machine that the boot begins: over the guard that the boot of `guard` begins too, with this life of a nonce
-pub record Begins (e : AtEntry) (life : ℕ) (start : MachineOnDisk) : Type 0 where
+pub record Begins (e : AtEntry) (life : ℕ) (start : State) : Type 0 where
   pub boots : IsStart e (guard_state_of start)
-  pub machine : start.machine ≡ bare start.machine.seen life (length start.machine.seen.guard.records)
+  pub machine : start ≡ bare start.seen life (length start.seen.guard.records)
 
 abbrev pub output_of : Streams → Output
 output_of io = record { faults = io.write_faults; faults_now = io.write_faults_now; held = io.output; held_now = io.output_now }
 
 -- the rounds are played from a state on, until that of the mechanism and the disk that come back
-pub record LoadsUntil {M D : Type 0} (m : Mechanisms M) (d : Disks D) (core : Core M D) (rounds : ℕ) (result : Return M D) (io : Streams) (start : MachineOnDisk) : Type 0 where
-  pub end : MachineOnDisk
+pub record LoadsUntil {M D : Type 0} (m : Mechanisms M) (d : Disks D) (core : Core M D) (rounds : ℕ) (result : Return M D) (io : Streams) (start : State) : Type 0 where
+  pub end : State
   pub ends : IsEnd m d result (guard_state_of end)
-  pub loads : EndsLoad core.key rounds start.machine end.machine result.status (output_of io)
+  pub loads : EndsLoad core.key rounds start end result.status (output_of io)
 
 -- no status is one of the input's
 abbrev pub IsNotOfInput : ℕ → Type 0

@@ -5,18 +5,21 @@ use Rattle.std.proofs.Common.{arith, inl, refl}
 use Rattle.xfs_disk.specs.declared.disk.Disk.{Ghosts as Disks}
 use Rattle.xfs_mech.specs.declared.mechanism.Mechanism.{Ghosts as Mechanisms}
 use Rattle.xfs_guard.proofs.ContinueLaws.{Continues-same}
+use Rattle.xfs_guard.proofs.KeepsLaws.{Proceeds-same, Proceeds-trans}
 use Rattle.xfs_guard.specs.Continues.{Continues}
+use Rattle.xfs_guard.specs.Keeps.{Proceeds}
 use Rattle.xfs_guard.specs.declared.fail.BootFault.{BootFault}
 use Rattle.xfs_script.specs.Commands.{Command}
 use Rattle.xfs_script.specs.ReplayLines.{IsReplayLine}
 use Rattle.xfs_script.specs.declared.replay_line.ReplayLine.{ReplayLine}
 use Rattle.xfs_script.specs.declared.replay_line.ReplayLine.TheVariants.{Rest}
 use Rattle.xfs_load.specs.Steps.{HappensInPart, RestsInPart}
+use Rattle.xfs_machine.specs.MachineView.{MachineView, guard_of}
 use Rattle.xfs_model.specs.Events.{outbox}
 use Rattle.xfs_model.specs.State.{State}
 use Rattle.xfs_cli.specs.Restarts.{EndsRestart, RestartFails}
 use Rattle.xfs_cli.specs.GuardStates.{IsLater}
-use Rattle.xfs_cli.specs.ReplayStates.{Played, ReplayState, guard_state_of, state_in}
+use Rattle.xfs_cli.specs.ReplayStates.{Played, guard_state_of, played}
 use Rattle.xfs_cli.specs.declared.clients.Client.{Client}
 use Rattle.xfs_cli.specs.declared.player.Player.{Player}
 use Rattle.xfs_cli.specs.ReplayEvents.{AnswersReplay, event_of}
@@ -34,8 +37,8 @@ IsPartDone s Rest end = RestsInPart s.now s.machine end.machine
 IsPartDone s verb end = HappensInPart (option_to_list (event_of s verb)) s.machine end.machine
 
 -- the restart of a player is refused for this
-abbrev pub IsRestartRefused : {M D : Type 0} {m : Mechanisms M} {d : Disks D} → (D → ℕ) → Player M D m d → BootFault → Player M D m d → Type 0
-IsRestartRefused faults old why new = RestartFails (guard_state_of (state_in faults old)) why (guard_state_of (state_in faults new))
+abbrev pub IsRestartRefused : {M D : Type 0} {m : Mechanisms M} {d : Disks D} → Player M D m d → BootFault → Player M D m d → Type 0
+IsRestartRefused old why new = RestartFails (guard_state_of (played old)) why (guard_state_of (played new))
 
 -- the first of the clients were handed the frames that waited for them
 abbrev pub IsPartMailed : List Client → State → State → Type 0
@@ -51,22 +54,32 @@ pub record IsBegun (s : Played) (text : List ℕ) (end : Played) : Type 0 where
   pub mailed : IsPartMailed between.clients between.machine end.machine
 
 -- want of memory leaves nothing of a line, or a front of it, and goes on from what stood before it
-pub record LeavesReplay (s : ReplayState) (text : List ℕ) (end : ReplayState) : Type 0 where
-  pub begun : (end ≡ s) ⊎ IsBegun s.played text end.played
-  pub continues : Continues s.played.machine.seen.guard end.played.machine.seen.guard
+pub record LeavesReplay (s : Played) (text : List ℕ) (end : Played) : Type 0 where
+  pub begun : (end ≡ s) ⊎ IsBegun s text end
+  pub continues : Continues s.machine.seen.guard end.machine.seen.guard
   pub later : IsLater (guard_state_of s) (guard_state_of end)
 
--- the lines are answered by the player
-abbrev pub AnswersLine : ReplayState → List ℕ → List (List ℕ) → ReplayState → Type 0
-AnswersLine s text output next = AnswersReplay s.played text output next.played
+abbrev pub replay_lines : Command Played BootFault
+replay_lines = record { IsLine = IsLine; Answers = AnswersReplay; Leaves = LeavesReplay; EndsAt = EndsRestart guard_state_of }
 
-abbrev pub replay_lines : Command ReplayState BootFault
-replay_lines = record { IsLine = IsLine; Answers = AnswersLine; Leaves = LeavesReplay; EndsAt = EndsRestart guard_state_of }
+-- the guard proceeds, and the count of its disk's failures that the machine keeps doesn't fall
+pub record Progresses {D : Type 0} (d : Disks D) (old new : MachineView D) : Type 0 where
+  pub proceeds : Proceeds d (guard_of old) (guard_of new)
+  pub later : old.state.seen.disk_faults ≤ new.state.seen.disk_faults
+
+pub progress-same : {D : Type 0} (d : Disks D) (m : MachineView D) → ((disk : D) (bytes : List ℕ) → d.images_since disk (d.moment disk) bytes → d.images disk bytes) → Progresses d m m
+progress-same d m only_now = record { proceeds = Proceeds-same d (guard_of m) only_now; later = omega arith }
+
+pub progress-then : {D : Type 0} (d : Disks D) (a b c : MachineView D) → ((disk : D) (t : ℕ) (bytes : List ℕ) → t ≤ d.moment disk → d.images disk bytes → d.images_since disk t bytes) → Progresses d a b → Progresses d b c → Progresses d a c
+progress-then d a b c counts_now first then = record {
+  proceeds = Proceeds-trans d _ _ _ counts_now first.proceeds then.proceeds;
+  later = let low = first.later in let high = then.later in omega (arith, low, high);
+}
 
 -- want of memory may leave nothing of a line
-pub leaves-none : (s : ReplayState) (text : List ℕ) → LeavesReplay s text s
-leaves-none s text = record { begun = inl refl; continues = Continues-same s.played.machine.seen.guard; later = record { mech = omega arith; disk = omega arith } }
+pub leaves-none : (s : Played) (text : List ℕ) → LeavesReplay s text s
+leaves-none s text = record { begun = inl refl; continues = Continues-same s.machine.seen.guard; later = record { mech = omega arith; disk = omega arith } }
 
 -- what is answered is a line
-pub is-replay-line : (s next : ReplayState) (text : List ℕ) (output : List (List ℕ)) → AnswersLine s text output next → IsLine text
+pub is-replay-line : (s next : Played) (text : List ℕ) (output : List (List ℕ)) → AnswersReplay s text output next → IsLine text
 is-replay-line s next text output a = record { verb = a.verb; reads = a.reads; short = a.short }

@@ -7,7 +7,7 @@ use Rattle.xfs_model.specs.State.{bare}
 use Rattle.xfs_guard.specs.Entries.{AtEntry, at_entry}
 use Rattle.xfs_cli.specs.GuardStarts.{IsStart}
 use Rattle.xfs_cli.specs.ReplayCommand.{replay_lines}
-use Rattle.xfs_cli.specs.ReplayStates.{ReplayState, guard_state_of}
+use Rattle.xfs_cli.specs.ReplayStates.{Played, guard_state_of}
 use Rattle.xfs_cli.specs.Runs.{Runs}
 use Rattle.xfs_cli.specs.Streams.{Streams}
 use Rattle.xfs_cli.specs.Returns.{Return, back}
@@ -16,11 +16,11 @@ use Rattle.xfs_cli.specs.declared.ended.Ended.{Ended}
 use Rattle.xfs_cli.specs.Run.{IsReplay}
 
 -- the state that the boot begins: a machine over the guard that the boot of `guard` begins too, with this life of a nonce; no client is joined, the moment is 0, and no token was minted
-pub record Begins (e : AtEntry) (life : ℕ) (start : ReplayState) : Type 0 where
+pub record Begins (e : AtEntry) (life : ℕ) (start : Played) : Type 0 where
   pub boots : IsStart e (guard_state_of start)
-  pub machine : start.played.machine ≡ bare start.played.machine.seen life (length start.played.machine.seen.guard.records)
-  pub clients : start.played.clients ≡ []
-  pub now : start.played.now.0 ≡ 0
+  pub machine : start.machine ≡ bare start.machine.seen life (length start.machine.seen.guard.records)
+  pub clients : start.clients ≡ []
+  pub now : start.now.0 ≡ 0
 
 -- its lines are answered from there on
 abbrev pub RunsReplay : {M D : Type 0} → Mechanisms M → Disks D → Core M D → Return M D → Streams → Type 0

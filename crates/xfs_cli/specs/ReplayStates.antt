@@ -22,17 +22,9 @@ pub record Played : Type 0 where
 abbrev pub played : {M D : Type 0} {m : Mechanisms M} {d : Disks D} → Player M D m d → Played
 played p = record { machine = p.machine.state; clients = p.clients; now = p.now; last = p.last }
 
--- the same, and how often the disk of its journal failed
-pub record ReplayState : Type 0 where
-  pub played : Played
-  pub disk_faults : ℕ
-
-abbrev pub state_in : {M D : Type 0} {m : Mechanisms M} {d : Disks D} → (D → ℕ) → Player M D m d → ReplayState
-state_in faults p = record { played = played p; disk_faults = faults p.machine.disk }
-
 -- what a run of `guard` would see of it: the guard, how often its disk failed, and the last token
-abbrev pub guard_state_of : ReplayState → GuardState
-guard_state_of s = record { guard = s.played.machine.seen.guard; disk_faults = s.disk_faults; last = s.played.last }
+abbrev pub guard_state_of : Played → GuardState
+guard_state_of s = record { guard = s.machine.seen.guard; disk_faults = s.machine.seen.disk_faults; last = s.last }
 
 abbrev pub is_number : ℕ → Client → Bool
 is_number number client = client.number == number

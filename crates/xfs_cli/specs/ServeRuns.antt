@@ -1,5 +1,5 @@
 -- A run of `serve`: the connections that it takes from its boot on, its statuses with their causes, and what the mechanism and the disk that come back are.
-use Rattle.std.specs.Prelude.{◌≡◌, ◌⊎◌, ◌∷◌, ℕ, List, [], Ok, Err, Result, String}
+use Rattle.std.specs.Prelude.{◌≡◌, ◌≤◌, ◌⊎◌, ◌∷◌, ℕ, List, [], Ok, Err, Result, String}
 use Rattle.std.specs.declared.alloc.Global.{Global}
 use Rattle.xfs_base.specs.Causes.{IfTold, Rose}
 use Rattle.xfs_disk.specs.declared.disk.Disk.{Ghosts as Disks}
@@ -21,7 +21,7 @@ use Rattle.xfs_serving.specs.declared.ending.Ending.TheVariants.{Served, Failed,
 use Rattle.xfs_cli.specs.Boots.{BootExceeds, EndsFailed, boot_line}
 use Rattle.xfs_cli.specs.BootsOnce.{BootsOnce}
 use Rattle.xfs_guard.specs.Entries.{at_entry}
-use Rattle.xfs_cli.specs.LoadRuns.{Begins, MachineOnDisk}
+use Rattle.xfs_cli.specs.LoadRuns.{Begins}
 use Rattle.xfs_cli.specs.Returns.{Return, back}
 use Rattle.xfs_cli.specs.Run.{IsServeOf}
 use Rattle.xfs_cli.specs.Runs.{AtEntryList, FromStart, IsUnbooted}
@@ -50,29 +50,24 @@ pub record StandsForMore (records : List Rec) (bytes : List ℕ) : Type 0 where
   pub begins : BeginsWith list records
 
 -- so many connections are taken at the doors from a machine on, until one whose finish hands back the mechanism and the disk
-pub record ServesUntil {M D : Type 0} (m : Mechanisms M) (d : Disks D) (connections : ℕ) (result : Return M D) (before now : DoorLog) (o : Output) (start : MachineOnDisk) : Type 0 where
+pub record ServesUntil {M D : Type 0} (m : Mechanisms M) (d : Disks D) (connections : ℕ) (result : Return M D) (before now : DoorLog) (o : Output) (start : State) : Type 0 where
   pub ending : Ending
   pub takes : Takes connections ending before now
   -- the last machine goes on from the first
   pub last : State
-  pub goes_on : Continues start.machine.seen.guard last.seen.guard
+  pub goes_on : Continues start.seen.guard last.seen.guard
+  pub later : start.seen.disk_faults ≤ last.seen.disk_faults
   pub settled : Result Unit Deny
   pub finishes : Finishes m d last settled result.mech result.disk
   pub status_is : result.status ≡ served_status ending settled
   pub line : WritesLast (served_line settled) o.faults o.faults_now o.held o.held_now
   -- every image of the disk begins with the records of the boot
-  pub begins : IfTold (d.held result.disk) (λ _. (image : List ℕ) → d.images result.disk image → StandsForMore start.machine.seen.guard.records image)
+  pub begins : IfTold (d.held result.disk) (λ _. (image : List ℕ) → d.images result.disk image → StandsForMore start.seen.guard.records image)
 
 -- nothing was taken
 pub record IsUnserved {M D : Type 0} (core : Core M D) (result : Return M D) (before now : DoorLog) (o : Output) : Type 0 where
   pub unbooted : IsUnbooted core result (unread_io o)
   pub untaken : now ≡ before
-
--- the disk failed when the open order of the last machine was settled
-pub record IsUnsettled {M D : Type 0} (m : Mechanisms M) (d : Disks D) (result : Return M D) : Type 0 where
-  pub last : State
-  pub deny : Deny
-  pub finishes : Finishes m d last (Err deny) result.mech result.disk
 
 pub record RunsServe {M D : Type 0} (m : Mechanisms M) (d : Disks D) (core : Core M D) (connections : ℕ) (result : Return M D) (before now : DoorLog) (o : Output) : Type 0 where
   -- what is served: the connections from the boot on; or the boot is refused
@@ -82,11 +77,11 @@ pub record RunsServe {M D : Type 0} (m : Mechanisms M) (d : Disks D) (core : Cor
   pub came : result.status ≡ READ_TO_END → now.came ≡ counted connections before.came
   pub failed : result.status ≡ LINK_FAILED → Rose before.faults now.faults
   pub undialled : now.dials ≡ before.dials
-  -- the statuses of a boot are those of a refused one; the disk may also have failed at the end
-  pub disk_fault : result.status ≡ DISK_FAULT → EndsFailed (d.faults core.disk) (d.faults result.disk) (unread_io o) ⊎ IsUnsettled m d result
+  -- the disk failed in the run, at the boot or at the end, and the last line says so
+  pub disk_fault : result.status ≡ DISK_FAULT → EndsFailed (d.faults core.disk) (d.faults result.disk) (unread_io o)
   pub boots_once : BootsOnce m d core result (unread_io o)
   -- a run that nothing hinders takes all its connections, or memory runs out
-  pub finishes : ¬ (Rose before.faults now.faults) → ¬ (Rose (d.faults core.disk) (d.faults result.disk)) → ¬ (IsUnsettled m d result)
+  pub finishes : ¬ (Rose before.faults now.faults) → ¬ (Rose (d.faults core.disk) (d.faults result.disk))
       → AtEntryList d core.disk (λ records. ¬ (BootExceeds core.limits (m.places core.mech) records) → IsFinished result.status)
 
 -- so of the connections that the words say

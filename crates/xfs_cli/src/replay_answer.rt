@@ -9,23 +9,20 @@ use xfs_script::{Answerer, ScriptFault, Unanswered, read_replay};
 
 impl<M: Mechanism, D: Disk> Answerer for Player<M, D> {
     ghost use Rattle.std.specs.Prelude.{⊤};
-    ghost use Rattle.xfs_guard.proofs.KeepsLaws.{Proceeds-same, Proceeds-trans};
-    ghost use Rattle.xfs_guard.specs.Keeps.{Proceeds};
-    ghost use Rattle.xfs_machine.specs.MachineView.{guard_of};
-    ghost use Rattle.xfs_cli.specs.ReplayCommand.{replay_lines, leaves-none, is-replay-line};
-    ghost use Rattle.xfs_cli.specs.ReplayStates.{ReplayState, state_in};
+    ghost use Rattle.xfs_cli.specs.ReplayCommand.{Progresses, replay_lines, leaves-none, is-replay-line, progress-same, progress-then};
+    ghost use Rattle.xfs_cli.specs.ReplayStates.{Played, played};
 
     type End = BootFault;
 
-    ghost State = { ReplayState };
+    ghost State = { Played };
 
-    ghost state = { state_in D.faults };
+    ghost state = { λ p. played p };
 
     ghost command = { replay_lines };
 
     ghost IsReady = { λ p. ⊤ };
 
-    ghost Keeps = { λ old new. Proceeds D.Disk (guard_of old.machine) (guard_of new.machine) };
+    ghost Keeps = { λ old new. Progresses D.Disk old.machine new.machine };
 
     fn answer(&mut self, line: &[u8]) -> Result<Vec<u8>, Unanswered<BootFault>> {
         let verb = match read_replay(self.alloc, line) {
@@ -44,9 +41,9 @@ impl<M: Mechanism, D: Disk> Answerer for Player<M, D> {
         }
     }
 
-    ghost keeps_same = { λ p. Proceeds-same D.Disk.own (guard_of p.machine) D.only_now };
+    ghost keeps_same = { λ p. progress-same D.Disk.own p.machine D.only_now };
 
-    ghost keeps_then = { λ a b c first then. Proceeds-trans D.Disk.own _ _ _ D.counts_now first then };
+    ghost keeps_then = { λ a b c first then. progress-then D.Disk.own _ _ _ D.counts_now first then };
 
     ghost leaves_same = { leaves-none };
 

@@ -34,7 +34,7 @@ impl<M: Mechanism, D: Disk> Player<M, D> {
         ensures answer { IfOk result (λ text. Tells (AnswersVerb (played self.old) verb) text.items (played self.new)) }
         ensures memory { result ≡ Err NoAnswer.Memory → IsPartDone (played self.old) verb (played self.new) }
         ensures restart { (f : BootFault) → result ≡ Err (NoAnswer.Unbooted f) → verb ≡ verbs.Restart }
-        ensures unbooted { (f : BootFault) → result ≡ Err (NoAnswer.Unbooted f) → IsRestartRefused D.faults self.old f self.new }
+        ensures unbooted { (f : BootFault) → result ≡ Err (NoAnswer.Unbooted f) → IsRestartRefused self.old f self.new }
         ensures proceeds { Proceeds D.Disk (guard_of self.old.machine) (guard_of self.new.machine) }
     {
         match verb {
@@ -157,7 +157,7 @@ impl<M: Mechanism, D: Disk> Player<M, D> {
     fn restart(&mut self) -> Result<Vec<u8>, NoAnswer>
         ensures answer { IfOk result (λ text. Tells (AnswersVerb (played self.old) verbs.Restart) text.items (played self.new)) }
         ensures memory { result ≡ Err NoAnswer.Memory → IsPartDone (played self.old) verbs.Restart (played self.new) }
-        ensures unbooted { (f : BootFault) → result ≡ Err (NoAnswer.Unbooted f) → IsRestartRefused D.faults self.old f self.new }
+        ensures unbooted { (f : BootFault) → result ≡ Err (NoAnswer.Unbooted f) → IsRestartRefused self.old f self.new }
         ensures proceeds { Proceeds D.Disk (guard_of self.old.machine) (guard_of self.new.machine) }
     {
         self.machine.reboot()?;

@@ -2,6 +2,8 @@
 
 ghost use Rattle.std.specs.Prelude.{◌≡◌};
 ghost use mathlib.Core.List.{IsPrefix};
+ghost use Rattle.xfs_machine.specs.declared.pass.JoinFault.TheVariants as JoinFault;
+ghost use Rattle.xfs_serving.specs.declared.backend.Refusal.TheVariants as Refusal;
 
 use std::alloc::Global;
 use std::sync::Wait;
@@ -122,7 +124,10 @@ impl<'a, N: LockName, M: Mechanism, D: Disk, R: Wait, C: Clock> MachineBackend<'
     }
 }
 
-fn refusal_of(fault: JoinFault) -> Refusal {
+fn refusal_of(fault: JoinFault) -> Refusal
+    ensures full { fault ≡ JoinFault.Full → result ≡ Refusal.Full }
+    ensures memory { fault ≡ JoinFault.Memory → result ≡ Refusal.Memory }
+{
     match fault {
         JoinFault::Full => Refusal::Full,
         JoinFault::Memory => Refusal::Memory,

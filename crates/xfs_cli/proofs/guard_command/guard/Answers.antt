@@ -37,8 +37,8 @@ returns-in-Ok-clause-runs g c = λ guard.
     let e = c.ended-mech.ensures in
     let keeps = λ (a b : GuardPlayer g.row.M.Denot g.row.D.Denot). Proceeds g.D.Disk a.guard b.guard in
     let over : Return g.row.M.Denot g.row.D.Denot = record { status = c.serve-status.result; mech = c.ended-mech.result.0; disk = c.ended-mech.result.1 } in
-    runs-served g.M.Mechanism g.D.Disk guard_lines (λ (s : GuardState). s) _ keeps (λ a. guard_state g.D.Disk.faults a.guard a.last) (λ a. a.guard) (λ a. a.last) g.met.D.Disk.as_read (λ s text why end ends. ends) empty (λ a. refl) (λ a b kept. kept)
-    c.args.bench.core over _ _ c.serve-status.new.answerer (record { records = ok.0; stands = ok.1; guard_is = ok.2; later = c.in-Ok.ensures.faults; fits = c.in-Ok.ensures.fits })
+    runs-served g.M.Mechanism g.D.Disk guard_lines (λ (s : GuardState). s) _ keeps (λ a. guard_state g.D.Disk.faults a.guard a.last) (λ a. a.guard) g.met.D.Disk.as_read (λ s text why end ends. ends) empty (λ a. refl) (λ a b kept. kept) (λ a b kept. kept.disk_faults)
+    c.args.bench.core over _ _ c.serve-status.new.answerer (record { records = ok.0; stands = ok.1; guard_is = ok.2; later = c.in-Ok.ensures.faults; fits = c.in-Ok.ensures.fits }) c.in-Ok.ensures.faults (ap g.D.Disk.faults (sym e.disk))
     (starts-run g.D.Disk.faults c.in-Ok.guard _ ok.0 ok.1 ok.2 c.in-Ok.ensures.faults)
     (record { kept = s.keeps; serves = s.serves; unbooted = s.unbooted; lines = s.lines; not_a_line = s.not_a_line; usage = s.usage; statuses = s.statuses; causes = s.causes })
     (record { motions = e.motions; places = e.places; faults = e.faults; disk = e.disk; stored = e.stored }) c.requires.starts.recorded

@@ -35,7 +35,7 @@ returns-in-Ok-clause-runs g c = λ rounds says.
     let is = same-rounds c.args.words.now rounds c.in-Some.rounds says c.in-Some.ensures.named in
     loads-served g.M.Mechanism g.D.Disk g.met.D.Disk.as_read c.args.bench.core rounds over _ c.in-Ok.machine c.play_on-status.new.machine
     (record { records = ok.0; stands = ok.1; guard_is = ok.2; later = c.in-Ok.ensures.faults; fits = c.in-Ok.ensures.fits })
-    c.in-Ok.ensures.bare p.proceeds (rw is p.ends)
+    c.in-Ok.ensures.tied c.in-Ok.ensures.bare p.proceeds (sym e.back.disk_faults) (rw is p.ends)
     (record { motions = e.back.motions; places = e.back.places; faults = e.back.faults; disk = e.disk; stored = e.back.stored }) refl c.requires.starts.recorded
 
 pub returns-in-Err-clause-runs : goal.returns-in-Err-clause-runs

@@ -1,4 +1,4 @@
-use Rattle.std.proofs.Common.{refl, ap, sym, ◌∙◌}
+use Rattle.std.proofs.Common.{◌≤◌, refl, ap, sym, ◌∙◌, arith}
 use Rattle.std.specs.Prelude.{is_some}
 use Rattle.xfs_guard.proofs.KeepsLaws.{Proceeds-trans}
 use Rattle.xfs_guard.specs.View.{View}
@@ -51,10 +51,12 @@ pub returns-in-Ok-clause-runs : goal.returns-in-Ok-clause-runs
 returns-in-Ok-clause-runs g c =
     let ok = c.in-Ok.ensures.ok in
     let s = c.serve_connections-ending.ensures in
+    let grown : c.in-Ok.machine.state.seen.disk_faults ≤ c.serve_connections-ending.result.machine.state.seen.disk_faults =
+        let first = c.in-Ok.ensures.tied in let last = c.finish-settled.ensures.tied in let between = s.proceeds.disk_faults in omega (arith, first, last, between) in
     let over : Return g.row.M.Denot g.row.D.Denot = record { status = c.settle.result; mech = c.finish-settled.result.1; disk = c.finish-settled.result.2 } in
     serves-booted g.M.Mechanism g.D.Disk c.args.bench.core _ over _ _ _ c.in-Ok.machine c.serve_connections-ending.result.machine.state _ _
     (record { records = ok.0; stands = ok.1; guard_is = ok.2; later = c.in-Ok.ensures.faults; fits = c.in-Ok.ensures.fits })
-    c.in-Ok.ensures.bare s.doors s.proceeds.continues c.finish-settled.ensures.step c.settle.ensures.status c.settle.ensures.line
+    c.in-Ok.ensures.bare c.in-Ok.ensures.tied s.doors s.proceeds.continues grown c.finish-settled.ensures.step c.settle.ensures.status c.settle.ensures.line
 
 pub returns-in-Err-clause-runs : goal.returns-in-Err-clause-runs
 returns-in-Err-clause-runs g c =

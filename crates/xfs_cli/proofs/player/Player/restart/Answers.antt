@@ -8,8 +8,7 @@ use Rattle.xfs_cli.proofs.player.Player.restart.Goals as goal
 pub returns-in_err-reboot-clause-unbooted : goal.returns-in_err-reboot-clause-unbooted
 returns-in_err-reboot-clause-unbooted g c =
     let e = c.in_err-reboot.ensures in
-    restart_refused c.from_residual.result c.in_err-reboot.field-0.0 c.args.self.now.machine.state.seen c.reboot.new.self.state.seen c.args.self.now.last (g.D.Disk.faults c.args.self.now.machine.disk) (g.D.Disk.faults c.reboot.new.self.disk)
-    c.from_residual.ensures.1 e.cause e.disk e.keeps.proceeds.disk_faults
+    restart_refused c.from_residual.result c.in_err-reboot.field-0.0 c.args.self.now.machine.state.seen c.reboot.new.self.state.seen c.args.self.now.last c.from_residual.ensures.1 e.cause
 
 pub returns-in_err-line-clause-memory : goal.returns-in_err-line-clause-memory
 returns-in_err-line-clause-memory g c = λ is. part-one _ _ _ _ c.in_ok-reboot.ensures.ok
