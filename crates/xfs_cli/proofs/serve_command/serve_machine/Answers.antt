@@ -52,7 +52,7 @@ returns-in-Ok-clause-runs g c =
     let ok = c.in-Ok.ensures.ok in
     let s = c.serve_connections-ending.ensures in
     let grown : c.in-Ok.machine.state.seen.disk_faults ≤ c.serve_connections-ending.result.machine.state.seen.disk_faults =
-        let first = c.in-Ok.ensures.tied in let last = c.finish-settled.ensures.tied in let between = s.proceeds.disk_faults in omega (arith, first, last, between) in
+    let first = c.in-Ok.ensures.tied in let last = c.finish-settled.ensures.tied in let between = s.proceeds.disk_faults in omega (arith, first, last, between) in
     let over : Return g.row.M.Denot g.row.D.Denot = record { status = c.settle.result; mech = c.finish-settled.result.1; disk = c.finish-settled.result.2 } in
     serves-booted g.M.Mechanism g.D.Disk c.args.bench.core _ over _ _ _ c.in-Ok.machine c.serve_connections-ending.result.machine.state _ _
     (record { records = ok.0; stands = ok.1; guard_is = ok.2; later = c.in-Ok.ensures.faults; fits = c.in-Ok.ensures.fits })
