@@ -93,12 +93,12 @@ pub fn peer_of<'a, R: Net<Listener = TcpListener, Stream = TcpStream> + RandomSo
 /// What a peer writes, piece by piece, what the link then finds, and what the peer then reads.
 struct Case {
     pieces: &'static [&'static [u8]],
-    found: Found,
+    found: Found<'static>,
     reply: &'static [u8],
 }
 
-enum Found {
-    Text(&'static [u8]),
+enum Found<'a> {
+    Text(&'a [u8]),
     Closed,
     Failed,
 }
@@ -169,7 +169,12 @@ const CASES: [Case; 10] = [
 ];
 
 // Whether the link finds what is expected once the peer has written the last piece, and nothing before.
-fn finds<L: Link>(link: &mut L, peer: &mut TcpStream, pieces: &[&[u8]], expected: &Found) -> bool {
+fn finds<L: Link>(
+    link: &mut L,
+    peer: &mut TcpStream,
+    pieces: &[&[u8]],
+    expected: &Found<'_>,
+) -> bool {
     for (place, piece) in pieces.iter().enumerate() {
         if peer.write_all(piece).is_err() {
             return false;
