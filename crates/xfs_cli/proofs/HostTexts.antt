@@ -1,15 +1,13 @@
 -- The answers of `host`, by what its calls answer, and the lines of `show`.
-use Rattle.std.proofs.Common.{◌≡◌, ◌⊎◌, inl, inr, ℕ, ◌+◌, ◌<◌, ◌≤◌, true, List, [], ◌∷◌, ◌++◌, length, take, map, get_or, Ok, Err, None, Some, IfOk, OnErr, Vec, Global, refl, sym, ◌∙◌, ap, append_assoc, arith}
-use Rattle.std.specs.Prelude.{codes}
+use Rattle.std.proofs.Common.{◌≡◌, inl, inr, ℕ, ◌+◌, ◌<◌, ◌≤◌, true, List, [], ◌∷◌, ◌++◌, length, take, map, get_or, Ok, Err, None, Some, IfOk, OnErr, Vec, Global, refl, sym, ◌∙◌, ap, append_assoc}
 use Rattle.std.specs.declared.option.Option.{Option}
 use Rattle.std.specs.declared.result.Result.{Result}
 use Rattle.std.proofs.lemmas.Bool.{and_parts, leb-true}
 use Rattle.std.proofs.lemmas.List.{map-append, take_all, take_more}
-use Rattle.xfs_base.specs.declared.money.Milli.{Milli}
-use Rattle.xfs_token.specs.Amounts.{is_currency, is_payable, read_amount}
+use Rattle.xfs_token.specs.Amounts.{is_currency, is_payable}
 use Rattle.xfs_token.proofs.AmountBounds.{payable-read_amount}
 use Rattle.xfs_host.specs.Ask.{Terms}
-use Rattle.xfs_host.specs.Book.{Call, Asked, book_of, listed, reply_after}
+use Rattle.xfs_host.specs.Book.{Asked, book_of, listed, reply_after}
 use Rattle.xfs_host.specs.Host.{State, IsRefusedAs}
 use Rattle.xfs_host.specs.Reply.{IsReply}
 use Rattle.xfs_host.specs.declared.account.Account.{Account as Open}
