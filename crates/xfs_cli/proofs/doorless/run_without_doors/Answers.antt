@@ -1,5 +1,5 @@
 use Rattle.std.proofs.Common.{refl, subst, sym}
-use Rattle.xfs_words.specs.declared.command.Command.TheVariants.{Guard, Load}
+use Rattle.xfs_words.specs.declared.command.Command.TheVariants.{Guard, Host, Load, Replay, Token}
 use Rattle.xfs_cli.specs.Moments.{WasOnTheWayAll}
 use Rattle.xfs_cli.specs.Returns.{back}
 use Rattle.xfs_cli.specs.Upholds.{UpholdsAll}
@@ -31,6 +31,15 @@ returns-in-None-clause-load g c = λ rounds says. absurd (c.in-None.ensures.none
 
 pub returns-in-None-clause-guard : goal.returns-in-None-clause-guard
 returns-in-None-clause-guard g c = λ guard. absurd (c.in-None.ensures.none (Guard, guard))
+
+pub returns-in-None-clause-replay : goal.returns-in-None-clause-replay
+returns-in-None-clause-replay g c = λ replay. absurd (c.in-None.ensures.none (Replay, replay))
+
+pub returns-in-None-clause-token : goal.returns-in-None-clause-token
+returns-in-None-clause-token g c = λ token. absurd (c.in-None.ensures.none (Token, token))
+
+pub returns-in-None-clause-host : goal.returns-in-None-clause-host
+returns-in-None-clause-host g c = λ host. absurd (c.in-None.ensures.none (Host, host))
 
 pub returns-in-Some-Host-clause-upholds : goal.returns-in-Some-Host-clause-upholds
 returns-in-Some-Host-clause-upholds g c =
