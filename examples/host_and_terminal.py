@@ -84,7 +84,8 @@ async def main():
     print(f"EUR {amount} put out")
 
 
-try:
-    asyncio.run(main())
-except OSError as error:
-    sys.exit(f"nobody listens at {CASH}: {error}")
+if __name__ == "__main__":
+    try:
+        asyncio.run(main())
+    except OSError as error:
+        sys.exit(f"nobody listens at {CASH}: {error}")
