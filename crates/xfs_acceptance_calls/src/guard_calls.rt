@@ -6,8 +6,7 @@ ghost use Rattle.xfs_base.specs.Causes.{IfTold};
 ghost use Rattle.std.specs.Prelude.{[]};
 
 use crate::guard_bench::{guard_over, sim, units};
-use crate::tables::{halves, numbers};
-use crate::teller::Teller;
+use crate::teller::{Teller, numbers};
 use std::alloc::Global;
 use std::process::Abort;
 use std::test::Fail;

@@ -1,6 +1,5 @@
 //! The motions that a journal stands for.
 
-use crate::tables::halves;
 use std::alloc::Global;
 use std::process::Abort;
 use std::test::Fail;
@@ -110,7 +109,7 @@ fn digits(alloc: Global, counts: &Counts) -> Result<String, Fail> {
 
 // The records of a row give its motions.
 fn give(rt: &impl Abort, alloc: Global, row: &str) -> Result<(), Fail> {
-    let (words, due) = halves(row);
+    let (words, due) = row.split_once(" => ").ok_or("an arrow")?;
     let mut records = Vec::new(alloc);
     for words in words.split(", ") {
         records.push(record(alloc, words)?)?;

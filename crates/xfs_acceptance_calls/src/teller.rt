@@ -3,7 +3,6 @@
 ghost use Rattle.std.specs.Prelude.{◌≡◌};
 ghost use Rattle.xfs_guard.specs.declared.open.Open.TheVariants.{No};
 
-use crate::tables::{halves, numbers};
 use std::alloc::{AllocError, Global};
 use std::process::Abort;
 use std::test::Fail;
@@ -35,7 +34,7 @@ impl<M: Mechanism> Teller<M> {
     /// Plays rows: a line, and what it is answered.
     pub fn plays(&mut self, rt: &impl Abort, rows: &str) -> Result<(), Fail> {
         for row in rows.lines() {
-            let (line, due) = halves(row);
+            let (line, due) = row.split_once(" => ").ok_or("an arrow")?;
             let told = self.answer(rt, line)?;
             assert_eq!(rt; told.as_str(), due, "{line}");
         }
@@ -161,4 +160,13 @@ fn notes(rt: &impl Abort, unit: u8, count: u32) -> Counts {
     let mut counts = [0; 8];
     counts[usize::from(unit) - 1] = count;
     Counts(counts)
+}
+
+/// The whole numbers of a text, with blanks between them.
+pub fn numbers(alloc: Global, text: &str) -> Result<Vec<u64>, Fail> {
+    let mut numbers = Vec::new(alloc);
+    for word in text.split_whitespace() {
+        numbers.push(word.parse::<u64>().ok().ok_or("a number")?)?;
+    }
+    Ok(numbers)
 }

@@ -1,4 +1,3 @@
-use crate::tables::halves;
 use std::alloc::Global;
 use std::process::Abort;
 use std::test::Fail;
@@ -20,7 +19,7 @@ KEY=a=b => BadValue";
 
 fn refuses(rt: &impl Abort, alloc: Global, token: &mut Token) -> Result<(), Fail> {
     for row in REFUSED.lines() {
-        let (pair, due) = halves(row);
+        let (pair, due) = row.split_once(" => ").ok_or("an arrow")?;
         let (key, value) = pair.split_once("=").ok_or("a pair")?;
         let fault = token.add(key.as_bytes(), value.as_bytes()).err();
         let told = format!(in alloc; "{:?}", fault.ok_or("a fault")?)?;
