@@ -141,7 +141,7 @@ fn a_silent_mechanism_goes_on_with_a_list(rt: HostRuntime) -> Result<(), Fail> {
             count: 100
         },
     ]?;
-    let mut mech = SilentMech::new(SimMech::resume(rt.alloc(), units, begun, motions));
+    let mut mech = SilentMech::new(SimMech::resume(units, begun, motions, Vec::new(rt.alloc())));
     assert_eq!(rt; carry(&rt, &mut mech, Kind::Stack, FULL).moved, FULL);
     assert_eq!(rt; carry(&rt, &mut mech, Kind::Reject, FULL).moved, FULL);
     assert_eq!(rt; (mech.survey().units, mech.survey().rejected), (NONE, FULL));

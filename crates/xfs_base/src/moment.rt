@@ -1,4 +1,5 @@
 ghost use Rattle.std.specs.Prelude.{◌≡◌, ◌≤◌, min};
+ghost use Rattle.xfs_base.specs.declared.moment.Moment.{Moment};
 ghost use Rattle.xfs_base.specs.declared.moment.TheConstants.{LAST_MOMENT};
 
 /// The number of a client's connection. The numbers of one boot are 1, 2, 3 and so on.
@@ -23,11 +24,15 @@ pub enum Service {
     Cash,
 }
 
-/// A clock. Nothing is promised of the moments but their bound.
+/// A clock. Nothing is promised of the order of the moments.
 pub trait Clock {
+    /// Which moments it may tell.
+    ghost tells: { Self → Moment → Type 0 };
+
     /// The moment, in milliseconds.
     fn now(&self) -> Moment
-        ensures { result.0 ≤ LAST_MOMENT };
+        ensures bound { result.0 ≤ LAST_MOMENT }
+        ensures told { tells self.now result };
 
     /// Lets a short time pass.
     fn pause(&self);
@@ -38,9 +43,11 @@ pub trait Clock {
 pub struct FixedClock(pub u64);
 
 impl Clock for FixedClock {
+    ghost tells = { λ c moment. moment.0 ≡ min c.0 LAST_MOMENT };
+
     fn now(&self) -> Moment
         ensures bound { result.0 ≤ LAST_MOMENT }
-        ensures fixed { result.0 ≡ min self.now.0 LAST_MOMENT }
+        ensures told { result.0 ≡ min self.now.0 LAST_MOMENT }
     {
         Moment(self.0.min(LAST_MOMENT))
     }

@@ -1,3 +1,5 @@
+ghost use Rattle.std.specs.Prelude.{⊤};
+
 use crate::moment::LAST_MOMENT;
 use crate::{Clock, Moment};
 use std::time::{Duration, Instant};
@@ -22,6 +24,8 @@ impl<'a, R: time::Clock> StdClock<'a, R> {
 }
 
 impl<'a, R: time::Clock> Clock for StdClock<'a, R> {
+    ghost tells = { λ _ _. ⊤ };
+
     fn now(&self) -> Moment {
         let Some(start) = self.start else {
             return Moment(0);

@@ -1,5 +1,5 @@
 -- The disk in memory behind a disk that fails, and which calls fail.
-use Rattle.std.specs.Prelude.{◌≡◌, ℕ, ◌+◌, ◌-◌, List, Contains, OnOk, OnErr}
+use Rattle.std.specs.Prelude.{◌≡◌, ℕ, Bool, ◌+◌, ◌-◌, List, Contains, OnOk, OnErr}
 use Rattle.std.specs.declared.result.Result.{Result}
 use Rattle.xfs_base.specs.Causes.{Rose, next_count}
 use Rattle.xfs_disk.specs.MemDisk.{faults_of}
@@ -34,6 +34,10 @@ fuse_faults f = faults_of f.inner + f.failed
 
 abbrev pub file_faults : FileDisk → ℕ
 file_faults d = d.faults
+
+-- a sync of the file has failed
+abbrev pub has_lost : FileDisk → Bool
+has_lost d = d.lost
 
 -- a call did nothing to the disk behind it
 pub record Failed {T E : Type 0} (old new : MemDisk) (result : Result T E) : Type 0 where

@@ -1,8 +1,8 @@
 //! A file as a disk.
-ghost use Rattle.std.specs.Prelude.{◌≡◌, None, Ok, IfOk};
+ghost use Rattle.std.specs.Prelude.{◌≡◌, ⊥, None, Ok, IfOk, OnOk, OnErr, true, false};
 ghost use Rattle.std.proofs.lemmas.Option.{none-some};
 ghost use Rattle.xfs_base.specs.Causes.{HasCause};
-ghost use Rattle.xfs_disk.specs.Wrapped.{file_faults};
+ghost use Rattle.xfs_disk.specs.Wrapped.{file_faults, has_lost};
 
 use crate::Disk;
 use std::fs::File;
@@ -10,25 +10,45 @@ use std::io;
 use std::os::unix::fs::FileExt;
 use xfs_base::Failed;
 
-/// A disk over an open file, which tells nothing. It counts the calls that failed.
+/// A disk over an open file, which tells nothing. It counts the calls that failed. A system drops the bytes that it could
+/// not sync and lets the next sync pass (as Linux does), so once a sync has failed each later one fails too: only a disk that
+/// is made anew over the file syncs again.
 #[derive(Drop)]
 pub struct FileDisk {
     file: File,
     faults: u64,
+    // A sync has failed.
+    lost: bool,
 }
 
 impl FileDisk {
     /// Over this open file, whose bytes are the disk's.
     pub fn new(file: File) -> FileDisk
         ensures faults { file_faults result ≡ 0 }
+        ensures whole { has_lost result ≡ false }
     {
-        FileDisk { file, faults: 0 }
+        FileDisk {
+            file,
+            faults: 0,
+            lost: false,
+        }
+    }
+
+    // Syncs the file, where no sync has failed yet.
+    fn synced(&self) -> io::Result<()>
+        ensures lost { has_lost self.now ≡ true → OnOk result ⊥ }
+    {
+        if self.lost {
+            return Err(io::Error::from(io::ErrorKind::Other));
+        }
+        self.file.sync_all()
     }
 
     // Counts a failure.
     fn counted<T: Drop>(&mut self, answer: io::Result<T>) -> Result<T, Failed>
         ensures cause { HasCause self.old.faults self.new.faults result }
         ensures same { IfOk result (λ x. answer ≡ Ok x) }
+        ensures lost { has_lost self.new ≡ has_lost self.old }
     {
         match answer {
             Ok(value) => Ok(value),
@@ -77,8 +97,13 @@ impl Disk for FileDisk {
         self.counted(answer)
     }
 
-    fn sync(&mut self) -> Result<(), Failed> {
-        let answer = self.file.sync_all();
+    fn sync(&mut self) -> Result<(), Failed>
+        ensures fails { has_lost self.old ≡ true → OnOk result ⊥ }
+        ensures remembers { OnErr result (has_lost self.new ≡ true) }
+        ensures whole { OnOk result (has_lost self.new ≡ false) }
+    {
+        let answer = self.synced();
+        self.lost = answer.is_err();
         self.counted(answer)
     }
 }

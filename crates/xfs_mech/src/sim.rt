@@ -51,13 +51,18 @@ impl SimMech {
         }
     }
 
-    /// A mechanism that goes on with a list and has no faults to come.
-    pub fn resume(alloc: Global, units: UnitTable, places: Places, motions: Vec<Motion>) -> SimMech
+    /// A mechanism that goes on with a list, with these faults to come.
+    pub fn resume(
+        units: UnitTable,
+        places: Places,
+        motions: Vec<Motion>,
+        faults: Vec<Fault>,
+    ) -> SimMech
         requires { PlacesFit units places }
         ensures units { units_of result ≡ units }
         ensures places { places_of result ≡ places }
         ensures motions { motions_of result ≡ motions.items }
-        ensures faults { faults_of result ≡ [] }
+        ensures faults { faults_of result ≡ faults.items }
         ensures calls { calls_of result ≡ 0 }
         ensures failures { failures_of result ≡ 0 }
     {
@@ -67,7 +72,7 @@ impl SimMech {
             places,
             motions,
             room: 0,
-            faults: Vec::new(alloc),
+            faults,
             calls: 0,
             failures: 0,
         }

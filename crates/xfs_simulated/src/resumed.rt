@@ -62,7 +62,7 @@ fn resumed(alloc: Global, units: &UnitTable, told: Told) -> Option<SimMech>
     ensures told { IfSome result (λ mech. (done_by mech ≡ told.motions.items) × (places_of mech ≡ told.places)) }
 {
     if places_fit(units, &told.places) {
-        Some(SimMech::resume(alloc, units.copied(), told.places, told.motions))
+        Some(SimMech::resume(units.copied(), told.places, told.motions, Vec::new(alloc)))
     } else {
         None
     }
