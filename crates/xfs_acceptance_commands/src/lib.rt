@@ -1,4 +1,4 @@
-//! What only a call can show of texts, lines, commands, queues and mixes, as tests.
+//! What only a call can show of texts, lines, commands, queues, mixes and accounts, as tests.
 #![tactic(auto)]
 
 #[cfg(test)]
@@ -15,6 +15,8 @@ mod device_calls;
 mod envelope_calls;
 #[cfg(test)]
 mod hearing_calls;
+#[cfg(test)]
+mod host_calls;
 #[cfg(test)]
 mod json_calls;
 #[cfg(test)]

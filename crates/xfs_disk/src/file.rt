@@ -1,5 +1,5 @@
 //! A file as a disk.
-ghost use Rattle.std.specs.Prelude.{◌≡◌, ⊥, None, Ok, IfOk, OnOk, OnErr, true, false};
+ghost use Rattle.std.specs.Prelude.{◌≡◌, None, Ok, IfOk, OnOk, OnErr, true, false};
 ghost use Rattle.std.proofs.lemmas.Option.{none-some};
 ghost use Rattle.xfs_base.specs.Causes.{HasCause};
 ghost use Rattle.xfs_disk.specs.Wrapped.{file_faults, has_lost};
@@ -100,11 +100,14 @@ impl Disk for FileDisk {
     fn sync(&mut self) -> Result<(), Failed>
         ensures fails { has_lost self.old ≡ true → OnOk result ⊥ }
         ensures remembers { OnErr result (has_lost self.new ≡ true) }
-        ensures whole { OnOk result (has_lost self.new ≡ false) }
+        ensures same { OnOk result (has_lost self.new ≡ has_lost self.old) }
     {
         let answer = self.synced();
-        self.lost = answer.is_err();
-        self.counted(answer)
+        let result = self.counted(answer);
+        if result.is_err() {
+            self.lost = true;
+        }
+        result
     }
 }
 

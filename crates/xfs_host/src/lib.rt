@@ -22,6 +22,3 @@ pub use host::Host;
 pub use laws::every_history;
 pub use reply::Reply;
 pub use text::Text;
-
-#[cfg(test)]
-mod tests;

@@ -2,7 +2,6 @@ use Rattle.std.proofs.Common.{◌≡◌, List, map, subst}
 use Rattle.std.specs.Prelude.{IfOk}
 use Rattle.xfs_host.specs.Book.{Call, book_of, listed}
 use Rattle.xfs_host.specs.Kept.{call_of}
-use Rattle.xfs_host.specs.declared.account.Account.{Account}
 use Rattle.xfs_host.proofs.Entries.{found, listed_entries}
 use Rattle.xfs_host.proofs.ledger.Ledger.listed.Goals as goal
 

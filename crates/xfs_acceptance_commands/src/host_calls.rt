@@ -1,9 +1,9 @@
 //! What the host answers, call by call.
 
-use crate::{Ask, AskFault, Host, OpenFault, Reply};
 use std::alloc::Global;
 use std::test::Fail;
 use xfs_base::{Currency, Milli};
+use xfs_host::{Ask, AskFault, Host, OpenFault, Reply};
 use xfs_token::{Amounts, make};
 
 const KEY: [u8; 32] = [0x11; 32];
