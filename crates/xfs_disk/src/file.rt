@@ -98,6 +98,7 @@ impl Disk for FileDisk {
     }
 
     fn sync(&mut self) -> Result<(), Failed>
+        ensures cause { HasCause (file_faults self.old) (file_faults self.new) result }
         ensures fails { has_lost self.old ≡ true → OnOk result ⊥ }
         ensures remembers { OnErr result (has_lost self.new ≡ true) }
         ensures same { OnOk result (has_lost self.new ≡ has_lost self.old) }
