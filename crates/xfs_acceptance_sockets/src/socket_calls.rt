@@ -35,6 +35,10 @@ pub struct SetClock {
 }
 
 impl Clock for SetClock {
+    ghost use Rattle.std.specs.Prelude.{⊤};
+
+    ghost tells = { λ _ _. ⊤ };
+
     fn now(&self) -> Moment {
         Moment(self.millis.load(Ordering::SeqCst).min(1_000_000))
     }
