@@ -89,6 +89,8 @@ fn a_file_is_written_cut_synced_and_read(rt: HostRuntime) -> Result<(), Fail> {
 fn a_file_that_has_no_sync_fails_it(rt: HostRuntime) -> Result<(), Fail> {
     let mut null = FileDisk::new(opened(&rt, "/dev/null")?);
     assert!(rt; null.write_at(0, &[1]).is_ok());
-    assert!(rt; null.sync().is_err());
+    for _ in 0..3 {
+        assert!(rt; null.sync().is_err());
+    }
     Ok(())
 }

@@ -56,8 +56,28 @@ pub const TOO_LATE: Client = Client {
     service: Service::Cash,
     says: "{\"header\":{\"name\":\"CashDispenser.Dispense\",\"requestId\":1,\"type\":\"command\"},\"payload\":{\"denomination\":{\"currencies\":{\"EUR\":50}},\"mix\":\"minimum\",\"token\":\"NONCE=E56A5D4028BD86530000000000000001,TOKENFORMAT=1,TOKENLENGTH=0164,DISPENSE1=50.00EUR,HMACSHA256=3D5C9E3C4712EA6A5C3803CA4CB0E54958CB4C8778ACBBB26FEA1F6935956AC2\"}}",
     hears: &[
-        "{\"header\":{\"name\":\"CashDispenser.Dispense\",\"requestId\":1,\"type\":\"acknowledge\",\"version\":\"2.0\"}}",
+        DISPENSE_TAKEN,
         "{\"header\":{\"completionCode\":\"invalidTokenNonce\",\"name\":\"CashDispenser.Dispense\",\"requestId\":1,\"type\":\"completion\",\"version\":\"2.0\"},\"payload\":{\"journalRecord\":3}}",
+    ],
+    failing: None,
+};
+
+/// Its token is for the first nonce, which lives.
+pub const DISPENSE: Client = Client {
+    hears: &[
+        DISPENSE_TAKEN,
+        "{\"header\":{\"completionCode\":\"success\",\"name\":\"CashDispenser.Dispense\",\"requestId\":1,\"type\":\"completion\",\"version\":\"2.0\"},\"payload\":{\"denomination\":{\"currencies\":{\"EUR\":50},\"values\":{\"unit3\":1}}}}",
+    ],
+    ..TOO_LATE
+};
+
+/// It has put out what another client dispensed.
+pub const PRESENT: Client = Client {
+    service: Service::Cash,
+    says: "{\"header\":{\"name\":\"CashDispenser.Present\",\"requestId\":1,\"type\":\"command\"}}",
+    hears: &[
+        "{\"header\":{\"name\":\"CashDispenser.Present\",\"requestId\":1,\"type\":\"acknowledge\",\"version\":\"2.0\"}}",
+        "{\"header\":{\"completionCode\":\"success\",\"name\":\"CashDispenser.Present\",\"requestId\":1,\"type\":\"completion\",\"version\":\"2.0\"},\"payload\":{}}",
     ],
     failing: None,
 };
@@ -78,6 +98,9 @@ const GET_NONCE: &str =
 
 const NONCE_TAKEN: &str =
     "{\"header\":{\"name\":\"Common.GetCommandNonce\",\"requestId\":1,\"type\":\"acknowledge\",\"version\":\"2.0\"}}";
+
+const DISPENSE_TAKEN: &str =
+    "{\"header\":{\"name\":\"CashDispenser.Dispense\",\"requestId\":1,\"type\":\"acknowledge\",\"version\":\"2.0\"}}";
 
 /// It waits for a card, which is put in.
 pub const READ: Client = Client {

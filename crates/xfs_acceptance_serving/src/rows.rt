@@ -2,7 +2,8 @@
 
 use crate::bench::{a_card, a_key, machine};
 use crate::clients::{
-    CUT_OFF, ENTRY, LOST, NONCE, NONCE_2, READ, SERVICES, STATUS, TOO_LATE, TURNED_AWAY,
+    CUT_OFF, DISPENSE, ENTRY, LOST, NONCE, NONCE_2, PRESENT, READ, SERVICES, STATUS, TOO_LATE,
+    TURNED_AWAY,
 };
 use crate::doors::{Client, PatientDoors, crowd};
 use crate::scene::{Scene, Until};
@@ -13,7 +14,7 @@ use std::sync::atomic::Ordering;
 use std::test::Fail;
 use std::thread::Threads;
 use std::time;
-use xfs_base::{Clock, StdClock};
+use xfs_base::{Clock, Counts, StdClock};
 use xfs_server::{Doors, Gate};
 use xfs_serving::Ending;
 use xfs_serving_machine::serve_connections;
@@ -23,7 +24,8 @@ const ROOM: u32 = 64;
 
 /// The clients that come, the first of them so often; how many connections the server takes, and whether
 /// the doors fail once all have come; how many clients the gate holds back, and until when. How the server
-/// ends, how many clients heard all that they were to, and what the machine then tells.
+/// ends, how many clients heard all that they were to, and what the machine then tells: how many notes of the third unit were
+/// taken, too, and none lies in the outlet.
 #[derive(Clone, Copy)]
 struct Row {
     clients: &'static [Client],
@@ -36,6 +38,7 @@ struct Row {
     answered: u64,
     live: Option<u64>,
     records: &'static [u8],
+    taken: u32,
 }
 
 // All come, and none is held back. No nonce is issued.
@@ -51,6 +54,7 @@ const fn all(clients: &'static [Client], count: u32, answered: u64) -> Row {
         answered,
         live: None,
         records: b"B",
+        taken: 0,
     }
 }
 
@@ -129,6 +133,8 @@ fn is_served(report: &Report, row: &Row) -> bool {
         && report.told.open == 0
         && report.told.live == row.live
         && report.told.records.as_slice() == row.records
+        && report.told.places.taken == Counts([0, 0, row.taken, 0, 0, 0, 0, 0])
+        && report.told.places.outlet == Counts([0; 8])
 }
 
 #[test]
@@ -154,17 +160,30 @@ fn a_server_ends_when_its_sessions_have(rt: HostRuntime) -> Result<(), Fail> {
     Ok(())
 }
 
-// The client that came second is held until the third was told its nonce, and the first until both were answered.
+// The client that came second is held until the third was told its nonce, and the first until both were answered. So a
+// nonce of one client replaces that of another; and what one is told another dispenses and a third has put out, where
+// the worker of the outlet takes it.
 #[test]
-fn a_nonce_of_one_client_replaces_that_of_another(rt: HostRuntime) -> Result<(), Fail> {
-    let row = Row {
-        last: 2,
-        live: Some(2),
-        records: b"B12",
-        ..all(&[TOO_LATE, NONCE_2, NONCE], 3, 3)
-    };
-    let report = play(&rt, rt.alloc(), &row)?;
-    assert!(rt; is_served(&report, &row));
+fn what_one_client_does_another_finds(rt: HostRuntime) -> Result<(), Fail> {
+    let table = [
+        Row {
+            last: 2,
+            live: Some(2),
+            records: b"B12",
+            ..all(&[TOO_LATE, NONCE_2, NONCE], 3, 3)
+        },
+        Row {
+            last: 2,
+            live: Some(1),
+            records: b"B1TODOD",
+            taken: 1,
+            ..all(&[PRESENT, DISPENSE, NONCE], 3, 3)
+        },
+    ];
+    for (place, row) in table.iter().enumerate() {
+        let report = play(&rt, rt.alloc(), row)?;
+        assert!(rt; is_served(&report, row), "row {place}");
+    }
     Ok(())
 }
 

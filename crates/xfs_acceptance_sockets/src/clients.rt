@@ -28,6 +28,8 @@ pub struct Shared<'a, R, C> {
     pub currency: Currency,
     /// Where the server listens.
     pub ports: Ports,
+    /// So many connections it takes.
+    pub connections: u32,
     /// How often a withdrawal was tried.
     pub tries: AtomicU64,
     /// The server has ended.
@@ -36,7 +38,13 @@ pub struct Shared<'a, R, C> {
 
 impl<'a, R, C> Shared<'a, R, C> {
     /// Nobody has tried yet. None where EUR is no currency, which it is.
-    pub fn new(rt: &'a R, alloc: Global, clock: &'a C, ports: Ports) -> Option<Shared<'a, R, C>> {
+    pub fn new(
+        rt: &'a R,
+        alloc: Global,
+        clock: &'a C,
+        ports: Ports,
+        connections: u32,
+    ) -> Option<Shared<'a, R, C>> {
         let currency = Currency::new(b"EUR")?;
         Some(Shared {
             rt,
@@ -44,6 +52,7 @@ impl<'a, R, C> Shared<'a, R, C> {
             clock,
             currency,
             ports,
+            connections,
             tries: AtomicU64::new(0),
             is_over: AtomicBool::new(false),
         })

@@ -104,6 +104,17 @@ fn secrets_and_origins_are_those_of_their_files(rt: HostRuntime) -> Result<(), F
             })
         )
     );
+    fs::remove_file(&rt, &key)?;
+    fs::create_dir(&rt, &key)?;
+    assert!(rt;
+        matches!(
+            folder.secrets(),
+            Err(StartFault::UnreadSecret {
+                file: KEY_FILE,
+                why: _
+            })
+        )
+    );
     fs::write(&rt, &in_folder(&rt, &path, ORIGINS_FILE)?, b"null\n")?;
     assert!(rt;
         folder

@@ -8,6 +8,8 @@ mod bench;
 #[cfg(test)]
 mod clients;
 #[cfg(test)]
+mod crowd_calls;
+#[cfg(test)]
 mod folder_calls;
 #[cfg(test)]
 mod silence_calls;

@@ -35,6 +35,10 @@ pub struct SetClock {
 }
 
 impl Clock for SetClock {
+    ghost use Rattle.std.specs.Prelude.{⊤};
+
+    ghost tells = { λ _ _. ⊤ };
+
     fn now(&self) -> Moment {
         Moment(self.millis.load(Ordering::SeqCst).min(1_000_000))
     }
@@ -227,6 +231,12 @@ fn a_link_finds_what_its_peer_writes(rt: HostRuntime) {
     );
     assert!(rt; peer.write_all(&[0x61u8; 70_000]).is_ok());
     assert_eq!(rt; text_len(next_news(&mut link)), Some(70_000));
+    // a frame of 20,000 bytes
+    assert_eq!(rt; link.give(&[0x61u8; 20_000]), Ok(()));
+    assert!(rt; matches!(link.take(), Taking::Quiet));
+    assert!(rt; reads(&mut peer, &[0x81, 0x7e, 0x4e, 0x20]));
+    let mut frame = [0u8; 20_000];
+    assert!(rt; peer.read_exact(&mut frame).is_ok() && frame == [0x61u8; 20_000]);
 }
 
 #[test]

@@ -70,7 +70,7 @@ fn served<
     let Ok(doors) = TcpDoors::open(rt, alloc, &clock, ANY, Origins::none()) else {
         return Err("the ports".into());
     };
-    let shared = Shared::new(rt, alloc, &clock, doors.ports()).ok_or("the currency")?;
+    let shared = Shared::new(rt, alloc, &clock, doors.ports(), CONNECTIONS).ok_or("the currency")?;
     let gate = Steps::new(CLIENTS as u64, &clock);
     let (visits, Served { ending, machine }) = side_by_side(&shared, machine, doors, &gate);
     let account = account_of(alloc, units, machine)?;
@@ -107,8 +107,8 @@ fn side_by_side<
     )
 }
 
-// Serves so many connections, and tells when that is over.
-fn serve<
+/// Serves so many connections, and tells when that is over.
+pub fn serve<
     R: Threads + Wait + Sync,
     M: Mechanism + Send,
     D: Disk + Send,
@@ -119,7 +119,7 @@ fn serve<
     let served = serve_connections(
         shared.rt,
         shared.alloc,
-        CONNECTIONS,
+        shared.connections,
         machine,
         &mut doors,
         shared.clock,
@@ -160,8 +160,8 @@ fn visit<
     }
 }
 
-// Dials and hangs up until the server has taken all its connections.
-fn fill_up<
+/// Dials and hangs up until the server has taken all its connections.
+pub fn fill_up<
     R: Net<Listener = TcpListener, Stream = TcpStream> + RandomSource + Sync,
     C: Clock + Sync,
 >(shared: &Shared<R, C>) {
@@ -169,7 +169,7 @@ fn fill_up<
     else {
         return;
     };
-    for _ in 0..CONNECTIONS {
+    for _ in 0..shared.connections {
         if shared.is_over.load(Ordering::SeqCst) {
             return;
         }
