@@ -107,6 +107,7 @@ pub struct PatientDoors<'a, C: Clock> {
     fails: bool,
     came: u64,
     dials: u64,
+    last_dialled: Option<Service>,
     quiets: u64,
     faults: u64,
     scene: &'a Scene<'a, C>,
@@ -126,6 +127,7 @@ impl<'a, C: Clock> PatientDoors<'a, C> {
             fails,
             came: 0,
             dials: 0,
+            last_dialled: None,
             quiets: 0,
             faults: 0,
             scene,
@@ -150,7 +152,7 @@ impl<'a, C: Clock> PatientDoors<'a, C> {
 impl<'a, C: Clock + Sync> Doors for PatientDoors<'a, C> {
     type Link = Patient<'a, C>;
 
-    ghost log = { λ d. record { came = d.came; dials = d.dials; quiets = d.quiets; faults = d.faults } };
+    ghost log = { λ d. record { came = d.came; dials = d.dials; last_dialled = d.last_dialled; quiets = d.quiets; faults = d.faults } };
 
     fn next(&mut self) -> Door<Patient<'a, C>> {
         let Some(client) = self.clients.get(self.at) else {
@@ -172,8 +174,9 @@ impl<'a, C: Clock + Sync> Doors for PatientDoors<'a, C> {
         }
     }
 
-    fn dial(&mut self, _service: Service) -> Result<Patient<'a, C>, DialFault> {
+    fn dial(&mut self, service: Service) -> Result<Patient<'a, C>, DialFault> {
         self.dials = self.dials.saturating_add(1);
+        self.last_dialled = Some(service);
         self.faults = self.faults.saturating_add(1);
         Err(DialFault::Failed)
     }

@@ -6,7 +6,7 @@ use std::sync::atomic::{AtomicU64, Ordering};
 use std::{io, thread};
 use xfs_base::{Clock, Moment, Service};
 use xfs_server::{DialFault, Door, Doors, GiveFault, Link, Taking};
-use xfs_sockets::{Entrance, Origins, Port, Ports, SocketLink, TcpDoors, is_broken};
+use xfs_sockets::{Entrance, Origins, PORTS, Port, Ports, SocketLink, TcpDoors, is_broken};
 
 pub const ANY: Ports = Ports {
     publisher: 0,
@@ -35,9 +35,9 @@ pub struct SetClock {
 }
 
 impl Clock for SetClock {
-    ghost use Rattle.std.specs.Prelude.{⊤};
+    ghost use Rattle.std.specs.Prelude.{◌≤◌};
 
-    ghost tells = { λ _ _. ⊤ };
+    ghost tells = { λ _ moment. moment.0 ≤ 1000000 };
 
     fn now(&self) -> Moment {
         Moment(self.millis.load(Ordering::SeqCst).min(1_000_000))
@@ -203,6 +203,19 @@ fn reads(peer: &mut TcpStream, expected: &[u8]) -> bool {
     }
     let part = &mut bytes[..expected.len()];
     peer.read_exact(part).is_ok() && *part == *expected
+}
+
+#[test]
+fn each_service_has_its_port(rt: HostRuntime) {
+    let table = [
+        (Service::Publisher, 5846),
+        (Service::Card, 5847),
+        (Service::Keys, 5848),
+        (Service::Cash, 5849),
+    ];
+    for (service, port) in table {
+        assert_eq!(rt; PORTS.of(service), port);
+    }
 }
 
 #[test]

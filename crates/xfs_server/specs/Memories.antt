@@ -76,7 +76,7 @@ pub record TendedInMemory : Type 0 where
 -- doors before their first call
 abbrev pub begun_doors : List (Service × LinkInMemory) → Option LinkInMemory → List ℕ → DoorsInMemory
 begun_doors coming dialled failing = record {
-  log = record { came = 0; dials = 0; quiets = 0; faults = 0 };
+  log = record { came = 0; dials = 0; last_dialled = None; quiets = 0; faults = 0 };
   coming = coming;
   dialled = dialled;
   failing = failing;

@@ -39,6 +39,6 @@ pub trait Doors {
 
     /// Dials a service. The link has taken and sent nothing.
     fn dial(&mut self, service: Service) -> Result<Self::Link, DialFault>
-        ensures log { log self.new ≡ after_dial (log self.old) result }
+        ensures log { log self.new ≡ after_dial (log self.old) service result }
         ensures fresh { IfOk result (λ link. IsFresh (Self.Link.log link)) };
 }

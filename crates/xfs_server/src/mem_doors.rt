@@ -18,6 +18,7 @@ pub struct MemDoors {
     calls: u64,
     came: u64,
     dials: u64,
+    last_dialled: Option<Service>,
     quiets: u64,
     faults: u64,
 }
@@ -32,7 +33,7 @@ impl Model for MemDoors {
     ghost Value = { DoorsInMemory };
 
     ghost view = { λ d. record {
-      log = record { came = d.came; dials = d.dials; quiets = d.quiets; faults = d.faults };
+      log = record { came = d.came; dials = d.dials; last_dialled = d.last_dialled; quiets = d.quiets; faults = d.faults };
       coming = into_iter_items d.coming;
       dialled = d.dialled;
       failing = d.failing.items;
@@ -61,6 +62,7 @@ impl MemDoors {
             calls: 0,
             came: 0,
             dials: 0,
+            last_dialled: None,
             quiets: 0,
             faults: 0,
         }
@@ -102,8 +104,8 @@ impl Doors for MemDoors {
         }
     }
 
-    fn dial(&mut self, _service: Service) -> Result<MemLink, DialFault>
-        ensures log { self.new.log ≡ after_dial self.old.log result }
+    fn dial(&mut self, service: Service) -> Result<MemLink, DialFault>
+        ensures log { self.new.log ≡ after_dial self.old.log service result }
         ensures fresh { IfOk result (λ link. IsFresh link.log) }
         ensures failing { Contains self.old.failing (next_count self.old.calls) → result ≡ Err DialFault.Failed }
         ensures answer { (Contains self.old.failing (next_count self.old.calls) → ⊥) → Dials self.old.dialled result }
@@ -111,6 +113,7 @@ impl Doors for MemDoors {
     {
         self.calls = self.calls.saturating_add(1);
         self.dials = self.dials.saturating_add(1);
+        self.last_dialled = Some(service);
         if self.failing.contains(&self.calls) {
             self.faults = self.faults.saturating_add(1);
             return Err(DialFault::Failed);

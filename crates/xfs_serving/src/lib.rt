@@ -8,8 +8,10 @@ mod hall;
 mod server;
 mod session;
 mod staff;
+mod watches;
 mod worker;
 
 pub use backend::{Backend, Refusal};
 pub use ending::Ending;
 pub use server::serve;
+pub use watches::{CardWatch, KeyWatch};

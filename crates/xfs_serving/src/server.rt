@@ -7,6 +7,7 @@ use crate::backend::Backend;
 use crate::ending::Ending;
 use crate::hall::{Hall, Signals};
 use crate::staff::{Jobs, Staff};
+use crate::watches::{CardWatch, KeyWatch};
 use std::alloc::Global;
 use std::sync::Wait;
 use std::sync::atomic::Ordering;
@@ -34,8 +35,8 @@ pub fn serve<
     doors: &mut O,
     clock: &C,
     gate: &G,
-    cards: P,
-    keys: Q,
+    cards: CardWatch<P>,
+    keys: KeyWatch<Q>,
 ) -> (Ending, H)
     ensures doors { Takes count result.0 (O.log doors.old) (O.log doors.new) }
     ensures seen { IsPrefix (H.seen backend) (H.seen result.1) }
@@ -67,8 +68,8 @@ fn in_scope<
     hall: &Hall<R, C, G>,
     count: u32,
     backend: H,
-    cards: P,
-    keys: Q,
+    cards: CardWatch<P>,
+    keys: KeyWatch<Q>,
     doors: &'a mut O,
 ) -> (Ending, H, &'a mut O)
     ensures same { result.2.ghost_name ≡ doors.entry.ghost_name }
@@ -105,8 +106,8 @@ fn open_and_close<
     hall: &Hall<'s, R, C, G>,
     count: u32,
     mut backend: H,
-    cards: P,
-    keys: Q,
+    cards: CardWatch<P>,
+    keys: KeyWatch<Q>,
     doors: &mut O,
 ) -> (Ending, H)
 where

@@ -4,6 +4,7 @@ ghost use mathlib.Core.List.{IsPrefix};
 use crate::backend::{Backend, Refusal};
 use crate::hall::{Hall, Signals};
 use crate::session::{Running, session};
+use crate::watches::{CardWatch, KeyWatch};
 use crate::worker::{Job, Worker};
 use std::sync::atomic::{AtomicBool, Ordering};
 use std::sync::{Arc, Wait};
@@ -24,14 +25,15 @@ impl<B: Drop, P: Watch, Q: Watch> Jobs<B, P, Q> {
     /// What the three workers are to work on.
     pub fn new<H: Backend<Tended = B>>(
         backend: &mut H,
-        cards: P,
-        keys: Q,
+        cards: CardWatch<P>,
+        keys: KeyWatch<Q>,
     ) -> Result<Jobs<B, P, Q>, Memory>
         ensures { IsPrefix (H.seen backend.old) (H.seen backend.new) }
     {
         let card_board = backend.worker(Service::Card)?;
         let key_board = backend.worker(Service::Keys)?;
         let note_board = backend.worker(Service::Cash)?;
+        let (CardWatch(cards), KeyWatch(keys)) = (cards, keys);
         Ok(Jobs {
             cards: Job {
                 board: card_board,

@@ -1,4 +1,5 @@
-ghost use Rattle.std.specs.Prelude.{IfOk};
+ghost use Rattle.std.specs.Prelude.{◌≡◌, IfOk};
+ghost use Rattle.xfs_base.specs.declared.moment.Service.TheVariants as Service;
 ghost use Rattle.xfs_server.specs.Links.{IsFresh};
 
 use crate::SocketLink;
@@ -33,7 +34,12 @@ pub struct Ports {
 
 impl Ports {
     /// The port of a service.
-    pub fn of(&self, service: Service) -> u16 {
+    pub fn of(&self, service: Service) -> u16
+        ensures publisher { service ≡ Service.Publisher → result ≡ self.now.publisher }
+        ensures card { service ≡ Service.Card → result ≡ self.now.card }
+        ensures keys { service ≡ Service.Keys → result ≡ self.now.keys }
+        ensures cash { service ≡ Service.Cash → result ≡ self.now.cash }
+    {
         match service {
             Service::Publisher => self.publisher,
             Service::Card => self.card,
@@ -67,6 +73,7 @@ pub struct TcpDoors<
     entrance: Entrance<'a>,
     came: u64,
     dials: u64,
+    last_dialled: Option<Service>,
     quiets: u64,
     faults: u64,
     unreached: Option<(u16, ErrorKind)>,
@@ -134,6 +141,7 @@ impl<'a, R: Net<Listener = TcpListener, Stream = TcpStream> + RandomSource, C: C
             entrance,
             came: 0,
             dials: 0,
+            last_dialled: None,
             quiets: 0,
             faults: 0,
             unreached: None,
@@ -160,7 +168,7 @@ impl<
 > Doors for TcpDoors<'a, R, C> {
     type Link = SocketLink<'a, &'a R, C>;
 
-    ghost log = { λ d. record { came = d.came; dials = d.dials; quiets = d.quiets; faults = d.faults } };
+    ghost log = { λ d. record { came = d.came; dials = d.dials; last_dialled = d.last_dialled; quiets = d.quiets; faults = d.faults } };
 
     fn next(&mut self) -> Door<SocketLink<'a, &'a R, C>> {
         match self.entrance.next(self.alloc, self.clock.now()) {
@@ -185,6 +193,7 @@ impl<
 
     fn dial(&mut self, service: Service) -> Result<SocketLink<'a, &'a R, C>, DialFault> {
         self.dials = self.dials.saturating_add(1);
+        self.last_dialled = Some(service);
         let port = self.ports.of(service);
         let dialled = match TcpStream::connect(self.rt, ("127.0.0.1", port)) {
             Ok(stream) => self.connected(service, stream),

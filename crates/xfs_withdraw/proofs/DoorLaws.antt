@@ -2,6 +2,7 @@
 use Rattle.std.proofs.Common.{◌≡◌, ◌<◌, ◌↔◌, ℕ, Bool, true, false, Option, None, Some, Err, IfSome, refl, ap, sym, ◌∙◌, arith, rules}
 use Rattle.std.specs.Prelude.{option_map}
 use Rattle.xfs_base.specs.Causes.{Rose}
+use Rattle.xfs_base.specs.declared.moment.Service.TheVariants.{Cash}
 use Rattle.xfs_client.specs.Withdrawals.{Terms}
 use Rattle.xfs_server.specs.Doors.{DoorLog, after_dial}
 use Rattle.xfs_server.specs.Links.{LinkLog}
@@ -72,7 +73,7 @@ only-failed Failed e = refl
 only-failed Memory e = absurd (omega (arith, e))
 
 -- the doors failed in the one dial
-rose : (fault : DialFault) (before now : DoorLog) → dial_ending fault ≡ Failed → now ≡ after_dial {L = Unit {0}} before (Err fault) → Rose before.faults now.faults
+rose : (fault : DialFault) (before now : DoorLog) → dial_ending fault ≡ Failed → now ≡ after_dial {L = Unit {0}} before Cash (Err fault) → Rose before.faults now.faults
 rose DialFault.Failed before now e once = let raised = ap (λ d. d.faults) once in omega (arith, raised)
 rose DialFault.Memory before now e once = absurd (failed_not e)
   where

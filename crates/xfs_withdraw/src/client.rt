@@ -41,7 +41,7 @@ pub fn withdraw<R: Wait, O: Doors, C: Clock, K: Sink>(
 
     // The texts that the link sent are the withdrawal's asks after those that it handed over, and so it ended.
     ensures withdraws { IfSome result.link (λ link. Withdraws (terms_of currency amount key) result.ending (O.Link.log link)) }
-    // The doors were asked once for a link, and there is none exactly where they refused it.
+    // The cash dispenser was dialled once, and there is no link exactly where the doors refused it.
     ensures dialled { HasDialled result.link result.ending (O.log doors.old) (O.log doors.new) }
 
     // The last line is that of the ending: whole, or a prefix of it where the sink failed.
