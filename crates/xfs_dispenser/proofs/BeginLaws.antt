@@ -22,7 +22,7 @@ use Rattle.xfs_dispenser.specs.Answers.{Answer, told, planned}
 use Rattle.xfs_dispenser.specs.Begins.{IsDispensed, IsStorageSet, IsTold, RoomChecks, StartsWith, StorageChecks, added_refusal, are_few, unit_refusal}
 use Rattle.xfs_dispenser.specs.Checks.{Grant, Permits, TokenChecks, active_refusal, inactive_refusal, unfit_refusal, granted_unless, within_budget}
 use Rattle.xfs_dispenser.specs.Denominations.{FirstOf, MixGiven, NotesGiven, count_refusal, currency_refusal, given_unless, members_refusal}
-use Rattle.xfs_dispenser.specs.Plans.{CanBeginAll, IsPlanned, dispense_plan, storage_plan}
+use Rattle.xfs_dispenser.specs.Plans.{AreEight, CanBeginAll, IsPlanned, dispense_plan, storage_plan}
 use Rattle.xfs_dispenser.specs.Seen.{Seen}
 use Rattle.xfs_dispenser.specs.declared.leave.Leave.{Leave}
 use Rattle.xfs_dispenser.specs.declared.named.Named.{Named}
@@ -189,27 +189,27 @@ granted-notes v exchange notes token grant checks =
     go (Some bytes) (inr p) = rw (granted-given v bytes p.amounts p.given grant p.is) at p.gives
 
 -- a plan with no order open, whose parts can be begun
-planned-parts : (v : View) (plan : Plan) (parts : List Part) → v.open_order ≡ No → plan.failed ≡ false → plan.parts.items ≡ parts → parts ≢ [] → CanBeginAll v parts → IsPlanned v plan
-planned-parts v plan parts none fine are some can = record { some_left = λ e. subst (λ ps. ps ≢ []) (sym are) some; outcome = rw none tt; parts = subst (CanBeginAll v) (sym are) can }
+planned-parts : (v : View) (plan : Plan) (parts : List Part) → v.open_order ≡ No → plan.failed ≡ false → plan.parts.items ≡ parts → parts ≢ [] → CanBeginAll v parts → AreEight plan.notes → IsPlanned v plan
+planned-parts v plan parts none fine are some can eight = record { some_left = λ e. subst (λ ps. ps ≢ []) (sym are) some; outcome = rw none tt; parts = subst (CanBeginAll v) (sym are) can; eight = eight }
 
 pub dispense-planned : (s : Seen) (exchange : Bool) (notes : Notes) (token : Option (List ℕ)) (next : Seen) (plan : Plan) → s.guard.open_order ≡ No
     → IsDispensed s exchange notes token next (planned plan) → IsPlanned next.guard plan
 dispense-planned s exchange notes token next plan none d = leave d.leave refl d.starts
   where
-    checked : (c : Result Grant Refusal) (l : Leave) → d.checked ≡ c → Permits s c (Ok l) next → IsPlanned next.guard (dispense_plan l.issue l.counts)
-    checked (Err r) l e p = absurd (ok-err l r (Ok l) refl p.0)
-    checked (Ok grant) l e (inr u) = absurd (ok-err l _ (Ok l) refl u.is)
-    checked (Ok grant) l e (inl p) =
+    checked : (c : Result Grant Refusal) (l : Leave) → d.checked ≡ c → Permits s c (Ok l) next → length l.counts.0 ≡ 8 → IsPlanned next.guard (dispense_plan l.issue l.counts)
+    checked (Err r) l e p eight = absurd (ok-err l r (Ok l) refl p.0)
+    checked (Ok grant) l e (inr u) eight = absurd (ok-err l _ (Ok l) refl u.is)
+    checked (Ok grant) l e (inl p) eight =
         let same = bound-same s.guard next.guard grant.token grant.amounts p.binds in
         let notes_of = granted-notes s.guard exchange notes token grant (rw e at d.checks) in
         let counts : l.counts ≡ grant.counts = ap (λ (x : Leave). x.counts) (ok-same l _ (Ok l) refl p.is) in
         planned-parts next.guard (dispense_plan l.issue l.counts) (stacks_from l.issue 1 l.counts.0) (same.2 ∙ none) refl (stacks-all l.issue l.counts.0)
         (rw counts (stacks-left l.issue 1 grant.counts.0 (given-some s.guard.units s.guard.places.units notes grant.counts notes_of.0 notes_of.1)))
-        (rw counts (stacks-begin next.guard l.issue 0 grant.counts.0 (λ w high. let h = rw same.0 at high in given-past s.guard.units s.guard.places.units notes grant.counts notes_of.1 w (omega (arith, h)))))
+        (rw counts (stacks-begin next.guard l.issue 0 grant.counts.0 (λ w high. let h = rw same.0 at high in given-past s.guard.units s.guard.places.units notes grant.counts notes_of.1 w (omega (arith, h))))) eight
 
     leave : (r : Result Leave Refusal) → d.leave ≡ r → StartsWith r (λ (l : Leave). planned (dispense_plan l.issue l.counts)) (planned plan) → IsPlanned next.guard plan
     leave (Err r) e t = absurd (told-plan r plan t)
-    leave (Ok l) e t = rw (same-plan plan (dispense_plan l.issue l.counts) t) (checked d.checked l refl (rw e at d.permits))
+    leave (Ok l) e t = rw (same-plan plan (dispense_plan l.issue l.counts) t) (checked d.checked l refl (rw e at d.permits) (rw e at d.eight))
 
 pub storage-planned : (v : View) (exchange : Bool) (added : Named) (plan : Plan) → v.open_order ≡ No → IsStorageSet v exchange added (planned plan) → IsPlanned v plan
 storage-planned v exchange added plan none d = go d.checked d.checks d.starts
@@ -224,7 +224,7 @@ storage-planned v exchange added plan none d = go d.checked d.checks d.starts
     room : (a : Named) (counts : Counts) → added_refusal a ≡ None → RoomChecks v a (Ok counts) → IsPlanned v (storage_plan counts)
     room OtherName counts e r = absurd r
     room (These asked) counts e r =
-        rw r.0 (planned-parts v (storage_plan asked) (loads_from 1 asked.0) none refl (loads-all asked.0) (loads-left 1 asked.0 (some asked e)) (loads-begin v 0 asked.0 (λ w more. rw (shift w) (r.1 w more))))
+        rw r.0 (planned-parts v (storage_plan asked) (loads_from 1 asked.0) none refl (loads-all asked.0) (loads-left 1 asked.0 (some asked e)) (loads-begin v 0 asked.0 (λ w more. rw (shift w) (r.1 w more))) tt)
       where
         shift : (w : ℕ) → 0 + w + 1 ≡ w + 1
         shift w = omega arith

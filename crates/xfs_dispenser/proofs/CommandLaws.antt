@@ -22,6 +22,7 @@ dispense-invalid s exchange notes token refusal start e t = record {
   checks = subst (λ o. FirstOf {T = Grant} o (FirstOf (active_refusal exchange) (LeaveChecks s.guard notes token)) (Err refusal)) (sym e) refl;
   leave = Err refusal;
   permits = (refl, refl);
+  eight = tt;
   starts = t;
 }
 
@@ -34,6 +35,7 @@ dispense-active s exchange notes token refusal start e f t = record {
       (subst (λ o. FirstOf {T = Grant} o (LeaveChecks s.guard notes token) (Err refusal)) (sym f) refl);
   leave = Err refusal;
   permits = (refl, refl);
+  eight = tt;
   starts = t;
 }
 
@@ -51,6 +53,7 @@ dispense-refused s exchange notes token text next refusal start e f same leave t
           (subst (λ o. FirstOf {T = Grant} o (LeaveChecks s.guard notes token) l.checked) (sym f) l.checks);
       leave = Err refusal;
       permits = l.permits;
+      eight = tt;
       starts = t;
     }
 

@@ -1,6 +1,6 @@
 -- Nothing stands against a dispense that its token covers, nor against a present behind it.
 use Rattle.std.proofs.Common.{◌≡◌, ◌≢◌, ◌≤◌, ◌+◌, ◌*◌, ◌==◌, ◌⊎◌, ℕ, zero, suc, Bool, true, false, List, [], ◌∷◌, ◌++◌, length, drop, get_or, None, Some, Ok, Err, inl, inr, refl, sym, subst, ◌∙◌, ap, arith, true≢false}
-use Rattle.std.specs.Prelude.{◌||◌, nat_lt, not, sum, zip, slice_get, if◌then◌else◌}
+use Rattle.std.specs.Prelude.{◌||◌, IfOk, nat_lt, not, sum, zip, slice_get, if◌then◌else◌}
 use Rattle.std.specs.List.{prefix_len}
 use Rattle.std.specs.Str.{bytes_eq}
 use Rattle.std.specs.Option.{option_map, option_map_or}
@@ -287,6 +287,7 @@ pub record IsLeft (s : Seen) (notes : Notes) (token : List ℕ) (amounts : List 
   pub lives : option_map (λ (n : Nonce). n.number) (live_nonce s.guard.records) ≡ Some issue
   pub binds : Binds s.guard bound.guard grant.token grant.amounts
   pub later : s.disk_faults ≤ bound.disk_faults
+  pub eight : length grant.counts.0 ≡ 8
   pub is : start ≡ planned (dispense_plan issue grant.counts)
 
 dispense-left : (s bound : Seen) (notes : Notes) (token : List ℕ) (start : Start) (c : CanGive s.guard notes token) → IsCalm s bound → IsDispensed s false notes (Some token) bound start
@@ -312,6 +313,7 @@ dispense-left s bound notes token start c calm d = elim (checked-granted s.guard
       lives = p.lives;
       binds = p.binds;
       later = p.later;
+      eight = subst (λ r. IfOk r (λ (l : Leave). length l.counts.0 ≡ 8)) p.is d.eight;
       is = subst (λ r. StartsWith r (λ (l : Leave). planned (dispense_plan l.issue l.counts)) start) p.is d.starts;
     }
 
@@ -405,7 +407,7 @@ dispense-full s bound notes token start none c calm d =
       counts = l.grant.counts;
       given = l.given;
       plan = l.is;
-      done = λ next went eight still turns. given-full s bound notes token start c l next went none eight still turns;
+      done = λ next went still turns. given-full s bound notes token start c l next went none l.eight still turns;
     }
 
 presented-full : (s next : Seen) (went : Went) → s.guard.open_order ≡ No → CanPresent s.guard → IsCalm s next → Turns 3 s (order_plan Ask.Present) next went → IsPresented s next went

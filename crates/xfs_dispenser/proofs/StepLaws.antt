@@ -167,4 +167,5 @@ planned-still v w plan orders units room p = record {
   some_left = λ e. p.some_left (sym orders ∙ e);
   outcome = subst (λ o. KeepsOutcome o plan.failed) (sym orders) p.outcome;
   parts = begin-still v w plan.parts.items units room p.parts;
+  eight = p.eight;
 }

@@ -16,7 +16,7 @@ use Rattle.xfs_guard.specs.declared.ask.Ask.TheVariants.{Reject, Retract}
 use Rattle.xfs_guard.specs.declared.open.Open.{Open}
 use Rattle.xfs_guard.specs.declared.open.Open.TheVariants.{No, Written, Acted}
 use Rattle.xfs_dispenser.specs.Answers.{Answer, Went, more, done, went_of}
-use Rattle.xfs_dispenser.specs.Plans.{CanBeginAll, IsPlanned, KeepsOutcome, emptying, order_of_all, with_parts}
+use Rattle.xfs_dispenser.specs.Plans.{AreEight, CanBeginAll, IsPlanned, KeepsOutcome, emptying, order_of_all, with_parts}
 use Rattle.xfs_dispenser.specs.Seen.{Seen}
 use Rattle.xfs_dispenser.specs.Steps.{DoesFirst, DoesPart, IsActed, IsSettled, Loads, Notes, Orders, Restores, Works, WorksOn, onward, settled}
 use Rattle.xfs_dispenser.specs.declared.part.Part.{Part}
@@ -41,11 +41,15 @@ loaded-on units notes parts answer true e = absurd (never answer e)
 loaded-on units notes parts answer false e = (refl, goes-on units notes parts e)
 
 -- a plan with no order open
-closed : (v : View) (plan : Plan) (parts : List Part) → plan.parts.items ≡ parts → v.open_order ≡ No → parts ≢ [] → CanBeginAll v parts → IsPlanned v plan
-closed v plan parts is none some can = record { some_left = λ e. λ f. some (sym is ∙ f); outcome = subst (λ o. KeepsOutcome o plan.failed) (sym none) tt; parts = subst (CanBeginAll v) (sym is) can }
+closed : (v : View) (plan : Plan) (parts : List Part) → plan.parts.items ≡ parts → v.open_order ≡ No → parts ≢ [] → CanBeginAll v parts → AreEight plan.notes → IsPlanned v plan
+closed v plan parts is none some can eight = record { some_left = λ e. λ f. some (sym is ∙ f); outcome = subst (λ o. KeepsOutcome o plan.failed) (sym none) tt; parts = subst (CanBeginAll v) (sym is) can; eight = eight }
 
 with-parts : (after plan : Plan) (parts : List Part) → after ≡ with_parts plan parts → after.parts.items ≡ parts
 with-parts after plan parts e = ap (λ (p : Plan). p.parts.items) e
+
+-- what the plan tells stays
+with-notes : (after plan : Plan) (parts : List Part) → after ≡ with_parts plan parts → AreEight plan.notes → AreEight after.notes
+with-notes after plan parts e eight = subst AreEight (sym (ap (λ (p : Plan). p.notes) e)) eight
 
 acted-planned : (s : Seen) (plan : Plan) (next : Seen) (after : Plan) (went : Went) → IsPlanned s.guard plan → IsActed s plan next after went → IsPlanned next.guard after
 acted-planned s plan next after went p a =
@@ -55,12 +59,14 @@ acted-planned s plan next after went p a =
       some_left = λ e. absurd (let f : Acted a.acts.kind a.outcome.moved a.outcome.diverted a.outcome.failed ≡ No = sym open_now ∙ e in cc);
       outcome = subst (λ o. KeepsOutcome o after.failed) (sym open_now) (ap (λ (x : Plan). x.failed) a.kept);
       parts = subst (CanBeginAll next.guard) (sym parts) (begin-still s.guard next.guard plan.parts.items (ap (λ (v : View). v.units) a.acts.same) (moved-room s.guard.places next.guard.places _ a.acts.kind a.outcome.moved a.outcome.diverted a.acts.places) p.parts);
+      eight = subst AreEight (sym (ap (λ (x : Plan). x.notes) a.kept)) p.eight;
     }
 
 settled-planned : (s : Seen) (plan : Plan) (failed : Bool) (next : Seen) (after : Plan) → IsPlanned s.guard plan → after ≡ plan → IsSettled s plan failed next more → IsPlanned next.guard after
 settled-planned s plan failed next after p kept i =
     closed next.guard after plan.parts.items (ap (λ (x : Plan). x.parts.items) kept) (ap (λ (v : View). v.open_order) i.settles.same) (settled-on s.guard.units plan failed i.is)
     (begin-still s.guard next.guard plan.parts.items (ap (λ (v : View). v.units) i.settles.same) (same-room s.guard.places next.guard.places (ap (λ (v : View). v.places) i.settles.same)) p.parts)
+    (subst AreEight (sym (ap (λ (x : Plan). x.notes) kept)) p.eight)
 
 order-begins : (v : View) (counts : Counts) (rest : List Part) → CanBeginAll v rest → CanBeginAll v (order_of_all Reject counts ++ rest)
 order-begins v counts rest can = go (sum counts.0 == 0)
@@ -76,43 +82,47 @@ last-begins v counts = go (sum counts.0 == 0)
     go true = tt
     go false = (tt, tt, tt)
 
-orders-planned : (s : Seen) (plan : Plan) (next : Seen) (after : Plan) (ask : Ask) (rest : List Part) → CanBeginAll s.guard rest → Orders ask rest s plan next after more → IsPlanned next.guard after
-orders-planned s plan next after ask rest can (inl (w, left, is)) =
+orders-planned : (s : Seen) (plan : Plan) (next : Seen) (after : Plan) (ask : Ask) (rest : List Part) → CanBeginAll s.guard rest → AreEight plan.notes → Orders ask rest s plan next after more → IsPlanned next.guard after
+orders-planned s plan next after ask rest can eight (inl (w, left, is)) =
     let parts = with-parts after plan rest left in
     let same = w.becomes.guard_is in
     record {
       some_left = λ e. absurd (let f : Written (asked_kind ask) (asked_counts s.guard ask) ≡ No = sym (ap (λ (v : View). v.open_order) same) ∙ e in cc);
       outcome = subst (λ o. KeepsOutcome o after.failed) (sym (ap (λ (v : View). v.open_order) same)) tt;
       parts = subst (CanBeginAll next.guard) (sym parts) (begin-still s.guard next.guard rest (ap (λ (v : View). v.units) same) (same-room s.guard.places next.guard.places (ap (λ (v : View). v.places) same)) can);
+      eight = with-notes after plan rest left eight;
     }
-orders-planned s plan next after ask rest can (inr (kept, inl d)) = absurd (never d.answer d.is)
-orders-planned s plan next after ask rest can (inr (kept, inr u)) = absurd (never _ u.is)
+orders-planned s plan next after ask rest can eight (inr (kept, inl d)) = absurd (never d.answer d.is)
+orders-planned s plan next after ask rest can eight (inr (kept, inr u)) = absurd (never _ u.is)
 
-restores-planned : (s : Seen) (plan : Plan) (next : Seen) (after : Plan) → Restores s plan next after more → IsPlanned next.guard after
-restores-planned s plan next after (inl r) =
+restores-planned : (s : Seen) (plan : Plan) (next : Seen) (after : Plan) → AreEight plan.notes → Restores s plan next after more → IsPlanned next.guard after
+restores-planned s plan next after eight (inl r) =
     closed next.guard after (emptying s.guard.places) (with-parts after plan (emptying s.guard.places) r.left) (ap (λ (v : View). v.open_order) r.becomes.guard_is) (goes-on s.guard.units plan.notes (emptying s.guard.places) r.is)
     (order-begins next.guard s.guard.places.transport (order_of_all Retract s.guard.places.outlet) (last-begins next.guard s.guard.places.outlet))
-restores-planned s plan next after (inr (kept, told, how)) = absurd (never _ told)
+    (with-notes after plan (emptying s.guard.places) r.left eight)
+restores-planned s plan next after eight (inr (kept, told, how)) = absurd (never _ told)
 
-loads-planned : (s : Seen) (plan : Plan) (next : Seen) (after : Plan) (unit count : ℕ) (rest : List Part) → s.guard.open_order ≡ No → CanBeginAll s.guard (Load unit count ∷ rest) → Loads unit count rest s plan next after more → IsPlanned next.guard after
-loads-planned s plan next after unit count rest none can l =
+loads-planned : (s : Seen) (plan : Plan) (next : Seen) (after : Plan) (unit count : ℕ) (rest : List Part) → s.guard.open_order ≡ No → CanBeginAll s.guard (Load unit count ∷ rest) → AreEight plan.notes → Loads unit count rest s plan next after more → IsPlanned next.guard after
+loads-planned s plan next after unit count rest none can eight l =
     let on = loaded-on s.guard.units plan.notes rest _ l.outcome.failed l.is in
     closed next.guard after rest (with-parts after plan rest l.left) (ap (λ (v : View). v.open_order) l.reported.same ∙ none) on.1
     (begin-loaded s.guard next.guard unit count rest (ap (λ (v : View). v.units) l.reported.same) (l.reported.reported.places on.0) can.1 can.2)
+    (with-notes after plan rest l.left eight)
 
-notes-planned : (s : Seen) (plan : Plan) (next : Seen) (after : Plan) (r : Rec) (rest : List Part) → s.guard.open_order ≡ No → CanBeginAll s.guard rest → Notes r rest s plan next after more → IsPlanned next.guard after
-notes-planned s plan next after r rest none can (inl (w, left, is)) =
+notes-planned : (s : Seen) (plan : Plan) (next : Seen) (after : Plan) (r : Rec) (rest : List Part) → s.guard.open_order ≡ No → CanBeginAll s.guard rest → AreEight plan.notes → Notes r rest s plan next after more → IsPlanned next.guard after
+notes-planned s plan next after r rest none can eight (inl (w, left, is)) =
     let same = w.becomes.guard_is in
     closed next.guard after rest (with-parts after plan rest left) (ap (λ (v : View). v.open_order) same ∙ none) (goes-on s.guard.units plan.notes rest is)
     (begin-still s.guard next.guard rest (ap (λ (v : View). v.units) same) (same-room s.guard.places next.guard.places (ap (λ (v : View). v.places) same)) can)
-notes-planned s plan next after r rest none can (inr (kept, inl d)) = absurd (never d.answer d.is)
-notes-planned s plan next after r rest none can (inr (kept, inr u)) = absurd (never _ u.is)
+    (with-notes after plan rest left eight)
+notes-planned s plan next after r rest none can eight (inr (kept, inl d)) = absurd (never d.answer d.is)
+notes-planned s plan next after r rest none can eight (inr (kept, inr u)) = absurd (never _ u.is)
 
-part-planned : (part : Part) (rest : List Part) (s : Seen) (plan : Plan) (next : Seen) (after : Plan) → s.guard.open_order ≡ No → CanBeginAll s.guard (part ∷ rest) → DoesPart part rest s plan next after more → IsPlanned next.guard after
-part-planned (Order ask) rest s plan next after none can w = orders-planned s plan next after ask rest can.2 w
-part-planned Restore rest s plan next after none can w = restores-planned s plan next after w
-part-planned (Load unit count) rest s plan next after none can w = loads-planned s plan next after unit count rest none can w
-part-planned (Note unit count) rest s plan next after none can w = notes-planned s plan next after (LoadRecord unit count) rest none can.2 w
+part-planned : (part : Part) (rest : List Part) (s : Seen) (plan : Plan) (next : Seen) (after : Plan) → s.guard.open_order ≡ No → CanBeginAll s.guard (part ∷ rest) → AreEight plan.notes → DoesPart part rest s plan next after more → IsPlanned next.guard after
+part-planned (Order ask) rest s plan next after none can eight w = orders-planned s plan next after ask rest can.2 eight w
+part-planned Restore rest s plan next after none can eight w = restores-planned s plan next after eight w
+part-planned (Load unit count) rest s plan next after none can eight w = loads-planned s plan next after unit count rest none can eight w
+part-planned (Note unit count) rest s plan next after none can eight w = notes-planned s plan next after (LoadRecord unit count) rest none can.2 eight w
 
 -- a step that leaves more to do
 pub work-planned : (s : Seen) (plan : Plan) (next : Seen) (after : Plan) → IsPlanned s.guard plan → Works s plan next after more → IsPlanned next.guard after
@@ -120,7 +130,7 @@ work-planned s plan next after p w = go s.guard.open_order refl w
   where
     first : (parts : List Part) → s.guard.open_order ≡ No → CanBeginAll s.guard parts → DoesFirst parts s plan next after more → IsPlanned next.guard after
     first [] none can d = absurd d
-    first (part ∷ rest) none can d = part-planned part rest s plan next after none can d
+    first (part ∷ rest) none can d = part-planned part rest s plan next after none can p.eight d
 
     go : (o : Open) → s.guard.open_order ≡ o → WorksOn o s plan next after more → IsPlanned next.guard after
     go (Written kind counts) e a = acted-planned s plan next after more p a

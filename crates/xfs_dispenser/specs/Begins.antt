@@ -1,5 +1,5 @@
 -- How a command of the dispenser begins: the first check that applies is its answer; else it is done at once, or it has a plan.
-use Rattle.std.specs.Prelude.{◌≡◌, ◌<◌, ◌+◌, ◌&&◌, ℕ, Bool, true, false, List, length, drop, not, nat_lt, Some, None, Ok, Err, if◌then◌else◌}
+use Rattle.std.specs.Prelude.{◌≡◌, ◌<◌, ◌+◌, ◌&&◌, ℕ, Bool, true, false, List, length, drop, not, nat_lt, Some, None, Ok, Err, IfOk, if◌then◌else◌}
 use Rattle.std.specs.List.{list_all}
 use Rattle.std.specs.declared.option.Option.{Option}
 use Rattle.std.specs.declared.result.Result.{Result}
@@ -49,12 +49,13 @@ pub record IsDenominated (v : View) (notes : Notes) (start : Start) : Type 0 whe
   pub checks : Denominates v notes given
   pub starts : StartsWith given (λ counts. told (denominated v.units counts)) start
 
--- Dispense: the token is bound, and the orders of the units are planned
+-- Dispense: the token is bound, and the orders of the units are planned, for a count of each of eight units
 pub record IsDispensed (s : Seen) (exchange : Bool) (notes : Notes) (token : Option (List ℕ)) (next : Seen) (start : Start) : Type 0 where
   pub checked : Result Grant Refusal
   pub checks : DispenseChecks s.guard exchange notes token checked
   pub leave : Result Leave Refusal
   pub permits : Permits s checked leave next
+  pub eight : IfOk leave (λ (l : Leave). length l.counts.0 ≡ 8)
   pub starts : StartsWith leave (λ (l : Leave). planned (dispense_plan l.issue l.counts)) start
 
 -- each count is at most 10,000

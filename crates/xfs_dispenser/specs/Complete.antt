@@ -75,7 +75,7 @@ pub record IsBegunInFull (s : Seen) (notes : Notes) (bound : Seen) (start : Star
   pub counts : CountsOf
   pub given : NotesGiven s.guard.units s.guard.places.units notes (Ok counts)
   pub plan : start ≡ planned (dispense_plan issue counts)
-  pub done : (next : Seen) (went : Went) → length counts.0 ≡ 8 → IsCalm bound next → Turns (3 * length (dispense_plan issue counts).parts.items) bound (dispense_plan issue counts) next went → IsGiven s counts next went
+  pub done : (next : Seen) (went : Went) → IsCalm bound next → Turns (3 * length (dispense_plan issue counts).parts.items) bound (dispense_plan issue counts) next went → IsGiven s counts next went
 
 -- what is done where nothing stands against it and no count of faults rises
 pub record IsComplete : Type 0 where

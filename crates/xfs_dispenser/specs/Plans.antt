@@ -1,5 +1,5 @@
 -- The plans of the dispenser's commands: the parts that are left to be done, in their order.
-use Rattle.std.specs.Prelude.{◌≡◌, ◌≢◌, ◌≤◌, ℕ, ◌==◌, Bool, false, List, [], ◌∷◌, ◌++◌, length, map, flat_map, sum, ⊤, Some, None, if◌then◌else◌}
+use Rattle.std.specs.Prelude.{◌≡◌, ◌≢◌, ◌≤◌, ℕ, ◌==◌, Bool, false, List, [], ◌∷◌, ◌++◌, length, map, flat_map, sum, ⊤, Some, None, IfSome, if◌then◌else◌}
 use Rattle.std.specs.List.{AllByRecursion}
 use Rattle.std.specs.declared.option.Option.{Option}
 use Rattle.xfs_base.specs.declared.counts.Counts.{Counts}
@@ -80,8 +80,13 @@ abbrev pub KeepsOutcome : Open → Bool → Type 0
 KeepsOutcome (Acted kind moved diverted failed) kept = kept ≡ failed
 KeepsOutcome other kept = ⊤
 
--- a plan that can be worked on: an order is open or a part is left, an acted order's failure is kept, and each part that is left can be begun
+-- the notes that a plan tells are a count for each of eight units
+abbrev pub AreEight : Option Counts → Type 0
+AreEight notes = IfSome notes (λ counts. length counts.0 ≡ 8)
+
+-- a plan that can be worked on: an order is open or a part is left, an acted order's failure is kept, each part that is left can be begun, and the notes that it tells are eight counts
 pub record IsPlanned (v : View) (plan : Plan) : Type 0 where
   pub some_left : v.open_order ≡ No → plan.parts.items ≢ []
   pub outcome : KeepsOutcome v.open_order plan.failed
   pub parts : CanBeginAll v plan.parts.items
+  pub eight : AreEight plan.notes

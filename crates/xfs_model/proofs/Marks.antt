@@ -47,10 +47,9 @@ use Rattle.xfs_model.specs.Step.{Happens, Hands, Leaves, Posts, Step, at_moment,
 use Rattle.xfs_model.specs.Touches.{CardSays, IsHeard, TakesNotes, Touches, TouchesCard, TouchesKeys, failed, running_at, shut, took}
 use Rattle.xfs_model.specs.Work as working
 use Rattle.xfs_model.specs.Work.{case_of, is_overdue, is_stopped}
-use Rattle.xfs_model.proofs.Keeping.{is_open}
 use Rattle.xfs_model.proofs.Queues.{itself, queue_here, queue_same, queue_there, same_service}
 use Rattle.xfs_dispenser.specs.Answers.{Start, told, planned, Went, more, done as over}
-use Rattle.xfs_model.specs.Causes.{IsCancelOf, IsMarked, MarksHaveCauses, before, canceled_by, left_by, was_marked}
+use Rattle.xfs_model.specs.Causes.{IsCancelOf, IsMarked, IsOwnPass, MarksHaveCauses, before, canceled_by, left_by, was_marked, was_pending}
 use Rattle.xfs_model.proofs.Changes.{each}
 use Rattle.xfs_model.proofs.Wanting.{unmoved}
 use Rattle.std.proofs.lemmas.Slice.Eq.{bytes_eq-Decides}
@@ -71,6 +70,10 @@ itself_at t =
     let client : (t.client.0 == t.client.0) ≡ true = eq-eqb t.client.0 t.client.0 refl in
     let id : (t.id == t.id) ≡ true = eq-eqb t.id t.id refl in
     rw client id
+
+-- each command of a list is in it
+pending_same : (q : List (Command Job)) → All (λ (a : Command Job). list_any (is_at (ticket_of a)) q ≡ true) q
+pending_same q k d within = any_at (is_at (ticket_of (get_or q k d))) q k d within (itself_at (ticket_of (get_or q k d)))
 
 -- the command of this ticket is marked in a list
 abbrev has_mark : List (Command Job) → Ticket → Bool
@@ -232,9 +235,11 @@ from_before old event new same = λ service. each (λ b. b.marked ≡ true → h
 -- a command of the same ticket is marked for the same reason
 same_reason : (old : State) (event : Event) (service : Service) (a b : Command Job) → ticket_of b ≡ ticket_of a → IsMarked old event service a → IsMarked old event service b
 same_reason old event service a b same (before was) = before (subst (λ t. was_marked old service t ≡ true) (sym same) was)
-same_reason old event service a b same (canceled_by pass text now is mine cancels) =
-    canceled_by pass text now is (mine ∙ sym (ap (λ (t : Ticket). t.client.0) same)) (subst (λ (t : Ticket). IsCancelOf text t.id) (sym same) cancels)
-same_reason old event service a b same (left_by pass is mine) = left_by pass is (mine ∙ sym (ap (λ (t : Ticket). t.client.0) same))
+same_reason old event service a b same (canceled_by pass text now is mine there cancels) =
+    canceled_by pass text now is (subst (λ (t : Ticket). IsOwnPass old pass service t.client) (sym same) mine) (subst (λ (t : Ticket). was_pending old service t ≡ true) (sym same) there)
+    (subst (λ (t : Ticket). IsCancelOf text t.id) (sym same) cancels)
+same_reason old event service a b same (left_by pass is mine there) =
+    left_by pass is (subst (λ (t : Ticket). IsOwnPass old pass service t.client) (sym same) mine) (subst (λ (t : Ticket). was_pending old service t ≡ true) (sym same) there)
 
 stop_ticket : (b : Bool) (a : Command Job) → ticket_of (cond b (with_result (plain Canceled) a) a) ≡ ticket_of a
 stop_ticket true a = refl
@@ -249,7 +254,7 @@ either true y h = inl refl
 either false y h = inr h
 
 -- a text that an open connection posts
-module _ (old : State) (pass : Pass) (text : List ℕ) (now : Moment) (k : Connection) (mine : k.client.0 ≡ pass.client.0) (new : State) where
+module _ (old : State) (pass : Pass) (text : List ℕ) (now : Moment) (k : Connection) (found : connection_of old pass ≡ Some k) (new : State) where
   abbrev s : State
   s = at_moment old now
 
@@ -282,7 +287,7 @@ module _ (old : State) (pass : Pass) (text : List ℕ) (now : Moment) (k : Conne
             let a : Command Job = get_or (queue_at old k.service) i d in
             let is : is_named k.client ids a ≡ true = (and_parts (is_named k.client ids a) (not (is_ready a.stage)) named).0 in
             let parts = and_parts (is_of k.client a) (names ids a.id) is in
-            canceled_by pass text now refl (sym mine ∙ sym (eqb-true a.client.0 k.client.0 parts.0)) (cancels a.id parts.1)
+            canceled_by pass text now refl (record { connection = k; is_open = found; at_service = refl; its = sym (eqb-true a.client.0 k.client.0 parts.0) }) (pending_same (queue_at old k.service) i d within) (cancels a.id parts.1)
       ])))
 
   at_once_marks : (c : envelope.Command) → command_in text ≡ Ok c → All (λ b. b.marked ≡ true → IsMarked old event k.service b) (done_at_once s k c).queue
@@ -325,7 +330,7 @@ posts old pass text now new is = go (connection_of old pass) refl is
   where
     go : (o : Option Connection) → connection_of old pass ≡ o → MatchOption o (new ≡ old) (λ k. Takes (at_moment old now) k (command_in text) new) → MarksHaveCauses old (post pass text now) new
     go None none is = from_before old (post pass text now) new (rw is (same_state old))
-    go (Some k) found is = takes old pass text now k (is_open old pass k (old.boot == pass.boot) refl found).named new (command_in text) refl is
+    go (Some k) found is = takes old pass text now k found new (command_in text) refl is
 
 hands : (old : State) (pass : Pass) (frames : List (List ℕ)) (new : State) → Hands old pass frames new → Same old new
 hands old pass frames new is = go (connection_of old pass) is
@@ -337,19 +342,20 @@ hands old pass frames new is = go (connection_of old pass) is
 leaves : (old : State) (pass : Pass) (new : State) → Leaves old pass new → MarksHaveCauses old (leave pass) new
 leaves old pass new is = go (connection_of old pass) refl is
   where
-    at_place : (k : Connection) → k.client.0 ≡ pass.client.0 → All (λ b. b.marked ≡ true → IsMarked old (leave pass) k.service b) (without_client (queue_at old k.service) k.client)
-    at_place k mine =
+    at_place : (k : Connection) → connection_of old pass ≡ Some k → All (λ b. b.marked ≡ true → IsMarked old (leave pass) k.service b) (without_client (queue_at old k.service) k.client)
+    at_place k found =
         let kept = filter (λ a. not (is_of k.client a) || is_running a.stage) (queue_at old k.service) in
+        let there = All-filter (λ a. not (is_of k.client a) || is_running a.stage) (λ a. was_pending old k.service (ticket_of a) ≡ true) (queue_at old k.service) (pending_same (queue_at old k.service)) in
         let was = marked_filter (λ a. not (is_of k.client a) || is_running a.stage) (queue_at old k.service) in
         All-map (λ b. b.marked ≡ true → IsMarked old (leave pass) k.service b) (λ a. mark (is_of k.client a) a) kept (λ i d within m. elim (either (get_or kept i d).marked _ m) [
           | inl marked ↦ before (was i d within marked)
-          | inr its ↦ left_by pass refl (sym mine ∙ sym (eqb-true (get_or kept i d).client.0 k.client.0 its))
+          | inr its ↦ left_by pass refl (record { connection = k; is_open = found; at_service = refl; its = sym (eqb-true (get_or kept i d).client.0 k.client.0 its) }) (there i d within)
         ])
 
     go : (o : Option Connection) → connection_of old pass ≡ o → MatchOption o (new ≡ old) (λ k. new ≡ left old k) → MarksHaveCauses old (leave pass) new
     go None none is = from_before old (leave pass) new (rw is (same_state old))
     go (Some k) found is = rw is (λ b. elim (cases_Bool (is_service k.service b)) [
-      | inl y ↦ rw (same_service k.service b y, queue_here old.queues k.service k.service (without_client (queue_at old k.service) k.client) (itself k.service)) (at_place k (is_open old pass k (old.boot == pass.boot) refl found).named)
+      | inl y ↦ rw (same_service k.service b y, queue_here old.queues k.service k.service (without_client (queue_at old k.service) k.client) (itself k.service)) (at_place k found)
       | inr n ↦ rw (queue_there old.queues k.service b (without_client (queue_at old k.service) k.client) n) (each (λ a. a.marked ≡ true → has_mark (queue_at old b) (ticket_of a) ≡ true) (λ a. a.marked ≡ true → IsMarked old (leave pass) b a) (λ a was m. before (was m)) (queue_at old b) (marked_same (queue_at old b)))
     ])
 

@@ -1,10 +1,10 @@
 -- A plan that runs can still be worked on behind the calls of the guard that are no step of it; and a command that begins has one.
-use Rattle.std.proofs.Common.{◌≡◌, Bool, true, false, [], ◌∷◌, Option, None, Some, Result, Ok, Err, refl, ap, sym, ◌∙◌, inl, inr}
+use Rattle.std.proofs.Common.{◌≡◌, Bool, true, false, [], ◌∷◌, Option, None, Some, Result, Ok, Err, refl, ap, sym, subst, ◌∙◌, inl, inr}
 use Rattle.xfs_base.specs.declared.counts.Counts.{Counts}
 use Rattle.xfs_dispenser.specs.Answers.{Answer, Start, told, planned}
 use Rattle.xfs_dispenser.specs.Begins.{Begins, StartsUnless, StartsWith}
 use Rattle.xfs_dispenser.specs.Checks.{Grant, Permits}
-use Rattle.xfs_dispenser.specs.Plans.{CanBeginAll, IsPlanned, order_plan, reset_plan}
+use Rattle.xfs_dispenser.specs.Plans.{AreEight, CanBeginAll, IsPlanned, order_plan, reset_plan}
 use Rattle.xfs_dispenser.specs.Seen.{Seen}
 use Rattle.xfs_dispenser.specs.declared.ask.CashAsk.{CashAsk}
 use Rattle.xfs_dispenser.specs.declared.ask.CashAsk.TheVariants.{Denominate, Dispense, Present, Reject, Reset, Retract, StartExchange, SetStorage, EndExchange}
@@ -64,14 +64,14 @@ unless_planned None a b is = same_plan b a is
 unless_planned (Some r) a b is = absurd (answer_plan is.answer b is.is)
 
 -- a plan of one part
-one_part : (v : View) (part : Part) (plan : Plan) → plan.parts.items ≡ part ∷ [] → v.open_order ≡ No → CanBeginAll v (part ∷ []) → IsPlanned v plan
-one_part v part plan items none can = record { some_left = λ e f. some (sym items ∙ f); outcome = rw none tt; parts = rw items can }
+one_part : (v : View) (part : Part) (plan : Plan) → plan.parts.items ≡ part ∷ [] → v.open_order ≡ No → CanBeginAll v (part ∷ []) → plan.notes ≡ None → IsPlanned v plan
+one_part v part plan items none can untold = record { some_left = λ e f. some (sym items ∙ f); outcome = rw none tt; parts = rw items can; eight = subst AreEight (sym untold) tt }
   where
     some : part ∷ [] ≡ [] → ⊥
     some e = cc
 
 ordered : (v : View) (ask : Asked) (plan : Plan) → v.open_order ≡ No → CanBeginAll v (Order ask ∷ []) → plan ≡ order_plan ask → IsPlanned v plan
-ordered v ask plan none can is = one_part v (Order ask) plan (ap (λ (p : Plan). p.parts.items) is) none can
+ordered v ask plan none can is = one_part v (Order ask) plan (ap (λ (p : Plan). p.parts.items) is) none can (ap (λ (p : Plan). p.notes) is)
 
 pub begins_planned : (s : Seen) (exchange : Bool) (ask : CashAsk) (next : Seen) (after : Bool) (plan : Plan) → s.guard.open_order ≡ No → Begins s exchange ask next after (planned plan) → IsPlanned next.guard plan
 begins_planned s exchange (Denominate notes) next after plan none is = absurd (with_told is.2.given _ plan is.2.starts)
@@ -79,7 +79,7 @@ begins_planned s exchange (Dispense notes token) next after plan none is = dispe
 begins_planned s exchange Present next after plan none is = rw (is.0) (ordered s.guard asked.Present plan none (tt, tt, tt) (unless_planned _ _ plan is.2))
 begins_planned s exchange Reject next after plan none is = rw (is.0) (ordered s.guard asked.Reject plan none (tt, tt, tt) (unless_planned _ _ plan is.2))
 begins_planned s exchange Retract next after plan none is = rw (is.0) (ordered s.guard asked.Retract plan none (tt, tt, tt) (unless_planned _ _ plan is.2))
-begins_planned s exchange Reset next after plan none is = rw (is.0) (one_part s.guard Restore plan (ap (λ (p : Plan). p.parts.items) (unless_planned _ reset_plan plan is.2)) none (tt, tt, tt))
+begins_planned s exchange Reset next after plan none is = rw (is.0) (one_part s.guard Restore plan (ap (λ (p : Plan). p.parts.items) (unless_planned _ reset_plan plan is.2)) none (tt, tt, tt) (ap (λ (p : Plan). p.notes) (unless_planned _ reset_plan plan is.2)))
 begins_planned s exchange StartExchange next after plan none is = absurd (unless_told _ _ plan is.1.1)
 begins_planned s exchange EndExchange next after plan none is = absurd (unless_told _ _ plan is.1.1)
 begins_planned s exchange (SetStorage added) next after plan none is = rw (is.0) (storage-planned s.guard exchange added plan none is.2)

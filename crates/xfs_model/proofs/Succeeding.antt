@@ -1,5 +1,5 @@
 -- Each result success has its cause; and each order that is open follows from what was before.
-use Rattle.std.proofs.Common.{◌≡◌, ◌&&◌, Bool, true, false, cond, List, [], ◌∷◌, Option, None, Some, get_or, All, refl, ap, sym, subst, ◌∙◌, inl, inr}
+use Rattle.std.proofs.Common.{◌≡◌, ◌⊎◌, Result, Ok, Err, ◌&&◌, Bool, true, false, cond, List, [], ◌∷◌, Option, None, Some, get_or, All, refl, ap, sym, subst, ◌∙◌, inl, inr}
 use Rattle.std.specs.Option.{IfSome}
 use Rattle.std.proofs.lemmas.Bool.{false≢true}
 use Rattle.std.proofs.lemmas.List.Folds.{list_any_at}
@@ -7,12 +7,22 @@ use Rattle.xfs_base.specs.declared.counts.Counts.{Counts}
 use Rattle.xfs_base.specs.declared.money.NoteKind.{NoteKind}
 use Rattle.xfs_base.specs.declared.moment.Service.{Service}
 use Rattle.xfs_base.specs.declared.moment.Service.TheVariants.{Cash}
-use Rattle.xfs_dispenser.specs.Answers.{Answer, Start, told, planned, Went, more, done, denial, plain}
+use Rattle.xfs_dispenser.specs.Answers.{Answer, Start, told, planned, Went, more, done, answer_of, denial, plain}
+use Rattle.xfs_dispenser.specs.Begins.{Begins, IsTold, StartsUnless, StartsWith}
+use Rattle.xfs_dispenser.specs.Checks.{active_refusal}
+use Rattle.xfs_dispenser.specs.Plans.{dispense_plan, order_plan, reset_plan, storage_plan}
 use Rattle.xfs_dispenser.specs.Seen.{Seen}
 use Rattle.xfs_dispenser.specs.Steps.{DoesFirst, DoesPart, IsDenied, Works, WorksOn, onward}
+use Rattle.xfs_dispenser.specs.declared.ask.CashAsk.{CashAsk}
+use Rattle.xfs_dispenser.specs.declared.ask.CashAsk.TheVariants.{Denominate, Dispense, Present, Reject, Reset, Retract, StartExchange, SetStorage, EndExchange}
 use Rattle.xfs_dispenser.specs.declared.part.Part.{Part}
 use Rattle.xfs_dispenser.specs.declared.part.Part.TheVariants.{Order, Restore, Load, Note}
 use Rattle.xfs_dispenser.specs.declared.plan.Plan.{Plan}
+use Rattle.xfs_dispenser.specs.declared.refusal.Refusal.{Refusal}
+use Rattle.xfs_dispenser.specs.declared.refusal.Refusal.TheVariants as refusals
+use Rattle.xfs_guard.specs.declared.ask.Ask.TheVariants as asks
+use Rattle.xfs_base.specs.declared.moment.Moment.{Moment}
+use Rattle.xfs_model.specs.Guards.{NonceCommand, refused, issued, unissued, cleared_, uncleared, none_to_clear}
 use Rattle.xfs_envelope.specs.declared.code.Code.TheVariants.{Canceled, HardwareError, TimeOut}
 use Rattle.xfs_guard.specs.declared.deny.Deny.{Deny}
 use Rattle.xfs_guard.specs.declared.deny.Deny.TheVariants.{Shut, Full, TooLong, KeyNoValue, Format, NoNonce, WrongNonce, WrongMac, NoAmounts, OtherBound, NotEmpty, OverBudget, Unbound, Nothing, OutletFull, Short, Disk, Memory}
@@ -23,9 +33,9 @@ use Rattle.xfs_queue.specs.Commands.{is_at, ticket_of}
 use Rattle.xfs_model.specs.Cases.{with_start, with_went}
 use Rattle.xfs_model.specs.Events.{Answer as Answered, Event}
 use Rattle.xfs_model.specs.Sound.{IsFresh, IsSound}
-use Rattle.xfs_model.specs.State.{Job, State, queue_at}
+use Rattle.xfs_model.specs.State.{Ask, cash, clear, issue, Job, Outcome, State, queue_at}
 use Rattle.xfs_model.specs.Step.{Step}
-use Rattle.xfs_model.specs.Successes.{IsEarned, IsInFull, SuccessesHaveCauses, at_once, by_device, earned_before, had_succeeded, has_succeeded, in_full, is_success}
+use Rattle.xfs_model.specs.Successes.{IsDoneAtOnce, IsEarned, IsInFull, SuccessesHaveCauses, at_once, by_device, earned_before, had_succeeded, has_succeeded, in_full, is_success}
 use Rattle.xfs_model.proofs.Changes.{at_itself, each}
 use Rattle.xfs_model.proofs.Turns.{Turn, accepted, at_event, begun, heard, late, marks, misasked, nonce, seen_at, stays, stopped_running, stopped_waiting, turns, worked}
 
@@ -50,8 +60,52 @@ denied_fails (OutletFull notes) = refl
 denied_fails (Short unit) = refl
 denied_fails Memory = tt
 
+refused_fails : (refusal : Refusal) → IfSome (answer_of refusal) (λ (a : Answer). is_success a.code ≡ false)
+refused_fails refusals.InvalidData = refl
+refused_fails refusals.NoToken = refl
+refused_fails (refusals.Error fault) = refl
+refused_fails (refusals.Deny deny) = denied_fails deny
+refused_fails refusals.Memory = tt
+
 of_some : (o : Option Answer) (a : Answer) → o ≡ Some a → IfSome o (λ (b : Answer). is_success b.code ≡ false) → is_success a.code ≡ false
 of_some o a e h = rw e at h
+
+-- what is told as a command begins that has a plan otherwise is no success
+abbrev IsNoSuccess : Start → Type 0
+IsNoSuccess (told answer) = is_success answer.code ≡ false
+IsNoSuccess (planned plan) = Unit {0}
+
+told_no : (refusal : Refusal) (start : Start) → IsTold refusal start → IsNoSuccess start
+told_no refusal start is = subst IsNoSuccess (sym is.is) (of_some (answer_of refusal) is.answer is.due (refused_fails refusal))
+
+unless_no : (refusal : Option Refusal) (plan : Plan) (start : Start) → StartsUnless refusal (planned plan) start → IsNoSuccess start
+unless_no (Some refusal) plan start is = told_no refusal start is
+unless_no None plan start is = subst IsNoSuccess (sym is) tt
+
+with_no : {T : Type 0} (result : Result T Refusal) (plan : T → Plan) (start : Start) → StartsWith result (λ x. planned (plan x)) start → IsNoSuccess start
+with_no (Err refusal) plan start is = told_no refusal start is
+with_no (Ok value) plan start is = subst IsNoSuccess (sym is) tt
+
+-- a command that has its success as it begins is one that is done at once
+begins_at_once : (s : Seen) (exchange : Bool) (ask : CashAsk) (next : Seen) (after : Bool) (start : Start) → Begins s exchange ask next after start → IsDoneAtOnce (cash ask) ⊎ IsNoSuccess start
+begins_at_once s exchange (Denominate notes) next after start is = inl tt
+begins_at_once s exchange (Dispense notes token) next after start (kept, is) = inr (with_no is.leave (λ l. dispense_plan l.issue l.counts) start is.starts)
+begins_at_once s exchange Present next after start (same, kept, is) = inr (unless_no (active_refusal exchange) (order_plan asks.Present) start is)
+begins_at_once s exchange Reject next after start (same, kept, is) = inr (unless_no (active_refusal exchange) (order_plan asks.Reject) start is)
+begins_at_once s exchange Retract next after start (same, kept, is) = inr (unless_no (active_refusal exchange) (order_plan asks.Retract) start is)
+begins_at_once s exchange Reset next after start (same, kept, is) = inr (unless_no (active_refusal exchange) reset_plan start is)
+begins_at_once s exchange StartExchange next after start is = inl tt
+begins_at_once s exchange EndExchange next after start is = inl tt
+begins_at_once s exchange (SetStorage added) next after start (same, kept, is) = inr (with_no is.checked (λ counts. storage_plan counts) start is.starts)
+
+-- a nonce command is done at once
+nonce_at_once : (s : State) (ask : Ask) (result : Outcome) (next : Seen) (issued : Moment) → NonceCommand s ask result next issued → is_success result.code ≡ true → IsDoneAtOnce ask
+nonce_at_once s ask result next issued_ (refused same unfit) e = absurd (false≢true e)
+nonce_at_once s issue result next issued_ (issued now fit is) e = tt
+nonce_at_once s issue result next issued_ (unissued now fit is) e = absurd (false≢true e)
+nonce_at_once s clear result next issued_ (cleared_ now fit live is) e = tt
+nonce_at_once s clear result next issued_ (uncleared now fit live is) e = absurd (false≢true e)
+nonce_at_once s clear result next issued_ (none_to_clear fit dead) e = tt
 
 -- what a step that ends a plan with success leaves
 record EndsInFull (s : Seen) (left : Plan) : Type 0 where
@@ -119,9 +173,10 @@ known old service fresh_ = λ k d within.
     }
 
 module _ (old new : State) (service : Service) where
-  by_start : (start : Start) (a : Command Job) → IsKnown old service a → a.job.plan ≡ None → has_succeeded (with_start start a).job.outcome ≡ true → IsEarned old service (with_start start a)
-  by_start (told answer) a known_ none e = at_once none
-  by_start (planned plan) a known_ none e = earned_before (known_.succeeded e)
+  by_start : (start : Start) (a : Command Job) → IsKnown old service a → a.job.plan ≡ None → IsDoneAtOnce a.job.ask ⊎ IsNoSuccess start → has_succeeded (with_start start a).job.outcome ≡ true → IsEarned old service (with_start start a)
+  by_start (told answer) a known_ none (inl done_) e = at_once done_ none
+  by_start (told answer) a known_ none (inr fails) e = absurd (false≢true (sym fails ∙ e))
+  by_start (planned plan) a known_ none either e = earned_before (known_.succeeded e)
 
   by_went : (left : Plan) (b : Bool) (went : Went) (a : Command Job) → IsKnown old service a → service ≡ Cash → WentFull old.seen left went → has_succeeded (with_went left b went a).job.outcome ≡ true → IsEarned old service (with_went left b went a)
   by_went left b more a known_ at full e = earned_before (known_.succeeded e)
@@ -138,9 +193,10 @@ module _ (old new : State) (service : Service) where
   turn_earned event s same b (stopped_waiting a holds known_ waits marked) e = absurd (false≢true e)
   turn_earned event s same b (late a known_ waits due) e = absurd (false≢true e)
   turn_earned event s same b (stopped_running a known_ runs stops) e = absurd (stopping a.marked e)
-  turn_earned event s same b (nonce a known_ waits at result does) e = at_once (known_.fresh.plan waits)
+  turn_earned event s same b (nonce a known_ waits at result does) e = at_once (nonce_at_once s a.job.ask result new.seen new.issued does e) (known_.fresh.plan waits)
   turn_earned event s same b (misasked a known_ waits asks) e = absurd (false≢true e)
-  turn_earned event s same b (begun a known_ waits none at ask asks start begins) e = by_start start a known_ (known_.fresh.plan waits) e
+  turn_earned event s same b (begun a known_ waits none at ask asks_ start begins) e =
+      by_start start a known_ (known_.fresh.plan waits) (subst (λ (x : Ask). IsDoneAtOnce x ⊎ IsNoSuccess start) (sym asks_) (begins_at_once s.seen s.exchange ask new.seen new.exchange start begins)) e
   turn_earned event s same b (worked a known_ runs at plan left has went works) e = by_went left _ went a known_ at (subst (λ (x : Seen). WentFull x left went) same (works_full s.seen plan new.seen left went works)) e
   turn_earned event s same b (heard a known_ elsewhere saying speaks) e = by_device elsewhere
 

@@ -3,9 +3,10 @@ use Rattle.std.specs.Prelude.{◌≡◌, ◌⊎◌, ◌&&◌, Bool, true, false,
 use Rattle.std.specs.List.{list_any}
 use Rattle.xfs_base.specs.declared.counts.Counts.{Counts}
 use Rattle.xfs_base.specs.declared.counts.Kind.{Kind}
-use Rattle.xfs_base.specs.declared.counts.Kind.TheVariants.{Stack, Present, Reject, Retract}
+use Rattle.xfs_base.specs.declared.counts.Kind.TheVariants as kinds
 use Rattle.xfs_base.specs.declared.moment.Service.{Service}
 use Rattle.xfs_base.specs.declared.moment.Service.TheVariants.{Cash}
+use Rattle.xfs_dispenser.specs.declared.ask.CashAsk.TheVariants.{Dispense, Present, Reject, Reset, Retract, SetStorage}
 use Rattle.xfs_dispenser.specs.declared.plan.Plan.{Plan}
 use Rattle.xfs_envelope.specs.declared.code.Code.{Code}
 use Rattle.xfs_envelope.specs.declared.code.Code.TheVariants.{Success}
@@ -16,7 +17,7 @@ use Rattle.xfs_mech.specs.Mechanism.{MayCarry}
 use Rattle.xfs_queue.specs.Commands.{is_at, ticket_of}
 use Rattle.xfs_queue.specs.declared.command.Command.{Command}
 use Rattle.xfs_queue.specs.declared.command.Ticket.{Ticket}
-use Rattle.xfs_model.specs.State.{Job, Outcome, State, queue_at}
+use Rattle.xfs_model.specs.State.{Ask, cash, Job, Outcome, State, queue_at}
 
 abbrev pub is_success : Code → Bool
 is_success Success = true
@@ -36,10 +37,20 @@ IsInFull No = ⊤
 IsInFull (Written kind counts) = ⊥
 IsInFull (Acted kind moved diverted failed) = failed ≡ false
 
--- why it is so behind a step: it was so before; it was done at once, without a plan; its device has done it; or no part of its plan is left, and its last order was carried out in full
+-- such a command has no plan: it is done at once. What moves notes has one
+abbrev pub IsDoneAtOnce : Ask → Type 0
+IsDoneAtOnce (cash (Dispense notes token)) = ⊥
+IsDoneAtOnce (cash Present) = ⊥
+IsDoneAtOnce (cash Reject) = ⊥
+IsDoneAtOnce (cash Retract) = ⊥
+IsDoneAtOnce (cash Reset) = ⊥
+IsDoneAtOnce (cash (SetStorage added)) = ⊥
+IsDoneAtOnce ask = ⊤
+
+-- why it is so behind a step: it was so before; it is one that is done at once, without a plan; its device has done it; or no part of its plan is left, and its last order was carried out in full
 pub data IsEarned (old : State) (service : Service) (a : Command Job) : Type 0 where
   earned_before : had_succeeded old service (ticket_of a) ≡ true → IsEarned old service a
-  at_once : a.job.plan ≡ None → IsEarned old service a
+  at_once : IsDoneAtOnce a.job.ask → a.job.plan ≡ None → IsEarned old service a
   by_device : (service ≡ Cash → ⊥) → IsEarned old service a
   in_full : service ≡ Cash → (left : Plan) → a.job.plan ≡ Some left → left.parts.items ≡ [] → IsInFull old.seen.guard.open_order → IsEarned old service a
 
@@ -48,10 +59,10 @@ SuccessesHaveCauses old new = (service : Service) → All (λ a. has_succeeded a
 
 -- what an order of a whole place moves: all that lies there
 abbrev pub IsOfPlace : View → Kind → Counts → Type 0
-IsOfPlace v Stack counts = ⊤
-IsOfPlace v Present counts = counts ≡ v.places.transport
-IsOfPlace v Reject counts = counts ≡ v.places.transport
-IsOfPlace v Retract counts = counts ≡ v.places.outlet
+IsOfPlace v kinds.Stack counts = ⊤
+IsOfPlace v kinds.Present counts = counts ≡ v.places.transport
+IsOfPlace v kinds.Reject counts = counts ≡ v.places.transport
+IsOfPlace v kinds.Retract counts = counts ≡ v.places.outlet
 
 -- an order that is open behind a step was so before, or is written in it; one that is acted was so before, or it was written and is carried out in it
 abbrev pub OrderFollows : Open → View → Type 0

@@ -68,9 +68,9 @@ pub fn results_have_their_causes()
     ensures { EachStep (λ old _. IsMachine old) (λ old _ new. HasCauses old → HasCauses new) }
 {}
 
-/// A command that is marked behind a step was marked before it, or the step is a Cancel that its own
-/// client posts and that names it, or its client leaves. So a result `canceled` that a client hears
-/// comes of a Cancel of its own.
+/// A command that is marked behind a step was marked before it, or it was pending and the step is a
+/// Cancel that names it, posted by its own client over its open connection, or its client leaves. So a
+/// result `canceled` that a client hears comes of a Cancel of its own.
 pub fn marks_have_their_causes()
     ensures { (old new : State) (event : Event) (answer : Answer) → Step old event answer new → MarksHaveCauses old event new }
 {}
@@ -113,8 +113,9 @@ pub fn refusals_have_their_causes()
     ensures { EachStep (λ old _. IsSound old) (λ old _ new. RefusalsHaveCauses old new) }
 {}
 
-/// A command that has the result success behind a step had it before, or was done at once, or by its
-/// device, or no part of its plan is left and its last order was carried out in full.
+/// A command that has the result success behind a step had it before, or is one that is done at once, or
+/// was done by its device, or no part of its plan is left and its last order was carried out in full. So
+/// a Dispense or a Present has it only with a plan that was done.
 pub fn successes_have_their_causes()
     ensures { EachStep (λ old _. IsSound old) (λ old _ new. SuccessesHaveCauses old new) }
 {}

@@ -1,5 +1,5 @@
 -- A Dispense that its token covers is completed, and a Present.
-use Rattle.std.proofs.Common.{◌≡◌, ◌≤◌, ◌+◌, ◌*◌, ℕ, false, List, [], ◌∷◌, ◌++◌, All, length, Some, ap, sym, subst, ◌∙◌, arith, append_assoc}
+use Rattle.std.proofs.Common.{◌≡◌, ◌≤◌, ◌+◌, ◌*◌, ℕ, false, List, [], ◌∷◌, ◌++◌, length, Some, ap, sym, subst, ◌∙◌, arith, append_assoc}
 use Rattle.xfs_dispenser.specs.Answers.{Answer, done, plain, planned}
 use Rattle.xfs_dispenser.specs.Complete.{IsBegunInFull, IsComplete, IsGiven, IsPresented, Turns}
 use Rattle.xfs_dispenser.specs.Denominations.{denominated}
@@ -18,7 +18,7 @@ use Rattle.xfs_model.specs.Cases.{with_start}
 use Rattle.xfs_model.specs.State.{Job, cash}
 use Rattle.xfs_queue.specs.declared.command.Command.{Command}
 use Rattle.xfs_withdrawals.specs.Posted.{IsTaken}
-use Rattle.xfs_withdrawals.specs.Turning.{IsNext, IsTyped, Turning}
+use Rattle.xfs_withdrawals.specs.Turning.{IsNext, Turning}
 use Rattle.xfs_withdrawals.specs.Withdrawals.{IsCompleted, IsDispensable, IsDispensed, IsPaidOut, IsPresentable, IsPutOut, IsShown, IsWholeWithdrawal, IsWithdrawn, Withdrawal}
 use Rattle.xfs_dispenser.specs.Units.{units_with}
 use Rattle.xfs_withdrawals.proofs.Lives.{AreOrders, stacks_are_orders, stacks_length}
@@ -32,8 +32,6 @@ use Rattle.std.proofs.lemmas.List.Folds.{sum_by-zero}
 use Rattle.xfs_model.specs.Posts.{job_of}
 use Rattle.xfs_queue.specs.Queue.{offered}
 use Rattle.xfs_queue.specs.declared.command.Line.TheVariants.{Device}
-use Rattle.std.proofs.lemmas.List.Elements.{All-head}
-use Rattle.xfs_model.specs.Results.{with_plan}
 use Rattle.xfs_withdrawals.proofs.Entries.{shown}
 use Rattle.xfs_guard.proofs.CoveredLaws.{present-free}
 use Rattle.xfs_withdrawals.proofs.Steps.{itself}
@@ -93,10 +91,8 @@ module _ (complete : IsComplete) (t : Turning) where
           let plan = dispense_plan full.issue full.counts in
           let many : length plan.parts.items ≡ length (units_with full.counts.0) = stacks_length full.issue full.counts.0 in
           let o = worked_through ask d.next b plan (3 * length plan.parts.items) full.plan h.begins.0 (stacks_are_orders full.issue full.counts.0) (omega (arith, many, enough)) in
-          let typed : All IsTyped (with_plan plan false a ∷ []) = subst (λ q. All IsTyped q) (h.queue ∙ ap (λ s. with_start s a ∷ []) full.plan) b.typed in
-          let eight : length full.counts.0 ≡ 8 = All-head IsTyped (with_plan plan false a) [] typed in
           let calm = calm-first h.bound o.next t.last.seen o.later (calm-rest t.start.seen h.bound t.last.seen (start_later ask b) t.calm) in
-          let given = full.done o.next o.went eight calm o.turns in
+          let given = full.done o.next o.went calm o.turns in
           let answered = o.answers (denominated t.start.seen.guard.units full.counts) given.is in
           record {
             completed = completed_by ask b (denominated t.start.seen.guard.units full.counts) o.next answered;

@@ -1,5 +1,5 @@
 -- Turns of the dispenser while one command is pending: it is begun, its plan is worked on, and it is answered.
-use Rattle.std.proofs.Common.{◌≡◌, ◌≤◌, ℕ, zero, suc, ◌&&◌, not, Bool, true, false, List, [], ◌∷◌, ◌++◌, All, refl, ap, sym, subst, ◌∙◌, arith, append_assoc}
+use Rattle.std.proofs.Common.{◌≡◌, ◌≤◌, ℕ, zero, suc, ◌&&◌, not, Bool, true, false, List, [], ◌∷◌, ◌++◌, refl, ap, sym, subst, ◌∙◌, arith, append_assoc}
 use Rattle.xfs_base.specs.declared.moment.ClientId.{ClientId}
 use Rattle.xfs_base.specs.declared.moment.Service.TheVariants.{Cash}
 use Rattle.xfs_dispenser.specs.Answers.{Answer, Went, done, more}
@@ -23,7 +23,7 @@ use Rattle.xfs_model.specs.Step.{at_moment}
 use Rattle.xfs_queue.specs.declared.command.Command.{Command}
 use Rattle.xfs_queue.specs.declared.command.Line.TheVariants.{Device}
 use Rattle.xfs_queue.specs.declared.command.Stage.TheVariants.{Waiting}
-use Rattle.xfs_withdrawals.specs.Turning.{IsConnected, IsTyped}
+use Rattle.xfs_withdrawals.specs.Turning.{IsConnected}
 use Rattle.xfs_withdrawals.specs.Withdrawals.{IsBeside}
 use Rattle.xfs_withdrawals.proofs.Choices.{answer_step, begin_step, plan_step, rest_step}
 use Rattle.xfs_withdrawals.proofs.Lives.{AreOrders, orders_keep_life}
@@ -61,7 +61,7 @@ module _ (base : State) where
       let on = hears_on base s pass given middle [] a.client waiting step h in
       let o = rests a last on.left run on.stands (ap (λ (x : Seen). x.guard.open_order) on.seen ∙ none) in
       over_heard last a.client (frames_after s [] (outbox pass) (handed given) a.client) frames on.left waiting s.seen middle.seen on.all on.seen o
-  rests a last waiting (works {s = s} {middle = middle} now told_ some time step typed run) h none =
+  rests a last waiting (works {s = s} {middle = middle} now told_ some time step run) h none =
       let there = stands_later base s now [] a.client waiting h in
       let same : middle ≡ at_moment s now = rest_step (at_moment s now) middle there.queue time.life none (does_work base s now told_ middle some step) in
       let o = rests a last waiting run (subst (λ n. Stands base n [] a.client waiting) (sym same) there) (ap (λ (n : State). n.seen.guard.open_order) same ∙ none) in
@@ -91,7 +91,7 @@ module _ (base : State) where
       let on = hears_on base s pass given middle (with_went left false (done answer) (with_plan plan false a) ∷ []) a.client waiting step h in
       let o = answered a plan left answer last on.left run some on.stands (ap (λ (x : Seen). x.guard.open_order) on.seen ∙ none) in
       answered_heard a answer last (frames_after s [] (outbox pass) (handed given) a.client) frames on.left waiting s.seen middle.seen on.all on.seen o
-  answered a plan left answer last waiting (works {s = s} {middle = middle} {frames = frames} now told_ more_ time step typed run) some h none =
+  answered a plan left answer last waiting (works {s = s} {middle = middle} {frames = frames} now told_ more_ time step run) some h none =
       let b = with_went left false (done answer) (with_plan plan false a) in
       let there = stands_later base s now (b ∷ []) a.client waiting h in
       let does = answer_step (at_moment s now) middle b there.queue time.life none refl (does_work base s now told_ middle more_ step) in
@@ -160,7 +160,7 @@ module _ (base : State) where
   worked_on a last unmarked (suc m) plan waiting (hears {s = s} {middle = middle} {frames = frames} pass given step run) enough orders h =
       let on = hears_on base s pass given middle (with_plan plan false a ∷ []) a.client waiting step h in
       heard_on (suc m) s.seen middle.seen plan a last (frames_after s [] (outbox pass) (handed given) a.client) frames on.left waiting on.all on.seen (worked_on a last unmarked (suc m) plan on.left run enough orders on.stands)
-  worked_on a last unmarked (suc m) plan waiting (works {turns = turns} {s = s} {middle = middle} {frames = frames} now told_ some time step typed run) enough orders h =
+  worked_on a last unmarked (suc m) plan waiting (works {turns = turns} {s = s} {middle = middle} {frames = frames} now told_ some time step run) enough orders h =
       let there = stands_later base s now (with_plan plan false a ∷ []) a.client waiting h in
       let by = works_on base (at_moment s now) middle a plan a.client waiting there (plan_step (at_moment s now) middle (with_plan plan false a) there.queue time.life refl unmarked time.deadline (does_work base s now told_ middle some step)) in
       let keeps = orders_keep_life s.seen plan by.next by.left by.went orders by.works in
@@ -189,7 +189,6 @@ module _ (base : State) where
     pub begun : HasBegun base s a ask middle a.client waiting_then
     pub run : Steady a last rest middle frames_then
     pub later : IsLater s.seen middle.seen
-    pub typed : All IsTyped (queue_at middle Cash)
     pub turns_are : turns ≡ suc rest
     pub frames_are : frames ≡ before ++ frames_then
     pub waited : before ++ waiting_then ≡ waiting
@@ -211,12 +210,11 @@ module _ (base : State) where
         begun = record { bound = b.bound; seen = b.seen; after = b.after; start = b.start; begins = subst (λ x. Begins x false ask b.bound b.after b.start) on.seen b.begins; queue = b.queue; exchange = b.exchange; connected = b.connected; beside = b.beside };
         run = o.run;
         later = later-trans s.seen middle.seen o.middle.seen (later-same s.seen middle.seen on.seen) o.later;
-        typed = o.typed;
         turns_are = o.turns_are;
         frames_are = ap (λ l. heard ++ l) o.frames_are ∙ sym (append_assoc heard o.before o.frames_then);
         waited = append_assoc heard o.before o.waiting_then ∙ (ap (λ l. heard ++ l) o.waited ∙ on.all);
       }
-  begins_first a ask last stage line asks waiting (works {turns = turns} {s = s} {middle = middle} {frames = frames} now told_ more_ time step typed run) some h none =
+  begins_first a ask last stage line asks waiting (works {turns = turns} {s = s} {middle = middle} {frames = frames} now told_ more_ time step run) some h none =
       let there = stands_later base s now (a ∷ []) a.client waiting h in
       let b = begins_on base (at_moment s now) middle a ask a.client waiting (rw (stage, line) refl) asks there (begin_step (at_moment s now) middle a there.queue time.life none stage line time.deadline (does_work base s now told_ middle more_ step)) in
       record {
@@ -228,7 +226,6 @@ module _ (base : State) where
         begun = record { bound = b.bound; seen = b.seen; after = b.after; start = b.start; begins = b.begins; queue = b.queue; exchange = b.exchange; connected = b.connected; beside = b.beside };
         run = run;
         later = later_by s middle _ _ step;
-        typed = typed;
         turns_are = refl;
         frames_are = refl;
         waited = refl;

@@ -1,5 +1,5 @@
 -- While no count of faults rises, a step that wants memory changes nothing: so it can be left out.
-use Rattle.std.proofs.Common.{◌≡◌, ◌≢◌, ◌≤◌, ℕ, suc, List, [], ◌++◌, All, refl, ap, ap₂, subst, ◌∙◌, inl, inr, arith}
+use Rattle.std.proofs.Common.{◌≡◌, ◌≢◌, ◌≤◌, ℕ, suc, List, [], ◌++◌, refl, ap, ap₂, subst, ◌∙◌, inl, inr, arith}
 use Rattle.std.proofs.lemmas.Bool.{cases_lt}
 use Rattle.xfs_base.specs.Causes.{Rose}
 use Rattle.xfs_base.specs.declared.moment.Moment.{Moment}
@@ -10,12 +10,12 @@ use Rattle.xfs_dispenser.proofs.TurnLaws.{IsLater, calm-first, calm-rest, later-
 use Rattle.xfs_model.specs.Cases.{told_by}
 use Rattle.xfs_model.specs.Conversations.{frames_after}
 use Rattle.xfs_model.specs.Events.{Answer, Event, handed, memory, outbox, work}
-use Rattle.xfs_model.specs.State.{Job, Pass, State, queue_at}
+use Rattle.xfs_model.specs.State.{Job, Pass, State}
 use Rattle.xfs_model.specs.Step.{Step, at_moment, happens, wanting}
 use Rattle.xfs_model.specs.Work.{Case, answer, begin, case_of, expire, go_on, nonce, order, overdue, rest, stop}
 use Rattle.xfs_model.proofs.Advancing.{advances}
 use Rattle.xfs_queue.specs.declared.command.Command.{Command}
-use Rattle.xfs_withdrawals.specs.Turning.{IsInTime, IsTyped, Turned}
+use Rattle.xfs_withdrawals.specs.Turning.{IsInTime, Turned}
 use Rattle.xfs_withdrawals.specs.Turning as turning
 
 -- turns of which none wants memory
@@ -24,7 +24,7 @@ pub data Steady (a : Command Job) (last : State) : ℕ → State → List (List 
   hears : {turns : ℕ} {s middle : State} {frames : List (List ℕ)} → (pass : Pass) (more : List (List ℕ)) → Step s (outbox pass) (handed more) middle → Steady a last turns middle frames
       → Steady a last turns s (frames_after s [] (outbox pass) (handed more) a.client ++ frames)
   works : {turns : ℕ} {s middle : State} {frames : List (List ℕ)} → (now : Moment) (told_ : Answer) → told_ ≢ memory → IsInTime (at_moment s now) a → Step s (work Cash now) told_ middle
-      → All IsTyped (queue_at middle Cash) → Steady a last turns middle frames → Steady a last (suc turns) s frames
+      → Steady a last turns middle frames → Steady a last (suc turns) s frames
 
 pub later_by : (s new : State) (event : Event) (told_ : Answer) → Step s event told_ new → IsLater s.seen new.seen
 later_by s new event told_ is = let on = advances s new event told_ is in record { mech = on.mech_faults; disk = on.disk_faults }
@@ -34,12 +34,12 @@ turned_later : (a : Command Job) (last : State) {turns : ℕ} {s : State} {frame
 turned_later a last turning.ended = later-same last.seen last.seen refl
 turned_later a last (turning.hears {s = s} {middle = middle} pass given step run) = later-trans s.seen middle.seen last.seen (later_by s middle _ _ step) (turned_later a last run)
 turned_later a last (turning.wants {s = s} {middle = middle} now step run) = later-trans s.seen middle.seen last.seen (later_by s middle _ _ step) (turned_later a last run)
-turned_later a last (turning.works {s = s} {middle = middle} now told_ some time step typed run) = later-trans s.seen middle.seen last.seen (later_by s middle _ _ step) (turned_later a last run)
+turned_later a last (turning.works {s = s} {middle = middle} now told_ some time step run) = later-trans s.seen middle.seen last.seen (later_by s middle _ _ step) (turned_later a last run)
 
 pub steady_later : (a : Command Job) (last : State) {turns : ℕ} {s : State} {frames : List (List ℕ)} → Steady a last turns s frames → IsLater s.seen last.seen
 steady_later a last ended = later-same last.seen last.seen refl
 steady_later a last (hears {s = s} {middle = middle} pass given step run) = later-trans s.seen middle.seen last.seen (later_by s middle _ _ step) (steady_later a last run)
-steady_later a last (works {s = s} {middle = middle} now told_ some time step typed run) = later-trans s.seen middle.seen last.seen (later_by s middle _ _ step) (steady_later a last run)
+steady_later a last (works {s = s} {middle = middle} now told_ some time step run) = later-trans s.seen middle.seen last.seen (later_by s middle _ _ step) (steady_later a last run)
 
 -- a count that neither fell nor rose
 still : (before now : ℕ) → before ≤ now → ¬ Rose before now → now ≡ before
@@ -77,4 +77,4 @@ steady a last calm (turning.hears {s = s} {middle = middle} pass given step run)
 steady a last calm (turning.wants {turns = turns} {s = s} {middle = middle} {frames = frames} now step run) =
     let same = unmoved s middle now (calm-first s.seen middle.seen last.seen (turned_later a last run) calm).disk step in
     subst (λ n. Steady a last turns n frames) same (steady a last (calm-rest s.seen middle.seen last.seen (later_by s middle _ _ step) calm) run)
-steady a last calm (turning.works {s = s} {middle = middle} now told_ some time step typed run) = works now told_ some time step typed (steady a last (calm-rest s.seen middle.seen last.seen (later_by s middle _ _ step) calm) run)
+steady a last calm (turning.works {s = s} {middle = middle} now told_ some time step run) = works now told_ some time step (steady a last (calm-rest s.seen middle.seen last.seen (later_by s middle _ _ step) calm) run)

@@ -1,5 +1,5 @@
 -- A command of the dispenser that is turned: what the machine is when it is next, and what happens until it has its answer.
-use Rattle.std.specs.Prelude.{◌≡◌, ◌≢◌, ℕ, suc, ◌++◌, List, [], ◌∷◌, All, length, false, Some, IfSome}
+use Rattle.std.specs.Prelude.{◌≡◌, ◌≢◌, ℕ, suc, ◌++◌, List, [], ◌∷◌, false, Some}
 use Rattle.xfs_base.specs.declared.moment.ClientId.{ClientId}
 use Rattle.xfs_base.specs.declared.moment.Moment.{Moment}
 use Rattle.xfs_base.specs.declared.moment.Service.TheVariants.{Cash}
@@ -47,10 +47,6 @@ pub record IsInTime (s : State) (a : Command Job) : Type 0 where
   pub deadline : is_due s.now a ≡ false
   pub life : is_life_over s ≡ false
 
--- the notes that a plan tells are eight counts, as their type has it
-abbrev pub IsTyped : Command Job → Type 0
-IsTyped a = IfSome a.job.plan (λ plan. IfSome plan.notes (λ counts. length counts.0 ≡ 8))
-
 -- So many steps of the dispenser's work lead to this last state, each in time for the command. Between them clients are handed what waits for them: the frames are those that the command's own client was handed. A step that wants memory isn't counted.
 pub data Turned (a : Command Job) (last : State) : ℕ → State → List (List ℕ) → Type 0 where
   ended : Turned a last 0 last []
@@ -58,7 +54,7 @@ pub data Turned (a : Command Job) (last : State) : ℕ → State → List (List 
       → Turned a last turns s (frames_after s [] (outbox pass) (handed more) a.client ++ frames)
   wants : {turns : ℕ} {s middle : State} {frames : List (List ℕ)} → (now : Moment) → Step s (work Cash now) memory middle → Turned a last turns middle frames → Turned a last turns s frames
   works : {turns : ℕ} {s middle : State} {frames : List (List ℕ)} → (now : Moment) (answer : Answer) → answer ≢ memory → IsInTime (at_moment s now) a → Step s (work Cash now) answer middle
-      → All IsTyped (queue_at middle Cash) → Turned a last turns middle frames → Turned a last (suc turns) s frames
+      → Turned a last turns middle frames → Turned a last (suc turns) s frames
 
 -- a command is turned so many times, and no count of faults rises; from which state and to which, what waited for its client at first, and what it was handed
 pub record Turning : Type 0 where
