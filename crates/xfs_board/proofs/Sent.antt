@@ -8,6 +8,7 @@ use Rattle.std.proofs.alloc.Global.TheSendSync as heap
 use Rattle.std.proofs.marker.PhantomData.TheSendSync as phantom
 use Rattle.std.proofs.option.Option.TheSendSync as optional
 use Rattle.xfs_base.proofs.moment.Service.TheSendSync as service
+use Rattle.xfs_base.specs.declared.moment.Clock as Clock
 use Rattle.xfs_board.specs.contracts.caller.Caller as caller
 use Rattle.xfs_board.specs.contracts.caller.Caller.TheInside as in_caller
 use Rattle.xfs_board.specs.contracts.client.ClientBoard as client
@@ -54,17 +55,17 @@ module _ (a : NamedLft) (N M D R : RattleType) (n : LockName.Ghosts N.Denot) (m 
         ),
       )))
 
-  module _ (C : RattleType) (yc : IsSync C) where
-    pub client_send : IsSend (client.the_row a N M D R C n m d)
+  module _ (C : RattleType) (k : Clock.Ghosts C.Denot) (yc : IsSync C) where
+    pub client_send : IsSend (client.the_row a N M D R C n m d k)
     client_send =
-        let fields = in_client.the_type a N M D R C n m d in
-        view_send (in_client.the_row a N M D R C n m d) _ _ _ _
-        (recorded_send (in_client.the_field a N M D R C n m d).row _ _ fields.to_one
+        let fields = in_client.the_type a N M D R C n m d k in
+        view_send (in_client.the_row a N M D R C n m d k) _ _ _ _
+        (recorded_send (in_client.the_field a N M D R C n m d k).row _ _ fields.to_one
         (struct_send (shape fields) (heap.the_field_send, (caller_send, (pass.the_send, (shr_send _ _ _ yc, tt))))))
 
-    pub device_send : IsSend (device.the_row a N M D R C n m d)
+    pub device_send : IsSend (device.the_row a N M D R C n m d k)
     device_send =
-        let fields = in_device.the_type a N M D R C n m d in
-        view_send (in_device.the_row a N M D R C n m d) _ _ _ _
-        (recorded_send (in_device.the_field a N M D R C n m d).row _ _ fields.to_one
+        let fields = in_device.the_type a N M D R C n m d k in
+        view_send (in_device.the_row a N M D R C n m d k) _ _ _ _
+        (recorded_send (in_device.the_field a N M D R C n m d k).row _ _ fields.to_one
         (struct_send (shape fields) (caller_send, (service.the_field_send, (shr_send _ _ _ yc, ((search (owned.crosses, sendable) depth 20), (plain_send _ _ _ _ _, tt)))))))

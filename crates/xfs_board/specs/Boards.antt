@@ -6,19 +6,21 @@ use Rattle.xfs_server.specs.Boards.{BoardLog}
 use Rattle.xfs_server.specs.Tendeds.{TendedLog}
 use Rattle.xfs_board.specs.Callers.{CallerView}
 
--- the board of the connection with this pass
-pub record ClientView (M D : Type 0) : Type 0 where
+-- the board of the connection with this pass, and the clock whose moments its turns have
+pub record ClientView (M D C : Type 0) : Type 0 where
   pub caller : CallerView M D
   pub pass : Pass
+  pub clock : C
 
--- the object of the worker of a service, and whether it has told that it is closing
-pub record DeviceView (M D : Type 0) : Type 0 where
+-- the object of the worker of a service, the clock whose moments its turns have, and whether it has told that it is closing
+pub record DeviceView (M D C : Type 0) : Type 0 where
   pub caller : CallerView M D
   pub service : Service
+  pub clock : C
   pub closing : Bool
 
-abbrev pub client_log : {M D : Type 0} → ClientView M D → BoardLog
+abbrev pub client_log : {M D C : Type 0} → ClientView M D C → BoardLog
 client_log b = record { texts = None; handed = None; latest = None; posts = b.caller.tally.posts; turns = b.caller.tally.works; fetches = b.caller.tally.outboxes }
 
-abbrev pub device_log : {M D : Type 0} → DeviceView M D → TendedLog
+abbrev pub device_log : {M D C : Type 0} → DeviceView M D C → TendedLog
 device_log b = record { touched = None; faults = None; wanted = None; unwanted = None; stays = None; closing = b.closing; touches = b.caller.tally.touches; turns = b.caller.tally.works }

@@ -1,6 +1,7 @@
 -- One turn of the lock: the caller finds the machine with all that its seat had seen, makes one call of it, and has then seen the machine's whole chronicle.
 use Rattle.std.specs.Prelude.{◌≡◌, ℕ, List, Bool}
 use mathlib.Core.List.{IsPrefix}
+use Rattle.xfs_base.specs.declared.moment.Moment.{Moment}
 use Rattle.xfs_base.specs.declared.moment.Service.{Service}
 use Rattle.xfs_machine.specs.Laws.{IsLawful}
 use Rattle.xfs_machine.specs.Wanted.{wants}
@@ -19,6 +20,12 @@ pub record IsTurn {M D : Type 0} (seen after : List (Entry M D)) (event : Event)
   pub laws : IsLawful found.machine.state event answer left.machine.state
   pub after_is : after ≡ chronicle left
   pub grown : IsPrefix seen after
+
+-- such a turn with a moment that a clock tells
+pub record IsTurnBy {M D : Type 0} (tells : Moment → Type 0) (seen after : List (Entry M D)) (event_at : Moment → Event) (answer : Answer) : Type 0 where
+  pub now : Moment
+  pub told : tells now
+  pub turn : IsTurn seen after (event_at now) answer
 
 -- such a turn, in which these frames are handed over: what they tell of the journal stands in the chronicle that the seat has seen
 pub record HandsTold {M D : Type 0} (seen after : List (Entry M D)) (event : Event) (answer : Answer) (frames : List (List ℕ)) : Type 0 where

@@ -30,9 +30,9 @@ impl<'a, N: LockName, M: Mechanism, D: Disk, R: Wait, C: Clock> Model
     for ClientBoard<'a, N, M, D, R, C> {
     ghost use Rattle.xfs_board.specs.Boards.{ClientView};
 
-    ghost Value = { ClientView M D };
+    ghost Value = { ClientView M D C };
 
-    ghost view = { λ b. record { caller = b.caller; pass = b.pass } };
+    ghost view = { λ b. record { caller = b.caller; pass = b.pass; clock = b.clock.now } };
 }
 
 impl<'a, N: LockName, M: Mechanism, D: Disk, R: Wait, C: Clock> ClientBoard<'a, N, M, D, R, C> {
@@ -43,7 +43,7 @@ impl<'a, N: LockName, M: Mechanism, D: Disk, R: Wait, C: Clock> ClientBoard<'a, 
         pass: Pass,
         clock: &'a C,
     ) -> ClientBoard<'a, N, M, D, R, C>
-        ensures { result ≡ record { caller = caller.entry; pass = pass } }
+        ensures { result ≡ record { caller = caller.entry; pass = pass; clock = clock.now } }
     {
         ClientBoard {
             alloc,
@@ -72,9 +72,8 @@ impl<'a, N: LockName, M: Mechanism, D: Disk, R: Wait, C: Clock> ClientBoard<'a, 
 impl<'a, N: LockName, M: Mechanism, D: Disk, R: Wait, C: Clock> Board
     for ClientBoard<'a, N, M, D, R, C> {
     ghost use Rattle.std.specs.Prelude.{◌≡◌};
-    ghost use Rattle.xfs_base.specs.declared.moment.Moment.{Moment};
     ghost use Rattle.xfs_board.specs.Boards.{client_log};
-    ghost use Rattle.xfs_board.specs.Turns.{HandsTold, IsTurn};
+    ghost use Rattle.xfs_board.specs.Turns.{HandsTold, IsTurnBy};
     ghost use Rattle.xfs_model.specs.Events as event;
     ghost use Rattle.xfs_machine.specs.Answers.{posted};
     ghost use Rattle.xfs_board.specs.Answers.{turned};
@@ -84,8 +83,9 @@ impl<'a, N: LockName, M: Mechanism, D: Disk, R: Wait, C: Clock> Board
 
     fn post(&mut self, text: &[u8]) -> Result<(), Memory>
         ensures log { client_log self.new ≡ after_post (client_log self.old) text.now result }
-        ensures turn { (now : Moment) × IsTurn self.old.caller.seen self.new.caller.seen (event.post self.old.pass text.now now) (posted result) }
+        ensures turn { IsTurnBy (C.tells self.old.clock) self.old.caller.seen self.new.caller.seen (event.post self.old.pass text.now) (posted result) }
         ensures pass { self.new.pass ≡ self.old.pass }
+        ensures clock { self.new.clock ≡ self.old.clock }
     {
         let reading = Reading::of(self.alloc, text);
         let now = self.clock.now();
@@ -94,8 +94,9 @@ impl<'a, N: LockName, M: Mechanism, D: Disk, R: Wait, C: Clock> Board
 
     fn turn(&mut self) -> Result<Work2, Memory>
         ensures log { client_log self.new ≡ after_turn (client_log self.old) }
-        ensures turn { (now : Moment) × IsTurn self.old.caller.seen self.new.caller.seen (event.work self.old.pass.service now) (turned result) }
+        ensures turn { IsTurnBy (C.tells self.old.clock) self.old.caller.seen self.new.caller.seen (event.work self.old.pass.service) (turned result) }
         ensures pass { self.new.pass ≡ self.old.pass }
+        ensures clock { self.new.clock ≡ self.old.clock }
     {
         let now = self.clock.now();
         let service = self.pass.service();
@@ -106,6 +107,7 @@ impl<'a, N: LockName, M: Mechanism, D: Disk, R: Wait, C: Clock> Board
         ensures log { client_log self.new ≡ after_fetch (client_log self.old) result.items }
         ensures turn { HandsTold self.old.caller.seen self.new.caller.seen (event.outbox self.old.pass) (event.handed result.items) result.items }
         ensures pass { self.new.pass ≡ self.old.pass }
+        ensures clock { self.new.clock ≡ self.old.clock }
     {
         self.caller.outbox(&self.pass).into_list()
     }

@@ -28,9 +28,9 @@ impl<'a, N: LockName, M: Mechanism, D: Disk, R: Wait, C: Clock> Model
     for DeviceBoard<'a, N, M, D, R, C> {
     ghost use Rattle.xfs_board.specs.Boards.{DeviceView};
 
-    ghost Value = { DeviceView M D };
+    ghost Value = { DeviceView M D C };
 
-    ghost view = { λ b. record { caller = b.caller; service = b.service; closing = b.closing } };
+    ghost view = { λ b. record { caller = b.caller; service = b.service; clock = b.clock.now; closing = b.closing } };
 }
 
 impl<'a, N: LockName, M: Mechanism, D: Disk, R: Wait, C: Clock> DeviceBoard<'a, N, M, D, R, C> {
@@ -41,7 +41,7 @@ impl<'a, N: LockName, M: Mechanism, D: Disk, R: Wait, C: Clock> DeviceBoard<'a, 
         clock: &'a C,
         ended: &'a AtomicBool,
     ) -> DeviceBoard<'a, N, M, D, R, C>
-        ensures { result ≡ record { caller = caller.entry; service = service; closing = false } }
+        ensures { result ≡ record { caller = caller.entry; service = service; clock = clock.now; closing = false } }
     {
         DeviceBoard {
             caller,
@@ -70,10 +70,9 @@ impl<'a, N: LockName, M: Mechanism, D: Disk, R: Wait, C: Clock> DeviceBoard<'a, 
 impl<'a, N: LockName, M: Mechanism, D: Disk, R: Wait, C: Clock> Tended
     for DeviceBoard<'a, N, M, D, R, C> {
     ghost use Rattle.std.specs.Prelude.{◌≡◌};
-    ghost use Rattle.xfs_base.specs.declared.moment.Moment.{Moment};
     ghost use Rattle.xfs_board.specs.Answers.{turned};
     ghost use Rattle.xfs_board.specs.Boards.{device_log};
-    ghost use Rattle.xfs_board.specs.Turns.{IsLook, IsTurn};
+    ghost use Rattle.xfs_board.specs.Turns.{IsLook, IsTurnBy};
     ghost use Rattle.xfs_board.specs.Touches.{CountsTouch, TakesFault};
     ghost use Rattle.xfs_model.specs.Events as event;
     ghost use Rattle.xfs_server.specs.Tendeds.{CountsFault, after_closing, after_touch, after_wants, after_work};
@@ -84,6 +83,7 @@ impl<'a, N: LockName, M: Mechanism, D: Disk, R: Wait, C: Clock> Tended
         ensures log { device_log self.new ≡ after_wants (device_log self.old) result }
         ensures look { IsLook self.old.caller.seen self.new.caller.seen self.old.service result }
         ensures service { self.new.service ≡ self.old.service }
+        ensures clock { self.new.clock ≡ self.old.clock }
     {
         self.caller.wants(self.service)
     }
@@ -92,6 +92,7 @@ impl<'a, N: LockName, M: Mechanism, D: Disk, R: Wait, C: Clock> Tended
         ensures log { device_log self.new ≡ after_touch (device_log self.old) touch result }
         ensures turn { CountsTouch self.old.caller self.new.caller touch result }
         ensures service { self.new.service ≡ self.old.service }
+        ensures clock { self.new.clock ≡ self.old.clock }
     {
         match self.caller.touch(touch) {
             Ok(_) => Ok(()),
@@ -103,6 +104,7 @@ impl<'a, N: LockName, M: Mechanism, D: Disk, R: Wait, C: Clock> Tended
         ensures log { CountsFault (device_log self.old) (device_log self.new) }
         ensures turn { TakesFault self.old.service self.old.caller self.new.caller result }
         ensures service { self.new.service ≡ self.old.service }
+        ensures clock { self.new.clock ≡ self.old.clock }
     {
         match self.service {
             Service::Card => self.touch(Touch::CardFault),
@@ -113,8 +115,9 @@ impl<'a, N: LockName, M: Mechanism, D: Disk, R: Wait, C: Clock> Tended
 
     fn turn(&mut self) -> Result<Work2, Memory>
         ensures log { device_log self.new ≡ after_work (device_log self.old) }
-        ensures turn { (now : Moment) × IsTurn self.old.caller.seen self.new.caller.seen (event.work self.old.service now) (turned result) }
+        ensures turn { IsTurnBy (C.tells self.old.clock) self.old.caller.seen self.new.caller.seen (event.work self.old.service) (turned result) }
         ensures service { self.new.service ≡ self.old.service }
+        ensures clock { self.new.clock ≡ self.old.clock }
     {
         let now = self.clock.now();
         of_work(self.caller.work(self.service, now))
@@ -124,6 +127,7 @@ impl<'a, N: LockName, M: Mechanism, D: Disk, R: Wait, C: Clock> Tended
         ensures log { device_log self.new ≡ after_closing (device_log self.old) result }
         ensures caller { self.new.caller ≡ self.old.caller }
         ensures service { self.new.service ≡ self.old.service }
+        ensures clock { self.new.clock ≡ self.old.clock }
     {
         if self.ended.load(Ordering::SeqCst) {
             self.closing = true;

@@ -9,9 +9,11 @@ returns-clause-turn g c =
     let now = c.now-now.result in
     let after = c.work.new.self.seen in
     let told = turned c.of_work.result in
-    let old = c.self.inside in (
-      now,
-      subst (λ b. IsTurn b.caller.seen after (event.work b.pass.service now) told) c.self.view_is
+    let old = c.self.inside in
+    record {
+      now = now;
+      told = subst (λ b. g.C.Clock.tells b.clock now) c.self.view_is c.now-now.ensures.told;
+      turn = subst (λ b. IsTurn b.caller.seen after (event.work b.pass.service now) told) c.self.view_is
           (subst (λ s. IsTurn old.caller.seen after (event.work s now) told) c.service-service.ensures
-          (subst (λ a. IsTurn old.caller.seen after (event.work c.service-service.result now) a) (sym c.of_work.ensures) c.work.ensures.turn)),
-    )
+          (subst (λ a. IsTurn old.caller.seen after (event.work c.service-service.result now) a) (sym c.of_work.ensures) c.work.ensures.turn));
+    }

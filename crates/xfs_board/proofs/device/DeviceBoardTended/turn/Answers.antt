@@ -9,8 +9,10 @@ returns-clause-turn g c =
     let now = c.now-now.result in
     let after = c.work.new.self.seen in
     let told = turned c.of_work.result in
-    let old = c.self.inside in (
-      now,
-      subst (λ b. IsTurn b.caller.seen after (event.work b.service now) told) c.self.view_is
-          (subst (λ a. IsTurn old.caller.seen after (event.work old.service now) a) (sym c.of_work.ensures) c.work.ensures.turn),
-    )
+    let old = c.self.inside in
+    record {
+      now = now;
+      told = subst (λ b. g.C.Clock.tells b.clock now) c.self.view_is c.now-now.ensures.told;
+      turn = subst (λ b. IsTurn b.caller.seen after (event.work b.service now) told) c.self.view_is
+          (subst (λ a. IsTurn old.caller.seen after (event.work old.service now) a) (sym c.of_work.ensures) c.work.ensures.turn);
+    }
