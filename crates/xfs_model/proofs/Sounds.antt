@@ -116,7 +116,7 @@ turn_fresh s event new service b (heard a fresh elsewhere saying speaks) = fresh
 -- a plan that is there and can be worked on
 still_on_plan : (v w : View) (o : Option Plan) → StillWorks v w → MatchOption o ⊥ (IsPlanned v) → MatchOption o ⊥ (IsPlanned w)
 still_on_plan v w None still on = on
-still_on_plan v w (Some plan) still on = still plan on
+still_on_plan v w (Some plan) still on = still.planned plan on
 
 on_plan_went : (s : State) (new : State) (plan left : Plan) (b : Bool) (went : Went) (a : Command Job) → IsPlanned s.seen.guard plan → Works s.seen plan new.seen left went → IsOnPlan new.seen.guard (with_went left b went a)
 on_plan_went s new plan left b more a planned_ works = λ runs. work-planned s.seen plan new.seen left planned_ works

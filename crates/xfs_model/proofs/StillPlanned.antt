@@ -21,33 +21,55 @@ use Rattle.xfs_guard.specs.declared.ask.Ask.TheVariants as asked
 use Rattle.xfs_guard.specs.declared.open.Open.TheVariants.{No}
 use Rattle.xfs_journal.specs.declared.record.Rec.{Rec}
 use Rattle.xfs_model.specs.Guards.{Marks, Misses, Takes}
+use Rattle.xfs_model.proofs.Resting.{Rests, rests_same, rests_taken}
 
--- each plan that could be worked on still can
-abbrev pub StillWorks : View → View → Type 0
-StillWorks v w = (plan : Plan) → IsPlanned v plan → IsPlanned w plan
+-- each plan that could be worked on still can; the open order and the units stay, and no notes go anywhere but to the customer
+pub record StillWorks (v w : View) : Type 0 where
+  pub planned : (plan : Plan) → IsPlanned v plan → IsPlanned w plan
+  pub order : w.open_order ≡ v.open_order
+  pub units : w.units ≡ v.units
+  pub places : Rests v.places w.places
 
 pub same_still : (v w : View) → w ≡ v → StillWorks v w
-same_still v w same = λ plan p. rw same p
+same_still v w same = record {
+  planned = λ plan p. rw same p;
+  order = ap (λ (x : View). x.open_order) same;
+  units = ap (λ (x : View). x.units) same;
+  places = rests_same v.places w.places (ap (λ (x : View). x.places) same);
+}
+
+-- the guard has the same order, units and places
+kept_still : (v w : View) → w.open_order ≡ v.open_order → w.units ≡ v.units → w.places ≡ v.places → StillWorks v w
+kept_still v w order units places = record {
+  planned = λ plan p. planned-still v w plan order units (same-room v.places w.places places) p;
+  order = order;
+  units = units;
+  places = rests_same v.places w.places places;
+}
 
 pub marked_still : (r : Rec) (old new : Seen) → Marks r old new → StillWorks old.guard new.guard
-marked_still r old new is = λ plan p. planned-still old.guard new.guard plan (ap (λ (v : View). v.open_order) is.guard_is) (ap (λ (v : View). v.units) is.guard_is)
-    (same-room old.guard.places new.guard.places (ap (λ (v : View). v.places) is.guard_is)) p
+marked_still r old new is = kept_still old.guard new.guard (ap (λ (v : View). v.open_order) is.guard_is) (ap (λ (v : View). v.units) is.guard_is) (ap (λ (v : View). v.places) is.guard_is)
 
 pub missed_still : (r : Rec) (old new : Seen) → Misses r old new → StillWorks old.guard new.guard
-missed_still r old new is = λ plan p. planned-still old.guard new.guard plan (ap (λ (v : View). v.open_order) is.becomes.guard_is) (ap (λ (v : View). v.units) is.becomes.guard_is)
-    (same-room old.guard.places new.guard.places (ap (λ (v : View). v.places) is.becomes.guard_is)) p
+missed_still r old new is =
+    kept_still old.guard new.guard (ap (λ (v : View). v.open_order) is.becomes.guard_is) (ap (λ (v : View). v.units) is.becomes.guard_is) (ap (λ (v : View). v.places) is.becomes.guard_is)
 
 pub taken_still : (old new : Seen) (moved : Counts) (failed : Bool) → Takes old moved failed new → StillWorks old.guard new.guard
-taken_still old new moved true is = λ plan p. planned-still old.guard new.guard plan (ap (λ (v : View). v.open_order) is.reported.same) (ap (λ (v : View). v.units) is.reported.same)
-    (same-room old.guard.places new.guard.places ((is.reported.reported.nothing refl).1)) p
-taken_still old new moved false is = λ plan p. planned-still old.guard new.guard plan (ap (λ (v : View). v.open_order) is.reported.same) (ap (λ (v : View). v.units) is.reported.same)
-    (taken-room old.guard.places new.guard.places moved (is.reported.reported.places refl)) p
+taken_still old new moved true is =
+    kept_still old.guard new.guard (ap (λ (v : View). v.open_order) is.reported.same) (ap (λ (v : View). v.units) is.reported.same) ((is.reported.reported.nothing refl).1)
+taken_still old new moved false is = record {
+  planned = λ plan p. planned-still old.guard new.guard plan (ap (λ (v : View). v.open_order) is.reported.same) (ap (λ (v : View). v.units) is.reported.same)
+      (taken-room old.guard.places new.guard.places moved (is.reported.reported.places refl)) p;
+  order = ap (λ (v : View). v.open_order) is.reported.same;
+  units = ap (λ (v : View). v.units) is.reported.same;
+  places = rests_taken old.guard.places new.guard.places moved (is.reported.reported.places refl);
+}
 
 -- a plan is no answer
 answer_plan : (answer : Answer) (plan : Plan) → planned plan ≡ told answer → ⊥
 answer_plan answer plan e = cc
 
-same_plan : (a b : Plan) → planned a ≡ planned b → a ≡ b
+pub same_plan : (a b : Plan) → planned a ≡ planned b → a ≡ b
 same_plan a b e = cc
 
 unless_told : (o : Option Refusal) (answer : Answer) (plan : Plan) → StartsUnless o (told answer) (planned plan) → ⊥
@@ -59,7 +81,7 @@ with_told (Ok x) answer plan is = answer_plan (answer x) plan is
 with_told (Err r) answer plan is = answer_plan is.answer plan is.is
 
 -- the plan is the one that is started
-unless_planned : (o : Option Refusal) (a b : Plan) → StartsUnless o (planned a) (planned b) → b ≡ a
+pub unless_planned : (o : Option Refusal) (a b : Plan) → StartsUnless o (planned a) (planned b) → b ≡ a
 unless_planned None a b is = same_plan b a is
 unless_planned (Some r) a b is = absurd (answer_plan is.answer b is.is)
 

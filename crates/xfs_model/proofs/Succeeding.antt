@@ -40,7 +40,7 @@ use Rattle.xfs_model.proofs.Changes.{at_itself, each}
 use Rattle.xfs_model.proofs.Turns.{Turn, accepted, at_event, begun, heard, late, marks, misasked, nonce, seen_at, stays, stopped_running, stopped_waiting, turns, worked}
 
 -- a refusal is no success
-denied_fails : (deny : Deny) → IfSome (denial deny) (λ (a : Answer). is_success a.code ≡ false)
+pub denied_fails : (deny : Deny) → IfSome (denial deny) (λ (a : Answer). is_success a.code ≡ false)
 denied_fails Shut = refl
 denied_fails Full = refl
 denied_fails Disk = refl
@@ -67,11 +67,11 @@ refused_fails (refusals.Error fault) = refl
 refused_fails (refusals.Deny deny) = denied_fails deny
 refused_fails refusals.Memory = tt
 
-of_some : (o : Option Answer) (a : Answer) → o ≡ Some a → IfSome o (λ (b : Answer). is_success b.code ≡ false) → is_success a.code ≡ false
+pub of_some : (o : Option Answer) (a : Answer) → o ≡ Some a → IfSome o (λ (b : Answer). is_success b.code ≡ false) → is_success a.code ≡ false
 of_some o a e h = rw e at h
 
 -- what is told as a command begins that has a plan otherwise is no success
-abbrev IsNoSuccess : Start → Type 0
+abbrev pub IsNoSuccess : Start → Type 0
 IsNoSuccess (told answer) = is_success answer.code ≡ false
 IsNoSuccess (planned plan) = Unit {0}
 
@@ -87,7 +87,7 @@ with_no (Err refusal) plan start is = told_no refusal start is
 with_no (Ok value) plan start is = subst IsNoSuccess (sym is) tt
 
 -- a command that has its success as it begins is one that is done at once
-begins_at_once : (s : Seen) (exchange : Bool) (ask : CashAsk) (next : Seen) (after : Bool) (start : Start) → Begins s exchange ask next after start → IsDoneAtOnce (cash ask) ⊎ IsNoSuccess start
+pub begins_at_once : (s : Seen) (exchange : Bool) (ask : CashAsk) (next : Seen) (after : Bool) (start : Start) → Begins s exchange ask next after start → IsDoneAtOnce (cash ask) ⊎ IsNoSuccess start
 begins_at_once s exchange (Denominate notes) next after start is = inl tt
 begins_at_once s exchange (Dispense notes token) next after start (kept, is) = inr (with_no is.leave (λ l. dispense_plan l.issue l.counts) start is.starts)
 begins_at_once s exchange Present next after start (same, kept, is) = inr (unless_no (active_refusal exchange) (order_plan asks.Present) start is)
@@ -99,7 +99,7 @@ begins_at_once s exchange EndExchange next after start is = inl tt
 begins_at_once s exchange (SetStorage added) next after start (same, kept, is) = inr (with_no is.checked (λ counts. storage_plan counts) start is.starts)
 
 -- a nonce command is done at once
-nonce_at_once : (s : State) (ask : Ask) (result : Outcome) (next : Seen) (issued : Moment) → NonceCommand s ask result next issued → is_success result.code ≡ true → IsDoneAtOnce ask
+pub nonce_at_once : (s : State) (ask : Ask) (result : Outcome) (next : Seen) (issued : Moment) → NonceCommand s ask result next issued → is_success result.code ≡ true → IsDoneAtOnce ask
 nonce_at_once s ask result next issued_ (refused same unfit) e = absurd (false≢true e)
 nonce_at_once s issue result next issued_ (issued now fit is) e = tt
 nonce_at_once s issue result next issued_ (unissued now fit is) e = absurd (false≢true e)

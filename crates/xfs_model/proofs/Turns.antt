@@ -19,7 +19,6 @@ use Rattle.xfs_common.specs.declared.error.ErrorCode.TheVariants.{NoMatchingRequ
 use Rattle.xfs_conversation.specs.Pending.{is_wrong_id}
 use Rattle.xfs_dispenser.specs.Answers.{Start, Went}
 use Rattle.xfs_dispenser.specs.Begins.{Begins}
-use Rattle.xfs_dispenser.specs.Plans.{IsPlanned}
 use Rattle.xfs_dispenser.specs.Seen.{Seen}
 use Rattle.xfs_dispenser.specs.Steps.{Works}
 use Rattle.xfs_dispenser.specs.declared.ask.CashAsk.{CashAsk}
@@ -71,7 +70,7 @@ use Rattle.xfs_model.proofs.Machines.{aside}
 use Rattle.xfs_model.proofs.Queues.{queue_itself, queue_there, same_service}
 use Rattle.xfs_model.proofs.Runnings.{OthersRest, all_rest, others_rest}
 use Rattle.xfs_model.proofs.Standings.{asked_of_card, asked_of_cash, asked_of_keys, not_begin, other_case}
-use Rattle.xfs_model.proofs.StillPlanned.{StillWorks, marked_still, missed_still, taken_still}
+use Rattle.xfs_model.proofs.StillPlanned.{StillWorks, marked_still, missed_still, same_still, taken_still}
 use Rattle.xfs_model.proofs.Wanting.{unmoved}
 
 -- what a device says to a command in a step: as it begins, or as the world touches the device while it runs
@@ -151,12 +150,12 @@ queues_announced s None = refl
 queues_announced s (Some frame) = refl
 
 nonce_still : (s : State) (ask : Ask) (result : Outcome) (next : Seen) (moment : Moment) → NonceCommand s ask result next moment → StillWorks s.seen.guard next.guard
-nonce_still s ask result next moment (refused asks unfit) = λ plan kept. kept
+nonce_still s ask result next moment (refused asks unfit) = same_still _ _ refl
 nonce_still s ask result next moment (issued now fit is) = marked_still _ s.seen next is
 nonce_still s ask result next moment (unissued now fit is) = missed_still _ s.seen next is
 nonce_still s ask result next moment (cleared_ now fit live is) = marked_still _ s.seen next is
 nonce_still s ask result next moment (uncleared now fit live is) = missed_still _ s.seen next is
-nonce_still s ask result next moment (none_to_clear fit dead) = λ plan kept. kept
+nonce_still s ask result next moment (none_to_clear fit dead) = same_still _ _ refl
 
 life_still : (s : State) (ending : Option Ending) (next : Seen) → Expires s ending next → StillWorks s.seen.guard next.guard
 life_still s ending next (over now is) = marked_still _ s.seen next is
@@ -216,7 +215,7 @@ module _ (P : Service → Command Job → Type 0) where
       elsewhere b other at = let e = rw (at_cash, at) at other in false≢true (sym e)
 
 notes_taken : (P : Service → Command Job → Type 0) (s : State) (event : Event) (told_ : Answer) (new : State) → TakesNotes s told_ new → ((b : Service) → All (P b) (queue_at s b)) → Turned P s event new
-notes_taken P s event told_ new (shut closed) h = unchanged P s event s refl (λ plan kept. kept) h
+notes_taken P s event told_ new (shut closed) h = unchanged P s event s refl (same_still _ _ refl) h
 notes_taken P s event told_ new (took moved next open_ takes) h = unchanged P s event _ refl (taken_still s.seen next moved false takes) h
 notes_taken P s event told_ new (failed moved next open_ takes) h = unchanged P s event _ refl (taken_still s.seen next moved true takes) h
 
@@ -226,7 +225,7 @@ module _ (P : Service → Command Job → Type 0) (s : State) (event : Event) (n
       → (service ≡ Cash → ⊥) → (saying : Saying) → Speaks s event service a saying → Hears u service a saying new → Turned P s event new
   hears u queues seen service p a found elsewhere saying speaks is =
       rw (is.is) (turned_one P s event _ service (with_saying saying.result) p a found
-      (ap (λ (qs : Queues). with_queue qs service (changed (with_saying saying.result) a (queue_of qs service))) queues) (λ plan kept. rw seen kept) (machine.queues service)
+      (ap (λ (qs : Queues). with_queue qs service (changed (with_saying saying.result) a (queue_of qs service))) queues) (same_still _ _ (ap (λ (x : Seen). x.guard) seen)) (machine.queues service)
       (λ holds. heard a holds elsewhere saying speaks) h)
 
   takes_nonce : TakesNonce s new → Turned P s event new
@@ -236,7 +235,7 @@ module _ (P : Service → Command Job → Type 0) (s : State) (event : Event) (n
       waits = on_line is.command Nonce (found_passes (waits_on Nonce) (queue_at s Cash) is.command is.first)
 
       by_time : (b : Bool) → is_due s.now is.command ≡ b → MatchBool b (new ≡ resulting s Cash is.command (plain TimeOut)) (DoesNonce s is.command new) → Turned P s event new
-      by_time true due is_late = rw is_late (turned_one P s event _ Cash (with_result (plain TimeOut)) (waits_on Nonce) is.command is.first refl (λ plan kept. kept) (machine.queues Cash) (λ holds. late is.command holds waits due) h)
+      by_time true due is_late = rw is_late (turned_one P s event _ Cash (with_result (plain TimeOut)) (waits_on Nonce) is.command is.first refl (same_still _ _ refl) (machine.queues Cash) (λ holds. late is.command holds waits due) h)
       by_time false due does = rw (does.is) (turned_one P s event _ Cash (with_result does.result) (waits_on Nonce) is.command is.first refl (nonce_still s is.command.job.ask does.result does.next does.issued does.done) (machine.queues Cash)
           (λ holds. nonce is.command holds waits refl does.result does.done) h)
 
@@ -252,7 +251,7 @@ module _ (P : Service → Command Job → Type 0) (s : State) (event : Event) (n
       let passes = and_parts _ _ (found_passes (is_stopped s) (queue_at s service) is.command is.first) in
       let t = resulting s service is.command (plain (cond is.command.marked Canceled TimeOut)) in
       rw (is.is) (turned_one P s event (device_stopped t service) service (with_result (plain (cond is.command.marked Canceled TimeOut))) (is_stopped s) is.command is.first
-      (queues_stopped t service) (λ plan kept. rw (seen_stopped t service) kept) (machine.queues service)
+      (queues_stopped t service) (same_still _ _ (ap (λ (x : Seen). x.guard) (seen_stopped t service))) (machine.queues service)
       (λ holds. stopped_running is.command holds passes.0 passes.1) h)
 
   answers_first : (service : Service) → AnswersFirst s service new → Turned P s event new
@@ -262,14 +261,14 @@ module _ (P : Service → Command Job → Type 0) (s : State) (event : Event) (n
       left_over t still = All-filter _ (Turn s event t (P service) service) (queue_at s service) (stay_all P s event t service (queue_at s service) (λ at. still) (h service))
 
       behind : (before : Option (List ℕ)) → Turned P s event (with_queue_at (sent (announced s service before) service is.command.client (is.last ∷ [])) service (without (queue_at s service) (ticket_of is.command)))
-      behind None = turned_at P s event _ service _ refl (λ b other at plan kept. kept) (left_over _ (λ plan kept. kept)) h
-      behind (Some frame) = turned_at P s event _ service _ refl (λ b other at plan kept. kept) (left_over _ (λ plan kept. kept)) h
+      behind None = turned_at P s event _ service _ refl (λ b other at. same_still _ _ refl) (left_over _ (same_still _ _ refl)) h
+      behind (Some frame) = turned_at P s event _ service _ refl (λ b other at. same_still _ _ refl) (left_over _ (same_still _ _ refl)) h
 
   begins_as : (service : Service) (a : Command Job) → find (waits_on Device) (queue_at s service) ≡ Some a → running_at s service ≡ None → case_of s service ≡ working.begin
       → (ask : Ask) → a.job.ask ≡ ask → MayAsk service a.line ask → BeginsAs ask s service a new → Turned P s event new
   begins_as service a found idle case bad asks may is =
       let waits = on_line a Device (found_passes (waits_on Device) (queue_at s service) a found) in
-      rw is (turned_one P s event _ service (with_result (plain InvalidData)) (waits_on Device) a found refl (λ plan kept. kept) (machine.queues service) (λ holds. misasked a holds waits asks) h)
+      rw is (turned_one P s event _ service (with_result (plain InvalidData)) (waits_on Device) a found refl (same_still _ _ refl) (machine.queues service) (λ holds. misasked a holds waits asks) h)
   begins_as service a found idle case (cash ask) asks may is =
       let waits = on_line a Device (found_passes (waits_on Device) (queue_at s service) a found) in
       rw (is.is) (turned_alone P s event _ service (with_start is.start) (waits_on Device) a found refl (asked_of_cash service a.line ask may) (machine.queues service)
@@ -290,21 +289,21 @@ module _ (P : Service → Command Job → Type 0) (s : State) (event : Event) (n
   does fit working.nonce service at is = takes_nonce is
   does fit working.overdue service at is =
       let passes = and_parts _ _ (found_passes (is_overdue s) (queue_at s service) is.command is.first) in
-      rw (is.is) (turned_one P s event _ service (with_result (plain TimeOut)) (is_overdue s) is.command is.first refl (λ plan kept. kept) (machine.queues service)
+      rw (is.is) (turned_one P s event _ service (with_result (plain TimeOut)) (is_overdue s) is.command is.first refl (same_still _ _ refl) (machine.queues service)
       (λ holds. late is.command holds (on_line is.command Device passes.0) passes.1) h)
   does fit working.stop service at is = stops service is
   does fit working.go_on service at is = works_on_plan is
   does fit working.begin service at is =
       begins_as service is.command is.first is.alone at is.command.job.ask refl (found_all (IsFitting service) (waits_on Device) (queue_at s service) is.command is.first (fit service)) is.begins
-  does fit working.rest service at is = rw is (unchanged P s event s refl (λ plan kept. kept) h)
+  does fit working.rest service at is = rw is (unchanged P s event s refl (same_still _ _ refl) h)
 
   is_heard : (u : State) → u.queues ≡ s.queues → u.seen ≡ s.seen → (service : Service) → (service ≡ Cash → ⊥) → (o : Option (Command Job)) → running_at s service ≡ o → (saying : Saying) → ((a : Command Job) → is_running a.stage ≡ true → Speaks s event service a saying) → IsHeard u service o saying new → Turned P s event new
-  is_heard u queues seen service elsewhere None none saying speaks is = rw is (unchanged P s event u queues (λ plan kept. rw seen kept) h)
+  is_heard u queues seen service elsewhere None none saying speaks is = rw is (unchanged P s event u queues (same_still _ _ (ap (λ (x : Seen). x.guard) seen)) h)
   is_heard u queues seen service elsewhere (Some a) found saying speaks is =
       hears u queues seen service (λ b. is_running b.stage) a found elsewhere saying (speaks a (found_passes (λ (b : Command Job). is_running b.stage) (queue_at s service) a found)) is
 
   card_heard : (u : State) → u.queues ≡ s.queues → u.seen ≡ s.seen → running_at u Card ≡ running_at s Card → (effect : card_reader.Effect) → ((a : Command Job) → is_running a.stage ≡ true → Speaks s event Card a (card_says effect)) → CardSays u effect new → Turned P s event new
-  card_heard u queues seen same card_reader.removed speaks is = rw (is.2) (unchanged P s event _ queues (λ plan kept. rw seen kept) h)
+  card_heard u queues seen same card_reader.removed speaks is = rw (is.2) (unchanged P s event _ queues (same_still _ _ (ap (λ (x : Seen). x.guard) seen)) h)
   card_heard u queues seen same card_reader.nothing speaks is = is_heard u queues seen Card card_not_cash (running_at u Card) (sym same) (card_says card_reader.nothing) speaks is
   card_heard u queues seen same card_reader.ask_insert speaks is = is_heard u queues seen Card card_not_cash (running_at u Card) (sym same) (card_says card_reader.ask_insert) speaks is
   card_heard u queues seen same (card_reader.inserted payload) speaks is = is_heard u queues seen Card card_not_cash (running_at u Card) (sym same) (card_says (card_reader.inserted payload)) speaks is
@@ -317,7 +316,7 @@ module _ (P : Service → Command Job → Type 0) (s : State) (event : Event) (n
   touches_keys touched fault is = let row = keyboard.row_of s.keypad touched in is_heard (with_keypad s row.next) refl refl Keys keys_not_cash (running_at s Keys) refl (keyboard_says row.effect) (λ a runs. keys_touched refl runs touched fault) is
 
   takes_on : (k : Connection) (c : envelope.Command) (line : Option Line) → line_of k.service c.name ≡ line → TakesOn s k c line new → Turned P s event new
-  takes_on k c None none is = rw (is.is) (turned_at P s event _ k.service (done_at_once s k c).queue refl (λ b other at plan kept. kept) (at_once _ (λ plan kept. kept) (bytes_eq c.name (codes "Common.Cancel"))) h)
+  takes_on k c None none is = rw (is.is) (turned_at P s event _ k.service (done_at_once s k c).queue refl (λ b other at. same_still _ _ refl) (at_once _ (same_still _ _ refl) (bytes_eq c.name (codes "Common.Cancel"))) h)
     where
       stop_turned : (t : State) → StillWorks s.seen.guard t.seen.guard → (a : Command Job) (holds b : Bool) → (is_waiting a.stage && (mark holds a).marked) ≡ b → P k.service a
           → Turn s event t (P k.service) k.service (cond b (with_result (plain Canceled) (mark holds a)) (mark holds a))
@@ -347,17 +346,17 @@ module _ (P : Service → Command Job → Type 0) (s : State) (event : Event) (n
   takes_on k c (Some line) has is = of_room (is_crowded (queue_at s k.service) k.client) is
     where
       of_room : (b : Bool) → MatchBool b (Refuses s k (Some c.id) (Some c.name) TooManyRequests new) (Accepts s k line c new) → Turned P s event new
-      of_room true is = rw (is.is) (unchanged P s event _ refl (λ plan kept. kept) h)
-      of_room false is = rw (is.is) (turned_at P s event _ k.service _ refl (λ b other at plan kept. kept)
-          (All-push (Turn s event _ (P k.service) k.service) (queue_at s k.service) _ (stay_all P s event _ k.service (queue_at s k.service) (λ at plan kept. kept) (h k.service))
+      of_room true is = rw (is.is) (unchanged P s event _ refl (same_still _ _ refl) h)
+      of_room false is = rw (is.is) (turned_at P s event _ k.service _ refl (λ b other at. same_still _ _ refl)
+          (All-push (Turn s event _ (P k.service) k.service) (queue_at s k.service) _ (stay_all P s event _ k.service (queue_at s k.service) (λ at. same_still _ _ refl) (h k.service))
           (accepted k.client c.id line c.timeout c.name c.payload is.ask has is.asks)) h)
 
   takes : (k : Connection) (says : Result envelope.Command Refuse) → Takes s k says new → Turned P s event new
-  takes k (Err refuse) is = rw (is.is) (unchanged P s event _ refl (λ plan kept. kept) h)
+  takes k (Err refuse) is = rw (is.is) (unchanged P s event _ refl (same_still _ _ refl) h)
   takes k (Ok c) is = of_id (is_wrong_id (pending_in k.client (queue_at s k.service)) c.id) is
     where
       of_id : (b : Bool) → MatchBool b (Refuses s k (Some c.id) (Some c.name) InvalidRequestId new) (TakesOn s k c (line_of k.service c.name) new) → Turned P s event new
-      of_id true is = rw (is.is) (unchanged P s event _ refl (λ plan kept. kept) h)
+      of_id true is = rw (is.is) (unchanged P s event _ refl (same_still _ _ refl) h)
       of_id false is = takes_on k c (line_of k.service c.name) refl is
 
   touches : (touched : Touch) → event ≡ touch touched → (told_ : Answer) → Touches s touched told_ new → Turned P s event new
@@ -401,29 +400,29 @@ module _ (P : Service → Command Job → Type 0) (old : State) (machine : IsMac
   posts pass text now new is = go (connection_of old pass) is
     where
       go : (o : Option Connection) → MatchOption o (new ≡ old) (λ k. Takes (at_moment old now) k (command_in text) new) → Turned P (at_moment old now) (post pass text now) new
-      go None is = rw is (unchanged P (at_moment old now) (post pass text now) old refl (λ plan kept. kept) h)
+      go None is = rw is (unchanged P (at_moment old now) (post pass text now) old refl (same_still _ _ refl) h)
       go (Some k) is = takes P (at_moment old now) (post pass text now) new (aside old _ refl refl refl machine) h k (command_in text) is
 
   hands : (pass : Pass) (frames : List (List ℕ)) (new : State) → Hands old pass frames new → Turned P old (outbox pass) new
   hands pass frames new is = go (connection_of old pass) is
     where
       go : (o : Option Connection) → MatchOption o ((frames ≡ []) × (new ≡ old)) (λ k. (frames ≡ k.waiting) × (new ≡ record old { connections = map (without_mail k.client) old.connections })) → Turned P old (outbox pass) new
-      go None is = rw (is.1) (unchanged P old (outbox pass) old refl (λ plan kept. kept) h)
-      go (Some k) is = rw (is.1) (unchanged P old (outbox pass) _ refl (λ plan kept. kept) h)
+      go None is = rw (is.1) (unchanged P old (outbox pass) old refl (same_still _ _ refl) h)
+      go (Some k) is = rw (is.1) (unchanged P old (outbox pass) _ refl (same_still _ _ refl) h)
 
   leaves_at : (event : Event) (k : Connection) → Turned P old event (left old k)
   leaves_at event k =
       let keep = λ (a : Command Job). not (is_of k.client a) || is_running a.stage in
-      turned_at P old event (left old k) k.service (without_client (queue_at old k.service) k.client) refl (λ b other at plan kept. kept)
+      turned_at P old event (left old k) k.service (without_client (queue_at old k.service) k.client) refl (λ b other at. same_still _ _ refl)
       (All-map (Turn old event (left old k) (P k.service) k.service) (λ a. mark (is_of k.client a) a) (filter keep (queue_at old k.service))
       (All-filter keep (λ a. Turn old event (left old k) (P k.service) k.service (mark (is_of k.client a) a)) (queue_at old k.service)
-      (each (P k.service) (λ a. Turn old event (left old k) (P k.service) k.service (mark (is_of k.client a) a)) (λ a p. marks a (is_of k.client a) p (λ at runs plan kept. kept)) (queue_at old k.service) (h k.service)))) h
+      (each (P k.service) (λ a. Turn old event (left old k) (P k.service) k.service (mark (is_of k.client a) a)) (λ a p. marks a (is_of k.client a) p (λ at runs. same_still _ _ refl)) (queue_at old k.service) (h k.service)))) h
 
   leaves : (pass : Pass) (new : State) → Leaves old pass new → Turned P old (leave pass) new
   leaves pass new is = go (connection_of old pass) is
     where
       go : (o : Option Connection) → MatchOption o (new ≡ old) (λ k. new ≡ left old k) → Turned P old (leave pass) new
-      go None is = rw is (unchanged P old (leave pass) old refl (λ plan kept. kept) h)
+      go None is = rw is (unchanged P old (leave pass) old refl (same_still _ _ refl) h)
       go (Some k) is = rw is (leaves_at (leave pass) k)
 
   bare_turned : (s : State) (event : Event) (seen : Seen) (life boot : ℕ) → Turned P s event (bare seen life boot)
@@ -433,8 +432,8 @@ module _ (P : Service → Command Job → Type 0) (old : State) (machine : IsMac
   bare_turned s event seen life boot Cash = All-nil _
 
   turned_by : (event : Event) (told_ : Answer) (new : State) → Happens old event told_ new → Turned P (at_event old event) event new
-  turned_by (join service) (joined pass) new is = rw (is.is) (unchanged P old (join service) _ refl (λ plan kept. kept) h)
-  turned_by (join service) full new is = rw (is.1) (unchanged P old (join service) old refl (λ plan kept. kept) h)
+  turned_by (join service) (joined pass) new is = rw (is.is) (unchanged P old (join service) _ refl (same_still _ _ refl) h)
+  turned_by (join service) full new is = rw (is.1) (unchanged P old (join service) old refl (same_still _ _ refl) h)
   turned_by (post pass text now) done new is = posts pass text now new is
   turned_by (touch it) told_ new is = touches P old (touch it) new machine h it refl told_ is
   turned_by (work service now) told_ new is = does P (at_moment old now) (work service now) new (aside old _ refl refl refl machine) h fit (case_of (at_moment old now) service) service refl is.1
@@ -451,4 +450,4 @@ module _ (P : Service → Command Job → Type 0) (old : State) (machine : IsMac
   turns event told_ new (happens up is) = turned_by event told_ new is
   turns event told_ new (wanting is_memory wants) =
       let u = unmoved old new event wants in
-      rw (u.is) (unchanged P (at_event old event) event _ (sym (queues_at old event)) (λ plan kept. rw (u.becomes.guard_is) (subst (λ (x : Seen). IsPlanned x.guard plan) (seen_at old event) kept)) (λ b. rw (queues_at old event) (h b)))
+      rw (u.is) (unchanged P (at_event old event) event _ (sym (queues_at old event)) (same_still _ _ (u.becomes.guard_is ∙ sym (ap (λ (x : Seen). x.guard) (seen_at old event)))) (λ b. rw (queues_at old event) (h b)))

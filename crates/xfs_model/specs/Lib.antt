@@ -13,6 +13,7 @@ pub mod Guards
 pub mod Immediate
 pub mod Kept
 pub mod Laws
+pub mod Moved
 pub mod Pendings
 pub mod Posts
 pub mod Results

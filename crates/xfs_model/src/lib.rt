@@ -7,6 +7,7 @@ ghost use Rattle.xfs_base.specs.declared.moment.ClientId.{ClientId};
 ghost use Rattle.xfs_conversation.specs.Once.{IsOnce};
 ghost use Rattle.xfs_dispenser.specs.Seen.{Seen};
 ghost use Rattle.xfs_guard.specs.declared.open.Open.TheVariants.{No};
+ghost use Rattle.xfs_queue.specs.declared.command.Ticket.{Ticket};
 ghost use Rattle.xfs_model.specs.Advances.{Advances};
 ghost use Rattle.xfs_model.specs.Causes.{HasCauses, MarksHaveCauses};
 ghost use Rattle.xfs_model.specs.Connections.{connection_at};
@@ -15,6 +16,7 @@ ghost use Rattle.xfs_model.specs.Events.{Answer, Event};
 ghost use Rattle.xfs_model.specs.Faults.{FaultsHaveCauses, RefusalsHaveCauses};
 ghost use Rattle.xfs_model.specs.GuardCalls.{AtMostOneCall, IsPlain};
 ghost use Rattle.xfs_model.specs.Kept.{IsMachine};
+ghost use Rattle.xfs_model.specs.Moved.{RunsSince, SucceedsInFull};
 ghost use Rattle.xfs_model.specs.Pendings.{pending_at};
 ghost use Rattle.xfs_model.specs.Laws.{EachFirmRun, EachHanding, EachStep};
 ghost use Rattle.xfs_model.specs.Runs.{IsReached};
@@ -118,6 +120,14 @@ pub fn refusals_have_their_causes()
 /// a Dispense or a Present has it only with a plan that was done.
 pub fn successes_have_their_causes()
     ensures { EachStep (λ old _. IsSound old) (λ old _ new. SuccessesHaveCauses old new) }
+{}
+
+/// A Dispense or a Present has the result success only where all of its notes were moved since the step
+/// that began it: notes that were asked for, and that its result tells, went from the units to the
+/// transport; the whole transport went to the outlet. No other notes went anywhere, but that the
+/// customer may take what lies in the outlet.
+pub fn successes_move_all_notes()
+    ensures { (start : State) (t : Ticket) → IsSound start → EachStep (λ s _. RunsSince start t s) (λ _ _ new. SucceedsInFull start new t) }
 {}
 
 /// An order that is open behind a step that is no restart and no finish was open before, or it was written
