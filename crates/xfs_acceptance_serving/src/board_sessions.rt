@@ -16,6 +16,10 @@ struct StepClock {
 }
 
 impl Clock for StepClock {
+    ghost use Rattle.std.specs.Prelude.{⊤};
+
+    ghost tells = { λ _ _. ⊤ };
+
     fn now(&self) -> Moment {
         let now = self.now.load(Ordering::SeqCst);
         self.now
