@@ -16,7 +16,7 @@ use std::thread::Threads;
 use std::time;
 use xfs_base::{Clock, Counts, StdClock};
 use xfs_server::{Doors, Gate};
-use xfs_serving::Ending;
+use xfs_serving::{CardWatch, Ending, KeyWatch};
 use xfs_serving_machine::serve_connections;
 
 // So many connections have room.
@@ -97,7 +97,7 @@ fn serve<R: Threads + Wait + Sync, O: Doors, C: Clock + Sync, G: Gate + Sync>(
     clock: &C,
     gate: &G,
 ) -> Result<(Ending, Told), Fail> {
-    let (cards, keys) = (a_card(alloc)?, a_key(alloc)?);
+    let (cards, keys) = (CardWatch(a_card(alloc)?), KeyWatch(a_key(alloc)?));
     let machine = machine(alloc)?;
     let served = serve_connections(rt, alloc, count, machine, doors, clock, gate, cards, keys);
     Ok((served.ending, told_by(alloc, &served.machine)?))

@@ -9,7 +9,7 @@ use xfs_server::{
     Board, DialFault, Door, Doors, GiveFault, Link, MemDoors, MemLink, OpenGate, Taking, Tended,
     Work2,
 };
-use xfs_serving::{Backend, Ending, Refusal, serve};
+use xfs_serving::{Backend, CardWatch, Ending, KeyWatch, Refusal, serve};
 
 // Notes an event by a digit behind those before.
 fn note(order: &AtomicU64, digit: u8) {
@@ -300,8 +300,8 @@ fn play<R: Threads + Wait + Sync>(
         left: 0,
     };
     let clock = FixedClock(0);
-    let cards = SimWatch::new(Vec::new(alloc), Vec::new(alloc));
-    let keys = SimWatch::new(Vec::new(alloc), Vec::new(alloc));
+    let cards = CardWatch(SimWatch::new(Vec::new(alloc), Vec::new(alloc)));
+    let keys = KeyWatch(SimWatch::new(Vec::new(alloc), Vec::new(alloc)));
     let (ending, bench) = serve(
         rt, alloc, case.count, bench, &mut doors, &clock, &OpenGate, cards, keys,
     );

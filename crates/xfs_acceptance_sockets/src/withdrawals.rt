@@ -17,7 +17,7 @@ use xfs_disk::Disk;
 use xfs_machine::Machine;
 use xfs_mech::{Mechanism, TakerWatch};
 use xfs_server::{Doors, Gate};
-use xfs_serving::Ending as Over;
+use xfs_serving::{CardWatch, Ending as Over, KeyWatch};
 use xfs_serving_machine::{Served, serve_connections};
 use xfs_simulated::units;
 use xfs_sockets::{Origins, Ports, TcpDoors};
@@ -124,8 +124,8 @@ pub fn serve<
         &mut doors,
         shared.clock,
         gate,
-        TakerWatch,
-        TakerWatch,
+        CardWatch(TakerWatch),
+        KeyWatch(TakerWatch),
     );
     shared.is_over.store(true, Ordering::SeqCst);
     served

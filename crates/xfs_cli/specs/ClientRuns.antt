@@ -22,7 +22,7 @@ pub record RunsClient {M D L : Type 0} (log : L → LinkLog) (terms : Terms) (co
   pub ending : Ending
   -- the texts that the link sent are the withdrawal's asks after those that it handed over, and so it ended
   pub withdraws : IfSome ended.link (λ link. Withdraws terms ending (log link))
-  -- the doors were asked once for a link, and there is none exactly where they refused it
+  -- the cash dispenser was dialled once, and there is no link exactly where the doors refused it
   pub dialled : HasDialled ended.link ending before now
   pub status_is : ended.status ≡ status_of ending
   pub line : WritesLast (last_line ending) o.faults o.faults_now o.held o.held_now

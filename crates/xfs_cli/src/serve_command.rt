@@ -21,7 +21,7 @@ use xfs_guard::{Bench, BootFail, BootFault, Deny};
 use xfs_machine::Machine;
 use xfs_mech::{Mechanism, Watch};
 use xfs_server::{Doors, Gate};
-use xfs_serving::Ending;
+use xfs_serving::{CardWatch, Ending, KeyWatch};
 use xfs_serving_machine::{Served, serve_connections};
 
 /// Boots a machine, takes so many connections at the doors and serves them at once, each in a session of its own, and
@@ -57,7 +57,7 @@ pub fn serve_machine<
     let Bench { core, cards, keys } = bench;
     match Machine::boot(alloc, core) {
         Ok(machine) => {
-            let Served { ending, machine } = serve_connections(
+            let Served { ending, machine } = serve_connections::<R, M, D, O, C, G, P, Q>(
                 rt,
                 alloc,
                 connections,
@@ -65,8 +65,8 @@ pub fn serve_machine<
                 doors,
                 clock,
                 gate,
-                cards,
-                keys,
+                CardWatch(cards),
+                KeyWatch(keys),
             );
             let (settled, mech, disk) = machine.finish();
             Ended {

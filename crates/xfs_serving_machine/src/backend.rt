@@ -64,6 +64,8 @@ impl<
         ensures seen { IsPrefix self.old.caller.seen self.new.caller.seen }
         ensures turn { IfOk result (λ c. IsTurn self.old.caller.seen c.1.caller.seen (event.join service) (joined_as (Ok c.1.pass))) }
         ensures client { IfOk result (λ c. c.0 ≡ c.1.pass.client) }
+        ensures clock { IfOk result (λ c. c.1.clock ≡ self.old.clock.now) }
+        ensures same { self.new.clock ≡ self.old.clock }
     {
         let Ok(mut caller) = self.caller.split() else {
             return Err(Refusal::Memory);
@@ -85,7 +87,8 @@ impl<
 
     fn worker(&mut self, service: Service) -> Result<DeviceBoard<'a, N, M, D, R, C>, Memory>
         ensures seen { IsPrefix self.old.caller.seen self.new.caller.seen }
-        ensures board { IfOk result (λ b. b ≡ record { caller = fresh self.old.caller.seen; service = service; closing = false }) }
+        ensures board { IfOk result (λ b. b ≡ record { caller = fresh self.old.caller.seen; service = service; clock = self.old.clock.now; closing = false }) }
+        ensures same { self.new.clock ≡ self.old.clock }
     {
         let caller = self.caller.split()?;
         Ok(DeviceBoard::new(caller, service, self.clock, self.ended))

@@ -18,7 +18,7 @@ use xfs_disk::Disk;
 use xfs_machine::Machine;
 use xfs_mech::{Mechanism, Watch};
 use xfs_server::{Doors, Gate};
-use xfs_serving::{Ending, serve};
+use xfs_serving::{CardWatch, Ending, KeyWatch, serve};
 use xfs_turn::{Seat, Turn};
 
 /// A machine that has served its connections, and how that ended.
@@ -48,8 +48,8 @@ pub fn serve_connections<
     doors: &mut O,
     clock: &C,
     gate: &G,
-    cards: P,
-    keys: Q,
+    cards: CardWatch<P>,
+    keys: KeyWatch<Q>,
 ) -> Served<M, D>
     // It has served only where all connections came, and failed only where the doors did. It dials none.
     ensures doors { Takes count result.ending (O.log doors.old) (O.log doors.new) }
@@ -95,8 +95,8 @@ fn serve_at<
     doors: &mut O,
     clock: &C,
     gate: &G,
-    cards: P,
-    keys: Q,
+    cards: CardWatch<P>,
+    keys: KeyWatch<Q>,
 ) -> (Ending, Seat<SharedMachine<M, D>>)
     requires name { turn.now ≡ N.lock }
     requires lock { seat.lock ≡ N.lock }
