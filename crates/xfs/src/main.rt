@@ -1,12 +1,15 @@
-//! The program `xfs`: it has the files of the key and of the seed read, makes the bench, calls `run`, and ends with its
-//! status. Only `serve` listens on ports and keeps its journal in a file; `client` dials.
+//! The program `xfs`: it has the files of the key, of the seed and of the bench read, makes the bench, calls `run`, and
+//! ends with its status. Only `serve` listens on ports and keeps its journal in a file; `client` dials.
 #![tactic(auto)]
 
 ghost use Rattle.xfs_guard.specs.Starts.{Starts};
 
 mod outside;
 
-use crate::outside::{read_words, tell_fault, tell_listening, tell_open_files, tell_unreached};
+use crate::outside::{
+    read_words, tell_error, tell_fault, tell_listening, tell_open_files, tell_unreached,
+    tell_version,
+};
 use std::alloc::Global;
 use std::io;
 use std::process::ExitCode;
@@ -18,8 +21,8 @@ use xfs_disk::{Disk, FileDisk};
 use xfs_guard::Bench;
 use xfs_mech::{Mechanism, SimWatch};
 use xfs_server::{Doors, OpenGate};
-use xfs_simulated::{LIMITS, Secrets, core_under, empty, mechanism, units};
-use xfs_sockets::{OpenFault, Origins, PORTS, TcpDoors};
+use xfs_simulated::{LIMITS, Secrets, Setup, core_failing, empty, mechanism, units};
+use xfs_sockets::{OpenFault, Origins, PORTS, Ports, TcpDoors};
 use xfs_start::{Folder, StartFault, server_bench};
 use xfs_words::{Command, spelled};
 
@@ -33,11 +36,20 @@ fn main(rt: HostRuntime) -> ExitCode {
 
 // Threads and waiting are had from `rt`; files, sockets and streams from `host`.
 fn started<R: Threads + Wait + Sync>(rt: &R, host: &HostRuntime) -> Result<u8, StartFault> {
-    let secrets = Folder::new(host, ".").secrets()?;
+    let folder = Folder::new(host, ".");
+    let secrets = folder.secrets()?;
+    let setup = folder.setup()?;
     let words = read_words(host)?;
     match spelled(&words) {
-        Some(Command::Serve(_)) => serve(rt, host, &words, secrets),
-        _ => other(rt, host, &words, secrets),
+        Some(Command::Serve(connections)) => {
+            serve(rt, host, &words, connections, secrets, setup)
+        }
+        Some(_) => other(rt, host, &words, secrets, setup),
+        None => {
+            let status = other(rt, host, &words, secrets, setup)?;
+            tell_version(host);
+            Ok(status)
+        }
     }
 }
 
@@ -46,21 +58,34 @@ fn serve<R: Threads + Wait + Sync>(
     rt: &R,
     host: &HostRuntime,
     words: &[String],
+    connections: u64,
     secrets: Secrets,
+    setup: Setup,
 ) -> Result<u8, StartFault> {
     let alloc = host.alloc();
     let clock = StdClock::new(host);
     let folder = Folder::new(host, ".");
     let listed = folder.origins()?;
-    let mut doors = match TcpDoors::open(host, alloc, &clock, PORTS, Origins::of(&listed)) {
+    let ports = ports_of(&setup);
+    let mut doors = match TcpDoors::open(host, alloc, &clock, ports, Origins::of(&listed)) {
         Ok(doors) => doors,
         Err(fault) => return Err(start_fault(fault)),
     };
+    doors.close_after(connections);
     let disk = FileDisk::new(folder.journal()?);
     tell_listening(host, &doors.ports(), &secrets);
     tell_open_files(host, &folder)?;
-    let bench = server_bench(alloc, disk, secrets)?;
-    Ok(run_over(rt, host, words, bench, &clock, &mut doors))
+    let bench = server_bench(alloc, disk, secrets, setup)?;
+    let (status, _) = run_over(rt, host, words, bench, &clock, &mut doors);
+    Ok(status)
+}
+
+// The four ports of the bench, and the standard's where it names none.
+fn ports_of(setup: &Setup) -> Ports {
+    setup
+        .first_port
+        .and_then(Ports::from_first)
+        .unwrap_or(PORTS)
 }
 
 fn start_fault(fault: OpenFault) -> StartFault {
@@ -76,28 +101,32 @@ fn other<R: Threads + Wait + Sync>(
     host: &HostRuntime,
     words: &[String],
     secrets: Secrets,
+    setup: Setup,
 ) -> Result<u8, StartFault> {
     let alloc = host.alloc();
     let clock = StdClock::new(host);
-    let mut doors = match TcpDoors::outward(host, alloc, &clock, PORTS) {
+    let mut doors = match TcpDoors::outward(host, alloc, &clock, ports_of(&setup)) {
         Ok(doors) => doors,
         Err(fault) => return Err(start_fault(fault)),
     };
     let units = units().ok_or(StartFault::Memory)?;
-    let mech = mechanism(alloc, &units, Vec::new(alloc)).ok_or(StartFault::Memory)?;
+    let mech = mechanism(alloc, &units, setup.faults).ok_or(StartFault::Memory)?;
     let bench = Bench {
-        core: core_under(secrets, mech, units, empty(alloc), LIMITS),
+        core: core_failing(secrets, mech, units, empty(alloc), LIMITS, setup.failing),
         cards: silent(alloc),
         keys: silent(alloc),
     };
-    let status = run_over(rt, host, words, bench, &clock, &mut doors);
+    let (status, link) = run_over(rt, host, words, bench, &clock, &mut doors);
     if let Some((port, why)) = doors.unreached() {
         tell_unreached(host, port, why);
+    }
+    if let Some(link) = link {
+        tell_error(host, link.last_text());
     }
     Ok(status)
 }
 
-// Runs the program from standard input to standard output; the status.
+// Runs the program from standard input to standard output; the status, and the link that was dialled.
 fn run_over<
     R: Threads + Wait + Sync,
     M: Mechanism + Send,
@@ -111,7 +140,7 @@ fn run_over<
     bench: Bench<M, D, SimWatch, SimWatch>,
     clock: &C,
     doors: &mut O,
-) -> u8
+) -> (u8, Option<O::Link>)
     requires starts { Starts M.Mechanism D.Disk bench.core }
 {
     let mut source = StdSource::new(host.reader());
@@ -127,7 +156,7 @@ fn run_over<
         doors,
         &OpenGate,
     );
-    ended.status
+    (ended.status, ended.link)
 }
 
 // A watch that has nothing to tell.

@@ -4,15 +4,20 @@
 use std::io::ErrorKind;
 use std::{env, io};
 use xfs_cli::status::NO_MEMORY;
+use xfs_envelope::{Answer, Code, read_answer};
+use xfs_json::words;
 use xfs_simulated::{OWN, Secrets};
 use xfs_sockets::Ports;
 use xfs_start::{Folder, JOURNAL_FILE, KEY_FILE, SEED_FILE, StartFault};
 
+// The version of the program, as CHANGES.md has it.
+const VERSION: &str = "November 2026";
+
 // The status of main where a port or a file can't be opened.
 const CANNOT_OPEN: u8 = 1;
 
-// The status of main where a key or seed file can't be used.
-const BAD_SECRET: u8 = 2;
+// The status of main where the file of the key, of the seed or of the bench can't be used.
+const BAD_FILE: u8 = 2;
 
 /// The words of the command line behind the program's name. A word that is no text is of no table: no words have the
 /// same status.
@@ -37,11 +42,19 @@ pub fn tell_fault(rt: &HostRuntime, fault: StartFault) -> u8 {
     match fault {
         StartFault::BadSecret { file } => {
             let _written = eprintln!(rt; "xfs: bad key file {file}: not 64 hexadecimal digits");
-            BAD_SECRET
+            BAD_FILE
         }
         StartFault::UnreadSecret { file, why } => {
             let _written = eprintln!(rt; "xfs: bad key file {file}: {why}");
-            BAD_SECRET
+            BAD_FILE
+        }
+        StartFault::BadBench => {
+            let _written = eprintln!(rt; "xfs: bad bench file");
+            BAD_FILE
+        }
+        StartFault::UnreadBench { why } => {
+            let _written = eprintln!(rt; "xfs: bad bench file: {why}");
+            BAD_FILE
         }
         StartFault::CannotOpen { file, why } => {
             let _written = eprintln!(rt; "xfs: cannot open {file}: {why}");
@@ -89,4 +102,28 @@ pub fn tell_open_files(
 /// Tells that nobody was reached.
 pub fn tell_unreached(rt: &HostRuntime, port: u16, why: ErrorKind) {
     let _written = eprintln!(rt; "xfs: nobody listens on 127.0.0.1:{port}: {why}");
+}
+
+/// Tells which version of the program was asked what it doesn't do.
+pub fn tell_version(rt: &HostRuntime) {
+    let _written = eprintln!(rt; "xfs: version of {VERSION}");
+}
+
+/// Tells the error of a command that ended by one, where this text completes it.
+pub fn tell_error(rt: &HostRuntime, text: &[u8]) {
+    let Ok(answer) = read_answer(rt.alloc(), text) else {
+        return;
+    };
+    if let Answer::Completion {
+        code: Code::CommandErrorCode,
+        payload,
+        ..
+    } = &answer
+    {
+        if let Ok(Some(error)) = words(payload, "errorCode") {
+            if error.bytes().all(|byte| byte.is_ascii_alphanumeric()) {
+                let _written = eprintln!(rt; "xfs: commandErrorCode: {error}");
+            }
+        }
+    }
 }

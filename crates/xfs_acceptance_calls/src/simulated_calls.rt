@@ -6,7 +6,7 @@ use std::test::Fail;
 use xfs_base::{Counts, Kind, Places};
 use xfs_disk::MemDisk;
 use xfs_journal::{Journal, Rec, Survey};
-use xfs_mech::{KeyName, Mechanism, News, Touch, Watch};
+use xfs_mech::{KeyName, Mechanism, News, SimWatch, Touch, Watch};
 use xfs_simulated::{
     LIMITS, OWN, card_news, core_on, core_resumed, empty, key_news, mechanism, places, secret_in,
     units,
@@ -53,7 +53,7 @@ fn secrets_are_64_digits_and_at_most_a_line_feed(rt: HostRuntime) {
 
 #[test]
 fn cards_come_and_are_taken(rt: HostRuntime) -> Result<(), Fail> {
-    let mut watch = card_news(rt.alloc())?;
+    let mut watch = SimWatch::new(card_news(rt.alloc())?, Vec::new(rt.alloc()));
     for _ in 0..100 {
         let News::Touch(Touch::CardIn(tracks)) = watch.next() else {
             return Err("a card".into());
@@ -68,7 +68,7 @@ fn cards_come_and_are_taken(rt: HostRuntime) -> Result<(), Fail> {
 
 #[test]
 fn entries_end_with_enter(rt: HostRuntime) -> Result<(), Fail> {
-    let mut watch = key_news(rt.alloc())?;
+    let mut watch = SimWatch::new(key_news(rt.alloc())?, Vec::new(rt.alloc()));
     for _ in 0..100 {
         for key in [
             KeyName::One,
@@ -154,7 +154,7 @@ fn the_machine_goes_on_where_its_journal_leaves_it(rt: HostRuntime) -> Result<()
         kind: Kind::Stack,
         counts: twenties(3),
     })?;
-    let core = core_resumed(alloc, journal.end(), OWN)?;
+    let core = core_resumed(alloc, journal.end(), OWN, Vec::new(alloc))?;
     let left = Places {
         units: twenties(12),
         taken: twenties(2),
@@ -171,7 +171,7 @@ fn places_that_no_machine_has_are_not_taken(rt: HostRuntime) -> Result<(), Fail>
     let alloc = rt.alloc();
     for (count, moved) in [(10_001, 0), (1, 2), (4_000_000_001, 4_000_000_001)] {
         let journal = paid(alloc, count, moved)?;
-        let core = core_resumed(alloc, journal.end(), OWN)?;
+        let core = core_resumed(alloc, journal.end(), OWN, Vec::new(alloc))?;
         assert_eq!(rt; core.mech.survey(), full(), "{count}");
     }
     Ok(())
@@ -182,7 +182,7 @@ fn a_disk_without_a_journal_has_a_full_machine(rt: HostRuntime) -> Result<(), Fa
     let alloc = rt.alloc();
     for bytes in [b"".as_slice(), &[0xff; 9], &[0xff; 10]] {
         let disk = MemDisk::new(alloc, Vec::from_slice(alloc, bytes)?);
-        let core = core_resumed(alloc, disk, OWN)?;
+        let core = core_resumed(alloc, disk, OWN, Vec::new(alloc))?;
         assert_eq!(rt; core.mech.survey(), full());
         assert!(rt; core.mech.motions().is_empty());
         assert!(rt; bytes.len() < 10 || core.disk.bytes() == bytes);

@@ -1,5 +1,5 @@
 //! What main hands to the program: the simulated machine with its units, notes, limits, mechanism and disk, its key and
-//! seed, the news of its card slot and key pad, and the machine that goes on where a journal leaves it.
+//! seed, what its bench is set up with, and the machine that goes on where a journal leaves it.
 #![tactic(auto)]
 
 mod leaving;
@@ -7,11 +7,14 @@ mod machine;
 mod news;
 mod resumed;
 mod secret;
+mod setup;
 
 pub use leaving::places_left;
 pub use machine::{
-    KEY, LIMITS, SEED, core_on, core_under, empty, mechanism, places, quiet_bench, units,
+    KEY, LIMITS, SEED, core_failing, core_on, core_under, empty, mechanism, places, quiet_bench,
+    units,
 };
 pub use news::{card_news, key_news};
 pub use resumed::{LIFE, core_resumed};
 pub use secret::{OWN, Secrets, secret_in};
+pub use setup::Setup;

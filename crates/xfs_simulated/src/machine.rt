@@ -2,6 +2,7 @@ ghost use Rattle.std.specs.Prelude.{◌≡◌, ℕ, List, [], replicate, IfSome}
 ghost use Rattle.xfs_base.specs.Causes.{IfTold};
 ghost use Rattle.xfs_disk.specs.Disk.{Only};
 ghost use Rattle.xfs_disk.specs.MemDisk.{IsImage as MayBe, bytes_of, steps_of};
+ghost use Rattle.xfs_disk.specs.Wrapped.{failing_calls, failing_inner};
 ghost use Rattle.xfs_guard.specs.Recorded.{IsRecorded};
 ghost use Rattle.xfs_journal.specs.Image.{IsImage, StandsFor};
 ghost use Rattle.xfs_journal.specs.declared.record.Rec.{Rec};
@@ -12,7 +13,7 @@ ghost use Rattle.xfs_simulated.specs.Simulated.{four_units, filled};
 use crate::secret::{OWN, Secrets};
 use std::alloc::Global;
 use xfs_base::{Counts, Currency, NoteKind, Places, UnitTable};
-use xfs_disk::{Disk, MemDisk};
+use xfs_disk::{Disk, FailDisk, MemDisk};
 use xfs_guard::{Bench, Core};
 use xfs_journal::Limits;
 use xfs_mech::{Fault, Mechanism, SimMech, SimWatch, places_fit};
@@ -135,6 +136,46 @@ pub fn core_under<M: Mechanism>(
         units,
         limits,
         life: 0,
+    }
+}
+
+/// The same over a disk whose calls at these places fail.
+pub fn core_failing<M: Mechanism>(
+    secrets: Secrets,
+    mech: M,
+    units: UnitTable,
+    disk: MemDisk,
+    limits: Limits,
+    failing: Vec<u64>,
+) -> Core<M, FailDisk>
+    requires fresh { IfTold (M.motions mech) (λ motions. motions ≡ []) }
+    requires units { M.units mech ≡ units }
+    requires settled { steps_of disk ≡ [] }
+    requires none { (records : List Rec) → ¬ IsImage (bytes_of disk) records }
+    ensures handed { (result.mech ≡ mech) × (failing_inner result.disk ≡ disk) × (result.units ≡ units) × (result.limits ≡ limits) }
+    ensures failing { failing_calls result.disk ≡ failing.items }
+    ensures secrets { (result.key ≡ secrets.key) × (result.seed ≡ secrets.seed) × (result.life ≡ 0) }
+    ensures units { M.units result.mech ≡ result.units }
+    ensures starts { (image : List ℕ) → MayBe (failing_inner result.disk) image → (records : List Rec) → StandsFor image records → IsRecorded result.key result.units records (M.motions result.mech) }
+    ensures at_rest { Only (bytes_of (failing_inner result.disk)) (MayBe (failing_inner result.disk)) }
+{
+    let Core {
+        mech,
+        disk,
+        key,
+        seed,
+        units,
+        limits,
+        life,
+    } = core_under(secrets, mech, units, disk, limits);
+    Core {
+        mech,
+        disk: FailDisk::new(disk, failing),
+        key,
+        seed,
+        units,
+        limits,
+        life,
     }
 }
 

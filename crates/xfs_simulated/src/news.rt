@@ -1,12 +1,11 @@
 //! What befalls the card slot and the key pad of the simulated machine: fixed lists.
 
-ghost use Rattle.std.specs.Prelude.{◌≡◌, [], IfOk};
-ghost use Rattle.xfs_mech.specs.SimWatch.{failing_of, touches_of};
+ghost use Rattle.std.specs.Prelude.{◌≡◌, IfOk};
 ghost use Rattle.xfs_simulated.specs.News.{card, entries, visits};
 
 use std::alloc::Global;
 use xfs_base::Memory;
-use xfs_mech::{KeyName, SimWatch, Touch, Tracks};
+use xfs_mech::{KeyName, Touch, Tracks};
 
 // How many cards are put in.
 const VISITS: u32 = 100;
@@ -18,22 +17,20 @@ const ENTRIES: u32 = 100;
 const TRACK: &[u8] = b";1234";
 
 /// 100 cards are put in, one after the other, and each is taken again: the slot is empty at the end.
-pub fn card_news(alloc: Global) -> Result<SimWatch, Memory>
-    ensures touches { IfOk result (λ watch. touches_of watch ≡ visits 100) }
-    ensures failing { IfOk result (λ watch. failing_of watch ≡ []) }
+pub fn card_news(alloc: Global) -> Result<Vec<Touch>, Memory>
+    ensures { IfOk result (λ touches. touches.items ≡ visits 100) }
 {
     let mut touches = Vec::new(alloc);
     for _ in 0..VISITS {
         touches.push(Touch::CardIn(card(alloc)?))?;
         touches.push(Touch::CardTaken)?;
     }
-    Ok(SimWatch::new(touches, Vec::new(alloc)))
+    Ok(touches)
 }
 
 /// 100 times the keys one, two, three and four, and enter at the end.
-pub fn key_news(alloc: Global) -> Result<SimWatch, Memory>
-    ensures touches { IfOk result (λ watch. touches_of watch ≡ entries 100) }
-    ensures failing { IfOk result (λ watch. failing_of watch ≡ []) }
+pub fn key_news(alloc: Global) -> Result<Vec<Touch>, Memory>
+    ensures { IfOk result (λ touches. touches.items ≡ entries 100) }
 {
     let mut touches = Vec::new(alloc);
     for _ in 0..ENTRIES {
@@ -43,7 +40,7 @@ pub fn key_news(alloc: Global) -> Result<SimWatch, Memory>
         touches.push(Touch::Key(KeyName::Four))?;
         touches.push(Touch::Key(KeyName::Enter))?;
     }
-    Ok(SimWatch::new(touches, Vec::new(alloc)))
+    Ok(touches)
 }
 
 // A card with its second track alone.

@@ -5,7 +5,7 @@ ghost use Rattle.xfs_base.specs.Causes.{IfTold, Rose};
 ghost use Rattle.xfs_journal.specs.Image.{StandsFor};
 ghost use Rattle.xfs_journal.specs.declared.faults.MountFault.TheVariants.{Memory as NoMemory};
 ghost use Rattle.xfs_journal.specs.declared.record.Rec.{Rec};
-ghost use Rattle.xfs_mech.specs.Sim.{motions_of as done_by, places_of, units_of};
+ghost use Rattle.xfs_mech.specs.Sim.{failures_of, faults_of, motions_of as done_by, places_of, units_of};
 ghost use Rattle.xfs_simulated.specs.Resumed.{GoesOn, IsResumed};
 ghost use Rattle.xfs_simulated.specs.Simulated.{four_units};
 
@@ -17,27 +17,29 @@ use xfs_base::{Memory, Places, UnitTable};
 use xfs_disk::Disk;
 use xfs_guard::{Core, motions_of};
 use xfs_journal::{Journal, MountFail, MountFault, Rec};
-use xfs_mech::{Motion, SimMech, places_fit};
+use xfs_mech::{Fault, Motion, SimMech, places_fit};
 
 /// For how many milliseconds a nonce lives in a server.
 pub const LIFE: u32 = 600_000;
 
 /// A core whose mechanism goes on where the journal on the disk leaves it: with the motions that the records stand for,
-/// and the notes where they leave them. Where they leave them nowhere, and where the disk's bytes can't be used, each
-/// unit has 100 notes. It is refused only for want of memory.
+/// and the notes where they leave them, and with these faults to come. Where they leave them nowhere, and where the
+/// disk's bytes can't be used, each unit has 100 notes. It is refused only for want of memory.
 pub fn core_resumed<D: Disk>(
     alloc: Global,
     disk: D,
     secrets: Secrets,
+    faults: Vec<Fault>,
 ) -> Result<Core<SimMech, D>, Memory>
     ensures handed { IfOk result (λ core. (core.key ≡ secrets.key) × (core.seed ≡ secrets.seed) × (core.units ≡ four_units) × (core.limits ≡ record { records = 1000000; bytes = 268435456 }) × (core.life ≡ 600000)) }
     ensures units { IfOk result (λ core. units_of core.mech ≡ core.units) }
+    ensures faults { IfOk result (λ core. (faults_of core.mech ≡ faults.items) × (failures_of core.mech ≡ 0)) }
     ensures resumed { IfOk result (λ core. IfTold (D.held disk) (λ bytes. (records : List Rec) → StandsFor bytes records → Rose (D.faults disk) (D.faults core.disk) ⊎ IsResumed records core.mech)) }
 {
     let Secrets { key, seed } = secrets;
     let units = units().ok_or(Memory)?;
     let (disk, told) = read_back(alloc, &units, disk)?;
-    let mech = resumed(alloc, &units, told).ok_or(Memory)?;
+    let mech = resumed(&units, told, faults).ok_or(Memory)?;
     Ok(Core {
         mech,
         disk,
@@ -57,12 +59,13 @@ struct Told {
 }
 
 // None where the notes pass the limits of the units, which they never do.
-fn resumed(alloc: Global, units: &UnitTable, told: Told) -> Option<SimMech>
+fn resumed(units: &UnitTable, told: Told, faults: Vec<Fault>) -> Option<SimMech>
     ensures units { IfSome result (λ mech. units_of mech ≡ units.now) }
     ensures told { IfSome result (λ mech. (done_by mech ≡ told.motions.items) × (places_of mech ≡ told.places)) }
+    ensures faults { IfSome result (λ mech. (faults_of mech ≡ faults.items) × (failures_of mech ≡ 0)) }
 {
     if places_fit(units, &told.places) {
-        Some(SimMech::resume(units.copied(), told.places, told.motions, Vec::new(alloc)))
+        Some(SimMech::resume(units.copied(), told.places, told.motions, faults))
     } else {
         None
     }

@@ -1,4 +1,4 @@
-ghost use Rattle.std.specs.Prelude.{◌≡◌, IfOk};
+ghost use Rattle.std.specs.Prelude.{◌≡◌, ◌+◌, IfOk, IfSome};
 ghost use Rattle.xfs_base.specs.declared.moment.Service.TheVariants as Service;
 ghost use Rattle.xfs_server.specs.Links.{IsFresh};
 
@@ -33,6 +33,21 @@ pub struct Ports {
 }
 
 impl Ports {
+    /// Four ports one behind the other, the publisher's first. None where there are no four from there on.
+    pub fn from_first(first: u16) -> Option<Ports>
+        ensures publisher { IfSome result (λ ports. ports.publisher ≡ first) }
+        ensures card { IfSome result (λ ports. ports.card ≡ first + 1) }
+        ensures keys { IfSome result (λ ports. ports.keys ≡ first + 2) }
+        ensures cash { IfSome result (λ ports. ports.cash ≡ first + 3) }
+    {
+        Some(Ports {
+            publisher: first,
+            card: first.checked_add(1)?,
+            keys: first.checked_add(2)?,
+            cash: first.checked_add(3)?,
+        })
+    }
+
     /// The port of a service.
     pub fn of(&self, service: Service) -> u16
         ensures publisher { service ≡ Service.Publisher → result ≡ self.now.publisher }
@@ -72,6 +87,8 @@ pub struct TcpDoors<
     ports: Ports,
     entrance: Entrance<'a>,
     came: u64,
+    // Once so many have come nobody is let in any more.
+    most: u64,
     dials: u64,
     last_dialled: Option<Service>,
     quiets: u64,
@@ -112,6 +129,11 @@ impl<'a, R: Net<Listener = TcpListener, Stream = TcpStream> + RandomSource, C: C
         TcpDoors::over(rt, alloc, clock, ports, Vec::new(alloc), Origins::none())
     }
 
+    /// Stops to listen once so many connections came, so that the next is refused at once.
+    pub fn close_after(&mut self, connections: u64) {
+        self.most = connections;
+    }
+
     /// The ports that are listened on, or dialled.
     pub fn ports(&self) -> Ports {
         self.ports
@@ -140,6 +162,7 @@ impl<'a, R: Net<Listener = TcpListener, Stream = TcpStream> + RandomSource, C: C
             ports,
             entrance,
             came: 0,
+            most: u64::MAX,
             dials: 0,
             last_dialled: None,
             quiets: 0,
@@ -174,6 +197,9 @@ impl<
         match self.entrance.next(self.alloc, self.clock.now()) {
             Door::Came(service, socket) => {
                 self.came = self.came.saturating_add(1);
+                if self.came >= self.most {
+                    self.entrance.close();
+                }
                 Door::Came(
                     service,
                     SocketLink::new(self.alloc, Socket::Server(socket), self.clock),

@@ -76,6 +76,12 @@ impl<'a> Entrance<'a> {
         })
     }
 
+    /// Listens no more, and lets go of the handshakes that are under way.
+    pub fn close(&mut self) {
+        self.ports.clear();
+        self.waiting.clear();
+    }
+
     /// Lets in one peer at each port and gives each handshake one round, up to the first that is done.
     pub fn next(&mut self, alloc: Global, now: Moment) -> Door<WebSocket<PeerStream, NoMask>> {
         match self.let_in(alloc, now) {

@@ -20,6 +20,8 @@ pub struct SocketLink<'a, R: RandomSource + Drop, C: Clock> {
     closed: bool,
     quiets: u64,
     faults: u64,
+    // A client's last text; a server's are not kept.
+    heard: Option<Vec<u8>>,
 }
 
 impl<'a, R: RandomSource + Drop, C: Clock> Model for SocketLink<'a, R, C> {
@@ -35,12 +37,25 @@ impl<'a, R: RandomSource + Drop, C: Clock> SocketLink<'a, R, C> {
     pub(crate) fn new(alloc: Global, socket: Socket<R>, clock: &'a C) -> SocketLink<'a, R, C>
         ensures { IsFresh result }
     {
+        let heard = match &socket {
+            Socket::Client(_) => Some(Vec::new(alloc)),
+            Socket::Server(_) => None,
+        };
         SocketLink {
             alloc,
             wire: Wire::new(socket, clock),
             closed: false,
             quiets: 0,
             faults: 0,
+            heard,
+        }
+    }
+
+    /// The last text that a client's link handed over; empty where there is none, or no memory for it.
+    pub fn last_text(&self) -> &[u8] {
+        match &self.heard {
+            Some(text) => text,
+            None => b"",
         }
     }
 }
@@ -57,7 +72,8 @@ impl<'a, R: RandomSource + Drop, C: Clock> Link for SocketLink<'a, R, C> {
             Taking::Quiet => self.quiets = self.quiets.saturating_add(1),
             Taking::Closed => self.closed = true,
             Taking::Failed => self.faults = self.faults.saturating_add(1),
-            Taking::Text(_) | Taking::Memory => {}
+            Taking::Text(text) => keep(&mut self.heard, text.list()),
+            Taking::Memory => {}
         }
         taking
     }
@@ -68,5 +84,15 @@ impl<'a, R: RandomSource + Drop, C: Clock> Link for SocketLink<'a, R, C> {
             self.faults = self.faults.saturating_add(1);
         }
         given
+    }
+}
+
+// Keeps a text in the place of the one before, where one is kept.
+fn keep(heard: &mut Option<Vec<u8>>, text: &[u8]) {
+    if let Some(kept) = heard {
+        kept.clear();
+        if kept.extend_from_slice(text).is_err() {
+            kept.clear();
+        }
     }
 }

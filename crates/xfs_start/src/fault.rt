@@ -39,6 +39,10 @@ pub enum StartFault {
     BadSecret { file: &'static str },
     /// The file of the key or of the seed can't be read.
     UnreadSecret { file: &'static str, why: ErrorKind },
+    /// The file of the bench has another form.
+    BadBench,
+    /// The file of the bench can't be read.
+    UnreadBench { why: ErrorKind },
     /// A file can't be opened.
     CannotOpen { file: &'static str, why: FileFault },
     /// A port can't be listened on.

@@ -1,5 +1,7 @@
 //! The files of a working folder.
 
+use crate::bench_file::setup_in;
+use crate::bench_line::BenchFault;
 use crate::fault::{FileFault, StartFault};
 use crate::journal::opened;
 use std::alloc::{Alloc, Global};
@@ -7,13 +9,16 @@ use std::fs;
 use std::fs::{File, Files};
 use std::io::ErrorKind;
 use std::os::unix::fs::MetadataExt;
-use xfs_simulated::{OWN, Secrets, secret_in};
+use xfs_simulated::{OWN, Secrets, Setup, secret_in};
 
 /// The key of the tokens.
 pub const KEY_FILE: &str = "xfs.key";
 
 /// The seed of the nonces.
 pub const SEED_FILE: &str = "xfs.seed";
+
+/// What the bench is set up with.
+pub const BENCH_FILE: &str = "xfs.bench";
 
 /// The journal.
 pub const JOURNAL_FILE: &str = "xfs.journal";
@@ -54,6 +59,22 @@ impl<'a, R: Files<File = File> + Alloc<A = Global>> Folder<'a, R> {
                 why => Err(StartFault::UnreadSecret { file, why }),
             },
         }
+    }
+
+    /// What the bench is set up with: the lines of its file, and without that file the fixed bench.
+    pub fn setup(&self) -> Result<Setup, StartFault> {
+        let setup = match fs::read(self.rt, self.path_of(BENCH_FILE)?) {
+            Ok(text) => setup_in(self.rt.alloc(), Some(&text)),
+            Err(error) => match error.kind() {
+                ErrorKind::NotFound => setup_in(self.rt.alloc(), None),
+                ErrorKind::OutOfMemory => Err(BenchFault::Memory),
+                why => return Err(StartFault::UnreadBench { why }),
+            },
+        };
+        setup.map_err(|fault| match fault {
+            BenchFault::Bad => StartFault::BadBench,
+            BenchFault::Memory => StartFault::Memory,
+        })
     }
 
     /// The text of the origins; none where there is no file of them.

@@ -1,0 +1,4 @@
+pub mod LineLaws
+pub mod LinesLaws
+pub mod NumberLaws
+pub mod SetupLaws
