@@ -1,5 +1,6 @@
 -- What becomes of a text, from what was sent and what was done with the pending commands.
 use Rattle.std.proofs.Common.{◌≡◌, ℕ, true, false, not, codes, List, [], ◌∷◌, ◌++◌, Option, None, Some, Result, Ok, Err, refl, ap, sym, ◌∙◌}
+use Rattle.std.specs.Prelude.{count_by, length, nat_le}
 use Rattle.std.specs.List.{list_any}
 use Rattle.std.specs.Str.{bytes_eq}
 use Rattle.xfs_base.specs.declared.moment.Moment.{Moment}
@@ -23,10 +24,10 @@ use Rattle.xfs_model.specs.Posts.{Accepts, DoesAtOnce, Refuses, Takes, is_crowde
 use Rattle.xfs_model.specs.Results.{error, plain, success}
 use Rattle.xfs_model.specs.State.{Ask, Connection, Job, Outcome, Queues, State, queue_of, with_queue}
 use Rattle.xfs_queue.specs.declared.command.Line.{Line}
-use Rattle.xfs_queue.specs.Queue.{is_named, offered}
+use Rattle.xfs_queue.specs.Queue.{is_named, offer_fault, offered}
 use Rattle.xfs_machine.specs.Seats.{mailed}
 use Rattle.xfs_queue.specs.declared.command.Command.{Command}
-use Rattle.xfs_queue.specs.Commands.{is_at as is_at_ticket}
+use Rattle.xfs_queue.specs.Commands.{is_at as is_at_ticket, is_of}
 use Rattle.xfs_base.specs.declared.moment.ClientId.{ClientId}
 use Rattle.xfs_model.proofs.Pendings.{is_pending_there}
 use Rattle.std.proofs.lemmas.Bool.{or_parts}
@@ -126,3 +127,9 @@ module _ (s : State) (k : Connection) (seat : Seat) (client : k.client ≡ seat.
 -- a command that can be taken is not pending
 pub unheld : (q : List (Command Job)) (client : ClientId) (id : ℕ) → is_wrong_id (pending_in client q) id ≡ false → list_any (is_at_ticket record { client = client; id = id }) q ≡ false
 unheld q client id right = sym (is_pending_there client id q) ∙ (or_parts (not (is_request_id id)) (is_pending (pending_in client q) id) right).1
+
+-- and nothing stands against its offer where there is room
+pub takeable : (q : List (Command Job)) (client : ClientId) (id : ℕ) → is_wrong_id (pending_in client q) id ≡ false → is_crowded q client ≡ false → offer_fault q client id ≡ None
+takeable q client id right roomy =
+    let room = or_parts (nat_le 32 (count_by (is_of client) q)) (nat_le 256 (length q)) roomy in
+    rw (unheld q client id right, room.0, room.1) refl

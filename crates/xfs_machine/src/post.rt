@@ -182,6 +182,7 @@ fn accept(
     requires moment { now.0 ≤ LAST_MOMENT }
     requires line { line_of seat.service command.name ≡ Some line }
     requires free { is_wrong_id (pending_in seat.client (queue_of queues.old seat.service)) command.id ≡ false }
+    requires roomy { is_crowded (queue_of queues.old seat.service) seat.client ≡ false }
     ensures ok { OnOk result ((s : State) (k : ConnectionView) → IsSeen now seat s k
         → Accepts (with_both s connections.old queues.old) k line (said command) (with_both s connections.new queues.new)) }
     ensures connections { OnErr result (connections.new ≡ connections.old) }

@@ -1,4 +1,4 @@
-ghost use Rattle.std.specs.Prelude.{◌≡◌, ◌≤◌, ◌++◌, ◌∷◌, [], OnOk, OnErr};
+ghost use Rattle.std.specs.Prelude.{◌≡◌, ◌≤◌, ◌++◌, ◌∷◌, [], None, OnOk, OnErr};
 ghost use Rattle.std.specs.Borrow.{sem};
 ghost use Rattle.xfs_base.specs.declared.moment.TheConstants.{LAST_MOMENT};
 ghost use Rattle.xfs_machine.specs.Jobs.{changed_at};
@@ -6,7 +6,7 @@ ghost use Rattle.xfs_machine.specs.Lending.{LendsQueue};
 ghost use Rattle.xfs_model.specs.Immediate.{stopped};
 ghost use Rattle.xfs_model.specs.Results.{plain, with_result, with_plan, running};
 ghost use Rattle.xfs_model.specs.State.{queue_of, with_queue, no_commands};
-ghost use Rattle.xfs_queue.specs.Queue.{IsPending, IsWaiting, without, without_client, offered};
+ghost use Rattle.xfs_queue.specs.Queue.{IsPending, IsWaiting, without, without_client, offer_fault, offered};
 
 use crate::job::{Job, Outcome};
 use std::alloc::Global;
@@ -15,7 +15,7 @@ use xfs_base::{ClientId, Memory, Moment, Service};
 use xfs_common::nothing;
 use xfs_dispenser::Plan;
 use xfs_envelope::Code;
-use xfs_queue::{Ids, Line, Pending, Queue, Ticket};
+use xfs_queue::{Ids, Line, OfferFault, Pending, Queue, Ticket};
 
 /// The pending commands of each service, in order of arrival.
 #[derive(Drop)]
@@ -85,7 +85,8 @@ impl Queues {
         now: Moment,
         job: Job,
     ) -> Result<(), Memory>
-        requires { now.0 ≤ LAST_MOMENT }
+        requires moment { now.0 ≤ LAST_MOMENT }
+        requires free { offer_fault (queue_of self.old service) ticket.client ticket.id ≡ None }
         ensures ok { OnOk result (self.new ≡ with_queue self.old service (queue_of self.old service ++ offered ticket.client ticket.id line timeout now job ∷ [])) }
         ensures err { OnErr result (self.new ≡ self.old) }
     {
@@ -94,7 +95,8 @@ impl Queues {
             .offer(ticket.client, ticket.id, line, timeout, now, job)
         {
             Ok(()) => Ok(()),
-            Err(_) => Err(Memory),
+            Err((_, OfferFault::Memory)) => Err(Memory),
+            Err(_) => unreachable!(),
         }
     }
 

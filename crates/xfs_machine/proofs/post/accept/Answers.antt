@@ -1,7 +1,7 @@
 use Rattle.std.proofs.Common.{◌∙◌}
 use Rattle.xfs_envelope.specs.Commands.{said}
 use Rattle.xfs_machine.specs.Jobs.{ask_seen}
-use Rattle.xfs_machine.proofs.Posting.{accepts, unheld}
+use Rattle.xfs_machine.proofs.Posting.{accepts, takeable, unheld}
 use Rattle.xfs_machine.proofs.Withdrawn.{is_taken_in, withdrawn}
 use Rattle.xfs_machine.proofs.post.accept.Goals as goal
 use Rattle.xfs_model.specs.State.{queue_of}
@@ -16,3 +16,6 @@ remove-requires c = is_taken_in c.args.queues.now c.offer.new.self c.args.seat.s
 
 pub returns-clause-queues : goal.returns-clause-queues
 returns-clause-queues c = c.remove.ensures ∙ withdrawn c.args.queues.now c.offer.new.self c.args.seat.service _ (unheld (queue_of c.args.queues.now c.args.seat.service) c.args.seat.client c.args.command.id c.requires.free) c.in_ok-offer.ensures.ok
+
+pub offer-requires-clause-free : goal.offer-requires-clause-free
+offer-requires-clause-free c = takeable (queue_of c.args.queues.now c.args.seat.service) c.args.seat.client c.args.command.id c.requires.free c.requires.roomy
