@@ -1,5 +1,5 @@
 -- A text that is no line of `replay` is one of a bench only where it has numbers.
-use Rattle.std.proofs.Common.{◌≡◌, ℕ, List, true, false}
+use Rattle.std.proofs.Common.{◌≡◌, ℕ, List, false}
 use Rattle.xfs_mech.specs.declared.touch.Touch.{Touch}
 use Rattle.xfs_mech.specs.declared.touch.Touch.TheVariants.{CardIn, CardTaken, CardFault, Key, KeyFault, NotesTaken}
 use Rattle.xfs_script.specs.ReplayLines.{IsReplayLine}

@@ -1,10 +1,9 @@
 -- The lines that are a word and numbers.
-use Rattle.std.proofs.Common.{◌≡◌, ◌∙◌, ℕ, zero, suc, ◌+◌, ◌<◌, ◌≤◌, ◌^◌, List, [], ◌∷◌, ◌++◌, ap, sym, subst, refl, arith, length, get_or, take}
-use Rattle.std.specs.Prelude.{codes, decimal, map}
+use Rattle.std.proofs.Common.{◌≡◌, ◌∙◌, ℕ, zero, suc, ◌+◌, ◌<◌, ◌≤◌, ◌^◌, List, [], ◌∷◌, ◌++◌, ap, sym, subst, arith, length, get_or, take}
+use Rattle.std.specs.Prelude.{decimal, map}
 use Rattle.std.specs.List.{AllZip}
 use Rattle.std.proofs.lemmas.Fmt.{decimal_injective}
 use Rattle.std.proofs.lemmas.List.{map_push, take_more}
-use Rattle.xfs_start.specs.BenchLines.{IsCall}
 
 -- 0 is no such number
 pub no_nought : (field : List ℕ) → field ≡ decimal 0 → (n : ℕ) → 1 ≤ n → n < 2 ^ 64 → field ≡ decimal n → ⊥

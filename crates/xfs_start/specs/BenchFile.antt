@@ -1,5 +1,5 @@
 -- What the lines of `xfs.bench` set up.
-use Rattle.std.specs.Prelude.{◌≡◌, ◌⊎◌, ℕ, ◌==◌, List, [], ◌∷◌, ◌++◌, None, Some, fold, if◌then◌else◌, is_some, map, slice_get}
+use Rattle.std.specs.Prelude.{◌≡◌, ◌⊎◌, ℕ, List, [], ◌∷◌, ◌++◌, None, Some, fold, if◌then◌else◌, is_some, map, slice_get}
 use Rattle.std.specs.List.{AllZip, slice_split}
 use Rattle.std.specs.declared.option.Option.{Option}
 use Rattle.xfs_mech.specs.Faults.{fault_at}

@@ -2,7 +2,7 @@ use Rattle.std.proofs.Common.{◌≡◌, ◌∙◌, List, ℕ, ap, subst, Err}
 use Rattle.std.specs.Prelude.{map, IfOk}
 use Rattle.std.specs.List.{AllZip}
 use Rattle.xfs_script.specs.Lines.{without_return}
-use Rattle.xfs_start.specs.BenchFile.{HasNoLine, lines}
+use Rattle.xfs_start.specs.BenchFile.{HasNoLine}
 use Rattle.xfs_start.specs.BenchLines.{IsBenchLine}
 use Rattle.xfs_start.specs.declared.bench_line.BenchFault.TheVariants as BenchFault
 use Rattle.xfs_start.proofs.LinesLaws.{lines_shown}
