@@ -167,17 +167,29 @@ fn is_apart<O: Doors, C: Clock>(
     Ok(true)
 }
 
+// Whether each service completes its own command, at its own port.
+fn are_apart<O: Doors, C: Clock>(doors: &mut O, alloc: Global, clock: &C) -> Result<bool, Memory> {
+    for (service, _, _) in COMMANDS {
+        if !is_apart(doors, alloc, clock, service)? {
+            return Ok(false);
+        }
+    }
+    Ok(true)
+}
+
 // Whether nobody listens at the ports on another address of this machine.
 fn is_kept_at_home<R: Net<Listener = TcpListener, Stream = TcpStream>>(
     rt: &R,
     ports: &Ports,
 ) -> bool {
-    COMMANDS.iter().all(|(service, _, _)| {
-        match TcpStream::connect(rt, ("127.0.0.2", ports.of(*service))) {
-            Ok(_) => false,
-            Err(error) => error.kind() == ErrorKind::ConnectionRefused,
+    for (service, _, _) in COMMANDS {
+        match TcpStream::connect(rt, ("127.0.0.2", ports.of(service))) {
+            Ok(_) => return false,
+            Err(error) if error.kind() == ErrorKind::ConnectionRefused => {}
+            Err(_) => return false,
         }
-    })
+    }
+    true
 }
 
 // Whether all goes as it should with those who come.
@@ -192,8 +204,7 @@ fn goes_well<
     match visit {
         Visit::Crowd => is_announced(&mut doors, alloc, clock) == Ok(true),
         Visit::EachPort => {
-            COMMANDS.iter().all(|(service, _, _)| is_apart(&mut doors, alloc, clock, *service)
-                == Ok(true))
+            are_apart(&mut doors, alloc, clock) == Ok(true)
                 && is_kept_at_home(shared.rt, &shared.ports)
         }
     }
