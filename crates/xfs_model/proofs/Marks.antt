@@ -46,7 +46,7 @@ use Rattle.xfs_model.specs.State.{Ask, issue, clear, cash, card, entry, bad, Con
 use Rattle.xfs_model.specs.Step.{Happens, Hands, Leaves, Posts, Step, at_moment, happens, wanting}
 use Rattle.xfs_model.specs.Touches.{CardSays, IsHeard, TakesNotes, Touches, TouchesCard, TouchesKeys, failed, running_at, shut, took}
 use Rattle.xfs_model.specs.Work as working
-use Rattle.xfs_model.specs.Work.{case_of, is_overdue, is_stopped}
+use Rattle.xfs_model.specs.Work.{case_of}
 use Rattle.xfs_model.proofs.Queues.{itself, queue_here, queue_same, queue_there, same_service}
 use Rattle.xfs_dispenser.specs.Answers.{Start, told, planned, Went, more, done as over}
 use Rattle.xfs_model.specs.Causes.{IsCancelOf, IsMarked, IsOwnPass, MarksHaveCauses, before, canceled_by, left_by, was_marked, was_pending}
