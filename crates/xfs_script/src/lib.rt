@@ -29,5 +29,6 @@ pub use guard_line::{Given, GuardLine, ScriptFault, read_guard};
 pub use host_line::{HostLine, read_host};
 pub use line::{Line, LineFault};
 pub use lines::Lines;
+pub use number::read_number;
 pub use replay_line::{ReplayLine, read_replay};
 pub use token_line::{TokenLine, read_token};

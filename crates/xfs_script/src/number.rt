@@ -3,8 +3,8 @@ ghost use Rattle.std.specs.Prelude.{◌≡◌, ◌≤◌, ◌<◌, ◌^◌, ℕ,
 use itoa::Buffer;
 use std::str;
 
-// The number that these bytes write without leading zeros, where it is at most so much.
-pub(crate) fn read_number(text: &[u8], most: u64) -> Option<u64>
+/// The number that a field writes in decimal digits without leading zeros, where it is at most `most`.
+pub fn read_number(text: &[u8], most: u64) -> Option<u64>
     ensures digits { IfSome result (λ n. text.now ≡ decimal n) }
     ensures bound { IfSome result (λ n. n ≤ most) }
     ensures none { IfNone result ((n : ℕ) → n ≤ most → ¬ (text.now ≡ decimal n)) }

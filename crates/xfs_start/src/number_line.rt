@@ -1,6 +1,6 @@
 //! The lines of `xfs.bench` that are a word and numbers.
 
-ghost use Rattle.std.specs.Prelude.{◌≡◌, ◌≤◌, ◌<◌, ◌==◌, ◌^◌, ◌↔◌, ℕ, List, decimal, map, false, Some, IfNone, IfOk, IfSome, IsTrue};
+ghost use Rattle.std.specs.Prelude.{◌≡◌, ◌≤◌, ◌==◌, ◌↔◌, ℕ, List, decimal, map, false, Some, IfNone, IfOk, IfSome, IsTrue};
 ghost use Rattle.std.specs.List.{AllZip, slice_split};
 ghost use Rattle.xfs_mech.specs.declared.fault.Fault as faults;
 ghost use Rattle.xfs_script.specs.Fields.{fields};
@@ -8,10 +8,9 @@ ghost use Rattle.xfs_start.specs.BenchLines.{IsBenchLine, IsCall, IsFailing, IsF
 ghost use Rattle.xfs_start.specs.declared.bench_line.BenchLine as lines;
 
 use crate::bench_line::BenchLine;
-use itoa::Buffer;
 use std::alloc::{AllocError, Global};
-use std::str;
 use xfs_mech::Fault;
+use xfs_script::read_number;
 
 // The greatest port of the first of four.
 const LAST_FIRST_PORT: u64 = 65_532;
@@ -139,27 +138,4 @@ fn is_word(field: &[u8], word: &[u8]) -> bool
     ensures { IsTrue result ↔ (field.now ≡ word.now) }
 {
     field == word
-}
-
-// The number that these bytes write without leading zeros, where it is at most so much.
-fn read_number(text: &[u8], most: u64) -> Option<u64>
-    ensures digits { IfSome result (λ n. text.now ≡ decimal n) }
-    ensures bound { IfSome result (λ n. n ≤ most) }
-    ensures none { IfNone result ((n : ℕ) → n ≤ most → ¬ (text.now ≡ decimal n)) }
-{
-    let number = number_of(text)?;
-    if number > most || Buffer::new().format(number).as_bytes() != text {
-        return None;
-    }
-    Some(number)
-}
-
-// The number that these bytes write, perhaps with leading zeros or a plus.
-fn number_of(text: &[u8]) -> Option<u64>
-    ensures written { (n : ℕ) → n < 2 ^ 64 → text.now ≡ decimal n → result ≡ Some n }
-{
-    match str::from_utf8(text) {
-        Ok(digits) => digits.parse::<u64>().ok(),
-        Err(_) => None,
-    }
 }
