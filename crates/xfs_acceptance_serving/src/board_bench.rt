@@ -7,12 +7,12 @@ use std::alloc::Global;
 use std::marker::Brand;
 use std::sync::Wait;
 use std::test::Fail;
-use xfs_base::{Bytes, Clock, Service};
+use xfs_base::{Bytes, ClientId, Clock, Moment, Service};
 use xfs_board::{Caller, ClientBoard, LockName, SharedMachine, close, open};
-use xfs_disk::MemDisk;
-use xfs_machine::Pass;
-use xfs_mech::SimMech;
-use xfs_server::{MemLink, OpenGate, Over, serve_client};
+use xfs_disk::{Disk, MemDisk};
+use xfs_machine::{Pass, Reading, Work};
+use xfs_mech::{Mechanism, SimMech};
+use xfs_server::{Board, Link, MemLink, OpenGate, Over, serve_client};
 use xfs_turn::{Seat, Turn};
 
 /// What is shared in the tests.
@@ -29,11 +29,55 @@ pub fn opened(alloc: Global) -> Result<(Turn<Shared>, Seat<Shared>), Fail>
 }
 
 /// A connection to a service. None where there is no room for it.
-pub fn joined<N: LockName, R: Wait>(
-    caller: &mut Caller<'_, N, SimMech, MemDisk, R>,
+pub fn joined<N: LockName, M: Mechanism, D: Disk, R: Wait>(
+    caller: &mut Caller<'_, N, M, D, R>,
     service: Service,
 ) -> Option<Pass> {
     caller.join(service).ok()
+}
+
+/// A second caller. None where there is no memory for it.
+pub fn second<'a, N: LockName, M: Mechanism, D: Disk, R: Wait>(
+    caller: &mut Caller<'a, N, M, D, R>,
+) -> Option<Caller<'a, N, M, D, R>> {
+    caller.split().ok()
+}
+
+/// Whether a command is posted at the first moment.
+pub fn posts<N: LockName, M: Mechanism, D: Disk, R: Wait>(
+    caller: &mut Caller<'_, N, M, D, R>,
+    alloc: Global,
+    pass: &Pass,
+    command: &str,
+) -> bool {
+    let reading = Reading::of(alloc, command.as_bytes());
+    caller.post(pass, reading, Moment(0)).is_ok()
+}
+
+/// Whether a service has something to do, and does it.
+pub fn works<N: LockName, M: Mechanism, D: Disk, R: Wait>(
+    caller: &mut Caller<'_, N, M, D, R>,
+    service: Service,
+) -> bool {
+    matches!(caller.work(service, Moment(0)), Ok(Work::Did))
+}
+
+/// The frames of a connection.
+pub fn fetched<N: LockName, M: Mechanism, D: Disk, R: Wait>(
+    caller: &mut Caller<'_, N, M, D, R>,
+    pass: &Pass,
+) -> Vec<Bytes> {
+    caller.outbox(pass).into_list()
+}
+
+/// How many entries of the chronicle a caller has seen.
+pub fn seen_by<N: LockName, M: Mechanism, D: Disk, R: Wait>(
+    caller: &mut Caller<'_, N, M, D, R>,
+) -> Option<u64> {
+    match second(caller) {
+        Some(second) => Some(second.into_seat().seen()),
+        None => None,
+    }
 }
 
 /// Whether the frames are these texts.
@@ -45,6 +89,10 @@ pub fn are(frames: &[Bytes], expected: &[&str]) -> bool {
             .all(|(frame, text)| frame.list() == text.as_bytes())
 }
 
+fn bytes_of(alloc: Global, text: &str) -> Result<Bytes, Fail> {
+    Ok(Bytes::new(Vec::from_slice(alloc, text.as_bytes())?))
+}
+
 /// A link on which these texts come before it closes, where the takes and gives at these places fail.
 pub fn link_of(
     alloc: Global,
@@ -54,7 +102,7 @@ pub fn link_of(
 ) -> Result<MemLink, Fail> {
     let mut texts = Vec::new(alloc);
     for text in list {
-        texts.push(Bytes::new(Vec::from_slice(alloc, text.as_bytes())?))?;
+        texts.push(bytes_of(alloc, text)?)?;
     }
     let takes = Vec::from_slice(alloc, takes)?;
     let gives = Vec::from_slice(alloc, gives)?;
@@ -79,8 +127,18 @@ fn served<N: LockName, R: Wait, C: Clock>(
     let pass = joined(&mut caller, service)?;
     let client = pass.client();
     let mut board = ClientBoard::new(alloc, caller, pass, clock);
-    let over = serve_client(link, &mut board, &OpenGate, clock, client);
+    let over = session(link, &mut board, clock, client);
     Some((over, board.leave().into_seat()))
+}
+
+/// How a session over a link ends, with no gate.
+pub fn session<L: Link, B: Board, C: Clock>(
+    link: &mut L,
+    board: &mut B,
+    clock: &C,
+    client: ClientId,
+) -> Over {
+    serve_client(link, board, &OpenGate, clock, client)
 }
 
 /// How a session over the link ends at a machine of its own, and how many connections are open there then.

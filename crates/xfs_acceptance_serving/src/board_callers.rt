@@ -2,15 +2,16 @@
 
 ghost use Rattle.std.specs.Prelude.{◌≡◌, IfOk};
 
-use crate::board_bench::{Shared, are, joined, opened};
+use crate::board_bench::{Shared, are, fetched, joined, opened, posts, second, seen_by, works};
 use std::alloc::Global;
 use std::marker::Brand;
-use std::process::Abort;
 use std::sync::Wait;
 use std::test::Fail;
-use xfs_base::{Moment, Service};
+use xfs_base::Service;
 use xfs_board::{Caller, LockName, close};
-use xfs_machine::{Reading, Work};
+use xfs_disk::Disk;
+use xfs_machine::Pass;
+use xfs_mech::Mechanism;
 use xfs_turn::{Seat, Turn};
 
 const GET_NONCE: &str =
@@ -23,15 +24,60 @@ const NONCE_FRAMES: &[&str] = &[
 
 /// How many entries of the chronicle the second caller's seat had seen before it took its turn, and
 /// after, and whether it was handed the frames that answer the first.
-#[derive(Drop)]
-struct Report {
-    seat: Seat<Shared>,
+#[derive(Clone, Copy, PartialEq, Eq)]
+struct Found {
     before: u64,
     after: u64,
     handed: bool,
 }
 
-// One caller has a nonce issued, and the other fetches the frames.
+// Whether a nonce is issued, and told.
+fn is_issued<N: LockName, M: Mechanism, D: Disk, R: Wait>(
+    caller: &mut Caller<'_, N, M, D, R>,
+    alloc: Global,
+    pass: &Pass,
+) -> bool {
+    posts(caller, alloc, pass, GET_NONCE)
+        && works(caller, Service::Cash)
+        && works(caller, Service::Cash)
+}
+
+// What the second caller finds, which the first one's calls left it.
+fn found_by<N: LockName, M: Mechanism, D: Disk, R: Wait>(
+    caller: &mut Caller<'_, N, M, D, R>,
+    pass: &Pass,
+) -> Option<Found> {
+    let before = seen_by(caller)?;
+    let frames = fetched(caller, pass);
+    let after = seen_by(caller)?;
+    Some(Found {
+        before,
+        after,
+        handed: are(&frames, NONCE_FRAMES),
+    })
+}
+
+// One caller has a nonce issued, and a second one fetches the frames.
+fn shared_between_two<N: LockName, M: Mechanism, D: Disk, R: Wait>(
+    one: &mut Caller<'_, N, M, D, R>,
+    alloc: Global,
+) -> Option<Found> {
+    let mut two = second(one)?;
+    let pass = joined(one, Service::Cash)?;
+    let is_issued = is_issued(one, alloc, &pass);
+    let found = found_by(&mut two, &pass);
+    one.leave(pass);
+    one.merge(two);
+    if is_issued { found } else { None }
+}
+
+/// What was found, and the seat that is left.
+#[derive(Drop)]
+struct Report {
+    seat: Seat<Shared>,
+    found: Found,
+}
+
 fn issued_and_fetched<N: LockName, R: Wait>(
     rt: &R,
     alloc: Global,
@@ -43,38 +89,30 @@ fn issued_and_fetched<N: LockName, R: Wait>(
     ensures lock { IfOk result (λ report. report.seat.lock ≡ N.lock) }
 {
     let mut one: Caller<'_, N, _, _, R> = Caller::new(rt, turn, seat);
-    let mut two = one.split()?;
-    let pass = joined(&mut one, Service::Cash).ok_or("a connection")?;
-    one.post(&pass, Reading::of(alloc, GET_NONCE.as_bytes()), Moment(0))?;
-    let issues = one.work(Service::Cash, Moment(0))?;
-    let answers = one.work(Service::Cash, Moment(0))?;
-    let before = two.split()?.into_seat().seen();
-    let frames = two.outbox(&pass).into_list();
-    let after = two.split()?.into_seat().seen();
-    one.leave(pass);
-    one.merge(two);
+    let found = shared_between_two(&mut one, alloc).ok_or("two callers")?;
     Ok(Report {
         seat: one.into_seat(),
-        before,
-        after,
-        handed: issues == Work::Did && answers == Work::Did && are(&frames, NONCE_FRAMES),
+        found,
     })
 }
 
-// What is told of the journal, before and after, and what is left at the end.
-fn is_found<R: Wait + Abort>(rt: &R, alloc: Global) -> Result<(), Fail> {
+// What was found; how many records the machine has then, and how many connections are open.
+fn is_found<R: Wait>(rt: &R, alloc: Global) -> Result<(Found, usize, u32), Fail> {
     let (turn, seat) = opened(alloc)?;
     let report = issued_and_fetched::<Brand, _>(rt, alloc, &turn, seat)?;
-    assert_eq!(rt; report.before, 2);
-    assert_eq!(rt; report.after, 3);
-    assert!(rt; report.handed);
     let machine = close(rt, turn, report.seat);
-    assert_eq!(rt; machine.records().len(), 2);
-    assert_eq!(rt; machine.open_count(), 0);
-    Ok(())
+    Ok((report.found, machine.records().len(), machine.open_count()))
 }
 
 #[test]
 fn what_one_caller_posts_another_finds(rt: HostRuntime) -> Result<(), Fail> {
-    is_found(&rt, rt.alloc())
+    let (found, records, open) = is_found(&rt, rt.alloc())?;
+    let due = Found {
+        before: 2,
+        after: 3,
+        handed: true,
+    };
+    assert!(rt; found == due);
+    assert!(rt; records == 2 && open == 0);
+    Ok(())
 }

@@ -2,7 +2,7 @@
 
 ghost use Rattle.std.specs.Prelude.{◌≡◌, IfOk};
 
-use crate::board_bench::{Shared, are, joined, link_of, opened};
+use crate::board_bench::{Shared, are, joined, link_of, opened, second, session};
 use crate::board_sessions::{
     INSERT_CARD, READ_FOR_100, READ_TAKEN, STATUS_2, STATUS_2_DONE, STATUS_2_TAKEN,
 };
@@ -12,7 +12,7 @@ use std::sync::Wait;
 use std::test::Fail;
 use xfs_base::{FixedClock, Service};
 use xfs_board::{Caller, ClientBoard, LockName, close};
-use xfs_server::{MemLink, OpenGate, Over, serve_client};
+use xfs_server::{MemLink, Over};
 use xfs_turn::{Seat, Turn};
 
 /// How two sessions ended.
@@ -29,8 +29,8 @@ fn both_served<N: LockName, R: Wait>(
     alloc: Global,
     turn: &Turn<Shared>,
     seat: Seat<Shared>,
-    first: &mut MemLink,
-    second: &mut MemLink,
+    first_link: &mut MemLink,
+    second_link: &mut MemLink,
 ) -> Result<Report, Fail>
     requires name { turn.now ≡ N.lock }
     requires lock { seat.lock ≡ N.lock }
@@ -38,14 +38,14 @@ fn both_served<N: LockName, R: Wait>(
 {
     let clock = FixedClock(0);
     let mut one: Caller<'_, N, _, _, R> = Caller::new(rt, turn, seat);
-    let mut two = one.split()?;
+    let mut two = second(&mut one).ok_or("a second caller")?;
     let card = joined(&mut one, Service::Card).ok_or("a connection")?;
     let cash = joined(&mut two, Service::Cash).ok_or("a second connection")?;
     let (card_client, cash_client) = (card.client(), cash.client());
     let mut card = ClientBoard::new(alloc, one, card, &clock);
     let mut cash = ClientBoard::new(alloc, two, cash, &clock);
-    let first = serve_client(first, &mut card, &OpenGate, &clock, card_client);
-    let second = serve_client(second, &mut cash, &OpenGate, &clock, cash_client);
+    let first = session(first_link, &mut card, &clock, card_client);
+    let second = session(second_link, &mut cash, &clock, cash_client);
     let mut one = card.leave();
     one.merge(cash.leave());
     Ok(Report {
@@ -67,14 +67,14 @@ fn fails_alone<R: Wait>(
     let mut first = link_of(alloc, &[READ_FOR_100, STATUS_2], takes, gives)?;
     let mut second = link_of(alloc, &[STATUS_2], &[], &[])?;
     let report = both_served::<Brand, _>(rt, alloc, &turn, seat, &mut first, &mut second)?;
+    let are_over = report.first == Over::Failed && report.second == Over::Closed;
     let machine = close(rt, turn, report.seat);
-    Ok(
-        report.first == Over::Failed
-            && report.second == Over::Closed
-            && are(first.sent(), sent)
-            && are(second.sent(), &[STATUS_2_TAKEN, STATUS_2_DONE])
-            && machine.open_count() == 0,
-    )
+    Ok(are_over && machine.open_count() == 0 && have_sent(&first, sent, &second))
+}
+
+// Whether the first link was sent these frames, and the second its own.
+fn have_sent(first: &MemLink, sent: &[&str], second: &MemLink) -> bool {
+    are(first.sent(), sent) && are(second.sent(), &[STATUS_2_TAKEN, STATUS_2_DONE])
 }
 
 #[test]

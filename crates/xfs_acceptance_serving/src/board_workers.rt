@@ -2,7 +2,7 @@
 
 ghost use Rattle.std.specs.Prelude.{◌≡◌, IfOk};
 
-use crate::board_bench::{Shared, are, joined, opened};
+use crate::board_bench::{Shared, are, fetched, joined, opened, posts};
 use std::alloc::Global;
 use std::marker::Brand;
 use std::sync::Wait;
@@ -10,9 +10,8 @@ use std::sync::atomic::{AtomicBool, Ordering};
 use std::test::Fail;
 use xfs_base::{Bytes, Clock, Moment, Service};
 use xfs_board::{Caller, DeviceBoard, LockName, close};
-use xfs_machine::Reading;
 use xfs_mech::{KeyName, SimWatch, Touch, Tracks};
-use xfs_server::{Over2, tend};
+use xfs_server::{Over2, Tended, tend};
 use xfs_turn::{Seat, Turn};
 
 /// A clock that stands at 0, and says at the first pause that all is over.
@@ -139,19 +138,31 @@ fn tended<N: LockName, R: Wait>(
 {
     let mut caller: Caller<'_, N, _, _, R> = Caller::new(rt, turn, seat);
     let pass = joined(&mut caller, case.service).ok_or("a connection")?;
-    caller.post(&pass, Reading::of(alloc, case.text.as_bytes()), Moment(0))?;
+    if !posts(&mut caller, alloc, &pass, case.text) {
+        return Err("a post".into());
+    }
     let clock = LastClock {
         ended: AtomicBool::new(false),
     };
     let mut board = DeviceBoard::new(caller, case.service, &clock, &clock.ended);
-    let over = tend(rt, &mut board, watch, &clock);
+    let over = works_on(rt, &mut board, watch, &clock);
     let mut caller = board.into_caller();
-    let frames = caller.outbox(&pass).into_list();
+    let frames = fetched(&mut caller, &pass);
     Ok(Report {
         seat: caller.into_seat(),
         over,
         frames,
     })
+}
+
+// How a worker ends.
+fn works_on<R: Wait, B: Tended, C: Clock>(
+    rt: &R,
+    board: &mut B,
+    watch: &mut SimWatch,
+    clock: &C,
+) -> Over2 {
+    tend(rt, board, watch, clock)
 }
 
 // Whether the client of a worker is handed what is due of its case.

@@ -3,7 +3,25 @@
 use crate::doors::Client;
 use xfs_base::Service;
 
-pub const STATUS: Client = Client {
+/// The client of a letter.
+pub fn client_of(letter: char) -> Client {
+    match letter {
+        'l' => LOST,
+        'c' => CUT_OFF,
+        'a' => TURNED_AWAY,
+        'n' => NONCE,
+        '2' => NONCE_2,
+        't' => TOO_LATE,
+        'd' => DISPENSE,
+        'p' => PRESENT,
+        'v' => SERVICES,
+        'r' => READ,
+        'e' => ENTRY,
+        _ => STATUS,
+    }
+}
+
+const STATUS: Client = Client {
     service: Service::Card,
     says: "{\"header\":{\"name\":\"Common.Status\",\"requestId\":1,\"type\":\"command\"}}",
     hears: &[
@@ -13,26 +31,26 @@ pub const STATUS: Client = Client {
     failing: None,
 };
 
-/// Its link fails before it says anything.
-pub const LOST: Client = Client {
+// Its link fails before it says anything.
+const LOST: Client = Client {
     failing: Some(1),
     ..STATUS
 };
 
-/// Its link fails once it was answered.
-pub const CUT_OFF: Client = Client {
+// Its link fails once it was answered.
+const CUT_OFF: Client = Client {
     failing: Some(2),
     ..STATUS
 };
 
-/// It has no room, and hears nothing.
-pub const TURNED_AWAY: Client = Client {
+// It has no room, and hears nothing.
+const TURNED_AWAY: Client = Client {
     hears: &[],
     ..STATUS
 };
 
-/// It is told the first nonce.
-pub const NONCE: Client = Client {
+// It is told the first nonce.
+const NONCE: Client = Client {
     service: Service::Cash,
     says: GET_NONCE,
     hears: &[
@@ -42,8 +60,8 @@ pub const NONCE: Client = Client {
     failing: None,
 };
 
-/// It is told the second.
-pub const NONCE_2: Client = Client {
+// It is told the second.
+const NONCE_2: Client = Client {
     hears: &[
         NONCE_TAKEN,
         "{\"header\":{\"completionCode\":\"success\",\"name\":\"Common.GetCommandNonce\",\"requestId\":1,\"type\":\"completion\",\"version\":\"2.0\"},\"payload\":{\"commandNonce\":\"B819D2BD1AED8DA00000000000000002\"}}",
@@ -51,8 +69,8 @@ pub const NONCE_2: Client = Client {
     ..NONCE
 };
 
-/// Its token is for the first nonce, which another client's replaced by the third record.
-pub const TOO_LATE: Client = Client {
+// Its token is for the first nonce, which another client's replaced by the third record.
+const TOO_LATE: Client = Client {
     service: Service::Cash,
     says: "{\"header\":{\"name\":\"CashDispenser.Dispense\",\"requestId\":1,\"type\":\"command\"},\"payload\":{\"denomination\":{\"currencies\":{\"EUR\":50}},\"mix\":\"minimum\",\"token\":\"NONCE=E56A5D4028BD86530000000000000001,TOKENFORMAT=1,TOKENLENGTH=0164,DISPENSE1=50.00EUR,HMACSHA256=3D5C9E3C4712EA6A5C3803CA4CB0E54958CB4C8778ACBBB26FEA1F6935956AC2\"}}",
     hears: &[
@@ -62,8 +80,8 @@ pub const TOO_LATE: Client = Client {
     failing: None,
 };
 
-/// Its token is for the first nonce, which lives.
-pub const DISPENSE: Client = Client {
+// Its token is for the first nonce, which lives.
+const DISPENSE: Client = Client {
     hears: &[
         DISPENSE_TAKEN,
         "{\"header\":{\"completionCode\":\"success\",\"name\":\"CashDispenser.Dispense\",\"requestId\":1,\"type\":\"completion\",\"version\":\"2.0\"},\"payload\":{\"denomination\":{\"currencies\":{\"EUR\":50},\"values\":{\"unit3\":1}}}}",
@@ -71,8 +89,8 @@ pub const DISPENSE: Client = Client {
     ..TOO_LATE
 };
 
-/// It has put out what another client dispensed.
-pub const PRESENT: Client = Client {
+// It has put out what another client dispensed.
+const PRESENT: Client = Client {
     service: Service::Cash,
     says: "{\"header\":{\"name\":\"CashDispenser.Present\",\"requestId\":1,\"type\":\"command\"}}",
     hears: &[
@@ -82,8 +100,8 @@ pub const PRESENT: Client = Client {
     failing: None,
 };
 
-/// The publisher alone tells the services.
-pub const SERVICES: Client = Client {
+// The publisher alone tells the services.
+const SERVICES: Client = Client {
     service: Service::Publisher,
     says: "{\"header\":{\"name\":\"ServicePublisher.GetServices\",\"requestId\":1,\"type\":\"command\"}}",
     hears: &[
@@ -102,8 +120,8 @@ const NONCE_TAKEN: &str =
 const DISPENSE_TAKEN: &str =
     "{\"header\":{\"name\":\"CashDispenser.Dispense\",\"requestId\":1,\"type\":\"acknowledge\",\"version\":\"2.0\"}}";
 
-/// It waits for a card, which is put in.
-pub const READ: Client = Client {
+// It waits for a card, which is put in.
+const READ: Client = Client {
     service: Service::Card,
     says: "{\"header\":{\"name\":\"CardReader.ReadRawData\",\"requestId\":1,\"type\":\"command\"},\"payload\":{\"track2\":true}}",
     hears: &[
@@ -115,8 +133,8 @@ pub const READ: Client = Client {
     failing: None,
 };
 
-/// It waits for one key, which is pressed.
-pub const ENTRY: Client = Client {
+// It waits for one key, which is pressed.
+const ENTRY: Client = Client {
     service: Service::Keys,
     says: "{\"header\":{\"name\":\"Keyboard.DataEntry\",\"requestId\":1,\"type\":\"command\"},\"payload\":{\"maxLen\":1,\"autoEnd\":true,\"activeKeys\":{\"one\":{}}}}",
     hears: &[

@@ -1,5 +1,6 @@
 //! Doors to which clients come that stay until they have heard what they wait for.
 
+use crate::clients::client_of;
 use crate::scene::{LOOKS, Scene};
 use std::alloc::Global;
 use std::sync::atomic::Ordering;
@@ -16,17 +17,14 @@ pub struct Client {
     pub failing: Option<u64>,
 }
 
-/// These clients, the first of them so often.
-pub fn crowd(alloc: Global, clients: &[Client], often: u32) -> Result<Vec<Client>, Memory> {
+/// The clients of these letters; none for `-`.
+pub fn crowd(alloc: Global, letters: &str) -> Result<Vec<Client>, Memory> {
     let mut crowd = Vec::new(alloc);
-    let Some((first, others)) = clients.split_first() else {
+    if letters == "-" {
         return Ok(crowd);
-    };
-    for _ in 0..often {
-        crowd.push(*first)?;
     }
-    for client in others {
-        crowd.push(*client)?;
+    for letter in letters.chars() {
+        crowd.push(client_of(letter))?;
     }
     Ok(crowd)
 }

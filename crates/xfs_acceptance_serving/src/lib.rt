@@ -20,6 +20,8 @@ mod clients;
 #[cfg(test)]
 mod doors;
 #[cfg(test)]
+mod lists;
+#[cfg(test)]
 mod rows;
 #[cfg(test)]
 mod run_client;

@@ -1,8 +1,7 @@
 //! The program under `serve`.
 
 use crate::bench::{a_card, a_key};
-use crate::clients::{CUT_OFF, READ, STATUS};
-use crate::doors::{Client, PatientDoors, crowd};
+use crate::doors::{PatientDoors, crowd};
 use crate::scene::{Scene, Until};
 use std::alloc::Global;
 use std::sync::Wait;
@@ -64,12 +63,12 @@ fn serve_two<R: Threads + Wait + Sync, O: Doors, C: Clock + Sync, G: Gate + Sync
 fn served<R: Threads + Wait + time::Clock + Sync>(
     rt: &R,
     alloc: Global,
-    clients: &[Client; 2],
+    clients: &str,
     last: u32,
 ) -> Result<(Report, bool), Fail> {
     let clock = StdClock::new(rt);
     let scene = Scene::new(&clock, last, Until::Answered);
-    let clients = crowd(alloc, clients, 1)?;
+    let clients = crowd(alloc, clients)?;
     let mut doors = PatientDoors::new(alloc, clients, false, &scene);
     let report = serve_two(rt, alloc, &mut doors, &clock, &scene)?;
     let both = scene.answered.load(Ordering::SeqCst) == 2;
@@ -79,15 +78,15 @@ fn served<R: Threads + Wait + time::Clock + Sync>(
 }
 
 // The client that reads a card is held until the other is answered; then the card of the bench is put in. A client whose
-// link fails leaves the other as it is. The journal has its Boot alone.
+// link fails leaves the other as it is. The journal has its Start alone.
 #[test]
 fn both_clients_are_answered_side_by_side(rt: HostRuntime) -> Result<(), Fail> {
-    for (clients, last) in [([READ, STATUS], 1), ([CUT_OFF, STATUS], 0)] {
-        let (report, answered) = served(&rt, rt.alloc(), &clients, last)?;
+    for (clients, last) in [("rs", 1), ("cs", 0)] {
+        let (report, answered) = served(&rt, rt.alloc(), clients, last)?;
         assert!(rt; answered, "{last} held back");
         assert_eq!(rt; report.status, 0);
         assert_eq!(rt; report.written, 0);
-        assert_eq!(rt; report.journal, 205);
+        assert_eq!(rt; report.journal, 213);
     }
     Ok(())
 }

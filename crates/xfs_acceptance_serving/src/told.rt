@@ -7,7 +7,7 @@ use xfs_journal::Rec;
 use xfs_machine::Machine;
 use xfs_mech::Mechanism;
 
-/// How many connections are open, the number of the live nonce, the journal's records: a `B` for a Boot, its
+/// How many connections are open, the number of the live nonce, the journal's records: a `K` for a Start, its
 /// number for an Issue, a `T` for a token, an `O` for an order and a `D` for what was done of it; and where the
 /// notes lie.
 #[derive(Drop)]
@@ -37,7 +37,10 @@ pub fn told_by<M: Mechanism, D: Disk>(
 
 fn letter_of(rec: &Rec) -> u8 {
     match rec {
-        Rec::Boot { places: _ } => b'B',
+        Rec::Start {
+            issues: _,
+            places: _,
+        } => b'K',
         Rec::Issue { number, word: _ } if *number < 10 => b'0' + *number as u8,
         Rec::Bind { token: _ } => b'T',
         Rec::Order { kind: _, counts: _ } => b'O',

@@ -60,19 +60,28 @@ pub fn account_of<M: Mechanism, D: Disk>(
     machine: Machine<M, D>,
 ) -> Result<Account, Fail> {
     let (mech, disk) = machine.end();
-    let Ok(journal) = Journal::mount(alloc, disk, LIMITS) else {
-        return Err("a journal".into());
-    };
-    let told = places_left(alloc, units, journal.records())?.ok_or("the places")?;
-    let mut reader = Reader::new(alloc);
-    for rec in journal.records() {
-        reader.read(rec)?;
-    }
+    let journal = mounted(alloc, disk).ok_or("a journal")?;
+    read_of(alloc, units, journal.records(), mech.survey())
+}
+
+fn mounted<D: Disk>(alloc: Global, disk: D) -> Option<Journal<D>> {
+    Journal::mount(alloc, disk, LIMITS).ok()
+}
+
+// What these records tell, where the notes were found here.
+fn read_of(
+    alloc: Global,
+    units: &UnitTable,
+    records: &[Rec],
+    found: Places,
+) -> Result<Account, Fail> {
+    let told = places_left(alloc, units, records)?.ok_or("the places")?;
+    let reader = Reader::over(alloc, records)?;
     Ok(Account {
         presented: reader.presented,
         is_orderly: reader.is_orderly,
         told,
-        found: mech.survey(),
+        found,
     })
 }
 
@@ -103,6 +112,15 @@ impl Reader {
             segment: Segment::Nothing,
             ordered: None,
         }
+    }
+
+    // What was read of these records.
+    fn over(alloc: Global, records: &[Rec]) -> Result<Reader, Memory> {
+        let mut reader = Reader::new(alloc);
+        for rec in records {
+            reader.read(rec)?;
+        }
+        Ok(reader)
     }
 
     fn read(&mut self, rec: &Rec) -> Result<(), Memory> {

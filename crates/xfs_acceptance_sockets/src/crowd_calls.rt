@@ -2,8 +2,7 @@
 
 use crate::bench::machine;
 use crate::clients::Shared;
-use crate::socket_calls::ANY;
-use crate::withdrawals::{fill_up, serve};
+use crate::withdrawals::{fill_up, opened, outward, serve};
 use std::alloc::Global;
 use std::io::ErrorKind;
 use std::net::{Net, TcpListener, TcpStream};
@@ -13,9 +12,13 @@ use std::test::Fail;
 use std::thread::Threads;
 use std::{thread, time};
 use xfs_base::{Clock, Memory, Service, StdClock};
+use xfs_disk::Disk;
+use xfs_machine::Machine;
+use xfs_mech::Mechanism;
 use xfs_server::{Doors, Link, OpenGate, Taking};
 use xfs_serving::Ending as Over;
-use xfs_sockets::{Origins, Ports, TcpDoors};
+use xfs_serving_machine::Served;
+use xfs_sockets::Ports;
 
 // So many clients come to the dispenser: one that doesn't read, one that has the nonces, and these.
 const OTHERS: usize = 62;
@@ -74,15 +77,20 @@ fn is_answered<L: Link, C: Clock>(link: &mut L, clock: &C, command: &str, front:
     link.give(command.as_bytes()).is_ok() && hears(link, clock, "") && hears(link, clock, front)
 }
 
-// Whether each of these hears that a nonce was cleared, so often and nothing else.
+// Whether it hears that a nonce was cleared, so often and nothing else.
+fn hears_so_often<L: Link, C: Clock>(link: &mut L, clock: &C, often: u32) -> bool {
+    for _ in 0..often {
+        if !hears(link, clock, CLEARED) {
+            return false;
+        }
+    }
+    matches!(link.take(), Taking::Quiet)
+}
+
+// Whether each of these hears it.
 fn all_hear<L: Link, C: Clock>(links: &mut [L], clock: &C, often: u32) -> bool {
     for link in links {
-        for _ in 0..often {
-            if !hears(link, clock, CLEARED) {
-                return false;
-            }
-        }
-        if !matches!(link.take(), Taking::Quiet) {
+        if !hears_so_often(link, clock, often) {
             return false;
         }
     }
@@ -111,8 +119,28 @@ fn dialled<O: Doors>(doors: &mut O, alloc: Global, count: usize) -> Result<Vec<O
     Ok(links)
 }
 
-// One client has a nonce issued and cleared each round, which all the others hear at once but the one that doesn't read: it
-// finds all of it in the end.
+// One client has a nonce issued and cleared, which all the others hear at once.
+fn is_heard_by_all<L: Link, C: Clock>(asker: &mut L, others: &mut [L], clock: &C) -> bool {
+    is_answered(asker, clock, GET, "")
+        && is_answered(asker, clock, CLEAR, CLEARED)
+        && hears(asker, clock, "")
+        && all_hear(others, clock, 1)
+}
+
+// Whether each round of the one who asks is heard.
+fn are_heard<L: Link, C: Clock>(askers: &mut [L], others: &mut [L], clock: &C) -> bool {
+    let Some(asker) = askers.first_mut() else {
+        return false;
+    };
+    for _ in 0..ROUNDS {
+        if !is_heard_by_all(asker, others, clock) {
+            return false;
+        }
+    }
+    true
+}
+
+// All rounds are heard by all but the one that doesn't read: it finds all of it in the end.
 fn is_announced<O: Doors, C: Clock>(
     doors: &mut O,
     alloc: Global,
@@ -120,22 +148,58 @@ fn is_announced<O: Doors, C: Clock>(
 ) -> Result<bool, Memory> {
     let mut silent = dialled(doors, alloc, 1)?;
     let mut others = dialled(doors, alloc, OTHERS)?;
-    let Ok(mut asker) = doors.dial(Service::Cash) else {
-        return Ok(false);
-    };
-    if silent.len() != 1 || others.len() != OTHERS || !all_are_in(&mut others, clock) {
-        return Ok(false);
-    }
-    for _ in 0..ROUNDS {
-        let is_heard = is_answered(&mut asker, clock, GET, "")
-            && is_answered(&mut asker, clock, CLEAR, CLEARED)
-            && hears(&mut asker, clock, "")
-            && all_hear(&mut others, clock, 1);
-        if !is_heard {
+    let mut askers = dialled(doors, alloc, 1)?;
+    Ok(
+        silent.len() == 1
+            && others.len() == OTHERS
+            && all_are_in(&mut others, clock)
+            && are_heard(&mut askers, &mut others, clock)
+            && all_hear(&mut silent, clock, ROUNDS),
+    )
+}
+
+fn command_of(alloc: Global, name: &str) -> Result<String, Memory> {
+    Ok(format!(in alloc;
+        "{{\"header\":{{\"name\":\"{name}\",\"requestId\":1,\"type\":\"command\"}}}}"
+    )?)
+}
+
+// How the text begins by which a command is completed with this code.
+fn front_of(alloc: Global, name: &str, code: &str) -> Result<String, Memory> {
+    Ok(format!(in alloc; "{{\"header\":{{\"completionCode\":\"{code}\",\"name\":\"{name}\"")?)
+}
+
+// Whether a command is completed with this code.
+fn completes<L: Link, C: Clock>(
+    link: &mut L,
+    alloc: Global,
+    clock: &C,
+    name: &str,
+    code: &str,
+) -> Result<bool, Memory> {
+    let command = command_of(alloc, name)?;
+    let front = front_of(alloc, name, code)?;
+    Ok(is_answered(link, clock, &command, &front))
+}
+
+// Whether a service completes its own command, and no other's.
+fn completes_its_own<L: Link, C: Clock>(
+    link: &mut L,
+    alloc: Global,
+    clock: &C,
+    service: Service,
+) -> Result<bool, Memory> {
+    for (its, name, own) in COMMANDS {
+        let code = if its == service {
+            own
+        } else {
+            "invalidCommand"
+        };
+        if !completes(link, alloc, clock, name, code)? {
             return Ok(false);
         }
     }
-    Ok(all_hear(&mut silent, clock, ROUNDS))
+    Ok(true)
 }
 
 // Whether the service at a port completes its own command, and no other's.
@@ -145,26 +209,10 @@ fn is_apart<O: Doors, C: Clock>(
     clock: &C,
     service: Service,
 ) -> Result<bool, Memory> {
-    let Ok(mut link) = doors.dial(service) else {
-        return Ok(false);
-    };
-    for (its, name, own) in COMMANDS {
-        let code = if its == service {
-            own
-        } else {
-            "invalidCommand"
-        };
-        let command = format!(in alloc;
-            "{{\"header\":{{\"name\":\"{name}\",\"requestId\":1,\"type\":\"command\"}}}}"
-        )?;
-        let front = format!(in alloc;
-            "{{\"header\":{{\"completionCode\":\"{code}\",\"name\":\"{name}\""
-        )?;
-        if !is_answered(&mut link, clock, &command, &front) {
-            return Ok(false);
-        }
+    match doors.dial(service) {
+        Ok(mut link) => completes_its_own(&mut link, alloc, clock, service),
+        Err(_) => Ok(false),
     }
-    Ok(true)
 }
 
 // Whether each service completes its own command, at its own port.
@@ -177,19 +225,22 @@ fn are_apart<O: Doors, C: Clock>(doors: &mut O, alloc: Global, clock: &C) -> Res
     Ok(true)
 }
 
-// Whether nobody listens at the ports on another address of this machine.
-fn is_kept_at_home<R: Net<Listener = TcpListener, Stream = TcpStream>>(
+// Whether nobody listens at this port on another address of this machine.
+fn is_kept_at_home<R: Net<Listener = TcpListener, Stream = TcpStream>>(rt: &R, port: u16) -> bool {
+    match TcpStream::connect(rt, ("127.0.0.2", port)) {
+        Ok(_) => false,
+        Err(error) => error.kind() == ErrorKind::ConnectionRefused,
+    }
+}
+
+fn are_kept_at_home<R: Net<Listener = TcpListener, Stream = TcpStream>>(
     rt: &R,
     ports: &Ports,
 ) -> bool {
-    for (service, _, _) in COMMANDS {
-        match TcpStream::connect(rt, ("127.0.0.2", ports.of(service))) {
-            Ok(_) => return false,
-            Err(error) if error.kind() == ErrorKind::ConnectionRefused => {}
-            Err(_) => return false,
-        }
-    }
-    true
+    is_kept_at_home(rt, ports.publisher)
+        && is_kept_at_home(rt, ports.card)
+        && is_kept_at_home(rt, ports.keys)
+        && is_kept_at_home(rt, ports.cash)
 }
 
 // Whether all goes as it should with those who come.
@@ -198,19 +249,49 @@ fn goes_well<
     C: Clock + Sync,
 >(shared: &Shared<R, C>, visit: Visit) -> bool {
     let (alloc, clock) = (shared.alloc, shared.clock);
-    let Ok(mut doors) = TcpDoors::outward(shared.rt, alloc, clock, shared.ports) else {
+    let Some(mut doors) = outward(shared) else {
         return false;
     };
     match visit {
         Visit::Crowd => is_announced(&mut doors, alloc, clock) == Ok(true),
         Visit::EachPort => {
             are_apart(&mut doors, alloc, clock) == Ok(true)
-                && is_kept_at_home(shared.rt, &shared.ports)
+                && are_kept_at_home(shared.rt, &shared.ports)
         }
     }
 }
 
-// Whether those who come are served, and nobody is left.
+// Whether all goes as it should; then the server is let end.
+fn comes<R: Net<Listener = TcpListener, Stream = TcpStream> + RandomSource + Sync, C: Clock + Sync>(
+    shared: &Shared<R, C>,
+    visit: Visit,
+) -> bool {
+    let went_well = goes_well(shared, visit);
+    fill_up(shared);
+    went_well
+}
+
+// Those who come on their side, the server on its.
+fn side_by_side<
+    R: Net<Listener = TcpListener, Stream = TcpStream> + RandomSource + Threads + Wait + Sync,
+    M: Mechanism + Send,
+    D: Disk + Send,
+    O: Doors + Drop,
+    C: Clock + Sync,
+>(shared: &Shared<R, C>, machine: Machine<M, D>, doors: O, visit: Visit) -> (bool, Served<M, D>) {
+    thread::join(
+        shared.rt,
+        || comes(shared, visit),
+        || serve(shared, machine, doors, &OpenGate),
+    )
+}
+
+// Whether all were served, and nobody is left.
+fn is_over<M: Mechanism, D: Disk>(served: &Served<M, D>) -> bool {
+    served.ending == Over::Served && served.machine.open_count() == 0
+}
+
+// Whether those who come to a machine are served.
 fn is_served<
     R: Net<Listener = TcpListener, Stream = TcpStream>
         + RandomSource
@@ -218,31 +299,26 @@ fn is_served<
         + Threads
         + Wait
         + Sync,
->(rt: &R, alloc: Global, visit: Visit, count: u32) -> Result<bool, Fail> {
-    let machine = machine(alloc)?;
+    M: Mechanism + Send,
+    D: Disk + Send,
+>(rt: &R, alloc: Global, machine: Machine<M, D>, visit: Visit, count: u32) -> Result<bool, Fail> {
     let clock = StdClock::new(rt);
-    let Ok(doors) = TcpDoors::open(rt, alloc, &clock, ANY, Origins::none()) else {
-        return Err("the ports".into());
-    };
+    let doors = opened(rt, alloc, &clock).ok_or("the ports")?;
     let shared = Shared::new(rt, alloc, &clock, doors.ports(), count).ok_or("the currency")?;
-    let (went_well, served) = thread::join(
-        rt,
-        || {
-            let went_well = goes_well(&shared, visit);
-            fill_up(&shared);
-            went_well
-        },
-        || serve(&shared, machine, doors, &OpenGate),
-    );
-    Ok(went_well && served.ending == Over::Served && served.machine.open_count() == 0)
+    let (went_well, served) = side_by_side(&shared, machine, doors, visit);
+    Ok(went_well && is_over(&served))
 }
 
 #[test]
-fn a_crowd_and_a_visitor_at_each_port_are_served(rt: HostRuntime) -> Result<(), Fail> {
-    assert!(rt; is_served(&rt, rt.alloc(), Visit::Crowd, 64)?, "the crowd");
-    assert!(rt;
-        is_served(&rt, rt.alloc(), Visit::EachPort, 4)?,
-        "each port"
-    );
+fn a_crowd_is_served(rt: HostRuntime) -> Result<(), Fail> {
+    let machine = machine(rt.alloc())?;
+    assert!(rt; is_served(&rt, rt.alloc(), machine, Visit::Crowd, 64)?);
+    Ok(())
+}
+
+#[test]
+fn a_visitor_at_each_port_is_served(rt: HostRuntime) -> Result<(), Fail> {
+    let machine = machine(rt.alloc())?;
+    assert!(rt; is_served(&rt, rt.alloc(), machine, Visit::EachPort, 4)?);
     Ok(())
 }

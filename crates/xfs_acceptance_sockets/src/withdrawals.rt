@@ -8,11 +8,11 @@ use std::alloc::{AllocError, Global};
 use std::net::{Net, TcpListener, TcpStream};
 use std::random::RandomSource;
 use std::sync::Wait;
-use std::sync::atomic::Ordering;
+use std::sync::atomic::{AtomicBool, Ordering};
 use std::test::Fail;
 use std::thread::Threads;
 use std::{thread, time};
-use xfs_base::{Clock, Currency, Service, StdClock, UnitTable};
+use xfs_base::{Clock, Counts, Currency, Service, StdClock, UnitTable};
 use xfs_disk::Disk;
 use xfs_machine::Machine;
 use xfs_mech::{Mechanism, TakerWatch};
@@ -55,6 +55,24 @@ struct Report {
     account: Account,
 }
 
+/// Doors at ports that the system chooses.
+pub fn opened<
+    'a,
+    R: Net<Listener = TcpListener, Stream = TcpStream> + RandomSource + Sync,
+    C: Clock + Sync,
+>(rt: &'a R, alloc: Global, clock: &'a C) -> Option<TcpDoors<'a, R, C>> {
+    TcpDoors::open(rt, alloc, clock, ANY, Origins::none()).ok()
+}
+
+/// Doors that dial the server.
+pub fn outward<
+    'a,
+    R: Net<Listener = TcpListener, Stream = TcpStream> + RandomSource + Sync,
+    C: Clock + Sync,
+>(shared: &Shared<'a, R, C>) -> Option<TcpDoors<'a, R, C>> {
+    TcpDoors::outward(shared.rt, shared.alloc, shared.clock, shared.ports).ok()
+}
+
 // Serves the clients.
 fn served<
     R: Net<Listener = TcpListener, Stream = TcpStream>
@@ -67,9 +85,7 @@ fn served<
     D: Disk + Send,
 >(rt: &R, alloc: Global, units: &UnitTable, machine: Machine<M, D>) -> Result<Report, Fail> {
     let clock = StdClock::new(rt);
-    let Ok(doors) = TcpDoors::open(rt, alloc, &clock, ANY, Origins::none()) else {
-        return Err("the ports".into());
-    };
+    let doors = opened(rt, alloc, &clock).ok_or("the ports")?;
     let shared = Shared::new(rt, alloc, &clock, doors.ports(), CONNECTIONS).ok_or("the currency")?;
     let gate = Steps::new(CLIENTS as u64, &clock);
     let (visits, Served { ending, machine }) = side_by_side(&shared, machine, doors, &gate);
@@ -98,13 +114,19 @@ fn side_by_side<
 ) -> (Result<Vec<Visit>, AllocError>, Served<M, D>) {
     thread::join(
         shared.rt,
-        || {
-            let visits = visits(shared);
-            fill_up(shared);
-            visits
-        },
+        || visits_and_more(shared),
         || serve(shared, machine, doors, gate),
     )
+}
+
+// What the clients came to; then the server is let end.
+fn visits_and_more<
+    R: Net<Listener = TcpListener, Stream = TcpStream> + RandomSource + Threads + Wait + Sync,
+    C: Clock + Sync,
+>(shared: &Shared<R, C>) -> Result<Vec<Visit>, AllocError> {
+    let visits = visits(shared);
+    fill_up(shared);
+    visits
 }
 
 /// Serves so many connections, and tells when that is over.
@@ -154,9 +176,9 @@ fn visit<
     R: Net<Listener = TcpListener, Stream = TcpStream> + RandomSource + Wait + Sync,
     C: Clock + Sync,
 >(shared: &Shared<R, C>, most: u32) -> Visit {
-    match TcpDoors::outward(shared.rt, shared.alloc, shared.clock, shared.ports) {
-        Ok(mut doors) => shared.withdraw(&mut doors, most),
-        Err(_) => Err(Ending::Failed),
+    match outward(shared) {
+        Some(mut doors) => shared.withdraw(&mut doors, most),
+        None => Err(Ending::Failed),
     }
 }
 
@@ -165,15 +187,40 @@ pub fn fill_up<
     R: Net<Listener = TcpListener, Stream = TcpStream> + RandomSource + Sync,
     C: Clock + Sync,
 >(shared: &Shared<R, C>) {
-    let Ok(mut doors) = TcpDoors::outward(shared.rt, shared.alloc, shared.clock, shared.ports)
-    else {
-        return;
-    };
-    for _ in 0..shared.connections {
-        if shared.is_over.load(Ordering::SeqCst) {
+    if let Some(mut doors) = outward(shared) {
+        dial_until(&mut doors, shared.connections, &shared.is_over);
+    }
+}
+
+// Dials and hangs up so often, or until it is over.
+fn dial_until<O: Doors>(doors: &mut O, often: u32, is_over: &AtomicBool) {
+    for _ in 0..often {
+        if is_over.load(Ordering::SeqCst) {
             return;
         }
         let _link = doors.dial(Service::Publisher);
+    }
+}
+
+// Whether each client got its notes.
+fn all_got_theirs(visits: &[Visit]) -> bool {
+    visits.iter().all(|came_to| *came_to == Ok(true))
+}
+
+// Whether one withdrawal of each client was put out, and no other notes, as the journal tells.
+fn is_told(account: &Account, units: &UnitTable) -> bool {
+    account.is_orderly
+        && account.presented.len() == CLIENTS
+        && is_each_worth_70_euros(&account.presented, units)
+        && account.adds_up(&[100, 100, 100, 100, 0, 0, 0, 0])
+}
+
+fn is_each_worth_70_euros(presented: &[Counts], units: &UnitTable) -> bool {
+    match Currency::new(b"EUR") {
+        Some(euro) => presented
+            .iter()
+            .all(|counts| counts.value(units, euro) == 70_000),
+        None => false,
     }
 }
 
@@ -183,18 +230,9 @@ fn every_note_of_eight_withdrawals_at_once_is_told(rt: HostRuntime) -> Result<()
     let units = units().ok_or("the units")?;
     let report = served(&rt, alloc, &units, machine(alloc)?)?;
     assert!(rt; report.is_served);
-    for came_to in &report.visits {
-        assert_eq!(rt; *came_to, Ok(true));
-    }
+    assert!(rt; all_got_theirs(&report.visits));
     // By the gate all but one lost their first try.
     assert!(rt; report.tries >= 15);
-    let account = &report.account;
-    assert!(rt; account.is_orderly);
-    assert_eq!(rt; account.presented.len(), CLIENTS);
-    let euro = Currency::new(b"EUR").ok_or("the currency")?;
-    for counts in &account.presented {
-        assert_eq!(rt; counts.value(&units, euro), 70_000);
-    }
-    assert!(rt; account.adds_up(&[100, 100, 100, 100, 0, 0, 0, 0]));
+    assert!(rt; is_told(&report.account, &units));
     Ok(())
 }
