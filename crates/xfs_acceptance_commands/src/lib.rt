@@ -1,10 +1,12 @@
-//! What only a call can show of texts, lines, commands, queues, mixes and accounts, as tests.
+//! What only a call can show of texts, lines, commands, queues, mixes, accounts and audits, as tests.
 #![tactic(auto)]
 
 #[cfg(test)]
 mod answer_calls;
 #[cfg(test)]
 mod ask_calls;
+#[cfg(test)]
+mod audit_calls;
 #[cfg(test)]
 mod client_calls;
 #[cfg(test)]

@@ -1,0 +1,22 @@
+//! The audit of a machine from outside: whether a journal's records and a mechanism's list of motions
+//! keep the four rules that the guard of the dispenser keeps.
+#![tactic(auto)]
+
+mod agreement;
+mod auditing;
+mod claim;
+mod nonce;
+mod numbering;
+mod payer;
+mod places;
+mod reader;
+mod told;
+mod verdict;
+mod within;
+
+pub use agreement::agrees;
+pub use auditing::audit;
+pub use numbering::is_numbered;
+pub use places::leads_to;
+pub use verdict::{Rule, Verdict};
+pub use within::is_within;
