@@ -9,7 +9,7 @@ WAYS = {1: ("units", "transport"), 2: ("transport", "outlet"), 3: ("transport", 
 KEY = bytes.fromhex(pathlib.Path("xfs.key").read_text()) if pathlib.Path("xfs.key").exists() else bytes([0x0B] * 32)
 
 def records(data, at=8):
-    if data[:8] != b"XFSJRNL1":
+    if data[:7] != b"XFSJRNL":
         sys.exit("the file is no journal")
     while data[at] == 1:
         body, end = at + 3, at + 3 + int.from_bytes(data[at + 1 : at + 3], "big")
@@ -27,10 +27,12 @@ def put_out(places):  # what came into the customer's reach so far
         worth[currency] += value * sum(notes)
     return worth
 
-places, order, nonce, amounts, before, faults = {}, None, "", {}, collections.Counter(), []
+places, order, nonce, issues, amounts, before, faults = {}, None, "", 0, {}, collections.Counter(), []
 for number, (kind, body) in enumerate(records(pathlib.Path((sys.argv + ["xfs.journal"])[1]).read_bytes()), 1):
-    if kind == b"B":  # it tells what was taken, and what an order without its Done moved, which no other record does
-        told = {at: list(row) for at, row in zip(PLACES, struct.iter_unpack(">8I", body))}
+    if kind in b"BK":  # it tells what was taken, and what an order without its Done moved, which no other record does
+        told = {at: list(row) for at, row in zip(PLACES, struct.iter_unpack(">8I", body[-192:]))}
+        if kind == b"K" and body[:8] != issues.to_bytes(8, "big"):
+            faults.append(f"record {number}: another number of issues than there are before it")
         sums = [[sum(it) for it in zip(*each.values())] for each in (told, places or told)]
         if sums[0] != sums[1] or not put_out(told) >= put_out(places or told):
             faults.append(f"record {number}: a unit's notes are more or fewer than before, or some came back from the customer")
@@ -48,7 +50,8 @@ for number, (kind, body) in enumerate(records(pathlib.Path((sys.argv + ["xfs.jou
     paid = dict(put_out(places) - before)
     if any(paid[it] > amounts.get(it, 0) for it in paid) or min(map(min, places.values())) < 0:
         faults.append(f"record {number}: more than a token allows was put out, or than lay there was moved")
-    if kind in b"BICE":  # a mark: the nonce before it has ended
+    issues += kind == b"I"
+    if kind in b"BKICE":  # a mark: the nonce before it has ended
         if nonce:
             print(nonce, "allowed", amounts, "put out", paid)
         nonce, amounts, before = (body[8:] + body[:8]).hex().upper() if kind == b"I" else "", {}, put_out(places)

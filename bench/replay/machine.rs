@@ -71,7 +71,7 @@ pub trait Journal {
 }
 
 /// The first bytes of a journal, with a closed gate.
-pub const HEADER: &[u8] = b"XFSJRNL1\0";
+pub const HEADER: &[u8] = b"XFSJRNL2\0";
 
 /// Writes a record's length and body, and the closed gate behind it.
 pub fn frame(bytes: &mut Vec<u8>, body: &[&[u8]]) {
@@ -185,7 +185,7 @@ impl<J: Journal> Machine<J> {
             queue: Vec::new(),
             clients: Vec::new(),
         };
-        machine.journal.append(&[b"B", &big_endian(&machine.units), &[0; 160]]);
+        machine.journal.append(&[b"K", &[0; 8], &big_endian(&machine.units), &[0; 160]]);
         machine
     }
 
@@ -241,7 +241,7 @@ impl<J: Journal> Machine<J> {
 
     /// Whether the journal has room for the records of a command.
     fn fit(&self) -> Result<(), Answer> {
-        let is_full = self.journal.records() + 3 > 1_000_000 || self.journal.len() + 2_048 > 268_435_456;
+        let is_full = self.journal.records() + 3 > 1_000_000 || self.journal.len() + 2_048 > 17_179_869_184;
         if is_full { Err(plain("deviceNotReady")) } else { Ok(()) }
     }
 

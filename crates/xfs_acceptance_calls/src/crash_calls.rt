@@ -130,7 +130,7 @@ fn notes_that_were_put_out_and_not_settled_lie_in_the_outlet(rt: HostRuntime) ->
     let Ok(guard) = begun(rt.alloc(), ended(guard, key)) else {
         return Err("the machine doesn't boot again")?;
     };
-    let names = ["Boot", "Issue", "Bind", "Order", "Done", "Order", "Boot"];
+    let names = ["Start", "Issue", "Bind", "Order", "Done", "Order", "Start"];
     let records = guard.records();
     assert!(rt; records.len() == 7);
     for i in 0..7 {
@@ -152,6 +152,7 @@ fn name_of(record: &Rec) -> &'static str {
         Rec::Clear => "Clear",
         Rec::Expire => "Expire",
         Rec::Boot { .. } => "Boot",
+        Rec::Start { .. } => "Start",
         Rec::Bind { .. } => "Bind",
         Rec::Order { .. } => "Order",
         Rec::Done { .. } => "Done",

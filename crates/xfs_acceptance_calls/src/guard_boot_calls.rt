@@ -2,6 +2,7 @@
 
 use crate::files::opened;
 use crate::guard_bench::{GENUINE, guard_on, sim, units};
+use crate::journal_calls::old_file;
 use std::alloc::Global;
 use std::fs::{self, File};
 use std::process::Abort;
@@ -30,8 +31,8 @@ fn booted_over(
     }
 }
 
-// The file of a Boot and an Issue has 225 bytes, of which the last is the closed gate. The Issue stands
-// behind 204. A refused file stays as it was.
+// The file of a Start and an Issue has 233 bytes, of which the last is the closed gate. The Issue stands
+// behind 212. A refused file stays as it was.
 #[test]
 fn a_boot_over_a_file_finds_a_journal_or_none(rt: HostRuntime) -> Result<(), Fail> {
     let mut guard = guard_on(rt.alloc(), &[])?;
@@ -45,12 +46,12 @@ fn a_boot_over_a_file_finds_a_journal_or_none(rt: HostRuntime) -> Result<(), Fai
         (&[0xff; 9], Ok(1)),
         (&[0xff; 10], Err(BootFault::NotJournal { at: 0 })),
         (
-            whole.get(..224).ok_or("shorter")?,
-            Err(BootFault::NotJournal { at: 224 }),
+            whole.get(..232).ok_or("shorter")?,
+            Err(BootFault::NotJournal { at: 232 }),
         ),
         (
-            whole.get(..223).ok_or("shorter")?,
-            Err(BootFault::NotJournal { at: 204 }),
+            whole.get(..231).ok_or("shorter")?,
+            Err(BootFault::NotJournal { at: 212 }),
         ),
     ] {
         fs::write(&rt, "xfs_acceptance_boot.test", bytes)?;
@@ -64,8 +65,35 @@ fn a_boot_over_a_file_finds_a_journal_or_none(rt: HostRuntime) -> Result<(), Fai
     Ok(())
 }
 
+// The older file has a Boot and the first nonce's Issue; a Start comes behind them, and then the second nonce.
 #[test]
-fn a_restore_gives_the_journal_a_boot_with_the_places(rt: HostRuntime) -> Result<(), Fail> {
+fn an_older_file_is_carried_over_by_a_boot(rt: HostRuntime) -> Result<(), Fail> {
+    let alloc = rt.alloc();
+    fs::write(
+        &rt,
+        "xfs_acceptance_older.test",
+        old_file(alloc)?.as_slice(),
+    )?;
+    let units = units()?;
+    let mech = sim(alloc, &units)?;
+    let disk = FileDisk::new(opened(&rt, "xfs_acceptance_older.test")?);
+    let mut guard = match Guard::boot(alloc, mech, disk, KEY, SEED, units, LIMITS) {
+        Ok(guard) => guard,
+        Err(fail) => return Err(fail.why.into()),
+    };
+    let file = fs::read(&rt, "xfs_acceptance_older.test")?;
+    assert!(rt; file.len() == 429 && file.get(..8) == Some(b"XFSJRNL2".as_slice()));
+    assert_eq!(rt;
+        file.get(224..237),
+        Some(b"\x01\0\xC9\x4B\0\0\0\0\0\0\0\x01\0".as_slice())
+    );
+    assert!(rt; guard.issue()?.number == 2 && guard.records().len() == 4);
+    fs::remove_file(&rt, "xfs_acceptance_older.test")?;
+    Ok(())
+}
+
+#[test]
+fn a_restore_gives_the_journal_a_start_with_the_places(rt: HostRuntime) -> Result<(), Fail> {
     let mut guard = guard_on(rt.alloc(), &[])?;
     assert!(rt; guard.live().is_none() && guard.unacted().is_none() && !guard.ordering());
     assert!(rt; guard.fit() == Fit::Ready && guard.unfit().is_none());
@@ -76,8 +104,13 @@ fn a_restore_gives_the_journal_a_boot_with_the_places(rt: HostRuntime) -> Result
     assert!(rt; guard.restore() == Ok(()) && guard.live().is_none());
     assert!(rt; guard.records().len() == 4 && guard.units().len() == 4);
     match guard.records().last() {
-        Some(Rec::Boot { places: surveyed }) => assert!(rt; *surveyed.places() == places()),
-        _ => return Err("the last record is no Boot".into()),
+        Some(
+            Rec::Start {
+                issues: 1,
+                places: surveyed,
+            },
+        ) => assert!(rt; *surveyed.places() == places()),
+        _ => return Err("the last record is no Start behind one nonce".into()),
     }
     Ok(())
 }

@@ -126,7 +126,7 @@ issue => done
 live => 2";
 
 // The calls that fail, of the Issue and of the first restore; the nonce that lives then, and the records before and after
-// the second one: the Boot, the Issue in doubt, the first restore's Boot where its gate was opened, and a Boot.
+// the second one: the Start, the Issue in doubt, the first restore's Start where its gate was opened, and a Start.
 const RESTORES: &str = "12 13
 issue => Disk
 restore => Disk
@@ -218,7 +218,7 @@ live => none
 issue => done
 live => 2";
 
-// Four records are the Boot, the Issue, and the Boots of two restores; the gate of the last was opened.
+// Four records are the Start, the Issue, and the Starts of two restores; the gate of the last was opened.
 const NO_ROOM: &str = "26
 issue => done
 restore => done

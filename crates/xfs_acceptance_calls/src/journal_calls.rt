@@ -11,7 +11,7 @@ use xfs_journal::{BodyFault, Journal, Limits, MountFault, Rec, Survey, Text, rea
 
 const LIMITS: Limits = Limits {
     records: 1_000_000,
-    bytes: 268_435_456,
+    bytes: 17_179_869_184,
 };
 
 const NONE: Counts = Counts([0; 8]);
@@ -28,7 +28,7 @@ fn mounted<D: Disk>(alloc: Global, disk: D) -> Result<Journal<D>, Fail> {
 }
 
 // 100 notes in each of four units, and none elsewhere.
-fn boot(alloc: Global) -> Result<Rec, Fail>
+fn start(alloc: Global) -> Result<Rec, Fail>
     ensures { IfOk result HasUnit }
 {
     let places = Places {
@@ -40,7 +40,7 @@ fn boot(alloc: Global) -> Result<Rec, Fail>
         rejected: NONE,
     };
     let places = Survey::new(alloc, places)?;
-    Ok(Rec::Boot { places })
+    Ok(Rec::Start { issues: 0, places })
 }
 
 fn issue() -> Rec
@@ -52,9 +52,9 @@ fn issue() -> Rec
     }
 }
 
-// The file after the boot of an empty disk with four units of 100 notes, and an issue.
-fn short_file(alloc: Global) -> Result<Vec<u8>, Fail> {
-    let mut bytes = b"XFSJRNL1\x01\x00\xC1\x42".to_vec(alloc)?;
+// What begins a file, with its first record up to the places, then four units of 100 notes, and an issue.
+fn file_from(alloc: Global, begin: &[u8]) -> Result<Vec<u8>, Fail> {
+    let mut bytes = begin.to_vec(alloc)?;
     for _ in 0..4 {
         bytes.extend_from_slice(&[0, 0, 0, 100])?;
     }
@@ -66,29 +66,39 @@ fn short_file(alloc: Global) -> Result<Vec<u8>, Fail> {
     Ok(bytes)
 }
 
-// The first 204 bytes of it, and a closed gate.
-fn boot_file(alloc: Global) -> Result<Vec<u8>, Fail> {
+// The file of 225 bytes that an older program left: a Boot and an Issue.
+pub fn old_file(alloc: Global) -> Result<Vec<u8>, Fail> {
+    file_from(alloc, b"XFSJRNL1\x01\x00\xC1\x42")
+}
+
+// The file after the start on an empty disk, and an issue.
+fn short_file(alloc: Global) -> Result<Vec<u8>, Fail> {
+    file_from(alloc, b"XFSJRNL2\x01\x00\xC9\x4B\0\0\0\0\0\0\0\0")
+}
+
+// The first 212 bytes of it, and a closed gate.
+fn start_file(alloc: Global) -> Result<Vec<u8>, Fail> {
     let mut bytes = short_file(alloc)?;
-    bytes.truncate(204);
+    bytes.truncate(212);
     bytes.push(0)?;
     Ok(bytes)
 }
 
 #[test]
-fn a_boot_and_an_issue_are_205_and_225_bytes(rt: HostRuntime) -> Result<(), Fail> {
+fn a_start_and_an_issue_are_213_and_233_bytes(rt: HostRuntime) -> Result<(), Fail> {
     let alloc = rt.alloc();
     let mut journal = mounted(alloc, disk(alloc, &[])?)?;
     assert!(rt; journal.reserve(2).is_ok());
-    assert!(rt; journal.append(boot(alloc)?) == Ok(1));
+    assert!(rt; journal.append(start(alloc)?) == Ok(1));
     assert!(rt;
         journal.left()
             == Limits {
                 records: 999_999,
-                bytes: 268_435_251
+                bytes: 17_179_868_971
             }
     );
     let file = journal.end();
-    assert_eq!(rt; file.bytes(), boot_file(alloc)?.as_slice());
+    assert_eq!(rt; file.bytes(), start_file(alloc)?.as_slice());
     let mut again = mounted(alloc, file)?;
     assert!(rt; again.append(issue()) == Ok(2));
     assert!(rt; !again.shut());
@@ -123,10 +133,10 @@ fn a_file_that_is_cut_is_refused_at_the_record_that_is_not_whole(
     let file = short_file(alloc)?;
     for (from, to, answer) in [
         (0, 10, Ok(0)),
-        (10, 204, Err(8)),
-        (204, 224, Err(204)),
-        (224, 225, Err(224)),
-        (225, 226, Ok(2)),
+        (10, 212, Err(8)),
+        (212, 232, Err(212)),
+        (232, 233, Err(232)),
+        (233, 234, Ok(2)),
     ] {
         for len in from..to {
             let prefix = file.get(..len).ok_or("shorter")?;
@@ -135,6 +145,18 @@ fn a_file_that_is_cut_is_refused_at_the_record_that_is_not_whole(
     }
     assert_eq!(rt; count_in(alloc, &[0xFF; 9])?, Ok(0));
     assert_eq!(rt; count_in(alloc, &[0xFF; 10])?, Err(0));
+    Ok(())
+}
+
+// A Boot and an Issue, and a Start and an Issue behind them.
+#[test]
+fn boots_and_starts_stand_in_one_file(rt: HostRuntime) -> Result<(), Fail> {
+    let alloc = rt.alloc();
+    let mut bytes = old_file(alloc)?;
+    assert_eq!(rt; count_in(alloc, &bytes)?, Ok(2));
+    bytes.pop();
+    bytes.extend_from_slice(short_file(alloc)?.get(8..).ok_or("shorter")?)?;
+    assert_eq!(rt; count_in(alloc, &bytes)?, Ok(4));
     Ok(())
 }
 
@@ -165,9 +187,25 @@ fn a_body_of_another_form_is_refused(rt: HostRuntime) -> Result<(), Fail> {
     Ok(())
 }
 
+// A Start's places begin behind eight bytes: 201 bytes with its letter.
+#[test]
+fn a_start_has_201_bytes(rt: HostRuntime) -> Result<(), Fail> {
+    let alloc = rt.alloc();
+    let mut body = b"K\0\0\0\0\0\0\0\x02".to_vec(alloc)?;
+    for _ in 0..191 {
+        body.push(0)?;
+    }
+    assert!(rt; matches!(read_body(alloc, &body), Err(BodyFault::Form)));
+    body.push(0)?;
+    assert!(rt; matches!(read_body(alloc, &body), Ok(Rec::Start { issues: 2, .. })));
+    body.push(0)?;
+    assert!(rt; matches!(read_body(alloc, &body), Err(BodyFault::Form)));
+    Ok(())
+}
+
 // So many orders, each of another count; a record of 37 bytes begins at every offset of a page.
 fn orders_file(alloc: Global, count: u32) -> Result<Vec<u8>, Fail> {
-    let mut bytes = b"XFSJRNL1".to_vec(alloc)?;
+    let mut bytes = b"XFSJRNL2".to_vec(alloc)?;
     for number in 0..count {
         bytes.extend_from_slice(&[1, 0, 34, 0x4F, 2])?;
         bytes.extend_from_slice(&number.to_be_bytes())?;
@@ -217,9 +255,10 @@ fn split_block(block: &[u8]) -> Option<(&[u8], &[u8])> {
 
 // A plain reader: the whole file is one slice. It shows the records, or the place from which they are none.
 fn plain(alloc: Global, bytes: &[u8]) -> Result<Result<String, u64>, Fail> {
-    let Some(mut rest) = bytes.strip_prefix(b"XFSJRNL1".as_slice()) else {
+    let Some([_, behind @ ..]) = bytes.strip_prefix(b"XFSJRNL".as_slice()) else {
         return Ok(Err(0));
     };
+    let mut rest = behind;
     let mut records = Vec::new(alloc);
     for _ in 0..bytes.len() {
         let at = bytes.len().saturating_sub(rest.len()) as u64;
@@ -288,9 +327,9 @@ fn a_file_with_another_list_is_refused_where_it_differs(rt: HostRuntime) -> Resu
     let file = opened(&rt, "xfs_journal.test")?;
     let mut journal = mounted(alloc, FileDisk::new(file))?;
     let rows: [(usize, &[u8], u64); 5] = [
-        (204, b"\0", 204),
-        (204, b"\x01\0\x01C\0", 204),
-        (224, b"\x01\0\x01C\0", 224),
+        (212, b"\0", 212),
+        (212, b"\x01\0\x01C\0", 212),
+        (232, b"\x01\0\x01C\0", 232),
         (8, b"\x01\0", 8),
         (0, b"nothing", 8),
     ];
@@ -324,9 +363,9 @@ fn at_most_9_bytes_are_made_an_empty_journal_again(rt: HostRuntime) -> Result<()
     let mut journal = mounted(alloc, FileDisk::new(file))?;
     fs::write(&rt, "xfs_journal_short.test", b"short")?;
     assert!(rt; journal.remount() == Ok(()));
-    assert!(rt; journal.append(boot(alloc)?) == Ok(1));
+    assert!(rt; journal.append(start(alloc)?) == Ok(1));
     let bytes = fs::read(&rt, "xfs_journal_short.test")?;
-    assert_eq!(rt; bytes.as_slice(), boot_file(alloc)?.as_slice());
+    assert_eq!(rt; bytes.as_slice(), start_file(alloc)?.as_slice());
     fs::remove_file(&rt, "xfs_journal_short.test")?;
     Ok(())
 }
@@ -343,7 +382,7 @@ fn append_to(rt: &HostRuntime, path: &str, rec: Rec) -> Result<u64, Fail>
 fn a_file_that_is_opened_twice_has_the_records_of_both(rt: HostRuntime) -> Result<(), Fail> {
     let alloc = rt.alloc();
     fs::write(&rt, "xfs_journal_twice.test", b"")?;
-    assert_eq!(rt; append_to(&rt, "xfs_journal_twice.test", boot(alloc)?)?, 1);
+    assert_eq!(rt; append_to(&rt, "xfs_journal_twice.test", start(alloc)?)?, 1);
     assert_eq!(rt; append_to(&rt, "xfs_journal_twice.test", issue())?, 2);
     let bytes = fs::read(&rt, "xfs_journal_twice.test")?;
     assert_eq!(rt; bytes.as_slice(), short_file(alloc)?.as_slice());

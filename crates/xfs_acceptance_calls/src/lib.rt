@@ -24,6 +24,8 @@ mod journal_calls;
 #[cfg(test)]
 mod mechanism_calls;
 #[cfg(test)]
+mod migrate_calls;
+#[cfg(test)]
 mod motion_calls;
 #[cfg(test)]
 mod simulated_calls;

@@ -20,7 +20,7 @@ fn the_machine_is_made(rt: HostRuntime) -> Result<(), Fail> {
     let mech = mechanism(alloc, &units, Vec::new(alloc)).ok_or("the mechanism")?;
     let core = core_on(mech, units, empty(alloc), LIMITS);
     assert_eq!(rt; core.limits.records, 1_000_000);
-    assert_eq!(rt; core.limits.bytes, 268_435_456);
+    assert_eq!(rt; core.limits.bytes, 17_179_869_184);
     assert_eq!(rt; places(), full());
     Ok(())
 }

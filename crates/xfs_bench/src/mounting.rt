@@ -15,7 +15,7 @@ pub(crate) fn mounted(alloc: Global, records: u64) -> Option<u64> {
 
 // The bytes of a journal of so many records, by turns an Issue and a Clear.
 fn journal_bytes(alloc: Global, records: u64) -> Result<Vec<u8>, AllocError> {
-    let mut bytes = Vec::from_slice(alloc, b"XFSJRNL1")?;
+    let mut bytes = Vec::from_slice(alloc, b"XFSJRNL2")?;
     for place in 0..records {
         if place % 2 == 0 {
             bytes.extend_from_slice(&[1, 0, 17, b'I'])?;

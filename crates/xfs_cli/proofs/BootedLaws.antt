@@ -1,5 +1,5 @@
 -- What was written from the boot on, once the mechanism and the disk come back.
-use Rattle.std.proofs.Common.{◌≡◌, ◌≤◌, ℕ, false, ◌∷◌, [], ◌++◌, List, None, Some, inl, inr, refl, sym, ◌∙◌, ap, subst, arith}
+use Rattle.std.proofs.Common.{◌≡◌, ◌≤◌, ℕ, false, List, None, Some, inl, inr, refl, sym, ◌∙◌, ap, subst, arith}
 use Rattle.std.specs.Prelude.{is_some}
 use Rattle.std.specs.declared.option.Option.{Option}
 use Rattle.xfs_base.specs.Causes.{IfTold, Rose}
@@ -7,7 +7,7 @@ use Rattle.xfs_base.specs.declared.counts.Places.{Places}
 use Rattle.xfs_journal.specs.JournalView.{HasPossible}
 use Rattle.xfs_journal.specs.Image.{StandsFor}
 use Rattle.xfs_journal.specs.declared.record.Rec.{Rec}
-use Rattle.xfs_journal.specs.declared.record.Rec.TheVariants.{Boot}
+use Rattle.xfs_journal.specs.Journal.{with_boot}
 use Rattle.xfs_guard.specs.View.{View, GuardView}
 use Rattle.xfs_guard.proofs.ContinueLaws.{only-possible}
 use Rattle.xfs_cli.specs.Boots.{EndsFailed, BootExceeds, EndsFull, WritesBoot, boot_status}
@@ -99,7 +99,7 @@ module _ {S A : Type 0} (c : Command S BootFault) (see : S → GuardState) (rest
   pub left-full : (start : A) (status : ℕ) (end : S) → EndsUnbooted Keeps state c start status end → status ≡ 12 → IsFull (see end).guard
   left-full start status end u twelve = (full-then status u.why (see (state u.after.before)) (see end) u.status_is (fails start status end u) twelve).1
 
--- a guard whose Boot has no room leaves a disk that reads as its list
+-- a guard whose boot record has no room leaves a disk that reads as its list
 pub full-end : (v : View) (limits : Limits) (places : Places) (held : Option (List ℕ)) (images : List ℕ → Type 0) → v.limits ≡ limits → places ≡ v.places
     → ((bytes : List ℕ) → held ≡ Some bytes → images bytes) → IfTold held (λ _. (bytes : List ℕ) → images bytes → HasPossible v.records v.in_doubt bytes) → IsFull v → IsFullAtEnd limits places held
 full-end v limits places held images l p read stored full = record { records = v.records; stands = go held read stored; exceeds_limit = rw (← l, p) full.exceeds_limit }
@@ -122,7 +122,7 @@ told-any (Some x) Q all = all x
 
 -- the start of a run
 pub starts-run : {D : Type 0} (faults : D → ℕ) (g : GuardView D) (e : AtEntry) (J : List Rec)
-    → IfTold e.held (λ bytes. StandsFor bytes J) → g.state ≡ opened e (J ++ Boot e.places ∷ []) → e.disk_faults ≤ faults g.disk → IsStart e (guard_state faults g None)
+    → IfTold e.held (λ bytes. StandsFor bytes J) → g.state ≡ opened e (with_boot J e.places) → e.disk_faults ≤ faults g.disk → IsStart e (guard_state faults g None)
 starts-run faults g e J stands is later = record { records = J; stands = stands; guard_is = is; later = later; none = refl }
 
 pub none-told : {T : Type 0} (held : Option T) → is_some held ≡ false → held ≡ None
@@ -137,7 +137,7 @@ ends-failed Disk faults now io status is written failed six = record { cause = f
 ends-failed Full faults now io status is written failed six = absurd (omega (arith, is, six))
 ends-failed BootMemory faults now io status is written failed six = absurd (omega (arith, is, six))
 
--- a refused boot whose Boot passes a limit
+-- a refused boot whose boot record passes a limit
 pub ends-full : (why : BootFault) (limits : Limits) (places : Places) (held : Option (List ℕ)) (io : Streams) (status : ℕ) → status ≡ boot_status why → WritesBoot why io
     → (why ≡ Full → (J : List Rec) × IfTold held (λ bytes. StandsFor bytes J) × BootExceeds limits places J) → status ≡ 12 → EndsFull limits places held io
 ends-full (NotJournal at) limits places held io status is written full twelve = absurd (omega (arith, is, twelve))
@@ -145,7 +145,7 @@ ends-full Disk limits places held io status is written full twelve = absurd (ome
 ends-full Full limits places held io status is written full twelve = let f = full refl in record { records = f.0; stands = f.1; exceeds_limit = f.2; written = written }
 ends-full BootMemory limits places held io status is written full twelve = absurd (omega (arith, is, twelve))
 
--- under status 12 a restart found no room for its Boot
+-- under status 12 a restart found no room for its boot record
 pub full-line : {S : Type 0} (c : Command S BootFault) (see : S → GuardState) → EndsAtRestarts c see → (IsStartOf : S → Type 0) (Still : GuardState → Type 0) (start end : S) (status : ℕ) (io : Streams) → IsStartOf start
     → ((s : GuardState) → IsStill (see end).guard.motions (see end).guard.places (see end).guard.faults (see end).disk_faults s → Still s)
     → IfTold io.input (Serves c start end status io) → status ≡ 12 → IfTold io.input (HasFullRestart c see IsStartOf Still)

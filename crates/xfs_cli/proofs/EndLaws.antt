@@ -112,7 +112,7 @@ causes-refused IsLineOf HasNoRoomAt why status left left' held limits places sou
         go (Some text) (Some bytes) J stood over = λ K stands. inl (rw (stands_for_one bytes K J stands stood) over)
     twelve NoMemory e full = absurd (omega (arith, e))
 
--- the Boot of a restart may pass a limit
+-- the boot record of a restart may pass a limit
 pub full-restart : (IsLineOf HasNoRoomAt : List ℕ → Type 0) (left held : Option (List ℕ)) (limits : Limits) (places : Places) → IfTold left HasNoRoomAt
     → IfTold left (λ text. IfTold held (λ bytes. (J : List Rec) → StandsFor bytes J → BootExceeds limits places J ⊎ HasNoRoomAt text))
 full-restart IsLineOf HasNoRoomAt None held limits places has = tt

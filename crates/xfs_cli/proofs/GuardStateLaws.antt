@@ -9,9 +9,9 @@ use Rattle.xfs_base.specs.declared.counts.Counts.{Counts}
 use Rattle.xfs_base.specs.declared.money.NoteKind.{NoteKind}
 use Rattle.xfs_mix.specs.Asked.{count_fault, is_none, first_short}
 use Rattle.xfs_mix.specs.declared.asked.CountFault.TheVariants.{Empty, TooMany, Short}
-use Rattle.xfs_journal.specs.Journal.{next_issue, nonce_text}
+use Rattle.xfs_journal.specs.Journal.{next_issue, nonce_text, with_boot}
 use Rattle.xfs_journal.specs.declared.record.Rec.{Rec}
-use Rattle.xfs_journal.specs.declared.record.Rec.TheVariants.{Issue, Clear, Boot}
+use Rattle.xfs_journal.specs.declared.record.Rec.TheVariants.{Issue, Clear}
 use Rattle.xfs_disk.specs.declared.disk.Disk.{Ghosts}
 use Rattle.xfs_guard.specs.Keeps.{Proceeds}
 use Rattle.xfs_guard.specs.View.{View, GuardView, reread, unbooted, unread}
@@ -190,9 +190,9 @@ fault-through (Err e) given fault err is = ap (λ d. Err d) (sym err ∙ err-fau
 abbrev pub IsFault : BootFault → BootFault → Type 0
 IsFault why fault = ◌≡◌ {A = Result (Unit {0}) BootFault} (Err why) (Err fault)
 
--- a restart found no room for its Boot
+-- a restart found no room for its boot record
 abbrev FindsFull : View → View → Type 0
-FindsFull old new = (J : List Rec) × IsPossible old.records old.in_doubt J × (exceeds old.limits (J ++ Boot old.places ∷ []) ≡ true)
+FindsFull old new = (J : List Rec) × IsPossible old.records old.in_doubt J × (exceeds old.limits (with_boot J old.places) ≡ true)
     × (new ≡ reread old J)
 
 -- a call that changes nothing of the mechanism

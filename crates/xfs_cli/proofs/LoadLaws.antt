@@ -1,5 +1,5 @@
 -- A run of `load` is as its record says: where its rounds were played, and where the boot was refused.
-use Rattle.std.proofs.Common.{◌≡◌, ◌≢◌, ◌∷◌, [], ◌++◌, ◌⊎◌, ℕ, List, None, Some, inl, inr, refl, arith, ◌≤◌, length}
+use Rattle.std.proofs.Common.{◌≡◌, ◌≢◌, ◌∷◌, [], ◌⊎◌, ℕ, List, None, Some, inl, inr, refl, arith, ◌≤◌, length}
 use Rattle.std.specs.declared.option.Option.{Option}
 use Rattle.xfs_base.specs.Causes.{IfTold, Rose}
 use Rattle.xfs_base.specs.declared.counts.Places.{Places}
@@ -9,7 +9,7 @@ use Rattle.xfs_journal.specs.Image.{StandsFor}
 use Rattle.xfs_journal.specs.Paging.{CeasesAt}
 use Rattle.xfs_journal.specs.declared.limits.Limits.{Limits}
 use Rattle.xfs_journal.specs.declared.record.Rec.{Rec}
-use Rattle.xfs_journal.specs.declared.record.Rec.TheVariants.{Boot}
+use Rattle.xfs_journal.specs.Journal.{with_boot}
 use Rattle.xfs_journal.proofs.Unique.{stands_for_one}
 use Rattle.xfs_guard.specs.Keeps.{Proceeds}
 use Rattle.xfs_guard.specs.declared.fail.BootFault.{BootFault}
@@ -93,7 +93,7 @@ loads-served m d as_read core rounds result io start end b tied bare_is proceeds
   write = λ five. cause five;
   disk_fault = λ six. absurd (no 6 six (omega arith) (omega arith) (omega arith));
   boots_once = boots-served m d core (guard_of start) result io b (λ seven. no 7 seven (omega arith) (omega arith) (omega arith)) (λ twelve. no 12 twelve (omega arith) (omega arith) (omega arith));
-  newer = newer-run (opened (at_entry m d core) (b.records ++ Boot (m.places core.mech) ∷ [])) (guard_of end).state b.records _ _ _ refl refl b.stands starts (as_read core.disk) (rw b.guard_is at proceeds.continues) e.motions;
+  newer = newer-run (opened (at_entry m d core) (with_boot b.records (m.places core.mech))) (guard_of end).state b.records _ _ _ refl refl b.stands starts (as_read core.disk) (rw b.guard_is at proceeds.continues) e.motions;
   finishes = λ sink disk. told-any (d.held core.disk) _ (λ bytes J stands fits. done sink);
 }
   where

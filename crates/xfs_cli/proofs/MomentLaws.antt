@@ -1,5 +1,5 @@
 -- What a crash leaves at any moment of a run goes on from the records at entry.
-use Rattle.std.proofs.Common.{◌≡◌, ◌⊎◌, inl, inr, ⊎_elim, ℕ, ◌≤◌, true, List, [], ◌∷◌, ◌++◌, Some, refl, sym, ◌∙◌, ap}
+use Rattle.std.proofs.Common.{◌≡◌, ◌⊎◌, inl, inr, ⊎_elim, ℕ, ◌≤◌, true, List, Some, refl, sym, ◌∙◌, ap}
 use Rattle.std.specs.Prelude.{is_some}
 use Rattle.std.specs.declared.option.Option.{Option}
 use Rattle.xfs_base.specs.Causes.{IfTold}
@@ -12,7 +12,7 @@ use Rattle.xfs_mech.specs.declared.motion.Motion.{Motion}
 use Rattle.xfs_journal.specs.Image.{StandsFor}
 use Rattle.xfs_journal.specs.JournalView.{IsPossible, StandsForEither}
 use Rattle.xfs_journal.specs.declared.record.Rec.{Rec}
-use Rattle.xfs_journal.specs.declared.record.Rec.TheVariants.{Boot}
+use Rattle.xfs_journal.specs.Journal.{boot_of, with_boot}
 use Rattle.xfs_journal.proofs.Moments.{started, weaken, joins}
 use Rattle.xfs_journal.proofs.Told.{on_told, from_told}
 use Rattle.xfs_journal.proofs.Unique.{stands_for_one}
@@ -49,8 +49,8 @@ module _ {D : Type 0} (g : Ghosts D)
       same_bytes : (now bytes : List ℕ) → g.held old ≡ Some now → g.held old ≡ Some bytes → now ≡ bytes
       same_bytes now bytes is told = let e : Some now ≡ Some bytes = sym is ∙ told in cc
 
-  -- an image of a boot stands for the list at entry, or for that with the Boot
-  booted-either : (old : D) (bytes : List ℕ) (J : List Rec) (p : Places) (c : List ℕ) → Only bytes (g.images old) → StandsFor bytes J → IsOldOrBooted (g.images old) bytes p c → StandsForEither J (Boot p) c
+  -- an image of a boot stands for the list at entry, or for that with the boot record
+  booted-either : (old : D) (bytes : List ℕ) (J : List Rec) (p : Places) (c : List ℕ) → Only bytes (g.images old) → StandsFor bytes J → IsOldOrBooted (g.images old) bytes p c → StandsForEither J (boot_of J p) c
   booted-either old bytes J p c rest stands (inl was) = inl (rw (rest c was) stands)
   booted-either old bytes J p c rest stands (inr (K, found, either)) = rw (stands_for_one bytes J K stands found) either
 
@@ -58,44 +58,44 @@ module _ {D : Type 0} (g : Ghosts D)
   pub moments-refused : (old new : D) (key : List ℕ) (units : List NoteKind) (motions : Option (List Motion)) (p : Places)
       → Starts (g.held old) (g.images old) key units motions → AtRest (g.held old) (g.images old)
       → IfTold (g.held old) (λ all. LeavesOnly g old new (IsOldOrBooted (g.images old) all p))
-      → IfTold (g.held old) (λ _. (J : List Rec) → ((c : List ℕ) → g.images old c → StandsFor c J) → (c : List ℕ) → g.images new c → StandsForEither J (Boot p) c)
+      → IfTold (g.held old) (λ _. (J : List Rec) → ((c : List ℕ) → g.images old c → StandsFor c J) → (c : List ℕ) → g.images new c → StandsForEither J (boot_of J p) c)
       → WasOnTheWayAll g old new motions
   moments-refused old new key units motions p starts rest leaves either = on_told (g.held old) (λ bytes. (J : List Rec) → StandsFor bytes J → LeavesOnly g old new (WasOnTheWay J (g.held new) motions)) (λ bytes told J stands.
       let only = from_told (g.held old) (λ b. Only b (g.images old)) rest bytes told in
       let recorded : IsRecorded key units J motions = from_told (g.held old) (λ _. (c : List ℕ) → g.images old c → (K : List Rec) → StandsFor c K → IsRecorded key units K motions) starts bytes told bytes (as_read old bytes told) J stands in
-      let now = from_told (g.held old) (λ _. (K : List Rec) → ((c : List ℕ) → g.images old c → StandsFor c K) → (c : List ℕ) → g.images new c → StandsForEither K (Boot p) c) either bytes told J (λ c was. rw (only c was) stands) in
+      let now = from_told (g.held old) (λ _. (K : List Rec) → ((c : List ℕ) → g.images old c → StandsFor c K) → (c : List ℕ) → g.images new c → StandsForEither K (boot_of K p) c) either bytes told J (λ c was. rw (only c was) stands) in
       weaken g old new (IsOldOrBooted (g.images old) bytes p) (WasOnTheWay J (g.held new) motions) (λ c is. on_the_way J c recorded now (booted-either old bytes J p c only stands is))
       (from_told (g.held old) (λ all. LeavesOnly g old new (IsOldOrBooted (g.images old) all p)) leaves bytes told))
     where
       -- what the disk reads as is one of the two lists
-      possible : (J R : List Rec) (now : List ℕ) → StandsForEither J (Boot p) now → StandsFor now R → IsPossible J (Some (Boot p)) R
+      possible : (J R : List Rec) (now : List ℕ) → StandsForEither J (boot_of J p) now → StandsFor now R → IsPossible J (Some (boot_of J p)) R
       possible J R now (inl is) reads = inl (stands_for_one now R J reads is)
-      possible J R now (inr is) reads = inr (Boot p, refl, stands_for_one now R (J ++ Boot p ∷ []) reads is)
+      possible J R now (inr is) reads = inr (boot_of J p, refl, stands_for_one now R (with_boot J p) reads is)
 
-      agreed : (J R : List Rec) → IsRecorded key units J motions → IsPossible J (Some (Boot p)) R → IsRecorded key units R motions
+      agreed : (J R : List Rec) → IsRecorded key units J motions → IsPossible J (Some (boot_of J p)) R → IsRecorded key units R motions
       agreed J R recorded (inl is) = rw is recorded
-      agreed J R recorded (inr (r, doubt, is)) = rw (is, (let e : Some r ≡ Some (Boot p) = sym doubt in some_same r (Boot p) e)) (IsRecorded-boot key units J p motions recorded)
+      agreed J R recorded (inr (r, doubt, is)) = rw (is, (let e : Some r ≡ Some (boot_of J p) = sym doubt in some_same r (boot_of J p) e)) (IsRecorded-boot key units J p motions recorded)
         where
           some_same : (a b : Rec) → Some a ≡ Some b → a ≡ b
           some_same a b e = cc
 
-      front : (J X : List Rec) → IsRecorded key units J motions → ((c : List ℕ) → g.images new c → StandsForEither J (Boot p) c) → IsCrashOutcome J (Some (Boot p)) true X
+      front : (J X : List Rec) → IsRecorded key units J motions → ((c : List ℕ) → g.images new c → StandsForEither J (boot_of J p) c) → IsCrashOutcome J (Some (boot_of J p)) true X
           → IfTold (g.held new) (λ now. (R : List Rec) → StandsFor now R → IsFront R motions X)
       front J X recorded each left = on_told (g.held new) (λ now. (R : List Rec) → StandsFor now R → IsFront R motions X) (λ now is R reads.
-          let one = possible J R now (each now (as_read new now is)) reads in left-front J (Some (Boot p)) true X R motions left one (agreed J R recorded one).agrees)
+          let one = possible J R now (each now (as_read new now is)) reads in left-front J (Some (boot_of J p)) true X R motions left one (agreed J R recorded one).agrees)
 
-      on_the_way : (J : List Rec) (c : List ℕ) → IsRecorded key units J motions → ((d : List ℕ) → g.images new d → StandsForEither J (Boot p) d) → StandsForEither J (Boot p) c → WasOnTheWay J (g.held new) motions c
+      on_the_way : (J : List Rec) (c : List ℕ) → IsRecorded key units J motions → ((d : List ℕ) → g.images new d → StandsForEither J (boot_of J p) d) → StandsForEither J (boot_of J p) c → WasOnTheWay J (g.held new) motions c
       on_the_way J c recorded each (inl is) = record { list = J; stands = is; begins = begins-same J; front = front J J recorded each (inl (begins-same J)) }
       on_the_way J c recorded each (inr is) = record {
-        list = J ++ Boot p ∷ [];
+        list = with_boot J p;
         stands = is;
-        begins = begins-push J J (Boot p) (begins-same J);
-        front = front J (J ++ Boot p ∷ []) recorded each (inr (IsTorn-in_doubt J (Boot p)));
+        begins = begins-push J J (boot_of J p) (begins-same J);
+        front = front J (with_boot J p) recorded each (inr (IsTorn-in_doubt J (boot_of J p)));
       }
 
   -- the guard was booted, and lines were answered
   pub moments-run : (old : D) (first last : GuardView D) (J0 : List Rec) (p : Places) (motions : Option (List Motion)) → ((d : D) (t : ℕ) (c : List ℕ) → t ≤ g.moment d → g.images d c → g.images_since d t c)
-      → AtRest (g.held old) (g.images old) → first.state.records ≡ J0 ++ Boot p ∷ [] → IfTold (g.held old) (λ bytes. StandsFor bytes J0) → is_some (g.held first.disk) ≡ is_some (g.held old)
+      → AtRest (g.held old) (g.images old) → first.state.records ≡ with_boot J0 p → IfTold (g.held old) (λ bytes. StandsFor bytes J0) → is_some (g.held first.disk) ≡ is_some (g.held old)
       → IfTold (g.held old) (λ all. LeavesOnly g old first.disk (IsOldOrBooted (g.images old) all p))
       → Continues first.state last.state → LeavesBehind g first last → IsStored g last.disk last.state.records last.state.in_doubt
       → ((J : List Rec) → MayLeave g last.disk J → IsRecorded last.state.key last.state.units J last.state.motions) → motions ≡ last.state.motions
@@ -119,19 +119,19 @@ module _ {D : Type 0} (g : Ghosts D)
           (left-possible g last.disk last.state.records last.state.in_doubt stored R may) (recorded R may).agrees))
 
       -- what was left in the boot is a front of its records
-      early : (c : List ℕ) → StandsForEither J0 (Boot p) c → WasOnTheWay J0 (g.held last.disk) motions c
-      early c (inl is) = record { list = J0; stands = is; begins = begins-same J0; front = front J0 (continues.left J0 (inl (rw booted (begins-push J0 J0 (Boot p) (begins-same J0))))) }
+      early : (c : List ℕ) → StandsForEither J0 (boot_of J0 p) c → WasOnTheWay J0 (g.held last.disk) motions c
+      early c (inl is) = record { list = J0; stands = is; begins = begins-same J0; front = front J0 (continues.left J0 (inl (rw booted (begins-push J0 J0 (boot_of J0 p) (begins-same J0))))) }
       early c (inr is) = record {
-        list = J0 ++ Boot p ∷ [];
+        list = with_boot J0 p;
         stands = is;
-        begins = begins-push J0 J0 (Boot p) (begins-same J0);
-        front = front (J0 ++ Boot p ∷ []) (continues.left (J0 ++ Boot p ∷ []) (inl (rw booted (begins-same (J0 ++ Boot p ∷ [])))));
+        begins = begins-push J0 J0 (boot_of J0 p) (begins-same J0);
+        front = front (with_boot J0 p) (continues.left (with_boot J0 p) (inl (rw booted (begins-same (with_boot J0 p)))));
       }
 
       late : (c : List ℕ) → StandsLeft first.state last.state c → WasOnTheWay J0 (g.held last.disk) motions c
       late c s = record {
         list = s.list;
         stands = s.stands;
-        begins = begins-trans J0 first.state.records s.list (rw booted (begins-push J0 J0 (Boot p) (begins-same J0))) s.begins;
+        begins = begins-trans J0 first.state.records s.list (rw booted (begins-push J0 J0 (boot_of J0 p) (begins-same J0))) s.begins;
         front = front s.list s.left;
       }

@@ -1,5 +1,5 @@
 -- The headline of a run: from what the disk's bytes stood for at entry, and from what its guard kept.
-use Rattle.std.proofs.Common.{◌≡◌, inl, inr, ℕ, true, false, List, [], ◌∷◌, ◌++◌, None, Some, refl, sym, ◌∙◌, arith}
+use Rattle.std.proofs.Common.{◌≡◌, inl, inr, ℕ, true, false, List, None, Some, refl, sym, ◌∙◌, arith}
 use Rattle.std.specs.Prelude.{is_some}
 use Rattle.std.specs.declared.option.Option.{Option}
 use Rattle.xfs_base.specs.Causes.{IfTold}
@@ -13,7 +13,8 @@ use Rattle.xfs_journal.specs.JournalView.{IsPossible, HasPossible, StandsForEith
 use Rattle.xfs_journal.specs.Paging.{CeasesAt}
 use Rattle.xfs_journal.specs.declared.limits.Limits.{Limits}
 use Rattle.xfs_journal.specs.declared.record.Rec.{Rec}
-use Rattle.xfs_journal.specs.declared.record.Rec.TheVariants.{Boot}
+use Rattle.xfs_journal.specs.Journal.{boot_of, with_boot}
+use Rattle.xfs_journal.proofs.StartLaws.{boot_of-only}
 use Rattle.xfs_journal.proofs.Unique.{stands_for_one}
 use Rattle.xfs_guard.specs.Continues.{Continues, Leads}
 use Rattle.xfs_guard.specs.Recorded.{IsRecorded}
@@ -33,9 +34,9 @@ follows-same : (J : List Rec) (L : Option (List Motion)) (P : Places) → Follow
 follows-same J None P = tt
 follows-same J (Some l) P = Follows-same J l P
 
-follows-boot : (J : List Rec) (L : Option (List Motion)) (P : Places) → FollowsWhereTold J L P (J ++ Boot P ∷ []) L P
+follows-boot : (J : List Rec) (L : Option (List Motion)) (P : Places) → FollowsWhereTold J L P (with_boot J P) L P
 follows-boot J None P = tt
-follows-boot J (Some l) P = Follows-record J (Boot P) l P (λ p e. cc)
+follows-boot J (Some l) P = Follows-record J (boot_of J P) l P (boot_of-only J P)
 
 -- the condition at entry
 abbrev pub Starts : Option (List ℕ) → (List ℕ → Type 0) → List ℕ → List NoteKind → Option (List Motion) → Type 0
@@ -67,10 +68,10 @@ upholds-same (Some bytes) images key units L P starts rest = λ J stands c image
       follows = follows-same J L P;
     }
 
--- what a refused boot left, over images that stand for the list or for that one with the Boot
+-- what a refused boot left, over images that stand for the list or for that one with the boot record
 pub upholds-refused : (held held' : Option (List ℕ)) (images images' : List ℕ → Type 0) (key : List ℕ) (units : List NoteKind) (L : Option (List Motion)) (P : Places)
     → Starts held images key units L → AtRest held images → ((bytes : List ℕ) → held ≡ Some bytes → images bytes)
-    → IfTold held (λ _. (J : List Rec) → ((c : List ℕ) → images c → StandsFor c J) → (c : List ℕ) → images' c → StandsForEither J (Boot P) c)
+    → IfTold held (λ _. (J : List Rec) → ((c : List ℕ) → images c → StandsFor c J) → (c : List ℕ) → images' c → StandsForEither J (boot_of J P) c)
     → UpholdsAll held held' images' key units L P L P
 upholds-refused None held' images images' key units L P starts rest read left = tt
 upholds-refused (Some bytes) None images images' key units L P starts rest read left = λ J stands. tt
@@ -78,15 +79,15 @@ upholds-refused (Some bytes) (Some now) images images' key units L P starts rest
     let old : IsRecorded key units J L = starts bytes (read bytes refl) J stands in
     elim (left J (λ d is. rw (rest d is) stands) c image) [
       | inl same ↦ record { records = J; stands = same; recorded = old; follows = follows-same J L P }
-      | inr booted ↦ record { records = J ++ Boot P ∷ []; stands = booted; recorded = IsRecorded-boot key units J P L old; follows = follows-boot J L P }
+      | inr booted ↦ record { records = with_boot J P; stands = booted; recorded = IsRecorded-boot key units J P L old; follows = follows-boot J L P }
     ]
 
 -- from the boot to the end
-follows-run : (first last : View) (J0 J : List Rec) → first.records ≡ J0 ++ Boot first.places ∷ [] → first.in_doubt ≡ None
+follows-run : (first last : View) (J0 J : List Rec) → first.records ≡ with_boot J0 first.places → first.in_doubt ≡ None
     → Continues first last → IsPossible last.records last.in_doubt J → FollowsWhereTold J0 first.motions first.places J last.motions last.places
 follows-run first last J0 J booted clean continues possible =
     where_told first.motions last.motions (leads-on first last J0 first.motions first.places continues (λ K is. rw (only-possible first.records K first.in_doubt clean is, booted)
-    (leads-record first.motions J0 (Boot first.places) first.places (λ p e. cc))) J possible)
+    (leads-record first.motions J0 (boot_of J0 first.places) first.places (boot_of-only J0 first.places))) J possible)
   where
     where_told : (before now : Option (List Motion)) → Leads J0 before first.places J now last.places → FollowsWhereTold J0 before first.places J now last.places
     where_told None now leads = tt
@@ -95,7 +96,7 @@ follows-run first last J0 J booted clean continues possible =
 
 -- the headline of a run whose boot was not refused
 pub upholds-run : (first last : View) (J0 : List Rec) (held held' : Option (List ℕ)) (images images' : List ℕ → Type 0) (told : Option (List Motion)) (places : Places)
-    → first.records ≡ J0 ++ Boot first.places ∷ [] → first.in_doubt ≡ None → IfTold held (λ bytes. StandsFor bytes J0)
+    → first.records ≡ with_boot J0 first.places → first.in_doubt ≡ None → IfTold held (λ bytes. StandsFor bytes J0)
     → Starts held images first.key first.units first.motions → ((bytes : List ℕ) → held ≡ Some bytes → images bytes)
     → Continues first last → IfTold held' (λ _. (c : List ℕ) → images' c → HasPossible last.records last.in_doubt c)
     → (is_some held' ≡ true → (c : List ℕ) → images' c → (J : List Rec) → StandsFor c J → IsRecorded last.key last.units J last.motions)
@@ -114,14 +115,14 @@ upholds-run first last J0 (Some bytes) (Some now) images images' told places boo
       follows = follows-run first last J0 kept.0 booted clean c kept.1;
     })
 
--- a Boot that was written passed no limit
-pub fits-run : (limits : Limits) (P : Places) (first : View) (J0 : List Rec) (held : Option (List ℕ)) (X : Type 0) → first.records ≡ J0 ++ Boot P ∷ [] → IfTold held (λ bytes. StandsFor bytes J0)
+-- a boot record that was written passed no limit
+pub fits-run : (limits : Limits) (P : Places) (first : View) (J0 : List Rec) (held : Option (List ℕ)) (X : Type 0) → first.records ≡ with_boot J0 P → IfTold held (λ bytes. StandsFor bytes J0)
     → exceeds limits first.records ≡ false → IfTold held (λ bytes. (J : List Rec) → StandsFor bytes J → BootExceeds limits P J → X)
 fits-run limits P first J0 None X booted stood fits = tt
 fits-run limits P first J0 (Some bytes) X booted stood fits = λ J stands over.
     let same : J ≡ J0 = stands_for_one bytes J J0 stands stood in
-    let is : exceeds limits (J0 ++ Boot P ∷ []) ≡ true = rw same at over in
-    let no : exceeds limits (J0 ++ Boot P ∷ []) ≡ false = rw booted at fits in
+    let is : exceeds limits (with_boot J0 P) ≡ true = rw same at over in
+    let no : exceeds limits (with_boot J0 P) ≡ false = rw booted at fits in
     absurd (let e : true ≡ false = sym is ∙ no in cc)
 
 -- where a list stands for the bytes, they are a journal

@@ -1,5 +1,5 @@
 -- A run of a command that boots is as its record says: where its lines were served, and where the boot was refused.
-use Rattle.std.proofs.Common.{◌≡◌, ◌≤◌, ◌∷◌, [], ◌++◌, ℕ, false, true, List, None, Some, inl, inr, refl, sym, ◌∙◌, ap, arith}
+use Rattle.std.proofs.Common.{◌≡◌, ◌≤◌, [], ℕ, false, true, List, None, Some, inl, inr, refl, sym, ◌∙◌, ap, arith}
 use Rattle.std.specs.declared.option.Option.{Option}
 use Rattle.xfs_base.specs.Causes.{IfTold, Rose}
 use Rattle.xfs_disk.specs.declared.disk.Disk.{Ghosts as Disks}
@@ -8,7 +8,7 @@ use Rattle.xfs_journal.specs.Image.{StandsFor}
 use Rattle.xfs_journal.specs.JournalView.{HasPossible, exceeds}
 use Rattle.xfs_journal.specs.Paging.{CeasesAt, IsQuiet}
 use Rattle.xfs_journal.specs.declared.record.Rec.{Rec}
-use Rattle.xfs_journal.specs.declared.record.Rec.TheVariants.{Boot}
+use Rattle.xfs_journal.specs.Journal.{with_boot}
 use Rattle.xfs_guard.specs.Continues.{Continues}
 use Rattle.xfs_guard.specs.Keeps.{Proceeds}
 use Rattle.xfs_guard.specs.View.{View, GuardView}
@@ -34,11 +34,11 @@ use Rattle.xfs_cli.proofs.NumberLaws.{newer-run, newer-same}
 use Rattle.xfs_cli.proofs.RunLaws.{Starts, ends-unread, due-full, due-unread, journal-run, fits-run}
 use Rattle.xfs_cli.proofs.UnreadLaws.{unwritten-quiet}
 
--- a boot found this list and wrote its Boot behind it
+-- a boot found this list and wrote its boot record behind it
 pub record HasBooted {M D : Type 0} (m : Mechanisms M) (d : Disks D) (core : Core M D) (g : GuardView D) : Type 0 where
   pub records : List Rec
   pub stands : IfTold (d.held core.disk) (λ bytes. StandsFor bytes records)
-  pub guard_is : g.state ≡ opened (at_entry m d core) (records ++ Boot (m.places core.mech) ∷ [])
+  pub guard_is : g.state ≡ opened (at_entry m d core) (with_boot records (m.places core.mech))
   pub later : d.faults core.disk ≤ d.faults g.disk
   pub fits : exceeds core.limits g.state.records ≡ false
 
@@ -89,7 +89,7 @@ module _ {M D S A : Type 0} (m : Mechanisms M) (d : Disks D) (c : Command S Boot
     unwritten = journal-run b.records _ _ b.stands;
     unmoved = journal-run b.records _ _ b.stands;
     overfull = fits-run _ _ (guard start).state b.records _ _ (ap (λ (v : View). v.records) b.guard_is) b.stands b.fits;
-    newer = newer-run (opened (at_entry m d core) (b.records ++ Boot (m.places core.mech) ∷ [])) (guard end).state b.records _ _ _ refl refl b.stands starts (as_read core.disk) (rw b.guard_is at continues) e.motions;
+    newer = newer-run (opened (at_entry m d core) (with_boot b.records (m.places core.mech))) (guard end).state b.records _ _ _ refl refl b.stands starts (as_read core.disk) (rw b.guard_is at continues) e.motions;
     finishes = λ none. finishes _ _ empty _ _ io.left _ _ _ _ _ _ (causes-served _ _ _ _ _ _ _ _ _ _ _ s.statuses s.usage failed untold
         (λ twelve. full-line c see restarts IsStartOf _ (state start) (state end) result.status io begins
         (λ x. still-at m d result (see (state end)) x ends)
@@ -122,7 +122,7 @@ module _ {M D S A : Type 0} (m : Mechanisms M) (d : Disks D) (c : Command S Boot
 pub record IsRefused {M D : Type 0} (m : Mechanisms M) (d : Disks D) (core : Core M D) (why : BootFault) (mech : M) (disk : D) : Type 0 where
   pub mech_is : mech ≡ core.mech
   pub not_journal : (at : ℕ) → why ≡ NotJournal at → IfTold (d.held core.disk) (λ all. CeasesAt all at × ((records : List Rec) → ¬ StandsFor all records))
-  pub full : why ≡ Full → (records : List Rec) × IfTold (d.held core.disk) (λ all. StandsFor all records) × (exceeds core.limits (records ++ Boot (m.places core.mech) ∷ []) ≡ true)
+  pub full : why ≡ Full → (records : List Rec) × IfTold (d.held core.disk) (λ all. StandsFor all records) × (exceeds core.limits (with_boot records (m.places core.mech)) ≡ true)
   pub failed : why ≡ Disk → Rose (d.faults core.disk) (d.faults disk)
   pub unlisted : IfTold (d.held core.disk) (λ all. ((records : List Rec) → ¬ StandsFor all records) → IsQuiet d core.disk disk)
 

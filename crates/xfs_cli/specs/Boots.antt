@@ -1,5 +1,5 @@
 -- How a command ends whose boot is refused: status 6, 7, 8 or 12, and its last line.
-use Rattle.std.specs.Prelude.{◌≡◌, ◌⊎◌, ℕ, true, List, [], ◌∷◌, ◌++◌}
+use Rattle.std.specs.Prelude.{◌≡◌, ◌⊎◌, ℕ, true, List}
 use Rattle.std.specs.declared.option.Option.{Option}
 use Rattle.xfs_base.specs.Causes.{Rose, IfTold}
 use Rattle.xfs_base.specs.declared.counts.Places.{Places}
@@ -9,7 +9,7 @@ use Rattle.xfs_journal.specs.JournalView.{exceeds}
 use Rattle.xfs_journal.specs.Paging.{CeasesAt}
 use Rattle.xfs_journal.specs.declared.limits.Limits.{Limits}
 use Rattle.xfs_journal.specs.declared.record.Rec.{Rec}
-use Rattle.xfs_journal.specs.declared.record.Rec.TheVariants.{Boot}
+use Rattle.xfs_journal.specs.Journal.{with_boot}
 use Rattle.xfs_guard.specs.declared.fail.BootFault.{BootFault}
 use Rattle.xfs_guard.specs.declared.fail.BootFault.TheVariants.{NotJournal, Disk, Full}
 use Rattle.xfs_cli.specs.Served.{WritesLast}
@@ -36,11 +36,11 @@ pub record EndsFailed (faults now : ℕ) (io : Streams) : Type 0 where
   pub cause : Rose faults now
   pub written : WritesBoot Disk io
 
--- the Boot of these places passes a limit behind these records
+-- the boot record of these places passes a limit behind these records
 abbrev pub BootExceeds : Limits → Places → List Rec → Type 0
-BootExceeds limits places records = exceeds limits (records ++ Boot places ∷ []) ≡ true
+BootExceeds limits places records = exceeds limits (with_boot records places) ≡ true
 
--- the Boot passes a limit behind the records that the disk has, and the last line says so
+-- the boot record passes a limit behind the records that the disk has, and the last line says so
 pub record EndsFull (limits : Limits) (places : Places) (held : Option (List ℕ)) (io : Streams) : Type 0 where
   pub records : List Rec
   pub stands : IfTold held (λ bytes. StandsFor bytes records)

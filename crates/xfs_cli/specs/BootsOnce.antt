@@ -16,5 +16,5 @@ pub record BootsOnce {M D : Type 0} (m : Mechanisms M) (d : Disks D) (core : Cor
   pub unread : WhereNoJournal d core.disk (IsDue NOT_A_JOURNAL result.status)
   pub unwritten : WhereNoJournal d core.disk (IsUnwritten (d.held core.disk) (d.held result.disk) (d.images core.disk) (d.images result.disk))
   pub unmoved : WhereNoJournal d core.disk (result.mech ≡ core.mech)
-  -- a journal that has no room for the Boot is due its status
+  -- a journal that has no room for the boot record is due its status
   pub overfull : AtEntryList d core.disk (λ records. BootExceeds core.limits (m.places core.mech) records → IsDue JOURNAL_FULL result.status)

@@ -1,9 +1,9 @@
--- The line `restart`: the journal is read again and gets a Boot; or the run ends as a refused boot does.
-use Rattle.std.specs.Prelude.{◌≡◌, ℕ, false, List, [], ◌∷◌, ◌++◌, codes, None, Result, Err}
+-- The line `restart`: the journal is read again and gets a boot record; or the run ends as a refused boot does.
+use Rattle.std.specs.Prelude.{◌≡◌, ℕ, false, List, codes, None, Result, Err}
 use Rattle.xfs_base.specs.Causes.{Rose}
 use Rattle.xfs_journal.specs.JournalView.{IsPossible, exceeds}
 use Rattle.xfs_journal.specs.declared.record.Rec.{Rec}
-use Rattle.xfs_journal.specs.declared.record.Rec.TheVariants.{Boot}
+use Rattle.xfs_journal.specs.Journal.{with_boot}
 use Rattle.xfs_guard.specs.Continues.{Continues}
 use Rattle.xfs_guard.specs.View.{View, restarted}
 use Rattle.xfs_guard.specs.declared.fail.BootFault.{BootFault}
@@ -13,26 +13,26 @@ use Rattle.xfs_cli.specs.GuardStates.{GuardState, Becomes, IsLater, IsStill}
 use Rattle.xfs_cli.specs.declared.guard_player.NoAnswer.{NoAnswer}
 use Rattle.xfs_cli.specs.declared.guard_player.NoAnswer.TheVariants.{Unbooted}
 
--- the journal is read as the kept list, or as that one with the record in doubt, and its Boot passes no limit; the token that was minted last stays
+-- the journal is read as the kept list, or as that one with the record in doubt, and its boot record passes no limit; the token that was minted last stays
 pub record Restarts (s : GuardState) (line : List ℕ) (next : GuardState) : Type 0 where
   pub records : List Rec
   pub possible : IsPossible s.guard.records s.guard.in_doubt records
-  pub fits : exceeds s.guard.limits (records ++ Boot s.guard.places ∷ []) ≡ false
+  pub fits : exceeds s.guard.limits (with_boot records s.guard.places) ≡ false
   pub text : line ≡ codes "restarted"
   pub becomes : Becomes s (restarted s.guard records) next
 
--- the Boot passes a limit behind such a list
+-- the boot record passes a limit behind such a list
 pub record HasNoRoom (v : View) : Type 0 where
   pub records : List Rec
   pub possible : IsPossible v.records v.in_doubt records
   pub exceeds_limit : BootExceeds v.limits v.places records
 
--- no record is in doubt, and the Boot passes a limit behind the list
+-- no record is in doubt, and the boot record passes a limit behind the list
 pub record IsFull (v : View) : Type 0 where
   pub clear : v.in_doubt ≡ None
   pub exceeds_limit : BootExceeds v.limits v.places v.records
 
--- why a restart ends the run: the disk's bytes are no journal, which is never so where it tells them; the disk fails; its Boot has no room, and none behind the list that was read; or memory runs out, and the guard is as it was
+-- why a restart ends the run: the disk's bytes are no journal, which is never so where it tells them; the disk fails; its boot record has no room, and none behind the list that was read; or memory runs out, and the guard is as it was
 abbrev pub RestartCause : GuardState → BootFault → GuardState → Type 0
 RestartCause s (NotJournal at) next = s.guard.disk_told ≡ false
 RestartCause s Disk next = Rose s.disk_faults next.disk_faults

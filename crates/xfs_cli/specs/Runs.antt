@@ -51,7 +51,7 @@ pub record IsUnbooted {M D : Type 0} (core : Core M D) (result : Return M D) (io
   pub written : WritesBoot why io
   pub unmoved : result.mech ≡ core.mech
 
--- the disk reads as a list behind which a Boot of these places passes a limit
+-- the disk reads as a list behind which a boot record of these places passes a limit
 pub record IsFullAtEnd (limits : Limits) (places : Places) (held : Option (List ℕ)) : Type 0 where
   pub records : List Rec
   pub stands : IfTold held (λ bytes. StandsFor bytes records)
@@ -89,7 +89,7 @@ pub record Runs {M D S : Type 0} (c : Command S BootFault) (see : S → GuardSta
   pub unread : WhereNoJournal d core.disk (IsDue NOT_A_JOURNAL result.status)
   pub unwritten : WhereNoJournal d core.disk (IsUnwritten (d.held core.disk) (d.held result.disk) (d.images core.disk) (d.images result.disk))
   pub unmoved : WhereNoJournal d core.disk (result.mech ≡ core.mech)
-  -- a journal that has no room for the Boot is due its status
+  -- a journal that has no room for the boot record is due its status
   pub overfull : AtEntryList d core.disk (λ records. BootExceeds core.limits (m.places core.mech) records → IsDue JOURNAL_FULL result.status)
   -- the mechanism's new numbers lie behind the journal's
   pub newer : AtEntryList d core.disk (λ records. IsNewer (length records) (m.motions core.mech) (m.motions result.mech))

@@ -1,4 +1,4 @@
--- The statuses of the program, and when a run of a command that boots ends with its input: where every line is one, the input is short enough, the journal has room for each Boot, and nothing failed.
+-- The statuses of the program, and when a run of a command that boots ends with its input: where every line is one, the input is short enough, the journal has room for each boot record, and nothing failed.
 use Rattle.std.specs.Prelude.{◌≡◌, ◌⊎◌, ℕ, ◌<◌, List, String, [], ◌∷◌, length, codes}
 use Rattle.std.specs.Io.KnownBytes.{IsAtEnd}
 use Rattle.std.specs.declared.alloc.Global.{Global}
@@ -39,7 +39,7 @@ pub record IsCaused (status : ℕ) (io : Streams) : Type 0 where
   pub write : status ≡ WRITE_FAULT → Rose io.write_faults io.write_faults_now
   pub quota : status ≡ INPUT_TOO_LONG → GaveAll io.input io.left
 
--- a line of the text is `restart`, and finds no room for its Boot behind the state that the lines before it left, answered from the start of the run on; Ends tells of what is seen of that state
+-- a line of the text is `restart`, and finds no room for its boot record behind the state that the lines before it left, answered from the start of the run on; Ends tells of what is seen of that state
 pub record HasFullRestart {S : Type 0} (c : Command S BootFault) (see : S → GuardState) (IsStartOf : S → Type 0) (Ends : GuardState → Type 0) (text : List ℕ) : Type 0 where
   pub start : S
   pub begins : IsStartOf start
@@ -51,7 +51,7 @@ pub record HasFullRestart {S : Type 0} (c : Command S BootFault) (see : S → Gu
   pub full : HasNoRoom (see last).guard
   pub ends : Ends (see last)
 
--- every line of the input is a line, the input is short enough, and the Boot passes no limit behind the records of the disk, nor does that of a restart which ends the run
+-- every line of the input is a line, the input is short enough, and the boot record passes no limit behind the records of the disk, nor does that of a restart which ends the run
 pub record IsUnhindered (IsLineOf HasNoRoomAt : List ℕ → Type 0) (text : List ℕ) (limits : Limits) (places : Places) (records : List Rec) : Type 0 where
   pub lines : AllLines IsLineOf text
   pub short : length text < QUOTA

@@ -24,7 +24,7 @@ use xfs_server::{Doors, Gate};
 use xfs_serving::{CardWatch, Ending, KeyWatch};
 use xfs_serving_machine::{Served, serve_connections};
 
-/// Boots a machine, takes so many connections at the doors and serves them at once, each in a session of its own, and
+/// boot records a machine, takes so many connections at the doors and serves them at once, each in a session of its own, and
 /// carries an open order out at the end. It reads no input.
 pub fn serve_machine<
     R: Threads + Wait + Sync,

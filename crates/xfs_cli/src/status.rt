@@ -22,5 +22,5 @@ pub const LINK_FAILED: u8 = 9;
 pub const INPUT_TOO_LONG: u8 = 10;
 /// The link that `client` dialled stayed quiet.
 pub const STAYED_QUIET: u8 = 11;
-/// The Boot record of the boot or of a restart passes a limit of the journal.
+/// The boot record of the boot or of a restart passes a limit of the journal.
 pub const JOURNAL_FULL: u8 = 12;

@@ -153,7 +153,7 @@ impl<M: Mechanism, D: Disk> Player<M, D> {
         text
     }
 
-    // Boots again on the same mechanism and disk. The moment and the last token stay.
+    // boot records again on the same mechanism and disk. The moment and the last token stay.
     fn restart(&mut self) -> Result<Vec<u8>, NoAnswer>
         ensures answer { IfOk result (λ text. Tells (AnswersVerb (played self.old) verbs.Restart) text.items (played self.new)) }
         ensures memory { result ≡ Err NoAnswer.Memory → IsPartDone (played self.old) verbs.Restart (played self.new) }

@@ -8,7 +8,8 @@ use Rattle.xfs_base.specs.declared.money.NoteKind.{NoteKind}
 use Rattle.xfs_envelope.specs.declared.code.Code.TheVariants.{Success, HardwareError, DeviceNotReady}
 use Rattle.xfs_journal.specs.JournalView.{IsPossible, exceeds}
 use Rattle.xfs_journal.specs.declared.record.Rec.{Rec}
-use Rattle.xfs_journal.specs.declared.record.Rec.TheVariants.{Boot, Load as LoadRecord, Order as OrderRecord}
+use Rattle.xfs_journal.specs.Journal.{with_boot}
+use Rattle.xfs_journal.specs.declared.record.Rec.TheVariants.{Load as LoadRecord, Order as OrderRecord}
 use Rattle.xfs_mech.specs.declared.motion.Motion.{Motion}
 use Rattle.xfs_mech.specs.declared.motion.Motion.TheVariants.{Loaded}
 use Rattle.xfs_mech.specs.declared.motion.Outcome.{Outcome}
@@ -104,23 +105,23 @@ Orders ask rest s plan next after went =
     (IsWritten s (refusal_of s.guard ask) (ordered s.guard ask) next × (after ≡ with_parts plan rest) × (went ≡ more))
     ⊎ ((after ≡ plan) × (IsDenied s (refusal_of s.guard ask) next went ⊎ IsUnwritten s (refusal_of s.guard ask) (order_record s.guard ask) next went))
 
--- the journal is read as a possible list and gets its Boot; what is then left is to empty the places
+-- the journal is read as a possible list and gets its boot record; what is then left is to empty the places
 pub record IsRestored (s : Seen) (plan : Plan) (next : Seen) (after : Plan) (went : Went) : Type 0 where
   pub records : List Rec
   pub possible : IsPossible s.guard.records s.guard.in_doubt records
-  pub fits : exceeds s.guard.limits (records ++ Boot s.guard.places ∷ []) ≡ false
+  pub fits : exceeds s.guard.limits (with_boot records s.guard.places) ≡ false
   pub becomes : Becomes s (restarted s.guard records) next
   pub left : after ≡ with_parts plan (emptying s.guard.places)
   pub is : went ≡ onward s.guard.units plan.notes (emptying s.guard.places)
 
--- its Boot passes a limit
+-- its boot record passes a limit
 pub record IsFull (s next : Seen) : Type 0 where
   pub records : List Rec
   pub possible : IsPossible s.guard.records s.guard.in_doubt records
-  pub exceeded : exceeds s.guard.limits (records ++ Boot s.guard.places ∷ []) ≡ true
+  pub exceeded : exceeds s.guard.limits (with_boot records s.guard.places) ≡ true
   pub becomes : Becomes s (reread s.guard records) next
 
--- the disk fails at it, before the list was read or at its Boot
+-- the disk fails at it, before the list was read or at its boot record
 pub record IsUnread (s next : Seen) : Type 0 where
   pub now : View
   pub is : (now ≡ unread s.guard) ⊎ ((records : List Rec) × IsPossible s.guard.records s.guard.in_doubt records × (now ≡ unbooted s.guard records))

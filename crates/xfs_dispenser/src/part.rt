@@ -6,7 +6,7 @@ use xfs_guard::Ask;
 pub enum Part {
     /// An order is written.
     Order(Ask),
-    /// The journal is read again and gets a Boot.
+    /// The journal is read again and gets a boot record.
     Restore,
     /// So many notes, which the operator added, are loaded into a unit, which counts from 1.
     Load { unit: u8, count: u32 },

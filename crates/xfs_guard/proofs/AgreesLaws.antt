@@ -1,5 +1,5 @@
 -- The journal and the mechanism's list stay in step.
-use Rattle.std.proofs.Common.{◌≡◌, ⊎_elim, ℕ, ◌+◌, ◌<◌, ◌≤◌, List, [], ◌∷◌, ◌++◌, length, None, Some, refl, sym, ◌∙◌, arith}
+use Rattle.std.proofs.Common.{◌≡◌, ⊎_elim, ℕ, ◌+◌, ◌<◌, ◌≤◌, List, [], ◌∷◌, ◌++◌, length, None, Some, refl, sym, ◌∙◌, ap, arith}
 use Rattle.std.specs.Prelude.{slice_get, fold}
 use Rattle.std.specs.declared.option.Option.{Option}
 use Rattle.std.specs.List.{Contains, AllByRecursion}
@@ -9,13 +9,42 @@ use Rattle.xfs_base.specs.declared.counts.Kind.{Kind}
 use Rattle.xfs_mech.specs.declared.motion.Motion.{Motion}
 use Rattle.xfs_mech.specs.declared.motion.Motion.TheVariants.{Moved, Taken, Loaded}
 use Rattle.xfs_journal.specs.declared.record.Rec.{Rec}
-use Rattle.xfs_journal.specs.declared.record.Rec.TheVariants.{Order, Done}
-use Rattle.xfs_journal.specs.Journal.{record_at}
+use Rattle.xfs_journal.specs.declared.record.Rec.TheVariants.{Issue, Clear, Expire, Boot, Start, Bind, Order, Done, Load}
+use Rattle.xfs_base.specs.declared.counts.Places.{Places}
+use Rattle.xfs_journal.specs.Journal.{boot_places, record_at}
 use Rattle.xfs_base.specs.Counts.{at}
-use Rattle.xfs_guard.specs.Agrees.{RisesFrom, IsAsked, MayFollow, keep_last, Agrees}
+use Rattle.xfs_guard.specs.Agrees.{RisesFrom, IsAsked, IsNoOrder, MayFollow, keep_last, Agrees}
 use Rattle.xfs_mech.specs.Motions.{NumberIs}
 use Rattle.xfs_journal.proofs.JournalLaws.{record_at-push, record_at-cases, record_at-within, Walk-push}
 use Rattle.xfs_mech.proofs.MotionLaws.{all-append, all-map}
+
+-- a record that tells places is no order
+pub boot-no_order : (r : Rec) (p : Places) → boot_places r ≡ Some p → IsNoOrder (Some r)
+boot-no_order (Boot q) p is = tt
+boot-no_order (Start issues q) p is = tt
+boot-no_order (Issue number word) p is = tt
+boot-no_order Clear p is = tt
+boot-no_order Expire p is = tt
+boot-no_order (Bind t) p is = tt
+boot-no_order (Order k c) p is = cc
+boot-no_order (Done m d) p is = tt
+boot-no_order (Load u c) p is = tt
+
+-- nor is it a Done
+pub boot-no_done : (r : Rec) (p : Places) (m d : Counts) → boot_places r ≡ Some p → r ≡ Done m d → ⊥
+boot-no_done r p m d is done = let none : None ≡ Some p = sym (ap boot_places done) ∙ is in cc
+
+-- it may follow anything
+pub boot-follows : (before : Option Rec) (r : Rec) (p : Places) → boot_places r ≡ Some p → MayFollow before r
+boot-follows before (Boot q) p is = tt
+boot-follows before (Start issues q) p is = tt
+boot-follows before (Issue number word) p is = cc
+boot-follows before Clear p is = cc
+boot-follows before Expire p is = cc
+boot-follows before (Bind t) p is = cc
+boot-follows before (Order k c) p is = cc
+boot-follows before (Done m d) p is = cc
+boot-follows before (Load u c) p is = cc
 
 last_from : (p : Option Rec) (x : Rec) (xs : List Rec) → fold keep_last p (x ∷ xs) ≡ slice_get (x ∷ xs) (length xs)
 last_from p x [] = refl

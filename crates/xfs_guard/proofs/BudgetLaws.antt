@@ -13,7 +13,7 @@ use Rattle.xfs_base.specs.declared.money.NoteKind.{NoteKind}
 use Rattle.xfs_token.specs.Token.{Parts}
 use Rattle.xfs_token.specs.Amounts.{amount, amounts_of, amount_in, has_currency}
 use Rattle.xfs_journal.specs.declared.record.Rec.{Rec}
-use Rattle.xfs_journal.specs.declared.record.Rec.TheVariants.{Issue, Clear, Expire, Boot, Bind, Order, Done, Load}
+use Rattle.xfs_journal.specs.declared.record.Rec.TheVariants.{Issue, Clear, Expire, Boot, Start, Bind, Order, Done, Load}
 use Rattle.xfs_guard.specs.Presented.{Paid, paid_after, worth_after, done_worth, presented_in}
 use Rattle.xfs_guard.specs.OverBudget.{spent, is_over, first_currency, earlier, over_budget_in}
 
@@ -46,6 +46,7 @@ done-none test u c (Some (Issue n w)) m holds e = refl
 done-none test u c (Some Clear) m holds e = refl
 done-none test u c (Some Expire) m holds e = refl
 done-none test u c (Some (Boot p)) m holds e = refl
+done-none test u c (Some (Start issues p)) m holds e = refl
 done-none test u c (Some (Bind t)) m holds e = refl
 done-none test u c (Some (Order Present n)) m holds e = value-none test u 0 m.0 c holds e
 done-none test u c (Some (Order Stack n)) m holds e = refl
@@ -59,6 +60,7 @@ worth-none test u c s (Issue n w) holds e z = refl
 worth-none test u c s Clear holds e z = refl
 worth-none test u c s Expire holds e z = refl
 worth-none test u c s (Boot p) holds e z = refl
+worth-none test u c s (Start issues p) holds e z = refl
 worth-none test u c s (Bind t) holds e z = z
 worth-none test u c s (Order k n) holds e z = z
 worth-none test u c s (Done m d) holds e z = let w = done-none test u c s.last m holds e in omega (arith, z, w)

@@ -15,7 +15,7 @@ use Rattle.xfs_token.specs.Amounts.{amounts_of}
 use Rattle.xfs_token.proofs.Whole.{one_token}
 use Rattle.xfs_token.proofs.Written.{length-form}
 use Rattle.xfs_journal.specs.declared.record.Rec.{Rec}
-use Rattle.xfs_journal.specs.declared.record.Rec.TheVariants.{Issue, Clear, Expire, Boot, Bind, Order, Done, Load}
+use Rattle.xfs_journal.specs.declared.record.Rec.TheVariants.{Issue, Clear, Expire, Boot, Start, Bind, Order, Done, Load}
 use Rattle.xfs_journal.specs.Journal.{record_at, live_of, token_of, last_mark, nonce_text}
 use Rattle.xfs_guard.specs.declared.nonce.Nonce.{Nonce}
 use Rattle.xfs_guard.specs.declared.deny.Deny.{Deny}
@@ -70,6 +70,7 @@ has-nonce (Some (Issue number word)) n e = let s : record { text = nonce_text nu
 has-nonce (Some Clear) n e = cc
 has-nonce (Some Expire) n e = cc
 has-nonce (Some (Boot p)) n e = cc
+has-nonce (Some (Start issues p)) n e = cc
 has-nonce (Some (Bind t)) n e = cc
 has-nonce (Some (Order k c)) n e = cc
 has-nonce (Some (Done m d)) n e = cc

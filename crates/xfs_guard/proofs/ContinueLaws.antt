@@ -8,7 +8,7 @@ use Rattle.xfs_base.specs.declared.counts.Kind.{Kind}
 use Rattle.xfs_mech.specs.declared.motion.Motion.{Motion}
 use Rattle.xfs_mech.specs.declared.motion.Motion.TheVariants.{Moved}
 use Rattle.xfs_journal.specs.declared.record.Rec.{Rec}
-use Rattle.xfs_journal.specs.declared.record.Rec.TheVariants.{Boot}
+use Rattle.xfs_journal.specs.Journal.{boot_places}
 use Rattle.xfs_journal.specs.JournalView.{IsPossible}
 use Rattle.xfs_guard.specs.declared.open.Open.{Open}
 use Rattle.xfs_mech.specs.Motions.{NumberIs, PlacesOf}
@@ -46,8 +46,8 @@ pub Led-same : (records : List Rec) (motions : List Motion) (places : Places) �
 unfolding Follows-same
 Led-same records motions places = record { follows = Follows-same records motions places; known = tt }
 
--- one more record, which has the places where it is a Boot
-pub Led-record : (records : List Rec) (r : Rec) (motions : List Motion) (was : Places) → ((p : Places) → r ≡ Boot p → was ≡ p) → Led records motions was (records ++ r ∷ []) motions was
+-- one more record, which has the places where it is a boot record
+pub Led-record : (records : List Rec) (r : Rec) (motions : List Motion) (was : Places) → ((p : Places) → boot_places r ≡ Some p → was ≡ p) → Led records motions was (records ++ r ∷ []) motions was
 unfolding Follows-record
 Led-record records r motions was boots = record { follows = Follows-record records r motions was boots; known = tt }
 
@@ -62,7 +62,7 @@ Led-motion records motions m was now small late places = record {
     moved = refl;
     reached = places;
     later = (late, tt);
-    boots = λ n p lt e. let w = record_at-within records n (Boot p) e in absurd (omega arith);
+    boots = λ n r p lt e told. let w = record_at-within records n r e in absurd (omega arith);
   };
   known = (small, tt);
 }
@@ -82,7 +82,7 @@ pub leads-same : (m : Option (List Motion)) (records : List Rec) (places : Place
 leads-same None records places = begins-same records
 leads-same (Some motions) records places = Led-same records motions places
 
-pub leads-record : (m : Option (List Motion)) (records : List Rec) (r : Rec) (places : Places) → ((p : Places) → r ≡ Boot p → places ≡ p) → Leads records m places (records ++ r ∷ []) m places
+pub leads-record : (m : Option (List Motion)) (records : List Rec) (r : Rec) (places : Places) → ((p : Places) → boot_places r ≡ Some p → places ≡ p) → Leads records m places (records ++ r ∷ []) m places
 leads-record None records r places boots = record { more = r ∷ []; is = refl }
 leads-record (Some motions) records r places boots = Led-record records r motions places boots
 
@@ -120,8 +120,8 @@ leads-on old new records m places continues each found possible =
 abbrev pub MayGrow : View → Rec → List Rec → Type 0
 MayGrow v r records = IsPossible v.records v.in_doubt records ⊎ ((found : List Rec) × IsPossible v.records v.in_doubt found × (records ≡ found ++ r ∷ []))
 
--- at most this record came behind the possible lists; a Boot has the places
-pub Continues-grown : (v w : View) (r : Rec) → ((p : Places) → r ≡ Boot p → v.places ≡ p) → w.motions ≡ v.motions → w.places ≡ v.places → w.key ≡ v.key → w.seed ≡ v.seed → w.units ≡ v.units → w.disk_told ≡ v.disk_told → w.limits ≡ v.limits
+-- at most this record came behind the possible lists; a boot record has the places
+pub Continues-grown : (v w : View) (r : Rec) → ((p : Places) → boot_places r ≡ Some p → v.places ≡ p) → w.motions ≡ v.motions → w.places ≡ v.places → w.key ≡ v.key → w.seed ≡ v.seed → w.units ≡ v.units → w.disk_told ≡ v.disk_told → w.limits ≡ v.limits
     → ((records : List Rec) → IsPossible w.records w.in_doubt records → MayGrow v r records) → BeginsWith w.records v.records → ((records : List Rec) → IsCrashOutcomeAt v records → IsCrashOutcomeAt w records) → Continues v w
 Continues-grown v w r boots motions places key seed units disk limits grown longer left = record { leads = λ records possible. comes records (grown records possible); key = key; seed = seed; units = units; moves = rw (motions, places) (Moves-same v.motions v.places); disk_told = disk; limits = limits; grew = longer; left = left }
   where
@@ -133,13 +133,13 @@ pub Continues-same : (v : View) → Continues v v
 Continues-same v = record { leads = λ records possible. record { from = records; possible = possible; led = leads-same v.motions records v.places }; key = refl; seed = refl; units = refl; moves = Moves-same v.motions v.places; disk_told = refl; limits = refl; grew = begins-same v.records; left = λ records was. was }
 
 -- one more record was written
-pub Continues-written : (v : View) (r : Rec) (w : Option (List (List ℕ × ℕ))) (o : Open) → v.in_doubt ≡ None → v.shut ≡ false → v.boot_missing ≡ false → ((p : Places) → r ≡ Boot p → v.places ≡ p) → Continues v (record (longer v r w o) { shut = false; in_doubt = None })
+pub Continues-written : (v : View) (r : Rec) (w : Option (List (List ℕ × ℕ))) (o : Open) → v.in_doubt ≡ None → v.shut ≡ false → v.boot_missing ≡ false → ((p : Places) → boot_places r ≡ Some p → v.places ≡ p) → Continues v (record (longer v r w o) { shut = false; in_doubt = None })
 Continues-written v r w o none open_still booted boots =
     Continues-grown v (record (longer v r w o) { shut = false; in_doubt = None }) r boots refl refl refl refl refl refl refl (λ records possible. inr (v.records, inl refl, only-possible (v.records ++ r ∷ []) records None refl possible))
     (begins-push v.records v.records r (begins-same v.records)) (λ records was. left-push v.records r v.in_doubt (is_closed v) (is_closed (record (longer v r w o) { shut = false; in_doubt = None })) records none (rw (open_still, booted) refl) was)
 
 -- it is not known whether the record was written
-pub Continues-doubted : (v : View) (r : Rec) (o : Open) → v.in_doubt ≡ None → v.shut ≡ false → v.boot_missing ≡ false → ((p : Places) → r ≡ Boot p → v.places ≡ p) → Continues v (record v { shut = true; in_doubt = Some r; open_order = o })
+pub Continues-doubted : (v : View) (r : Rec) (o : Open) → v.in_doubt ≡ None → v.shut ≡ false → v.boot_missing ≡ false → ((p : Places) → boot_places r ≡ Some p → v.places ≡ p) → Continues v (record v { shut = true; in_doubt = Some r; open_order = o })
 Continues-doubted v r o none open_still booted boots =
     Continues-grown v (record v { shut = true; in_doubt = Some r; open_order = o }) r boots refl refl refl refl refl refl refl (λ records possible. elim (doubted-possible v.records records r possible) [
       | inl is ↦ inl (inl is)

@@ -11,14 +11,16 @@ use Rattle.xfs_base.specs.declared.counts.Kind.{Kind}
 use Rattle.xfs_mech.specs.declared.motion.Motion.{Motion}
 use Rattle.xfs_mech.specs.declared.motion.Motion.TheVariants.{Moved, Taken, Loaded}
 use Rattle.xfs_mech.specs.Motions.{NumberIs}
-use Rattle.xfs_journal.specs.Journal.{record_at}
+use Rattle.xfs_journal.specs.Journal.{boot_of, boot_places, record_at, with_boot}
+use Rattle.xfs_journal.proofs.StartLaws.{boot_of-places}
 use Rattle.xfs_journal.specs.JournalView.{IsPossible, longest}
 use Rattle.xfs_journal.specs.declared.record.Rec.{Rec}
-use Rattle.xfs_journal.specs.declared.record.Rec.TheVariants.{Boot, Order}
+use Rattle.xfs_journal.specs.declared.record.Rec.TheVariants.{Order}
 use Rattle.xfs_journal.proofs.JournalLaws.{record_at-push, record_at-append, record_at-within, record_at-cases, record_at-pushed}
 use Rattle.xfs_guard.specs.Agrees.{Agrees, IsAsked, IsNoOrder}
 use Rattle.xfs_guard.specs.Lives.{BeginsWith}
 use Rattle.xfs_guard.specs.Crashed.{IsTorn, IsCrashOutcome, IsLost}
+use Rattle.xfs_guard.proofs.AgreesLaws.{boot-no_order}
 use Rattle.xfs_guard.proofs.RecordLaws.{last-pushed}
 
 pub begins-same : (records : List Rec) → BeginsWith records records
@@ -82,7 +84,7 @@ in_longest records d found n q (inl is) there = within d (rw is at there)
     within (Some r) there = let w = record_at-within records n q there in record_at-push records r n w.1 ∙ there
 in_longest records d found n q (inr (r, doubt, is)) there = rw doubt (rw is at there)
 
--- a possible list is kept now, and the journal takes no record but a Boot
+-- a possible list is kept now, and the journal takes no record but a boot record
 pub IsTorn-mount : (records : List Rec) (d : Option Rec) (c : Bool) (found X : List Rec) → IsPossible records d found → IsTorn records d c X → IsTorn found None true X
 IsTorn-mount records d c found X possible l = record {
   prefix = l.prefix;
@@ -93,23 +95,23 @@ IsTorn-mount records d c found X possible l = record {
   closed_there = λ short. refl;
 }
 
--- the Boot behind it is kept, or in doubt
-boots : (list : List Rec) (p : Places) (X : List Rec) (l : IsTorn list None true X) (q : Rec) → record_at (list ++ Boot p ∷ []) (length X) ≡ Some q → (l.last ≡ q) ⊎ IsNoOrder (Some q)
-boots list p X l q there = ⊎_elim (λ h. l.replaced q h.1) (λ h. inr (rw (sym h.1) tt)) (record_at-cases list (Boot p) (length X) q there)
+-- the boot record behind it is kept, or in doubt
+boots : (list : List Rec) (p : Places) (X : List Rec) (l : IsTorn list None true X) (q : Rec) → record_at (with_boot list p) (length X) ≡ Some q → (l.last ≡ q) ⊎ IsNoOrder (Some q)
+boots list p X l q there = ⊎_elim (λ h. l.replaced q h.1) (λ h. inr (boot-no_order q p (ap boot_places (sym h.1) ∙ boot_of-places list p))) (record_at-cases list (boot_of list p) (length X) q there)
 
-pub IsTorn-boot : (list : List Rec) (p : Places) (c : Bool) (X : List Rec) → IsTorn list None true X → IsTorn (list ++ Boot p ∷ []) None c X
+pub IsTorn-boot : (list : List Rec) (p : Places) (c : Bool) (X : List Rec) → IsTorn list None true X → IsTorn (with_boot list p) None c X
 IsTorn-boot list p c X l = record {
   prefix = l.prefix;
   last = l.last;
   split = l.split;
-  kept = begins-push l.prefix list (Boot p) l.kept;
+  kept = begins-push l.prefix list (boot_of list p) l.kept;
   replaced = boots list p X l;
   closed_there = λ short.
-      let size = length-append list (Boot p ∷ []) in let many = length-left list None true X l in let few = length-front list None true X l in
+      let size = length-append list (boot_of list p ∷ []) in let many = length-left list None true X l in let few = length-front list None true X l in
       absurd (omega (arith, size, many, few, short));
 }
 
-pub IsTorn-boot_doubt : (list : List Rec) (p : Places) (X : List Rec) → IsTorn list None true X → IsTorn list (Some (Boot p)) true X
+pub IsTorn-boot_doubt : (list : List Rec) (p : Places) (X : List Rec) → IsTorn list None true X → IsTorn list (Some (boot_of list p)) true X
 IsTorn-boot_doubt list p X l = record { prefix = l.prefix; last = l.last; split = l.split; kept = l.kept; replaced = boots list p X l; closed_there = λ short. refl }
 
 -- the record in doubt behind the records
@@ -154,13 +156,13 @@ pub left-mount : (records : List Rec) (d : Option Rec) (s : Bool) (found X : Lis
 left-mount records d s found X possible (inl begins) = inl (begins-trans X records found begins (begins-possible records d found possible))
 left-mount records d s found X possible (inr loose) = inr (IsTorn-mount records d s found X possible loose)
 
--- the Boot is kept behind it
-pub left-boot : (list : List Rec) (p : Places) (c : Bool) (X : List Rec) → IsCrashOutcome list None true X → IsCrashOutcome (list ++ Boot p ∷ []) None c X
-left-boot list p c X (inl begins) = inl (begins-push X list (Boot p) begins)
+-- the boot record is kept behind it
+pub left-boot : (list : List Rec) (p : Places) (c : Bool) (X : List Rec) → IsCrashOutcome list None true X → IsCrashOutcome (with_boot list p) None c X
+left-boot list p c X (inl begins) = inl (begins-push X list (boot_of list p) begins)
 left-boot list p c X (inr loose) = inr (IsTorn-boot list p c X loose)
 
--- the Boot is in doubt behind it
-pub left-boot_doubt : (list : List Rec) (p : Places) (X : List Rec) → IsCrashOutcome list None true X → IsCrashOutcome list (Some (Boot p)) true X
+-- the boot record is in doubt behind it
+pub left-boot_doubt : (list : List Rec) (p : Places) (X : List Rec) → IsCrashOutcome list None true X → IsCrashOutcome list (Some (boot_of list p)) true X
 left-boot_doubt list p X (inl begins) = inl begins
 left-boot_doubt list p X (inr loose) = inr (IsTorn-boot_doubt list p X loose)
 

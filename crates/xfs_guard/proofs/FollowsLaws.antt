@@ -1,16 +1,16 @@
 -- Places and what follows from what, over several steps.
-use Rattle.std.proofs.Common.{◌≡◌, ⊎_elim, inl, inr, ℕ, zero, suc, ◌<◌, ◌≤◌, List, [], ◌∷◌, ◌++◌, length, Some, refl, sym, ◌∙◌, ap, arith, length-append, append_assoc}
+use Rattle.std.proofs.Common.{◌≡◌, ⊎_elim, inl, inr, ℕ, ◌<◌, ◌≤◌, List, [], ◌∷◌, ◌++◌, length, Some, refl, sym, ◌∙◌, ap, arith, length-append, append_assoc}
 use Rattle.std.proofs.lemmas.List.{append-nil}
 use Rattle.std.proofs.lemmas.Bool.{cases_lt}
 use Rattle.std.specs.List.{AllByRecursion}
 use Rattle.xfs_base.specs.declared.counts.Places.{Places}
 use Rattle.xfs_mech.specs.declared.motion.Motion.{Motion}
 use Rattle.xfs_journal.specs.declared.record.Rec.{Rec}
-use Rattle.xfs_journal.specs.declared.record.Rec.TheVariants.{Boot}
-use Rattle.xfs_journal.specs.Journal.{record_at}
+use Rattle.xfs_journal.specs.Journal.{boot_of, boot_places, record_at, with_boot}
 use Rattle.xfs_guard.specs.Follows.{BootFits, Follows}
 use Rattle.xfs_mech.specs.Motions.{NumberIs}
 use Rattle.xfs_mech.proofs.MotionLaws.{all-append, all-numbers, PlacesOf-same, PlacesOf-append}
+use Rattle.xfs_journal.proofs.StartLaws.{boot_of-only}
 use Rattle.xfs_journal.proofs.JournalLaws.{record_at-append, record_at-cases, record_at-within}
 
 -- nothing happened
@@ -22,11 +22,11 @@ Follows-same records motions places = record {
   moved = sym (append-nil motions);
   reached = PlacesOf-same places;
   later = tt;
-  boots = λ n p lt e. let w = record_at-within records n (Boot p) e in absurd (omega arith);
+  boots = λ n r p lt e told. let w = record_at-within records n r e in absurd (omega arith);
 }
 
--- one more record, which has the places where it is a Boot
-unfoldable pub Follows-record : (records : List Rec) (r : Rec) (motions : List Motion) (was : Places) → ((p : Places) → r ≡ Boot p → was ≡ p) → Follows records motions was (records ++ r ∷ []) motions was
+-- one more record, which has the places where it is a boot record
+unfoldable pub Follows-record : (records : List Rec) (r : Rec) (motions : List Motion) (was : Places) → ((p : Places) → boot_places r ≡ Some p → was ≡ p) → Follows records motions was (records ++ r ∷ []) motions was
 Follows-record records r motions was boots = record {
   recs = r ∷ [];
   moves = [];
@@ -37,8 +37,8 @@ Follows-record records r motions was boots = record {
   boots = fits;
 }
   where
-    fits : (n : ℕ) (p : Places) → length records < n → record_at (records ++ r ∷ []) n ≡ Some (Boot p) → BootFits was [] n p
-    fits n p lt e = ⊎_elim (λ h. let le : n ≤ length records = h.0 in absurd (omega arith)) (λ h. record { prefix = []; back = []; split = refl; reached = rw (boots p h.1) (PlacesOf-same p); before = tt; after = tt }) (record_at-cases records r n (Boot p) e)
+    fits : (n : ℕ) (x : Rec) (p : Places) → length records < n → record_at (records ++ r ∷ []) n ≡ Some x → boot_places x ≡ Some p → BootFits was [] n p
+    fits n x p lt e told = ⊎_elim (λ h. let le : n ≤ length records = h.0 in absurd (omega arith)) (λ h. record { prefix = []; back = []; split = refl; reached = rw (boots p (ap boot_places h.1 ∙ told)) (PlacesOf-same p); before = tt; after = tt }) (record_at-cases records r n x e)
 
 -- the numbers of the entries in between are no greater than the list's length, and the rest composes
 unfoldable pub Follows-trans : (records records' records'' : List Rec) (motions motions' motions'' : List Motion) (places places' places'' : Places)
@@ -51,16 +51,16 @@ Follows-trans records records' records'' motions motions' motions'' places place
   moved = rw (b.moved, a.moved) (append_assoc motions a.moves b.moves);
   reached = PlacesOf-append places places' places'' a.moves b.moves a.reached b.reached;
   later = all-append (NumberIs (λ n. length records ≤ n)) a.moves b.moves a.later (all-numbers (λ n. length records' ≤ n) (λ n. length records ≤ n) b.moves (λ n h. omega (arith, longer)) b.later);
-  boots = λ n p lt e. elim (cases_lt (length records') n) [ inl above ↦ new n p above e | inr below ↦ old n p lt below e ];
+  boots = λ n r p lt e told. elim (cases_lt (length records') n) [ inl above ↦ new n r p above e told | inr below ↦ old n r p lt below e told ];
 }
   where
     longer : length records ≤ length records'
     longer = omega (arith, ap length a.grew, length-append records a.recs)
 
-    old : (n : ℕ) (p : Places) → length records < n → n ≤ length records' → record_at records'' n ≡ Some (Boot p) → BootFits places (a.moves ++ b.moves) n p
-    old n p lt le e =
-        let was : record_at records' n ≡ Some (Boot p) = sym (ap (λ (records : List Rec). record_at records n) b.grew ∙ record_at-append records' b.recs n le) ∙ e in
-        let f = a.boots n p lt was in record {
+    old : (n : ℕ) (r : Rec) (p : Places) → length records < n → n ≤ length records' → record_at records'' n ≡ Some r → boot_places r ≡ Some p → BootFits places (a.moves ++ b.moves) n p
+    old n r p lt le e told =
+        let was : record_at records' n ≡ Some r = sym (ap (λ (records : List Rec). record_at records n) b.grew ∙ record_at-append records' b.recs n le) ∙ e in
+        let f = a.boots n r p lt was told in record {
           prefix = f.prefix;
           back = f.back ++ b.moves;
           split = ap (λ (l : List Motion). l ++ b.moves) f.split ∙ append_assoc f.prefix f.back b.moves;
@@ -69,9 +69,9 @@ Follows-trans records records' records'' motions motions' motions'' places place
           after = all-append (NumberIs (λ k. n ≤ k)) f.back b.moves f.after (all-numbers (λ k. length records' ≤ k) (λ k. n ≤ k) b.moves (λ k h. omega arith) b.later);
         }
 
-    new : (n : ℕ) (p : Places) → length records' < n → record_at records'' n ≡ Some (Boot p) → BootFits places (a.moves ++ b.moves) n p
-    new n p lt e =
-        let f = b.boots n p lt e in record {
+    new : (n : ℕ) (r : Rec) (p : Places) → length records' < n → record_at records'' n ≡ Some r → boot_places r ≡ Some p → BootFits places (a.moves ++ b.moves) n p
+    new n r p lt e told =
+        let f = b.boots n r p lt e told in record {
           prefix = a.moves ++ f.prefix;
           back = f.back;
           split = ap (λ (l : List Motion). a.moves ++ l) f.split ∙ sym (append_assoc a.moves f.prefix f.back);
@@ -81,18 +81,6 @@ Follows-trans records records' records'' motions motions' motions'' places place
         }
 
 -- the first boot
-pub Follows-boot : (places : Places) → Follows [] [] places (Boot places ∷ []) [] places
-Follows-boot places = record {
-  recs = Boot places ∷ [];
-  moves = [];
-  grew = refl;
-  moved = refl;
-  reached = PlacesOf-same places;
-  later = tt;
-  boots = fits;
-}
-  where
-    fits : (n : ℕ) (p : Places) → 0 < n → record_at (Boot places ∷ []) n ≡ Some (Boot p) → BootFits places [] n p
-    fits zero p lt e = absurd (omega arith)
-    fits (suc zero) p lt e = let same : places ≡ p = cc in record { prefix = []; back = []; split = refl; reached = rw (← same) (PlacesOf-same places); before = tt; after = tt }
-    fits (suc (suc i)) p lt e = cc
+pub Follows-boot : (places : Places) → Follows [] [] places (with_boot [] places) [] places
+unfolding Follows-record
+Follows-boot places = Follows-record [] (boot_of [] places) [] places (boot_of-only [] places)

@@ -12,7 +12,7 @@ use Rattle.xfs_mech.specs.Motions.{PlacesOf}
 use Rattle.xfs_mech.specs.declared.motion.Motion.{Motion}
 use Rattle.xfs_mech.specs.declared.motion.Motion.TheVariants.{Moved}
 use Rattle.xfs_journal.specs.declared.record.Rec.{Rec}
-use Rattle.xfs_journal.specs.declared.record.Rec.TheVariants.{Boot}
+use Rattle.xfs_journal.specs.Journal.{boot_places}
 use Rattle.xfs_journal.specs.Journal.{Numbered}
 use Rattle.xfs_guard.specs.declared.open.Open.{Open}
 use Rattle.xfs_guard.specs.declared.open.Open.TheVariants.{No, Written, Acted}
@@ -143,7 +143,7 @@ IsKept-refused T e key seed o motions places faults old new r w was told spare r
 -- what follows then
 pub Continues-refused : (T : Type 0) {D : Type 0} (e : Deny) (key seed : List ℕ) (o : Open) (motions : Option (List Motion)) (places : Places) (faults : ℕ) (old new : LedgerView D) (r : Rec)
     (w : Option (List (List ℕ × ℕ))) (was told : Bool)
-    → Wrote {T = T} (Err e) old new r w → IsWriteFault e → told ≡ was → old.in_doubt ≡ None → old.shut ≡ false → old.boot_missing ≡ false → ((p : Places) → r ≡ Boot p → places ≡ p) → Continues (over key seed o motions places faults old was) (over key seed o motions places faults new told)
+    → Wrote {T = T} (Err e) old new r w → IsWriteFault e → told ≡ was → old.in_doubt ≡ None → old.shut ≡ false → old.boot_missing ≡ false → ((p : Places) → boot_places r ≡ Some p → places ≡ p) → Continues (over key seed o motions places faults old was) (over key seed o motions places faults new told)
 Continues-refused T e key seed o motions places faults old new r w was told wrote why same none open_still booted boots = ⊎_elim memory disk why
   where
     memory : e ≡ Memory → Continues (over key seed o motions places faults old was) (over key seed o motions places faults new told)

@@ -5,8 +5,9 @@ use Rattle.std.specs.declared.option.Option.{Option}
 use Rattle.std.specs.Option.{option_map}
 use Rattle.xfs_base.specs.declared.money.NoteKind.{NoteKind}
 use Rattle.xfs_journal.specs.declared.record.Rec.{Rec}
-use Rattle.xfs_journal.specs.declared.record.Rec.TheVariants.{Issue, Clear, Expire, Boot, Bind, Order, Done, Load}
-use Rattle.xfs_journal.specs.Journal.{record_at, live_of, last_mark, next_issue, nonce_text, next_number, live_after, mark_after, Finding, found_after}
+use Rattle.xfs_journal.specs.declared.record.Rec.TheVariants.{Issue, Clear, Expire, Boot, Start, Bind, Order, Done, Load}
+use Rattle.xfs_journal.proofs.StartLaws.{boot_of-places}
+use Rattle.xfs_journal.specs.Journal.{boot_of, boot_places, record_at, live_of, last_mark, next_issue, nonce_text, next_number, live_after, mark_after, Finding, found_after}
 use Rattle.xfs_journal.proofs.JournalLaws.{live_of-push, binding_of-push, last_mark-push, next_issue-push, record_at-push, record_at-pushed, record_at-within, eqb-same}
 use Rattle.std.proofs.lemmas.Bool.{cases_lt}
 use Rattle.std.proofs.lemmas.List.{take_all, take_more, length-take-le}
@@ -39,7 +40,7 @@ pub live_nonce-kept : (records : List Rec) (l : Option Live) → IsLive records 
 live_nonce-kept records None h = rw h refl
 live_nonce-kept records (Some l) h = rw (h.0, h.1) refl
 
--- the nonce that lives while the Boot isn't missing
+-- the nonce that lives while the boot record isn't missing
 pub nonce-open : (m : Bool) (records : List Rec) (n : Nonce) → m ≡ false → live_in m records ≡ Some n → live_nonce records ≡ Some n
 nonce-open m records n booted is = rw booted at is
 
@@ -276,6 +277,24 @@ pub KeepsLedger-shut : (records : List Rec) (d : Option Rec) (s s' m : Bool) (u 
 KeepsLedger-shut records d s s' m u i k l b x h (inl same) = rw same h
 KeepsLedger-shut records d s s' m u i k l b x h (inr shut) = record { read = λ still booted. absurd (true≢false (sym shut ∙ still)); lives = h.lives; doubts = h.doubts }
 
+-- no nonce is kept for the record of a start
+pub boot_of-doubts : (records : List Rec) (p : Places) (x : Option Nonce) → IsDoubted (Some (boot_of records p)) x
+boot_of-doubts records p x = of (boot_of records p) (boot_of-places records p)
+  where
+    none : (n : Nonce) → None ≡ Some n → x ≡ Some n
+    none n e = cc
+
+    of : (r : Rec) → boot_places r ≡ Some p → IsDoubted (Some r) x
+    of (Boot q) is n e = none n e
+    of (Start issues q) is n e = none n e
+    of (Issue number word) is n e = cc
+    of Clear is n e = none n e
+    of Expire is n e = none n e
+    of (Bind t) is n e = none n e
+    of (Order k c) is n e = none n e
+    of (Done m d) is n e = none n e
+    of (Load u c) is n e = none n e
+
 -- the journal was read again and got no Boot: either it is missing, or it is not known whether it was written
 pub KeepsLedger-unbooted : (records : List Rec) (d : Option Rec) (s m : Bool) (u : List NoteKind) (i k : ℕ) (l : Option Live) (b : Option Bound) (x : Option Nonce)
     → (m ≡ false → s ≡ true) → (m ≡ false → IsLive records l) → IsDoubted d x → KeepsLedger records d s m u i k l b x
@@ -329,20 +348,21 @@ kept-issue list n number word r d at is doubts none =
 
 -- another record than a mark was found, and leaves the live issue
 pub found-plain : (list : List Rec) (n : ℕ) (r : Rec) (l : Option Live) → slice_get list n ≡ Some r → length list ≤ n + 1
-    → ((number word : ℕ) → r ≡ Issue number word → ⊥) → (r ≡ Clear → ⊥) → (r ≡ Expire → ⊥) → ((p : Places) → r ≡ Boot p → ⊥) → IsLive (take n list) l → IsLive list l
-found-plain list n r l at le issue clear expire boot lives =
+    → ((number word : ℕ) → r ≡ Issue number word → ⊥) → (r ≡ Clear → ⊥) → (r ≡ Expire → ⊥) → ((p : Places) → r ≡ Boot p → ⊥) → ((issues : ℕ) (p : Places) → r ≡ Start issues p → ⊥) → IsLive (take n list) l → IsLive list l
+found-plain list n r l at le issue clear expire boot start lives =
     let prefix = front-record list n r at le in
-    rw prefix.0 (lives-plain (take n list) r l lives (λ k o. keeps r issue clear expire boot k o))
+    rw prefix.0 (lives-plain (take n list) r l lives (λ k o. keeps r issue clear expire boot start k o))
   where
-    keeps : (r : Rec) → ((number word : ℕ) → r ≡ Issue number word → ⊥) → (r ≡ Clear → ⊥) → (r ≡ Expire → ⊥) → ((p : Places) → r ≡ Boot p → ⊥) → (k : ℕ) (o : Option ℕ) → live_after k o r ≡ o
-    keeps (Issue number word) issue clear expire boot k o = absurd (issue number word refl)
-    keeps Clear issue clear expire boot k o = absurd (clear refl)
-    keeps Expire issue clear expire boot k o = absurd (expire refl)
-    keeps (Boot p) issue clear expire boot k o = absurd (boot p refl)
-    keeps (Bind t) issue clear expire boot k o = refl
-    keeps (Order kind c) issue clear expire boot k o = refl
-    keeps (Done m d) issue clear expire boot k o = refl
-    keeps (Load u c) issue clear expire boot k o = refl
+    keeps : (r : Rec) → ((number word : ℕ) → r ≡ Issue number word → ⊥) → (r ≡ Clear → ⊥) → (r ≡ Expire → ⊥) → ((p : Places) → r ≡ Boot p → ⊥) → ((issues : ℕ) (p : Places) → r ≡ Start issues p → ⊥) → (k : ℕ) (o : Option ℕ) → live_after k o r ≡ o
+    keeps (Issue number word) issue clear expire boot start k o = absurd (issue number word refl)
+    keeps Clear issue clear expire boot start k o = absurd (clear refl)
+    keeps Expire issue clear expire boot start k o = absurd (expire refl)
+    keeps (Boot p) issue clear expire boot start k o = absurd (boot p refl)
+    keeps (Start issues p) issue clear expire boot start k o = absurd (start issues p refl)
+    keeps (Bind t) issue clear expire boot start k o = refl
+    keeps (Order kind c) issue clear expire boot start k o = refl
+    keeps (Done m d) issue clear expire boot start k o = refl
+    keeps (Load u c) issue clear expire boot start k o = refl
 
 -- what a call asks of a ledger holds of what stands for it
 pub fresh-at : {D : Type 0} (a b : LedgerView D) → a ≡ b → ((c : List ℕ) → presented_in b.units b.records c ≡ 0) → (c : List ℕ) → presented_in a.units a.records c ≡ 0

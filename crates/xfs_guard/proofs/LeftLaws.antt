@@ -1,5 +1,5 @@
 -- What a crash may leave at any moment of a call.
-use Rattle.std.proofs.Common.{◌≡◌, ◌⊎◌, ⊎_elim, inl, inr, ℕ, true, is_some, List, [], ◌∷◌, ◌++◌, None, Some, refl, sym, ◌∙◌, ap, subst, arith}
+use Rattle.std.proofs.Common.{◌≡◌, ◌⊎◌, ⊎_elim, inl, inr, ℕ, ◌≤◌, true, is_some, List, [], ◌∷◌, ◌++◌, None, Some, refl, sym, ◌∙◌, ap, subst, arith}
 use Rattle.std.specs.declared.option.Option.{Option}
 use Rattle.xfs_base.specs.Causes.{IfTold}
 use Rattle.xfs_base.specs.declared.counts.Places.{Places}
@@ -9,15 +9,16 @@ use Rattle.xfs_mech.specs.declared.motion.Motion.{Motion}
 use Rattle.xfs_disk.specs.Moments.{LeavesOnly}
 use Rattle.xfs_disk.specs.declared.disk.Disk.{Ghosts}
 use Rattle.xfs_journal.specs.Image.{IsImage, StandsFor}
-use Rattle.xfs_journal.specs.JournalView.{IsPossible, HasPossible, StandsForEither}
+use Rattle.xfs_journal.specs.JournalView.{IsButForEighth, IsPossible, HasPossible, StandsForEither}
 use Rattle.xfs_journal.specs.Paging.{IsOldOrShort, IsQuiet}
 use Rattle.xfs_journal.specs.declared.record.Rec.{Rec}
-use Rattle.xfs_journal.specs.declared.record.Rec.TheVariants.{Boot}
+use Rattle.xfs_journal.specs.Journal.{boot_of}
 use Rattle.xfs_journal.proofs.Emptying.{short_stands}
 use Rattle.xfs_journal.proofs.Moments.{started, weaken, joins}
 use Rattle.xfs_journal.proofs.Told.{on_told, from_told}
 use Rattle.xfs_guard.specs.declared.open.Open.{Open}
-use Rattle.xfs_guard.specs.CrashOutcomes.{EachStands, IsOldOrBooted, Leaves, MayMove, StandsRecorded, StandsThrough}
+use Rattle.xfs_guard.specs.CrashOutcomes.{EachStands, IsOldOrBooted, IsOldOrFound, Leaves, MayMove, StandsRecorded, StandsThrough}
+use Rattle.xfs_guard.specs.Booting.{IsSpared}
 use Rattle.xfs_guard.specs.Recorded.{IsRecorded}
 use Rattle.xfs_guard.specs.Sound.{IsSound}
 use Rattle.xfs_guard.specs.Stored.{IsStored, LeavesPossible, StandsForPossible, MayLeave}
@@ -100,28 +101,66 @@ leaves-kept g disk records d none stored = on_told (g.held disk) (λ _. (c : Lis
     inl (subst (λ (list : List Rec). IsImage c list) (one-possible records d has.0 none has.1) has.2))
 
 -- a mount leaves what was there, or at most 9 bytes, which stand for the empty list as the bytes before did
-short-booted : (images : List ℕ → Type 0) (all : List ℕ) (p : Places) (c : List ℕ) → IsOldOrShort images all c → IsOldOrBooted images all p c
-short-booted images all p c (inl was) = inl was
-short-booted images all p c (inr short) = inr ([], short_stands all short.0, inl (short_stands c short.1))
+short-found : (images : List ℕ → Type 0) (all c : List ℕ) → IsOldOrShort images all c → IsOldOrFound images all c
+short-found images all c (inl was) = inl was
+short-found images all c (inr short) = inr ([], short_stands all short.0, short_stands c short.1)
+
+found-booted : (images : List ℕ → Type 0) (all : List ℕ) (p : Places) (c : List ℕ) → IsOldOrFound images all c → IsOldOrBooted images all p c
+found-booted images all p c (inl was) = inl was
+found-booted images all p c (inr (found, stood, stands)) = inr (found, stood, inl stands)
+
+module _ {D : Type 0} (g : Ghosts D) (old mid : D) (mounted : IfTold (g.held old) (λ all. LeavesOnly g old mid (IsOldOrShort (g.images old) all))) where
+  pub left-found : IfTold (g.held old) (λ all. LeavesOnly g old mid (IsOldOrFound (g.images old) all))
+  left-found = on_told (g.held old) (λ all. LeavesOnly g old mid (IsOldOrFound (g.images old) all)) (λ all told.
+      weaken g old mid (IsOldOrShort (g.images old) all) (IsOldOrFound (g.images old) all) (short-found (g.images old) all)
+      (from_told (g.held old) (λ all. LeavesOnly g old mid (IsOldOrShort (g.images old) all)) mounted all told))
+
+  -- a mount, and then another version
+  pub left-carried : (new : D) (records : List Rec) → is_some (g.held mid) ≡ is_some (g.held old) → IfTold (g.held old) (λ all. StandsFor all records)
+      → IfTold (g.held mid) (λ _. LeavesOnly g mid new (λ c. StandsFor c records)) → IfTold (g.held old) (λ all. LeavesOnly g old new (IsOldOrFound (g.images old) all))
+  left-carried new records told stands carried = on_told (g.held old) (λ all. LeavesOnly g old new (IsOldOrFound (g.images old) all)) (λ all is.
+      let still = tells (g.held mid) (told ∙ ap is_some is) in
+      let found = from_told (g.held old) (λ all. StandsFor all records) stands all is in
+      weaken g old new (λ c. IsOldOrFound (g.images old) all c ⊎ StandsFor c records) (IsOldOrFound (g.images old) all) (λ c either. ⊎_elim (λ was. was) (λ is. inr (records, found, is)) either)
+      (joins g old mid new (IsOldOrFound (g.images old) all) (λ c. StandsFor c records)
+      (from_told (g.held old) (λ all. LeavesOnly g old mid (IsOldOrFound (g.images old) all)) left-found all is)
+      (from_told (g.held mid) (λ _. LeavesOnly g mid new (λ c. StandsFor c records)) carried still.0 still.1)))
+
+  -- what neither wrote stays
+  pub left-spared : IfTold (g.held old) (λ all. LeavesOnly g old mid (IsSpared (g.images old) all))
+  left-spared = on_told (g.held old) (λ all. LeavesOnly g old mid (IsSpared (g.images old) all)) (λ all told.
+      weaken g old mid (IsOldOrShort (g.images old) all) (IsSpared (g.images old) all) (λ c was. (c, was, inl refl))
+      (from_told (g.held old) (λ all. LeavesOnly g old mid (IsOldOrShort (g.images old) all)) mounted all told))
+
+  pub left-renewed : ((d : D) (all : List ℕ) → g.held d ≡ Some all → g.images d all) → ((d : D) (t : ℕ) (c : List ℕ) → t ≤ g.moment d → g.images d c → g.images_since d t c)
+      → (new : D) → is_some (g.held mid) ≡ is_some (g.held old) → IfTold (g.held mid) (λ all. LeavesOnly g mid new (IsButForEighth all)) → IfTold (g.held old) (λ all. LeavesOnly g old new (IsSpared (g.images old) all))
+  left-renewed as_read counts_now new told renewed = on_told (g.held old) (λ all. LeavesOnly g old new (IsSpared (g.images old) all)) (λ all is.
+      let still = tells (g.held mid) (told ∙ ap is_some is) in
+      let first = from_told (g.held old) (λ all. LeavesOnly g old mid (IsOldOrShort (g.images old) all)) mounted all is in
+      let between = first.each still.0 (counts_now mid (g.moment old) still.0 first.later (as_read mid still.0 still.1)) in
+      weaken g old new (λ c. IsOldOrShort (g.images old) all c ⊎ IsButForEighth still.0 c) (IsSpared (g.images old) all)
+      (λ c either. ⊎_elim (λ was. (c, was, inl refl)) (λ other. (still.0, between, inr other)) either)
+      (joins g old mid new (IsOldOrShort (g.images old) all) (IsButForEighth still.0) first
+      (from_told (g.held mid) (λ all. LeavesOnly g mid new (IsButForEighth all)) renewed still.0 still.1)))
 
 module _ {D : Type 0} (g : Ghosts D) (old mid : D) (p : Places)
-    (mounted : IfTold (g.held old) (λ all. LeavesOnly g old mid (IsOldOrShort (g.images old) all))) where
+    (mounted : IfTold (g.held old) (λ all. LeavesOnly g old mid (IsOldOrFound (g.images old) all))) where
   -- a mount
   pub left-mounted : IfTold (g.held old) (λ all. LeavesOnly g old mid (IsOldOrBooted (g.images old) all p))
   left-mounted = on_told (g.held old) (λ all. LeavesOnly g old mid (IsOldOrBooted (g.images old) all p)) (λ all told.
-      weaken g old mid (IsOldOrShort (g.images old) all) (IsOldOrBooted (g.images old) all p) (short-booted (g.images old) all p)
-      (from_told (g.held old) (λ all. LeavesOnly g old mid (IsOldOrShort (g.images old) all)) mounted all told))
+      weaken g old mid (IsOldOrFound (g.images old) all) (IsOldOrBooted (g.images old) all p) (found-booted (g.images old) all p)
+      (from_told (g.held old) (λ all. LeavesOnly g old mid (IsOldOrFound (g.images old) all)) mounted all told))
 
-  -- a mount, and then the append of the Boot
+  -- a mount, and then the append of the boot record
   pub left-booted : (new : D) (records : List Rec) → is_some (g.held mid) ≡ is_some (g.held old) → IfTold (g.held old) (λ all. StandsFor all records)
-      → IfTold (g.held mid) (λ _. LeavesOnly g mid new (StandsForEither records (Boot p))) → IfTold (g.held old) (λ all. LeavesOnly g old new (IsOldOrBooted (g.images old) all p))
+      → IfTold (g.held mid) (λ _. LeavesOnly g mid new (StandsForEither records (boot_of records p))) → IfTold (g.held old) (λ all. LeavesOnly g old new (IsOldOrBooted (g.images old) all p))
   left-booted new records told stands appended = on_told (g.held old) (λ all. LeavesOnly g old new (IsOldOrBooted (g.images old) all p)) (λ all is.
       let still = tells (g.held mid) (told ∙ ap is_some is) in
       let found = from_told (g.held old) (λ all. StandsFor all records) stands all is in
-      weaken g old new (λ c. IsOldOrBooted (g.images old) all p c ⊎ StandsForEither records (Boot p) c) (IsOldOrBooted (g.images old) all p) (λ c either. ⊎_elim (λ was. was) (λ is. inr (records, found, is)) either)
-      (joins g old mid new (IsOldOrBooted (g.images old) all p) (StandsForEither records (Boot p))
+      weaken g old new (λ c. IsOldOrBooted (g.images old) all p c ⊎ StandsForEither records (boot_of records p) c) (IsOldOrBooted (g.images old) all p) (λ c either. ⊎_elim (λ was. was) (λ is. inr (records, found, is)) either)
+      (joins g old mid new (IsOldOrBooted (g.images old) all p) (StandsForEither records (boot_of records p))
       (from_told (g.held old) (λ all. LeavesOnly g old mid (IsOldOrBooted (g.images old) all p)) left-mounted all is)
-      (from_told (g.held mid) (λ _. LeavesOnly g mid new (StandsForEither records (Boot p))) appended still.0 still.1)))
+      (from_told (g.held mid) (λ _. LeavesOnly g mid new (StandsForEither records (boot_of records p))) appended still.0 still.1)))
 
 -- what a boot leaves is recorded, where each list that was left before it is
 recorded-booted : {D : Type 0} (key : List ℕ) (u : List NoteKind) (m : Option (List Motion)) (g : Ghosts D) (d : D) (all : List ℕ) (p : Places) (c : List ℕ) → is_some (g.held d) ≡ true → g.images d all
@@ -131,7 +170,7 @@ recorded-booted key u m g d all p c told here each recorded (inl was) =
     record { records = list.0; stands = list.1; recorded = recorded list.0 (record { told = told; bytes = c; left = was; stands = list.1 }) }
 recorded-booted key u m g d all p c told here each recorded (inr (records, found, either)) =
     let before = recorded records (record { told = told; bytes = all; left = here; stands = found }) in
-    recorded-either key u m records (Boot p) c before (IsRecorded-boot key u records p m before) either
+    recorded-either key u m records (boot_of records p) c before (IsRecorded-boot key u records p m before) either
 
 pub left-boot : {D : Type 0} (g : Ghosts D) (old new : D) (key : List ℕ) (u : List NoteKind) (m : Option (List Motion)) (p : Places)
     → ((d : D) (all : List ℕ) → g.held d ≡ Some all → g.images d all) → ((records : List Rec) → MayLeave g old records → IsRecorded key u records m)
@@ -143,8 +182,8 @@ left-boot g old new key u m p as_read recorded moments = on_told (g.held old) (�
 
 -- a boot that never called its disk leaves it as it was
 module _ {D : Type 0} (g : Ghosts D) (d : D) (only_now : (c : List ℕ) → g.images_since d (g.moment d) c → g.images d c) where
-  pub unread-either : (p : Places) → IfTold (g.held d) (λ _. (records : List Rec) → ((c : List ℕ) → g.images d c → StandsFor c records) → (c : List ℕ) → g.images d c → StandsForEither records (Boot p) c)
-  unread-either p = on_told (g.held d) (λ _. (records : List Rec) → ((c : List ℕ) → g.images d c → StandsFor c records) → (c : List ℕ) → g.images d c → StandsForEither records (Boot p) c) (λ all told records each c now. inl (each c now))
+  pub unread-either : (p : Places) → IfTold (g.held d) (λ _. (records : List Rec) → ((c : List ℕ) → g.images d c → StandsFor c records) → (c : List ℕ) → g.images d c → StandsForEither records (boot_of records p) c)
+  unread-either p = on_told (g.held d) (λ _. (records : List Rec) → ((c : List ℕ) → g.images d c → StandsFor c records) → (c : List ℕ) → g.images d c → StandsForEither records (boot_of records p) c) (λ all told records each c now. inl (each c now))
 
   pub unread-quiet : IsQuiet g d d
   unread-quiet = record { same = refl; adds_none = λ c now. now; moments = started g d (g.images d) only_now; later = omega arith }
@@ -152,9 +191,9 @@ module _ {D : Type 0} (g : Ghosts D) (d : D) (only_now : (c : List ℕ) → g.im
   pub unread-unlisted : IfTold (g.held d) (λ all. ((records : List Rec) → ¬ StandsFor all records) → IsQuiet g d d)
   unread-unlisted = on_told (g.held d) (λ all. ((records : List Rec) → ¬ StandsFor all records) → IsQuiet g d d) (λ all told none. unread-quiet)
 
-  pub unread-short : IfTold (g.held d) (λ all. LeavesOnly g d d (IsOldOrShort (g.images d) all))
-  unread-short = on_told (g.held d) (λ all. LeavesOnly g d d (IsOldOrShort (g.images d) all)) (λ all told.
-      started g d (IsOldOrShort (g.images d) all) (λ c left. inl (only_now c left)))
+  pub unread-spared : IfTold (g.held d) (λ all. LeavesOnly g d d (IsSpared (g.images d) all))
+  unread-spared = on_told (g.held d) (λ all. LeavesOnly g d d (IsSpared (g.images d) all)) (λ all told.
+      started g d (IsSpared (g.images d) all) (λ c left. (c, inl (only_now c left), inl refl)))
 
   pub unread-booted : (p : Places) → IfTold (g.held d) (λ all. LeavesOnly g d d (IsOldOrBooted (g.images d) all p))
   unread-booted p = on_told (g.held d) (λ all. LeavesOnly g d d (IsOldOrBooted (g.images d) all p)) (λ all told.

@@ -6,7 +6,7 @@ use Rattle.std.specs.declared.option.Option.{Option}
 use Rattle.std.proofs.lemmas.List.{append-nil}
 use Rattle.std.proofs.lemmas.List.Elements.{All-append, All-map, All-nil, All-weaker, All-contains}
 use Rattle.xfs_journal.specs.declared.record.Rec.{Rec}
-use Rattle.xfs_journal.specs.declared.record.Rec.TheVariants.{Issue, Clear, Expire, Boot, Bind, Order, Done, Load}
+use Rattle.xfs_journal.specs.declared.record.Rec.TheVariants.{Issue, Clear, Expire, Boot, Start, Bind, Order, Done, Load}
 use Rattle.xfs_journal.specs.Journal.{Walk, next_number, next_issue, CarriesNumber, Numbered}
 use Rattle.xfs_journal.specs.JournalView.{IsPossible}
 use Rattle.xfs_guard.specs.Lives.{Answered, Run, BeginsWith, IsKeptIn, IsLife, answered_in}
@@ -37,6 +37,7 @@ rises n (Issue number word ∷ rs) = let le = rises (n + 1) rs in omega (arith, 
 rises n (Clear ∷ rs) = rises n rs
 rises n (Expire ∷ rs) = rises n rs
 rises n (Boot places ∷ rs) = rises n rs
+rises n (Start issues places ∷ rs) = rises n rs
 rises n (Bind token ∷ rs) = rises n rs
 rises n (Order kind counts ∷ rs) = rises n rs
 rises n (Done moved diverted ∷ rs) = rises n rs

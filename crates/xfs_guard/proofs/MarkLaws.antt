@@ -7,9 +7,10 @@ use Rattle.std.specs.List.{Contains}
 use Rattle.std.specs.Option.{option_and_then, option_map}
 use Rattle.std.specs.declared.option.Option.{Option}
 use Rattle.xfs_base.specs.declared.counts.Places.{Places}
-use Rattle.xfs_journal.specs.Journal.{record_at, is_mark, is_place, live_of, last_mark, Binding, first_of, found_after, binding_of, bind_of}
+use Rattle.xfs_journal.proofs.StartLaws.{boot-mark}
+use Rattle.xfs_journal.specs.Journal.{boot_places, record_at, is_mark, is_place, live_of, last_mark, Binding, first_of, found_after, binding_of, bind_of}
 use Rattle.xfs_journal.specs.declared.record.Rec.{Rec}
-use Rattle.xfs_journal.specs.declared.record.Rec.TheVariants.{Issue, Clear, Expire, Boot, Bind, Order, Done, Load}
+use Rattle.xfs_journal.specs.declared.record.Rec.TheVariants.{Issue, Clear, Expire, Boot, Start, Bind, Order, Done, Load}
 use Rattle.xfs_journal.proofs.JournalLaws.{record_at-push, record_at-append, record_at-pushed, record_at-within, record_at-cases, binding_of-push, last_mark-push}
 use Rattle.xfs_guard.specs.declared.nonce.Nonce.{Nonce}
 use Rattle.xfs_guard.specs.Lives.{BeginsWith}
@@ -30,15 +31,15 @@ grow : (Holds : List Rec → Type 0) → ((records : List Rec) (r : Rec) → Hol
 grow Holds step records [] h = subst Holds (sym (append-nil records)) h
 grow Holds step records (r ∷ rs) h = subst Holds (append_assoc records (r ∷ []) rs) (grow Holds step (records ++ r ∷ []) rs (step records r h))
 
-marked-boot : (records : List Rec) (p : Places) → 0 < last_mark (records ++ Boot p ∷ [])
-marked-boot records p = rw last_mark-push (omega arith)
+marked-boot : (records : List Rec) (r : Rec) (p : Places) → boot_places r ≡ Some p → 0 < last_mark (records ++ r ∷ [])
+marked-boot records r p is = rw (last_mark-push, boot-mark r p is) (omega arith)
 
--- a list with a Boot has a mark
-pub boot-marked : (b : Places) (records : List Rec) → Contains records (Boot b) → 0 < last_mark records
-boot-marked b records = grow (λ (found : List Rec). Contains found (Boot b) → 0 < last_mark found) step [] records (λ none. absurd (omega (arith, none.1)))
+-- a list with a boot record has a mark
+pub boot-marked : (boot : Rec) (b : Places) → boot_places boot ≡ Some b → (records : List Rec) → Contains records boot → 0 < last_mark records
+boot-marked boot b tells records = grow (λ (found : List Rec). Contains found boot → 0 < last_mark found) step [] records (λ none. absurd (omega (arith, none.1)))
   where
-    step : (found : List Rec) (r : Rec) → (Contains found (Boot b) → 0 < last_mark found) → Contains (found ++ r ∷ []) (Boot b) → 0 < last_mark (found ++ r ∷ [])
-    step found r h there = ⊎_elim (λ old. marked-push found r (h old)) (λ is. subst (λ (x : Rec). 0 < last_mark (found ++ x ∷ [])) (sym is) (marked-boot found b)) (Contains-push_cases found r (Boot b) there)
+    step : (found : List Rec) (r : Rec) → (Contains found boot → 0 < last_mark found) → Contains (found ++ r ∷ []) boot → 0 < last_mark (found ++ r ∷ [])
+    step found r h there = ⊎_elim (λ old. marked-push found r (h old)) (λ is. subst (λ (x : Rec). 0 < last_mark (found ++ x ∷ [])) (sym is) (marked-boot found boot b tells)) (Contains-push_cases found r boot there)
 
 -- a record of a list keeps its number
 pub still : (records : List Rec) (r x : Rec) (n : ℕ) → record_at records n ≡ Some x → record_at (records ++ r ∷ []) n ≡ Some x
@@ -123,6 +124,7 @@ bind-step p records r h b e = by r (sym (binding_of-push records r p) ∙ e)
     by Clear e = old Clear e
     by Expire e = old Expire e
     by (Boot q) e = old (Boot q) e
+    by (Start issues q) e = old (Start issues q) e
     by (Bind t) e = bound t (is_place p (live_of records)) e
     by (Order k c) e = old (Order k c) e
     by (Done m d) e = old (Done m d) e

@@ -22,8 +22,8 @@ use Rattle.xfs_mech.specs.Mechanism.{source_of}
 use Rattle.xfs_mech.proofs.MotionLaws.{all-numbers}
 use Rattle.xfs_journal.specs.Image.{HasUnit, body}
 use Rattle.xfs_journal.specs.declared.record.Rec.{Rec}
-use Rattle.xfs_journal.specs.declared.record.Rec.TheVariants.{Issue, Clear, Expire, Boot, Bind, Order, Done, Load}
-use Rattle.xfs_journal.specs.Journal.{record_at, live_at, live_of, live_after, mark_after, Binding, binding_of, token_of, next_number, next_issue, CarriesNumber, Reading, reading_after, nothing_read, is_place}
+use Rattle.xfs_journal.specs.declared.record.Rec.TheVariants.{Issue, Clear, Expire, Boot, Start, Bind, Order, Done, Load}
+use Rattle.xfs_journal.specs.Journal.{boot_places, record_at, live_at, live_of, live_after, mark_after, Binding, binding_of, token_of, next_number, next_issue, CarriesNumber, Reading, reading_after, nothing_read, is_place}
 use Rattle.xfs_journal.proofs.JournalLaws.{live_of-push, live_at-pushed, token_of-push, record_at-pushed, Walk-push, eqb-same, eqb-no}
 use Rattle.xfs_guard.specs.declared.open.Open.{Open}
 use Rattle.xfs_guard.specs.declared.open.Open.TheVariants.{No, Written, Acted}
@@ -183,6 +183,7 @@ lives-step count l (Issue n w) h = omega arith
 lives-step count l Clear h = tt
 lives-step count l Expire h = tt
 lives-step count l (Boot p) h = tt
+lives-step count l (Start issues p) h = tt
 lives-step count l (Bind t) h = lives-later count l h
 lives-step count l (Order k c) h = lives-later count l h
 lives-step count l (Done m d) h = lives-later count l h
@@ -276,7 +277,7 @@ pub IsSound-end : (v : View) (r : Rec) → Ends r → IsSound v → v.open_order
 IsSound-end v r (inl is) s none = rw is (sound-end v Clear s none (λ n. tt) (λ n l. refl) tt (λ last h. h) (λ m d e. cc))
 IsSound-end v r (inr is) s none = rw is (sound-end v Expire s none (λ n. tt) (λ n l. refl) tt (λ last h. h) (λ m d e. cc))
 
--- what ends a nonce is short, has no unit and is no Boot, and no nonce lives behind it
+-- what ends a nonce is short, has no unit and is no boot record, and no nonce lives behind it
 pub ends-short : (r : Rec) → Ends r → length (body r) ≤ 1025
 ends-short r (inl is) = rw is (omega arith)
 ends-short r (inr is) = rw is (omega arith)
@@ -285,9 +286,9 @@ pub ends-unit : (r : Rec) → Ends r → HasUnit r
 ends-unit r (inl is) = rw is tt
 ends-unit r (inr is) = rw is tt
 
-pub ends-plain : (r : Rec) (p : Places) → Ends r → r ≡ Boot p → ⊥
-ends-plain r p (inl is) e = let no : Clear ≡ Boot p = sym is ∙ e in cc
-ends-plain r p (inr is) e = let no : Expire ≡ Boot p = sym is ∙ e in cc
+pub ends-plain : (r : Rec) (p : Places) → Ends r → boot_places r ≡ Some p → ⊥
+ends-plain r p (inl is) e = let no : None ≡ Some p = sym (ap boot_places is) ∙ e in cc
+ends-plain r p (inr is) e = let no : None ≡ Some p = sym (ap boot_places is) ∙ e in cc
 
 pub ends-live : (r : Rec) → Ends r → (k : ℕ) (x : Option ℕ) → live_after k x r ≡ None
 ends-live r (inl is) k x = rw is refl

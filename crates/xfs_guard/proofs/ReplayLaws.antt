@@ -13,7 +13,7 @@ use Rattle.xfs_mech.specs.declared.motion.Motion.TheVariants.{Moved, Taken, Load
 use Rattle.xfs_mech.specs.Motions.{NumberIs}
 use Rattle.xfs_mech.proofs.MotionLaws.{all-append, all-numbers}
 use Rattle.xfs_journal.specs.declared.record.Rec.{Rec}
-use Rattle.xfs_journal.specs.declared.record.Rec.TheVariants.{Issue, Clear, Expire, Boot, Bind, Order, Done, Load}
+use Rattle.xfs_journal.specs.declared.record.Rec.TheVariants.{Issue, Clear, Expire, Boot, Start, Bind, Order, Done, Load}
 use Rattle.xfs_journal.specs.Journal.{record_at, Walk}
 use Rattle.xfs_journal.proofs.JournalLaws.{record_at-within, record_at-append, record_at-pushed}
 use Rattle.xfs_guard.specs.Agrees.{RisesFrom, IsOrdered, IsAsked, IsOrder, MayFollow, keep_last, Agrees}
@@ -143,6 +143,7 @@ step-done records s m d (Some (Issue n x)) e i o w = absurd o
 step-done records s m d (Some Clear) e i o w = absurd o
 step-done records s m d (Some Expire) e i o w = absurd o
 step-done records s m d (Some (Boot p)) e i o w = absurd o
+step-done records s m d (Some (Start issues p)) e i o w = absurd o
 step-done records s m d (Some (Bind t)) e i o w = absurd o
 step-done records s m d (Some (Done x y)) e i o w = absurd o
 step-done records s m d (Some (Load u c)) e i o w = absurd o
@@ -155,6 +156,7 @@ step-motions records s (Issue n x) i may w = Replays-record records (Issue n x) 
 step-motions records s Clear i may w = Replays-record records Clear s.motions i.motions may (λ k c m d o e. cc)
 step-motions records s Expire i may w = Replays-record records Expire s.motions i.motions may (λ k c m d o e. cc)
 step-motions records s (Boot p) i may w = Replays-record records (Boot p) s.motions i.motions may (λ k c m d o e. cc)
+step-motions records s (Start issues p) i may w = Replays-record records (Start issues p) s.motions i.motions may (λ k c m d o e. cc)
 step-motions records s (Bind t) i may w = Replays-record records (Bind t) s.motions i.motions may (λ k c m d o e. cc)
 step-motions records s (Order k c) i may w = Replays-record records (Order k c) s.motions i.motions may (λ k' c' m d o e. cc)
 
@@ -202,6 +204,7 @@ keeps-within kept motions a prefix rs (Issue n w) e (Some (Order k c)) is = tt
 keeps-within kept motions a prefix rs Clear e (Some (Order k c)) is = tt
 keeps-within kept motions a prefix rs Expire e (Some (Order k c)) is = tt
 keeps-within kept motions a prefix rs (Boot p) e (Some (Order k c)) is = tt
+keeps-within kept motions a prefix rs (Start issues p) e (Some (Order k c)) is = tt
 keeps-within kept motions a prefix rs (Bind t) e (Some (Order k c)) is = tt
 keeps-within kept motions a prefix rs (Order k' c') e (Some (Order k c)) is = tt
 keeps-within kept motions a prefix rs (Load u n) e (Some (Order k c)) is = tt
@@ -210,6 +213,7 @@ keeps-within kept motions a prefix rs r e (Some (Issue n w)) is = tt
 keeps-within kept motions a prefix rs r e (Some Clear) is = tt
 keeps-within kept motions a prefix rs r e (Some Expire) is = tt
 keeps-within kept motions a prefix rs r e (Some (Boot p)) is = tt
+keeps-within kept motions a prefix rs r e (Some (Start issues p)) is = tt
 keeps-within kept motions a prefix rs r e (Some (Bind t)) is = tt
 keeps-within kept motions a prefix rs r e (Some (Done m d)) is = tt
 keeps-within kept motions a prefix rs r e (Some (Load u n)) is = tt

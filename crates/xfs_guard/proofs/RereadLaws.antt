@@ -1,5 +1,5 @@
--- What a crash leaves at each moment of a restore: the journal is read again, and a Boot is appended.
-use Rattle.std.proofs.Common.{◌≡◌, ◌⊎◌, inl, inr, ⊎_elim, ℕ, true, List, [], ◌∷◌, ◌++◌, refl, ◌∙◌, ap}
+-- What a crash leaves at each moment of a restore: the journal is read again, and a boot record is appended.
+use Rattle.std.proofs.Common.{◌≡◌, ◌⊎◌, inl, inr, ⊎_elim, ℕ, true, List, [], ◌∷◌, refl, ◌∙◌, ap}
 use Rattle.std.specs.Prelude.{is_some}
 use Rattle.xfs_base.specs.Causes.{IfTold}
 use Rattle.xfs_base.specs.declared.counts.Places.{Places}
@@ -8,7 +8,7 @@ use Rattle.xfs_disk.specs.declared.disk.Disk.{Ghosts}
 use Rattle.xfs_journal.specs.JournalView.{IsPossible, StandsForEither}
 use Rattle.xfs_journal.specs.Paging.{IsQuiet}
 use Rattle.xfs_journal.specs.declared.record.Rec.{Rec}
-use Rattle.xfs_journal.specs.declared.record.Rec.TheVariants.{Boot}
+use Rattle.xfs_journal.specs.Journal.{boot_of, with_boot}
 use Rattle.xfs_journal.proofs.Moments.{weaken, joins}
 use Rattle.xfs_journal.proofs.Told.{on_told, from_told}
 use Rattle.xfs_guard.specs.Crashed.{IsCrashOutcomeAt, StandsLeft, StandsReread, LeavesBehind}
@@ -52,12 +52,12 @@ module _ {D : Type 0} (g : Ghosts D) where
         (from_told (g.held old.disk) (λ _. LeavesOnly g old.disk new.disk (λ bytes. g.images old.disk bytes ⊎ StandsReread old.state.records old.state.in_doubt p (IsCrashOutcomeAt new.state) bytes)) leaves all is));
   }
     where
-      from : (bytes : List ℕ) (read : StandsReread old.state.records old.state.in_doubt p (IsCrashOutcomeAt new.state) bytes) → StandsForEither read.list (Boot p) bytes → StandsLeft old.state new.state bytes
+      from : (bytes : List ℕ) (read : StandsReread old.state.records old.state.in_doubt p (IsCrashOutcomeAt new.state) bytes) → StandsForEither read.list (boot_of read.list p) bytes → StandsLeft old.state new.state bytes
       from bytes read (inl is) = record { list = read.list; stands = is; begins = begins-possible old.state.records old.state.in_doubt read.list read.possible; left = read.without }
       from bytes read (inr is) = record {
-        list = read.list ++ Boot p ∷ [];
+        list = with_boot read.list p;
         stands = is;
-        begins = begins-trans old.state.records read.list (read.list ++ Boot p ∷ []) (begins-possible old.state.records old.state.in_doubt read.list read.possible) (record { more = Boot p ∷ []; is = refl });
+        begins = begins-trans old.state.records read.list (with_boot read.list p) (begins-possible old.state.records old.state.in_doubt read.list read.possible) (record { more = boot_of read.list p ∷ []; is = refl });
         left = read.booted;
       }
 
@@ -71,6 +71,6 @@ module _ {D : Type 0} (g : Ghosts D) where
       weaken g old new (λ bytes. g.images old bytes ⊎ StandsReread v.records v.in_doubt p IsLeftNow bytes) (StandsRecorded v.key v.units v.motions)
       (λ bytes e. ⊎_elim
       (λ was. recorded-possible v.key v.units v.motions v.records v.in_doubt bytes each (from_told (g.held old) (λ _. (c : List ℕ) → g.images old c → StandsForPossible v.records v.in_doubt c) possible all told bytes was))
-      (λ read. recorded-either v.key v.units v.motions read.list (Boot p) bytes (each read.list read.possible) (IsRecorded-boot v.key v.units read.list p v.motions (each read.list read.possible)) read.either)
+      (λ read. recorded-either v.key v.units v.motions read.list (boot_of read.list p) bytes (each read.list read.possible) (IsRecorded-boot v.key v.units read.list p v.motions (each read.list read.possible)) read.either)
       e)
       (from_told (g.held old) (λ _. LeavesOnly g old new (λ bytes. g.images old bytes ⊎ StandsReread v.records v.in_doubt p IsLeftNow bytes)) leaves all told))

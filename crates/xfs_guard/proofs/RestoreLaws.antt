@@ -1,5 +1,5 @@
 -- What a guard is after a restore, and what follows then.
-use Rattle.std.proofs.Common.{◌≡◌, ◌≢◌, ◌⊎◌, inl, inr, ⊎_elim, ℕ, Bool, true, false, true≢false, List, [], ◌∷◌, ◌++◌, None, Some, Ok, Err, refl}
+use Rattle.std.proofs.Common.{◌≡◌, ◌≢◌, ◌⊎◌, inl, inr, ⊎_elim, ℕ, Bool, true, false, true≢false, List, None, Some, Ok, Err, refl}
 use Rattle.std.specs.Prelude.{OnOk, IfErr, ◌||◌, is_some}
 use Rattle.std.specs.declared.option.Option.{Option}
 use Rattle.std.specs.declared.result.Result.{Result}
@@ -8,7 +8,9 @@ use Rattle.xfs_base.specs.declared.counts.Places.{Places}
 use Rattle.xfs_mech.specs.declared.motion.Motion.{Motion}
 use Rattle.xfs_journal.specs.JournalView.{IsPossible, exceeds}
 use Rattle.xfs_journal.specs.declared.record.Rec.{Rec}
-use Rattle.xfs_journal.specs.declared.record.Rec.TheVariants.{Boot}
+use Rattle.xfs_journal.specs.declared.record.Rec.TheVariants.{Clear}
+use Rattle.xfs_journal.specs.Journal.{boot_of, with_boot}
+use Rattle.xfs_journal.proofs.StartLaws.{boot_of-only}
 use Rattle.xfs_guard.specs.declared.fail.BootFault.{BootFault}
 use Rattle.xfs_guard.specs.declared.fail.BootFault.TheVariants.{NotJournal, Disk, Full, Memory}
 use Rattle.xfs_guard.specs.declared.open.Open.{Open}
@@ -32,17 +34,17 @@ untouched old new = record old { disk = new.disk }
 abbrev pub shut_now : {D : Type 0} → LedgerView D → LedgerView D → LedgerView D
 shut_now old new = record old { shut = true; disk = new.disk }
 
--- this list was read, and has its Boot
+-- this list was read, and has its boot record
 abbrev pub booted_now : {D : Type 0} → LedgerView D → LedgerView D → Places → List Rec → LedgerView D
-booted_now old new p records = record old { records = records ++ Boot p ∷ []; bound = None; booted = p; loaded = no_notes; shut = false; boot_missing = false; in_doubt = None; room = new.room; disk = new.disk }
+booted_now old new p records = record old { records = with_boot records p; bound = None; booted = p; loaded = no_notes; shut = false; boot_missing = false; in_doubt = None; room = new.room; disk = new.disk }
 
--- this list was read, and its Boot is missing
+-- this list was read, and its boot record is missing
 abbrev pub missing_now : {D : Type 0} → LedgerView D → LedgerView D → List Rec → LedgerView D
 missing_now old new records = record old { records = records; bound = None; shut = false; boot_missing = true; in_doubt = None; room = new.room; disk = new.disk }
 
--- this list was read, and its Boot is in doubt
+-- this list was read, and its boot record is in doubt
 abbrev pub doubted_now : {D : Type 0} → LedgerView D → LedgerView D → Places → List Rec → LedgerView D
-doubted_now old new p records = record old { records = records; bound = None; shut = true; in_doubt = Some (Boot p); room = new.room; disk = new.disk }
+doubted_now old new p records = record old { records = records; bound = None; shut = true; in_doubt = Some (boot_of records p); room = new.room; disk = new.disk }
 
 -- what a restore leaves that read this list
 abbrev pub IsReread : {D : Type 0} → LedgerView D → LedgerView D → Places → List Rec → Type 0
@@ -54,7 +56,7 @@ MayRestore old new p = (new ≡ shut_now old new) ⊎ ((records : List Rec) × I
 
 pub restored : {T D : Type 0} (res : Result T BootFault) (old new : LedgerView D) (p : Places) (told : Type 0) → res ≢ Err Memory
     → OnOk res ((records : List Rec) × IsPossible old.records old.in_doubt records × (new ≡ booted_now old new p records))
-    → (res ≡ Err Full → (records : List Rec) × IsPossible old.records old.in_doubt records × (exceeds old.limits (records ++ Boot p ∷ []) ≡ true) × (new ≡ missing_now old new records))
+    → (res ≡ Err Full → (records : List Rec) × IsPossible old.records old.in_doubt records × (exceeds old.limits (with_boot records p) ≡ true) × (new ≡ missing_now old new records))
     → (res ≡ Err Disk → (new ≡ shut_now old new) ⊎ ((records : List Rec) × IsPossible old.records old.in_doubt records × (new ≡ doubted_now old new p records)))
     → IfErr res (λ f. (at : ℕ) → f ≡ NotJournal at → told × (new ≡ shut_now old new))
     → MayRestore old new p
@@ -70,7 +72,7 @@ restored (Err (NotJournal at)) old new p told other ok full disk silent = inl (s
 pub may-restore : {T D : Type 0} (res : Result T BootFault) (old new : LedgerView D) (p : Places) (told : Type 0)
     → OnOk res ((records : List Rec) × IsPossible old.records old.in_doubt records × (new ≡ booted_now old new p records))
     → (res ≡ Err Memory → new ≡ untouched old new)
-    → (res ≡ Err Full → (records : List Rec) × IsPossible old.records old.in_doubt records × (exceeds old.limits (records ++ Boot p ∷ []) ≡ true) × (new ≡ missing_now old new records))
+    → (res ≡ Err Full → (records : List Rec) × IsPossible old.records old.in_doubt records × (exceeds old.limits (with_boot records p) ≡ true) × (new ≡ missing_now old new records))
     → (res ≡ Err Disk → (new ≡ shut_now old new) ⊎ ((records : List Rec) × IsPossible old.records old.in_doubt records × (new ≡ doubted_now old new p records)))
     → IfErr res (λ f. (at : ℕ) → f ≡ NotJournal at → told × (new ≡ shut_now old new))
     → (new ≡ untouched old new) ⊎ MayRestore old new p
@@ -99,7 +101,7 @@ IsKept-unread v spare was left kinds kept = record {
   units = kept.units;
 }
 
--- the journal was read again, and its Boot is missing
+-- the journal was read again, and its boot record is missing
 pub IsKept-reread : (v : View) (records : List Rec) (spare was left : ℕ) (kinds : List NoteKind) → IsPossible v.records v.in_doubt records → IsKept v spare was kinds → IsKept (reread v records) spare left kinds
 IsKept-reread v records spare was left kinds possible kept = record {
   sound = λ e m. absurd (true≢false m);
@@ -113,16 +115,16 @@ IsKept-reread v records spare was left kinds possible kept = record {
   units = kept.units;
 }
 
--- the journal was read again, and its Boot is in doubt
+-- the journal was read again, and its boot record is in doubt
 pub IsKept-unbooted : (v : View) (records : List Rec) (p : Places) (spare was left : ℕ) (kinds : List NoteKind) → IsPossible v.records v.in_doubt records → IsKept v spare was kinds
-    → IsKept (record (reread v records) { shut = true; boot_missing = v.boot_missing; in_doubt = Some (Boot p) }) spare left kinds
+    → IsKept (record (reread v records) { shut = true; boot_missing = v.boot_missing; in_doubt = Some (boot_of records p) }) spare left kinds
 IsKept-unbooted v records p spare was left kinds possible kept = record {
   sound = λ e m. absurd (true≢false e);
   clean = λ e. absurd (true≢false e);
   balanced = balanced-possible v.records v.in_doubt records v.booted v.loaded v.places possible kept.balanced;
   closed = λ e. refl;
   missing = λ e. refl;
-  recorded = λ told list either. ⊎_elim (λ same. rw same (kept.recorded told records possible)) (λ more. rw more (IsRecorded-boot v.key v.units records p v.motions (kept.recorded told records possible))) (doubted-possible records list (Boot p) either);
+  recorded = λ told list either. ⊎_elim (λ same. rw same (kept.recorded told records possible)) (λ more. rw more (IsRecorded-boot v.key v.units records p v.motions (kept.recorded told records possible))) (doubted-possible records list (boot_of records p) either);
   room = tt;
   limits = tt;
   units = kept.units;
@@ -140,22 +142,22 @@ IsKept-restored key seed o motions places faults old new p was told spare room l
 IsKept-restored key seed o motions places faults old new p was told spare room left kinds (inr (records, possible, inr (inr is))) there same kept =
     rw (is, same) (IsKept-unbooted (over key seed o motions places faults old was) records p spare room left kinds possible kept)
 
--- what follows then: the Boot, which has the places, comes behind a possible list, or nothing does
+-- what follows then: the boot record, which has the places, comes behind a possible list, or nothing does
 pub Continues-restored : {D : Type 0} (key seed : List ℕ) (o o' : Open) (motions : Option (List Motion)) (places : Places) (faults : ℕ) (old new : LedgerView D) (was told : Bool)
     → told ≡ was → (new ≡ untouched old new) ⊎ MayRestore old new places → Continues (over key seed o motions places faults old was) (over key seed o' motions places faults new told)
 Continues-restored key seed o o' motions places faults old new was told same (inl is) =
-    rw is (Continues-grown _ _ (Boot places) (λ q e. cc) refl refl refl refl refl same refl (λ later possible. inl possible) (begins-same old.records) (λ X left. left))
+    rw is (Continues-grown _ _ Clear (λ q e. cc) refl refl refl refl refl same refl (λ later possible. inl possible) (begins-same old.records) (λ X left. left))
 Continues-restored key seed o o' motions places faults old new was told same (inr (inl is)) =
-    rw is (Continues-grown _ _ (Boot places) (λ q e. cc) refl refl refl refl refl same refl (λ later possible. inl possible) (begins-same old.records) (λ X left. left-close old.records old.in_doubt (old.shut || old.boot_missing) X left))
+    rw is (Continues-grown _ _ Clear (λ q e. cc) refl refl refl refl refl same refl (λ later possible. inl possible) (begins-same old.records) (λ X left. left-close old.records old.in_doubt (old.shut || old.boot_missing) X left))
 Continues-restored key seed o o' motions places faults old new was told same (inr (inr (records, found, inl is))) =
-    rw is (Continues-grown _ _ (Boot places) (λ q e. cc) refl refl refl refl refl same refl (λ later possible. inr (records, found, only-possible (records ++ Boot places ∷ []) later None refl possible))
-    (begins-push old.records records (Boot places) (begins-possible old.records old.in_doubt records found))
+    rw is (Continues-grown _ _ (boot_of records places) (boot_of-only records places) refl refl refl refl refl same refl (λ later possible. inr (records, found, only-possible (with_boot records places) later None refl possible))
+    (begins-push old.records records (boot_of records places) (begins-possible old.records old.in_doubt records found))
     (λ X left. left-boot records places false X (left-mount old.records old.in_doubt (old.shut || old.boot_missing) records X found left)))
 Continues-restored key seed o o' motions places faults old new was told same (inr (inr (records, found, inr (inl is)))) =
-    rw is (Continues-grown _ _ (Boot places) (λ q e. cc) refl refl refl refl refl same refl (λ later possible. inl (rw (only-possible records later None refl possible) found))
+    rw is (Continues-grown _ _ (boot_of records places) (boot_of-only records places) refl refl refl refl refl same refl (λ later possible. inl (rw (only-possible records later None refl possible) found))
     (begins-possible old.records old.in_doubt records found) (λ X left. left-mount old.records old.in_doubt (old.shut || old.boot_missing) records X found left))
 Continues-restored key seed o o' motions places faults old new was told same (inr (inr (records, found, inr (inr is)))) =
-    rw is (Continues-grown _ _ (Boot places) (λ q e. cc) refl refl refl refl refl same refl (λ later possible. ⊎_elim (λ same. inl (rw same found)) (λ more. inr (records, found, more)) (doubted-possible records later (Boot places) possible))
+    rw is (Continues-grown _ _ (boot_of records places) (boot_of-only records places) refl refl refl refl refl same refl (λ later possible. ⊎_elim (λ same. inl (rw same found)) (λ more. inr (records, found, more)) (doubted-possible records later (boot_of records places) possible))
     (begins-possible old.records old.in_doubt records found) (λ X left. left-boot_doubt records places X (left-mount old.records old.in_doubt (old.shut || old.boot_missing) records X found left)))
 
 -- a disk that is refused as no journal tells nothing

@@ -45,7 +45,7 @@ not-under a b le = go (nat_lt a b) refl
     go false e = e
     go true e = let lt = ltb-true a b e in absurd (omega arith)
 
--- a journal that takes more records: it isn't shut, enough is left, and its Boot isn't missing
+-- a journal that takes more records: it isn't shut, enough is left, and its boot record isn't missing
 pub fit-parts : (v : View) → unfit v ≡ None → (v.shut ≡ false) × (is_short v ≡ false) × (v.boot_missing ≡ false)
 fit-parts v e = go v.shut v.boot_missing (is_short v) e
   where

@@ -44,6 +44,6 @@ upheld g v d spare left kinds told kept stored leaves = record {
   counted = λ e. let both = neither v.shut v.boot_missing e in counted v (kept.sound both.0 both.1).told;
   issue = issue-there v.boot_missing v.records;
   balanced = kept.balanced;
-  mark = mark-there v.records (boot-marked v.booted v.records kept.balanced.boot);
+  mark = mark-there v.records (boot-marked kept.balanced.boot v.booted kept.balanced.tells v.records kept.balanced.kept);
   bind = bound-there v.records;
 }

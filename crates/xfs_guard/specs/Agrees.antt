@@ -8,8 +8,9 @@ use Rattle.xfs_base.specs.declared.counts.Kind.{Kind}
 use Rattle.xfs_mech.specs.declared.motion.Motion.{Motion}
 use Rattle.xfs_mech.specs.declared.motion.Motion.TheVariants.{Moved}
 use Rattle.xfs_journal.specs.declared.record.Rec.{Rec}
-use Rattle.xfs_journal.specs.declared.record.Rec.TheVariants.{Boot, Order, Done}
-use Rattle.xfs_journal.specs.Journal.{record_at, Walk}
+use Rattle.xfs_journal.specs.declared.record.Rec.TheVariants.{Order, Done}
+use Rattle.xfs_base.specs.declared.counts.Places.{Places}
+use Rattle.xfs_journal.specs.Journal.{boot_places, record_at, Walk}
 
 -- the numbers of the moved entries rise, from more than this one
 abbrev pub RisesFrom : ℕ → List Motion → Type 0
@@ -36,11 +37,15 @@ abbrev pub IsNoOrder : Option Rec → Type 0
 IsNoOrder (Some (Order kind counts)) = ⊥
 IsNoOrder r = ⊤
 
--- what may follow what: a Done follows an order, a Boot may follow anything, and nothing else follows an order
+-- a record that tells places may follow anything, and one that tells none follows no order
+abbrev pub MayFollowTelling : Option Rec → Option Places → Type 0
+MayFollowTelling before (Some places) = ⊤
+MayFollowTelling before None = IsNoOrder before
+
+-- what may follow what: a Done follows an order, a boot record may follow anything, and nothing else follows an order
 abbrev pub MayFollow : Option Rec → Rec → Type 0
 MayFollow before (Done moved diverted) = IsOrder before
-MayFollow before (Boot places) = ⊤
-MayFollow before r = IsNoOrder before
+MayFollow before r = MayFollowTelling before (boot_places r)
 
 abbrev pub keep_last : Option Rec → Rec → Option Rec
 keep_last before r = Some r

@@ -1,5 +1,5 @@
 -- What a boot finds on a disk and leaves there, and what a restore makes of a guard.
-use Rattle.std.specs.Prelude.{◌≡◌, ℕ, true, List, [], ◌∷◌, ◌++◌, is_some, None}
+use Rattle.std.specs.Prelude.{◌≡◌, ◌⊎◌, ℕ, true, List, is_some, None}
 use Rattle.std.specs.declared.option.Option.{Option}
 use Rattle.xfs_base.specs.Causes.{IfTold}
 use Rattle.xfs_base.specs.declared.counts.Places.{Places}
@@ -8,11 +8,11 @@ use Rattle.xfs_disk.specs.Moments.{LeavesOnly}
 use Rattle.xfs_disk.specs.declared.disk.Disk.{Ghosts}
 use Rattle.xfs_mech.specs.declared.motion.Motion.{Motion}
 use Rattle.xfs_journal.specs.Image.{StandsFor}
-use Rattle.xfs_journal.specs.JournalView.{exceeds, IsPossible, StandsForEither}
+use Rattle.xfs_journal.specs.JournalView.{exceeds, IsButForEighth, IsPossible, StandsForEither}
 use Rattle.xfs_journal.specs.Paging.{IsOldOrShort, IsQuiet}
 use Rattle.xfs_journal.specs.declared.limits.Limits.{Limits}
 use Rattle.xfs_journal.specs.declared.record.Rec.{Rec}
-use Rattle.xfs_journal.specs.declared.record.Rec.TheVariants.{Boot}
+use Rattle.xfs_journal.specs.Journal.{boot_of, with_boot}
 use Rattle.xfs_guard.specs.Recorded.{IsRecorded}
 use Rattle.xfs_guard.specs.Stored.{MayLeave}
 use Rattle.xfs_guard.specs.View.{View, reread, restarted, unbooted, unread}
@@ -21,45 +21,49 @@ use Rattle.xfs_guard.specs.View.{View, reread, restarted, unbooted, unread}
 abbrev pub IsFound : Option (List ℕ) → (List Rec → Type 0) → Type 0
 IsFound held Then = (records : List Rec) × IfTold held (λ all. StandsFor all records) × Then records
 
--- the disk has a list of records, and no room behind it for a Boot of these places
+-- the disk has a list of records, and no room behind it for a boot record of these places
 abbrev pub LacksRoom : Option (List ℕ) → Limits → Places → Type 0
-LacksRoom held limits places = IsFound held (λ records. exceeds limits (records ++ Boot places ∷ []) ≡ true)
+LacksRoom held limits places = IsFound held (λ records. exceeds limits (with_boot records places) ≡ true)
 
 -- each list that a crash may leave agrees with the mechanism's list
 abbrev pub LeavesRecorded : {D : Type 0} → Ghosts D → D → List ℕ → List NoteKind → Option (List Motion) → Type 0
 LeavesRecorded g disk key units motions = (records : List Rec) → MayLeave g disk records → IsRecorded key units records motions
 
--- where each image was that of one list, each is that of this list, with this Boot or without it
+-- where each image was that of one list, each is that of this list, with this boot record or without it
 abbrev pub LeavesEither : {D : Type 0} → Ghosts D → D → D → Places → Type 0
 LeavesEither g old new places = IfTold (g.held old) (λ _. (records : List Rec) → ((image : List ℕ) → g.images old image → StandsFor image records)
-    → (image : List ℕ) → g.images new image → StandsForEither records (Boot places) image)
+    → (image : List ℕ) → g.images new image → StandsForEither records (boot_of records places) image)
 
 -- a disk that has no list of records is left as it was
 abbrev pub SparesUnlisted : {D : Type 0} → Ghosts D → D → D → Type 0
 SparesUnlisted g old new = IfTold (g.held old) (λ all. ((records : List Rec) → ¬ StandsFor all records) → IsQuiet g old new)
 
--- nothing was written, but that a short file may be an empty journal
+-- an image of before, or of a short file, perhaps with another eighth byte
+abbrev pub IsSpared : (List ℕ → Type 0) → List ℕ → List ℕ → Type 0
+IsSpared images all c = (d : List ℕ) × IsOldOrShort images all d × ((c ≡ d) ⊎ IsButForEighth d c)
+
+-- nothing was written, but that a short file may be an empty journal, and that the version of a file may be another
 abbrev pub SparesAll : {D : Type 0} → Ghosts D → D → D → Type 0
-SparesAll g old new = IfTold (g.held old) (λ all. LeavesOnly g old new (IsOldOrShort (g.images old) all))
+SparesAll g old new = IfTold (g.held old) (λ all. LeavesOnly g old new (IsSpared (g.images old) all))
 
 -- at any moment a crash leaves these records, with this one or without it
 abbrev pub AddsAtMost : {D : Type 0} → Ghosts D → D → D → List Rec → Rec → Type 0
 AddsAtMost g old new records rec = IfTold (g.held old) (λ _. LeavesOnly g old new (StandsForEither records rec))
 
--- these are the records that the disk has, with a Boot of these places behind them
+-- these are the records that the disk has, with a boot record of these places behind them
 abbrev pub IsBooted : Option (List ℕ) → Places → List Rec → Type 0
-IsBooted held places now = IfTold held (λ all. (records : List Rec) × StandsFor all records × (now ≡ records ++ Boot places ∷ []))
+IsBooted held places now = IfTold held (λ all. (records : List Rec) × StandsFor all records × (now ≡ with_boot records places))
 
--- a possible list of the journal was read again, and has its Boot
+-- a possible list of the journal was read again, and has its boot record
 abbrev pub IsRestored : View → View → Type 0
 IsRestored old new = (records : List Rec) × IsPossible old.records old.in_doubt records × (new ≡ restarted old records)
 
--- a possible list was read again, and there is no room for its Boot
+-- a possible list was read again, and there is no room for its boot record
 abbrev pub IsUnrestored : View → View → Type 0
 IsUnrestored old new = (records : List Rec) × IsPossible old.records old.in_doubt records
-    × (exceeds old.limits (records ++ Boot old.places ∷ []) ≡ true) × (new ≡ reread old records)
+    × (exceeds old.limits (with_boot records old.places) ≡ true) × (new ≡ reread old records)
 
--- a possible list was read again, and the disk failed at its Boot
+-- a possible list was read again, and the disk failed at its boot record
 abbrev pub IsUnbooted : View → View → Type 0
 IsUnbooted old new = (records : List Rec) × IsPossible old.records old.in_doubt records × (new ≡ unbooted old records)
 

@@ -1,12 +1,12 @@
 -- What happened from one state of a guard to a later one. The possible lists of a guard are its journal's list and, where the journal keeps a record in doubt, that list with this record: each of the later ones comes from one of the earlier ones.
-use Rattle.std.specs.Prelude.{◌≡◌, ◌≤◌, List, [], ◌∷◌, ◌++◌, length, Some, None}
+use Rattle.std.specs.Prelude.{◌≡◌, ◌≤◌, List, length, Some, None}
 use Rattle.std.specs.List.{AllByRecursion}
 use Rattle.std.specs.declared.option.Option.{Option}
 use Rattle.xfs_base.specs.declared.counts.Places.{Places}
 use Rattle.xfs_mech.specs.declared.motion.Motion.{Motion}
 use Rattle.xfs_journal.specs.JournalView.{IsPossible}
 use Rattle.xfs_journal.specs.declared.record.Rec.{Rec}
-use Rattle.xfs_journal.specs.declared.record.Rec.TheVariants.{Boot}
+use Rattle.xfs_journal.specs.Journal.{with_boot}
 use Rattle.xfs_mech.specs.Motions.{NumberIs}
 use Rattle.xfs_mech.specs.Moves.{Moves}
 use Rattle.xfs_guard.specs.Crashed.{IsCrashOutcomeAt}
@@ -45,6 +45,6 @@ pub record Continues (old new : View) : Type 0 where
   -- a list that a crash left on the way there was left on the way here
   pub left : (list : List Rec) → IsCrashOutcomeAt old list → IsCrashOutcomeAt new list
 
--- a boot goes on from the records that it found, before the Boot of these places
+-- a boot goes on from the records that it found, before the boot record of these places
 abbrev pub ContinuesFound : Places → View → Type 0
-ContinuesFound places now = (records : List Rec) → now.records ≡ records ++ Boot places ∷ [] → Continues (record now { records = records }) now
+ContinuesFound places now = (records : List Rec) → now.records ≡ with_boot records places → Continues (record now { records = records }) now

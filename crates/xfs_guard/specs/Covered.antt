@@ -13,7 +13,7 @@ use Rattle.xfs_guard.specs.Refusals.{bound_token}
 use Rattle.xfs_guard.specs.declared.fit.TheConstants.{LEAST_BYTES, LEAST_RECORDS}
 use Rattle.xfs_guard.specs.declared.nonce.Nonce.{Nonce}
 
--- the journal is open, its Boot isn't missing, and so many records and bytes are left of its limits
+-- the journal is open, its boot record isn't missing, and so many records and bytes are left of its limits
 pub record HasSpace (v : View) (many long : ℕ) : Type 0 where
   pub open_still : v.shut ≡ false
   pub booted : v.boot_missing ≡ false

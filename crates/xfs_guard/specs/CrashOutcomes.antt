@@ -13,7 +13,7 @@ use Rattle.xfs_mech.specs.declared.motion.Motion.TheVariants.{Moved, Taken}
 use Rattle.xfs_journal.specs.Image.{StandsFor}
 use Rattle.xfs_journal.specs.JournalView.{StandsForEither}
 use Rattle.xfs_journal.specs.declared.record.Rec.{Rec}
-use Rattle.xfs_journal.specs.declared.record.Rec.TheVariants.{Boot}
+use Rattle.xfs_journal.specs.Journal.{boot_of}
 use Rattle.xfs_guard.specs.declared.open.Open.TheVariants.{Written}
 use Rattle.xfs_guard.specs.Recorded.{IsRecorded}
 use Rattle.xfs_disk.specs.declared.disk.Disk.{Ghosts}
@@ -57,6 +57,10 @@ pub record MayTake (v : View) (entry : Motion) : Type 0 where
   pub lie : LiesIn counts v.places.outlet
   pub entry_is : entry ≡ Taken counts
 
--- one of the images before, or the bytes stand for the list that was found, with this Boot or without it
+-- one of the images before, or the bytes stand for the list that was found
+abbrev pub IsOldOrFound : (List ℕ → Type 0) → List ℕ → List ℕ → Type 0
+IsOldOrFound images all bytes = images bytes ⊎ ((found : List Rec) × StandsFor all found × StandsFor bytes found)
+
+-- one of the images before, or the bytes stand for the list that was found, with this boot record or without it
 abbrev pub IsOldOrBooted : (List ℕ → Type 0) → List ℕ → Places → List ℕ → Type 0
-IsOldOrBooted images all places bytes = images bytes ⊎ ((found : List Rec) × StandsFor all found × StandsForEither found (Boot places) bytes)
+IsOldOrBooted images all places bytes = images bytes ⊎ ((found : List Rec) × StandsFor all found × StandsForEither found (boot_of found places) bytes)

@@ -8,16 +8,15 @@ use Rattle.xfs_disk.specs.declared.disk.Disk.{Ghosts}
 use Rattle.xfs_mech.specs.declared.motion.Motion.{Motion}
 use Rattle.xfs_mech.specs.Motions.{NumberIs}
 use Rattle.xfs_journal.specs.Image.{StandsFor}
-use Rattle.xfs_journal.specs.Journal.{record_at}
+use Rattle.xfs_journal.specs.Journal.{boot_of, record_at, with_boot}
 use Rattle.xfs_base.specs.declared.counts.Places.{Places}
 use Rattle.xfs_journal.specs.JournalView.{longest, IsPossible, StandsForEither}
-use Rattle.xfs_journal.specs.declared.record.Rec.TheVariants.{Boot}
 use Rattle.xfs_journal.specs.declared.record.Rec.{Rec}
 use Rattle.xfs_guard.specs.Agrees.{IsNoOrder}
 use Rattle.xfs_guard.specs.Lives.{BeginsWith}
 use Rattle.xfs_guard.specs.View.{View, GuardView}
 
--- A list that is a prefix of the records but for its last record. What stands in that one's place now, or is in doubt there, is the same record, or no order; where nothing stands there, the journal takes no record but a Boot.
+-- A list that is a prefix of the records but for its last record. What stands in that one's place now, or is in doubt there, is the same record, or no order; where nothing stands there, the journal takes no record but a boot record.
 pub record IsTorn (records : List Rec) (in_doubt : Option Rec) (closed : Bool) (list : List Rec) : Type 0 where
   pub prefix : List Rec
   pub last : Rec
@@ -44,13 +43,13 @@ pub record StandsLeft (old new : View) (bytes : List ℕ) : Type 0 where
   pub begins : BeginsWith list old.records
   pub left : IsCrashOutcomeAt new list
 
--- a possible list was read again, and the bytes stand for it, or for it with this Boot; both were left on the way to what is kept now
+-- a possible list was read again, and the bytes stand for it, or for it with this boot record; both were left on the way to what is kept now
 pub record StandsReread (kept : List Rec) (in_doubt : Option Rec) (places : Places) (IsLeftNow : List Rec → Type 0) (bytes : List ℕ) : Type 0 where
   pub list : List Rec
   pub possible : IsPossible kept in_doubt list
-  pub either : StandsForEither list (Boot places) bytes
+  pub either : StandsForEither list (boot_of list places) bytes
   pub without : IsLeftNow list
-  pub booted : IsLeftNow (list ++ Boot places ∷ [])
+  pub booted : IsLeftNow (with_boot list places)
 
 -- The disk goes on telling, and each image of each moment since the earlier state is one of those of then, or stands for a list that was left on the way to the later one.
 pub record LeavesBehind {D : Type 0} (g : Ghosts D) (old new : GuardView D) : Type 0 where

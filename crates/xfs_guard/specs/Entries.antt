@@ -1,5 +1,5 @@
 -- What a boot finds at its entry, and the guard that it begins.
-use Rattle.std.specs.Prelude.{◌≡◌, ℕ, false, List, [], ◌∷◌, ◌++◌, is_some, None}
+use Rattle.std.specs.Prelude.{◌≡◌, ℕ, false, List, is_some, None}
 use Rattle.std.specs.declared.option.Option.{Option}
 use Rattle.xfs_base.specs.declared.counts.Places.{Places}
 use Rattle.xfs_base.specs.declared.money.NoteKind.{NoteKind}
@@ -8,7 +8,7 @@ use Rattle.xfs_mech.specs.declared.mechanism.Mechanism.{Ghosts as Mechanisms}
 use Rattle.xfs_mech.specs.declared.motion.Motion.{Motion}
 use Rattle.xfs_journal.specs.declared.limits.Limits.{Limits}
 use Rattle.xfs_journal.specs.declared.record.Rec.{Rec}
-use Rattle.xfs_journal.specs.declared.record.Rec.TheVariants.{Boot}
+use Rattle.xfs_journal.specs.Journal.{with_boot}
 use Rattle.xfs_guard.specs.Balance.{no_notes}
 use Rattle.xfs_guard.specs.Booting.{IsFound}
 use Rattle.xfs_guard.specs.View.{View}
@@ -66,6 +66,6 @@ opened e records = record {
   disk_told = is_some e.held;
 }
 
--- the guard that a boot begins: the list that the disk had, with a Boot of the mechanism's places behind it
+-- the guard that a boot begins: the list that the disk had, with a boot record of the mechanism's places behind it
 abbrev pub Begins : AtEntry → View → Type 0
-Begins e guard = IsFound e.held (λ records. guard ≡ opened e (records ++ Boot e.places ∷ []))
+Begins e guard = IsFound e.held (λ records. guard ≡ opened e (with_boot records e.places))

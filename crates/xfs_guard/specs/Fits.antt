@@ -1,4 +1,4 @@
--- Whether the journal takes more records: not where it is shut, nor where its Boot is missing, nor where fewer than 3 records or fewer than 2,048 bytes are left of its limits.
+-- Whether the journal takes more records: not where it is shut, nor where its boot record is missing, nor where fewer than 3 records or fewer than 2,048 bytes are left of its limits.
 use Rattle.std.specs.Prelude.{◌-◌, nat_lt, Bool, ◌||◌, length, Some, None, if◌then◌else◌}
 use Rattle.std.specs.declared.option.Option.{Option}
 use Rattle.xfs_journal.specs.Image.{size}

@@ -5,8 +5,7 @@ use Rattle.xfs_base.specs.declared.counts.Places.{Places}
 use Rattle.xfs_mech.specs.declared.motion.Motion.{Motion}
 use Rattle.xfs_mech.specs.Motions.{PlacesOf, NumberIs}
 use Rattle.xfs_journal.specs.declared.record.Rec.{Rec}
-use Rattle.xfs_journal.specs.declared.record.Rec.TheVariants.{Boot}
-use Rattle.xfs_journal.specs.Journal.{record_at}
+use Rattle.xfs_journal.specs.Journal.{boot_places, record_at}
 
 -- a boot record of this number has the places after some prefix of the motions: those of lower numbers, none of higher
 pub record BootFits (old : Places) (motions : List Motion) (n : ℕ) (places : Places) : Type 0 where
@@ -24,4 +23,4 @@ pub record Follows (records : List Rec) (motions : List Motion) (places : Places
   pub moved : motions' ≡ motions ++ moves
   pub reached : PlacesOf places moves places'
   pub later : AllByRecursion (NumberIs (λ n. length records ≤ n)) moves
-  pub boots : (n : ℕ) (p : Places) → length records < n → record_at records' n ≡ Some (Boot p) → BootFits places moves n p
+  pub boots : (n : ℕ) (r : Rec) (p : Places) → length records < n → record_at records' n ≡ Some r → boot_places r ≡ Some p → BootFits places moves n p

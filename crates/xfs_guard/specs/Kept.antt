@@ -24,7 +24,7 @@ HasLimits No v = ⊤
 HasLimits (Written kind counts) v = (length v.records + 1 ≤ v.limits.records) × (size v.records + 68 ≤ v.limits.bytes)
 HasLimits (Acted kind moved diverted failed) v = exceeds v.limits (v.records ++ Done moved diverted ∷ []) ≡ false
 
--- What a guard is: sound while its journal isn't shut and has its Boot, with room to carry its order through, over a mechanism of its units, whose notes balance with the last Boot. Each list that the disk may have agrees with the mechanism's, where both are told.
+-- What a guard is: sound while its journal isn't shut and has its boot record, with room to carry its order through, over a mechanism of its units, whose notes balance with the last boot record. Each list that the disk may have agrees with the mechanism's, where both are told.
 pub record IsKept (v : View) (spare left : ℕ) (kinds : List NoteKind) : Type 0 where
   pub sound : v.shut ≡ false → v.boot_missing ≡ false → IsSound v
   pub clean : v.shut ≡ false → v.in_doubt ≡ None

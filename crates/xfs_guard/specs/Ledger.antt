@@ -50,7 +50,7 @@ pub record IsRead (records : List Rec) (units : List NoteKind) (issues mark : �
 abbrev pub IsDoubted : Option Rec → Option Nonce → Type 0
 IsDoubted in_doubt doubted = (n : Nonce) → nonce_of in_doubt ≡ Some n → doubted ≡ Some n
 
--- all of it is so while the journal is open and has its Boot, and the live issue also while it is shut
+-- all of it is so while the journal is open and has its boot record, and the live issue also while it is shut
 pub record KeepsLedger (records : List Rec) (in_doubt : Option Rec) (shut boot_missing : Bool) (units : List NoteKind) (issues mark : ℕ) (live : Option Live) (bound : Option Bound) (doubted : Option Nonce) : Type 0 where
   pub read : shut ≡ false → boot_missing ≡ false → IsRead records units issues mark live bound
   pub lives : boot_missing ≡ false → IsLive records live

@@ -8,18 +8,18 @@ use Rattle.xfs_base.specs.declared.counts.Kind.TheVariants.{Present}
 use Rattle.xfs_base.specs.declared.money.NoteKind.{NoteKind}
 use Rattle.xfs_base.specs.declared.counts.Places.{Places}
 use Rattle.xfs_disk.specs.declared.disk.Disk.{Ghosts}
+use Rattle.xfs_journal.specs.Journal.{boot_of, with_boot}
 use Rattle.xfs_journal.specs.JournalView.{JournalView, exceeds, IsPossible, StandsForEither}
 use Rattle.xfs_journal.specs.declared.record.Rec.{Rec}
-use Rattle.xfs_journal.specs.declared.record.Rec.TheVariants.{Boot}
 use Rattle.xfs_guard.specs.Balance.{no_notes}
 use Rattle.xfs_guard.specs.Crashed.{IsCrashOutcome, StandsReread}
 use Rattle.xfs_guard.specs.LedgerView.{LedgerView}
 use Rattle.xfs_guard.specs.Presented.{presented_in}
 
--- a possible list of the journal was read again, and has a Boot of these places behind it, since which nothing was loaded
+-- a possible list of the journal was read again, and has a boot record of these places behind it, since which nothing was loaded
 abbrev pub IsBootedNow : {D : Type 0} → LedgerView D → LedgerView D → Places → Type 0
 IsBootedNow old new places = (records : List Rec) × IsPossible old.records old.in_doubt records × (new ≡ record old {
-  records = records ++ Boot places ∷ [];
+  records = with_boot records places;
   bound = None;
   booted = places;
   loaded = no_notes;
@@ -30,9 +30,9 @@ IsBootedNow old new places = (records : List Rec) × IsPossible old.records old.
   disk = new.disk;
 })
 
--- a possible list was read again, and there is no room for its Boot
+-- a possible list was read again, and there is no room for its boot record
 abbrev pub IsMissingNow : {D : Type 0} → LedgerView D → LedgerView D → Places → Type 0
-IsMissingNow old new places = (records : List Rec) × IsPossible old.records old.in_doubt records × (exceeds old.limits (records ++ Boot places ∷ []) ≡ true) × (new ≡ record old {
+IsMissingNow old new places = (records : List Rec) × IsPossible old.records old.in_doubt records × (exceeds old.limits (with_boot records places) ≡ true) × (new ≡ record old {
   records = records;
   bound = None;
   shut = false;
@@ -42,13 +42,13 @@ IsMissingNow old new places = (records : List Rec) × IsPossible old.records old
   disk = new.disk;
 })
 
--- a possible list was read again, and the disk failed at its Boot
+-- a possible list was read again, and the disk failed at its boot record
 abbrev pub IsFailedNow : {D : Type 0} → LedgerView D → LedgerView D → Places → Type 0
 IsFailedNow old new places = (records : List Rec) × IsPossible old.records old.in_doubt records × (new ≡ record old {
   records = records;
   bound = None;
   shut = true;
-  in_doubt = Some (Boot places);
+  in_doubt = Some (boot_of records places);
   room = new.room;
   disk = new.disk;
 })
@@ -57,7 +57,7 @@ IsFailedNow old new places = (records : List Rec) × IsPossible old.records old.
 abbrev pub IsUnreadNow : {D : Type 0} → LedgerView D → LedgerView D → Type 0
 IsUnreadNow old new = new ≡ record old { shut = true; disk = new.disk }
 
--- one of the images before, or the bytes stand for a possible list that was read again, with this Boot or without it
+-- one of the images before, or the bytes stand for a possible list that was read again, with this boot record or without it
 abbrev pub IsOldOrReread : {D : Type 0} → Ghosts D → LedgerView D → LedgerView D → Places → List ℕ → Type 0
 IsOldOrReread g old new places bytes = g.images old.disk bytes
     ⊎ StandsReread old.records old.in_doubt places (IsCrashOutcome new.records new.in_doubt (new.shut || new.boot_missing)) bytes

@@ -13,7 +13,7 @@ use Rattle.xfs_guard.specs.declared.deny.Deny.{Deny}
 use Rattle.xfs_guard.specs.declared.deny.Deny.TheVariants.{Shut, Full, Disk, Memory}
 use Rattle.xfs_guard.specs.Presented.{presented_in}
 
--- a ledger: its journal with the disk, the table of its units, the amounts of the token that is bound to the live nonce, the places of the last Boot that it appended and the notes that were loaded since, the room for more records, and whether its Boot is missing, for which a restore found no room
+-- a ledger: its journal with the disk, the table of its units, the amounts of the token that is bound to the live nonce, the places of the last boot record that it appended and the notes that were loaded since, the room for more records, and whether its boot record is missing, for which a restore found no room
 pub record LedgerView (D : Type 0) : Type 0 where
   pub records : List Rec
   pub units : List NoteKind
@@ -28,7 +28,7 @@ pub record LedgerView (D : Type 0) : Type 0 where
   pub in_doubt : Option Rec
   pub disk : D
 
--- the journal is open, and its Boot isn't missing
+-- the journal is open, and its boot record isn't missing
 abbrev pub IsOpen : {D : Type 0} → LedgerView D → Type 0
 IsOpen l = (l.shut ≡ false) × (l.boot_missing ≡ false)
 
@@ -75,7 +75,7 @@ Wrote (Ok x) old new r bound = Writes old new r bound
 Wrote (Err Disk) old new r bound = Doubts old new r
 Wrote (Err e) old new r bound = IsSame old new
 
--- why a record isn't taken: the journal is shut, its Boot is missing, or a limit would be exceeded
+-- why a record isn't taken: the journal is shut, its boot record is missing, or a limit would be exceeded
 abbrev pub write_refusal : {D : Type 0} → LedgerView D → Rec → Option Deny
 write_refusal l r = if l.shut then Some Shut else if l.boot_missing then Some Full else (if exceeds l.limits (l.records ++ r ∷ []) then Some Full else None)
 

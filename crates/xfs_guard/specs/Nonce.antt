@@ -20,6 +20,6 @@ Ends r = (r ≡ Clear) ⊎ (r ≡ Expire)
 abbrev pub live_nonce : List Rec → Option Nonce
 live_nonce records = option_and_then (λ p. nonce_of (record_at records p)) (live_of records)
 
--- the nonce that lives: that of the live Issue, and none where the Boot behind the records is missing
+-- the nonce that lives: that of the live Issue, and none where the boot record behind the records is missing
 abbrev pub live_in : Bool → List Rec → Option Nonce
 live_in boot_missing records = if boot_missing then None else live_nonce records

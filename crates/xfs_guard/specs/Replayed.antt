@@ -8,8 +8,9 @@ use Rattle.xfs_base.specs.declared.counts.Kind.TheVariants.{Present, Retract}
 use Rattle.xfs_mech.specs.declared.motion.Motion.{Motion}
 use Rattle.xfs_mech.specs.declared.motion.Motion.TheVariants.{Moved, Taken, Loaded}
 use Rattle.xfs_journal.specs.declared.record.Rec.{Rec}
-use Rattle.xfs_journal.specs.declared.record.Rec.TheVariants.{Boot, Order, Done, Load}
-use Rattle.xfs_journal.specs.Journal.{Walk}
+use Rattle.xfs_journal.specs.declared.record.Rec.TheVariants.{Order, Done, Load}
+use Rattle.xfs_base.specs.declared.counts.Places.{Places}
+use Rattle.xfs_journal.specs.Journal.{boot_places, Walk}
 use Rattle.xfs_guard.specs.Agrees.{MayFollow, keep_last}
 
 -- how many records were read, the kind of the order that was the last of them, what lies in the outlet, and the motions
@@ -53,11 +54,15 @@ outlet_done (Some Present) outlet moved = moved
 outlet_done (Some Retract) outlet moved = left_of outlet moved
 outlet_done ordered outlet moved = outlet
 
--- what lies in the outlet: a Boot tells it, and a Done changes it
+-- the outlet of places that are told; where none are told it is as before
+abbrev pub outlet_told : Option Places → Counts → Counts
+outlet_told (Some places) outlet = places.outlet
+outlet_told None outlet = outlet
+
+-- what lies in the outlet: a boot record tells it, and a Done changes it
 abbrev pub outlet_after : Replay → Rec → Counts
-outlet_after r (Boot places) = places.outlet
 outlet_after r (Done moved diverted) = outlet_done r.ordered r.outlet moved
-outlet_after r x = r.outlet
+outlet_after r x = outlet_told (boot_places x) r.outlet
 
 abbrev pub ordered_by : Rec → Option Kind
 ordered_by (Order kind counts) = Some kind

@@ -6,7 +6,7 @@ use Rattle.xfs_mech.specs.Mechanism.{Reports}
 use Rattle.xfs_guard.specs.Balance.{loaded_after}
 use Rattle.xfs_guard.specs.View.{View}
 
--- the mechanism reported this entry, or failed and moved nothing; a loading counts since the Boot where it didn't fail; spare and left are the room before and after
+-- the mechanism reported this entry, or failed and moved nothing; a loading counts since the boot record where it didn't fail; spare and left are the room before and after
 pub record HasReported (old new : View) (entry : Motion) (moved diverted : Counts) (failed : Bool) : Type 0 where
   pub spare : ℕ
   pub left : ℕ

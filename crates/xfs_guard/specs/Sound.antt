@@ -59,7 +59,7 @@ abbrev pub where_told : Bool → Option (List Motion) → Option (List Motion)
 where_told true motions = motions
 where_told false motions = None
 
--- what a guard keeps while its journal isn't shut and has its Boot
+-- what a guard keeps while its journal isn't shut and has its boot record
 pub record IsSound (v : View) : Type 0 where
   pub numbered : v.disk_told ≡ true → Numbered v.records
   pub stands : OpenIsNewest v.open_order v.records v.places

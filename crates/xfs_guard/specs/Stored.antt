@@ -1,5 +1,5 @@
 -- Which lists of records a disk may have.
-use Rattle.std.specs.Prelude.{◌≡◌, ◌⊎◌, true, is_some, ℕ, List, [], ◌∷◌, ◌++◌}
+use Rattle.std.specs.Prelude.{◌≡◌, ◌⊎◌, true, is_some, ℕ, List}
 use Rattle.std.specs.declared.option.Option.{Option}
 use Rattle.xfs_base.specs.Causes.{IfTold}
 use Rattle.xfs_base.specs.declared.counts.Places.{Places}
@@ -7,7 +7,7 @@ use Rattle.xfs_disk.specs.declared.disk.Disk.{Ghosts}
 use Rattle.xfs_journal.specs.Image.{StandsFor}
 use Rattle.xfs_journal.specs.JournalView.{IsPossible, LeavesOneOf}
 use Rattle.xfs_journal.specs.declared.record.Rec.{Rec}
-use Rattle.xfs_journal.specs.declared.record.Rec.TheVariants.{Boot}
+use Rattle.xfs_journal.specs.Journal.{with_boot}
 
 -- each image of a disk that tells is that of the kept list, or of that list with the record in doubt
 abbrev pub IsStored : {D : Type 0} → Ghosts D → D → List Rec → Option Rec → Type 0
@@ -28,8 +28,8 @@ pub record MayLeave {D : Type 0} (g : Ghosts D) (disk : D) (records : List Rec) 
   pub left : g.images disk bytes
   pub stands : StandsFor bytes records
 
--- a crash may have left this list before, or this list without its Boot
+-- a crash may have left this list before, or this list without its boot record
 pub record WasLeft {D : Type 0} (g : Ghosts D) (disk : D) (places : Places) (records : List Rec) : Type 0 where
   pub list : List Rec
   pub before : MayLeave g disk list
-  pub grown : (records ≡ list) ⊎ (records ≡ list ++ Boot places ∷ [])
+  pub grown : (records ≡ list) ⊎ (records ≡ with_boot list places)

@@ -36,7 +36,7 @@ abbrev pub IsCounted : View → Type 0
 IsCounted v = IfTold (where_told v.disk_told v.motions) (λ motions.
     (p : ℕ) (c : List ℕ) → live_of v.records ≡ Some p → shown v.units v.records motions p c ≡ presented_in v.units v.records c + unsettled v.units v.open_order c)
 
--- The list is stored, and each image of the disk stands for a list that is recorded. While the journal is open and has its Boot, the open order is its newest record, and the budget holds; else no order is open. Whatever the mechanism tells, the notes balance with the last Boot. A live nonce has its Issue, the last mark is one, and the bound token has its Bind.
+-- The list is stored, and each image of the disk stands for a list that is recorded. While the journal is open and has its boot record, the open order is its newest record, and the budget holds; else no order is open. Whatever the mechanism tells, the notes balance with the last boot record. A live nonce has its Issue, the last mark is one, and the bound token has its Bind.
 pub record IsUpheld {D : Type 0} (g : Ghosts D) (now : GuardView D) : Type 0 where
   pub stored : IsStored g now.disk now.state.records now.state.in_doubt
   pub recorded : IfTold (g.held now.disk) (λ _. (bytes : List ℕ) → g.images now.disk bytes → StandsRecorded now.state.key now.state.units now.state.motions bytes)

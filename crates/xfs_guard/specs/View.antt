@@ -1,19 +1,19 @@
 -- What is seen of a guard.
-use Rattle.std.specs.Prelude.{ℕ, Bool, true, false, List, [], ◌∷◌, ◌++◌, None, Some}
+use Rattle.std.specs.Prelude.{ℕ, Bool, true, false, List, None, Some}
 use Rattle.std.specs.declared.option.Option.{Option}
 use Rattle.xfs_base.specs.declared.money.NoteKind.{NoteKind}
 use Rattle.xfs_base.specs.declared.counts.Counts.{Counts}
 use Rattle.xfs_base.specs.declared.counts.Places.{Places}
 use Rattle.xfs_mech.specs.declared.motion.Motion.{Motion}
 use Rattle.xfs_journal.specs.declared.record.Rec.{Rec}
-use Rattle.xfs_journal.specs.declared.record.Rec.TheVariants.{Boot}
+use Rattle.xfs_journal.specs.Journal.{boot_of, with_boot}
 use Rattle.xfs_journal.specs.declared.limits.Limits.{Limits}
 use Rattle.xfs_guard.specs.Balance.{no_notes}
 use Rattle.xfs_guard.specs.LedgerView.{LedgerView}
 use Rattle.xfs_guard.specs.declared.open.Open.{Open}
 use Rattle.xfs_guard.specs.declared.open.Open.TheVariants.{No}
 
--- a guard: its key, seed and units, its journal, the amounts of the token that is bound to the live nonce, the open order, what its mechanism tells, the places of the last Boot that it appended and the notes that were loaded since, the journal's limits, whether the journal is shut, whether a restore found no room for its Boot since the last Boot was appended, the record whose append last answered that the disk failed, and whether the disk tells its bytes
+-- a guard: its key, seed and units, its journal, the amounts of the token that is bound to the live nonce, the open order, what its mechanism tells, the places of the last boot record that it appended and the notes that were loaded since, the journal's limits, whether the journal is shut, whether a restore found no room for its boot record since the last boot record was appended, the record whose append last answered that the disk failed, and whether the disk tells its bytes
 pub record View : Type 0 where
   pub key : List ℕ
   pub seed : List ℕ
@@ -61,17 +61,17 @@ shut_at r v = record v { shut = true; in_doubt = Some r }
 abbrev pub unread : View → View
 unread v = record v { open_order = No; shut = true }
 
--- the journal was read again, as this list, and has no Boot behind it
+-- the journal was read again, as this list, and has no boot record behind it
 abbrev pub reread : View → List Rec → View
 reread v records = record v { records = records; bound = None; open_order = No; shut = false; boot_missing = true; in_doubt = None }
 
--- and has a Boot of the mechanism's places behind it, since which nothing was loaded
+-- and has a boot record of the mechanism's places behind it, since which nothing was loaded
 abbrev pub restarted : View → List Rec → View
-restarted v records = record (reread v (records ++ Boot v.places ∷ [])) { booted = v.places; loaded = no_notes; boot_missing = false }
+restarted v records = record (reread v (with_boot records v.places)) { booted = v.places; loaded = no_notes; boot_missing = false }
 
--- and the disk failed at that Boot; whether an earlier one is missing stays
+-- and the disk failed at that boot record; whether an earlier one is missing stays
 abbrev pub unbooted : View → List Rec → View
-unbooted v records = record (reread v records) { shut = true; boot_missing = v.boot_missing; in_doubt = Some (Boot v.places) }
+unbooted v records = record (reread v records) { shut = true; boot_missing = v.boot_missing; in_doubt = Some (boot_of records v.places) }
 
 -- the same, and the disk of the journal
 pub record GuardView (D : Type 0) : Type 0 where

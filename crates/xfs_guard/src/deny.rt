@@ -4,14 +4,14 @@ use std::alloc::{AllocError, AllocFailed};
 use xfs_base::{Currency, Memory, Milli};
 use xfs_token::TokenFault;
 
-/// Why the guard refuses. `since` is the number of the last Issue, Clear, Expire or Boot record; in
+/// Why the guard refuses. `since` is the number of the last Issue, Clear, Expire or boot record; in
 /// `OtherBound` it is that of the Bind.
 #[derive(Clone, Copy, Debug, PartialEq, Eq)]
 pub enum Deny {
     /// The disk failed in an earlier call, and the journal wasn't read again since.
     Shut,
     /// Fewer than `LEAST_RECORDS` or `LEAST_BYTES` are left of the journal's limits, or a restore found no room
-    /// for its Boot.
+    /// for its boot record.
     Full,
     /// The token has more than 1,024 bytes.
     TooLong,

@@ -12,7 +12,7 @@ pub enum BootFault {
     NotJournal { at: u64 },
     /// The disk failed in this call: its count of faults rose.
     Disk,
-    /// The Boot record exceeds a limit of the journal.
+    /// The boot record exceeds a limit of the journal.
     Full,
     Memory,
 }

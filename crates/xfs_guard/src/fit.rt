@@ -1,4 +1,4 @@
-/// So many records must be left of the journal's limits, so that an order has room for its Done, and a Boot behind it.
+/// So many records must be left of the journal's limits, so that an order has room for its Done, and a boot record behind it.
 pub const LEAST_RECORDS: u64 = 3;
 
 /// So many bytes must be left, which those three records never need.
@@ -12,6 +12,6 @@ pub enum Fit {
     /// The disk failed, and the journal wasn't read again since.
     Shut,
     /// Fewer than `LEAST_RECORDS` or `LEAST_BYTES` are left of the journal's limits, or a restore found no room
-    /// for its Boot.
+    /// for its boot record.
     Full,
 }

@@ -1,7 +1,7 @@
 ghost use Rattle.std.specs.Prelude.{MatchResult, ◌≡◌, ◌≢◌, ◌↔◌, ℕ, true, ◌<◌, ◌≤◌, [], ◌∷◌, ◌++◌, length, false, true, is_some, OnOk, OnErr, IfOk, IfErr, IsTrue, Some, None, Err};
 ghost use Rattle.std.specs.Option.{option_or};
 ghost use Rattle.xfs_base.specs.Causes.{IfTold, Rose};
-ghost use Rattle.xfs_journal.specs.declared.record.Rec.TheVariants.{Issue, Clear, Expire, Boot, Order};
+ghost use Rattle.xfs_journal.specs.declared.record.Rec.TheVariants.{Issue, Clear, Expire, Order};
 ghost use Rattle.xfs_journal.specs.Journal.{next_issue};
 ghost use Rattle.xfs_guard.specs.declared.open.Open.TheVariants.{No, Written};
 ghost use Rattle.xfs_guard.specs.Booting.{LacksRoom, LeavesEither, LeavesListOf, LeavesRecorded, SparesAll, SparesUnlisted};
@@ -18,7 +18,7 @@ ghost use Rattle.xfs_guard.specs.LedgerView.{IsWriteFault};
 ghost use Rattle.xfs_guard.specs.Lives.{WasNeverAnswered};
 ghost use Rattle.xfs_guard.specs.Stored.{IsStored};
 ghost use Rattle.xfs_guard.specs.declared.fail.BootFault.TheVariants.{NotJournal, Disk as BootDisk, Full as BootFull};
-ghost use Rattle.xfs_journal.specs.JournalView.{IsNoJournal, exceeds};
+ghost use Rattle.xfs_journal.specs.JournalView.{IsCarriedOver, IsNoJournal, exceeds};
 ghost use Rattle.xfs_disk.specs.Moments.{LeavesOnly};
 ghost use Rattle.xfs_journal.specs.Paging.{IsQuiet};
 ghost use Rattle.xfs_journal.specs.declared.record.Rec.{Rec};
@@ -75,9 +75,9 @@ impl<M: Mechanism, D: Disk> Model for Guard<M, D> {
 }
 
 impl<M: Mechanism, D: Disk> Guard<M, D> {
-    /// A guard over this mechanism and the journal of this disk, which gets a Boot. The key is that of
+    /// A guard over this mechanism and the journal of this disk, which gets a boot record. The key is that of
     /// the tokens' HMAC, the seed that of the nonces. A refused boot hands both back; but for `Disk` it has
-    /// written nothing, except that a file of at most 9 bytes may be an empty journal.
+    /// written nothing, except that a file of at most 9 bytes may be an empty journal, and one of version 1 of version 2.
     pub fn boot(
         alloc: Global,
         mech: M,
@@ -92,6 +92,7 @@ impl<M: Mechanism, D: Disk> Guard<M, D> {
         ensures ok { IfOk result (λ g. Begins (entry_of M.Mechanism D.Disk mech disk key seed units limits) g.state) }
         ensures fits { IfOk result (λ g. exceeds limits g.state.records ≡ false) }
         ensures continues { IfOk result (λ g. ContinuesFound (M.places mech) g.state) }
+        ensures carried { IfOk result (λ g. IsCarriedOver (D.held g.disk)) }
 
         ensures mech { IfErr result (λ f. f.mech ≡ mech) }
         ensures not_journal { IfErr result (λ f. (at : ℕ) → f.why ≡ NotJournal at → IsNoJournal (D.held disk) at) }
@@ -111,13 +112,13 @@ impl<M: Mechanism, D: Disk> Guard<M, D> {
             (λ g. LeavesOnly D.Disk disk g.disk (StandsRecorded key units (M.motions mech)))
             (λ f. LeavesOnly D.Disk disk f.disk (StandsRecorded key units (M.motions mech)))) }
 
-        // Each of them is one of those before, or stands for the list that was found, with the Boot or without it.
+        // Each of them is one of those before, or stands for the list that was found, with the boot record or without it.
         ensures crashes { IfTold (D.held disk) (λ all. MatchResult result
             (λ g. LeavesOnly D.Disk disk g.disk (IsOldOrBooted (D.images disk) all (M.places mech)))
             (λ f. LeavesOnly D.Disk disk f.disk (IsOldOrBooted (D.images disk) all (M.places mech)))) }
     {
         let places = mech.survey();
-        // The memory of the Boot is had before the journal is read.
+        // The memory of the boot record is had before the journal is read.
         let Ok(survey) = Survey::new(alloc, places) else {
             return Err(BootFail {
                 why: BootFault::Memory,
@@ -190,8 +191,8 @@ impl<M: Mechanism, D: Disk> Guard<M, D> {
         }
     }
 
-    /// The live nonce. None where none was issued since the last Boot, or it was cleared, or a restore found no
-    /// room for its Boot.
+    /// The live nonce. None where none was issued since the last boot record, or it was cleared, or a restore found no
+    /// room for its boot record.
     pub fn live(&self) -> Option<Nonce>
         ensures { result ≡ live_in self.now.state.boot_missing self.now.state.records }
     {
@@ -242,14 +243,14 @@ impl<M: Mechanism, D: Disk> Guard<M, D> {
         self.mech.survey()
     }
 
-    /// The places of the last Boot that this guard appended.
+    /// The places of the last boot record that this guard appended.
     pub fn booted(&self) -> &Places
         ensures { result.now ≡ self.now.state.booted }
     {
         self.ledger.booted()
     }
 
-    /// How many notes of each unit were loaded since that Boot: over the six places the unit has so many more.
+    /// How many notes of each unit were loaded since that boot record: over the six places the unit has so many more.
     pub fn loaded(&self) -> &Counts
         ensures { result.now ≡ self.now.state.loaded }
     {

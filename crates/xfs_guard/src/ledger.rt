@@ -11,10 +11,10 @@ ghost use Rattle.xfs_journal.specs.Image.{HasUnit, StandsFor, size};
 ghost use Rattle.xfs_journal.specs.Paging.{CeasesAt, IsOldOrShort, IsQuiet};
 ghost use Rattle.xfs_journal.specs.declared.record.Rec.{Rec};
 ghost use Rattle.xfs_guard.specs.declared.fail.BootFault.TheVariants.{NotJournal, Disk as BootDisk, Full as BootFull, Memory as BootMemory};
-ghost use Rattle.xfs_journal.specs.JournalView.{exceeds, refusal, IsNoJournal, IsPossible, StandsForEither};
+ghost use Rattle.xfs_journal.specs.JournalView.{exceeds, refusal, IsCarriedOver, IsNoJournal, IsPossible, StandsForEither};
 ghost use Rattle.xfs_disk.specs.Moments.{LeavesOnly};
-ghost use Rattle.xfs_journal.specs.declared.record.Rec.TheVariants.{Issue, Clear, Boot, Bind, Order, Done, Load};
-ghost use Rattle.xfs_journal.specs.Journal.{record_at, live_of, token_of, last_mark, next_issue, nonce_text};
+ghost use Rattle.xfs_journal.specs.declared.record.Rec.TheVariants.{Issue, Clear, Bind, Order, Done, Load};
+ghost use Rattle.xfs_journal.specs.Journal.{boot_of, issues_in, record_at, live_of, token_of, last_mark, next_issue, nonce_text, with_boot};
 ghost use Rattle.xfs_guard.specs.Nonce.{Ends, live_in, nonce_of};
 ghost use Rattle.xfs_guard.specs.Refusals.{bound_token, bound_number};
 ghost use Rattle.xfs_guard.specs.Presented.{presented_in};
@@ -29,12 +29,13 @@ ghost use Rattle.xfs_guard.specs.Stored.{IsStored, LeavesPossible, MayLeave, Was
 ghost use Rattle.xfs_guard.specs.Pays.{Fits, Pays, IsSumOf};
 
 use crate::bound::{Bound, Live};
+use crate::mounting::mount;
 use crate::{BootFault, Deny, Nonce};
 use std::alloc::Global;
 use std::marker::Model;
 use xfs_base::{Counts, Currency, Kind, Memory, Places, UnitTable};
 use xfs_disk::Disk;
-use xfs_journal::{AppendFault, Journal, Limits, MountFail, Rec, Survey, Text};
+use xfs_journal::{AppendFault, Journal, Limits, Rec, Survey, Text};
 use xfs_token::Amounts;
 
 /// The journal, and beside it what of its records would else be looked for at each call: the number of issues,
@@ -47,7 +48,7 @@ pub struct Ledger<D: Disk> {
     mark: u64,
     live: Option<Live>,
     bound: Option<Bound>,
-    // The places of the last Boot that was appended, and the notes that were loaded since.
+    // The places of the last boot record that was appended, and the notes that were loaded since.
     booted: Places,
     loaded: Counts,
     boot_missing: bool,
@@ -86,7 +87,7 @@ pub struct RefusedLedger<D: Disk> {
 }
 
 impl<D: Disk> Ledger<D> {
-    /// The journal of a disk, which gets a Boot with these places.
+    /// The journal of a disk, which gets a boot record with these places.
     pub fn boot(
         alloc: Global,
         disk: D,
@@ -94,12 +95,13 @@ impl<D: Disk> Ledger<D> {
         units: UnitTable,
         places: Survey,
     ) -> Result<Ledger<D>, RefusedLedger<D>>
-        ensures records { IfOk result (λ l. IsFound (D.held disk) (λ records. l.records ≡ records ++ Boot places ∷ [])) }
+        ensures records { IfOk result (λ l. IsFound (D.held disk) (λ records. l.records ≡ with_boot records places)) }
         ensures fits { IfOk result (λ l. exceeds limits l.records ≡ false) }
         ensures opened { IfOk result (λ l. (l.shut ≡ false) × (l.in_doubt ≡ None) × (l.bound ≡ None) × (l.boot_missing ≡ false)) }
         ensures same { IfOk result (λ l. (l.limits ≡ limits) × (l.units ≡ units)) }
         ensures unloaded { IfOk result (λ l. (l.booted ≡ places) × (l.loaded ≡ no_notes)) }
         ensures kept { IfOk result (λ l. Leaves D.Disk l.disk l.records) }
+        ensures carried { IfOk result (λ l. IsCarriedOver (D.held l.disk)) }
         ensures told { MatchResult result (λ l. TellsAs D.Disk disk l.disk) (λ f. TellsAs D.Disk disk f.disk) }
         ensures not_journal { IfErr result (λ f. (at : ℕ) → f.why ≡ NotJournal at → IsNoJournal (D.held disk) at) }
         ensures refused { IfErr result (λ f. (at : ℕ) → f.why ≡ NotJournal at → IsQuiet D.Disk disk f.disk) }
@@ -114,18 +116,13 @@ impl<D: Disk> Ledger<D> {
             (λ f. LeavesOnly D.Disk disk f.disk (IsOldOrBooted (D.images disk) all places))) }
         ensures faults { MatchResult result (λ l. D.faults disk ≤ D.faults l.disk) (λ f. D.faults disk ≤ D.faults f.disk) }
     {
-        let mut journal = match Journal::mount(alloc, disk, limits) {
+        let mut journal = match mount(alloc, disk, limits) {
             Ok(journal) => journal,
-            Err(MountFail { why, disk }) => {
-                return Err(RefusedLedger {
-                    why: BootFault::from(why),
-                    disk,
-                });
-            }
+            Err(refused) => return Err(refused),
         };
         let issues = issues_of(journal.records());
         let booted = *places.places();
-        match append_boot(&mut journal, places) {
+        match append_boot(&mut journal, issues, places) {
             Ok(mark) => Ok(Ledger {
                 journal,
                 units,
@@ -180,7 +177,7 @@ impl<D: Disk> Ledger<D> {
         self.journal.shut()
     }
 
-    /// Whether a restore found no room for its Boot since the last one was appended.
+    /// Whether a restore found no room for its boot record since the last one was appended.
     pub fn boot_missing(&self) -> bool
         ensures { result ≡ self.now.boot_missing }
     {
@@ -211,7 +208,7 @@ impl<D: Disk> Ledger<D> {
         self.issues + 1
     }
 
-    /// The live nonce. None where a restore found no room for its Boot.
+    /// The live nonce. None where a restore found no room for its boot record.
     pub fn live(&self) -> Option<Nonce>
         ensures { result ≡ live_in self.now.boot_missing self.now.records }
     {
@@ -271,14 +268,14 @@ impl<D: Disk> Ledger<D> {
         }
     }
 
-    /// The places of the last Boot that was appended.
+    /// The places of the last boot record that was appended.
     pub fn booted(&self) -> &Places
         ensures { result.now ≡ self.now.booted }
     {
         &self.booted
     }
 
-    /// The notes that were loaded since that Boot.
+    /// The notes that were loaded since that boot record.
     pub fn loaded(&self) -> &Counts
         ensures { result.now ≡ self.now.loaded }
     {
@@ -439,7 +436,7 @@ impl<D: Disk> Ledger<D> {
         Ok(())
     }
 
-    /// The journal is read again, and gets a Boot with these places.
+    /// The journal is read again, and gets a boot record with these places.
     pub fn restore(&mut self, places: Survey) -> Result<(), BootFault>
         ensures ok { OnOk result (IsBootedNow self.old self.new places) }
         ensures fits { OnOk result (exceeds self.old.limits self.new.records ≡ false) }
@@ -464,7 +461,7 @@ impl<D: Disk> Ledger<D> {
         self.live = live_found(self.live, self.doubted, self.journal.records(), before);
         let issues = issues_of(self.journal.records());
         let booted = *places.places();
-        match append_boot(&mut self.journal, places) {
+        match append_boot(&mut self.journal, issues, places) {
             Ok(mark) => {
                 self.issues = issues;
                 self.mark = mark;
@@ -487,6 +484,7 @@ impl<D: Disk> Ledger<D> {
 // How many issues there are.
 fn issues_of(records: &[Rec]) -> u64
     ensures issues { result + 1 ≡ next_issue records.now }
+    ensures counted { result ≡ issues_in records.now }
     ensures few { result ≤ length records.now }
 {
     let mut issues = 0;
@@ -522,33 +520,40 @@ fn live_found(
             }),
             None => None,
         },
-        Rec::Clear | Rec::Expire | Rec::Boot { .. } => None,
+        Rec::Clear | Rec::Expire | Rec::Boot { .. } | Rec::Start { .. } => None,
         _ => live,
     }
 }
 
-// Appends the Boot of a journal that was just mounted.
-fn append_boot<D: Disk>(journal: &mut Journal<D>, places: Survey) -> Result<u64, BootFault>
-    requires { journal.old.shut ≡ false }
+// Appends the record of a start to a journal that was just mounted, in which so many nonces were issued.
+#[tactic(auto, unfolding(xfs_journal::specs::Journal::boot_of))]
+fn append_boot<D: Disk>(
+    journal: &mut Journal<D>,
+    issues: u64,
+    places: Survey,
+) -> Result<u64, BootFault>
+    requires open { journal.old.shut ≡ false }
+    requires issues { issues ≡ issues_in journal.old.records }
     ensures number { IfOk result (λ n. n ≡ length journal.old.records + 1) }
-    ensures ok { OnOk result (IsAppended journal.old journal.new (Boot places)) }
+    ensures ok { OnOk result (IsAppended journal.old journal.new (boot_of journal.old.records places)) }
     ensures fits { OnOk result (exceeds journal.old.limits journal.new.records ≡ false) }
-    ensures full { result ≡ Err BootFull → exceeds journal.old.limits (journal.old.records ++ Boot places ∷ []) ≡ true }
+    ensures full { result ≡ Err BootFull → exceeds journal.old.limits (with_boot journal.old.records places) ≡ true }
     ensures disk { result ≡ Err BootDisk → Rose (D.faults journal.old.disk) (D.faults journal.new.disk) }
     ensures kept { OnOk result (Leaves D.Disk journal.new.disk journal.new.records) }
-    ensures images { HasAtMost D.Disk journal.old.disk journal.new.disk journal.old.records (Boot places) }
-    ensures any_moment { AddsAtMost D.Disk journal.old.disk journal.new.disk journal.old.records (Boot places) }
+    ensures carried { OnOk result (IsCarriedOver (D.held journal.old.disk) → IsCarriedOver (D.held journal.new.disk)) }
+    ensures images { HasAtMost D.Disk journal.old.disk journal.new.disk journal.old.records (boot_of journal.old.records places) }
+    ensures any_moment { AddsAtMost D.Disk journal.old.disk journal.new.disk journal.old.records (boot_of journal.old.records places) }
     ensures told { is_some (D.held journal.new.disk) ≡ is_some (D.held journal.old.disk) }
     ensures unwritten { IfErr result (λ f. f ≢ BootDisk → journal.new.disk ≡ journal.old.disk) }
     ensures not_mounted { IfErr result (λ f. (at : ℕ) → f ≢ NotJournal at) }
     ensures reserved { 1 ≤ journal.old.room → result ≢ Err BootMemory }
     ensures same { OnErr result (journal.new.records ≡ journal.old.records) }
     ensures mounted { result ≡ Err BootFull → (journal.new.shut ≡ false) × (journal.new.in_doubt ≡ journal.old.in_doubt) }
-    ensures in_doubt { result ≡ Err BootDisk → (journal.new.shut ≡ true) × (journal.new.in_doubt ≡ Some (Boot places)) }
+    ensures in_doubt { result ≡ Err BootDisk → (journal.new.shut ≡ true) × (journal.new.in_doubt ≡ Some (boot_of journal.old.records places)) }
     ensures limits { journal.new.limits ≡ journal.old.limits }
     ensures faults { D.faults journal.old.disk ≤ D.faults journal.new.disk }
 {
-    match journal.append(Rec::Boot { places }) {
+    match journal.append(Rec::Start { issues, places }) {
         Ok(number) => Ok(number),
         Err(AppendFault::Full) => Err(BootFault::Full),
         Err(AppendFault::Memory) => Err(BootFault::Memory),

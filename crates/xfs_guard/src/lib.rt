@@ -14,6 +14,7 @@ mod fit;
 mod guard;
 mod ledger;
 mod machine_core;
+mod mounting;
 mod nonce;
 mod open;
 mod replayed;

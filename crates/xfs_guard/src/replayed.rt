@@ -14,7 +14,7 @@ use xfs_mech::Motion;
 /// The motions that a journal's records stand for: a Moved for each order with a Done, with the order's
 /// number and kind and the Done's counts; a Loaded for each Load; and, before the Moved of each order
 /// to present and at the end, a Taken of what then lies in the outlet, where it isn't empty. What lies
-/// there is what the last Boot tells, and what the orders since then presented and retracted; a count
+/// there is what the last boot record tells, and what the orders since then presented and retracted; a count
 /// that would fall below 0 stays there. An order without a Done gives no entry.
 ///
 /// The list agrees with the records wherever some list does, as the mechanism's does with its guard's
@@ -66,7 +66,9 @@ impl Replay {
         ensures ok { OnOk result (self.new ≡ replay_after self.old entry.now) }
     {
         match entry {
-            Rec::Boot { places } => self.outlet = places.places().outlet,
+            Rec::Boot { places } | Rec::Start { places, .. } => self.outlet = places
+                .places()
+                .outlet,
             Rec::Done { moved, diverted } => self.done(moved, diverted)?,
             Rec::Load { unit, count } => self.motions.push(Motion::Loaded {
                 unit: *unit,

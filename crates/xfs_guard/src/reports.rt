@@ -47,7 +47,7 @@ impl<M: Mechanism, D: Disk> Guard<M, D> {
 
     /// The operator adds so many notes to a unit, which counts from 1. The journal has nothing of it
     /// until `note_load`, and an order that is open stays so. Where it doesn't fail, the notes count among those
-    /// that were loaded since the last Boot.
+    /// that were loaded since the last boot record.
     pub fn load(&mut self, unit: u8, count: u32) -> Result<Outcome, Memory>
         requires fits { CanLoad self.old.state.units self.old.state.places unit count }
         ensures loaded { IfOk result (λ o. Loads unit count o.moved o.failed) }

@@ -5,7 +5,6 @@ ghost use Rattle.xfs_base.specs.Causes.{IfTold, Rose};
 ghost use Rattle.xfs_journal.specs.Image.{StandsFor};
 ghost use Rattle.xfs_journal.specs.JournalView.{IsPossible, exceeds};
 ghost use Rattle.xfs_journal.specs.declared.record.Rec.{Rec};
-ghost use Rattle.xfs_journal.specs.declared.record.Rec.TheVariants.{Boot};
 ghost use Rattle.xfs_guard.specs.declared.fail.BootFault.TheVariants.{NotJournal, Disk as BootDisk, Full as BootFull, Memory as BootMemory};
 ghost use Rattle.xfs_guard.specs.Booting.{IsBooted, IsRestored, IsUnbooted, IsUnread, IsUnrestored, IsUntold};
 ghost use Rattle.xfs_guard.specs.Keeps.{Keeps, NoEntry};
@@ -17,10 +16,10 @@ use xfs_journal::Survey;
 use xfs_mech::Mechanism;
 
 impl<M: Mechanism, D: Disk> Guard<M, D> {
-    /// Reads the journal again, which then gets a Boot with the mechanism's places: no nonce lives after it. The list
+    /// Reads the journal again, which then gets a boot record with the mechanism's places: no nonce lives after it. The list
     /// that is read is the kept one, or that one with the record in doubt. After `Memory` the guard is as before, its open
     /// order too; after every other answer none is open, and the Order stays in the journal and is never carried out.
-    /// After `Disk` and `NotJournal` the journal is shut. After `Full` it is open and its Boot is missing: no nonce
+    /// After `Disk` and `NotJournal` the journal is shut. After `Full` it is open and its boot record is missing: no nonce
     /// lives, and nothing is written, until a later restore appends one. A disk that tells its bytes is never refused
     /// as `NotJournal`.
     pub fn restore(&mut self) -> Result<(), BootFault>
@@ -37,7 +36,7 @@ impl<M: Mechanism, D: Disk> Guard<M, D> {
         ensures keeps { Keeps D.Disk NoEntry self.old self.new }
     {
         let places = self.mech.survey();
-        // The memory of the Boot is had before the journal is read.
+        // The memory of the boot record is had before the journal is read.
         let Ok(survey) = Survey::new(self.alloc, places) else {
             return Err(BootFault::Memory);
         };

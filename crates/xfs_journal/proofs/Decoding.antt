@@ -1,7 +1,7 @@
 -- A record is found again in its body, so no two records have one body.
 use Rattle.std.proofs.Common.{◌≡◌, ℕ, ◌*◌, ◌<◌, ◌≤◌, ◌^◌, List, [], ◌∷◌, ◌++◌, length, drop, refl, sym, ◌∙◌, ap, ap₂, arith, append_assoc, append-nil, length-append, drop_at}
 use Rattle.std.specs.Prelude.{All}
-use Rattle.std.specs.Int.{to_be_bytes, w32}
+use Rattle.std.specs.Int.{to_be_bytes, w32, w64}
 use Rattle.std.specs.List.{flat_map}
 use Rattle.std.proofs.lemmas.List.Elements.{All-head, All-tail}
 use Rattle.std.proofs.lemmas.Nat.{from_be_bytes-to_be_bytes_4, from_be_bytes-to_be_bytes_8}
@@ -10,9 +10,9 @@ use Rattle.xfs_base.specs.declared.counts.Kind.{Kind}
 use Rattle.xfs_base.specs.declared.counts.Kind.TheVariants.{Stack, Present, Reject, Retract}
 use Rattle.xfs_base.specs.declared.counts.Places.{Places}
 use Rattle.xfs_journal.specs.Decode.{numbers, counts_in, kind_in, places_in, record_of}
-use Rattle.xfs_journal.specs.Image.{body, counts_bytes, places_bytes, kind_byte, AreCounts, IsRecord}
+use Rattle.xfs_journal.specs.Image.{body, counts_bytes, places_bytes, kind_byte, AreCounts, ArePlaces, IsRecord}
 use Rattle.xfs_journal.specs.declared.record.Rec.{Rec}
-use Rattle.xfs_journal.specs.declared.record.Rec.TheVariants.{Issue, Clear, Expire, Boot, Bind, Order, Done, Load}
+use Rattle.xfs_journal.specs.declared.record.Rec.TheVariants.{Issue, Clear, Expire, Boot, Start, Bind, Order, Done, Load}
 
 numbers-back : (l rest : List ℕ) → All (λ n. n < 2 ^ 32) l → numbers (length l) (flat_map (to_be_bytes w32) l ++ rest) ≡ l
 numbers-back [] rest all = refl
@@ -84,6 +84,7 @@ record-back (Issue number word) is = ap₂ (λ n w. Issue n w) (from_be_bytes-to
 record-back Clear is = refl
 record-back Expire is = refl
 record-back (Boot p) is = ap (λ q. Boot q) (places-back p is.0 is.1 is.2 is.3 is.4 is.5)
+record-back (Start issues p) is = ap₂ (λ n q. Start n q) (from_be_bytes-to_be_bytes_8 issues is.0) (places-back p is.1.0 is.1.1 is.1.2 is.1.3 is.1.4 is.1.5)
 record-back (Bind token) is = refl
 record-back (Order kind counts) is = ap₂ (λ k c. Order k c) (kind-back kind) (counts-alone counts is)
 record-back (Done moved diverted) is = ap₂ (λ m d. Done m d) (counts-back moved (counts_bytes diverted) is.0)
@@ -93,7 +94,7 @@ record-back (Load unit count) is = ap (λ c. Load unit c) (from_be_bytes-to_be_b
 pub no_two_bodies : (r s : Rec) → IsRecord r → IsRecord s → body r ≡ body s → r ≡ s
 no_two_bodies r s is_r is_s same = sym (record-back r is_r) ∙ ap record_of same ∙ record-back s is_s
 
-pub places-size : (p : Places) → IsRecord (Boot p) → length (places_bytes p) ≡ 192
+pub places-size : (p : Places) → ArePlaces p → length (places_bytes p) ≡ 192
 places-size p is = omega (
   arith,
   counts-size p.units is.0,
@@ -115,6 +116,7 @@ body-short (Issue number word) is = omega arith
 body-short Clear is = omega arith
 body-short Expire is = omega arith
 body-short (Boot p) is = omega (arith, places-size p is)
+body-short (Start issues p) is = omega (arith, places-size p is.1, length-append (to_be_bytes w64 issues) (places_bytes p))
 body-short (Bind token) is = omega (arith, is.1)
 body-short (Order kind counts) is = omega (arith, counts-size counts is)
 body-short (Done moved diverted) is = omega (arith, counts-size moved is.0, counts-size diverted is.1, length-append (counts_bytes moved) (counts_bytes diverted))

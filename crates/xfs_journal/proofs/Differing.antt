@@ -6,11 +6,11 @@ use Rattle.std.specs.List.{AllByRecursion}
 use Rattle.std.proofs.lemmas.List.{take_more, take-append-le, take_all, length_push}
 use Rattle.std.proofs.lemmas.Bool.{cases_lt}
 use Rattle.std.proofs.lemmas.Option.{none-some, same_Some, slice_get_within, slice_get_past, get_or_from_slice_get}
-use Rattle.xfs_journal.specs.Image.{IsRecord, HasUnit, framed, contents, blocks}
+use Rattle.xfs_journal.specs.Image.{IsRecord, HasUnit, framed, end_of, blocks}
 use Rattle.xfs_journal.specs.JournalView.{IsPossible, DiffersAt, longest}
 use Rattle.xfs_journal.specs.declared.record.Rec.{Rec}
-use Rattle.xfs_journal.specs.declared.record.Rec.TheVariants.{Issue, Clear, Expire, Boot, Bind, Order, Done, Load}
-use Rattle.xfs_journal.proofs.Appended.{front-push}
+use Rattle.xfs_journal.specs.declared.record.Rec.TheVariants.{Issue, Clear, Expire, Boot, Start, Bind, Order, Done, Load}
+use Rattle.xfs_journal.proofs.Appended.{end-push}
 use Rattle.xfs_journal.proofs.JournalLaws.{slice_get-push, slice_get-pushed}
 use Rattle.xfs_journal.proofs.Unique.{one_block}
 
@@ -19,6 +19,7 @@ has_unit (Issue number word) is = tt
 has_unit Clear is = tt
 has_unit Expire is = tt
 has_unit (Boot places) is = tt
+has_unit (Start issues places) is = tt
 has_unit (Bind token) is = tt
 has_unit (Order kind counts) is = tt
 has_unit (Done moved diverted) is = tt
@@ -43,14 +44,14 @@ blocks-take J zero = omega arith
 blocks-take [] (suc n) = omega arith
 blocks-take (r ∷ J) (suc n) = omega (arith, blocks-take J n, length-append (1 ∷ framed r) (blocks (take n J)), length-append (1 ∷ framed r) (blocks J))
 
-pub front-take : (J : List Rec) (n : ℕ) → length (contents (take n J)) ≤ length (contents J)
+pub front-take : (J : List Rec) (n : ℕ) → end_of (take n J) ≤ end_of J
 front-take J n = omega (arith, blocks-take J n)
 
 take-next : (J : List Rec) (n : ℕ) (r : Rec) → slice_get J n ≡ Some r → take (n + 1) J ≡ take n J ++ r ∷ []
 take-next J n r e = take_more J n r (slice_get_within J n r e) ∙ ap (λ (x : Rec). take n J ++ x ∷ []) (get_or_from_slice_get J n r r e)
 
-pub front_next : (J : List Rec) (n : ℕ) (r : Rec) → slice_get J n ≡ Some r → length (contents (take (n + 1) J)) ≡ length (contents (take n J)) + length (1 ∷ framed r)
-front_next J n r e = ap length (ap contents (take-next J n r e) ∙ front-push (take n J) r) ∙ length-append (contents (take n J)) (1 ∷ framed r)
+pub front_next : (J : List Rec) (n : ℕ) (r : Rec) → slice_get J n ≡ Some r → end_of (take (n + 1) J) ≡ end_of (take n J) + length (1 ∷ framed r)
+front_next J n r e = ap end_of (take-next J n r e) ∙ end-push (take n J) r
 
 pub same_next : (J K : List Rec) (n : ℕ) (r s : Rec) → take n J ≡ take n K → slice_get J n ≡ Some r → slice_get K n ≡ Some s → r ≡ s → take (n + 1) J ≡ take (n + 1) K
 same_next J K n r s same at_j at_k is = take-next J n r at_j ∙ ap (λ (l : List Rec). l ++ r ∷ []) same ∙ ap (λ (x : Rec). take n K ++ x ∷ []) is ∙ sym (take-next K n s at_k)
@@ -68,7 +69,7 @@ longest-get kept (Some r) n lt = slice_get-push kept r n lt
 
 -- the lists part within the kept one
 module _ (J kept : List Rec) (d : Option Rec) (n : ℕ) (lt : n < length kept) (same : take n J ≡ take n kept) (ne : slice_get J n ≢ slice_get kept n) where
-  pub within_differs : DiffersAt kept d J (length (contents (take n J)))
+  pub within_differs : DiffersAt kept d J (end_of (take n J))
   within_differs = (n, same ∙ sym (longest-take kept d n (omega (arith, lt))), (λ e. ne (e ∙ longest-get kept d n lt)), refl)
 
   pub within_other : ¬ IsPossible kept d J
@@ -89,8 +90,8 @@ parts J kept n lt ne same = elim (cases_lt n (length J)) [
 
 -- the list goes on behind the kept one
 module _ (J kept : List Rec) (le : length kept ≤ length J) (begins : take (length kept) J ≡ kept) where
-  pub kept_next : (r : Rec) → slice_get J (length kept) ≡ Some r → length (contents kept) + length (1 ∷ framed r) ≤ length (contents J)
-  kept_next r at = omega (arith, front-take J (length kept + 1), front_next J (length kept) r at, ap (λ (l : List Rec). length (contents l)) begins)
+  pub kept_next : (r : Rec) → slice_get J (length kept) ≡ Some r → end_of kept + length (1 ∷ framed r) ≤ end_of J
+  kept_next r at = omega (arith, front-take J (length kept + 1), front_next J (length kept) r at, ap (λ (l : List Rec). end_of l) begins)
 
   -- and has no more
   pub all_kept : length J ≤ length kept → J ≡ kept
@@ -110,26 +111,26 @@ module _ (J kept : List Rec) (le : length kept ≤ length J) (begins : take (len
   none_other r at (inl is) = more_than_kept r at is
   none_other r at (inr (s, told, is)) = none-some s told
 
-  pub none_differs : (r : Rec) → slice_get J (length kept) ≡ Some r → (at : ℕ) → at ≡ length (contents kept) → DiffersAt kept None J at
-  none_differs r there at place = (length kept, prefix None, (λ e. none-some r (sym (slice_get_past kept (length kept) (omega arith)) ∙ sym e ∙ there)), place ∙ ap (λ (l : List Rec). length (contents l)) (sym begins))
+  pub none_differs : (r : Rec) → slice_get J (length kept) ≡ Some r → (at : ℕ) → at ≡ end_of kept → DiffersAt kept None J at
+  none_differs r there at place = (length kept, prefix None, (λ e. none-some r (sym (slice_get_past kept (length kept) (omega arith)) ∙ sym e ∙ there)), place ∙ ap (λ (l : List Rec). end_of l) (sym begins))
 
   -- with another record than that in doubt
   pub next_other : (r s : Rec) → slice_get J (length kept) ≡ Some r → r ≢ s → ¬ IsPossible kept (Some s) J
   next_other r s at ne (inl is) = more_than_kept r at is
   next_other r s at ne (inr (q, told, is)) = ne (same_Some r q (sym at ∙ ap (λ (l : List Rec). slice_get l (length kept)) is ∙ slice_get-pushed kept q) ∙ sym (same_Some s q told))
 
-  pub next_differs : (r s : Rec) → slice_get J (length kept) ≡ Some r → r ≢ s → (at : ℕ) → at ≡ length (contents kept) → DiffersAt kept (Some s) J at
-  next_differs r s there ne at place = (length kept, prefix (Some s), (λ e. ne (same_Some r s (sym there ∙ e ∙ slice_get-pushed kept s))), place ∙ ap (λ (l : List Rec). length (contents l)) (sym begins))
+  pub next_differs : (r s : Rec) → slice_get J (length kept) ≡ Some r → r ≢ s → (at : ℕ) → at ≡ end_of kept → DiffersAt kept (Some s) J at
+  next_differs r s there ne at place = (length kept, prefix (Some s), (λ e. ne (same_Some r s (sym there ∙ e ∙ slice_get-pushed kept s))), place ∙ ap (λ (l : List Rec). end_of l) (sym begins))
 
   -- with more behind that in doubt
   pub far_other : (s : Rec) → length kept + 1 < length J → ¬ IsPossible kept (Some s) J
   far_other s long (inl is) = omega (arith, long, ap length is)
   far_other s long (inr (q, told, is)) = omega (arith, long, ap length is, length_push kept q)
 
-  pub far_differs : (r s : Rec) → slice_get J (length kept) ≡ Some r → r ≡ s → length kept + 1 < length J → (at : ℕ) → at ≡ length (contents kept) + length (1 ∷ framed r) → DiffersAt kept (Some s) J at
+  pub far_differs : (r s : Rec) → slice_get J (length kept) ≡ Some r → r ≡ s → length kept + 1 < length J → (at : ℕ) → at ≡ end_of kept + length (1 ∷ framed r) → DiffersAt kept (Some s) J at
   far_differs r s there is long at place = (
     length kept + 1,
     take-next J (length kept) r there ∙ ap (λ (l : List Rec). l ++ r ∷ []) begins ∙ ap (λ (x : Rec). kept ++ x ∷ []) is ∙ sym (take_all (length kept + 1) (kept ++ s ∷ []) (omega (arith, length_push kept s))),
     (λ e. some_at J (length kept + 1) long (e ∙ slice_get_past (kept ++ s ∷ []) (length kept + 1) (omega (arith, length_push kept s)))),
-    place ∙ sym (front_next J (length kept) r there ∙ ap (λ (l : List Rec). length (contents l) + length (1 ∷ framed r)) begins),
+    place ∙ sym (front_next J (length kept) r there ∙ ap (λ (l : List Rec). end_of l + length (1 ∷ framed r)) begins),
   )

@@ -1,13 +1,16 @@
 -- What a crash leaves while a record is in doubt, and what a list that was read again says of it.
-use Rattle.std.proofs.Common.{◌≡◌, ◌∙◌, inl, ℕ, List, true, false, true≢false, Some, None, is_some, refl, sym, subst}
-use Rattle.std.specs.Prelude.{Bool}
+use Rattle.std.proofs.Common.{◌≡◌, ◌≢◌, ◌⊎◌, ◌∙◌, inl, inr, ℕ, List, true, false, true≢false, Some, None, is_some, refl, sym, subst}
+use Rattle.std.specs.Prelude.{Bool, IfSome, slice_get}
 use Rattle.std.specs.declared.option.Option.{Option}
 use Rattle.xfs_base.specs.Causes.{IfTold}
 use Rattle.xfs_journal.specs.Image.{IsImage}
-use Rattle.xfs_journal.specs.JournalView.{IsAtRest, IsKept, IsInDoubt, IsPossible, HasPossible}
+use Rattle.xfs_journal.specs.JournalView.{HasVersion, IsAtRest, IsKept, IsInDoubt, IsPossible, HasPossible}
 use Rattle.xfs_disk.specs.declared.disk.Disk.{Ghosts}
 use Rattle.xfs_journal.specs.Paging.{IsQuiet, CeasesAt}
+use Rattle.xfs_journal.specs.declared.faults.MountFault.{MountFault}
+use Rattle.xfs_journal.specs.declared.faults.MountFault.TheVariants.{NotJournal, Disk, Memory}
 use Rattle.xfs_journal.specs.declared.record.Rec.{Rec}
+use Rattle.xfs_journal.proofs.Appended.{spared}
 use Rattle.xfs_journal.proofs.Ceasing.{no_image}
 use Rattle.xfs_journal.proofs.Told.{on_told, from_told, both_told}
 use Rattle.xfs_journal.proofs.Unique.{at_most_one}
@@ -18,7 +21,7 @@ no_doubt h images J end kept = record {
   of_table = tt;
   possible = on_told h (λ _. (c : List ℕ) → images c → HasPossible J None c) (λ b known.
       let rest = from_told h (IsAtRest images J) (kept.at_rest refl) b known in
-      (λ c left. (J, inl refl, subst (λ (l : List ℕ). IsImage l J) (sym (rest.durable c left)) rest.image)));
+      (λ c left. (J, inl refl, spared J b rest.image c (rest.durable c left))));
 }
 
 -- the journal isn't shut, so nothing is in doubt
@@ -51,12 +54,30 @@ module _ {D : Type 0} (g : Ghosts D) (a b : D)
   pub doubt_still : (J : List Rec) (shut : Bool) (d : Option Rec) → IsInDoubt (g.held a) (g.images a) J shut d → IsInDoubt (g.held b) (g.images b) J shut d
   doubt_still J shut d doubt = record { none = doubt.none; of_table = doubt.of_table; possible = possible_still J d doubt.possible }
 
+  pub version_still : (v : Option ℕ) → HasVersion (g.held a) v → HasVersion (g.held b) v
+  version_still v has = on_told (g.held b) (λ all. IfSome v (λ n. slice_get all 7 ≡ Some n)) (λ x now.
+      from_told (g.held a) (λ all. IfSome v (λ n. slice_get all 7 ≡ Some n)) has x (sym (is_quiet x now).same ∙ now))
+
   -- and whose journal is shut now
   pub kept_shut : (J : List Rec) (shut : Bool) (end : ℕ) → IsKept (g.held a) (g.images a) J shut end → IsKept (g.held b) (g.images b) J true end
   kept_shut J shut end kept = record { place = kept.place; of_table = kept.of_table; at_rest = λ s. absurd (true≢false s) }
 
   pub doubt_shut : (J : List Rec) (shut : Bool) (d : Option Rec) → IsInDoubt (g.held a) (g.images a) J shut d → IsInDoubt (g.held b) (g.images b) J true d
   doubt_shut J shut d doubt = record { none = λ s. absurd (true≢false s); of_table = doubt.of_table; possible = possible_still J d doubt.possible }
+
+  -- and whose journal is shut now, or as it was
+  pub kept_by : (J : List Rec) (shut now : Bool) (end : ℕ) → (now ≡ shut) ⊎ (now ≡ true) → IsKept (g.held a) (g.images a) J shut end → IsKept (g.held b) (g.images b) J now end
+  kept_by J shut now end (inl is) kept = subst (λ (s : Bool). IsKept (g.held b) (g.images b) J s end) (sym is) (kept_still J shut end kept)
+  kept_by J shut now end (inr is) kept = subst (λ (s : Bool). IsKept (g.held b) (g.images b) J s end) (sym is) (kept_shut J shut end kept)
+
+  pub doubt_by : (J : List Rec) (shut now : Bool) (d : Option Rec) → (now ≡ shut) ⊎ (now ≡ true) → IsInDoubt (g.held a) (g.images a) J shut d → IsInDoubt (g.held b) (g.images b) J now d
+  doubt_by J shut now d (inl is) doubt = subst (λ (s : Bool). IsInDoubt (g.held b) (g.images b) J s d) (sym is) (doubt_still J shut d doubt)
+  doubt_by J shut now d (inr is) doubt = subst (λ (s : Bool). IsInDoubt (g.held b) (g.images b) J s d) (sym is) (doubt_shut J shut d doubt)
+
+pub shut_cases : (why : MountFault) (shut now : Bool) → (why ≡ Memory → now ≡ shut) → (why ≢ Memory → now ≡ true) → (now ≡ shut) ⊎ (now ≡ true)
+shut_cases Memory shut now same other = inl (same refl)
+shut_cases Disk shut now same other = inr (other (λ e. cc))
+shut_cases (NotJournal at) shut now same other = inr (other (λ e. cc))
 
 -- what is read stands for one of the possible lists
 pub imaged : (h : Option (List ℕ)) (images : List ℕ → Type 0) (J : List Rec) (d : Option Rec) → ((all : List ℕ) → h ≡ Some all → images all)

@@ -8,8 +8,8 @@ use Rattle.std.proofs.lemmas.Option.{none-some, same_Some, slice_get_within}
 use Rattle.std.specs.Option.{option_map}
 use Rattle.std.specs.declared.option.Option.{Option}
 use Rattle.xfs_journal.specs.declared.record.Rec.{Rec}
-use Rattle.xfs_journal.specs.Journal.{Reading, nothing_read, record_at, reading, reading_after, live_of, live_at, live_after, Finding, found_after, finding_after, is_place, Binding, binding_of, token_of, bind_of, Walk, Marking, mark_after, marking_after, last_mark, next_number, next_issue}
-use Rattle.xfs_journal.specs.declared.record.Rec.TheVariants.{Issue, Clear, Expire, Boot, Bind, Order, Done, Load}
+use Rattle.xfs_journal.specs.Journal.{Reading, nothing_read, record_at, reading, reading_after, live_of, live_at, live_after, Finding, found_after, finding_after, is_place, Binding, binding_of, token_of, bind_of, Walk, Marking, mark_after, marking_after, last_mark, next_number, next_issue, issues_in}
+use Rattle.xfs_journal.specs.declared.record.Rec.TheVariants.{Issue, Clear, Expire, Boot, Start, Bind, Order, Done, Load}
 
 pub slice_get-push : {X : Type 0} (xs : List X) (x : X) (i : ℕ) → i < length xs → slice_get (xs ++ x ∷ []) i ≡ slice_get xs i
 slice_get-push [] x i lt = absurd (omega arith)
@@ -98,6 +98,7 @@ found-kept p f b (Issue n w) e le = rw (eqb-no (f.read.count + 1) p (omega arith
 found-kept p f b Clear e le = e
 found-kept p f b Expire e le = e
 found-kept p f b (Boot q) e le = e
+found-kept p f b (Start i q) e le = e
 found-kept p f b (Bind t) e le = rw e (either (is_place p f.read.live))
   where
     either : (v : Bool) → (if v then Some b else Some b) ≡ Some b
@@ -139,3 +140,19 @@ last_mark-push J r =
 
 pub next_issue-push : (J : List Rec) (r : Rec) → next_issue (J ++ r ∷ []) ≡ next_number (next_issue J) r
 next_issue-push J r = fold_push next_number 1 J r
+
+issues_from : (n : ℕ) (J : List Rec) → n + issues_in J ≡ fold next_number n J
+issues_from n [] = omega arith
+issues_from n (Issue number word ∷ rs) = omega (arith, issues_from (n + 1) rs)
+issues_from n (Clear ∷ rs) = issues_from n rs
+issues_from n (Expire ∷ rs) = issues_from n rs
+issues_from n (Boot p ∷ rs) = issues_from n rs
+issues_from n (Start i p ∷ rs) = issues_from n rs
+issues_from n (Bind t ∷ rs) = issues_from n rs
+issues_from n (Order k c ∷ rs) = issues_from n rs
+issues_from n (Done m d ∷ rs) = issues_from n rs
+issues_from n (Load u c ∷ rs) = issues_from n rs
+
+-- the next issue's number counts the issues before it
+pub issues_in-next : (J : List Rec) → issues_in J + 1 ≡ next_issue J
+issues_in-next J = omega (arith, issues_from 1 J)

@@ -1,4 +1,5 @@
 mod Appended
+mod Beginning
 mod Blocks
 mod Differing
 mod Doubt
@@ -7,11 +8,13 @@ pub mod Decoding
 pub mod JournalLaws
 pub mod Emptying
 mod Listing
+mod Migrating
 pub mod Moments
 pub mod NonceLaws
 mod Opening
 mod Paged
 mod Pieces
 mod Reading
+pub mod StartLaws
 pub mod Told
 pub mod Unique

@@ -3,7 +3,7 @@ use Rattle.std.proofs.Common.{◌≡◌, ◌≢◌, inl, inr, ℕ, ◌+◌, ◌<
 use Rattle.std.proofs.lemmas.List.{take_at, drop_at, drop_more}
 use Rattle.std.proofs.lemmas.Bool.{cases_eq}
 use Rattle.xfs_disk.specs.Disk.{overlaid, Torn, Only}
-use Rattle.xfs_journal.specs.Gate.{IsClosed, IsOpened, IsEither, MayBecome}
+use Rattle.xfs_journal.specs.Gate.{IsClosed, IsOpened, IsEither, IsEitherOf, MayBecome}
 
 pub torn_same : (at n : ℕ) (d : List ℕ) → Torn at n d d
 torn_same at n d = record { before = refl; after = refl; no_shorter = omega arith; no_longer = omega arith }
@@ -71,12 +71,12 @@ module _ (old x : List ℕ) (gate : ℕ) (within : gate < length old) (closed : 
   pub opened : IsOpened (take gate old) x (overlaid (overlaid old (gate + 1) x) gate (1 ∷ []))
   opened = let s = staged in (s.0, ap (λ (l : List ℕ). overlaid l gate (1 ∷ [])) s.1 ∙ written_gate (take gate old) x closed.0 (x ++ s.0) gate size)
 
-module _ (images : List ℕ → Type 0) (old x : List ℕ) (gate : ℕ) (start : (gate < length old) × IsClosed (take gate old) old × Only old images) where
-  pub first_image : (c : List ℕ) → MayBecome images (gate + 1) (length x) c → IsEither (take gate old) x c
-  first_image c (d, was, torn) = inl (first old x gate start.0 start.1 c (subst (λ (l : List ℕ). Torn (gate + 1) (length x) l c) (start.2 d was) torn))
+module _ (images : List ℕ → Type 0) (old x : List ℕ) (gate : ℕ) (start : (gate < length old) × IsClosed (take gate old) old) where
+  pub first_image : ((d : List ℕ) → images d → (gate < length d) × IsClosed (take gate d) d) → (c : List ℕ) → MayBecome images (gate + 1) (length x) c → IsEitherOf images gate x c
+  first_image each c (d, was, torn) = let s = each d was in (d, was, inl (first d x gate s.0 s.1 c torn))
 
-  pub second_image : (mid : List ℕ → Type 0) → Only (overlaid old (gate + 1) x) mid → (c : List ℕ) → MayBecome mid gate 1 c → IsEither (take gate old) x c
-  second_image mid only c (d, was, torn) = second old x gate start.0 start.1 c (subst (λ (l : List ℕ). Torn gate 1 l c) (only d was) torn)
+  pub second_image : images old → (mid : List ℕ → Type 0) → Only (overlaid old (gate + 1) x) mid → (c : List ℕ) → MayBecome mid gate 1 c → IsEitherOf images gate x c
+  second_image here mid only c (d, was, torn) = (old, here, second old x gate start.0 start.1 c (subst (λ (l : List ℕ). Torn gate 1 l c) (only d was) torn))
 
   pub is_opened : IsOpened (take gate old) x (overlaid (overlaid old (gate + 1) x) gate (1 ∷ []))
   is_opened = opened old x gate start.0 start.1

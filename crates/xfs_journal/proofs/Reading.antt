@@ -1,14 +1,14 @@
 -- What stands at each place of a body.
 use Rattle.std.proofs.Common.{◌≡◌, ◌≢◌, ◌≤◌, ℕ, suc, ◌+◌, List, [], ◌∷◌, drop, refl, sym, ◌∙◌, ap, drop-drop, arith, length, length-append, ◌++◌, ap₂, subst}
-use Rattle.std.proofs.lemmas.Bool.{false≢true, eq-eqb, le-leb}
-use Rattle.std.specs.Int.{from_be_bytes, w32}
+use Rattle.std.proofs.lemmas.Bool.{false≢true, eq-eqb, ne_eqb, le-leb}
+use Rattle.std.specs.Int.{to_be_bytes, from_be_bytes, w32, w64}
 use Rattle.std.specs.Prelude.{◌&&◌, true, false}
 use Rattle.xfs_journal.proofs.Decoding.{counts-size, places-size, record-back}
 use Rattle.xfs_journal.specs.Decode.{numbers, has_size, record_in, record_of, first_byte}
 use Rattle.xfs_journal.specs.Paging.{IsNoBody}
 use Rattle.xfs_journal.specs.Image.{IsRecord, body, counts_bytes, places_bytes}
 use Rattle.xfs_journal.specs.declared.record.Rec.{Rec}
-use Rattle.xfs_journal.specs.declared.record.Rec.TheVariants.{Issue, Clear, Expire, Boot, Bind, Order, Done, Load}
+use Rattle.xfs_journal.specs.declared.record.Rec.TheVariants.{Issue, Clear, Expire, Boot, Start, Bind, Order, Done, Load}
 
 abbrev n4 : List ℕ → ℕ
 n4 bs = from_be_bytes w32 bs
@@ -36,6 +36,7 @@ rest_fits (Issue number word) is = refl
 rest_fits Clear is = refl
 rest_fits Expire is = refl
 rest_fits (Boot p) is = eq-eqb (length (places_bytes p)) 192 (places-size p is)
+rest_fits (Start issues p) is = eq-eqb (length (to_be_bytes w64 issues ++ places_bytes p)) 200 (omega (arith, places-size p is.1, length-append (to_be_bytes w64 issues) (places_bytes p)))
 rest_fits (Bind token) is = ap₂ (λ a b. a && b) (le-leb 1 (length token) is.0) (le-leb (length token) 1024 is.1)
 rest_fits (Order kind counts) is = eq-eqb (suc (length (counts_bytes counts))) 33 (omega (arith, counts-size counts is))
 rest_fits (Done moved diverted) is = eq-eqb (length (counts_bytes moved ++ counts_bytes diverted)) 64 (omega (arith, counts-size moved is.0, counts-size diverted is.1, length-append (counts_bytes moved) (counts_bytes diverted)))
@@ -46,6 +47,7 @@ not_empty (Issue number word) = omega arith
 not_empty Clear = omega arith
 not_empty Expire = omega arith
 not_empty (Boot p) = omega arith
+not_empty (Start issues p) = omega arith
 not_empty (Bind token) = omega arith
 not_empty (Order kind counts) = omega arith
 not_empty (Done moved diverted) = omega arith
@@ -69,3 +71,7 @@ none_unit bs rec decoded wrong r is same = wrong (subst IsRecord (same_record bs
 
 pub none_other : (bs out : List ℕ) (rec : Rec) → rec ≡ record_of bs → out ≡ body rec → out ≢ bs → IsNoBody bs
 none_other bs out rec decoded is ne r of_table same = ne (is ∙ ap body (sym (same_record bs rec r decoded of_table same)) ∙ same)
+
+-- a letter that is none of the others is read as a Load's
+pub load_in : (l : ℕ) (bs : List ℕ) → l ≢ 0x49 → l ≢ 0x43 → l ≢ 0x45 → l ≢ 0x42 → l ≢ 0x4B → l ≢ 0x54 → l ≢ 0x4F → l ≢ 0x44 → record_in 0x4C bs ≡ record_in l bs
+load_in l bs i c e b k t o d = rw (ne_eqb l 0x49 i, ne_eqb l 0x43 c, ne_eqb l 0x45 e, ne_eqb l 0x42 b, ne_eqb l 0x4B k, ne_eqb l 0x54 t, ne_eqb l 0x4F o, ne_eqb l 0x44 d) refl

@@ -3,7 +3,7 @@ use Rattle.std.proofs.Common.{◌≡◌, ◌≢◌, inl, inr, ℕ, ◌<◌, ◌^
 use Rattle.std.specs.Int.{to_be_bytes, from_be_bytes, w16}
 use Rattle.std.specs.List.{AllByRecursion}
 use Rattle.std.proofs.lemmas.Nat.{from_be_bytes-to_be_bytes_2}
-use Rattle.xfs_journal.specs.Image.{IsImage, IsRecord, StandsFor, body, framed, blocks, magic}
+use Rattle.xfs_journal.specs.Image.{IsImage, IsRecord, StandsFor, body, framed, blocks}
 use Rattle.xfs_journal.specs.declared.record.Rec.{Rec}
 use Rattle.xfs_journal.proofs.Decoding.{no_two_bodies, body-short}
 
@@ -50,9 +50,7 @@ same_blocks (j ∷ J) (k ∷ K) g h x y all_j all_k shut_g shut_h same =
 pub at_most_one : (bytes : List ℕ) (J K : List Rec) → IsImage bytes J → IsImage bytes K → J ≡ K
 at_most_one bytes J K of_j of_k =
     let same = sym of_j.bytes_are ∙ of_k.bytes_are in
-    let behind = second_part magic (blocks J ++ of_j.gate ∷ of_j.rest) magic (blocks K ++ of_k.gate ∷ of_k.rest) refl
-    (sym (append_assoc magic (blocks J) (of_j.gate ∷ of_j.rest)) ∙ same ∙ append_assoc magic (blocks K) (of_k.gate ∷ of_k.rest)) in
-    same_blocks J K of_j.gate of_k.gate of_j.rest of_k.rest of_j.of_table of_k.of_table of_j.closed of_k.closed behind
+    same_blocks J K of_j.gate of_k.gate of_j.rest of_k.rest of_j.of_table of_k.of_table of_j.closed of_k.closed (ap (λ (l : List ℕ). drop 8 l) same)
 
 -- bytes stand for at most one list
 pub stands_for_one : (bytes : List ℕ) (J K : List Rec) → StandsFor bytes J → StandsFor bytes K → J ≡ K

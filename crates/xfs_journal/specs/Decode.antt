@@ -6,7 +6,7 @@ use Rattle.xfs_base.specs.declared.counts.Kind.{Kind}
 use Rattle.xfs_base.specs.declared.counts.Kind.TheVariants.{Stack, Present, Reject, Retract}
 use Rattle.xfs_base.specs.declared.counts.Places.{Places}
 use Rattle.xfs_journal.specs.declared.record.Rec.{Rec}
-use Rattle.xfs_journal.specs.declared.record.Rec.TheVariants.{Issue, Clear, Expire, Boot, Bind, Order, Done, Load}
+use Rattle.xfs_journal.specs.declared.record.Rec.TheVariants.{Issue, Clear, Expire, Boot, Start, Bind, Order, Done, Load}
 
 -- so many numbers of 4 bytes
 abbrev pub numbers : ℕ → List ℕ → List ℕ
@@ -39,10 +39,11 @@ record_in letter bs =
     else (if letter == 0x43 then Clear
     else (if letter == 0x45 then Expire
     else (if letter == 0x42 then Boot (places_in bs)
+    else (if letter == 0x4B then Start (from_be_bytes w64 bs) (places_in (drop 8 bs))
     else (if letter == 0x54 then Bind bs
     else (if letter == 0x4F then Order (kind_in (first_byte bs)) (counts_in (drop 1 bs))
     else (if letter == 0x44 then Done (counts_in bs) (counts_in (drop 32 bs))
-    else Load (first_byte bs) (from_be_bytes w32 (drop 1 bs))))))))
+    else Load (first_byte bs) (from_be_bytes w32 (drop 1 bs)))))))))
 
 abbrev pub record_of : List ℕ → Rec
 record_of [] = Clear
@@ -55,7 +56,8 @@ has_size letter n =
     else (if letter == 0x43 then n == 0
     else (if letter == 0x45 then n == 0
     else (if letter == 0x42 then n == 192
+    else (if letter == 0x4B then n == 200
     else (if letter == 0x54 then nat_le 1 n && nat_le n 1024
     else (if letter == 0x4F then n == 33
     else (if letter == 0x44 then n == 64
-    else (if letter == 0x4C then n == 5 else false)))))))
+    else (if letter == 0x4C then n == 5 else false))))))))

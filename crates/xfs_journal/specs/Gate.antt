@@ -1,5 +1,5 @@
 -- A gate byte behind a prefix of a file, and what is written behind it before it is opened.
-use Rattle.std.specs.Prelude.{◌≡◌, ◌≢◌, ◌⊎◌, ℕ, List, ◌∷◌, ◌++◌}
+use Rattle.std.specs.Prelude.{◌≡◌, ◌≢◌, ◌⊎◌, ℕ, List, ◌∷◌, ◌++◌, take}
 use Rattle.xfs_disk.specs.Disk.{Torn}
 
 -- a prefix, a gate byte that isn't open, and anything
@@ -13,6 +13,10 @@ IsOpened prefix bytes c = (rest : List ℕ) × (c ≡ prefix ++ 1 ∷ (bytes ++ 
 -- the bytes stand behind the gate, or don't
 abbrev pub IsEither : List ℕ → List ℕ → List ℕ → Type 0
 IsEither prefix bytes c = IsClosed prefix c ⊎ IsOpened prefix bytes c
+
+-- the bytes stand behind the gate of an image, or don't
+abbrev pub IsEitherOf : (List ℕ → Type 0) → ℕ → List ℕ → List ℕ → Type 0
+IsEitherOf images gate bytes c = (d : List ℕ) × images d × IsEither (take gate d) bytes c
 
 -- what a write of n bytes at an offset may leave of an image
 abbrev pub MayBecome : (List ℕ → Type 0) → ℕ → ℕ → List ℕ → Type 0

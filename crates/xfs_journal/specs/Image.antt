@@ -1,4 +1,4 @@
--- The journal's bytes: a magic, the records one after another, a closing gate byte, and whatever follows it. Numbers are big-endian.
+-- The journal's bytes: a magic, a version, the records one after another, a closing gate byte, and whatever follows it. Numbers are big-endian.
 use Rattle.std.specs.Prelude.{◌≡◌, ◌≢◌, ◌⊎◌, ℕ, ◌+◌, ◌<◌, ◌≤◌, ◌^◌, List, [], ◌∷◌, ◌++◌, length, All, ⊤}
 use Rattle.std.specs.List.{flat_map, AllByRecursion}
 use Rattle.std.specs.Int.{to_be_bytes, w16, w32, w64}
@@ -7,7 +7,7 @@ use Rattle.xfs_base.specs.declared.counts.Kind.{Kind}
 use Rattle.xfs_base.specs.declared.counts.Kind.TheVariants.{Stack, Present, Reject, Retract}
 use Rattle.xfs_base.specs.declared.counts.Places.{Places}
 use Rattle.xfs_journal.specs.declared.record.Rec.{Rec}
-use Rattle.xfs_journal.specs.declared.record.Rec.TheVariants.{Issue, Clear, Expire, Boot, Bind, Order, Done, Load}
+use Rattle.xfs_journal.specs.declared.record.Rec.TheVariants.{Issue, Clear, Expire, Boot, Start, Bind, Order, Done, Load}
 
 -- eight counts of 4 bytes
 abbrev pub counts_bytes : Counts → List ℕ
@@ -28,6 +28,7 @@ body (Issue number word) = 0x49 ∷ to_be_bytes w64 number ++ to_be_bytes w64 wo
 body Clear = 0x43 ∷ []
 body Expire = 0x45 ∷ []
 body (Boot places) = 0x42 ∷ places_bytes places
+body (Start issues places) = 0x4B ∷ to_be_bytes w64 issues ++ places_bytes places
 body (Bind token) = 0x54 ∷ token
 body (Order kind counts) = 0x4F ∷ kind_byte kind ∷ counts_bytes counts
 body (Done moved diverted) = 0x44 ∷ counts_bytes moved ++ counts_bytes diverted
@@ -36,12 +37,16 @@ body (Load unit count) = 0x4C ∷ unit ∷ to_be_bytes w32 count
 abbrev pub AreCounts : Counts → Type 0
 AreCounts counts = (length counts.0 ≡ 8) × All (λ n. n < 2 ^ 32) counts.0
 
+abbrev pub ArePlaces : Places → Type 0
+ArePlaces p = AreCounts p.units × AreCounts p.transport × AreCounts p.outlet × AreCounts p.taken × AreCounts p.retracted × AreCounts p.rejected
+
 -- a record of the format: its numbers have their bytes, a token has 1 to 1,024, and a Load's unit is from 1 to 8
 abbrev pub IsRecord : Rec → Type 0
 IsRecord (Issue number word) = (number < 2 ^ 64) × (word < 2 ^ 64)
 IsRecord Clear = ⊤
 IsRecord Expire = ⊤
-IsRecord (Boot p) = AreCounts p.units × AreCounts p.transport × AreCounts p.outlet × AreCounts p.taken × AreCounts p.retracted × AreCounts p.rejected
+IsRecord (Boot p) = ArePlaces p
+IsRecord (Start issues p) = (issues < 2 ^ 64) × ArePlaces p
 IsRecord (Bind token) = (1 ≤ length token) × (length token ≤ 1024)
 IsRecord (Order kind counts) = AreCounts counts
 IsRecord (Done moved diverted) = AreCounts moved × AreCounts diverted
@@ -61,25 +66,30 @@ abbrev pub blocks : List Rec → List ℕ
 blocks [] = []
 blocks (r ∷ rs) = 1 ∷ framed r ++ blocks rs
 
--- XFSJRNL1
+-- XFSJRNL
 abbrev pub magic : List ℕ
-magic = 0x58 ∷ 0x46 ∷ 0x53 ∷ 0x4A ∷ 0x52 ∷ 0x4E ∷ 0x4C ∷ 0x31 ∷ []
+magic = 0x58 ∷ 0x46 ∷ 0x53 ∷ 0x4A ∷ 0x52 ∷ 0x4E ∷ 0x4C ∷ []
 
--- the magic and the records
-abbrev pub contents : List Rec → List ℕ
-contents records = magic ++ blocks records
+-- the magic, the version and the records
+abbrev pub contents : ℕ → List Rec → List ℕ
+contents version records = magic ++ version ∷ blocks records
+
+-- the place of the closing gate byte
+abbrev pub end_of : List Rec → ℕ
+end_of records = 8 + length (blocks records)
 
 -- the bytes up to and with the closing gate byte
 abbrev pub size : List Rec → ℕ
-size records = length (contents records) + 1
+size records = end_of records + 1
 
--- the bytes are those of the list: its records, a closed gate byte, and whatever follows
+-- the bytes are those of the list: any version, its records, a closed gate byte, and whatever follows
 pub record IsImage (bytes : List ℕ) (records : List Rec) : Type 0 where
   pub of_table : AllByRecursion IsRecord records
+  pub version : ℕ
   pub gate : ℕ
   pub rest : List ℕ
   pub closed : gate ≢ 1
-  pub bytes_are : bytes ≡ contents records ++ gate ∷ rest
+  pub bytes_are : bytes ≡ contents version records ++ gate ∷ rest
 
 -- the bytes stand for the list: they are its image, or they are at most 9, no list has them as its image, and the list is empty
 abbrev pub StandsFor : List ℕ → List Rec → Type 0

@@ -1,24 +1,49 @@
 -- The journal: a list of records, the oldest first. A record's number is its place, from 1.
-use Rattle.std.specs.Prelude.{◌≡◌, ℕ, zero, suc, ◌+◌, ◌-◌, ◌==◌, Bool, true, false, List, [], ◌∷◌, ◌++◌, take, fold, Some, None, slice_get, if◌then◌else◌, ⊤}
+use Rattle.std.specs.Prelude.{◌≡◌, ℕ, zero, suc, ◌+◌, ◌-◌, ◌==◌, Bool, true, false, List, [], ◌∷◌, ◌++◌, take, fold, filter, length, Some, None, slice_get, if◌then◌else◌, ⊤}
 use Rattle.std.specs.declared.option.Option.{Option}
 use Rattle.std.specs.Option.{option_map}
 use Rattle.hex.specs.Hex.{encode_upper}
 use Rattle.std.specs.Int.{to_be_bytes, w64}
+use Rattle.xfs_base.specs.declared.counts.Places.{Places}
 use Rattle.xfs_journal.specs.declared.record.Rec.{Rec}
-use Rattle.xfs_journal.specs.declared.record.Rec.TheVariants.{Issue, Clear, Expire, Boot, Bind}
+use Rattle.xfs_journal.specs.declared.record.Rec.TheVariants.{Issue, Clear, Expire, Boot, Start, Bind}
 
 -- the record of a number
 abbrev pub record_at : List Rec → ℕ → Option Rec
 record_at records zero = None
 record_at records (suc i) = slice_get records i
 
--- a mark ends what the issue before it allowed: an Issue, a Clear, an Expire or a Boot
+-- a mark ends what the issue before it allowed: an Issue, a Clear, an Expire, a Boot or a Start
 abbrev pub is_mark : Rec → Bool
 is_mark (Issue number word) = true
 is_mark Clear = true
 is_mark Expire = true
 is_mark (Boot places) = true
+is_mark (Start issues places) = true
 is_mark r = false
+
+-- where the notes lay when the machine started or was reset
+abbrev pub boot_places : Rec → Option Places
+boot_places (Boot places) = Some places
+boot_places (Start issues places) = Some places
+boot_places r = None
+
+-- the nonces' records
+abbrev pub is_issue : Rec → Bool
+is_issue (Issue number word) = true
+is_issue r = false
+
+-- how many nonces were issued
+abbrev pub issues_in : List Rec → ℕ
+issues_in records = length (filter is_issue records)
+
+-- the record that a start puts behind these records: how many nonces were issued, and where the notes lie
+unfoldable pub boot_of : List Rec → Places → Rec
+boot_of records places = Start (issues_in records) places
+
+-- the records behind a start: the record of the start is the last of them
+abbrev pub with_boot : List Rec → Places → List Rec
+with_boot records places = records ++ boot_of records places ∷ []
 
 -- how many records there are, and which issue lives after them: the last mark, where that's an issue
 pub record Reading : Type 0 where
@@ -90,7 +115,7 @@ abbrev pub Walk : {S : Type 0} → (S → Rec → S) → (S → Rec → Type 0) 
 Walk step Owes s [] = ⊤
 Walk step Owes s (r ∷ rs) = Owes s r × Walk step Owes (step s r) rs
 
--- the n-th issue carries the number n
+-- the number of the issue behind the record
 abbrev pub next_number : ℕ → Rec → ℕ
 next_number n (Issue number word) = n + 1
 next_number n r = n
@@ -101,9 +126,10 @@ next_issue records = fold next_number 1 records
 
 abbrev pub CarriesNumber : ℕ → Rec → Type 0
 CarriesNumber n (Issue number word) = number ≡ n
+CarriesNumber n (Start issues places) = issues + 1 ≡ n
 CarriesNumber n r = ⊤
 
--- each Issue carries one more than the number of Issues before it
+-- each Issue carries one more than the number of Issues before it, and a Start their number
 abbrev pub Numbered : List Rec → Type 0
 Numbered records = Walk next_number CarriesNumber 1 records
 

@@ -1,10 +1,10 @@
 -- What a journal is to its callers, and what every call keeps.
-use Rattle.std.specs.Prelude.{◌≡◌, ◌≢◌, ◌⊎◌, ℕ, nat_lt, Bool, false, ◌||◌, if◌then◌else◌, List, [], ◌∷◌, ◌++◌, length, take, slice_get, Some, None, IfSome}
+use Rattle.std.specs.Prelude.{◌≡◌, ◌≢◌, ◌⊎◌, ℕ, nat_lt, Bool, false, ◌||◌, if◌then◌else◌, List, [], ◌∷◌, ◌++◌, length, take, drop, slice_get, Some, None, IfSome}
 use Rattle.std.specs.declared.option.Option.{Option}
 use Rattle.std.specs.List.{AllByRecursion}
 use Rattle.xfs_base.specs.Causes.{IfTold}
-use Rattle.xfs_disk.specs.Disk.{Only}
-use Rattle.xfs_journal.specs.Image.{IsImage, IsRecord, StandsFor, contents, size}
+use Rattle.xfs_disk.specs.Disk.{overlaid, Only}
+use Rattle.xfs_journal.specs.Image.{IsImage, IsRecord, StandsFor, end_of, magic, size}
 use Rattle.xfs_disk.specs.declared.disk.Disk.{Ghosts}
 use Rattle.xfs_journal.specs.Paging.{CeasesAt, MayCease}
 use Rattle.xfs_journal.specs.declared.faults.AppendFault.{AppendFault}
@@ -22,13 +22,25 @@ pub record JournalView (D : Type 0) : Type 0 where
   -- the record whose append last answered that the disk failed, until the disk is read again
   pub in_doubt : Option Rec
 
--- the disk has nothing but an image of the list
+-- the bytes but for the eighth: the magic, any version, and the same behind them
+abbrev pub IsButForEighth : List ℕ → List ℕ → Type 0
+IsButForEighth bytes c = (version : ℕ) × (c ≡ magic ++ version ∷ drop 8 bytes)
+
+-- the eighth byte is this one, where it is known
+abbrev pub HasVersion : Option (List ℕ) → Option ℕ → Type 0
+HasVersion held version = IfTold held (λ all. IfSome version (λ v. slice_get all 7 ≡ Some v))
+
+-- the version is another than 1, where the bytes are told
+abbrev pub IsCarriedOver : Option (List ℕ) → Type 0
+IsCarriedOver held = (version : ℕ) × (version ≢ 0x31) × HasVersion held (Some version)
+
+-- the disk has an image of the list, and nothing else than that with any eighth byte
 pub record IsAtRest (images : List ℕ → Type 0) (records : List Rec) (bytes : List ℕ) : Type 0 where
   pub image : IsImage bytes records
-  pub durable : Only bytes images
+  pub durable : (c : List ℕ) → images c → IsButForEighth bytes c
 
 pub record IsKept (held : Option (List ℕ)) (images : List ℕ → Type 0) (records : List Rec) (shut : Bool) (end : ℕ) : Type 0 where
-  pub place : end ≡ length (contents records)
+  pub place : end ≡ end_of records
   pub of_table : AllByRecursion IsRecord records
   pub at_rest : shut ≡ false → IfTold held (IsAtRest images records)
 
@@ -67,6 +79,11 @@ LeavesOneOf g disk kept in_doubt = IfTold (g.held disk) (λ _. (c : List ℕ) �
 abbrev pub LeavesWithOrWithout : {D : Type 0} → Ghosts D → D → D → List Rec → Rec → Type 0
 LeavesWithOrWithout g old new records r = IfTold (g.held old) (λ _. (c : List ℕ) → g.images new c → StandsForEither records r c)
 
+-- a disk that tells, and whose eighth byte was a 1: it has a 2 there and the rest as it was, and a crash leaves that
+abbrev pub IsRenewed : {D : Type 0} → Ghosts D → D → D → Type 0
+IsRenewed g old new = IfTold (g.held old) (λ all. slice_get all 7 ≡ Some 0x31 →
+    (g.held new ≡ Some (overlaid all 7 (0x32 ∷ []))) × Only (overlaid all 7 (0x32 ∷ [])) (g.images new))
+
 -- a disk that tells ceases to be a journal there, and stands for no list
 abbrev pub IsNoJournal : Option (List ℕ) → ℕ → Type 0
 IsNoJournal held at = IfTold held (λ all. CeasesAt all at × ((records : List Rec) → ¬ StandsFor all records))
@@ -86,7 +103,7 @@ longest kept (Some r) = kept ++ r ∷ []
 abbrev pub DiffersAt : List Rec → Option Rec → List Rec → ℕ → Type 0
 DiffersAt kept in_doubt records at = (n : ℕ)
     × (take n records ≡ take n (longest kept in_doubt)) × (slice_get records n ≢ slice_get (longest kept in_doubt) n)
-    × (at ≡ length (contents (take n records)))
+    × (at ≡ end_of (take n records))
 
 -- some list that was found is none of the possible ones and parts from them there, or some bytes cease to be a journal there
 abbrev pub MayPartAt : List Rec → Option Rec → ℕ → Type 0

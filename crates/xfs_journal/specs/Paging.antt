@@ -7,7 +7,7 @@ use Rattle.xfs_base.specs.Causes.{IfTold}
 use Rattle.xfs_disk.specs.Disk.{AddsNone}
 use Rattle.xfs_disk.specs.Moments.{LeavesOnly}
 use Rattle.xfs_disk.specs.declared.disk.Disk.{Ghosts}
-use Rattle.xfs_journal.specs.Image.{IsRecord, body, framed, contents, magic}
+use Rattle.xfs_journal.specs.Image.{IsRecord, body, framed, contents, end_of, magic}
 use Rattle.xfs_journal.specs.declared.faults.MountFault.{MountFault}
 use Rattle.xfs_journal.specs.declared.faults.MountFault.TheVariants.{NotJournal}
 use Rattle.xfs_journal.specs.declared.record.Rec.{Rec}
@@ -71,10 +71,14 @@ EndsAt held gate count fault = (at : ℕ) → fault ≡ NotJournal at → (at �
 abbrev pub Passes : Option (List ℕ) → PageView → PageView → Rec → Type 0
 Passes held old new r = IfTold held (λ all. (drop old.at all ≡ (1 ∷ framed r) ++ drop new.at all) × Shows all new)
 
+-- the first seven bytes are others than the magic, or there is no eighth
+abbrev pub IsUnbegun : List ℕ → Type 0
+IsUnbegun bytes = (take 7 bytes ≢ magic) ⊎ (length bytes < 8)
+
 -- The place from which bytes are no journal: 0 where they don't begin as one, else that behind the last whole record, where no closed gate byte stands.
 abbrev pub CeasesAt : List ℕ → ℕ → Type 0
-CeasesAt bytes at = ((take 8 bytes ≢ magic) × (at ≡ 0))
-    ⊎ ((records : List Rec) × (rest : List ℕ) × AllByRecursion IsRecord records × (bytes ≡ contents records ++ rest) × IsBroken rest × (at ≡ length (contents records)))
+CeasesAt bytes at = (IsUnbegun bytes × (at ≡ 0))
+    ⊎ ((version : ℕ) × (records : List Rec) × (rest : List ℕ) × AllByRecursion IsRecord records × (bytes ≡ contents version records ++ rest) × IsBroken rest × (at ≡ end_of records))
 
 -- some bytes cease to be a journal there
 abbrev pub MayCease : ℕ → Type 0

@@ -103,6 +103,11 @@ pub(crate) fn put_body(out: &mut Vec<u8>, rec: &Rec)
             put(out, &[0x42]);
             put_places(out, places.places());
         }
+        Rec::Start { issues, places } => {
+            put(out, &[0x4B]);
+            put_whole(out, *issues);
+            put_places(out, places.places());
+        }
         Rec::Bind { token } => {
             put(out, &[0x54]);
             put(out, token.bytes());

@@ -2,7 +2,7 @@
 ghost use Rattle.std.specs.Prelude.{◌≡◌, ◌≢◌, ◌<◌, ◌≤◌, ◌+◌, ◌^◌, ◌∷◌, true, false, None, List, length, take, slice_get, vec_capacity, IfSome};
 ghost use Rattle.std.specs.List.{AllByRecursion};
 ghost use Rattle.xfs_journal.specs.declared.body.TheConstants.{MOST};
-ghost use Rattle.xfs_journal.specs.Image.{IsRecord, framed, contents};
+ghost use Rattle.xfs_journal.specs.Image.{IsRecord, framed, end_of};
 ghost use Rattle.xfs_journal.specs.JournalView.{IsPossible, DiffersAt};
 
 use crate::Rec;
@@ -25,12 +25,12 @@ fn is_same(one: &Rec, other: &Rec, first: &mut Vec<u8>, second: &mut Vec<u8>) ->
 // How many records two lists begin with in common, and the place behind them.
 fn common(found: &[Rec], kept: &[Rec], first: &mut Vec<u8>, second: &mut Vec<u8>) -> (usize, u64)
     requires of_table { AllByRecursion IsRecord found.now × AllByRecursion IsRecord kept.now }
-    requires small { length (contents found.now) < 2 ^ 64 }
+    requires small { end_of found.now < 2 ^ 64 }
     requires room { (MOST ≤ vec_capacity first.old) × (MOST ≤ vec_capacity second.old) }
     ensures within { (result.0 ≤ length found.now) × (result.0 ≤ length kept.now) }
     ensures same { take result.0 found.now ≡ take result.0 kept.now }
     ensures differs { result.0 < length found.now → result.0 < length kept.now → slice_get found.now result.0 ≢ slice_get kept.now result.0 }
-    ensures place { result.1 ≡ length (contents (take result.0 found.now)) }
+    ensures place { result.1 ≡ end_of (take result.0 found.now) }
     ensures capacity { (MOST ≤ vec_capacity first.new) × (MOST ≤ vec_capacity second.new) }
 {
     let mut count = 0;
@@ -56,8 +56,8 @@ fn differs_behind(
 ) -> Option<u64>
     requires of_table { AllByRecursion IsRecord found.now × IfSome in_doubt.now IsRecord }
     requires begins { (length kept.now ≤ length found.now) × (take (length kept.now) found.now ≡ kept.now) }
-    requires place { at ≡ length (contents kept.now) }
-    requires small { length (contents found.now) < 2 ^ 64 }
+    requires place { at ≡ end_of kept.now }
+    requires small { end_of found.now < 2 ^ 64 }
     requires room { (MOST ≤ vec_capacity first.old) × (MOST ≤ vec_capacity second.old) }
     ensures possible { result ≡ None → IsPossible kept.now in_doubt.now found.now }
     ensures other { IfSome result (λ _. ¬ IsPossible kept.now in_doubt.now found.now) }
@@ -89,7 +89,7 @@ pub(crate) fn differs_at(
     second: &mut Vec<u8>,
 ) -> Option<u64>
     requires of_table { AllByRecursion IsRecord found.now × AllByRecursion IsRecord kept.now × IfSome in_doubt.now IsRecord }
-    requires small { length (contents found.now) < 2 ^ 64 }
+    requires small { end_of found.now < 2 ^ 64 }
     requires room { (MOST ≤ vec_capacity first.old) × (MOST ≤ vec_capacity second.old) }
     ensures possible { result ≡ None → IsPossible kept.now in_doubt.now found.now }
     ensures other { IfSome result (λ _. ¬ IsPossible kept.now in_doubt.now found.now) }

@@ -1,11 +1,12 @@
 //! Writing behind a closed gate byte, and then opening it.
 ghost use Rattle.std.specs.Prelude.{◌≡◌, List, ℕ, ◌+◌, ◌<◌, ◌≤◌, ◌^◌, [], ◌∷◌, ◌++◌, true, false, Some, None, is_some, option_map, length, take, OnOk, OnErr};
+ghost use Rattle.std.specs.declared.option.Option.{Option};
 ghost use Rattle.xfs_base.specs.Causes.{HasCause, IfTold};
 ghost use Rattle.xfs_disk.specs.Disk.{overlaid, Torn, ImagesFollow, Only};
 ghost use Rattle.xfs_disk.specs.Moments.{LeavesOnly};
 ghost use Rattle.xfs_journal.specs.Image.{IsRecord, framed};
-ghost use Rattle.xfs_journal.specs.JournalView.{IsKept, IsInDoubt, LeavesWithOrWithout, LeavesList, StandsForEither};
-ghost use Rattle.xfs_journal.specs.Gate.{IsClosed, IsOpened, IsEither, MayBecome};
+ghost use Rattle.xfs_journal.specs.JournalView.{HasVersion, IsKept, IsInDoubt, LeavesWithOrWithout, LeavesList, StandsForEither};
+ghost use Rattle.xfs_journal.specs.Gate.{IsClosed, IsOpened, IsEitherOf, MayBecome};
 
 use crate::{Limits, Rec};
 use xfs_base::Failed;
@@ -28,12 +29,13 @@ pub(crate) fn write_synced<D: Disk>(disk: &mut D, at: u64, bytes: &[u8]) -> Resu
 // Writes the bytes behind the gate, and opens it when they are synced.
 pub(crate) fn write_behind<D: Disk>(disk: &mut D, gate: u64, bytes: &[u8]) -> Result<(), Failed>
     requires small { gate + 1 < 2 ^ 64 }
-    requires closed { IfTold (D.held disk.old) (λ all. (gate < length all) × IsClosed (take gate all) all × Only all (D.images disk.old)) }
+    requires closed { IfTold (D.held disk.old) (λ all. (gate < length all) × IsClosed (take gate all) all) }
+    requires images { IfTold (D.held disk.old) (λ _. (d : List ℕ) → D.images disk.old d → (gate < length d) × IsClosed (take gate d) d) }
     ensures ok { OnOk result (IfTold (D.held disk.old) (λ old.
         IfTold (D.held disk.new) (λ all. IsOpened (take gate old) bytes.now all × Only all (D.images disk.new)))) }
     ensures told { is_some (D.held disk.new) ≡ is_some (D.held disk.old) }
-    ensures any_moment { IfTold (D.held disk.old) (λ old. LeavesOnly D.Disk disk.old disk.new (IsEither (take gate old) bytes.now)) }
-    ensures images { IfTold (D.held disk.old) (λ old. (c : _) → D.images disk.new c → IsEither (take gate old) bytes.now c) }
+    ensures any_moment { IfTold (D.held disk.old) (λ _. LeavesOnly D.Disk disk.old disk.new (IsEitherOf (D.images disk.old) gate bytes.now)) }
+    ensures images { IfTold (D.held disk.old) (λ _. (c : _) → D.images disk.new c → IsEitherOf (D.images disk.old) gate bytes.now c) }
     ensures cause { HasCause (D.faults disk.old) (D.faults disk.new) result }
 {
     write_synced(disk, gate + 1, bytes)?;
@@ -53,6 +55,7 @@ pub(crate) fn write_record<D: Disk>(
     requires bytes { bytes.now ≡ framed rec.now ++ 0 ∷ [] }
     requires small { end + 1 < 2 ^ 64 }
     ensures ok { OnOk result (IsKept (D.held disk.new) (D.images disk.new) (records.now ++ rec.now ∷ []) false (end + length bytes.now)) }
+    ensures version { OnOk result ((v : Option ℕ) → HasVersion (D.held disk.old) v → HasVersion (D.held disk.new) v) }
     ensures told { is_some (D.held disk.new) ≡ is_some (D.held disk.old) }
     ensures any_moment { IfTold (D.held disk.old) (λ _. LeavesOnly D.Disk disk.old disk.new (StandsForEither records.now rec.now)) }
     ensures images { LeavesWithOrWithout D.Disk disk.old disk.new records.now rec.now }

@@ -1,20 +1,22 @@
 //! The journal on a disk: a list of records, each on the disk before it counts.
-ghost use Rattle.std.specs.Prelude.{MatchResult, ◌≡◌, ◌≢◌, ◌⊎◌, ℕ, List, ◌+◌, ◌-◌, ◌≤◌, ◌<◌, ◌||◌, nat_lt, [], ◌∷◌, ◌++◌, is_some, length, true, false, Some, None, Err, IfOk, IfErr, OnOk, OnErr, IfSome, vec_len, vec_capacity};
+ghost use Rattle.std.specs.Prelude.{MatchResult, ◌≡◌, ◌≢◌, ◌⊎◌, ◌↔◌, ℕ, List, ◌+◌, ◌-◌, ◌≤◌, ◌<◌, ◌||◌, nat_lt, [], ◌∷◌, ◌++◌, is_some, length, slice_get, true, false, Some, None, Err, IfOk, IfErr, OnOk, OnErr, IfSome, vec_len, vec_capacity};
 ghost use Rattle.xfs_base.specs.Causes.{IfTold, Rose};
 ghost use Rattle.xfs_disk.specs.Moments.{LeavesOnly};
 ghost use Rattle.xfs_journal.specs.declared.body.TheConstants.{MOST};
-ghost use Rattle.xfs_journal.specs.Image.{HasUnit, StandsFor, framed, contents, size, IsRecord};
-ghost use Rattle.xfs_journal.specs.JournalView.{exceeds, refusal, stops, IsNoJournal, IsPossible, LeavesWithOrWithout, LeavesList, LeavesOneOf, StandsForEither, MayPartAt};
+ghost use Rattle.xfs_journal.specs.Image.{HasUnit, StandsFor, framed, end_of, size, IsRecord};
+ghost use Rattle.xfs_journal.specs.JournalView.{exceeds, refusal, stops, IsCarriedOver, IsNoJournal, IsPossible, LeavesWithOrWithout, LeavesList, LeavesOneOf, StandsForEither, MayPartAt, IsButForEighth, IsRenewed};
 ghost use Rattle.xfs_journal.specs.declared.faults.AppendFault.TheVariants.{Disk as DiskFault, Memory as NoMemory};
 ghost use Rattle.xfs_journal.specs.Paging.{CeasesAt, IsOldOrShort, IsQuiet};
+ghost use Rattle.xfs_journal.specs.declared.faults.MigrateFault.TheVariants.{Disk as MigrateDisk, Shut as IsShut};
 ghost use Rattle.xfs_journal.specs.declared.faults.MountFault.TheVariants.{NotJournal, Disk as MountDisk, Memory as MountMemory};
 ghost use Rattle.xfs_journal.specs.declared.record.Rec.{Rec};
 
 use crate::body::{MOST, fill};
 use crate::gate::write_record;
+use crate::migrate::carry_over;
 use crate::mount::{Listed, load};
 use crate::remount::reload;
-use crate::{AppendFault, Limits, MountFault, Rec};
+use crate::{AppendFault, Limits, MigrateFault, MountFault, Rec};
 use std::alloc::Global;
 use std::marker::Model;
 use xfs_base::Memory;
@@ -31,6 +33,8 @@ pub struct Journal<D: Disk> {
     limits: Limits,
     shut: bool,
     in_doubt: Option<Rec>,
+    // The eighth byte, but behind a write that failed.
+    version: Option<u8>,
 }
 
 /// Why a disk isn't mounted, and the disk.
@@ -42,7 +46,7 @@ pub struct MountFail<D: Disk> {
 
 impl<D: Disk> Model for Journal<D> {
     ghost use Rattle.std.specs.Prelude.{◌-◌, ◌≤◌, vec_len, vec_capacity};
-    ghost use Rattle.xfs_journal.specs.JournalView.{JournalView, IsKept, IsInDoubt};
+    ghost use Rattle.xfs_journal.specs.JournalView.{JournalView, HasVersion, IsKept, IsInDoubt};
     ghost use Rattle.xfs_journal.specs.declared.body.TheConstants.{MOST};
 
     ghost Value = { JournalView D };
@@ -57,11 +61,12 @@ impl<D: Disk> Model for Journal<D> {
     } };
 
     ghost invariant = { λ j. IsKept (D.held j.disk) (D.images j.disk) j.records.items j.shut j.end
-        × IsInDoubt (D.held j.disk) (D.images j.disk) j.records.items j.shut j.in_doubt × (MOST ≤ vec_capacity j.buffer) };
+        × IsInDoubt (D.held j.disk) (D.images j.disk) j.records.items j.shut j.in_doubt × (MOST ≤ vec_capacity j.buffer)
+        × HasVersion (D.held j.disk) j.version };
 }
 
 impl<D: Disk> Journal<D> {
-    /// Syncs the disk and reads its journal. At most 9 bytes that are no journal are made an empty one; a longer file
+    /// Syncs the disk and reads its journal, of any version. At most 9 bytes that are no journal are made an empty one; a longer file
     /// is not written, and the disk is handed back with what hindered it.
     pub fn mount(alloc: Global, disk: D, limits: Limits) -> Result<Journal<D>, MountFail<D>>
         ensures ok { IfOk result (λ j. IfTold (D.held disk) (λ all. StandsFor all j.records)) }
@@ -95,7 +100,13 @@ impl<D: Disk> Journal<D> {
             });
         };
         match load(alloc, &mut disk, &mut buffer) {
-            Ok(Listed { records, end }) => Ok(Journal {
+            Ok(
+                Listed {
+                    records,
+                    end,
+                    version,
+                },
+            ) => Ok(Journal {
                 alloc,
                 disk,
                 records,
@@ -104,6 +115,7 @@ impl<D: Disk> Journal<D> {
                 limits,
                 shut: false,
                 in_doubt: None,
+                version: Some(version),
             }),
             Err(why) => Err(MountFail { why, disk }),
         }
@@ -189,16 +201,60 @@ impl<D: Disk> Journal<D> {
             &self.records,
             &self.in_doubt,
         ) {
-            Ok(Listed { records, end }) => {
+            Ok(
+                Listed {
+                    records,
+                    end,
+                    version,
+                },
+            ) => {
                 self.records = records;
                 self.end = end;
                 self.shut = false;
                 self.in_doubt = None;
+                self.version = Some(version);
                 Ok(())
             }
             Err(why) => {
                 self.shut = is_shut_by(self.shut, why);
                 Err(why)
+            }
+        }
+    }
+
+    /// Carries a file of version 1 over to version 2: where its eighth byte is the digit 1, writes the digit 2 there
+    /// and syncs it. Any other eighth byte stays. After `Disk` the journal goes on as it was, and the byte may be any.
+    pub fn migrate(&mut self) -> Result<(), MigrateFault>
+        ensures shut { (result ≡ Err IsShut) ↔ (self.old.shut ≡ true) }
+        ensures cause { IfErr result (λ f. f ≡ MigrateDisk → Rose (D.faults self.old.disk) (D.faults self.new.disk)) }
+
+        // Over a disk that tells, by its eighth byte: a 1 becomes a 2 that a crash leaves; else nothing is written.
+        ensures renewed { OnOk result (IsRenewed D.Disk self.old.disk self.new.disk) }
+        ensures quiet { IfTold (D.held self.old.disk) (λ all. slice_get all 7 ≢ Some 0x31 → IsQuiet D.Disk self.old.disk self.new.disk) }
+        ensures untouched { self.old.shut ≡ true → self.new ≡ self.old }
+        ensures same { self.new ≡ record self.old { disk = self.new.disk } }
+        ensures told { is_some (D.held self.new.disk) ≡ is_some (D.held self.old.disk) }
+        ensures faults { D.faults self.old.disk ≤ D.faults self.new.disk }
+
+        // A crash at any moment of the call leaves the bytes, but for the eighth, so it leaves the list.
+        ensures any_moment { self.old.shut ≡ false → IfTold (D.held self.old.disk) (λ _. LeavesOnly D.Disk self.old.disk self.new.disk
+            (λ c. StandsFor c self.old.records)) }
+        ensures spares { self.old.shut ≡ false → IfTold (D.held self.old.disk) (λ all. LeavesOnly D.Disk self.old.disk self.new.disk
+            (IsButForEighth all)) }
+        ensures acknowledged { OnOk result (LeavesList D.Disk self.new.disk self.new.records) }
+        ensures carried { OnOk result (IsCarriedOver (D.held self.new.disk)) }
+    {
+        if self.shut {
+            return Err(MigrateFault::Shut);
+        }
+        match carry_over(&mut self.disk, &self.records, self.end, self.version) {
+            Ok(version) => {
+                self.version = Some(version);
+                Ok(())
+            }
+            Err(_) => {
+                self.version = None;
+                Err(MigrateFault::Disk)
             }
         }
     }
@@ -231,6 +287,7 @@ impl<D: Disk> Journal<D> {
             (StandsForEither self.old.records rec)) }
         ensures images { self.old.shut ≡ false → LeavesWithOrWithout D.Disk self.old.disk self.new.disk self.old.records rec }
         ensures acknowledged { OnOk result (LeavesList D.Disk self.new.disk self.new.records) }
+        ensures carried { OnOk result (IsCarriedOver (D.held self.old.disk) → IsCarriedOver (D.held self.new.disk)) }
     {
         let ready = prepare(
             self.shut,
@@ -246,6 +303,7 @@ impl<D: Disk> Journal<D> {
         if write_record(&mut self.disk, &self.records, &rec, self.end, &self.buffer).is_err() {
             self.shut = true;
             self.in_doubt = Some(rec);
+            self.version = None;
             return Err(AppendFault::Disk);
         }
         self.end += self.buffer.len() as u64;
@@ -276,7 +334,7 @@ fn prepare(
     buffer: &mut Vec<u8>,
 ) -> Result<(), AppendFault>
     requires unit { HasUnit rec.now }
-    requires place { end ≡ length (contents records.old.items) }
+    requires place { end ≡ end_of records.old.items }
     requires capacity { MOST ≤ vec_capacity buffer.old }
     ensures refused { IfSome (stops shut limits records.old.items rec.now) (λ f. result ≡ Err f) }
     ensures only { IfErr result (λ f. (stops shut limits records.old.items rec.now ≡ Some f) ⊎ (f ≡ NoMemory)) }
@@ -306,7 +364,7 @@ fn prepare(
 
 // Whether the record whose bytes these are exceeds a limit.
 fn is_full(limits: Limits, records: &[Rec], rec: &Rec, end: u64, bytes: &[u8]) -> bool
-    requires place { end ≡ length (contents records.now) }
+    requires place { end ≡ end_of records.now }
     requires bytes { bytes.now ≡ framed rec.now ++ 0 ∷ [] }
     ensures full { result ≡ exceeds limits (records.now ++ rec.now ∷ []) }
     ensures small { result ≡ false → end + length bytes.now < limits.bytes }

@@ -8,6 +8,7 @@ mod faults;
 mod gate;
 mod journal;
 mod limits;
+mod migrate;
 mod mount;
 mod page;
 mod read;
@@ -17,7 +18,7 @@ mod scan;
 mod survey;
 mod text;
 
-pub use faults::{AppendFault, BodyFault, MountFault};
+pub use faults::{AppendFault, BodyFault, MigrateFault, MountFault};
 pub use journal::{Journal, MountFail};
 pub use limits::Limits;
 pub use read::read_body;

@@ -1,27 +1,28 @@
 //! Reading a disk as a journal, and making an empty one.
-ghost use Rattle.std.specs.Prelude.{◌⊎◌, ◌∷◌, ◌++◌, ◌≡◌, ◌≢◌, ◌<◌, ◌≤◌, List, ℕ, [], length, false, is_some, vec_capacity, IfOk, IfErr, OnOk, OnErr};
+ghost use Rattle.std.specs.Prelude.{◌⊎◌, ◌∷◌, ◌++◌, ◌≡◌, ◌≢◌, ◌<◌, ◌≤◌, List, ℕ, [], length, false, is_some, vec_capacity, Some, IfOk, IfErr, OnOk, OnErr};
 ghost use Rattle.std.specs.List.{AllByRecursion};
 ghost use Rattle.xfs_base.specs.Causes.{IfTold, Rose};
 ghost use Rattle.xfs_disk.specs.Disk.{Only};
 ghost use Rattle.xfs_disk.specs.Moments.{LeavesOnly};
 ghost use Rattle.xfs_journal.specs.declared.body.TheConstants.{MOST};
-ghost use Rattle.xfs_journal.specs.Image.{IsImage, IsRecord, StandsFor, contents};
-ghost use Rattle.xfs_journal.specs.JournalView.{IsKept};
+ghost use Rattle.xfs_journal.specs.Image.{IsImage, IsRecord, StandsFor, end_of};
+ghost use Rattle.xfs_journal.specs.JournalView.{HasVersion, IsKept};
 ghost use Rattle.xfs_journal.specs.Paging.{IsQuiet, IsOldOrShort, CeasesAt, MayCease};
 ghost use Rattle.xfs_journal.specs.declared.faults.MountFault.TheVariants.{NotJournal, Disk as DiskFault, Memory as NoMemory};
 
 use crate::gate::write_synced;
 use crate::page::Page;
-use crate::scan::{MAGIC, read_records};
+use crate::scan::{MAGIC, VERSION, read_records};
 use crate::{MountFault, Rec};
 use std::alloc::Global;
 use xfs_disk::Disk;
 
-// The list, and the place of its closing gate byte.
+// The list, the place of its closing gate byte, and the version in front of it.
 #[derive(Drop)]
 pub(crate) struct Listed {
     pub(crate) records: Vec<Rec>,
     pub(crate) end: u64,
+    pub(crate) version: u8,
 }
 
 // Reads the records of a disk of so many bytes.
@@ -33,8 +34,9 @@ pub(crate) fn read_all<D: Disk>(
 ) -> Result<Listed, MountFault>
     requires room { MOST ≤ vec_capacity block.old }
     requires len { IfTold (D.held disk.old) (λ all. length all ≡ len) }
-    ensures place { IfOk result (λ l. (l.end ≡ length (contents l.records.items)) × AllByRecursion IsRecord l.records.items) }
+    ensures place { IfOk result (λ l. (l.end ≡ end_of l.records.items) × AllByRecursion IsRecord l.records.items) }
     ensures image { IfOk result (λ l. IfTold (D.held disk.old) (λ all. IsImage all l.records.items)) }
+    ensures version { IfOk result (λ l. HasVersion (D.held disk.old) (Some l.version)) }
     ensures broken { IfErr result (λ f. (x : ℕ) → f ≡ NotJournal x → IfTold (D.held disk.old) (λ all. CeasesAt all x)) }
     ensures ceases { IfErr result (λ f. (x : ℕ) → f ≡ NotJournal x → MayCease x) }
     ensures disk { IfErr result (λ f. f ≡ DiskFault → Rose (D.faults disk.old) (D.faults disk.new)) }
@@ -45,9 +47,13 @@ pub(crate) fn read_all<D: Disk>(
         return Err(MountFault::Memory);
     };
     let mut page = Page::new(len);
-    let records = read_records(alloc, disk, &mut page, block, &mut spare)?;
+    let (version, records) = read_records(alloc, disk, &mut page, block, &mut spare)?;
     let end = page.at() - 1;
-    Ok(Listed { records, end })
+    Ok(Listed {
+        records,
+        end,
+        version,
+    })
 }
 
 // Syncs, and answers the number of bytes.
@@ -68,18 +74,20 @@ pub(crate) fn make_empty<D: Disk>(alloc: Global, disk: &mut D) -> Result<Listed,
     requires short { IfTold (D.held disk.old) (λ all. (length all ≤ 9) × Only all (D.images disk.old)) }
     ensures ok { IfOk result (λ l. l.records.items ≡ []) }
     ensures kept { IfOk result (λ l. IsKept (D.held disk.new) (D.images disk.new) l.records.items false l.end) }
+    ensures version { IfOk result (λ l. HasVersion (D.held disk.new) (Some l.version)) }
     ensures err { IfErr result (λ f. (f ≡ DiskFault) × Rose (D.faults disk.old) (D.faults disk.new)) }
     ensures any_moment { IfTold (D.held disk.old) (λ _. LeavesOnly D.Disk disk.old disk.new (λ c. length c ≤ 9)) }
     ensures told { is_some (D.held disk.new) ≡ is_some (D.held disk.old) }
     ensures faults { D.faults disk.old ≤ D.faults disk.new }
 {
-    let [a, b, c, d, e, f, g, h] = MAGIC;
-    if write_synced(disk, 0, &[a, b, c, d, e, f, g, h, 0]).is_err() {
+    let [a, b, c, d, e, f, g] = MAGIC;
+    if write_synced(disk, 0, &[a, b, c, d, e, f, g, VERSION, 0]).is_err() {
         return Err(MountFault::Disk);
     }
     Ok(Listed {
         records: Vec::new(alloc),
         end: 8,
+        version: VERSION,
     })
 }
 
@@ -94,6 +102,7 @@ fn read_or_empty<D: Disk>(
     requires len { IfTold (D.held disk.old) (λ all. length all ≡ len) }
     requires durable { IfTold (D.held disk.old) (λ all. Only all (D.images disk.old)) }
     ensures kept { IfOk result (λ l. IsKept (D.held disk.new) (D.images disk.new) l.records.items false l.end) }
+    ensures version { IfOk result (λ l. HasVersion (D.held disk.new) (Some l.version)) }
     ensures stands { IfOk result (λ l. IfTold (D.held disk.old) (λ all. StandsFor all l.records.items)) }
     ensures refused { IfErr result (λ f. (at : ℕ) → f ≡ NotJournal at → IfTold (D.held disk.old) (λ all. (9 < length all) × CeasesAt all at)) }
     ensures unwritten { IfErr result (λ f. f ≢ DiskFault → IsQuiet D.Disk disk.old disk.new) }
@@ -118,6 +127,7 @@ pub(crate) fn load<D: Disk>(
 ) -> Result<Listed, MountFault>
     requires room { MOST ≤ vec_capacity block.old }
     ensures kept { IfOk result (λ l. IsKept (D.held disk.new) (D.images disk.new) l.records.items false l.end) }
+    ensures version { IfOk result (λ l. HasVersion (D.held disk.new) (Some l.version)) }
     ensures stands { IfOk result (λ l. IfTold (D.held disk.old) (λ all. StandsFor all l.records.items)) }
     ensures refused { IfErr result (λ f. (at : ℕ) → f ≡ NotJournal at → IfTold (D.held disk.old) (λ all. (9 < length all) × CeasesAt all at)) }
     ensures unwritten { IfErr result (λ f. f ≢ DiskFault → IsQuiet D.Disk disk.old disk.new) }

@@ -44,17 +44,17 @@ fn counts_at(bytes: &[u8], at: usize) -> Counts
     ])
 }
 
-fn places_of(bytes: &[u8]) -> Places
-    requires within { 192 ≤ length bytes.now }
-    ensures { result ≡ places_in bytes.now }
+fn places_at(bytes: &[u8], at: usize) -> Places
+    requires within { at + 192 ≤ length bytes.now }
+    ensures { result ≡ places_in (drop at bytes.now) }
 {
     Places {
-        units: counts_at(bytes, 0),
-        transport: counts_at(bytes, 32),
-        outlet: counts_at(bytes, 64),
-        taken: counts_at(bytes, 96),
-        retracted: counts_at(bytes, 128),
-        rejected: counts_at(bytes, 160),
+        units: counts_at(bytes, at),
+        transport: counts_at(bytes, at + 32),
+        outlet: counts_at(bytes, at + 64),
+        taken: counts_at(bytes, at + 96),
+        retracted: counts_at(bytes, at + 128),
+        rejected: counts_at(bytes, at + 160),
     }
 }
 
@@ -77,6 +77,7 @@ fn fits(letter: u8, rest: usize) -> bool
         0x49 => rest == 16,
         0x43 | 0x45 => rest == 0,
         0x42 => rest == 192,
+        0x4B => rest == 200,
         0x54 => rest >= 1 && rest <= 1024,
         0x4F => rest == 33,
         0x44 => rest == 64,
@@ -100,8 +101,22 @@ fn boot(alloc: Global, rest: &[u8]) -> Result<Rec, BodyFault>
     ensures ok { IfOk result (λ r. r ≡ record_in 0x42 rest.now) }
     ensures err { IfErr result (λ f. f ≡ Memory) }
 {
-    match Survey::new(alloc, places_of(rest)) {
+    match Survey::new(alloc, places_at(rest, 0)) {
         Ok(places) => Ok(Rec::Boot { places }),
+        Err(_) => Err(BodyFault::Memory),
+    }
+}
+
+fn start(alloc: Global, rest: &[u8]) -> Result<Rec, BodyFault>
+    requires within { 200 ≤ length rest.now }
+    ensures ok { IfOk result (λ r. r ≡ record_in 0x4B rest.now) }
+    ensures err { IfErr result (λ f. f ≡ Memory) }
+{
+    match Survey::new(alloc, places_at(rest, 8)) {
+        Ok(places) => Ok(Rec::Start {
+            issues: whole_at(rest, 0),
+            places,
+        }),
         Err(_) => Err(BodyFault::Memory),
     }
 }
@@ -161,6 +176,7 @@ fn decoded(alloc: Global, letter: u8, rest: &[u8]) -> Result<Rec, BodyFault>
         0x43 => Ok(Rec::Clear),
         0x45 => Ok(Rec::Expire),
         0x42 => boot(alloc, rest),
+        0x4B => start(alloc, rest),
         0x54 => bind(alloc, rest),
         0x4F => Ok(order(rest)),
         0x44 => Ok(done(rest)),

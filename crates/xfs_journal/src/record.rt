@@ -12,6 +12,9 @@ pub enum Rec {
     Expire,
     /// The machine started or was reset: where its notes lay then.
     Boot { places: Survey },
+    /// The machine started or was reset: how many nonces were issued before it, and where its notes lay then. It
+    /// stands in files of version 2 where a Boot stood.
+    Start { issues: u64, places: Survey },
     /// This token serves the live nonce from now on.
     Bind { token: Text },
     /// The mechanism may move these notes.

@@ -1,11 +1,11 @@
 //! Reading a disk's journal again, and comparing it with the list that was kept.
-ghost use Rattle.std.specs.Prelude.{◌≡◌, ◌≢◌, ◌≤◌, ◌+◌, ◌∷◌, ◌++◌, [], List, ℕ, false, None, length, is_some, vec_len, vec_capacity, IfOk, IfErr, IfSome, OnOk, OnErr};
+ghost use Rattle.std.specs.Prelude.{◌≡◌, ◌≢◌, ◌≤◌, ◌+◌, ◌∷◌, ◌++◌, [], List, ℕ, false, None, length, is_some, vec_len, vec_capacity, Some, IfOk, IfErr, IfSome, OnOk, OnErr};
 ghost use Rattle.std.specs.List.{AllByRecursion};
 ghost use Rattle.xfs_base.specs.Causes.{IfTold, Rose};
 ghost use Rattle.xfs_disk.specs.Disk.{Only};
 ghost use Rattle.xfs_journal.specs.declared.body.TheConstants.{MOST};
-ghost use Rattle.xfs_journal.specs.Image.{IsImage, IsRecord, contents};
-ghost use Rattle.xfs_journal.specs.JournalView.{DiffersAt, IsKept, IsPossible, LeavesOneOf, MayPartAt};
+ghost use Rattle.xfs_journal.specs.Image.{IsImage, IsRecord, end_of};
+ghost use Rattle.xfs_journal.specs.JournalView.{DiffersAt, HasVersion, IsKept, IsPossible, LeavesOneOf, MayPartAt};
 ghost use Rattle.xfs_journal.specs.Paging.{IsQuiet, MayCease};
 ghost use Rattle.xfs_journal.specs.declared.faults.MountFault.TheVariants.{NotJournal, Disk as DiskFault};
 ghost use Rattle.xfs_journal.specs.declared.record.Rec.{Rec};
@@ -31,6 +31,7 @@ fn read_again<D: Disk>(
     requires durable { IfTold (D.held disk.old) (λ all. Only all (D.images disk.old)) }
     requires image { IfTold (D.held disk.old) (λ all. (records : List Rec) × IsImage all records) }
     ensures kept { IfOk result (λ l. IsKept (D.held disk.new) (D.images disk.new) l.records.items false l.end) }
+    ensures version { IfOk result (λ l. HasVersion (D.held disk.new) (Some l.version)) }
     ensures image { IfOk result (λ l. IfTold (D.held disk.old) (λ all. IsImage all l.records.items)) }
     ensures silent { IfErr result (λ f. (at : ℕ) → f ≡ NotJournal at → D.held disk.old ≡ None) }
     ensures ceases { IfErr result (λ f. (at : ℕ) → f ≡ NotJournal at → MayCease at) }
@@ -60,8 +61,8 @@ fn possible(
     requires room { MOST ≤ vec_capacity block.old }
     requires of_table { AllByRecursion IsRecord kept.now × IfSome in_doubt.now IsRecord }
     requires found { AllByRecursion IsRecord listed.records.items }
-    requires place { listed.end ≡ length (contents listed.records.items) }
-    ensures same { IfOk result (λ l. (l.records.items ≡ listed.records.items) × (l.end ≡ listed.end)) }
+    requires place { listed.end ≡ end_of listed.records.items }
+    ensures same { IfOk result (λ l. (l.records.items ≡ listed.records.items) × (l.end ≡ listed.end) × (l.version ≡ listed.version)) }
     ensures possible { IfOk result (λ l. IsPossible kept.now in_doubt.now l.records.items) }
     ensures reserved { IfOk result (λ l. vec_len l.records + 1 ≤ vec_capacity l.records) }
     ensures other { IfErr result (λ f. (at : ℕ) → f ≡ NotJournal at → ¬ IsPossible kept.now in_doubt.now listed.records.items) }
@@ -94,6 +95,7 @@ pub(crate) fn reload<D: Disk>(
     requires of_table { AllByRecursion IsRecord kept.now × IfSome in_doubt.now IsRecord }
     requires possible { LeavesOneOf D.Disk disk.old kept.now in_doubt.now }
     ensures kept { IfOk result (λ l. IsKept (D.held disk.new) (D.images disk.new) l.records.items false l.end) }
+    ensures version { IfOk result (λ l. HasVersion (D.held disk.new) (Some l.version)) }
     ensures possible { IfOk result (λ l. IsPossible kept.now in_doubt.now l.records.items) }
     ensures reserved { IfOk result (λ l. vec_len l.records + 1 ≤ vec_capacity l.records) }
     ensures image { IfOk result (λ l. IfTold (D.held disk.old) (λ all. IsImage all l.records.items)) }

@@ -25,7 +25,7 @@ presented_in units records = (fold (presented_after units) (record { ordered = f
 abbrev pub summary_of : ℕ → ℕ → List NoteKind → List Rec → Summary
 summary_of rounds refused units written = record { rounds = rounds; presented = presented_in units written / 1000; refused = refused; records = length written }
 
--- so many rounds are played from a boot on, and summed up of what the client heard and of the records from the Boot on
+-- so many rounds are played from a boot on, and summed up of what the client heard and of the records from the boot record on
 pub record IsSummary (key : List ℕ) (rounds : ℕ) (s new : State) (summary : Summary) : Type 0 where
   pub client : Client
   pub plays : PlaysRounds key rounds s client new

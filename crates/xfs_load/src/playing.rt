@@ -17,7 +17,7 @@ use xfs_mech::Mechanism;
 
 /// Plays so many rounds of the generator on a machine that has just booted: a client joins the cash dispenser and
 /// withdraws, with tokens under this key. What came of it is summed up of the completions that the client heard, and of
-/// the records from the Boot on. Want of memory leaves a front of the calls made.
+/// the records from the boot record on. Want of memory leaves a front of the calls made.
 pub fn play<M: Mechanism, D: Disk>(
     alloc: Global,
     machine: &mut Machine<M, D>,

@@ -16,7 +16,7 @@ pub struct Summary {
     pub presented: u128,
     /// The rounds of which a completion was no success.
     pub refused: u32,
-    /// The records that were written, the Boot among them.
+    /// The records that were written, the boot record among them.
     pub records: u64,
 }
 

@@ -1,5 +1,5 @@
 -- A restart in place, and the end of a machine, are steps of it.
-use Rattle.std.proofs.Common.{◌≡◌, ◌≢◌, ◌++◌, ℕ, List, length, Result, Ok, Err, ◌∷◌, [], refl, ap, sym, subst, ◌∙◌, arith, length-append}
+use Rattle.std.proofs.Common.{◌≡◌, ◌≢◌, ℕ, List, length, Result, Ok, Err, ◌∷◌, [], refl, ap, sym, subst, ◌∙◌, arith, length-append}
 use Rattle.std.specs.Prelude.{IfErr, OnErr, OnOk, is_ok}
 use Rattle.xfs_dispenser.specs.Seen.{Becomes, Seen}
 use Rattle.xfs_guard.specs.View.{View}
@@ -10,7 +10,8 @@ use Rattle.xfs_guard.specs.declared.open.Open.TheVariants.{No}
 use Rattle.xfs_base.specs.declared.counts.Places.{Places}
 use Rattle.xfs_guard.proofs.MarkLaws.{mark-there, marked-here}
 use Rattle.xfs_journal.specs.declared.record.Rec.{Rec}
-use Rattle.xfs_journal.specs.declared.record.Rec.TheVariants.{Boot}
+use Rattle.xfs_journal.specs.Journal.{boot_of, with_boot}
+use Rattle.xfs_journal.proofs.StartLaws.{boot-mark, boot_of-places}
 use Rattle.xfs_machine.specs.Answers.{finished}
 use Rattle.xfs_machine.specs.Endings.{RefusesAs}
 use Rattle.xfs_machine.specs.MachineView.{IsWhole}
@@ -25,11 +26,11 @@ use Rattle.xfs_model.proofs.RunsTell.{mark_kept}
 use Rattle.xfs_model.proofs.Sounds.{sound_bare, unbooted_closed}
 use Rattle.xfs_model.proofs.Telling.{bare_told}
 
--- a list that ends with its Boot has a mark
-pub boot_marks : (seen : Seen) (records : List Rec) (places : Places) → seen.guard.records ≡ records ++ Boot places ∷ [] → HasMark seen
+-- a list that ends with its boot record has a mark
+pub boot_marks : (seen : Seen) (records : List Rec) (places : Places) → seen.guard.records ≡ with_boot records places → HasMark seen
 boot_marks seen records places is =
-    let last = marked-here records (Boot places) refl in
-    rw is (mark-there (records ++ Boot places ∷ []) (omega (arith, last)))
+    let last = marked-here records (boot_of records places) (boot-mark (boot_of records places) places (boot_of-places records places)) in
+    rw is (mark-there (with_boot records places) (omega (arith, last)))
 
 pub finishes : (s : State) (r : Result Unit Deny) (next : Seen) → s.boot ≢ 0 → Closes s.seen.guard.open_order s.seen (is_ok r) next → Step s finish (finished r) (gone s next)
 finishes s (Ok done) next there closes = happens there (record { next = next; closes = closes; is = refl })
@@ -69,7 +70,7 @@ emptied t (Err why) next life before boot is same = λ other. is ∙ ap (λ n. b
 numbered : (s : State) (r : Result Unit BootFault) (next : Seen) (boot : ℕ) → s.boot ≢ 0 → OnOk r (Reboots s.seen next) → OnOk r (boot ≡ length next.guard.records) → OnErr r (boot ≡ s.boot) → boot ≢ 0
 numbered s (Ok done) next boot there is number same e =
     let grown = ap (λ (v : View). length v.records) is.becomes.guard_is in
-    let size = length-append is.records (Boot s.seen.guard.places ∷ []) in
+    let size = length-append is.records (boot_of is.records s.seen.guard.places ∷ []) in
     absurd (omega (arith, grown, size, number, e))
 numbered s (Err why) next boot there is number same e = there (sym same ∙ e)
 

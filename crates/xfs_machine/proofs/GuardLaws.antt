@@ -1,5 +1,5 @@
 -- What the guard's own clauses say, in the words of the machine's definitions.
-use Rattle.std.proofs.Common.{◌≡◌, ◌≢◌, ◌≤◌, ◌⊎◌, ℕ, Bool, true, false, List, [], ◌∷◌, ◌++◌, None, Some, Result, Ok, Err, inl, inr, refl, subst}
+use Rattle.std.proofs.Common.{◌≡◌, ◌≢◌, ◌≤◌, ◌⊎◌, ℕ, Bool, true, false, List, None, Some, Result, Ok, Err, inl, inr, refl, subst}
 use Rattle.std.specs.Prelude.{is_ok, IfErr, OnErr, OnOk}
 use Rattle.xfs_base.specs.Causes.{Rose}
 use Rattle.xfs_base.specs.declared.counts.Counts.{Counts}
@@ -17,7 +17,7 @@ use Rattle.xfs_guard.specs.declared.open.Open.{Open}
 use Rattle.xfs_guard.specs.declared.open.Open.TheVariants.{No, Written, Acted}
 use Rattle.xfs_journal.specs.JournalView.{IsPossible, exceeds}
 use Rattle.xfs_journal.specs.declared.record.Rec.{Rec}
-use Rattle.xfs_journal.specs.declared.record.Rec.TheVariants.{Boot}
+use Rattle.xfs_journal.specs.Journal.{with_boot}
 use Rattle.xfs_disk.specs.declared.disk.Disk.{Ghosts}
 use Rattle.xfs_machine.specs.Endings.{ActsThenSettles, ClosesThrough, RefusesAs}
 use Rattle.xfs_model.specs.Events.{fault, taken}
@@ -25,7 +25,7 @@ use Rattle.xfs_model.specs.Guards.{ActsAndSettles, Closes, IsUnbooted, Reboots, 
 use Rattle.xfs_model.specs.State.{State}
 use Rattle.xfs_model.specs.Touches.{TakesNotes, failed, took}
 
--- the journal was read again, and has its Boot
+-- the journal was read again, and has its boot record
 pub reboots : (old new : Seen) (records : List Rec) → IsPossible old.guard.records old.guard.in_doubt records → new.guard ≡ restarted old.guard records
     → exceeds old.guard.limits new.guard.records ≡ false → old.disk_faults ≤ new.disk_faults → Reboots old new
 reboots old new records possible is fits later = record {
@@ -41,7 +41,7 @@ rebooted (Ok done) old new is fits later = reboots old new is.0 is.1 is.2 fits l
 rebooted (Err why) old new is fits later = tt
 
 abbrev FoundFull : Seen → Seen → Type 0
-FoundFull old new = (records : List Rec) × IsPossible old.guard.records old.guard.in_doubt records × (exceeds old.guard.limits (records ++ Boot old.guard.places ∷ []) ≡ true) × (new.guard ≡ reread old.guard records)
+FoundFull old new = (records : List Rec) × IsPossible old.guard.records old.guard.in_doubt records × (exceeds old.guard.limits (with_boot records old.guard.places) ≡ true) × (new.guard ≡ reread old.guard records)
 
 abbrev FoundFault : Seen → Seen → Type 0
 FoundFault old new = (new.guard ≡ unread old.guard) ⊎ ((records : List Rec) × IsPossible old.guard.records old.guard.in_doubt records × (new.guard ≡ unbooted old.guard records))

@@ -28,7 +28,7 @@ pub record IsHandedBack {M D : Type 0} (m : Mechanisms M) (g : Ghosts D) (last :
   pub units : m.units mech ≡ last.guard.units
   pub faults : m.faults mech ≡ last.guard.faults
 
--- why a restart is refused: a disk that tells nothing is no journal, the disk fails, the Boot passes a limit, or memory runs out and the guard is as before
+-- why a restart is refused: a disk that tells nothing is no journal, the disk fails, the boot record passes a limit, or memory runs out and the guard is as before
 abbrev pub RefusesAs : BootFault → Seen → Seen → Type 0
 RefusesAs (NotJournal at) old new = IsUnknown old new
 RefusesAs Disk old new = IsUnread old new
@@ -55,7 +55,7 @@ pub record IsFinishedThrough {M D : Type 0} (m : Mechanisms M) (g : Ghosts D) (o
   pub back : IsHandedBack m g (seen g last) mech disk
   pub disk_is : disk ≡ last.disk
 
--- a crash inside a refused restart finds the journal's list or that list with its Boot, and the last disk is this one
+-- a crash inside a refused restart finds the journal's list or that list with its boot record, and the last disk is this one
 pub record IsRefusedThrough {D : Type 0} (g : Ghosts D) (old : GuardView D) (disk : D) : Type 0 where
   pub last : GuardView D
   pub keeps : Keeps g NoEntry old last

@@ -9,9 +9,8 @@ ghost use Rattle.xfs_guard.specs.CrashOutcomes.{EachStands, IsOldOrBooted, Stand
 ghost use Rattle.xfs_guard.specs.Entries.{Begins, at_entry};
 ghost use Rattle.xfs_guard.specs.declared.fail.BootFault.TheVariants.{NotJournal, Disk as BootDisk, Full as BootFull};
 ghost use Rattle.xfs_guard.specs.declared.open.Open.TheVariants.{No};
-ghost use Rattle.xfs_journal.specs.JournalView.{exceeds, IsNoJournal};
+ghost use Rattle.xfs_journal.specs.JournalView.{exceeds, IsCarriedOver, IsNoJournal};
 ghost use Rattle.xfs_journal.specs.Paging.{IsQuiet};
-ghost use Rattle.xfs_journal.specs.declared.record.Rec.TheVariants.{Boot};
 ghost use Rattle.xfs_dispenser.specs.Seen.{seen};
 ghost use Rattle.xfs_model.specs.State.{bare};
 ghost use Rattle.xfs_model.specs.Told.{HasMark};
@@ -28,7 +27,7 @@ use xfs_keyboard::KeyState;
 use xfs_mech::Mechanism;
 
 impl<M: Mechanism, D: Disk> Machine<M, D> {
-    /// A machine over this mechanism and the journal of this disk, which gets a Boot, with no connection,
+    /// A machine over this mechanism and the journal of this disk, which gets a boot record, with no connection,
     /// command, card, entry or exchange. A refused boot hands mechanism and disk back, as the guard's does.
     pub fn boot(alloc: Global, bench: Core<M, D>) -> Result<Machine<M, D>, BootFail<M, D>>
         requires units { M.units bench.mech ≡ bench.units }
@@ -38,6 +37,7 @@ impl<M: Mechanism, D: Disk> Machine<M, D> {
         ensures tied { IfOk result (λ m. m.state.seen.disk_faults ≡ D.faults m.disk) }
         ensures fits { IfOk result (λ m. exceeds bench.limits m.state.seen.guard.records ≡ false) }
         ensures continues { IfOk result (λ m. ContinuesFound (M.places bench.mech) m.state.seen.guard) }
+        ensures carried { IfOk result (λ m. IsCarriedOver (D.held m.disk)) }
         ensures mech { IfErr result (λ f. f.mech ≡ bench.mech) }
         ensures not_journal { IfErr result (λ f. (at : ℕ) → f.why ≡ NotJournal at → IsNoJournal (D.held bench.disk) at) }
         ensures refused { IfErr result (λ f. (at : ℕ) → f.why ≡ NotJournal at → IsQuiet D.Disk bench.disk f.disk) }
@@ -56,7 +56,7 @@ impl<M: Mechanism, D: Disk> Machine<M, D> {
             (λ m. LeavesOnly D.Disk bench.disk m.disk (StandsRecorded bench.key bench.units (M.motions bench.mech)))
             (λ f. LeavesOnly D.Disk bench.disk f.disk (StandsRecorded bench.key bench.units (M.motions bench.mech)))) }
 
-        // Each of them is one of those before, or stands for the list that was found, with the Boot or without it.
+        // Each of them is one of those before, or stands for the list that was found, with the boot record or without it.
         ensures crashes { IfTold (D.held bench.disk) (λ all. MatchResult result
             (λ m. LeavesOnly D.Disk bench.disk m.disk (IsOldOrBooted (D.images bench.disk) all (M.places bench.mech)))
             (λ f. LeavesOnly D.Disk bench.disk f.disk (IsOldOrBooted (D.images bench.disk) all (M.places bench.mech)))) }
@@ -76,7 +76,7 @@ impl<M: Mechanism, D: Disk> Machine<M, D> {
         }
     }
 
-    // A machine over a guard whose last record is its Boot, with no order open.
+    // A machine over a guard whose last record is its boot record, with no order open.
     pub(crate) fn booted(alloc: Global, guard: Guard<M, D>, life: u32) -> Machine<M, D>
         requires there { length guard.state.records ≢ 0 }
         requires none { guard.state.open_order ≡ No }

@@ -26,7 +26,7 @@ use xfs_keyboard::KeyState;
 use xfs_mech::Mechanism;
 
 impl<M: Mechanism, D: Disk> Machine<M, D> {
-    /// Boots again in place, on the same mechanism and disk: every connection, command, card, entry and
+    /// boot records again in place, on the same mechanism and disk: every connection, command, card, entry and
     /// exchange is gone. So they are after a refusal, but for `Memory`, which leaves all as it was.
     pub fn reboot(&mut self) -> Result<(), BootFault>
         ensures ok { OnOk result (Step self.old.state restart restarted self.new.state) }
@@ -151,7 +151,7 @@ fn forget(
     *queues = Queues::new(alloc);
 }
 
-// The number of the boot's Boot record, where there is a new one.
+// The number of the boot's boot record, where there is a new one.
 fn boot_after<M: Mechanism, D: Disk>(
     guard: &Guard<M, D>,
     outcome: &Result<(), BootFault>,

@@ -3,7 +3,7 @@ ghost use Rattle.std.specs.Prelude.{◌≡◌};
 use std::marker::Model;
 use xfs_base::{ClientId, Service};
 
-/// What a connection is told by: its client, its service, and the number of the Boot record of the boot in
+/// What a connection is told by: its client, its service, and the number of the boot record of the boot in
 /// which it joined.
 #[derive(Drop)]
 pub struct Pass {

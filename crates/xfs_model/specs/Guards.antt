@@ -18,10 +18,10 @@ use Rattle.xfs_guard.specs.View.{View, shut_at, restarted}
 use Rattle.xfs_guard.specs.Word.{issue_word}
 use Rattle.xfs_guard.specs.declared.open.Open.{Open}
 use Rattle.xfs_guard.specs.declared.open.Open.TheVariants.{No, Written, Acted}
-use Rattle.xfs_journal.specs.Journal.{next_issue, nonce_text}
+use Rattle.xfs_journal.specs.Journal.{next_issue, nonce_text, with_boot}
 use Rattle.xfs_journal.specs.JournalView.{IsPossible, exceeds}
 use Rattle.xfs_journal.specs.declared.record.Rec.{Rec}
-use Rattle.xfs_journal.specs.declared.record.Rec.TheVariants.{Issue, Clear, Expire, Boot}
+use Rattle.xfs_journal.specs.declared.record.Rec.TheVariants.{Issue, Clear, Expire}
 use Rattle.xfs_mech.specs.declared.motion.Motion.TheVariants.{Taken}
 use Rattle.xfs_model.specs.State.{State, Ask, issue, clear, Ending, cleared, expired, Outcome}
 use Rattle.xfs_model.specs.Results.{plain, success}
@@ -86,14 +86,14 @@ pub record Takes (old : Seen) (moved : Counts) (failed : Bool) (new : Seen) : Ty
   pub reported : HasReported old.guard new.guard (Taken moved) moved diverted failed
   pub called : MechCalled old failed new
 
--- a restart: the journal is read again as a possible list, and gets a Boot with the places
+-- a restart: the journal is read again as a possible list, and gets a boot record with the places
 pub record Reboots (old new : Seen) : Type 0 where
   pub records : List Rec
   pub possible : IsPossible old.guard.records old.guard.in_doubt records
-  pub fits : exceeds old.guard.limits (records ++ Boot old.guard.places ∷ []) ≡ false
+  pub fits : exceeds old.guard.limits (with_boot records old.guard.places) ≡ false
   pub becomes : Becomes old (restarted old.guard records) new
 
--- it is refused: its Boot passes a limit, the disk fails, or a disk that tells nothing is no journal
+-- it is refused: its boot record passes a limit, the disk fails, or a disk that tells nothing is no journal
 abbrev pub IsUnbooted : Seen → Seen → Type 0
 IsUnbooted old new = IsFull old new ⊎ (IsUnread old new ⊎ IsUnknown old new)
 

@@ -15,7 +15,7 @@ use Rattle.xfs_keyboard.specs.Entries.{Entry}
 use Rattle.xfs_keyboard.specs.declared.ask.EntryAsk.{EntryAsk}
 use Rattle.xfs_queue.specs.declared.command.Command.{Command}
 
--- what a connection is told by: its client's number, its service, and the number of the Boot record of the boot in which it joined
+-- what a connection is told by: its client's number, its service, and the number of the boot record of the boot in which it joined
 pub record Pass : Type 0 where
   pub client : ClientId
   pub service : Service
@@ -62,7 +62,7 @@ pub record Queues : Type 0 where
   pub keys : List (Command Job)
   pub cash : List (Command Job)
 
--- The life of a nonce is in milliseconds, 0 for one without an end; `issued` is the moment at which the live nonce was issued. `boot` is the number of this boot's Boot record, and 0 once the machine is gone.
+-- The life of a nonce is in milliseconds, 0 for one without an end; `issued` is the moment at which the live nonce was issued. `boot` is the number of this boot's boot record, and 0 once the machine is gone.
 -- `given` client numbers were given since the boot.
 pub record State : Type 0 where
   pub seen : Seen

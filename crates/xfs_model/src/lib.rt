@@ -95,7 +95,7 @@ pub fn steps_advance_the_guard()
 
 /// Each step keeps what was told of the journal: each frame that waits, and each result, names only
 /// Issues and marks of its list. So does each frame that a client is handed. The guard's list has a mark
-/// from its first Boot on.
+/// from its first boot record on.
 pub fn steps_keep_what_was_told()
     ensures kept { EachStep (λ old _. IsSound old) (λ old _ new. KeepsTold old new) }
     ensures handed { EachHanding (λ old frames. IsTold old → AllTell old frames) }

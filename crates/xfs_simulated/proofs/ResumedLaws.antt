@@ -28,3 +28,8 @@ tells-refused None failed units why motions places nor none disk = tt
 tells-refused (Some bytes) failed units (NotJournal at) motions places nor none disk = λ records stood. absurd ((none at refl).1 records stood)
 tells-refused (Some bytes) failed units Disk motions places nor none disk = λ records stood. inl (disk refl)
 tells-refused (Some bytes) failed units Memory motions places nor none disk = absurd (nor refl)
+
+-- the same of a mechanism that has these motions, these places and this table
+pub tells-as : (held : Option (List ℕ)) (failed : Type 0) (units : List NoteKind) (motions motions' : List Motion) (places places' : Places) (table : List NoteKind)
+    → table ≡ units → motions' ≡ motions → places' ≡ places → TellsOf held failed units motions places → TellsOf held failed table motions' places'
+tells-as held failed units motions motions' places places' table same moved lie told = rw (same, moved, lie) told

@@ -1,5 +1,6 @@
 -- Where the notes lie after a journal's records.
-use Rattle.std.specs.Prelude.{◌≡◌, ◌+◌, ◌≤◌, ◌⊎◌, ℕ, List, [], ◌∷◌, ◌++◌, fold, slice_get, take, Some, ⊤}
+use Rattle.std.specs.Prelude.{◌≡◌, ◌+◌, ◌≤◌, ◌⊎◌, ℕ, List, [], ◌∷◌, ◌++◌, fold, is_some, slice_get, take, Some, None, if◌then◌else◌, ⊤}
+use Rattle.std.specs.declared.option.Option.{Option}
 use Rattle.xfs_base.specs.Counts.{LiesIn, at}
 use Rattle.xfs_base.specs.declared.counts.Places.{Places}
 use Rattle.xfs_base.specs.declared.money.NoteKind.{NoteKind}
@@ -8,15 +9,14 @@ use Rattle.xfs_mech.specs.Motions.{PlacesOf}
 use Rattle.xfs_mech.specs.declared.motion.Motion.{Motion}
 use Rattle.xfs_mech.specs.declared.motion.Motion.TheVariants.{Moved, Taken, Loaded}
 use Rattle.xfs_journal.specs.declared.record.Rec.{Rec}
-use Rattle.xfs_journal.specs.declared.record.Rec.TheVariants.{Boot}
+use Rattle.xfs_journal.specs.Journal.{boot_places}
 use Rattle.xfs_guard.specs.Replayed.{replayed}
 
--- a Boot begins the list anew
+-- a boot record begins the list anew
 abbrev pub since_after : List Rec → Rec → List Rec
-since_after since (Boot places) = Boot places ∷ []
-since_after since r = since ++ r ∷ []
+since_after since r = if is_some (boot_places r) then r ∷ [] else since ++ r ∷ []
 
--- the records from the last Boot on; all of them where there is none
+-- the records from the last boot record on; all of them where there is none
 abbrev pub since_boot : List Rec → List Rec
 since_boot records = fold since_after [] records
 
@@ -25,12 +25,21 @@ pub record Leads (units : List NoteKind) (start : Places) (motions : List Motion
   pub moved : PlacesOf start motions places
   pub fit : PlacesFit units places
 
--- the motions that records stand for lead there from the places of the Boot that is the first of them
-abbrev pub LeadsSince : List NoteKind → List Rec → Places → Type 0
-LeadsSince units (Boot booted ∷ since) places = Leads units booted (replayed (Boot booted ∷ since)) places
-LeadsSince units records places = ⊥
+-- the places that the first of the records tells
+abbrev pub first_places : List Rec → Option Places
+first_places [] = None
+first_places (r ∷ rs) = boot_places r
 
--- the notes lie where the records from the last Boot on leave them
+-- the motions lead there from the places that are told
+abbrev pub LeadsFrom : List NoteKind → Option Places → List Motion → Places → Type 0
+LeadsFrom units (Some booted) motions places = Leads units booted motions places
+LeadsFrom units None motions places = ⊥
+
+-- the motions that records stand for lead there from the places of the boot record that is the first of them
+abbrev pub LeadsSince : List NoteKind → List Rec → Places → Type 0
+LeadsSince units records places = LeadsFrom units (first_places records) (replayed records) places
+
+-- the notes lie where the records from the last boot record on leave them
 abbrev pub IsLeft : List NoteKind → List Rec → Places → Type 0
 IsLeft units records places = LeadsSince units (since_boot records) places
 
@@ -53,10 +62,14 @@ pub record Stops (units : List NoteKind) (start : Places) (motions : List Motion
 abbrev pub LeadsNowhere : List NoteKind → Places → List Motion → Type 0
 LeadsNowhere units start motions = ¬ PlacesFit units start ⊎ Stops units start motions
 
-abbrev pub LeadsNowhereSince : List NoteKind → List Rec → Type 0
-LeadsNowhereSince units (Boot booted ∷ since) = LeadsNowhere units booted (replayed (Boot booted ∷ since))
-LeadsNowhereSince units records = ⊤
+-- no places are told, or the motions lead nowhere from them
+abbrev pub LeadsNowhereFrom : List NoteKind → Option Places → List Motion → Type 0
+LeadsNowhereFrom units (Some booted) motions = LeadsNowhere units booted motions
+LeadsNowhereFrom units None motions = ⊤
 
--- there is no Boot, or the records from the last one on lead nowhere
+abbrev pub LeadsNowhereSince : List NoteKind → List Rec → Type 0
+LeadsNowhereSince units records = LeadsNowhereFrom units (first_places records) (replayed records)
+
+-- there is no boot record, or the records from the last one on lead nowhere
 abbrev pub IsLost : List NoteKind → List Rec → Type 0
 IsLost units records = LeadsNowhereSince units (since_boot records)

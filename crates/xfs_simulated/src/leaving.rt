@@ -14,8 +14,8 @@ use xfs_guard::motions_of;
 use xfs_journal::Rec;
 use xfs_mech::{Motion, after_loading, after_order, after_taking, can_load, lies_in, places_fit};
 
-/// What a journal's records behind its last Boot give on that Boot's places; what lies in the outlet at the end is
-/// taken, as `motions_of` has it. None where there is no Boot, and where on the way there are no places that a
+/// What a journal's records behind its last boot record give on that boot record's places; what lies in the outlet at the end is
+/// taken, as `motions_of` has it. None where there is no boot record, and where on the way there are no places that a
 /// mechanism may have.
 pub fn places_left(
     alloc: Global,
@@ -26,20 +26,20 @@ pub fn places_left(
     ensures none { IfOk result (λ left. IfNone left (IsLost units.now records.now)) }
 {
     let since = since_boot(records);
-    let Some(Rec::Boot { places }) = since.first() else {
+    let Some(Rec::Boot { places } | Rec::Start { places, .. }) = since.first() else {
         return Ok(None);
     };
     let motions = motions_of(alloc, since)?;
     Ok(after_all(units, places.places(), &motions))
 }
 
-// The records from the last Boot on; all of them where there is none.
+// The records from the last boot record on; all of them where there is none.
 fn since_boot(records: &[Rec]) -> &[Rec]
     ensures { result.now ≡ since_boot records.now }
 {
     let mut begin = 0;
     for place in 0..records.len() {
-        if let Rec::Boot { .. } = &records[place] {
+        if let Rec::Boot { .. } | Rec::Start { .. } = &records[place] {
             begin = place;
         }
     }

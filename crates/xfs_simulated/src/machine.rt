@@ -27,7 +27,7 @@ pub const SEED: [u8; 32] = [0; 32];
 /// The full limits of a journal.
 pub const LIMITS: Limits = Limits {
     records: 1_000_000,
-    bytes: 268_435_456,
+    bytes: 17_179_869_184,
 };
 
 fn kind(letters: &[u8], value: u32) -> Option<NoteKind>

@@ -31,7 +31,7 @@ pub fn core_resumed<D: Disk>(
     secrets: Secrets,
     faults: Vec<Fault>,
 ) -> Result<Core<SimMech, D>, Memory>
-    ensures handed { IfOk result (λ core. (core.key ≡ secrets.key) × (core.seed ≡ secrets.seed) × (core.units ≡ four_units) × (core.limits ≡ record { records = 1000000; bytes = 268435456 }) × (core.life ≡ 600000)) }
+    ensures handed { IfOk result (λ core. (core.key ≡ secrets.key) × (core.seed ≡ secrets.seed) × (core.units ≡ four_units) × (core.limits ≡ record { records = 1000000; bytes = 17179869184 }) × (core.life ≡ 600000)) }
     ensures units { IfOk result (λ core. units_of core.mech ≡ core.units) }
     ensures faults { IfOk result (λ core. (faults_of core.mech ≡ faults.items) × (failures_of core.mech ≡ 0)) }
     ensures resumed { IfOk result (λ core. IfTold (D.held disk) (λ bytes. (records : List Rec) → StandsFor bytes records → Rose (D.faults disk) (D.faults core.disk) ⊎ IsResumed records core.mech)) }

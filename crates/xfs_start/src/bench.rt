@@ -26,7 +26,7 @@ pub fn server_bench<D: Disk>(
 ) -> Result<Bench<SimMech, D, SimWatch, SimWatch>, Memory>
     ensures secrets { IfOk result (λ bench. (bench.core.key ≡ secrets.key) × (bench.core.seed ≡ secrets.seed)) }
     ensures table { IfOk result (λ bench. (bench.core.units ≡ four_units) × (units_of bench.core.mech ≡ bench.core.units)) }
-    ensures limits { IfOk result (λ bench. (bench.core.limits.records ≡ 1000000) × (bench.core.limits.bytes ≡ 268435456)) }
+    ensures limits { IfOk result (λ bench. (bench.core.limits.records ≡ 1000000) × (bench.core.limits.bytes ≡ 17179869184)) }
     ensures life { IfOk result (λ bench. bench.core.life ≡ 600000) }
     ensures resumed { IfOk result (λ bench. IfTold (D.held disk) (λ bytes. (records : List Rec) → StandsFor bytes records → Rose (D.faults disk) (D.faults bench.core.disk) ⊎ IsResumed records bench.core.mech)) }
     ensures faults { IfOk result (λ bench. (faults_of bench.core.mech ≡ setup.faults.items) × (failures_of bench.core.mech ≡ 0)) }

@@ -16,4 +16,4 @@ returns-in-None c = λ lives.
 pub returns-in_default : goal.returns-in_default
 returns-in_default c = λ lives.
     let at = slice_get_read c.args.records.now (length c.args.records.now) c.args.before c.index-records-before.result refl (omega arith) c.index-records-before.is in
-    found-plain c.args.records.now c.args.before c.index-records-before.result c.args.live at c.requires.high c.in_default.not-Issue c.in_default.not-Clear c.in_default.not-Expire c.in_default.not-Boot lives
+    found-plain c.args.records.now c.args.before c.index-records-before.result c.args.live at c.requires.high c.in_default.not-Issue c.in_default.not-Clear c.in_default.not-Expire c.in_default.not-Boot c.in_default.not-Start lives

@@ -1,6 +1,6 @@
 use Rattle.std.proofs.Common.{refl}
 use Rattle.xfs_journal.specs.JournalView.{StandsForEither}
-use Rattle.xfs_journal.proofs.Appended.{asks, stands_after, in_doubt_after, kept_after, stands_at_rest, on_ok}
+use Rattle.xfs_journal.proofs.Appended.{asks, asks_images, version_after, stands_after, in_doubt_after, kept_after, stands_at_rest, on_ok}
 use Rattle.xfs_journal.proofs.Doubt.{no_doubt}
 use Rattle.xfs_journal.proofs.Moments.{weaken}
 use Rattle.xfs_journal.proofs.Told.{on_told, from_told, goes}
@@ -9,6 +9,14 @@ use Rattle.xfs_journal.proofs.gate.write_record.Goals as goal
 pub write_behind-requires-clause-closed : goal.write_behind-requires-clause-closed
 write_behind-requires-clause-closed g c =
     asks _ _ _ (g.D.Disk.images c.args.disk.now) c.args.records.now c.args.rec.now c.args.end c.args.bytes.now c.requires.kept c.requires.of_table c.requires.bytes refl
+
+pub write_behind-requires-clause-images : goal.write_behind-requires-clause-images
+write_behind-requires-clause-images g c =
+    asks_images _ _ _ (g.D.Disk.images c.args.disk.now) c.args.records.now c.args.rec.now c.args.end c.args.bytes.now c.requires.kept c.requires.of_table c.requires.bytes refl
+
+pub returns-clause-version : goal.returns-clause-version
+returns-clause-version g c =
+    on_ok c.write_behind.result _ _ (version_after _ _ _ _ c.args.records.now c.args.rec.now c.args.end c.args.bytes.now c.requires.kept c.requires.of_table c.requires.bytes c.write_behind.ensures.told) c.write_behind.ensures.ok
 
 pub returns-clause-ok : goal.returns-clause-ok
 returns-clause-ok g c =

@@ -14,6 +14,9 @@ read_again-requires-clause-image g c =
 pub returns-clause-kept : goal.returns-clause-kept
 returns-clause-kept g c = if_ok c.possible.result _ _ (λ l same. rw (same.0, same.1) c.in_ok-listed.ensures.kept) c.possible.ensures.same
 
+pub returns-clause-version : goal.returns-clause-version
+returns-clause-version g c = if_ok c.possible.result _ _ (λ l same. rw same.2 c.in_ok-listed.ensures.version) c.possible.ensures.same
+
 pub returns-clause-image : goal.returns-clause-image
 returns-clause-image g c = if_ok c.possible.result _ _ (λ l same. rw same.0
     (subst (λ (h : Option (List ℕ)). IfTold h (λ all. IsImage all c.in_ok-listed.listed.records.items)) c.sync_len.ensures.quiet.same c.in_ok-listed.ensures.image)) c.possible.ensures.same

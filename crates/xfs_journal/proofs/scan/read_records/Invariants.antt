@@ -1,16 +1,16 @@
-use Rattle.std.proofs.Common.{◌≡◌, ◌≤◌, ◌-◌, ◌^◌, ◌++◌, length, drop, vec_capacity}
+use Rattle.std.proofs.Common.{◌≡◌, ◌≤◌, ◌-◌, ◌^◌, ◌++◌, drop, vec_capacity}
 use Rattle.std.specs.List.{AllByRecursion}
 use Rattle.xfs_base.specs.Causes.{IfTold}
 use Rattle.xfs_journal.specs.declared.body.TheConstants.{MOST}
-use Rattle.xfs_journal.specs.Image.{IsRecord, contents}
+use Rattle.xfs_journal.specs.Image.{IsRecord, contents, end_of}
 use Rattle.xfs_journal.specs.Paging.{Shows, IsQuiet}
 use Rattle.xfs_journal.proofs.scan.read_records.Given as goal
 
 abbrev pub invariant-loop-records : goal.invariant-loop-records
 invariant-loop-records g l =
-    (l.page.at ≡ length (contents l.records.items))
+    (l.page.at ≡ end_of l.records.items)
     × AllByRecursion IsRecord l.records.items
-    × IfTold (g.D.Disk.held l.fn.disk) (λ all. (all ≡ contents l.records.items ++ drop l.page.at all) × Shows all l.page)
+    × IfTold (g.D.Disk.held l.fn.disk) (λ all. (all ≡ contents l.version l.records.items ++ drop l.page.at all) × Shows all l.page)
     × (MOST ≤ vec_capacity l.block)
     × (1025 ≤ vec_capacity l.spare)
     × IsQuiet g.D.Disk l.fn.disk l.disk

@@ -1,6 +1,7 @@
 use Rattle.std.proofs.Common.{refl, ◌∙◌, false, None, sym}
 use Rattle.std.specs.Prelude.{is_some}
-use Rattle.xfs_journal.specs.declared.record.Rec.TheVariants.{Boot}
+use Rattle.xfs_journal.specs.Journal.{boot_of}
+use Rattle.xfs_journal.proofs.StartLaws.{boot_of-only}
 use Rattle.xfs_guard.specs.declared.open.Open.TheVariants.{No}
 use Rattle.xfs_guard.proofs.BootLaws.{IsKept-boot, WasLeft-recorded}
 use Rattle.xfs_guard.proofs.ContinueLaws.{Continues-written}
@@ -24,7 +25,7 @@ invariant_of-result g c = (
 pub returns-in-Ok-boot-clause-continues : goal.returns-in-Ok-boot-clause-continues
 returns-in-Ok-boot-clause-continues g c = λ records is.
     let v = over c.new-in-Ok-boot.result c.new-in-Ok-boot-2.result No (g.M.Mechanism.motions c.args.mech) (g.M.Mechanism.places c.args.mech) (g.M.Mechanism.faults c.args.mech) c.in-Ok-boot.ledger (is_some (g.D.Disk.held c.in-Ok-boot.ledger.disk)) in
-    rw (is, c.in-Ok-boot.ensures.opened.0, c.in-Ok-boot.ensures.opened.1, c.in-Ok-boot.ensures.opened.3) (Continues-written (record v { records = records; shut = false; boot_missing = false; in_doubt = None }) (Boot (g.M.Mechanism.places c.args.mech)) c.in-Ok-boot.ledger.bound No refl refl refl (λ p same. cc))
+    rw (is, c.in-Ok-boot.ensures.opened.0, c.in-Ok-boot.ensures.opened.1, c.in-Ok-boot.ensures.opened.3) (Continues-written (record v { records = records; shut = false; boot_missing = false; in_doubt = None }) (boot_of records (g.M.Mechanism.places c.args.mech)) c.in-Ok-boot.ledger.bound No refl refl refl (boot_of-only records (g.M.Mechanism.places c.args.mech)))
 
 pub returns-in-Err-clause-left : goal.returns-in-Err-clause-left
 returns-in-Err-clause-left g c = λ records may.

@@ -1,18 +1,20 @@
-use Rattle.std.proofs.Common.{refl}
-use Rattle.xfs_journal.specs.declared.record.Rec.TheVariants.{Boot}
+use Rattle.xfs_journal.specs.Journal.{boot_of}
+use Rattle.xfs_journal.proofs.StartLaws.{boot-ends, boot-issues_none, boot-marks, boot_of-places}
 use Rattle.xfs_guard.proofs.LedgerLaws.{IsRead-mark, KeepsLedger-read}
-use Rattle.xfs_guard.proofs.StoredLaws.{WasLeft-mount, WasLeft-append, stays-mount, stays-append, unlisted-mount, unlisted-booted}
+use Rattle.xfs_guard.proofs.StoredLaws.{WasLeft-mount, WasLeft-append, stays-mount, stays-append, unlisted-booted}
 use Rattle.xfs_guard.proofs.LeftLaws.{left-mounted, left-booted}
 use Rattle.xfs_guard.proofs.ledger.Ledger.boot.Goals as goal
 
 pub invariant_of-result : goal.invariant_of-result
 invariant_of-result g c =
     let w = c.in-Ok-append_boot.ensures in
+    let boot = boot_of c.in-Ok.journal.records c.args.places in
+    let tells = boot_of-places c.in-Ok.journal.records c.args.places in
     rw (w.ok.0, w.number) (KeepsLedger-read _ _ _ _ _ _ _ _ _ _
-    (IsRead-mark _ _ _ (Boot c.args.places) (rw c.records.ensures at c.issues_of-issues.ensures.issues) (rw c.records.ensures at c.issues_of-issues.ensures.few) (λ k. refl) (λ k x. refl) (λ k x. refl)) w.ok.2)
+    (IsRead-mark _ _ _ boot (rw c.records.ensures at c.issues_of-issues.ensures.issues) (rw c.records.ensures at c.issues_of-issues.ensures.few) (boot-issues_none boot _ tells) (boot-ends boot _ tells) (boot-marks boot _ tells)) w.ok.2)
 
 pub returns-in-Err-clause-left : goal.returns-in-Err-clause-left
-returns-in-Err-clause-left g c = WasLeft-mount g.D.Disk c.args.disk c.in-Err.field-0.disk c.args.places
+returns-in-Err-clause-left g c = WasLeft-mount g.D.Disk c.args.disk c.in-Err.refused.disk c.args.places
     g.met.D.Disk.as_read g.met.D.Disk.counts_now c.in-Err.ensures.told c.in-Err.ensures.any_moment
 
 pub returns-in-Err-append_boot-clause-left : goal.returns-in-Err-append_boot-clause-left
@@ -20,21 +22,18 @@ returns-in-Err-append_boot-clause-left g c = WasLeft-append g.D.Disk c.args.disk
     g.met.D.Disk.as_read c.in-Ok.ensures.told c.append_boot.ensures.told c.end.ensures.disk c.in-Ok.ensures.ok c.append_boot.ensures.images
 
 pub returns-in-Err-clause-either : goal.returns-in-Err-clause-either
-returns-in-Err-clause-either g c = stays-mount g.D.Disk c.args.disk c.in-Err.field-0.disk c.args.places
+returns-in-Err-clause-either g c = stays-mount g.D.Disk c.args.disk c.in-Err.refused.disk c.args.places
     g.met.D.Disk.as_read g.met.D.Disk.counts_now c.in-Err.ensures.any_moment
 
 pub returns-in-Err-append_boot-clause-either : goal.returns-in-Err-append_boot-clause-either
 returns-in-Err-append_boot-clause-either g c = stays-append g.D.Disk c.args.disk c.in-Ok.journal.disk c.append_boot.new.journal.disk c.end.result c.args.places c.in-Ok.journal.records
     g.met.D.Disk.as_read c.in-Ok.ensures.told c.end.ensures.disk c.in-Ok.ensures.ok c.append_boot.ensures.images
 
-pub returns-in-Err-clause-unlisted : goal.returns-in-Err-clause-unlisted
-returns-in-Err-clause-unlisted g c = unlisted-mount g.D.Disk c.args.disk c.in-Err.field-0.disk c.in-Err.ensures.long
-
 pub returns-in-Err-append_boot-clause-unlisted : goal.returns-in-Err-append_boot-clause-unlisted
 returns-in-Err-append_boot-clause-unlisted g c = unlisted-booted (g.D.Disk.held c.args.disk) c.in-Ok.journal.records _ c.in-Ok.ensures.ok
 
 pub returns-in-Err-clause-any_moment : goal.returns-in-Err-clause-any_moment
-returns-in-Err-clause-any_moment g c = left-mounted g.D.Disk c.args.disk c.in-Err.field-0.disk c.args.places c.in-Err.ensures.any_moment
+returns-in-Err-clause-any_moment g c = left-mounted g.D.Disk c.args.disk c.in-Err.refused.disk c.args.places c.in-Err.ensures.any_moment
 
 pub returns-in-Ok-append_boot-clause-any_moment : goal.returns-in-Ok-append_boot-clause-any_moment
 returns-in-Ok-append_boot-clause-any_moment g c =
