@@ -1,5 +1,5 @@
 -- What one more record makes of the bytes.
-use Rattle.std.proofs.Common.{◌≡◌, inl, inr, ℕ, ◌+◌, ◌<◌, List, [], ◌∷◌, ◌++◌, length, take, drop, false, true, true≢false, Some, None, is_some, refl, sym, ◌∙◌, ap, ap₂, subst, arith, append_assoc, append-nil, length-append, take_at}
+use Rattle.std.proofs.Common.{◌≡◌, inl, inr, ℕ, ◌+◌, ◌-◌, ◌^◌, ◌<◌, ◌≤◌, List, [], ◌∷◌, ◌++◌, length, take, drop, false, true, true≢false, Some, None, is_some, refl, sym, ◌∙◌, ap, ap₂, subst, arith, append_assoc, append-nil, length-append, take_at}
 use Rattle.std.specs.Prelude.{OnOk, Ok, Err, IfSome, slice_get, nat_lt, ◌||◌}
 use Rattle.std.proofs.lemmas.List.{length_push}
 use Rattle.xfs_journal.specs.declared.limits.Limits.{Limits}
@@ -100,26 +100,29 @@ on_ok (Err e) A B f a = a
 -- the write of a record to a disk that held h and holds h2 now
 module _ (h h2 : Option (List ℕ)) (images images2 : List ℕ → Type 0) (J : List Rec) (r : Rec) (end : ℕ) (bytes : List ℕ)
     (kept : IsKept h images J false end) (is : IsRecord r) (are : bytes ≡ framed r ++ 0 ∷ []) (told : is_some h2 ≡ is_some h) where
+  at : (b : List ℕ) → h ≡ Some b → end ≡ end_of J
+  at b known = from_told h (λ _. end ≡ end_of J) kept.place b known
+
   pub asks : IfTold h (λ all. (end < length all) × IsClosed (take end all) all)
-  asks = on_told h (λ all. (end < length all) × IsClosed (take end all) all) (λ b known. starts J end kept.place b (from_told h (IsAtRest images J) (kept.at_rest refl) b known).image)
+  asks = on_told h (λ all. (end < length all) × IsClosed (take end all) all) (λ b known. starts J end (at b known) b (from_told h (IsAtRest images J) (kept.at_rest refl) b known).image)
 
   pub asks_images : IfTold h (λ _. (d : List ℕ) → images d → (end < length d) × IsClosed (take end d) d)
   asks_images = on_told h (λ _. (d : List ℕ) → images d → (end < length d) × IsClosed (take end d) d) (λ b known.
       let rest = from_told h (IsAtRest images J) (kept.at_rest refl) b known in
-      (λ d was. starts J end kept.place d (spared J b rest.image d (rest.durable d was))))
+      (λ d was. starts J end (at b known) d (spared J b rest.image d (rest.durable d was))))
 
   pub stands_after : (b : List ℕ) → h ≡ Some b → (c : List ℕ) → IsEitherOf images end bytes c → StandsForEither J r c
   stands_after b known c (d, was, either) =
       let rest = from_told h (IsAtRest images J) (kept.at_rest refl) b known in
       let image = spared J b rest.image d (rest.durable d was) in
-      let f = front_is J end kept.place d image in
+      let f = front_is J end (at b known) d image in
       either_stands J kept.of_table image.version r is c (subst (λ (l : List ℕ). IsEither (contents image.version J) l c) are (subst (λ (l : List ℕ). IsEither l bytes c) f either))
 
   possible_after : (b : List ℕ) → h ≡ Some b → (c : List ℕ) → IsEitherOf images end bytes c → HasPossible J (Some r) c
   possible_after b known c (d, was, either) =
       let rest = from_told h (IsAtRest images J) (kept.at_rest refl) b known in
       let image = spared J b rest.image d (rest.durable d was) in
-      let f = front_is J end kept.place d image in
+      let f = front_is J end (at b known) d image in
       either_possible J kept.of_table image.version r is c (subst (λ (l : List ℕ). IsEither (contents image.version J) l c) are (subst (λ (l : List ℕ). IsEither l bytes c) f either))
 
   pub in_doubt_after : IfTold h (λ _. (c : List ℕ) → images2 c → IsEitherOf images end bytes c) → IsInDoubt h2 images2 J true (Some r)
@@ -131,9 +134,14 @@ module _ (h h2 : Option (List ℕ)) (images images2 : List ℕ → Type 0) (J : 
         (λ c l. possible_after was.0 was.1 c (from_told h (λ _. (f : List ℕ) → images2 f → IsEitherOf images end bytes f) left was.0 was.1 c l)));
   }
 
-  pub kept_after : IfTold h (λ old. IfTold h2 (λ all. IsOpened (take end old) bytes all × Only all images2)) → IsKept h2 images2 (J ++ r ∷ []) false (end + length bytes)
-  kept_after opened = record {
-    place = ap (λ (l : List ℕ). end + length l) are ∙ front-longer J r end kept.place;
+  pub kept_after : (next : ℕ) → end_of J + length bytes + 1 < 2 ^ 64 → (end + length bytes + 1 < 2 ^ 64 → next ≡ end + length bytes) → next + 1 < 2 ^ 64
+      → IfTold h (λ old. IfTold h2 (λ all. IsOpened (take end old) bytes all × Only all images2)) → IsKept h2 images2 (J ++ r ∷ []) false next
+  kept_after next fits next_is small opened = record {
+    place = on_told h2 (λ _. next ≡ end_of (J ++ r ∷ [])) (λ c now.
+        let was = both_told h h2 told c now in
+        let place = at was.0 was.1 in
+        next_is (omega (arith, place, fits)) ∙ ap (λ (l : List ℕ). end + length l) are ∙ front-longer J r end place);
+    small = small;
     of_table = all-push J r kept.of_table is;
     at_rest = λ _. on_told h2 (IsAtRest images2 (J ++ r ∷ [])) (λ c now. both c now h refl);
   }
@@ -143,7 +151,7 @@ module _ (h h2 : Option (List ℕ)) (images images2 : List ℕ → Type 0) (J : 
       both c now (Some b) known =
           let o = from_told h2 (λ all. IsOpened (take end b) bytes all × Only all images2) (from_told h (λ old. IfTold h2 (λ all. IsOpened (take end old) bytes all × Only all images2)) opened b known) c now in
           let was = (from_told h (IsAtRest images J) (kept.at_rest refl) b known).image in
-          let f = front_is J end kept.place b was in
+          let f = front_is J end (at b known) b was in
           let image = opened_image J kept.of_table was.version r is c (subst (λ (l : List ℕ). IsOpened (contents was.version J) l c) are (subst (λ (l : List ℕ). IsOpened l bytes c) f o.0)) in
           record { image = image; durable = only_spares (J ++ r ∷ []) c image images2 o.1 }
 
@@ -155,7 +163,7 @@ module _ (h h2 : Option (List ℕ)) (images images2 : List ℕ → Type 0) (J : 
       let known = told_before.1 in
       let o = from_told h2 (λ all. IsOpened (take end b) bytes all × Only all images2) (from_told h (λ old. IfTold h2 (λ all. IsOpened (take end old) bytes all × Only all images2)) opened b known) c now in
       let was = (from_told h (IsAtRest images J) (kept.at_rest refl) b known).image in
-      let same : slice_get c 7 ≡ Some was.version = ap (λ (l : List ℕ). slice_get l 7) (o.0.1 ∙ ap (λ (l : List ℕ). l ++ 1 ∷ (bytes ++ o.0.0)) (front_is J end kept.place b was)) in
+      let same : slice_get c 7 ≡ Some was.version = ap (λ (l : List ℕ). slice_get l 7) (o.0.1 ∙ ap (λ (l : List ℕ). l ++ 1 ∷ (bytes ++ o.0.0)) (front_is J end (at b known) b was)) in
       subst (λ (x : Option ℕ). IfSome v (λ n. x ≡ Some n)) (eighth J b was ∙ sym same) (from_told h (λ all. IfSome v (λ n. slice_get all 7 ≡ Some n)) has b known))
 
 pub stands_at_rest : (h : Option (List ℕ)) (images : List ℕ → Type 0) (J : List Rec) (end : ℕ) → IsKept h images J false end → IfTold h (λ _. (c : List ℕ) → images c → StandsFor c J)
@@ -164,20 +172,21 @@ stands_at_rest h images J end kept = on_told h (λ _. (c : List ℕ) → images 
     (λ c left. inl (spared J b rest.image c (rest.durable c left))))
 
 -- a disk that was read and synced
-pub kept_synced : (h : Option (List ℕ)) (images : List ℕ → Type 0) (J : List Rec) (end : ℕ) → end ≡ end_of J → AllByRecursion IsRecord J
+pub kept_synced : (h : Option (List ℕ)) (images : List ℕ → Type 0) (J : List Rec) (end : ℕ) → end ≡ end_of J → end + 1 < 2 ^ 64 → AllByRecursion IsRecord J
     → IfTold h (λ all. IsImage all J) → IfTold h (λ all. Only all images) → IsKept h images J false end
-kept_synced h images J end place all image durable = record {
-  place = place;
+kept_synced h images J end place small all image durable = record {
+  place = on_told h (λ _. end ≡ end_of J) (λ _ _. place);
+  small = small;
   of_table = all;
   at_rest = λ _. on_told h (IsAtRest images J) (λ b known.
       let is = from_told h (λ all. IsImage all J) image b known in
       record { image = is; durable = only_spares J b is images (from_told h (λ all. Only all images) durable b known) });
 }
 
-pub passes_is : (limits : Limits) (J : List Rec) (r : Rec) (end : ℕ) (bytes : List ℕ) → end ≡ end_of J → bytes ≡ framed r ++ 0 ∷ []
-    → exceeds limits (J ++ r ∷ []) ≡ (nat_lt limits.records (length J + 1) || nat_lt limits.bytes (end + length bytes + 1))
-passes_is limits J r end bytes place are =
-    ap₂ (λ (n m : ℕ). nat_lt limits.records n || nat_lt limits.bytes m) (length_push J r)
+pub passes_is : (limits : Limits) (base : ℕ) (J : List Rec) (r : Rec) (end : ℕ) (bytes : List ℕ) → base ≤ length J → end ≡ end_of J → bytes ≡ framed r ++ 0 ∷ []
+    → exceeds limits base (J ++ r ∷ []) ≡ (nat_lt limits.records (length J - base + 1) || nat_lt limits.bytes (end + length bytes + 1))
+passes_is limits base J r end bytes based place are =
+    ap₂ (λ (n m : ℕ). nat_lt limits.records n || nat_lt limits.bytes m) (omega (arith, length_push J r, based))
     (ap (λ (m : ℕ). m + 1) (sym (front-longer J r end place) ∙ ap (λ (l : List ℕ). end + length l) (sym are)))
 
 -- a journal whose disk was not called
@@ -186,3 +195,14 @@ pub still : {D : Type 0} (g : Ghosts D) (d : D) (h : Option (List ℕ)) (images 
 still g d h images J r shut end now kept is_open = on_told h (λ _. LeavesOnly g d d (StandsForEither J r)) (λ b known.
     let at_rest = stands_at_rest h images J end (subst (λ (s : Bool). IsKept h images J s end) is_open kept) in
     started g d (StandsForEither J r) (λ c left. inl (from_told h (λ _. (f : List ℕ) → images f → StandsFor f J) at_rest b known c (now c left))))
+
+-- a journal whose disk failed
+pub kept_failed : (h h2 : Option (List ℕ)) (images images2 : List ℕ → Type 0) (J : List Rec) (shut : Bool) (end : ℕ) → is_some h2 ≡ is_some h → IsKept h images J shut end → IsKept h2 images2 J true end
+kept_failed h h2 images images2 J shut end told kept = record {
+  place = on_told h2 (λ _. end ≡ end_of J) (λ b now.
+      let was = both_told h h2 told b now in
+      from_told h (λ _. end ≡ end_of J) kept.place was.0 was.1);
+  small = kept.small;
+  of_table = kept.of_table;
+  at_rest = λ s. absurd (true≢false s);
+}

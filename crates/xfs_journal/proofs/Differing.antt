@@ -1,16 +1,18 @@
 -- Where the list that a disk has parts from the lists that it may have.
-use Rattle.std.proofs.Common.{◌≡◌, ◌≢◌, inl, inr, ℕ, zero, suc, ◌+◌, ◌<◌, ◌≤◌, List, [], ◌∷◌, ◌++◌, length, take, Some, None, refl, sym, ◌∙◌, ap, subst, arith, length-append}
+use Rattle.std.proofs.Common.{◌≡◌, ◌≢◌, inl, inr, ℕ, zero, suc, ◌+◌, ◌<◌, ◌≤◌, List, [], ◌∷◌, ◌++◌, length, take, drop, length-drop, Some, None, refl, sym, ◌∙◌, ap, subst, arith, length-append}
 use Rattle.std.specs.Prelude.{slice_get}
 use Rattle.std.specs.declared.option.Option.{Option}
 use Rattle.std.specs.List.{AllByRecursion}
-use Rattle.std.proofs.lemmas.List.{take_more, take-append-le, take_all, length_push}
+use Rattle.std.proofs.lemmas.List.{take_more, take-append-le, take_all, drop_all, length_push}
 use Rattle.std.proofs.lemmas.Bool.{cases_lt}
 use Rattle.std.proofs.lemmas.Option.{none-some, same_Some, slice_get_within, slice_get_past, get_or_from_slice_get}
 use Rattle.xfs_journal.specs.Image.{IsRecord, HasUnit, framed, end_of, blocks}
-use Rattle.xfs_journal.specs.JournalView.{IsPossible, DiffersAt, longest}
+use Rattle.xfs_journal.specs.JournalView.{IsPossible, DiffersAt, PartsAt, longest}
 use Rattle.xfs_journal.specs.declared.record.Rec.{Rec}
 use Rattle.xfs_journal.specs.declared.record.Rec.TheVariants.{Issue, Clear, Expire, Boot, Start, Bind, Order, Done, Load}
+use Rattle.xfs_journal.specs.Journal.{base_of}
 use Rattle.xfs_journal.proofs.Appended.{end-push}
+use Rattle.xfs_journal.proofs.BaseLaws.{base_of-short}
 use Rattle.xfs_journal.proofs.JournalLaws.{slice_get-push, slice_get-pushed}
 use Rattle.xfs_journal.proofs.Unique.{one_block}
 
@@ -69,8 +71,8 @@ longest-get kept (Some r) n lt = slice_get-push kept r n lt
 
 -- the lists part within the kept one
 module _ (J kept : List Rec) (d : Option Rec) (n : ℕ) (lt : n < length kept) (same : take n J ≡ take n kept) (ne : slice_get J n ≢ slice_get kept n) where
-  pub within_differs : DiffersAt kept d J (end_of (take n J))
-  within_differs = (n, same ∙ sym (longest-take kept d n (omega (arith, lt))), (λ e. ne (e ∙ longest-get kept d n lt)), refl)
+  pub within_parts : PartsAt kept d J n
+  within_parts = (same ∙ sym (longest-take kept d n (omega (arith, lt))), (λ e. ne (e ∙ longest-get kept d n lt)))
 
   pub within_other : ¬ IsPossible kept d J
   within_other (inl is) = ne (ap (λ (l : List Rec). slice_get l n) is)
@@ -90,9 +92,6 @@ parts J kept n lt ne same = elim (cases_lt n (length J)) [
 
 -- the list goes on behind the kept one
 module _ (J kept : List Rec) (le : length kept ≤ length J) (begins : take (length kept) J ≡ kept) where
-  pub kept_next : (r : Rec) → slice_get J (length kept) ≡ Some r → end_of kept + length (1 ∷ framed r) ≤ end_of J
-  kept_next r at = omega (arith, front-take J (length kept + 1), front_next J (length kept) r at, ap (λ (l : List Rec). end_of l) begins)
-
   -- and has no more
   pub all_kept : length J ≤ length kept → J ≡ kept
   all_kept short = sym (take_all (length kept) J short) ∙ begins
@@ -111,26 +110,55 @@ module _ (J kept : List Rec) (le : length kept ≤ length J) (begins : take (len
   none_other r at (inl is) = more_than_kept r at is
   none_other r at (inr (s, told, is)) = none-some s told
 
-  pub none_differs : (r : Rec) → slice_get J (length kept) ≡ Some r → (at : ℕ) → at ≡ end_of kept → DiffersAt kept None J at
-  none_differs r there at place = (length kept, prefix None, (λ e. none-some r (sym (slice_get_past kept (length kept) (omega arith)) ∙ sym e ∙ there)), place ∙ ap (λ (l : List Rec). end_of l) (sym begins))
+  pub none_parts : (r : Rec) → slice_get J (length kept) ≡ Some r → PartsAt kept None J (length kept)
+  none_parts r there = (prefix None, (λ e. none-some r (sym (slice_get_past kept (length kept) (omega arith)) ∙ sym e ∙ there)))
 
   -- with another record than that in doubt
   pub next_other : (r s : Rec) → slice_get J (length kept) ≡ Some r → r ≢ s → ¬ IsPossible kept (Some s) J
   next_other r s at ne (inl is) = more_than_kept r at is
   next_other r s at ne (inr (q, told, is)) = ne (same_Some r q (sym at ∙ ap (λ (l : List Rec). slice_get l (length kept)) is ∙ slice_get-pushed kept q) ∙ sym (same_Some s q told))
 
-  pub next_differs : (r s : Rec) → slice_get J (length kept) ≡ Some r → r ≢ s → (at : ℕ) → at ≡ end_of kept → DiffersAt kept (Some s) J at
-  next_differs r s there ne at place = (length kept, prefix (Some s), (λ e. ne (same_Some r s (sym there ∙ e ∙ slice_get-pushed kept s))), place ∙ ap (λ (l : List Rec). end_of l) (sym begins))
+  pub next_parts : (r s : Rec) → slice_get J (length kept) ≡ Some r → r ≢ s → PartsAt kept (Some s) J (length kept)
+  next_parts r s there ne = (prefix (Some s), (λ e. ne (same_Some r s (sym there ∙ e ∙ slice_get-pushed kept s))))
 
   -- with more behind that in doubt
   pub far_other : (s : Rec) → length kept + 1 < length J → ¬ IsPossible kept (Some s) J
   far_other s long (inl is) = omega (arith, long, ap length is)
   far_other s long (inr (q, told, is)) = omega (arith, long, ap length is, length_push kept q)
 
-  pub far_differs : (r s : Rec) → slice_get J (length kept) ≡ Some r → r ≡ s → length kept + 1 < length J → (at : ℕ) → at ≡ end_of kept + length (1 ∷ framed r) → DiffersAt kept (Some s) J at
-  far_differs r s there is long at place = (
-    length kept + 1,
+  pub far_parts : (r s : Rec) → slice_get J (length kept) ≡ Some r → r ≡ s → length kept + 1 < length J → PartsAt kept (Some s) J (length kept + 1)
+  far_parts r s there is long = (
     take-next J (length kept) r there ∙ ap (λ (l : List Rec). l ++ r ∷ []) begins ∙ ap (λ (x : Rec). kept ++ x ∷ []) is ∙ sym (take_all (length kept + 1) (kept ++ s ∷ []) (omega (arith, length_push kept s))),
     (λ e. some_at J (length kept + 1) long (e ∙ slice_get_past (kept ++ s ∷ []) (length kept + 1) (omega (arith, length_push kept s)))),
-    place ∙ sym (front_next J (length kept) r there ∙ ap (λ (l : List Rec). end_of l + length (1 ∷ framed r)) begins),
   )
+
+pub all-drop : (J : List Rec) (n : ℕ) → AllByRecursion IsRecord J → AllByRecursion IsRecord (drop n J)
+all-drop J zero all = all
+all-drop [] (suc n) all = all
+all-drop (r ∷ J) (suc n) all = all-drop J n all.1
+
+-- where a list ends, by what stands in front of a place and behind it
+pub end-split : (J : List Rec) (n : ℕ) → end_of J ≡ end_of (take n J) + length (blocks (drop n J))
+end-split J zero = omega arith
+end-split [] (suc n) = omega arith
+end-split (r ∷ J) (suc n) = omega (arith, end-split J n, length-append (1 ∷ framed r) (blocks J), length-append (1 ∷ framed r) (blocks (take n J)))
+
+-- a list that is shorter than the base
+module _ (kept found : List Rec) (d : Option Rec) (base : ℕ) (led : base ≤ base_of kept) (short : length found < base) where
+  none_behind : drop base found ≡ []
+  none_behind = drop_all base found (omega (arith, short))
+
+  some_behind : length (drop base kept) ≢ 0
+  some_behind none = omega (arith, none, length-drop base kept, led, short, base_of-short kept (omega (arith, led, short)))
+
+  pub short_other : ¬ IsPossible (drop base kept) d (drop base found)
+  short_other (inl is) = some_behind (ap length (sym is ∙ none_behind))
+  short_other (inr (r, told, is)) = omega (arith, ap length (sym is ∙ none_behind), length_push (drop base kept) r)
+
+  pub short_differs : DiffersAt base kept d found (end_of found)
+  short_differs = (0, (refl, first (drop base kept) d (drop base found) none_behind some_behind), ap end_of (sym (take_all (base + 0) found (omega (arith, short)))))
+    where
+      first : (K : List Rec) (d : Option Rec) (L : List Rec) → L ≡ [] → length K ≢ 0 → slice_get L 0 ≢ slice_get (longest K d) 0
+      first [] d L none some e = some refl
+      first (k ∷ K) None L none some e = none-some k (ap (λ (l : List Rec). slice_get l 0) (sym none) ∙ e)
+      first (k ∷ K) (Some r) L none some e = none-some k (ap (λ (l : List Rec). slice_get l 0) (sym none) ∙ e)

@@ -8,7 +8,7 @@ use Rattle.std.proofs.lemmas.Option.{none-some, same_Some}
 use Rattle.xfs_base.specs.Causes.{IfTold}
 use Rattle.xfs_disk.specs.Disk.{overlaid, Only}
 use Rattle.xfs_journal.specs.Gate.{MayBecome}
-use Rattle.xfs_journal.specs.Image.{IsImage, StandsFor, framed, magic}
+use Rattle.xfs_journal.specs.Image.{IsImage, StandsFor, end_of, framed, magic}
 use Rattle.xfs_journal.specs.JournalView.{HasVersion, IsAtRest, IsKept}
 use Rattle.xfs_journal.specs.Paging.{IsOldOrShort}
 use Rattle.xfs_journal.specs.declared.record.Rec.{Rec}
@@ -50,7 +50,8 @@ torn_short images all short only c (d, was, torn) = omega (arith, short, torn.no
 
 pub kept_empty : (h h2 : Option (List ℕ)) (images2 : List ℕ → Type 0) → h2 ≡ option_map (λ all. overlaid all 0 (magic ++ 0x32 ∷ 0 ∷ [])) h → IfTold h2 (λ all. Only all images2) → IsKept h2 images2 [] false 8
 kept_empty h h2 images2 written durable = record {
-  place = refl;
+  place = on_told h2 (λ _. 8 ≡ end_of []) (λ _ _. refl);
+  small = omega arith;
   of_table = tt;
   at_rest = λ _. on_told h2 (IsAtRest images2 []) (λ c now.
       let image = image_of h c (sym written ∙ now) in

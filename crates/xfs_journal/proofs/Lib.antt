@@ -1,4 +1,5 @@
 mod Appended
+pub mod BaseLaws
 mod Beginning
 mod Blocks
 mod Differing
@@ -15,6 +16,7 @@ mod Opening
 mod Paged
 mod Pieces
 mod Reading
+mod RecentLaws
 pub mod StartLaws
 pub mod Told
 pub mod Unique

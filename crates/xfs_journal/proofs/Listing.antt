@@ -1,14 +1,16 @@
 -- What one record more makes of the bytes that were read.
-use Rattle.std.proofs.Common.{◌≡◌, ℕ, ◌+◌, List, [], ◌∷◌, ◌++◌, length, drop, sym, ◌∙◌, ap, subst, arith, append_assoc}
+use Rattle.std.proofs.Common.{◌≡◌, ℕ, ◌+◌, ◌*◌, ◌≤◌, List, [], ◌∷◌, ◌++◌, length, drop, sym, ◌∙◌, ap, subst, arith, append_assoc, length-append}
 use Rattle.std.specs.Prelude.{Some, slice_get}
 use Rattle.std.specs.declared.option.Option.{Option}
 use Rattle.std.specs.List.{AllByRecursion}
 use Rattle.xfs_base.specs.Causes.{IfTold}
-use Rattle.xfs_journal.specs.Image.{IsRecord, framed, contents, end_of}
+use Rattle.xfs_journal.specs.Image.{IsRecord, blocks, body, framed, contents, end_of}
+use Rattle.std.specs.Int.{to_be_bytes, w16}
 use Rattle.xfs_journal.specs.JournalView.{HasVersion}
 use Rattle.xfs_journal.specs.Paging.{PageView, Shows}
 use Rattle.xfs_journal.specs.declared.record.Rec.{Rec}
 use Rattle.xfs_journal.proofs.Appended.{all-push, front-push, end-push}
+use Rattle.xfs_journal.proofs.Reading.{not_empty}
 use Rattle.xfs_journal.proofs.Told.{on_told, from_told}
 
 pub one_more : (h : Option (List ℕ)) (v : ℕ) (J K : List Rec) (r : Rec) (p q : PageView) → p.at ≡ end_of J → AllByRecursion IsRecord J
@@ -30,3 +32,8 @@ one_more h v J K r p q place all bytes found next is = (
 -- the eighth byte of what was read
 pub version_read : (h : Option (List ℕ)) (v : ℕ) (J : List Rec) (p : PageView) → IfTold h (λ all. (all ≡ contents v J ++ drop p.at all) × Shows all p) → HasVersion h (Some v)
 version_read h v J p read = on_told h (λ all. slice_get all 7 ≡ Some v) (λ b known. ap (λ (l : List ℕ). slice_get l 7) (from_told h (λ all. (all ≡ contents v J ++ drop p.at all) × Shows all p) read b known).0)
+
+-- each record has at least four bytes
+pub records-few : (J : List Rec) → 4 * length J + 8 ≤ end_of J
+records-few [] = omega arith
+records-few (r ∷ J) = omega (arith, records-few J, not_empty r, length-append (1 ∷ framed r) (blocks J), length-append (to_be_bytes w16 (length (body r))) (body r))

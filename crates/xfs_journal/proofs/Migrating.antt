@@ -6,7 +6,7 @@ use Rattle.std.proofs.lemmas.Option.{same_Some}
 use Rattle.xfs_base.specs.Causes.{IfTold}
 use Rattle.xfs_disk.specs.Disk.{overlaid, Torn, ImagesFollow}
 use Rattle.xfs_journal.specs.Gate.{MayBecome}
-use Rattle.xfs_journal.specs.Image.{StandsFor, magic}
+use Rattle.xfs_journal.specs.Image.{StandsFor, end_of, magic}
 use Rattle.xfs_journal.specs.JournalView.{HasVersion, IsButForEighth, IsAtRest, IsKept}
 use Rattle.xfs_journal.specs.declared.record.Rec.{Rec}
 use Rattle.xfs_journal.proofs.Appended.{spared, starts}
@@ -18,8 +18,11 @@ module _ (h : Option (List ℕ)) (images : List ℕ → Type 0) (J : List Rec) (
   rests : (b : List ℕ) → h ≡ Some b → IsAtRest images J b
   rests b known = from_told h (IsAtRest images J) (kept.at_rest refl) b known
 
+  at : (b : List ℕ) → h ≡ Some b → end ≡ end_of J
+  at b known = from_told h (λ _. end ≡ end_of J) kept.place b known
+
   pub long_enough : IfTold h (λ all. 7 < length all)
-  long_enough = on_told h (λ all. 7 < length all) (λ b known. omega (arith, kept.place, (starts J end kept.place b (rests b known).image).0))
+  long_enough = on_told h (λ all. 7 < length all) (λ b known. omega (arith, at b known, (starts J end (at b known) b (rests b known).image).0))
 
   -- but for that byte, the file stays in each outcome of the write
   pub spares : (b : List ℕ) → h ≡ Some b → (c : List ℕ) → MayBecome images 7 1 c → IsButForEighth b c
@@ -33,7 +36,8 @@ module _ (h : Option (List ℕ)) (images : List ℕ → Type 0) (J : List Rec) (
   module _ (h2 : Option (List ℕ)) (images2 : List ℕ → Type 0) (told : is_some h2 ≡ is_some h) where
     pub kept_still : ImagesFollow (Torn 7 1) images images2 → ((c : List ℕ) → h2 ≡ Some c → images2 c) → IsKept h2 images2 J false end
     kept_still crash as_read = record {
-      place = kept.place;
+      place = on_told h2 (λ _. end ≡ end_of J) (λ c now. let was = both_told h h2 told c now in at was.0 was.1);
+      small = kept.small;
       of_table = kept.of_table;
       at_rest = λ _. on_told h2 (IsAtRest images2 J) (λ c now.
           let was = both_told h h2 told c now in

@@ -1,5 +1,5 @@
 -- The journal: a list of records, the oldest first. A record's number is its place, from 1.
-use Rattle.std.specs.Prelude.{◌≡◌, ℕ, zero, suc, ◌+◌, ◌-◌, ◌==◌, Bool, true, false, List, [], ◌∷◌, ◌++◌, take, fold, filter, length, Some, None, slice_get, if◌then◌else◌, ⊤}
+use Rattle.std.specs.Prelude.{◌≡◌, ℕ, zero, suc, ◌+◌, ◌-◌, ◌==◌, Bool, true, false, List, [], ◌∷◌, ◌++◌, take, fold, filter, length, Some, None, slice_get, if◌then◌else◌, ◌||◌, ⊤}
 use Rattle.std.specs.declared.option.Option.{Option}
 use Rattle.std.specs.Option.{option_map}
 use Rattle.hex.specs.Hex.{encode_upper}
@@ -21,6 +21,22 @@ is_mark Expire = true
 is_mark (Boot places) = true
 is_mark (Start issues places) = true
 is_mark r = false
+
+-- a boot record: the machine started or was reset
+abbrev pub is_boot : Rec → Bool
+is_boot (Boot places) = true
+is_boot (Start issues places) = true
+is_boot r = false
+
+-- a boot record stands in the list
+abbrev pub has_boot : List Rec → Bool
+has_boot [] = false
+has_boot (r ∷ behind) = is_boot r || has_boot behind
+
+-- how many records stand in front of the last boot record; 0 where there is none
+abbrev pub base_of : List Rec → ℕ
+base_of [] = 0
+base_of (r ∷ behind) = if has_boot behind then suc (base_of behind) else 0
 
 -- where the notes lay when the machine started or was reset
 abbrev pub boot_places : Rec → Option Places

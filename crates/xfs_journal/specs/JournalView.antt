@@ -1,11 +1,12 @@
 -- What a journal is to its callers, and what every call keeps.
-use Rattle.std.specs.Prelude.{◌≡◌, ◌≢◌, ◌⊎◌, ℕ, nat_lt, Bool, false, ◌||◌, if◌then◌else◌, List, [], ◌∷◌, ◌++◌, length, take, drop, slice_get, Some, None, IfSome}
+use Rattle.std.specs.Prelude.{◌≡◌, ◌≢◌, ◌⊎◌, ℕ, ◌+◌, ◌-◌, ◌^◌, ◌<◌, ◌≤◌, nat_lt, Bool, false, ◌||◌, if◌then◌else◌, List, [], ◌∷◌, ◌++◌, length, take, drop, slice_get, Some, None, IfSome}
 use Rattle.std.specs.declared.option.Option.{Option}
 use Rattle.std.specs.List.{AllByRecursion}
 use Rattle.xfs_base.specs.Causes.{IfTold}
 use Rattle.xfs_disk.specs.Disk.{overlaid, Only}
 use Rattle.xfs_journal.specs.Image.{IsImage, IsRecord, StandsFor, end_of, magic, size}
 use Rattle.xfs_disk.specs.declared.disk.Disk.{Ghosts}
+use Rattle.xfs_journal.specs.Journal.{base_of}
 use Rattle.xfs_journal.specs.Paging.{CeasesAt, MayCease}
 use Rattle.xfs_journal.specs.declared.faults.AppendFault.{AppendFault}
 use Rattle.xfs_journal.specs.declared.faults.AppendFault.TheVariants.{Shut, Full}
@@ -15,6 +16,8 @@ use Rattle.xfs_journal.specs.declared.record.Rec.{Rec}
 pub record JournalView (D : Type 0) : Type 0 where
   pub disk : D
   pub records : List Rec
+  -- how many of them, from the first on, memory doesn't have
+  pub base : ℕ
   pub limits : Limits
   pub shut : Bool
   -- how many appends there is room for
@@ -39,21 +42,23 @@ pub record IsAtRest (images : List ℕ → Type 0) (records : List Rec) (bytes :
   pub image : IsImage bytes records
   pub durable : (c : List ℕ) → images c → IsButForEighth bytes c
 
-pub record IsKept (held : Option (List ℕ)) (images : List ℕ → Type 0) (records : List Rec) (shut : Bool) (end : ℕ) : Type 0 where
-  pub place : end ≡ end_of records
+-- the records are of the table, and while the journal isn't shut the disk has them at rest; a disk that tells has the closing gate byte behind them
+pub record IsKept (held : Option (List ℕ)) (images : List ℕ → Type 0) (records : List Rec) (shut : Bool) (gate : ℕ) : Type 0 where
+  pub place : IfTold held (λ _. gate ≡ end_of records)
+  pub small : gate + 1 < 2 ^ 64
   pub of_table : AllByRecursion IsRecord records
   pub at_rest : shut ≡ false → IfTold held (IsAtRest images records)
 
--- this list exceeds a limit
-abbrev pub exceeds : Limits → List Rec → Bool
-exceeds limits records = nat_lt limits.records (length records) || nat_lt limits.bytes (size records)
+-- the records behind the base, or the bytes of the whole list, exceed a limit
+abbrev pub exceeds : Limits → ℕ → List Rec → Bool
+exceeds limits base records = nat_lt limits.records (length records - base) || nat_lt limits.bytes (size records)
 
--- the first refusal that applies, in the order in which they are looked at: of a journal that is shut or not, by its limits and its list
-abbrev pub stops : Bool → Limits → List Rec → Rec → Option AppendFault
-stops shut limits records r = if shut then Some Shut else (if exceeds limits (records ++ r ∷ []) then Some Full else None)
+-- the first refusal that applies, in the order in which they are looked at: of a journal that is shut or not, by its limits, its base and its list
+abbrev pub stops : Bool → Limits → ℕ → List Rec → Rec → Option AppendFault
+stops shut limits base records r = if shut then Some Shut else (if exceeds limits base (records ++ r ∷ []) then Some Full else None)
 
 abbrev pub refusal : {D : Type 0} → JournalView D → Rec → Option AppendFault
-refusal j r = stops j.shut j.limits j.records r
+refusal j r = stops j.shut j.limits j.base j.records r
 
 -- the bytes stand for the list, or for the list with the record
 abbrev pub StandsForEither : List Rec → Rec → List ℕ → Type 0
@@ -99,12 +104,21 @@ abbrev pub longest : List Rec → Option Rec → List Rec
 longest kept None = kept
 longest kept (Some r) = kept ++ r ∷ []
 
--- the place of the gate byte of the first record that differs from the longest possible list, is missing from it or is too many
-abbrev pub DiffersAt : List Rec → Option Rec → List Rec → ℕ → Type 0
-DiffersAt kept in_doubt records at = (n : ℕ)
-    × (take n records ≡ take n (longest kept in_doubt)) × (slice_get records n ≢ slice_get (longest kept in_doubt) n)
-    × (at ≡ end_of (take n records))
+-- the first place, from 0, at which a list parts from the longest possible one: it has another record there, or one of them has none
+abbrev pub PartsAt : List Rec → Option Rec → List Rec → ℕ → Type 0
+PartsAt kept in_doubt records n = (take n records ≡ take n (longest kept in_doubt)) × (slice_get records n ≢ slice_get (longest kept in_doubt) n)
 
--- some list that was found is none of the possible ones and parts from them there, or some bytes cease to be a journal there
-abbrev pub MayPartAt : List Rec → Option Rec → ℕ → Type 0
-MayPartAt kept in_doubt at = ((found : List Rec) × ¬ IsPossible kept in_doubt found × DiffersAt kept in_doubt found at) ⊎ MayCease at
+-- the place of the gate byte of the first record behind the base that differs from the longest possible list, is missing from it or is too many
+abbrev pub DiffersAt : ℕ → List Rec → Option Rec → List Rec → ℕ → Type 0
+DiffersAt base kept in_doubt records at = (n : ℕ) × PartsAt (drop base kept) in_doubt (drop base records) n × (at ≡ end_of (take (base + n) records))
+
+-- behind the base some list that was found is none of the possible ones and parts from them there, or some bytes cease to be a journal there
+abbrev pub MayPartAt : ℕ → List Rec → Option Rec → ℕ → Type 0
+MayPartAt base kept in_doubt at =
+    ((found : List Rec) × ¬ IsPossible (drop base kept) in_doubt (drop base found) × DiffersAt base kept in_doubt found at) ⊎ MayCease at
+
+-- Where the list ends, and where it would end with the record in doubt; its base is at most where its last boot record stands.
+pub record IsMeasured (records : List Rec) (base : ℕ) (in_doubt : Option Rec) (end far : ℕ) : Type 0 where
+  pub end_is : end ≡ end_of records
+  pub far_is : IfSome in_doubt (λ r. far ≡ end_of (records ++ r ∷ []))
+  pub led : base ≤ base_of records

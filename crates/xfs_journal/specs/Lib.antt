@@ -1,6 +1,9 @@
 pub mod Decode
 pub mod Gate
+pub mod Holding
 pub mod Image
 pub mod Journal
 pub mod JournalView
 pub mod Paging
+pub mod RecentView
+pub mod Recents

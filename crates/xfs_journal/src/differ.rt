@@ -2,19 +2,18 @@
 ghost use Rattle.std.specs.Prelude.{◌≡◌, ◌≢◌, ◌<◌, ◌≤◌, ◌+◌, ◌^◌, ◌∷◌, true, false, None, List, length, take, slice_get, vec_capacity, IfSome};
 ghost use Rattle.std.specs.List.{AllByRecursion};
 ghost use Rattle.xfs_journal.specs.declared.body.TheConstants.{MOST};
-ghost use Rattle.xfs_journal.specs.Image.{IsRecord, framed, end_of};
-ghost use Rattle.xfs_journal.specs.JournalView.{IsPossible, DiffersAt};
+ghost use Rattle.xfs_journal.specs.Image.{IsRecord, blocks};
+ghost use Rattle.xfs_journal.specs.JournalView.{IsPossible, PartsAt};
 
 use crate::Rec;
 use crate::body::fill;
 
-// Whether two records have the same bytes. The first buffer then has those behind the gate of the first.
+// Whether two records have the same bytes.
 fn is_same(one: &Rec, other: &Rec, first: &mut Vec<u8>, second: &mut Vec<u8>) -> bool
     requires of_table { IsRecord one.now × IsRecord other.now }
     requires room { (MOST ≤ vec_capacity first.old) × (MOST ≤ vec_capacity second.old) }
     ensures yes { result ≡ true → one.now ≡ other.now }
     ensures no { result ≡ false → one.now ≢ other.now }
-    ensures size { length first.new.items ≡ length (1 ∷ framed one.now) }
     ensures capacity { (MOST ≤ vec_capacity first.new) × (MOST ≤ vec_capacity second.new) }
 {
     fill(first, one);
@@ -22,83 +21,93 @@ fn is_same(one: &Rec, other: &Rec, first: &mut Vec<u8>, second: &mut Vec<u8>) ->
     first.as_slice() == second.as_slice()
 }
 
-// How many records two lists begin with in common, and the place behind them.
-fn common(found: &[Rec], kept: &[Rec], first: &mut Vec<u8>, second: &mut Vec<u8>) -> (usize, u64)
+// How many records two lists begin with in common.
+fn common(found: &[Rec], kept: &[Rec], first: &mut Vec<u8>, second: &mut Vec<u8>) -> usize
     requires of_table { AllByRecursion IsRecord found.now × AllByRecursion IsRecord kept.now }
-    requires small { end_of found.now < 2 ^ 64 }
     requires room { (MOST ≤ vec_capacity first.old) × (MOST ≤ vec_capacity second.old) }
-    ensures within { (result.0 ≤ length found.now) × (result.0 ≤ length kept.now) }
-    ensures same { take result.0 found.now ≡ take result.0 kept.now }
-    ensures differs { result.0 < length found.now → result.0 < length kept.now → slice_get found.now result.0 ≢ slice_get kept.now result.0 }
-    ensures place { result.1 ≡ end_of (take result.0 found.now) }
+    ensures within { (result ≤ length found.now) × (result ≤ length kept.now) }
+    ensures same { take result found.now ≡ take result kept.now }
+    ensures differs { result < length found.now → result < length kept.now → slice_get found.now result ≢ slice_get kept.now result }
     ensures capacity { (MOST ≤ vec_capacity first.new) × (MOST ≤ vec_capacity second.new) }
 {
     let mut count = 0;
-    let mut at = 8;
     while count < found.len() && count < kept.len() {
         if !is_same(&found[count], &kept[count], first, second) {
-            return (count, at);
+            return count;
         }
-        at += first.len() as u64;
         count += 1;
     }
-    (count, at)
+    count
 }
 
-// Compares what stands behind the kept list, which ends at this place, with the record in doubt.
-fn differs_behind(
+// Compares what stands behind the kept list with the record in doubt.
+fn parts_behind(
     found: &[Rec],
     kept: &[Rec],
     in_doubt: &Option<Rec>,
-    at: u64,
     first: &mut Vec<u8>,
     second: &mut Vec<u8>,
-) -> Option<u64>
+) -> Option<usize>
     requires of_table { AllByRecursion IsRecord found.now × IfSome in_doubt.now IsRecord }
     requires begins { (length kept.now ≤ length found.now) × (take (length kept.now) found.now ≡ kept.now) }
-    requires place { at ≡ end_of kept.now }
-    requires small { end_of found.now < 2 ^ 64 }
     requires room { (MOST ≤ vec_capacity first.old) × (MOST ≤ vec_capacity second.old) }
     ensures possible { result ≡ None → IsPossible kept.now in_doubt.now found.now }
     ensures other { IfSome result (λ _. ¬ IsPossible kept.now in_doubt.now found.now) }
-    ensures differs { IfSome result (λ at. DiffersAt kept.now in_doubt.now found.now at) }
+    ensures parts { IfSome result (PartsAt kept.now in_doubt.now found.now) }
+    ensures within { IfSome result (λ n. n ≤ length found.now) }
     ensures capacity { MOST ≤ vec_capacity first.new }
 {
     let Some(next) = found.get(kept.len()) else {
         return None;
     };
     let Some(rec) = in_doubt else {
-        return Some(at);
+        return Some(kept.len());
     };
     if !is_same(next, rec, first, second) {
-        return Some(at);
+        return Some(kept.len());
     }
     if found.len() == kept.len() + 1 {
         return None;
     }
-    Some(at + first.len() as u64)
+    Some(kept.len() + 1)
 }
 
-// The place of the first record that differs, is missing or is too many, where the list is neither the kept one nor
-// that one with the record in doubt.
-pub(crate) fn differs_at(
+// The place, from 0, of the first record that differs, is missing or is too many, where the list is neither the kept
+// one nor that one with the record in doubt.
+pub(crate) fn parts_at(
     found: &[Rec],
     kept: &[Rec],
     in_doubt: &Option<Rec>,
     first: &mut Vec<u8>,
     second: &mut Vec<u8>,
-) -> Option<u64>
+) -> Option<usize>
     requires of_table { AllByRecursion IsRecord found.now × AllByRecursion IsRecord kept.now × IfSome in_doubt.now IsRecord }
-    requires small { end_of found.now < 2 ^ 64 }
     requires room { (MOST ≤ vec_capacity first.old) × (MOST ≤ vec_capacity second.old) }
     ensures possible { result ≡ None → IsPossible kept.now in_doubt.now found.now }
     ensures other { IfSome result (λ _. ¬ IsPossible kept.now in_doubt.now found.now) }
-    ensures differs { IfSome result (λ at. DiffersAt kept.now in_doubt.now found.now at) }
+    ensures parts { IfSome result (PartsAt kept.now in_doubt.now found.now) }
+    ensures within { IfSome result (λ n. n ≤ length found.now) }
     ensures capacity { MOST ≤ vec_capacity first.new }
 {
-    let (count, at) = common(found, kept, first, second);
+    let count = common(found, kept, first, second);
     if count < kept.len() {
-        return Some(at);
+        return Some(count);
     }
-    differs_behind(found, kept, in_doubt, at, first, second)
+    parts_behind(found, kept, in_doubt, first, second)
+}
+
+// How many bytes the records have.
+pub(crate) fn size_of(records: &[Rec], block: &mut Vec<u8>) -> u64
+    requires of_table { AllByRecursion IsRecord records.now }
+    requires small { length (blocks records.now) < 2 ^ 64 }
+    requires room { MOST ≤ vec_capacity block.old }
+    ensures size { result ≡ length (blocks records.now) }
+    ensures capacity { MOST ≤ vec_capacity block.new }
+{
+    let mut size = 0;
+    for i in 0..records.len() {
+        fill(block, &records[i]);
+        size += block.len() as u64;
+    }
+    size
 }

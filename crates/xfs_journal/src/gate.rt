@@ -1,14 +1,15 @@
 //! Writing behind a closed gate byte, and then opening it.
-ghost use Rattle.std.specs.Prelude.{◌≡◌, List, ℕ, ◌+◌, ◌<◌, ◌≤◌, ◌^◌, [], ◌∷◌, ◌++◌, true, false, Some, None, is_some, option_map, length, take, OnOk, OnErr};
+ghost use Rattle.std.specs.Prelude.{◌≡◌, List, ℕ, ◌+◌, ◌<◌, ◌≤◌, ◌^◌, [], ◌∷◌, ◌++◌, true, false, Some, None, is_some, option_map, length, take, OnOk};
 ghost use Rattle.std.specs.declared.option.Option.{Option};
 ghost use Rattle.xfs_base.specs.Causes.{HasCause, IfTold};
 ghost use Rattle.xfs_disk.specs.Disk.{overlaid, Torn, ImagesFollow, Only};
 ghost use Rattle.xfs_disk.specs.Moments.{LeavesOnly};
-ghost use Rattle.xfs_journal.specs.Image.{IsRecord, framed};
+ghost use Rattle.xfs_journal.specs.Image.{IsRecord, end_of, framed};
 ghost use Rattle.xfs_journal.specs.JournalView.{HasVersion, IsKept, IsInDoubt, LeavesWithOrWithout, LeavesList, StandsForEither};
 ghost use Rattle.xfs_journal.specs.Gate.{IsClosed, IsOpened, IsEitherOf, MayBecome};
 
-use crate::{Limits, Rec};
+use crate::Rec;
+use crate::recent::Recent;
 use xfs_base::Failed;
 use xfs_disk::Disk;
 
@@ -42,27 +43,40 @@ pub(crate) fn write_behind<D: Disk>(disk: &mut D, gate: u64, bytes: &[u8]) -> Re
     write_synced(disk, gate, &[1])
 }
 
-// Writes the record whose bytes these are behind the last of the list, which ends at the gate byte.
+// Where the closing gate byte stands once so many bytes more stand in front of it. Where that is no place of a disk, it
+// is the last one.
+pub(crate) fn next_gate(gate: u64, bytes: usize) -> u64
+    ensures next { gate + bytes + 1 < 2 ^ 64 → result ≡ gate + bytes }
+    ensures small { result + 1 < 2 ^ 64 }
+{
+    gate.saturating_add(bytes as u64).min(u64::MAX - 1)
+}
+
+// Writes the record whose bytes these are behind the last of the list, in place of the closing gate byte: the next one
+// stands behind them.
 pub(crate) fn write_record<D: Disk>(
     disk: &mut D,
-    records: &[Rec],
+    recent: &Recent,
     rec: &Rec,
-    end: u64,
+    gate: u64,
+    next: u64,
     bytes: &[u8],
 ) -> Result<(), Failed>
-    requires kept { IsKept (D.held disk.old) (D.images disk.old) records.now false end }
+    requires kept { IsKept (D.held disk.old) (D.images disk.old) recent.now.all false gate }
     requires of_table { IsRecord rec.now }
     requires bytes { bytes.now ≡ framed rec.now ++ 0 ∷ [] }
-    requires small { end + 1 < 2 ^ 64 }
-    ensures ok { OnOk result (IsKept (D.held disk.new) (D.images disk.new) (records.now ++ rec.now ∷ []) false (end + length bytes.now)) }
+    requires fits { end_of recent.now.all + length bytes.now + 1 < 2 ^ 64 }
+    requires next { gate + length bytes.now + 1 < 2 ^ 64 → next ≡ gate + length bytes.now }
+    requires small { next + 1 < 2 ^ 64 }
+    ensures ok { OnOk result (IsKept (D.held disk.new) (D.images disk.new) (recent.now.all ++ rec.now ∷ []) false next) }
     ensures version { OnOk result ((v : Option ℕ) → HasVersion (D.held disk.old) v → HasVersion (D.held disk.new) v) }
     ensures told { is_some (D.held disk.new) ≡ is_some (D.held disk.old) }
-    ensures any_moment { IfTold (D.held disk.old) (λ _. LeavesOnly D.Disk disk.old disk.new (StandsForEither records.now rec.now)) }
-    ensures images { LeavesWithOrWithout D.Disk disk.old disk.new records.now rec.now }
-    ensures in_doubt { IsInDoubt (D.held disk.new) (D.images disk.new) records.now true (Some rec.now) }
-    ensures none_in_doubt { OnOk result (IsInDoubt (D.held disk.new) (D.images disk.new) (records.now ++ rec.now ∷ []) false None) }
-    ensures acknowledged { OnOk result (LeavesList D.Disk disk.new (records.now ++ rec.now ∷ [])) }
+    ensures any_moment { IfTold (D.held disk.old) (λ _. LeavesOnly D.Disk disk.old disk.new (StandsForEither recent.now.all rec.now)) }
+    ensures images { LeavesWithOrWithout D.Disk disk.old disk.new recent.now.all rec.now }
+    ensures in_doubt { IsInDoubt (D.held disk.new) (D.images disk.new) recent.now.all true (Some rec.now) }
+    ensures none_in_doubt { OnOk result (IsInDoubt (D.held disk.new) (D.images disk.new) (recent.now.all ++ rec.now ∷ []) false None) }
+    ensures acknowledged { OnOk result (LeavesList D.Disk disk.new (recent.now.all ++ rec.now ∷ [])) }
     ensures cause { HasCause (D.faults disk.old) (D.faults disk.new) result }
 {
-    write_behind(disk, end, bytes)
+    write_behind(disk, gate, bytes)
 }

@@ -1,10 +1,11 @@
 //! The journal on a disk: a list of records, each on the disk before it counts.
-ghost use Rattle.std.specs.Prelude.{MatchResult, ◌≡◌, ◌≢◌, ◌⊎◌, ◌↔◌, ℕ, List, ◌+◌, ◌-◌, ◌≤◌, ◌<◌, ◌||◌, nat_lt, [], ◌∷◌, ◌++◌, is_some, length, slice_get, true, false, Some, None, Err, IfOk, IfErr, OnOk, OnErr, IfSome, vec_len, vec_capacity};
+ghost use Rattle.std.specs.Prelude.{MatchResult, ◌≡◌, ◌≢◌, ◌⊎◌, ◌↔◌, ℕ, List, ◌+◌, ◌-◌, ◌≤◌, ◌<◌, ◌||◌, nat_lt, [], ◌∷◌, ◌++◌, is_some, length, drop, take, ◌^◌, slice_get, true, false, Some, None, Err, IfOk, IfErr, OnOk, OnErr, IfSome, vec_capacity};
 ghost use Rattle.xfs_base.specs.Causes.{IfTold, Rose};
 ghost use Rattle.xfs_disk.specs.Moments.{LeavesOnly};
 ghost use Rattle.xfs_journal.specs.declared.body.TheConstants.{MOST};
 ghost use Rattle.xfs_journal.specs.Image.{HasUnit, StandsFor, framed, end_of, size, IsRecord};
-ghost use Rattle.xfs_journal.specs.JournalView.{exceeds, refusal, stops, IsCarriedOver, IsNoJournal, IsPossible, LeavesWithOrWithout, LeavesList, LeavesOneOf, StandsForEither, MayPartAt, IsButForEighth, IsRenewed};
+ghost use Rattle.xfs_journal.specs.Journal.{base_of, issues_in};
+ghost use Rattle.xfs_journal.specs.JournalView.{exceeds, refusal, stops, IsCarriedOver, IsNoJournal, IsPossible, LeavesWithOrWithout, LeavesList, LeavesOneOf, StandsForEither, MayPartAt, IsButForEighth, IsRenewed, HasVersion};
 ghost use Rattle.xfs_journal.specs.declared.faults.AppendFault.TheVariants.{Disk as DiskFault, Memory as NoMemory};
 ghost use Rattle.xfs_journal.specs.Paging.{CeasesAt, IsOldOrShort, IsQuiet};
 ghost use Rattle.xfs_journal.specs.declared.faults.MigrateFault.TheVariants.{Disk as MigrateDisk, Shut as IsShut};
@@ -12,9 +13,10 @@ ghost use Rattle.xfs_journal.specs.declared.faults.MountFault.TheVariants.{NotJo
 ghost use Rattle.xfs_journal.specs.declared.record.Rec.{Rec};
 
 use crate::body::{MOST, fill};
-use crate::gate::write_record;
+use crate::gate::{next_gate, write_record};
 use crate::migrate::carry_over;
 use crate::mount::{Listed, load};
+use crate::recent::Recent;
 use crate::remount::reload;
 use crate::{AppendFault, Limits, MigrateFault, MountFault, Rec};
 use std::alloc::Global;
@@ -27,9 +29,13 @@ use xfs_disk::Disk;
 pub struct Journal<D: Disk> {
     alloc: Global,
     disk: D,
-    records: Vec<Rec>,
+    recent: Recent,
     buffer: Vec<u8>,
+    // Where the list ends, and where it would end with the record in doubt.
     end: u64,
+    far: u64,
+    // Where the disk has the closing gate byte: there too, where it tells its bytes.
+    gate: u64,
     limits: Limits,
     shut: bool,
     in_doubt: Option<Rec>,
@@ -45,24 +51,25 @@ pub struct MountFail<D: Disk> {
 }
 
 impl<D: Disk> Model for Journal<D> {
-    ghost use Rattle.std.specs.Prelude.{◌-◌, ◌≤◌, vec_len, vec_capacity};
-    ghost use Rattle.xfs_journal.specs.JournalView.{JournalView, HasVersion, IsKept, IsInDoubt};
+    ghost use Rattle.std.specs.Prelude.{◌≤◌, vec_capacity};
+    ghost use Rattle.xfs_journal.specs.JournalView.{JournalView, HasVersion, IsInDoubt, IsKept, IsMeasured};
     ghost use Rattle.xfs_journal.specs.declared.body.TheConstants.{MOST};
 
     ghost Value = { JournalView D };
 
     ghost view = { λ j. record {
       disk = j.disk;
-      records = j.records.items;
+      records = j.recent.all;
+      base = j.recent.base;
       limits = j.limits;
       shut = j.shut;
-      room = vec_capacity j.records - vec_len j.records;
+      room = j.recent.room;
       in_doubt = j.in_doubt;
     } };
 
-    ghost invariant = { λ j. IsKept (D.held j.disk) (D.images j.disk) j.records.items j.shut j.end
-        × IsInDoubt (D.held j.disk) (D.images j.disk) j.records.items j.shut j.in_doubt × (MOST ≤ vec_capacity j.buffer)
-        × HasVersion (D.held j.disk) j.version };
+    ghost invariant = { λ j. IsKept (D.held j.disk) (D.images j.disk) j.recent.all j.shut j.gate
+        × IsInDoubt (D.held j.disk) (D.images j.disk) j.recent.all j.shut j.in_doubt × (MOST ≤ vec_capacity j.buffer)
+        × HasVersion (D.held j.disk) j.version × IsMeasured j.recent.all j.recent.base j.in_doubt j.end j.far };
 }
 
 impl<D: Disk> Journal<D> {
@@ -72,6 +79,7 @@ impl<D: Disk> Journal<D> {
         ensures ok { IfOk result (λ j. IfTold (D.held disk) (λ all. StandsFor all j.records)) }
         ensures not_journal { IfErr result (λ f. (at : ℕ) → f.why ≡ NotJournal at → IsNoJournal (D.held disk) at) }
         ensures disk { IfErr result (λ f. f.why ≡ MountDisk → Rose (D.faults disk) (D.faults f.disk)) }
+        ensures base { IfOk result (λ j. j.base ≡ base_of j.records) }
         ensures shut { IfOk result (λ j. j.shut ≡ false) }
         ensures limits { IfOk result (λ j. j.limits ≡ limits) }
         ensures in_doubt { IfOk result (λ j. j.in_doubt ≡ None) }
@@ -102,16 +110,18 @@ impl<D: Disk> Journal<D> {
         match load(alloc, &mut disk, &mut buffer) {
             Ok(
                 Listed {
-                    records,
+                    recent,
                     end,
                     version,
                 },
             ) => Ok(Journal {
                 alloc,
                 disk,
-                records,
+                recent,
                 buffer,
                 end,
+                far: end,
+                gate: end,
                 limits,
                 shut: false,
                 in_doubt: None,
@@ -121,11 +131,37 @@ impl<D: Disk> Journal<D> {
         }
     }
 
-    /// Its records, the oldest first.
+    /// The records that are in memory, the oldest first: those of the list behind its base.
     pub fn records(&self) -> &[Rec]
-        ensures { result.now ≡ self.now.records }
+        ensures { result.now ≡ drop self.now.base self.now.records }
     {
-        &self.records
+        self.recent.records()
+    }
+
+    /// How many records of the list memory doesn't have: the number of its first one less one.
+    pub fn base(&self) -> u64
+        ensures base { result ≡ self.now.base }
+        ensures led { self.now.base ≤ base_of self.now.records }
+        ensures few { length self.now.records < 2 ^ 62 }
+    {
+        // Where the list ends is a u64, and each of its records has four bytes.
+        let _end = self.end;
+        self.recent.base()
+    }
+
+    /// How many nonces were issued in the records that memory doesn't have.
+    pub fn issues(&self) -> u64
+        ensures { result ≡ issues_in (take self.now.base self.now.records) }
+    {
+        self.recent.issues()
+    }
+
+    /// Lets go of the records in front of the last boot record. It takes no memory.
+    pub fn rebase(&mut self)
+        ensures based { self.new ≡ record self.old { base = base_of self.old.records; room = self.new.room } }
+        ensures room { self.old.room ≤ self.new.room }
+    {
+        self.recent.rebase();
     }
 
     /// Whether the disk failed and the journal wasn't read again since. Either way a crash leaves the list, or the
@@ -138,16 +174,17 @@ impl<D: Disk> Journal<D> {
         self.shut
     }
 
-    /// Each limit less what the journal has of it, and 0 where it has as much or more.
+    /// Each limit less what the journal has of it, and 0 where it has as much or more: of the records those in memory, of
+    /// the bytes those of the file.
     pub fn left(&self) -> Limits
-        ensures records { result.records ≡ self.now.limits.records - length self.now.records }
+        ensures records { result.records ≡ self.now.limits.records - (length self.now.records - self.now.base) }
         ensures bytes { result.bytes ≡ self.now.limits.bytes - size self.now.records }
     {
         Limits {
             records: self
                 .limits
                 .records
-                .saturating_sub(self.records.len() as u64),
+                .saturating_sub(self.records().len() as u64),
             bytes: self.limits.bytes.saturating_sub(self.end).saturating_sub(1),
         }
     }
@@ -166,8 +203,7 @@ impl<D: Disk> Journal<D> {
         ensures room { OnOk result (records ≤ self.new.room) }
         ensures same { self.new ≡ record self.old { room = self.new.room } }
     {
-        self.records.reserve(records as usize)?;
-        Ok(())
+        self.recent.reserve(records as usize)
     }
 
     /// Syncs the disk and reads its journal again. After `Ok` the list is the kept one, or that one with the record
@@ -180,6 +216,7 @@ impl<D: Disk> Journal<D> {
         ensures err { OnErr result (self.new ≡ record self.old { disk = self.new.disk; shut = self.new.shut }) }
         ensures memory { IfErr result (λ f. f ≡ MountMemory → self.new.shut ≡ self.old.shut) }
         ensures shut { IfErr result (λ f. f ≢ MountMemory → self.new.shut ≡ true) }
+        ensures base { self.new.base ≡ self.old.base }
         ensures limits { self.new.limits ≡ self.old.limits }
         ensures disk { IfErr result (λ f. f ≡ MountDisk → Rose (D.faults self.old.disk) (D.faults self.new.disk)) }
         ensures faults { D.faults self.old.disk ≤ D.faults self.new.disk }
@@ -190,7 +227,7 @@ impl<D: Disk> Journal<D> {
         ensures possible { LeavesOneOf D.Disk self.old.disk self.old.records self.old.in_doubt }
         ensures stands { OnOk result (IfTold (D.held self.old.disk) (λ all. StandsFor all self.new.records)) }
         ensures not_journal { IfErr result (λ f. (at : ℕ) → f ≡ NotJournal at → D.held self.old.disk ≡ None) }
-        ensures place { IfErr result (λ f. (at : ℕ) → f ≡ NotJournal at → MayPartAt self.old.records self.old.in_doubt at) }
+        ensures place { IfErr result (λ f. (at : ℕ) → f ≡ NotJournal at → MayPartAt self.old.base self.old.records self.old.in_doubt at) }
         ensures any_moment { IfTold (D.held self.old.disk) (λ _. IsQuiet D.Disk self.old.disk self.new.disk) }
         ensures acknowledged { OnOk result (LeavesList D.Disk self.new.disk self.new.records) }
     {
@@ -198,18 +235,19 @@ impl<D: Disk> Journal<D> {
             self.alloc,
             &mut self.disk,
             &mut self.buffer,
-            &self.records,
+            &self.recent,
             &self.in_doubt,
         ) {
             Ok(
                 Listed {
-                    records,
+                    recent,
                     end,
                     version,
                 },
             ) => {
-                self.records = records;
-                self.end = end;
+                self.end = end_again(self.end, self.far, &self.recent, &recent);
+                self.recent.take_from(recent);
+                self.gate = end;
                 self.shut = false;
                 self.in_doubt = None;
                 self.version = Some(version);
@@ -247,7 +285,7 @@ impl<D: Disk> Journal<D> {
         if self.shut {
             return Err(MigrateFault::Shut);
         }
-        match carry_over(&mut self.disk, &self.records, self.end, self.version) {
+        match carry_over(&mut self.disk, &self.recent, self.gate, self.version) {
             Ok(version) => {
                 self.version = Some(version);
                 Ok(())
@@ -277,6 +315,7 @@ impl<D: Disk> Journal<D> {
         ensures in_doubt { IfErr result (λ f. f ≡ DiskFault → self.new.in_doubt ≡ Some rec) }
         ensures none_in_doubt { OnOk result (self.new.in_doubt ≡ None) }
         ensures same_in_doubt { IfErr result (λ f. f ≢ DiskFault → self.new.in_doubt ≡ self.old.in_doubt) }
+        ensures base { self.new.base ≡ self.old.base }
         ensures limits { self.new.limits ≡ self.old.limits }
         ensures room { self.old.room ≤ self.new.room + 1 }
         ensures faults { D.faults self.old.disk ≤ D.faults self.new.disk }
@@ -287,28 +326,31 @@ impl<D: Disk> Journal<D> {
             (StandsForEither self.old.records rec)) }
         ensures images { self.old.shut ≡ false → LeavesWithOrWithout D.Disk self.old.disk self.new.disk self.old.records rec }
         ensures acknowledged { OnOk result (LeavesList D.Disk self.new.disk self.new.records) }
+        ensures version { OnOk result ((v : ℕ) → HasVersion (D.held self.old.disk) (Some v) → HasVersion (D.held self.new.disk) (Some v)) }
         ensures carried { OnOk result (IsCarriedOver (D.held self.old.disk) → IsCarriedOver (D.held self.new.disk)) }
     {
-        let ready = prepare(
+        prepare(
             self.shut,
             self.limits,
-            &mut self.records,
+            &mut self.recent,
             &rec,
             self.end,
             &mut self.buffer,
-        );
-        if let Err(fault) = ready {
-            return Err(fault);
-        }
-        if write_record(&mut self.disk, &self.records, &rec, self.end, &self.buffer).is_err() {
+        )?;
+        let end = self.end + self.buffer.len() as u64;
+        let gate = next_gate(self.gate, self.buffer.len());
+        let recent = &self.recent;
+        if write_record(&mut self.disk, recent, &rec, self.gate, gate, &self.buffer).is_err() {
+            self.far = end;
             self.shut = true;
             self.in_doubt = Some(rec);
             self.version = None;
             return Err(AppendFault::Disk);
         }
-        self.end += self.buffer.len() as u64;
-        self.records.push_reserved(rec);
-        Ok(self.records.len() as u64)
+        self.end = end;
+        self.gate = gate;
+        self.recent.push(rec);
+        Ok(self.recent.len())
     }
 }
 
@@ -323,53 +365,62 @@ fn is_shut_by(shut: bool, why: MountFault) -> bool
     }
 }
 
+// Where a list ends that was read again, which is the kept one, or that one with the record in doubt.
+fn end_again(end: u64, far: u64, kept: &Recent, found: &Recent) -> u64
+    ensures same { length found.now.all ≤ length kept.now.all → result ≡ end }
+    ensures longer { length kept.now.all < length found.now.all → result ≡ far }
+{
+    if found.len() > kept.len() { far } else { end }
+}
+
 // Fills the buffer with what a record takes behind the gate, and makes room for it in the list, where nothing
 // refuses it.
 fn prepare(
     shut: bool,
     limits: Limits,
-    records: &mut Vec<Rec>,
+    recent: &mut Recent,
     rec: &Rec,
     end: u64,
     buffer: &mut Vec<u8>,
 ) -> Result<(), AppendFault>
     requires unit { HasUnit rec.now }
-    requires place { end ≡ end_of records.old.items }
+    requires place { end ≡ end_of recent.old.all }
     requires capacity { MOST ≤ vec_capacity buffer.old }
-    ensures refused { IfSome (stops shut limits records.old.items rec.now) (λ f. result ≡ Err f) }
-    ensures only { IfErr result (λ f. (stops shut limits records.old.items rec.now ≡ Some f) ⊎ (f ≡ NoMemory)) }
+    ensures refused { IfSome (stops shut limits recent.old.base recent.old.all rec.now) (λ f. result ≡ Err f) }
+    ensures only { IfErr result (λ f. (stops shut limits recent.old.base recent.old.all rec.now ≡ Some f) ⊎ (f ≡ NoMemory)) }
     ensures not_disk { IfErr result (λ f. f ≢ DiskFault) }
-    ensures reserved { 1 ≤ vec_capacity records.old - vec_len records.old → IfErr result (λ f. f ≢ NoMemory) }
+    ensures reserved { 1 ≤ recent.old.room → IfErr result (λ f. f ≢ NoMemory) }
     ensures open { OnOk result (shut ≡ false) }
-    ensures room { OnOk result (vec_len records.new + 1 ≤ vec_capacity records.new) }
+    ensures room { OnOk result (1 ≤ recent.new.room) }
     ensures bytes { OnOk result (buffer.new.items ≡ framed rec.now ++ 0 ∷ []) }
     ensures of_table { OnOk result (IsRecord rec.now) }
     ensures small { OnOk result (end + length buffer.new.items < limits.bytes) }
-    ensures items { records.new.items ≡ records.old.items }
-    ensures kept { vec_capacity records.old ≤ vec_capacity records.new }
+    ensures same { (recent.new.all ≡ recent.old.all) × (recent.new.base ≡ recent.old.base) }
+    ensures kept { recent.old.room ≤ recent.new.room }
     ensures capacity { MOST ≤ vec_capacity buffer.new }
 {
     if shut {
         return Err(AppendFault::Shut);
     }
     fill(buffer, rec);
-    if is_full(limits, records, rec, end, buffer) {
+    if is_full(limits, recent, rec, end, buffer) {
         return Err(AppendFault::Full);
     }
-    if records.reserve(1).is_err() {
+    if recent.reserve(1).is_err() {
         return Err(AppendFault::Memory);
     }
     Ok(())
 }
 
 // Whether the record whose bytes these are exceeds a limit.
-fn is_full(limits: Limits, records: &[Rec], rec: &Rec, end: u64, bytes: &[u8]) -> bool
-    requires place { end ≡ end_of records.now }
+fn is_full(limits: Limits, recent: &Recent, rec: &Rec, end: u64, bytes: &[u8]) -> bool
+    requires place { end ≡ end_of recent.now.all }
     requires bytes { bytes.now ≡ framed rec.now ++ 0 ∷ [] }
-    ensures full { result ≡ exceeds limits (records.now ++ rec.now ∷ []) }
+    ensures full { result ≡ exceeds limits recent.now.base (recent.now.all ++ rec.now ∷ []) }
     ensures small { result ≡ false → end + length bytes.now < limits.bytes }
 {
-    passes_by(limits, records.len() as u64, end, bytes.len() as u64)
+    let kept = recent.len() - recent.base();
+    passes_by(limits, kept, end, bytes.len() as u64)
 }
 
 fn passes_by(limits: Limits, records: u64, end: u64, bytes: u64) -> bool

@@ -7,8 +7,8 @@ ghost use Rattle.xfs_journal.specs.Image.{StandsFor};
 ghost use Rattle.xfs_journal.specs.JournalView.{HasVersion, IsButForEighth, IsKept, IsInDoubt, IsRenewed, LeavesList};
 ghost use Rattle.xfs_journal.specs.Paging.{IsQuiet};
 
-use crate::Rec;
 use crate::gate::write_synced;
+use crate::recent::Recent;
 use crate::scan::VERSION;
 use xfs_base::Failed;
 use xfs_disk::Disk;
@@ -33,17 +33,17 @@ fn version_of<D: Disk>(disk: &mut D, known: Option<u8>) -> Result<u8, Failed>
 }
 
 // Writes the version 2, and syncs it.
-fn renew<D: Disk>(disk: &mut D, records: &[Rec], end: u64) -> Result<(), Failed>
-    requires kept { IsKept (D.held disk.old) (D.images disk.old) records.now false end }
-    ensures kept { IsKept (D.held disk.new) (D.images disk.new) records.now false end }
-    ensures settled { IsInDoubt (D.held disk.new) (D.images disk.new) records.now false None }
+fn renew<D: Disk>(disk: &mut D, recent: &Recent, gate: u64) -> Result<(), Failed>
+    requires kept { IsKept (D.held disk.old) (D.images disk.old) recent.now.all false gate }
+    ensures kept { IsKept (D.held disk.new) (D.images disk.new) recent.now.all false gate }
+    ensures settled { IsInDoubt (D.held disk.new) (D.images disk.new) recent.now.all false None }
     ensures written { OnOk result (D.held disk.new ≡ option_map (λ all. overlaid all 7 (0x32 ∷ [])) (D.held disk.old)) }
     ensures durable { OnOk result (IfTold (D.held disk.new) (λ all. Only all (D.images disk.new))) }
     ensures version { OnOk result (HasVersion (D.held disk.new) (Some 0x32)) }
     ensures told { is_some (D.held disk.new) ≡ is_some (D.held disk.old) }
-    ensures any_moment { IfTold (D.held disk.old) (λ _. LeavesOnly D.Disk disk.old disk.new (λ c. StandsFor c records.now)) }
+    ensures any_moment { IfTold (D.held disk.old) (λ _. LeavesOnly D.Disk disk.old disk.new (λ c. StandsFor c recent.now.all)) }
     ensures spares { IfTold (D.held disk.old) (λ all. LeavesOnly D.Disk disk.old disk.new (IsButForEighth all)) }
-    ensures list { LeavesList D.Disk disk.new records.now }
+    ensures list { LeavesList D.Disk disk.new recent.now.all }
     ensures cause { HasCause (D.faults disk.old) (D.faults disk.new) result }
 {
     write_synced(disk, 7, &[VERSION])
@@ -52,28 +52,28 @@ fn renew<D: Disk>(disk: &mut D, records: &[Rec], end: u64) -> Result<(), Failed>
 // Carries the version over where it is 1, and answers the one that stands there then.
 pub(crate) fn carry_over<D: Disk>(
     disk: &mut D,
-    records: &[Rec],
-    end: u64,
+    recent: &Recent,
+    gate: u64,
     known: Option<u8>,
 ) -> Result<u8, Failed>
-    requires kept { IsKept (D.held disk.old) (D.images disk.old) records.now false end }
+    requires kept { IsKept (D.held disk.old) (D.images disk.old) recent.now.all false gate }
     requires known { HasVersion (D.held disk.old) known }
-    ensures kept { IsKept (D.held disk.new) (D.images disk.new) records.now false end }
-    ensures settled { IsInDoubt (D.held disk.new) (D.images disk.new) records.now false None }
+    ensures kept { IsKept (D.held disk.new) (D.images disk.new) recent.now.all false gate }
+    ensures settled { IsInDoubt (D.held disk.new) (D.images disk.new) recent.now.all false None }
     ensures version { IfOk result (λ v. HasVersion (D.held disk.new) (Some v)) }
     ensures other { IfOk result (λ v. v ≢ 0x31) }
     ensures renewed { OnOk result (IsRenewed D.Disk disk.old disk.new) }
     ensures quiet { IfTold (D.held disk.old) (λ all. slice_get all 7 ≢ Some 0x31 → IsQuiet D.Disk disk.old disk.new) }
     ensures told { is_some (D.held disk.new) ≡ is_some (D.held disk.old) }
-    ensures any_moment { IfTold (D.held disk.old) (λ _. LeavesOnly D.Disk disk.old disk.new (λ c. StandsFor c records.now)) }
+    ensures any_moment { IfTold (D.held disk.old) (λ _. LeavesOnly D.Disk disk.old disk.new (λ c. StandsFor c recent.now.all)) }
     ensures spares { IfTold (D.held disk.old) (λ all. LeavesOnly D.Disk disk.old disk.new (IsButForEighth all)) }
-    ensures list { LeavesList D.Disk disk.new records.now }
+    ensures list { LeavesList D.Disk disk.new recent.now.all }
     ensures cause { HasCause (D.faults disk.old) (D.faults disk.new) result }
 {
     let version = version_of(disk, known)?;
     if version != OLD {
         return Ok(version);
     }
-    renew(disk, records, end)?;
+    renew(disk, recent, gate)?;
     Ok(VERSION)
 }

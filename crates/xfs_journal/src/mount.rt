@@ -1,26 +1,30 @@
 //! Reading a disk as a journal, and making an empty one.
-ghost use Rattle.std.specs.Prelude.{◌⊎◌, ◌∷◌, ◌++◌, ◌≡◌, ◌≢◌, ◌<◌, ◌≤◌, List, ℕ, [], length, false, is_some, vec_capacity, Some, IfOk, IfErr, OnOk, OnErr};
+ghost use Rattle.std.specs.Prelude.{◌⊎◌, ◌∷◌, ◌++◌, ◌≡◌, ◌≢◌, ◌<◌, ◌≤◌, ◌+◌, ◌^◌, List, ℕ, [], length, false, is_some, vec_capacity, Some, IfOk, IfErr, OnOk, OnErr};
 ghost use Rattle.std.specs.List.{AllByRecursion};
 ghost use Rattle.xfs_base.specs.Causes.{IfTold, Rose};
 ghost use Rattle.xfs_disk.specs.Disk.{Only};
 ghost use Rattle.xfs_disk.specs.Moments.{LeavesOnly};
 ghost use Rattle.xfs_journal.specs.declared.body.TheConstants.{MOST};
+ghost use Rattle.xfs_journal.specs.Holding.{IsHeld};
+ghost use Rattle.xfs_journal.specs.declared.keep.Keep.TheVariants.{SinceBoot};
 ghost use Rattle.xfs_journal.specs.Image.{IsImage, IsRecord, StandsFor, end_of};
 ghost use Rattle.xfs_journal.specs.JournalView.{HasVersion, IsKept};
 ghost use Rattle.xfs_journal.specs.Paging.{IsQuiet, IsOldOrShort, CeasesAt, MayCease};
 ghost use Rattle.xfs_journal.specs.declared.faults.MountFault.TheVariants.{NotJournal, Disk as DiskFault, Memory as NoMemory};
 
+use crate::MountFault;
 use crate::gate::write_synced;
+use crate::keep::Keep;
 use crate::page::Page;
+use crate::recent::Recent;
 use crate::scan::{MAGIC, VERSION, read_records};
-use crate::{MountFault, Rec};
 use std::alloc::Global;
 use xfs_disk::Disk;
 
 // The list, the place of its closing gate byte, and the version in front of it.
 #[derive(Drop)]
 pub(crate) struct Listed {
-    pub(crate) records: Vec<Rec>,
+    pub(crate) recent: Recent,
     pub(crate) end: u64,
     pub(crate) version: u8,
 }
@@ -31,11 +35,14 @@ pub(crate) fn read_all<D: Disk>(
     disk: &mut D,
     len: u64,
     block: &mut Vec<u8>,
+    keep: Keep,
 ) -> Result<Listed, MountFault>
     requires room { MOST ≤ vec_capacity block.old }
     requires len { IfTold (D.held disk.old) (λ all. length all ≡ len) }
-    ensures place { IfOk result (λ l. (l.end ≡ end_of l.records.items) × AllByRecursion IsRecord l.records.items) }
-    ensures image { IfOk result (λ l. IfTold (D.held disk.old) (λ all. IsImage all l.records.items)) }
+    ensures held { IfOk result (λ l. IsHeld keep l.recent) }
+    ensures small { IfOk result (λ l. l.end + 1 < 2 ^ 64) }
+    ensures place { IfOk result (λ l. (l.end ≡ end_of l.recent.all) × AllByRecursion IsRecord l.recent.all) }
+    ensures image { IfOk result (λ l. IfTold (D.held disk.old) (λ all. IsImage all l.recent.all)) }
     ensures version { IfOk result (λ l. HasVersion (D.held disk.old) (Some l.version)) }
     ensures broken { IfErr result (λ f. (x : ℕ) → f ≡ NotJournal x → IfTold (D.held disk.old) (λ all. CeasesAt all x)) }
     ensures ceases { IfErr result (λ f. (x : ℕ) → f ≡ NotJournal x → MayCease x) }
@@ -47,10 +54,10 @@ pub(crate) fn read_all<D: Disk>(
         return Err(MountFault::Memory);
     };
     let mut page = Page::new(len);
-    let (version, records) = read_records(alloc, disk, &mut page, block, &mut spare)?;
+    let (version, recent) = read_records(alloc, disk, &mut page, block, &mut spare, keep)?;
     let end = page.at() - 1;
     Ok(Listed {
-        records,
+        recent,
         end,
         version,
     })
@@ -72,8 +79,8 @@ pub(crate) fn sync_len<D: Disk>(disk: &mut D) -> Result<u64, MountFault>
 // Makes an empty journal of at most 9 bytes.
 pub(crate) fn make_empty<D: Disk>(alloc: Global, disk: &mut D) -> Result<Listed, MountFault>
     requires short { IfTold (D.held disk.old) (λ all. (length all ≤ 9) × Only all (D.images disk.old)) }
-    ensures ok { IfOk result (λ l. l.records.items ≡ []) }
-    ensures kept { IfOk result (λ l. IsKept (D.held disk.new) (D.images disk.new) l.records.items false l.end) }
+    ensures ok { IfOk result (λ l. (l.recent.all ≡ []) × (l.recent.base ≡ 0) × (l.end ≡ 8)) }
+    ensures kept { IfOk result (λ l. IsKept (D.held disk.new) (D.images disk.new) l.recent.all false l.end) }
     ensures version { IfOk result (λ l. HasVersion (D.held disk.new) (Some l.version)) }
     ensures err { IfErr result (λ f. (f ≡ DiskFault) × Rose (D.faults disk.old) (D.faults disk.new)) }
     ensures any_moment { IfTold (D.held disk.old) (λ _. LeavesOnly D.Disk disk.old disk.new (λ c. length c ≤ 9)) }
@@ -85,7 +92,7 @@ pub(crate) fn make_empty<D: Disk>(alloc: Global, disk: &mut D) -> Result<Listed,
         return Err(MountFault::Disk);
     }
     Ok(Listed {
-        records: Vec::new(alloc),
+        recent: Recent::new(alloc),
         end: 8,
         version: VERSION,
     })
@@ -101,9 +108,11 @@ fn read_or_empty<D: Disk>(
     requires room { MOST ≤ vec_capacity block.old }
     requires len { IfTold (D.held disk.old) (λ all. length all ≡ len) }
     requires durable { IfTold (D.held disk.old) (λ all. Only all (D.images disk.old)) }
-    ensures kept { IfOk result (λ l. IsKept (D.held disk.new) (D.images disk.new) l.records.items false l.end) }
+    ensures kept { IfOk result (λ l. IsKept (D.held disk.new) (D.images disk.new) l.recent.all false l.end) }
+    ensures held { IfOk result (λ l. IsHeld SinceBoot l.recent) }
+    ensures end { IfOk result (λ l. l.end ≡ end_of l.recent.all) }
     ensures version { IfOk result (λ l. HasVersion (D.held disk.new) (Some l.version)) }
-    ensures stands { IfOk result (λ l. IfTold (D.held disk.old) (λ all. StandsFor all l.records.items)) }
+    ensures stands { IfOk result (λ l. IfTold (D.held disk.old) (λ all. StandsFor all l.recent.all)) }
     ensures refused { IfErr result (λ f. (at : ℕ) → f ≡ NotJournal at → IfTold (D.held disk.old) (λ all. (9 < length all) × CeasesAt all at)) }
     ensures unwritten { IfErr result (λ f. f ≢ DiskFault → IsQuiet D.Disk disk.old disk.new) }
     ensures long { IfTold (D.held disk.old) (λ all. 9 < length all → IsQuiet D.Disk disk.old disk.new) }
@@ -113,7 +122,7 @@ fn read_or_empty<D: Disk>(
     ensures faults { D.faults disk.old ≤ D.faults disk.new }
     ensures capacity { MOST ≤ vec_capacity block.new }
 {
-    match read_all(alloc, disk, len, block) {
+    match read_all(alloc, disk, len, block, Keep::SinceBoot) {
         Err(MountFault::NotJournal { .. }) if len <= 9 => make_empty(alloc, disk),
         answer => answer,
     }
@@ -126,9 +135,11 @@ pub(crate) fn load<D: Disk>(
     block: &mut Vec<u8>,
 ) -> Result<Listed, MountFault>
     requires room { MOST ≤ vec_capacity block.old }
-    ensures kept { IfOk result (λ l. IsKept (D.held disk.new) (D.images disk.new) l.records.items false l.end) }
+    ensures kept { IfOk result (λ l. IsKept (D.held disk.new) (D.images disk.new) l.recent.all false l.end) }
+    ensures held { IfOk result (λ l. IsHeld SinceBoot l.recent) }
+    ensures end { IfOk result (λ l. l.end ≡ end_of l.recent.all) }
     ensures version { IfOk result (λ l. HasVersion (D.held disk.new) (Some l.version)) }
-    ensures stands { IfOk result (λ l. IfTold (D.held disk.old) (λ all. StandsFor all l.records.items)) }
+    ensures stands { IfOk result (λ l. IfTold (D.held disk.old) (λ all. StandsFor all l.recent.all)) }
     ensures refused { IfErr result (λ f. (at : ℕ) → f ≡ NotJournal at → IfTold (D.held disk.old) (λ all. (9 < length all) × CeasesAt all at)) }
     ensures unwritten { IfErr result (λ f. f ≢ DiskFault → IsQuiet D.Disk disk.old disk.new) }
     ensures long { IfTold (D.held disk.old) (λ all. 9 < length all → IsQuiet D.Disk disk.old disk.new) }

@@ -3,14 +3,17 @@ ghost use Rattle.std.specs.Prelude.{◌≡◌, ◌≢◌, ◌+◌, ◌<◌, ◌�
 ghost use Rattle.std.specs.List.{AllByRecursion};
 ghost use Rattle.xfs_base.specs.Causes.{IfTold, Rose};
 ghost use Rattle.xfs_journal.specs.declared.body.TheConstants.{MOST};
+ghost use Rattle.xfs_journal.specs.Holding.{IsHeld};
 ghost use Rattle.xfs_journal.specs.Image.{IsImage, IsRecord, end_of, magic};
 ghost use Rattle.xfs_journal.specs.JournalView.{HasVersion};
 ghost use Rattle.xfs_journal.specs.Paging.{Shows, IsQuiet, CeasesAt, MayCease};
 ghost use Rattle.xfs_journal.specs.declared.faults.MountFault.TheVariants.{NotJournal, Disk as DiskFault, Memory as NoMemory};
 
+use crate::MountFault;
 use crate::block::{need, read_block};
+use crate::keep::Keep;
 use crate::page::Page;
-use crate::{MountFault, Rec};
+use crate::recent::Recent;
 use std::alloc::Global;
 use xfs_disk::Disk;
 
@@ -52,14 +55,16 @@ pub(crate) fn read_records<D: Disk>(
     page: &mut Page,
     block: &mut Vec<u8>,
     spare: &mut Vec<u8>,
-) -> Result<(u8, Vec<Rec>), MountFault>
+    keep: Keep,
+) -> Result<(u8, Recent), MountFault>
     requires room { (MOST ≤ vec_capacity block.old) × (1025 ≤ vec_capacity spare.old) }
     requires start { page.old.at ≡ 0 }
     requires shows { IfTold (D.held disk.old) (λ all. Shows all page.old) }
-    ensures place { IfOk result (λ r. page.new.at ≡ end_of r.1.items + 1) }
-    ensures of_table { IfOk result (λ r. AllByRecursion IsRecord r.1.items) }
+    ensures place { IfOk result (λ r. page.new.at ≡ end_of r.1.all + 1) }
+    ensures of_table { IfOk result (λ r. AllByRecursion IsRecord r.1.all) }
+    ensures held { IfOk result (λ r. IsHeld keep r.1) }
     ensures version { IfOk result (λ r. HasVersion (D.held disk.old) (Some r.0)) }
-    ensures image { IfOk result (λ r. IfTold (D.held disk.old) (λ all. IsImage all r.1.items)) }
+    ensures image { IfOk result (λ r. IfTold (D.held disk.old) (λ all. IsImage all r.1.all)) }
     ensures broken { IfErr result (λ f. (x : ℕ) → f ≡ NotJournal x → IfTold (D.held disk.old) (λ all. CeasesAt all x)) }
     ensures ceases { IfErr result (λ f. (x : ℕ) → f ≡ NotJournal x → MayCease x) }
     ensures disk { IfErr result (λ f. f ≡ DiskFault → Rose (D.faults disk.old) (D.faults disk.new)) }
@@ -67,12 +72,11 @@ pub(crate) fn read_records<D: Disk>(
     ensures quiet { IsQuiet D.Disk disk.old disk.new }
 {
     let version = read_magic(disk, page, block)?;
-    let mut records = Vec::new(alloc);
+    let mut recent = Recent::new(alloc);
     while let Some(rec) = read_block(alloc, disk, page, block, spare)? {
-        if records.reserve(1).is_err() {
+        if recent.take_in(rec, keep).is_err() {
             return Err(MountFault::Memory);
         }
-        records.push_reserved(rec);
     }
-    Ok((version, records))
+    Ok((version, recent))
 }

@@ -1,13 +1,11 @@
 use Rattle.std.proofs.Common.{◌≡◌, ◌≤◌, ◌-◌, length, take, vec_capacity}
 use Rattle.xfs_journal.specs.declared.body.TheConstants.{MOST}
-use Rattle.xfs_journal.specs.Image.{end_of}
 use Rattle.xfs_journal.proofs.differ.common.Given as goal
 
 abbrev pub invariant-loop-count : goal.invariant-loop-count
 invariant-loop-count l = record {
   within : (l.count ≤ length l.found) × (l.count ≤ length l.kept);
   same : take l.count l.found ≡ take l.count l.kept;
-  place : l.at ≡ end_of (take l.count l.found);
   room : (MOST ≤ vec_capacity l.first) × (MOST ≤ vec_capacity l.second);
 }
 

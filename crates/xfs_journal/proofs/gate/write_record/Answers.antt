@@ -8,39 +8,39 @@ use Rattle.xfs_journal.proofs.gate.write_record.Goals as goal
 
 pub write_behind-requires-clause-closed : goal.write_behind-requires-clause-closed
 write_behind-requires-clause-closed g c =
-    asks _ _ _ (g.D.Disk.images c.args.disk.now) c.args.records.now c.args.rec.now c.args.end c.args.bytes.now c.requires.kept c.requires.of_table c.requires.bytes refl
+    asks _ _ _ (g.D.Disk.images c.args.disk.now) c.args.recent.now.all c.args.rec.now c.args.gate c.args.bytes.now c.requires.kept c.requires.of_table c.requires.bytes refl
 
 pub write_behind-requires-clause-images : goal.write_behind-requires-clause-images
 write_behind-requires-clause-images g c =
-    asks_images _ _ _ (g.D.Disk.images c.args.disk.now) c.args.records.now c.args.rec.now c.args.end c.args.bytes.now c.requires.kept c.requires.of_table c.requires.bytes refl
+    asks_images _ _ _ (g.D.Disk.images c.args.disk.now) c.args.recent.now.all c.args.rec.now c.args.gate c.args.bytes.now c.requires.kept c.requires.of_table c.requires.bytes refl
 
 pub returns-clause-version : goal.returns-clause-version
 returns-clause-version g c =
-    on_ok c.write_behind.result _ _ (version_after _ _ _ _ c.args.records.now c.args.rec.now c.args.end c.args.bytes.now c.requires.kept c.requires.of_table c.requires.bytes c.write_behind.ensures.told) c.write_behind.ensures.ok
+    on_ok c.write_behind.result _ _ (version_after _ _ _ _ c.args.recent.now.all c.args.rec.now c.args.gate c.args.bytes.now c.requires.kept c.requires.of_table c.requires.bytes c.write_behind.ensures.told) c.write_behind.ensures.ok
 
 pub returns-clause-ok : goal.returns-clause-ok
 returns-clause-ok g c =
-    on_ok c.write_behind.result _ _ (kept_after _ _ _ _ c.args.records.now c.args.rec.now c.args.end c.args.bytes.now c.requires.kept c.requires.of_table c.requires.bytes c.write_behind.ensures.told) c.write_behind.ensures.ok
+    on_ok c.write_behind.result _ _ (kept_after _ _ _ _ c.args.recent.now.all c.args.rec.now c.args.gate c.args.bytes.now c.requires.kept c.requires.of_table c.requires.bytes c.write_behind.ensures.told c.args.next c.requires.fits c.requires.next c.requires.small) c.write_behind.ensures.ok
 
 pub returns-clause-any_moment : goal.returns-clause-any_moment
 returns-clause-any_moment g c = on_told _ _ (λ b known.
-    weaken g.D.Disk _ _ _ (StandsForEither c.args.records.now c.args.rec.now)
-    (stands_after _ _ _ (g.D.Disk.images c.args.disk.now) c.args.records.now c.args.rec.now c.args.end c.args.bytes.now c.requires.kept c.requires.of_table c.requires.bytes c.write_behind.ensures.told b known)
+    weaken g.D.Disk _ _ _ (StandsForEither c.args.recent.now.all c.args.rec.now)
+    (stands_after _ _ _ (g.D.Disk.images c.args.disk.now) c.args.recent.now.all c.args.rec.now c.args.gate c.args.bytes.now c.requires.kept c.requires.of_table c.requires.bytes c.write_behind.ensures.told b known)
     (from_told _ _ c.write_behind.ensures.any_moment b known))
 
 pub returns-clause-images : goal.returns-clause-images
 returns-clause-images g c = on_told _ _ (λ b known.
-    goes _ _ (StandsForEither c.args.records.now c.args.rec.now) (from_told _ _ c.write_behind.ensures.images b known)
-    (stands_after _ _ _ (g.D.Disk.images c.args.disk.now) c.args.records.now c.args.rec.now c.args.end c.args.bytes.now c.requires.kept c.requires.of_table c.requires.bytes c.write_behind.ensures.told b known))
+    goes _ _ (StandsForEither c.args.recent.now.all c.args.rec.now) (from_told _ _ c.write_behind.ensures.images b known)
+    (stands_after _ _ _ (g.D.Disk.images c.args.disk.now) c.args.recent.now.all c.args.rec.now c.args.gate c.args.bytes.now c.requires.kept c.requires.of_table c.requires.bytes c.write_behind.ensures.told b known))
 
 pub returns-clause-acknowledged : goal.returns-clause-acknowledged
 returns-clause-acknowledged g c =
-    on_ok c.write_behind.result _ _ (λ o. stands_at_rest _ _ _ _ (kept_after _ _ _ _ c.args.records.now c.args.rec.now c.args.end c.args.bytes.now c.requires.kept c.requires.of_table c.requires.bytes c.write_behind.ensures.told o)) c.write_behind.ensures.ok
+    on_ok c.write_behind.result _ _ (λ o. stands_at_rest _ _ _ _ (kept_after _ _ _ _ c.args.recent.now.all c.args.rec.now c.args.gate c.args.bytes.now c.requires.kept c.requires.of_table c.requires.bytes c.write_behind.ensures.told c.args.next c.requires.fits c.requires.next c.requires.small o)) c.write_behind.ensures.ok
 
 pub returns-clause-in_doubt : goal.returns-clause-in_doubt
 returns-clause-in_doubt g c =
-    in_doubt_after _ _ _ _ c.args.records.now c.args.rec.now c.args.end c.args.bytes.now c.requires.kept c.requires.of_table c.requires.bytes c.write_behind.ensures.told c.write_behind.ensures.images
+    in_doubt_after _ _ _ _ c.args.recent.now.all c.args.rec.now c.args.gate c.args.bytes.now c.requires.kept c.requires.of_table c.requires.bytes c.write_behind.ensures.told c.write_behind.ensures.images
 
 pub returns-clause-none_in_doubt : goal.returns-clause-none_in_doubt
 returns-clause-none_in_doubt g c =
-    on_ok c.write_behind.result _ _ (λ o. no_doubt _ _ _ _ (kept_after _ _ _ _ c.args.records.now c.args.rec.now c.args.end c.args.bytes.now c.requires.kept c.requires.of_table c.requires.bytes c.write_behind.ensures.told o)) c.write_behind.ensures.ok
+    on_ok c.write_behind.result _ _ (λ o. no_doubt _ _ _ _ (kept_after _ _ _ _ c.args.recent.now.all c.args.rec.now c.args.gate c.args.bytes.now c.requires.kept c.requires.of_table c.requires.bytes c.write_behind.ensures.told c.args.next c.requires.fits c.requires.next c.requires.small o)) c.write_behind.ensures.ok

@@ -12,4 +12,4 @@ returns-clause-kept g c =
     let d = c.write_synced.new.disk in
     let written : g.D.Disk.held d ≡ option_map (λ all. overlaid all 0 (magic ++ 0x32 ∷ 0 ∷ [])) (g.D.Disk.held c.args.disk.now) = search rules in
     let durable : IfTold (g.D.Disk.held d) (λ all. Only all (g.D.Disk.images d)) = search rules in
-    subst (λ (l : List Rec). IsKept (g.D.Disk.held d) (g.D.Disk.images d) l false 8) (sym c.new.ensures.items) (kept_empty _ _ _ written durable)
+    subst (λ (l : List Rec). IsKept (g.D.Disk.held d) (g.D.Disk.images d) l false 8) (sym c.new.ensures.0) (kept_empty _ _ _ written durable)

@@ -8,7 +8,7 @@ use Rattle.xfs_journal.proofs.mount.read_or_empty.Goals as goal
 
 pub returns-in-Err-NotJournal-clause-stands : goal.returns-in-Err-NotJournal-clause-stands
 returns-in-Err-NotJournal-clause-stands g c = if_ok c.make_empty.result _ _ (λ l none. on_told _ _ (λ all known.
-    subst (λ (J : List Rec). StandsFor all J) (sym none) (short_stands all (omega (arith, from_told _ _ c.requires.len all known, c.if-len-le9.true))))) c.make_empty.ensures.ok
+    subst (λ (J : List Rec). StandsFor all J) (sym none.0) (short_stands all (omega (arith, from_told _ _ c.requires.len all known, c.if-len-le9.true))))) c.make_empty.ensures.ok
 
 pub returns-in_default-clause-refused : goal.returns-in_default-clause-refused
 returns-in_default-clause-refused g c = λ at e. on_told _ (λ all. (9 < length all) × CeasesAt all at) (λ all known.

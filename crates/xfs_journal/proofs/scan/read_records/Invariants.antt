@@ -2,18 +2,20 @@ use Rattle.std.proofs.Common.{◌≡◌, ◌≤◌, ◌-◌, ◌^◌, ◌++◌, 
 use Rattle.std.specs.List.{AllByRecursion}
 use Rattle.xfs_base.specs.Causes.{IfTold}
 use Rattle.xfs_journal.specs.declared.body.TheConstants.{MOST}
+use Rattle.xfs_journal.specs.Holding.{IsHeld}
 use Rattle.xfs_journal.specs.Image.{IsRecord, contents, end_of}
 use Rattle.xfs_journal.specs.Paging.{Shows, IsQuiet}
 use Rattle.xfs_journal.proofs.scan.read_records.Given as goal
 
-abbrev pub invariant-loop-records : goal.invariant-loop-records
-invariant-loop-records g l =
-    (l.page.at ≡ end_of l.records.items)
-    × AllByRecursion IsRecord l.records.items
-    × IfTold (g.D.Disk.held l.fn.disk) (λ all. (all ≡ contents l.version l.records.items ++ drop l.page.at all) × Shows all l.page)
+abbrev pub invariant-loop-recent : goal.invariant-loop-recent
+invariant-loop-recent g l =
+    (l.page.at ≡ end_of l.recent.all)
+    × AllByRecursion IsRecord l.recent.all
+    × IfTold (g.D.Disk.held l.fn.disk) (λ all. (all ≡ contents l.version l.recent.all ++ drop l.page.at all) × Shows all l.page)
     × (MOST ≤ vec_capacity l.block)
     × (1025 ≤ vec_capacity l.spare)
     × IsQuiet g.D.Disk l.fn.disk l.disk
+    × IsHeld l.keep l.recent
 
-abbrev pub decreases-loop-records : goal.decreases-loop-records
-decreases-loop-records g l = 2 ^ 64 - l.page.at
+abbrev pub decreases-loop-recent : goal.decreases-loop-recent
+decreases-loop-recent g l = 2 ^ 64 - l.page.at
