@@ -8,7 +8,9 @@ use Rattle.xfs_base.specs.declared.counts.Places.{Places}
 use Rattle.xfs_mech.specs.declared.motion.Motion.{Motion}
 use Rattle.xfs_disk.specs.declared.disk.Disk.{Ghosts}
 use Rattle.xfs_journal.specs.declared.record.Rec.{Rec}
-use Rattle.xfs_journal.specs.Journal.{boot_of, live_of, next_number, with_boot, CarriesNumber}
+use Rattle.xfs_journal.specs.Journal.{base_of, boot_of, boot_places, is_boot, live_of, next_number, with_boot, CarriesNumber}
+use Rattle.xfs_journal.specs.declared.record.Rec.TheVariants.{Issue, Clear, Expire, Boot, Start, Bind, Order, Done, Load}
+use Rattle.xfs_journal.proofs.BaseLaws.{base_of-push}
 use Rattle.xfs_journal.proofs.JournalLaws.{live_of-push, Walk-push}
 use Rattle.xfs_journal.proofs.StartLaws.{boot-ends, boot_of-numbered, boot_of-places}
 use Rattle.xfs_guard.specs.declared.open.Open.TheVariants.{No}
@@ -69,6 +71,21 @@ IsSound-boot v records p recorded = record {
       counted = λ q c lives. absurd (no-nonce records p q lives);
       acted = tt;
     }
+
+is-boot : (r : Rec) (p : Places) → boot_places r ≡ Some p → is_boot r ≡ true
+is-boot (Boot q) p is = refl
+is-boot (Start i q) p is = refl
+is-boot (Issue number word) p is = cc
+is-boot Clear p is = cc
+is-boot Expire p is = cc
+is-boot (Bind t) p is = cc
+is-boot (Order k c) p is = cc
+is-boot (Done m d) p is = cc
+is-boot (Load u c) p is = cc
+
+-- the records in front of a boot record are those that memory doesn't have
+pub base_of-boot : (records : List Rec) (p : Places) → base_of (with_boot records p) ≡ length records
+base_of-boot records p = base_of-push records (boot_of records p) ∙ rw (is-boot (boot_of records p) p (boot_of-places records p)) refl
 
 -- what a guard is then
 pub IsKept-boot : (v : View) (records : List Rec) (p : Places) (spare left : ℕ) (kinds : List NoteKind) → p ≡ v.places → (v.disk_told ≡ true → IsRecorded v.key v.units records v.motions) → kinds ≡ v.units

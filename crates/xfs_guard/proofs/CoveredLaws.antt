@@ -102,7 +102,7 @@ nonce-push records r plain = ap (λ l. option_and_then (λ p. nonce_of (record_a
 pub record IsOpenFor (v : View) (issue : ℕ) (kept : List (List ℕ × ℕ)) (orders : ℕ) : Type 0 where
   pub open_still : v.shut ≡ false
   pub booted : v.boot_missing ≡ false
-  pub records : length v.records + (2 * orders + 3) ≤ v.limits.records
+  pub records : length v.records - v.base + (2 * orders + 3) ≤ v.limits.records
   pub bytes : size v.records + (105 * orders + 2048) ≤ v.limits.bytes
   pub lives : option_map (λ (n : Nonce). n.number) (live_nonce v.records) ≡ Some issue
   pub bound : v.bound ≡ Some kept
@@ -112,10 +112,10 @@ pub record IsAhead (v : View) (amounts : List (List ℕ × ℕ)) (counts : List 
   pub lie : (w : ℕ) → slice_index counts w ≤ at v.places.units w
   pub enough : (c : List ℕ) → presented_in v.units v.records c + value v.units v.places.transport c + value_from v.units 0 counts c ≤ amount_in amounts c
 
-pub unfit-none : (v : View) → v.shut ≡ false → v.boot_missing ≡ false → length v.records + 3 ≤ v.limits.records → size v.records + 2048 ≤ v.limits.bytes → unfit v ≡ None
+pub unfit-none : (v : View) → v.shut ≡ false → v.boot_missing ≡ false → length v.records - v.base + 3 ≤ v.limits.records → size v.records + 2048 ≤ v.limits.bytes → unfit v ≡ None
 unfit-none v shut booted many long =
-    go v.shut v.boot_missing (nat_lt (v.limits.records - length v.records) 3) (nat_lt (v.limits.bytes - size v.records) 2048) shut booted
-    (le-ltb (v.limits.records - length v.records) 3 (omega (arith, many))) (le-ltb (v.limits.bytes - size v.records) 2048 (omega (arith, long)))
+    go v.shut v.boot_missing (nat_lt (v.limits.records - (length v.records - v.base)) 3) (nat_lt (v.limits.bytes - size v.records) 2048) shut booted
+    (le-ltb (v.limits.records - (length v.records - v.base)) 3 (omega (arith, many))) (le-ltb (v.limits.bytes - size v.records) 2048 (omega (arith, long)))
   where
     go : (s m a b : Bool) → s ≡ false → m ≡ false → a ≡ false → b ≡ false → (if s then Some Shut else if m || (a || b) then Some Full else None) ≡ None
     go s m a b e f g h = rw (e, f, g, h) refl

@@ -123,7 +123,7 @@ IsKept-refused T e key seed o motions places faults old new r w was told spare r
   where
     memory : e ≡ Memory → IsKept (over key seed o motions places faults new told) spare left kinds
     memory is = let s = rw is at wrote in
-        rw (s.records, s.units, s.bound, s.booted, s.loaded, s.limits, s.shut, s.boot_missing, s.in_doubt, same) (record {
+        rw (s.records, s.base, s.units, s.bound, s.booted, s.loaded, s.limits, s.shut, s.boot_missing, s.in_doubt, same) (record {
           sound = kept.sound;
           clean = kept.clean;
           balanced = kept.balanced;
@@ -137,7 +137,7 @@ IsKept-refused T e key seed o motions places faults old new r w was told spare r
 
     disk : e ≡ Disk → IsKept (over key seed o motions places faults new told) spare left kinds
     disk is = let s = rw is at wrote in
-        rw (s.records, s.units, s.bound, s.booted, s.loaded, s.limits, s.shut, s.boot_missing, s.in_doubt, same, none)
+        rw (s.records, s.base, s.units, s.bound, s.booted, s.loaded, s.limits, s.shut, s.boot_missing, s.in_doubt, same, none)
         (IsKept-doubted (over key seed o motions places faults old was) r w No spare left kinds (kept.sound open_still booted) kept.balanced sound kept.units)
 
 -- what follows then
@@ -174,7 +174,7 @@ IsKept-acted v k c m d failed now Q f spare was left kinds before kept written m
   missing = λ e. absurd (true≢false (sym e ∙ booted));
   recorded = λ told records p. ⊎_elim (λ same. rw same (recorded-sound (acted_view v k m d failed now Q f) sound told)) (λ doubt. absurd (none doubt.0 (sym (kept.clean still) ∙ doubt.1))) p;
   room = (rw written at kept.room).1;
-  limits = takes-done v.limits v.records m d moved diverted (rw written at kept.limits);
+  limits = takes-done v.limits v.base v.records m d moved diverted (rw written at kept.limits);
   units = units;
 }
   where

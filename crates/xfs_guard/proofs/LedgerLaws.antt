@@ -1,17 +1,18 @@
 -- What a ledger keeps beside its records is what is read of them.
-use Rattle.std.proofs.Common.{◌≡◌, ◌≢◌, ◌⊎◌, Bool, true, false, true≢false, take, ℕ, zero, suc, ◌+◌, ◌<◌, ◌≤◌, ◌^◌, List, [], ◌∷◌, ◌++◌, length, None, Some, refl, sym, ◌∙◌, ap, arith, length-append}
+use Rattle.std.proofs.Common.{◌≡◌, ◌≢◌, ◌⊎◌, Bool, true, false, true≢false, drop, take, get_or, ℕ, zero, suc, ◌+◌, ◌-◌, ◌<◌, ◌≤◌, ◌^◌, List, [], ◌∷◌, ◌++◌, length, None, Some, refl, sym, ◌∙◌, ap, arith, length-append, length-drop}
 use Rattle.std.specs.Prelude.{slice_get, slice_index}
 use Rattle.std.specs.declared.option.Option.{Option}
 use Rattle.std.specs.Option.{option_map}
 use Rattle.xfs_base.specs.declared.money.NoteKind.{NoteKind}
 use Rattle.xfs_journal.specs.declared.record.Rec.{Rec}
 use Rattle.xfs_journal.specs.declared.record.Rec.TheVariants.{Issue, Clear, Expire, Boot, Start, Bind, Order, Done, Load}
+use Rattle.xfs_journal.proofs.BaseLaws.{issues-split}
 use Rattle.xfs_journal.proofs.StartLaws.{boot_of-places}
-use Rattle.xfs_journal.specs.Journal.{boot_of, boot_places, record_at, live_of, last_mark, next_issue, nonce_text, next_number, live_after, mark_after, Finding, found_after}
+use Rattle.xfs_journal.specs.Journal.{boot_of, boot_places, issues_in, record_at, live_of, last_mark, next_issue, nonce_text, next_number, live_after, mark_after, Finding, found_after}
 use Rattle.xfs_journal.proofs.JournalLaws.{live_of-push, binding_of-push, last_mark-push, next_issue-push, record_at-push, record_at-pushed, record_at-within, eqb-same}
 use Rattle.std.proofs.lemmas.Bool.{cases_lt}
 use Rattle.std.proofs.lemmas.List.{take_all, take_more, length-take-le}
-use Rattle.std.proofs.lemmas.Option.{slice_get_past, slice_get_within, get_or_from_slice_get}
+use Rattle.std.proofs.lemmas.Option.{slice_get_past, slice_get_read, slice_get_within, get_or_from_slice_get}
 use Rattle.std.proofs.Common.{inl, inr}
 use Rattle.xfs_base.specs.declared.counts.Counts.{Counts}
 use Rattle.xfs_base.specs.declared.counts.Places.{Places}
@@ -25,7 +26,7 @@ use Rattle.xfs_guard.specs.declared.bound.Bound.{Bound}
 use Rattle.xfs_guard.specs.declared.nonce.Nonce.{Nonce}
 use Rattle.xfs_guard.specs.Nonce.{nonce_of, live_nonce, live_in}
 use Rattle.xfs_guard.specs.Refusals.{bound_token, bound_number}
-use Rattle.xfs_guard.specs.Ledger.{IsLive, IsBound, IsRead, IsDoubted, KeepsLedger, AreSums, amounts_kept}
+use Rattle.xfs_guard.specs.Ledger.{IsLive, IsBound, IsBehind, IsRead, IsDoubted, KeepsLedger, AreSums, amounts_kept}
 use Rattle.xfs_guard.specs.Pays.{Fits, Pays}
 use Rattle.xfs_guard.specs.LedgerView.{LedgerView, IsWriteFault}
 use Rattle.xfs_guard.specs.declared.deny.Deny.{Deny}
@@ -57,31 +58,57 @@ pub bound_token-some : (u : List NoteKind) (records : List Rec) (l : Option Live
 bound_token-some u records None b h k = absurd k
 bound_token-some u records (Some l) b h k = (k.token, rw (h.0, k.found) refl, k.written, rw (h.0, k.found) refl)
 
+-- the records that memory has stand behind the base
+pub kept-at : (records : List Rec) (base i n : ℕ) → n ≡ base + i → slice_get (drop base records) i ≡ slice_get records n
+kept-at records zero i n e = let same : i ≡ n = omega (arith, e) in ap (slice_get records) same
+kept-at [] (suc base) i n e = refl
+kept-at (x ∷ xs) (suc base) i zero e = absurd (omega (arith, e))
+kept-at (x ∷ xs) (suc base) i (suc n) e = kept-at xs base i n (omega (arith, e))
+
+-- a record that was read there
+pub found-at : (records kept : List Rec) (base b i n : ℕ) (r : Rec) → kept ≡ drop base records → b ≡ base → base ≤ n → n ≤ length records → i ≡ n - b → i ≢ length kept → r ≡ get_or kept i r → slice_get records n ≡ Some r
+found-at records kept base b i n r is same le within at other read =
+    let long = ap length is ∙ length-drop base records in
+    let lt : i < length kept = omega (arith, long, same, le, within, at, other) in
+    sym (kept-at records base i n (omega (arith, same, le, at))) ∙ (ap (λ l. slice_get l i) (sym is) ∙ slice_get_read kept (length kept) i r refl lt read)
+
+-- the nonces in front of the base and those behind it are all of them
+pub issues-of : (records : List Rec) (base a b : ℕ) (kept : List Rec) → a ≡ issues_in (take base records) → kept ≡ drop base records → b ≡ issues_in kept → a + b ≡ issues_in records
+issues-of records base a b kept front is behind = rw (front, behind, is) (issues-split records base)
+
+pub issues-few : (records : List Rec) → issues_in records ≤ length records
+issues-few [] = omega arith
+issues-few (r ∷ records) = grind (arith, issues-few records)
+
 -- an issue is written
-pub IsRead-issue : (records : List Rec) (u : List NoteKind) (i m : ℕ) (l : Option Live) (b : Option Bound) (n w : ℕ) (nonce : Nonce)
-    → IsRead records u i m l b → n ≡ next_issue records → nonce.text ≡ nonce_text n w → nonce.number ≡ n
-    → IsRead (records ++ Issue n w ∷ []) u n (length records + 1) (Some (record { number = length records + 1; nonce = nonce })) None
+pub IsRead-issue : {base : ℕ} (records : List Rec) (u : List NoteKind) (i m : ℕ) (l : Option Live) (b : Option Bound) (n w : ℕ) (nonce : Nonce)
+    → IsRead records base u i m l b → n ≡ next_issue records → nonce.text ≡ nonce_text n w → nonce.number ≡ n
+    → IsRead (records ++ Issue n w ∷ []) base u n (length records + 1) (Some (record { number = length records + 1; nonce = nonce })) None
 IsRead-issue records u i m l b n w nonce h is text number = record {
   issued = rw (next_issue-push records (Issue n w)) (ap (λ k. k + 1) is);
   few = let e = length-append records (Issue n w ∷ []) in let f = h.few in let g = h.issued in omega (arith, e, f, g, is);
+  within = let e = length-append records (Issue n w ∷ []) in let f = h.within in omega (arith, e, f);
   marked = sym (last_mark-push records (Issue n w));
   lives = (live_of-push records (Issue n w), rw (record_at-pushed records (Issue n w)) (ap Some (same nonce text number)));
   binds = binding_of-push records (Issue n w) (length records + 1) ∙ rw (eqb-same (length records + 1)) refl;
+  behind = tt;
 }
   where
     same : (x : Nonce) → x.text ≡ nonce_text n w → x.number ≡ n → record { text = nonce_text n w; number = n } ≡ x
     same x t k = rw (← t, ← k) refl
 
 -- a mark is written after which no issue lives
-pub IsRead-mark : (records : List Rec) (u : List NoteKind) (i : ℕ) (r : Rec) → i + 1 ≡ next_issue records → i ≤ length records
+pub IsRead-mark : {base : ℕ} (records : List Rec) (u : List NoteKind) (i : ℕ) (r : Rec) → i + 1 ≡ next_issue records → i ≤ length records → base ≤ length records
     → ((k : ℕ) → next_number k r ≡ k) → ((k : ℕ) (x : Option ℕ) → live_after k x r ≡ None) → ((k x : ℕ) → mark_after k x r ≡ k + 1)
-    → IsRead (records ++ r ∷ []) u i (length records + 1) None None
-IsRead-mark records u i r issued few same dies marks = record {
+    → IsRead (records ++ r ∷ []) base u i (length records + 1) None None
+IsRead-mark records u i r issued few based same dies marks = record {
   issued = rw (next_issue-push records r, same (next_issue records)) issued;
   few = let e = length-append records (r ∷ []) in omega (arith, e, few);
+  within = let e = length-append records (r ∷ []) in omega (arith, e, based);
   marked = sym (last_mark-push records r ∙ marks (length records) (last_mark records));
   lives = live_of-push records r ∙ dies (length records) (live_of records);
   binds = tt;
+  behind = tt;
 }
 
 nonce-number : (records : List Rec) (p : ℕ) (n : Nonce) → nonce_of (record_at records p) ≡ Some n → p ≤ length records
@@ -138,17 +165,26 @@ same-bind : (b : Option Bound) → SameBind b b
 same-bind None = tt
 same-bind (Some b) = refl
 
+-- memory has the record of the same bind
+same-behind : (base : ℕ) (b c : Option Bound) → SameBind b c → IsBehind base b → IsBehind base c
+same-behind base None None s h = tt
+same-behind base None (Some c) s h = absurd s
+same-behind base (Some b) None s h = absurd s
+same-behind base (Some b) (Some c) s h = rw s h
+
 -- a record is written that no reading of the journal looks at
-IsRead-plain : (records : List Rec) (u : List NoteKind) (i m : ℕ) (l : Option Live) (b : Option Bound) (r : Rec) → IsRead records u i m l b
+IsRead-plain : {base : ℕ} (records : List Rec) (u : List NoteKind) (i m : ℕ) (l : Option Live) (b : Option Bound) (r : Rec) → IsRead records base u i m l b
     → ((k : ℕ) → next_number k r ≡ k) → ((k : ℕ) (x : Option ℕ) → live_after k x r ≡ x) → ((k x : ℕ) → mark_after k x r ≡ x)
     → ((p : ℕ) (f : Finding) → found_after p f r ≡ f.bind)
-    → ((c : List ℕ) → presented_in u (records ++ r ∷ []) c ≡ presented_in u records c) → IsRead (records ++ r ∷ []) u i m l b
+    → ((c : List ℕ) → presented_in u (records ++ r ∷ []) c ≡ presented_in u records c) → IsRead (records ++ r ∷ []) base u i m l b
 IsRead-plain records u i m l b r h numbers lives marks bind worth = record {
   issued = rw (next_issue-push records r, numbers (next_issue records)) h.issued;
   few = let e = length-append records (r ∷ []) in let f = h.few in omega (arith, e, f);
+  within = let e = length-append records (r ∷ []) in let f = h.within in omega (arith, e, f);
   marked = h.marked ∙ sym (last_mark-push records r ∙ marks (length records) (last_mark records));
   lives = lives-plain records r l h.lives lives;
   binds = binds-plain u records r l b b h.lives h.binds (same-bind b) bind (more b (sums-of u records l b h.binds));
+  behind = h.behind;
 }
   where
     more : (b : Option Bound) → SumsOf u records b → SumsOf u (records ++ r ∷ []) b
@@ -156,34 +192,38 @@ IsRead-plain records u i m l b r h numbers lives marks bind worth = record {
     more (Some b) s = λ j a e. s j a e ∙ sym (worth a.0)
 
 -- an order is written
-pub IsRead-order : (records : List Rec) (u : List NoteKind) (i m : ℕ) (l : Option Live) (b : Option Bound) (k : Kind) (c : Counts) → IsRead records u i m l b → IsRead (records ++ Order k c ∷ []) u i m l b
+pub IsRead-order : {base : ℕ} (records : List Rec) (u : List NoteKind) (i m : ℕ) (l : Option Live) (b : Option Bound) (k : Kind) (c : Counts) → IsRead records base u i m l b → IsRead (records ++ Order k c ∷ []) base u i m l b
 IsRead-order records u i m l b k c h = IsRead-plain records u i m l b (Order k c) h (λ n. refl) (λ n x. refl) (λ n x. refl) (λ p f. refl) (λ cur. presented_in-push u records (Order k c) cur)
 
 -- a loading is written
-pub IsRead-load : (records : List Rec) (u : List NoteKind) (i m : ℕ) (l : Option Live) (b : Option Bound) (unit count : ℕ) → IsRead records u i m l b → IsRead (records ++ Load unit count ∷ []) u i m l b
+pub IsRead-load : {base : ℕ} (records : List Rec) (u : List NoteKind) (i m : ℕ) (l : Option Live) (b : Option Bound) (unit count : ℕ) → IsRead records base u i m l b → IsRead (records ++ Load unit count ∷ []) base u i m l b
 IsRead-load records u i m l b unit count h = IsRead-plain records u i m l b (Load unit count) h (λ n. refl) (λ n x. refl) (λ n x. refl) (λ p f. refl) (λ cur. presented_in-push u records (Load unit count) cur)
 
 -- what an order did is written
-pub IsRead-done : (records : List Rec) (u : List NoteKind) (i m : ℕ) (l : Option Live) (b c : Option Bound) (n d : Counts) → IsRead records u i m l b → SameBind b c → SumsOf u (records ++ Done n d ∷ []) c
-    → IsRead (records ++ Done n d ∷ []) u i m l c
-IsRead-done records u i m l b c n d h same sums = record {
+pub IsRead-done : {base : ℕ} (records : List Rec) (u : List NoteKind) (i m : ℕ) (l : Option Live) (b c : Option Bound) (n d : Counts) → IsRead records base u i m l b → SameBind b c → SumsOf u (records ++ Done n d ∷ []) c
+    → IsRead (records ++ Done n d ∷ []) base u i m l c
+IsRead-done {base = base} records u i m l b c n d h same sums = record {
   issued = rw (next_issue-push records (Done n d)) h.issued;
   few = let e = length-append records (Done n d ∷ []) in let f = h.few in omega (arith, e, f);
+  within = let e = length-append records (Done n d ∷ []) in let f = h.within in omega (arith, e, f);
   marked = h.marked ∙ sym (last_mark-push records (Done n d));
   lives = lives-plain records (Done n d) l h.lives (λ n x. refl);
   binds = binds-plain u records (Done n d) l b c h.lives h.binds same (λ p f. refl) sums;
+  behind = same-behind base b c same h.behind;
 }
 
 -- a token is bound
-pub IsRead-bind : (records : List Rec) (u : List NoteKind) (i m : ℕ) (l : Option Live) (b : Option Bound) (t : List ℕ) (c : Bound) → IsRead records u i m l b
+pub IsRead-bind : {base : ℕ} (records : List Rec) (u : List NoteKind) (i m : ℕ) (l : Option Live) (b : Option Bound) (t : List ℕ) (c : Bound) → IsRead records base u i m l b
     → (p : ℕ) × (live_of records ≡ Some p) → bound_token records ≡ None → ((cur : List ℕ) → presented_in u records cur ≡ 0) → ((j : ℕ) → slice_index c.presented j ≡ 0) → c.number ≡ length records + 1
-    → IsRead (records ++ Bind t ∷ []) u i m l (Some c)
+    → IsRead (records ++ Bind t ∷ []) base u i m l (Some c)
 IsRead-bind records u i m l b t c h live free fresh zeros number = record {
   issued = rw (next_issue-push records (Bind t)) h.issued;
   few = let e = length-append records (Bind t ∷ []) in let f = h.few in omega (arith, e, f);
+  within = let e = length-append records (Bind t ∷ []) in let f = h.within in omega (arith, e, f);
   marked = h.marked ∙ sym (last_mark-push records (Bind t));
   lives = lives-plain records (Bind t) l h.lives (λ n x. refl);
   binds = bind l b h.lives h.binds;
+  behind = let f = h.within in rw number (omega (arith, f));
 }
   where
     bind : (l : Option Live) (b : Option Bound) → IsLive records l → IsBound u records l b → IsBound u (records ++ Bind t ∷ []) l (Some c)
@@ -234,8 +274,8 @@ bind-pays u (Some b) None k m p = absurd p
 bind-pays u (Some b) (Some c) k m p = p.number
 
 -- what an order did is written
-pub IsRead-paid : (records : List Rec) (u : List NoteKind) (i m : ℕ) (l : Option Live) (b c : Option Bound) (k : Kind) (n d : Counts) → IsRead records u i m l b
-    → (counts : Counts) × (record_at records (length records) ≡ Some (Order k counts)) → Pays u k n b c → IsRead (records ++ Done n d ∷ []) u i m l c
+pub IsRead-paid : {base : ℕ} (records : List Rec) (u : List NoteKind) (i m : ℕ) (l : Option Live) (b c : Option Bound) (k : Kind) (n d : Counts) → IsRead records base u i m l b
+    → (counts : Counts) × (record_at records (length records) ≡ Some (Order k counts)) → Pays u k n b c → IsRead (records ++ Done n d ∷ []) base u i m l c
 IsRead-paid records u i m l b c k n d h last p =
     IsRead-done records u i m l b c n d h (bind-pays u b c k n p) (sums-pays u records b c k last.0 n d (sums-of u records l b h.binds) last.1 p)
 
@@ -258,22 +298,22 @@ pub live-issued : (records : List Rec) (n w : ℕ) (x : Nonce) → x.text ≡ no
 live-issued records n w x text number = rw (live_of-push records (Issue n w), record_at-pushed records (Issue n w)) (ap Some (rw (← text, ← number) refl))
 
 -- a journal that is open has nothing in doubt
-pub KeepsLedger-read : (records : List Rec) (d : Option Rec) (s m : Bool) (u : List NoteKind) (i k : ℕ) (l : Option Live) (b : Option Bound) (x : Option Nonce) → IsRead records u i k l b → d ≡ None → KeepsLedger records d s m u i k l b x
+pub KeepsLedger-read : {base : ℕ} (records : List Rec) (d : Option Rec) (s m : Bool) (u : List NoteKind) (i k : ℕ) (l : Option Live) (b : Option Bound) (x : Option Nonce) → IsRead records base u i k l b → d ≡ None → KeepsLedger records base d s m u i k l b x
 KeepsLedger-read records d s m u i k l b x h none = record { read = λ _ _. h; lives = λ _. h.lives; doubts = λ n e. absurd (never n (rw none at e)) }
   where
     never : (n : Nonce) → nonce_of None ≡ Some n → ⊥
     never n e = cc
 
 -- a record was not written, or it is not known whether it was; where it is an issue, its nonce is kept
-pub KeepsLedger-refused : (e : Deny) (records : List Rec) (r : Rec) (d d' : Option Rec) (s s' m : Bool) (u : List NoteKind) (i k : ℕ) (l : Option Live) (b : Option Bound) (x x' : Option Nonce) → KeepsLedger records d s m u i k l b x → IsWriteFault e
-    → (e ≡ Memory → (s' ≡ s) × (d' ≡ d) × (x' ≡ x)) → (e ≡ Disk → (s' ≡ true) × (d' ≡ Some r)) → (e ≡ Disk → IsDoubted (Some r) x') → KeepsLedger records d' s' m u i k l b x'
+pub KeepsLedger-refused : {base : ℕ} (e : Deny) (records : List Rec) (r : Rec) (d d' : Option Rec) (s s' m : Bool) (u : List NoteKind) (i k : ℕ) (l : Option Live) (b : Option Bound) (x x' : Option Nonce) → KeepsLedger records base d s m u i k l b x → IsWriteFault e
+    → (e ≡ Memory → (s' ≡ s) × (d' ≡ d) × (x' ≡ x)) → (e ≡ Disk → (s' ≡ true) × (d' ≡ Some r)) → (e ≡ Disk → IsDoubted (Some r) x') → KeepsLedger records base d' s' m u i k l b x'
 KeepsLedger-refused e records r d d' s s' m u i k l b x x' h (inl is) memory disk doubts =
     let same = memory is in rw (same.0, same.1, same.2) h
 KeepsLedger-refused e records r d d' s s' m u i k l b x x' h (inr is) memory disk doubts =
     let shut = disk is in record { read = λ still booted. absurd (true≢false (sym shut.0 ∙ still)); lives = h.lives; doubts = rw shut.1 (doubts is) }
 
 -- the journal is shut, or as before
-pub KeepsLedger-shut : (records : List Rec) (d : Option Rec) (s s' m : Bool) (u : List NoteKind) (i k : ℕ) (l : Option Live) (b : Option Bound) (x : Option Nonce) → KeepsLedger records d s m u i k l b x → (s' ≡ s) ⊎ (s' ≡ true) → KeepsLedger records d s' m u i k l b x
+pub KeepsLedger-shut : {base : ℕ} (records : List Rec) (d : Option Rec) (s s' m : Bool) (u : List NoteKind) (i k : ℕ) (l : Option Live) (b : Option Bound) (x : Option Nonce) → KeepsLedger records base d s m u i k l b x → (s' ≡ s) ⊎ (s' ≡ true) → KeepsLedger records base d s' m u i k l b x
 KeepsLedger-shut records d s s' m u i k l b x h (inl same) = rw same h
 KeepsLedger-shut records d s s' m u i k l b x h (inr shut) = record { read = λ still booted. absurd (true≢false (sym shut ∙ still)); lives = h.lives; doubts = h.doubts }
 
@@ -296,8 +336,8 @@ boot_of-doubts records p x = of (boot_of records p) (boot_of-places records p)
     of (Load u c) is n e = none n e
 
 -- the journal was read again and got no Boot: either it is missing, or it is not known whether it was written
-pub KeepsLedger-unbooted : (records : List Rec) (d : Option Rec) (s m : Bool) (u : List NoteKind) (i k : ℕ) (l : Option Live) (b : Option Bound) (x : Option Nonce)
-    → (m ≡ false → s ≡ true) → (m ≡ false → IsLive records l) → IsDoubted d x → KeepsLedger records d s m u i k l b x
+pub KeepsLedger-unbooted : {base : ℕ} (records : List Rec) (d : Option Rec) (s m : Bool) (u : List NoteKind) (i k : ℕ) (l : Option Live) (b : Option Bound) (x : Option Nonce)
+    → (m ≡ false → s ≡ true) → (m ≡ false → IsLive records l) → IsDoubted d x → KeepsLedger records base d s m u i k l b x
 KeepsLedger-unbooted records d s m u i k l b x shut lives doubts = record { read = λ still booted. absurd (true≢false (sym (shut booted) ∙ still)); lives = lives; doubts = doubts }
 
 -- a list that was read again begins with the kept one, and has at most one record more

@@ -3,7 +3,7 @@ use Rattle.std.proofs.Common.{◌≡◌, ◌≢◌, inl, inr, ℕ, zero, suc, �
 use Rattle.std.specs.Prelude.{unwrap_or, if◌then◌else◌}
 use Rattle.std.specs.declared.option.Option.{Option}
 use Rattle.std.specs.Option.{option_and_then, option_or}
-use Rattle.std.proofs.lemmas.Bool.{ltb-false, cases_lt, cases_eq}
+use Rattle.std.proofs.lemmas.Bool.{ltb-false, lt-ltb, eq-eqb, cases_lt, cases_eq}
 use Rattle.std.proofs.lemmas.List.{get_or-set_other}
 use Rattle.std.proofs.lemmas.Grind.{get_or-set_at}
 use Rattle.xfs_base.specs.Counts.{at, LiesIn}
@@ -39,6 +39,12 @@ live-number records n e = go (live_of records) refl e
     go : (l : Option ℕ) → live_of records ≡ l → option_and_then (λ p. nonce_of (record_at records p)) l ≡ Some n → (p : ℕ) × (live_of records ≡ Some p)
     go None is e = cc
     go (Some p) is e = (p, is)
+
+-- fewer notes lie in the unit than are asked for
+pub short-refused : (v : View) (issue unit count : ℕ) (n : Nonce) (amounts : List (List ℕ × ℕ)) → live_nonce v.records ≡ Some n → n.number ≡ issue → v.bound ≡ Some amounts → over_budget v amounts (notes_of unit count) ≡ None
+    → at v.places.units (unit - 1) < count → order_refusal v (AskStack issue unit count) ≡ Some (Short unit)
+short-refused v issue unit count n amounts lives number bound covered short =
+    rw (lives, eq-eqb n.number issue number, bound, covered, lt-ltb (at v.places.units (unit - 1)) count short) refl
 
 -- in a currency of which the bound amounts have nothing, nothing was presented while the nonce lives
 pub told-live : (v : View) (p : ℕ) → IsSound v → live_of v.records ≡ Some p → (c : List ℕ) → has_currency c (unwrap_or v.bound []) ≡ false → presented_in v.units v.records c ≡ 0

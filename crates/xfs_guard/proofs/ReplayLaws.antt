@@ -3,6 +3,7 @@ use Rattle.std.proofs.Common.{◌≡◌, ℕ, ◌+◌, ◌<◌, ◌≤◌, Bool,
 use Rattle.std.specs.Prelude.{fold, map, slice_index, sum, ◌==◌, if◌then◌else◌, ⊤}
 use Rattle.std.specs.declared.option.Option.{Option}
 use Rattle.std.specs.List.{Contains, AllByRecursion}
+use Rattle.std.proofs.lemmas.List.{map-append}
 use Rattle.std.proofs.lemmas.List.Elements.{Contains-append_left, Contains-push, All-contains, All-from_recursion}
 use Rattle.xfs_base.specs.Counts.{at}
 use Rattle.xfs_base.specs.declared.counts.Counts.{Counts}
@@ -17,7 +18,7 @@ use Rattle.xfs_journal.specs.declared.record.Rec.TheVariants.{Issue, Clear, Expi
 use Rattle.xfs_journal.specs.Journal.{record_at, Walk}
 use Rattle.xfs_journal.proofs.JournalLaws.{record_at-within, record_at-append, record_at-pushed}
 use Rattle.xfs_guard.specs.Agrees.{RisesFrom, IsOrdered, IsAsked, IsOrder, MayFollow, keep_last, Agrees}
-use Rattle.xfs_guard.specs.Replayed.{Replay, taken_of, taken_before, ordered_by, replay_after, nothing_replayed, replay, replayed, KeepsWithin, CanReplay}
+use Rattle.xfs_guard.specs.Replayed.{AgreesFrom, Replay, taken_of, taken_before, done_motions, motions_after, ordered_by, outlet_after, renumber, renumbered, replay_after, nothing_replayed, replay, replayed, KeepsWithin, CanReplay}
 use Rattle.xfs_guard.proofs.AgreesLaws.{Agrees-record, Agrees-motion}
 use Rattle.xfs_guard.proofs.RecordLaws.{last-pushed, length-pushed}
 
@@ -227,3 +228,71 @@ all-within records motions a prefix (r ∷ rs) e =
 -- records that some list agrees with can be replayed
 pub CanReplay-agreed : (kept : List Rec) (motions : List Motion) → Agrees kept motions → CanReplay kept
 CanReplay-agreed kept motions a = record { shape = a.shape; within = all-within kept motions a [] kept refl }
+
+-- with base 0 the entries are as they were
+pub renumbered-none : (motions : List Motion) → renumbered 0 motions ≡ motions
+renumbered-none [] = refl
+renumbered-none (Moved n k m d ∷ motions) =
+    let same : 0 + n ≡ n = omega arith in
+    rw same (ap (λ (l : List Motion). Moved n k m d ∷ l) (renumbered-none motions))
+renumbered-none (Taken c ∷ motions) = ap (λ (l : List Motion). Taken c ∷ l) (renumbered-none motions)
+renumbered-none (Loaded u c ∷ motions) = ap (λ (l : List Motion). Loaded u c ∷ l) (renumbered-none motions)
+
+-- with base 0 the list itself agrees with the records
+pub Agrees-from_none : (records : List Rec) (list : List Motion) → AgreesFrom 0 records list → Agrees records list
+Agrees-from_none records list a = subst (λ (l : List Motion). Agrees records l) (sym (a.counted ∙ renumbered-none a.motions)) a.agrees
+
+-- the same records, read behind a base
+abbrev pub behind : ℕ → Replay → Replay
+behind base s = record { count = base + s.count; ordered = s.ordered; outlet = s.outlet; motions = renumbered base s.motions }
+
+renumbered-taken : (base : ℕ) (c : Counts) → renumbered base (taken_of c) ≡ taken_of c
+renumbered-taken base c = either (sum c.0 == 0)
+  where
+    either : (b : Bool) → renumbered base (if b then [] else Taken c ∷ []) ≡ (if b then [] else Taken c ∷ [])
+    either true = refl
+    either false = refl
+
+renumbered-before : (base : ℕ) (k : Kind) (c : Counts) → renumbered base (taken_before k c) ≡ taken_before k c
+renumbered-before base Present c = renumbered-taken base c
+renumbered-before base Stack c = refl
+renumbered-before base Reject c = refl
+renumbered-before base Retract c = refl
+
+renumbered-done : (base n : ℕ) (ordered : Option Kind) (c m d : Counts) → done_motions (base + n) ordered c m d ≡ renumbered base (done_motions n ordered c m d)
+renumbered-done base n None c m d = refl
+renumbered-done base n (Some k) c m d = sym (map-append (renumber base) (taken_before k c) (Moved n k m d ∷ []) ∙ ap (λ (l : List Motion). l ++ Moved (base + n) k m d ∷ []) (renumbered-before base k c))
+
+motions-behind : (base : ℕ) (s : Replay) (r : Rec) → motions_after (behind base s) r ≡ renumbered base (motions_after s r)
+motions-behind base s (Done m d) = ap (λ (l : List Motion). renumbered base s.motions ++ l) (renumbered-done base s.count s.ordered s.outlet m d) ∙ sym (map-append (renumber base) s.motions (done_motions s.count s.ordered s.outlet m d))
+motions-behind base s (Load u c) = sym (map-append (renumber base) s.motions (Loaded u c ∷ []))
+motions-behind base s (Issue n x) = refl
+motions-behind base s Clear = refl
+motions-behind base s Expire = refl
+motions-behind base s (Boot p) = refl
+motions-behind base s (Start issues p) = refl
+motions-behind base s (Bind t) = refl
+motions-behind base s (Order k c) = refl
+
+outlet-behind : (base : ℕ) (s : Replay) (r : Rec) → outlet_after (behind base s) r ≡ outlet_after s r
+outlet-behind base s (Done m d) = refl
+outlet-behind base s (Load u c) = refl
+outlet-behind base s (Issue n x) = refl
+outlet-behind base s Clear = refl
+outlet-behind base s Expire = refl
+outlet-behind base s (Boot p) = refl
+outlet-behind base s (Start issues p) = refl
+outlet-behind base s (Bind t) = refl
+outlet-behind base s (Order k c) = refl
+
+step-behind : (base : ℕ) (s : Replay) (r : Rec) → replay_after (behind base s) r ≡ behind base (replay_after s r)
+step-behind base s r = rw (motions-behind base s r, outlet-behind base s r) (ap (λ (n : ℕ). record { count = n; ordered = ordered_by r; outlet = outlet_after s r; motions = renumbered base (motions_after s r) }) (omega arith))
+
+-- records that are read from the base on give the same, with the base on top
+pub fold-behind : (base : ℕ) (records : List Rec) (s : Replay) → fold replay_after (behind base s) records ≡ behind base (fold replay_after s records)
+fold-behind base [] s = refl
+fold-behind base (r ∷ rs) s = ap (λ (t : Replay). fold replay_after t rs) (step-behind base s r) ∙ fold-behind base rs (replay_after s r)
+
+-- the motions, once what then lies in the outlet was taken
+pub ends-behind : (base : ℕ) (s : Replay) → renumbered base s.motions ++ taken_of s.outlet ≡ renumbered base (s.motions ++ taken_of s.outlet)
+ends-behind base s = sym (map-append (renumber base) s.motions (taken_of s.outlet) ∙ ap (λ (l : List Motion). renumbered base s.motions ++ l) (renumbered-taken base s.outlet))

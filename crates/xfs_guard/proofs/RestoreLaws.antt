@@ -1,5 +1,5 @@
--- What a guard is after a restore, and what follows then.
-use Rattle.std.proofs.Common.{◌≡◌, ◌≢◌, ◌⊎◌, inl, inr, ⊎_elim, ℕ, Bool, true, false, true≢false, List, None, Some, Ok, Err, refl}
+-- What a guard is after a restore or a reboot, and what follows then.
+use Rattle.std.proofs.Common.{◌≡◌, ◌≢◌, ◌⊎◌, inl, inr, ⊎_elim, ℕ, ◌+◌, ◌≤◌, Bool, true, false, true≢false, List, [], ◌∷◌, length, length-append, None, Some, Ok, Err, refl, arith}
 use Rattle.std.specs.Prelude.{OnOk, IfErr, ◌||◌, is_some}
 use Rattle.std.specs.declared.option.Option.{Option}
 use Rattle.std.specs.declared.result.Result.{Result}
@@ -16,15 +16,21 @@ use Rattle.xfs_guard.specs.declared.fail.BootFault.TheVariants.{NotJournal, Disk
 use Rattle.xfs_guard.specs.declared.open.Open.{Open}
 use Rattle.xfs_guard.specs.declared.open.Open.TheVariants.{No}
 use Rattle.xfs_guard.specs.Balance.{no_notes}
+use Rattle.xfs_guard.specs.Booting.{IsRebooted, base_then}
 use Rattle.xfs_guard.specs.View.{View, unread, reread}
 use Rattle.xfs_guard.specs.Kept.{IsKept}
 use Rattle.xfs_guard.specs.LedgerView.{LedgerView}
 use Rattle.xfs_guard.specs.Continues.{Continues}
 use Rattle.xfs_guard.proofs.BalanceLaws.{balanced-possible}
-use Rattle.xfs_guard.proofs.BootLaws.{IsKept-boot, IsRecorded-boot}
+use Rattle.xfs_guard.proofs.BootLaws.{base_of-boot, IsKept-boot, IsRecorded-boot}
 use Rattle.xfs_guard.proofs.ContinueLaws.{Continues-grown, only-possible, doubted-possible}
 use Rattle.xfs_guard.proofs.CrashedLaws.{begins-same, begins-push, begins-possible, left-close, left-mount, left-boot, left-boot_doubt}
 use Rattle.xfs_guard.proofs.KeptLaws.{over}
+
+-- no more than the records in front of the boot record are let go of
+pub base_then-within : (b : Bool) (base : ℕ) (records : List Rec) (p : Places) → base ≤ length records → base_then b base (with_boot records p) ≤ length records
+base_then-within true base records p within = let e = base_of-boot records p in omega (arith, e)
+base_then-within false base records p within = within
 
 -- as before, but for the disk
 abbrev pub untouched : {D : Type 0} → LedgerView D → LedgerView D → LedgerView D
@@ -35,52 +41,52 @@ abbrev pub shut_now : {D : Type 0} → LedgerView D → LedgerView D → LedgerV
 shut_now old new = record old { shut = true; disk = new.disk }
 
 -- this list was read, and has its boot record
-abbrev pub booted_now : {D : Type 0} → LedgerView D → LedgerView D → Places → List Rec → LedgerView D
-booted_now old new p records = record old { records = with_boot records p; bound = None; booted = p; loaded = no_notes; shut = false; boot_missing = false; in_doubt = None; room = new.room; disk = new.disk }
+abbrev pub booted_now : {D : Type 0} → Bool → LedgerView D → LedgerView D → Places → List Rec → LedgerView D
+booted_now b old new p records = record old { records = with_boot records p; base = base_then b old.base (with_boot records p); bound = None; booted = p; loaded = no_notes; shut = false; boot_missing = false; in_doubt = None; room = new.room; disk = new.disk }
 
 -- this list was read, and its boot record is missing
-abbrev pub missing_now : {D : Type 0} → LedgerView D → LedgerView D → List Rec → LedgerView D
-missing_now old new records = record old { records = records; bound = None; shut = false; boot_missing = true; in_doubt = None; room = new.room; disk = new.disk }
+abbrev pub missing_now : {D : Type 0} → Bool → LedgerView D → LedgerView D → List Rec → LedgerView D
+missing_now b old new records = record old { records = records; base = base_then b old.base records; bound = None; shut = false; boot_missing = true; in_doubt = None; room = new.room; disk = new.disk }
 
 -- this list was read, and its boot record is in doubt
-abbrev pub doubted_now : {D : Type 0} → LedgerView D → LedgerView D → Places → List Rec → LedgerView D
-doubted_now old new p records = record old { records = records; bound = None; shut = true; in_doubt = Some (boot_of records p); room = new.room; disk = new.disk }
+abbrev pub doubted_now : {D : Type 0} → Bool → LedgerView D → LedgerView D → Places → List Rec → LedgerView D
+doubted_now b old new p records = record old { records = records; base = base_then b old.base records; bound = None; shut = true; in_doubt = Some (boot_of records p); room = new.room; disk = new.disk }
 
 -- what a restore leaves that read this list
-abbrev pub IsReread : {D : Type 0} → LedgerView D → LedgerView D → Places → List Rec → Type 0
-IsReread old new p records = (new ≡ booted_now old new p records) ⊎ ((new ≡ missing_now old new records) ⊎ (new ≡ doubted_now old new p records))
+abbrev pub IsReread : {D : Type 0} → Bool → LedgerView D → LedgerView D → Places → List Rec → Type 0
+IsReread b old new p records = (new ≡ booted_now b old new p records) ⊎ ((new ≡ missing_now b old new records) ⊎ (new ≡ doubted_now b old new p records))
 
 -- what a restore may leave that doesn't want memory
-abbrev pub MayRestore : {D : Type 0} → LedgerView D → LedgerView D → Places → Type 0
-MayRestore old new p = (new ≡ shut_now old new) ⊎ ((records : List Rec) × IsPossible old.records old.in_doubt records × IsReread old new p records)
+abbrev pub MayRestore : {D : Type 0} → Bool → LedgerView D → LedgerView D → Places → Type 0
+MayRestore b old new p = (new ≡ shut_now old new) ⊎ ((records : List Rec) × IsPossible old.records old.in_doubt records × IsReread b old new p records)
 
-pub restored : {T D : Type 0} (res : Result T BootFault) (old new : LedgerView D) (p : Places) (told : Type 0) → res ≢ Err Memory
-    → OnOk res ((records : List Rec) × IsPossible old.records old.in_doubt records × (new ≡ booted_now old new p records))
-    → (res ≡ Err Full → (records : List Rec) × IsPossible old.records old.in_doubt records × (exceeds old.limits (with_boot records p) ≡ true) × (new ≡ missing_now old new records))
-    → (res ≡ Err Disk → (new ≡ shut_now old new) ⊎ ((records : List Rec) × IsPossible old.records old.in_doubt records × (new ≡ doubted_now old new p records)))
+pub restored : {T D : Type 0} (res : Result T BootFault) (b : Bool) (old new : LedgerView D) (p : Places) (told : Type 0) → res ≢ Err Memory
+    → OnOk res ((records : List Rec) × IsPossible old.records old.in_doubt records × (new ≡ booted_now b old new p records))
+    → (res ≡ Err Full → (records : List Rec) × IsPossible old.records old.in_doubt records × (exceeds old.limits (base_then b old.base records) (with_boot records p) ≡ true) × (new ≡ missing_now b old new records))
+    → (res ≡ Err Disk → (new ≡ shut_now old new) ⊎ ((records : List Rec) × IsPossible old.records old.in_doubt records × (new ≡ doubted_now b old new p records)))
     → IfErr res (λ f. (at : ℕ) → f ≡ NotJournal at → told × (new ≡ shut_now old new))
-    → MayRestore old new p
-restored (Ok x) old new p told other ok full disk silent = inr (ok.0, ok.1, inl ok.2)
-restored (Err Memory) old new p told other ok full disk silent = absurd (other refl)
-restored (Err Full) old new p told other ok full disk silent = let f = full refl in inr (f.0, f.1, inr (inl f.3))
-restored (Err Disk) old new p told other ok full disk silent = elim (disk refl) [
+    → MayRestore b old new p
+restored (Ok x) b old new p told other ok full disk silent = inr (ok.0, ok.1, inl ok.2)
+restored (Err Memory) b old new p told other ok full disk silent = absurd (other refl)
+restored (Err Full) b old new p told other ok full disk silent = let f = full refl in inr (f.0, f.1, inr (inl f.3))
+restored (Err Disk) b old new p told other ok full disk silent = elim (disk refl) [
   | inl shut ↦ inl shut
   | inr read ↦ inr (read.0, read.1, inr (inr read.2))
 ]
-restored (Err (NotJournal at)) old new p told other ok full disk silent = inl (silent at refl).1
+restored (Err (NotJournal at)) b old new p told other ok full disk silent = inl (silent at refl).1
 
-pub may-restore : {T D : Type 0} (res : Result T BootFault) (old new : LedgerView D) (p : Places) (told : Type 0)
-    → OnOk res ((records : List Rec) × IsPossible old.records old.in_doubt records × (new ≡ booted_now old new p records))
+pub may-restore : {T D : Type 0} (res : Result T BootFault) (b : Bool) (old new : LedgerView D) (p : Places) (told : Type 0)
+    → OnOk res ((records : List Rec) × IsPossible old.records old.in_doubt records × (new ≡ booted_now b old new p records))
     → (res ≡ Err Memory → new ≡ untouched old new)
-    → (res ≡ Err Full → (records : List Rec) × IsPossible old.records old.in_doubt records × (exceeds old.limits (with_boot records p) ≡ true) × (new ≡ missing_now old new records))
-    → (res ≡ Err Disk → (new ≡ shut_now old new) ⊎ ((records : List Rec) × IsPossible old.records old.in_doubt records × (new ≡ doubted_now old new p records)))
+    → (res ≡ Err Full → (records : List Rec) × IsPossible old.records old.in_doubt records × (exceeds old.limits (base_then b old.base records) (with_boot records p) ≡ true) × (new ≡ missing_now b old new records))
+    → (res ≡ Err Disk → (new ≡ shut_now old new) ⊎ ((records : List Rec) × IsPossible old.records old.in_doubt records × (new ≡ doubted_now b old new p records)))
     → IfErr res (λ f. (at : ℕ) → f ≡ NotJournal at → told × (new ≡ shut_now old new))
-    → (new ≡ untouched old new) ⊎ MayRestore old new p
-may-restore (Err Memory) old new p told ok memory full disk silent = inl (memory refl)
-may-restore (Ok x) old new p told ok memory full disk silent = inr (restored (Ok x) old new p told (λ e. cc) ok full disk silent)
-may-restore (Err Full) old new p told ok memory full disk silent = inr (restored {T = Unit {0}} (Err Full) old new p told (λ e. cc) tt (λ e. full refl) (λ e. cc) (λ at e. cc))
-may-restore (Err Disk) old new p told ok memory full disk silent = inr (restored {T = Unit {0}} (Err Disk) old new p told (λ e. cc) tt (λ e. cc) (λ e. disk refl) (λ at e. cc))
-may-restore (Err (NotJournal at)) old new p told ok memory full disk silent = inr (restored {T = Unit {0}} (Err (NotJournal at)) old new p told (λ e. cc) tt (λ e. cc) (λ e. cc) silent)
+    → (new ≡ untouched old new) ⊎ MayRestore b old new p
+may-restore (Err Memory) b old new p told ok memory full disk silent = inl (memory refl)
+may-restore (Ok x) b old new p told ok memory full disk silent = inr (restored (Ok x) b old new p told (λ e. cc) ok full disk silent)
+may-restore (Err Full) b old new p told ok memory full disk silent = inr (restored {T = Unit {0}} (Err Full) b old new p told (λ e. cc) tt (λ e. full refl) (λ e. cc) (λ at e. cc))
+may-restore (Err Disk) b old new p told ok memory full disk silent = inr (restored {T = Unit {0}} (Err Disk) b old new p told (λ e. cc) tt (λ e. cc) (λ e. disk refl) (λ at e. cc))
+may-restore (Err (NotJournal at)) b old new p told ok memory full disk silent = inr (restored {T = Unit {0}} (Err (NotJournal at)) b old new p told (λ e. cc) tt (λ e. cc) (λ e. cc) silent)
 
 -- a restore that wants memory leaves what a guard is
 pub IsKept-untouched : {D : Type 0} (key seed : List ℕ) (o : Open) (motions : Option (List Motion)) (places : Places) (faults : ℕ) (old new : LedgerView D) (was told : Bool) (spare : ℕ) (kinds : List NoteKind)
@@ -102,8 +108,9 @@ IsKept-unread v spare was left kinds kept = record {
 }
 
 -- the journal was read again, and its boot record is missing
-pub IsKept-reread : (v : View) (records : List Rec) (spare was left : ℕ) (kinds : List NoteKind) → IsPossible v.records v.in_doubt records → IsKept v spare was kinds → IsKept (reread v records) spare left kinds
-IsKept-reread v records spare was left kinds possible kept = record {
+pub IsKept-reread : (v : View) (records : List Rec) (base spare was left : ℕ) (kinds : List NoteKind) → IsPossible v.records v.in_doubt records → IsKept v spare was kinds
+    → IsKept (record (reread v records) { base = base }) spare left kinds
+IsKept-reread v records base spare was left kinds possible kept = record {
   sound = λ e m. absurd (true≢false m);
   clean = λ e. refl;
   balanced = balanced-possible v.records v.in_doubt records v.booted v.loaded v.places possible kept.balanced;
@@ -116,9 +123,9 @@ IsKept-reread v records spare was left kinds possible kept = record {
 }
 
 -- the journal was read again, and its boot record is in doubt
-pub IsKept-unbooted : (v : View) (records : List Rec) (p : Places) (spare was left : ℕ) (kinds : List NoteKind) → IsPossible v.records v.in_doubt records → IsKept v spare was kinds
-    → IsKept (record (reread v records) { shut = true; boot_missing = v.boot_missing; in_doubt = Some (boot_of records p) }) spare left kinds
-IsKept-unbooted v records p spare was left kinds possible kept = record {
+pub IsKept-unbooted : (v : View) (records : List Rec) (p : Places) (base spare was left : ℕ) (kinds : List NoteKind) → IsPossible v.records v.in_doubt records → IsKept v spare was kinds
+    → IsKept (record (reread v records) { base = base; shut = true; boot_missing = v.boot_missing; in_doubt = Some (boot_of records p) }) spare left kinds
+IsKept-unbooted v records p base spare was left kinds possible kept = record {
   sound = λ e m. absurd (true≢false e);
   clean = λ e. absurd (true≢false e);
   balanced = balanced-possible v.records v.in_doubt records v.booted v.loaded v.places possible kept.balanced;
@@ -131,34 +138,39 @@ IsKept-unbooted v records p spare was left kinds possible kept = record {
 }
 
 -- what a guard is after a restore that doesn't want memory
-pub IsKept-restored : {D : Type 0} (key seed : List ℕ) (o : Open) (motions : Option (List Motion)) (places : Places) (faults : ℕ) (old new : LedgerView D) (p : Places) (was told : Bool) (spare room left : ℕ) (kinds : List NoteKind)
-    → MayRestore old new p → p ≡ places → told ≡ was → IsKept (over key seed o motions places faults old was) spare room kinds → IsKept (over key seed No motions places faults new told) spare left kinds
-IsKept-restored key seed o motions places faults old new p was told spare room left kinds (inl is) there same kept =
+pub IsKept-restored : {D : Type 0} (key seed : List ℕ) (o : Open) (motions : Option (List Motion)) (places : Places) (faults : ℕ) (b : Bool) (old new : LedgerView D) (p : Places) (was told : Bool) (spare room left : ℕ) (kinds : List NoteKind)
+    → MayRestore b old new p → p ≡ places → told ≡ was → IsKept (over key seed o motions places faults old was) spare room kinds → IsKept (over key seed No motions places faults new told) spare left kinds
+IsKept-restored key seed o motions places faults b old new p was told spare room left kinds (inl is) there same kept =
     rw (is, same) (IsKept-unread (over key seed o motions places faults old was) spare room left kinds kept)
-IsKept-restored key seed o motions places faults old new p was told spare room left kinds (inr (records, possible, inl is)) there same kept =
-    rw (is, same) (IsKept-boot (over key seed o motions places faults old was) records p spare left kinds there (λ t. kept.recorded t records possible) kept.units)
-IsKept-restored key seed o motions places faults old new p was told spare room left kinds (inr (records, possible, inr (inl is))) there same kept =
-    rw (is, same) (IsKept-reread (over key seed o motions places faults old was) records spare room left kinds possible kept)
-IsKept-restored key seed o motions places faults old new p was told spare room left kinds (inr (records, possible, inr (inr is))) there same kept =
-    rw (is, same) (IsKept-unbooted (over key seed o motions places faults old was) records p spare room left kinds possible kept)
+IsKept-restored key seed o motions places faults b old new p was told spare room left kinds (inr (records, possible, inl is)) there same kept =
+    rw (is, same) (IsKept-boot (record (over key seed o motions places faults old was) { base = base_then b old.base (with_boot records p) }) records p spare left kinds there (λ t. kept.recorded t records possible) kept.units)
+IsKept-restored key seed o motions places faults b old new p was told spare room left kinds (inr (records, possible, inr (inl is))) there same kept =
+    rw (is, same) (IsKept-reread (over key seed o motions places faults old was) records (base_then b old.base records) spare room left kinds possible kept)
+IsKept-restored key seed o motions places faults b old new p was told spare room left kinds (inr (records, possible, inr (inr is))) there same kept =
+    rw (is, same) (IsKept-unbooted (over key seed o motions places faults old was) records p (base_then b old.base records) spare room left kinds possible kept)
 
 -- what follows then: the boot record, which has the places, comes behind a possible list, or nothing does
-pub Continues-restored : {D : Type 0} (key seed : List ℕ) (o o' : Open) (motions : Option (List Motion)) (places : Places) (faults : ℕ) (old new : LedgerView D) (was told : Bool)
-    → told ≡ was → (new ≡ untouched old new) ⊎ MayRestore old new places → Continues (over key seed o motions places faults old was) (over key seed o' motions places faults new told)
-Continues-restored key seed o o' motions places faults old new was told same (inl is) =
+pub Continues-restored : {D : Type 0} (key seed : List ℕ) (o o' : Open) (motions : Option (List Motion)) (places : Places) (faults : ℕ) (b : Bool) (old new : LedgerView D) (was told : Bool)
+    → told ≡ was → (new ≡ untouched old new) ⊎ MayRestore b old new places → Continues (over key seed o motions places faults old was) (over key seed o' motions places faults new told)
+Continues-restored key seed o o' motions places faults b old new was told same (inl is) =
     rw is (Continues-grown _ _ Clear (λ q e. cc) refl refl refl refl refl same refl (λ later possible. inl possible) (begins-same old.records) (λ X left. left))
-Continues-restored key seed o o' motions places faults old new was told same (inr (inl is)) =
+Continues-restored key seed o o' motions places faults b old new was told same (inr (inl is)) =
     rw is (Continues-grown _ _ Clear (λ q e. cc) refl refl refl refl refl same refl (λ later possible. inl possible) (begins-same old.records) (λ X left. left-close old.records old.in_doubt (old.shut || old.boot_missing) X left))
-Continues-restored key seed o o' motions places faults old new was told same (inr (inr (records, found, inl is))) =
+Continues-restored key seed o o' motions places faults b old new was told same (inr (inr (records, found, inl is))) =
     rw is (Continues-grown _ _ (boot_of records places) (boot_of-only records places) refl refl refl refl refl same refl (λ later possible. inr (records, found, only-possible (with_boot records places) later None refl possible))
     (begins-push old.records records (boot_of records places) (begins-possible old.records old.in_doubt records found))
     (λ X left. left-boot records places false X (left-mount old.records old.in_doubt (old.shut || old.boot_missing) records X found left)))
-Continues-restored key seed o o' motions places faults old new was told same (inr (inr (records, found, inr (inl is)))) =
+Continues-restored key seed o o' motions places faults b old new was told same (inr (inr (records, found, inr (inl is)))) =
     rw is (Continues-grown _ _ (boot_of records places) (boot_of-only records places) refl refl refl refl refl same refl (λ later possible. inl (rw (only-possible records later None refl possible) found))
     (begins-possible old.records old.in_doubt records found) (λ X left. left-mount old.records old.in_doubt (old.shut || old.boot_missing) records X found left))
-Continues-restored key seed o o' motions places faults old new was told same (inr (inr (records, found, inr (inr is)))) =
+Continues-restored key seed o o' motions places faults b old new was told same (inr (inr (records, found, inr (inr is)))) =
     rw is (Continues-grown _ _ (boot_of records places) (boot_of-only records places) refl refl refl refl refl same refl (λ later possible. ⊎_elim (λ same. inl (rw same found)) (λ more. inr (records, found, more)) (doubted-possible records later (boot_of records places) possible))
     (begins-possible old.records old.in_doubt records found) (λ X left. left-boot_doubt records places X (left-mount old.records old.in_doubt (old.shut || old.boot_missing) records X found left)))
+
+-- the boot record is the last one, and all that is in memory
+pub rebooted-alone : {T : Type 0} (result : Result T BootFault) (old new : View) → OnOk result (IsRebooted old new) → OnOk result (new.base + 1 ≡ length new.records)
+rebooted-alone (Ok x) old new is = rw is.2 (let e = base_of-boot is.0 old.places in let n = length-append is.0 (boot_of is.0 old.places ∷ []) in omega (arith, e, n))
+rebooted-alone (Err f) old new is = tt
 
 -- a disk that is refused as no journal tells nothing
 pub untold-refused : {T : Type 0} (Claim : Type 0) (result : Result T BootFault) (held : Option (List ℕ)) → IfErr result (λ f. (at : ℕ) → f ≡ NotJournal at → (held ≡ None) × Claim)

@@ -56,13 +56,13 @@ fit-parts v e = go v.shut v.boot_missing (is_short v) e
     go false false false e = (refl, refl, refl)
 
 -- it takes one more record of up to 1,025 bytes
-pub takes-one : (limits : Limits) (records : List Rec) (r : Rec) → (nat_lt (limits.records - length records) 3 || nat_lt (limits.bytes - size records) 2048) ≡ false → length (body r) ≤ 1025 → exceeds limits (records ++ r ∷ []) ≡ false
-takes-one limits records r free short =
-    let parts = neither (nat_lt (limits.records - length records) 3) (nat_lt (limits.bytes - size records) 2048) free in
-    let many = ltb-false (limits.records - length records) 3 parts.0 in
+pub takes-one : (limits : Limits) (base : ℕ) (records : List Rec) (r : Rec) → (nat_lt (limits.records - (length records - base)) 3 || nat_lt (limits.bytes - size records) 2048) ≡ false → length (body r) ≤ 1025 → exceeds limits base (records ++ r ∷ []) ≡ false
+takes-one limits base records r free short =
+    let parts = neither (nat_lt (limits.records - (length records - base)) 3) (nat_lt (limits.bytes - size records) 2048) free in
+    let many = ltb-false (limits.records - (length records - base)) 3 parts.0 in
     let bytes = ltb-false (limits.bytes - size records) 2048 parts.1 in
-    both (nat_lt limits.records (length (records ++ r ∷ []))) (nat_lt limits.bytes (size (records ++ r ∷ [])))
-    (not-under limits.records (length (records ++ r ∷ [])) (omega (arith, many, length-append records (r ∷ []))))
+    both (nat_lt limits.records (length (records ++ r ∷ []) - base)) (nat_lt limits.bytes (size (records ++ r ∷ [])))
+    (not-under limits.records (length (records ++ r ∷ []) - base) (omega (arith, many, length-append records (r ∷ []))))
     (not-under limits.bytes (size (records ++ r ∷ [])) (omega (arith, bytes, size-longer records r, short)))
 
 -- the same of a guard's view that stands for another
@@ -70,8 +70,8 @@ pub fit-at : {D : Type 0} (a b : GuardView D) → a ≡ b → unfit b.state ≡ 
 fit-at a b e fit = fit-parts a.state (rw e fit)
 
 -- a ledger that is open and takes one more record refuses none
-pub may-write : {D : Type 0} (l : LedgerView D) (r : Rec) → l.shut ≡ false → l.boot_missing ≡ false → exceeds l.limits (l.records ++ r ∷ []) ≡ false → write_refusal l r ≡ None
-may-write l r e m f = go l.shut l.boot_missing (exceeds l.limits (l.records ++ r ∷ [])) e m f
+pub may-write : {D : Type 0} (l : LedgerView D) (r : Rec) → l.shut ≡ false → l.boot_missing ≡ false → exceeds l.limits l.base (l.records ++ r ∷ []) ≡ false → write_refusal l r ≡ None
+may-write l r e m f = go l.shut l.boot_missing (exceeds l.limits l.base (l.records ++ r ∷ [])) e m f
   where
     go : (s b p : Bool) → s ≡ false → b ≡ false → p ≡ false → (if s then Some Deny.Shut else if b then Some Deny.Full else if p then Some Deny.Full else None) ≡ None
     go true b p e m f = cc
@@ -81,7 +81,7 @@ may-write l r e m f = go l.shut l.boot_missing (exceeds l.limits (l.records ++ r
 
 -- a ledger that refuses no record is open
 pub write-open : {D : Type 0} (a b : LedgerView D) (r : Rec) → a ≡ b → write_refusal b r ≡ None → (a.shut ≡ false) × (a.boot_missing ≡ false)
-write-open a b r same none = go a.shut a.boot_missing (exceeds a.limits (a.records ++ r ∷ [])) (rw same none)
+write-open a b r same none = go a.shut a.boot_missing (exceeds a.limits a.base (a.records ++ r ∷ [])) (rw same none)
   where
     go : (s m p : Bool) → (if s then Some Deny.Shut else if m then Some Deny.Full else if p then Some Deny.Full else None) ≡ None → (s ≡ false) × (m ≡ false)
     go true m p e = cc
@@ -95,17 +95,17 @@ done-short : (m d : Counts) → length m.0 ≡ 8 → length d.0 ≡ 8 → length
 done-short m d e f = omega (arith, length-append (counts_bytes m) (counts_bytes d), length-numbers m.0, length-numbers d.0, e, f)
 
 -- the limits leave an open order its Done
-pub takes-done : (limits : Limits) (records : List Rec) (m d : Counts) → length m.0 ≡ 8 → length d.0 ≡ 8 → (length records + 1 ≤ limits.records) × (size records + 68 ≤ limits.bytes) → exceeds limits (records ++ Done m d ∷ []) ≡ false
-takes-done limits records m d e f room =
-    both (nat_lt limits.records (length (records ++ Done m d ∷ []))) (nat_lt limits.bytes (size (records ++ Done m d ∷ [])))
-    (not-under limits.records (length (records ++ Done m d ∷ [])) (omega (arith, room.0, length-append records (Done m d ∷ []))))
+pub takes-done : (limits : Limits) (base : ℕ) (records : List Rec) (m d : Counts) → length m.0 ≡ 8 → length d.0 ≡ 8 → (length records - base + 1 ≤ limits.records) × (size records + 68 ≤ limits.bytes) → exceeds limits base (records ++ Done m d ∷ []) ≡ false
+takes-done limits base records m d e f room =
+    both (nat_lt limits.records (length (records ++ Done m d ∷ []) - base)) (nat_lt limits.bytes (size (records ++ Done m d ∷ [])))
+    (not-under limits.records (length (records ++ Done m d ∷ []) - base) (omega (arith, room.0, length-append records (Done m d ∷ []))))
     (not-under limits.bytes (size (records ++ Done m d ∷ [])) (omega (arith, room.1, size-longer records (Done m d), done-short m d e f)))
 
 -- a journal that is not full leaves an order room for its Done
-pub leaves-done : (limits : Limits) (records : List Rec) (k : Kind) (c : Counts) → (nat_lt (limits.records - length records) 3 || nat_lt (limits.bytes - size records) 2048) ≡ false → length c.0 ≡ 8
-    → (length (records ++ Order k c ∷ []) + 1 ≤ limits.records) × (size (records ++ Order k c ∷ []) + 68 ≤ limits.bytes)
-leaves-done limits records k c free e =
-    let parts = neither (nat_lt (limits.records - length records) 3) (nat_lt (limits.bytes - size records) 2048) free in
-    let many = ltb-false (limits.records - length records) 3 parts.0 in
+pub leaves-done : (limits : Limits) (base : ℕ) (records : List Rec) (k : Kind) (c : Counts) → (nat_lt (limits.records - (length records - base)) 3 || nat_lt (limits.bytes - size records) 2048) ≡ false → length c.0 ≡ 8
+    → (length (records ++ Order k c ∷ []) - base + 1 ≤ limits.records) × (size (records ++ Order k c ∷ []) + 68 ≤ limits.bytes)
+leaves-done limits base records k c free e =
+    let parts = neither (nat_lt (limits.records - (length records - base)) 3) (nat_lt (limits.bytes - size records) 2048) free in
+    let many = ltb-false (limits.records - (length records - base)) 3 parts.0 in
     let bytes = ltb-false (limits.bytes - size records) 2048 parts.1 in
     (omega (arith, many, length-append records (Order k c ∷ [])), omega (arith, bytes, size-longer records (Order k c), order-short k c e))

@@ -1,5 +1,5 @@
--- What a boot finds on a disk and leaves there, and what a restore makes of a guard.
-use Rattle.std.specs.Prelude.{◌≡◌, ◌⊎◌, ℕ, true, List, is_some, None}
+-- What a boot finds on a disk and leaves there, and what a restore and a reboot make of a guard.
+use Rattle.std.specs.Prelude.{◌≡◌, ◌⊎◌, ℕ, Bool, true, false, if◌then◌else◌, List, is_some, None}
 use Rattle.std.specs.declared.option.Option.{Option}
 use Rattle.xfs_base.specs.Causes.{IfTold}
 use Rattle.xfs_base.specs.declared.counts.Places.{Places}
@@ -12,18 +12,26 @@ use Rattle.xfs_journal.specs.JournalView.{exceeds, IsButForEighth, IsPossible, S
 use Rattle.xfs_journal.specs.Paging.{IsOldOrShort, IsQuiet}
 use Rattle.xfs_journal.specs.declared.limits.Limits.{Limits}
 use Rattle.xfs_journal.specs.declared.record.Rec.{Rec}
-use Rattle.xfs_journal.specs.Journal.{boot_of, with_boot}
+use Rattle.xfs_journal.specs.Journal.{base_of, boot_of, with_boot}
 use Rattle.xfs_guard.specs.Recorded.{IsRecorded}
 use Rattle.xfs_guard.specs.Stored.{MayLeave}
-use Rattle.xfs_guard.specs.View.{View, reread, restarted, unbooted, unread}
+use Rattle.xfs_guard.specs.View.{View, reread, rebooted, restarted, unbooted, unread}
 
 -- the disk has this list of records, where it tells
 abbrev pub IsFound : Option (List ℕ) → (List Rec → Type 0) → Type 0
 IsFound held Then = (records : List Rec) × IfTold held (λ all. StandsFor all records) × Then records
 
+-- a boot, which keeps the records from the last boot record on, finds no room behind them for one of these places
+abbrev pub has_no_room_at_boot : Limits → List Rec → Places → Bool
+has_no_room_at_boot limits records places = exceeds limits (base_of records) (with_boot records places)
+
+-- these are the records that the disk has, with a boot record of these places, for which there was room
+abbrev pub HadRoom : Option (List ℕ) → Limits → Places → List Rec → Type 0
+HadRoom held limits places now = IsFound held (λ records. (now ≡ with_boot records places) × (has_no_room_at_boot limits records places ≡ false))
+
 -- the disk has a list of records, and no room behind it for a boot record of these places
 abbrev pub LacksRoom : Option (List ℕ) → Limits → Places → Type 0
-LacksRoom held limits places = IsFound held (λ records. exceeds limits (with_boot records places) ≡ true)
+LacksRoom held limits places = IsFound held (λ records. has_no_room_at_boot limits records places ≡ true)
 
 -- each list that a crash may leave agrees with the mechanism's list
 abbrev pub LeavesRecorded : {D : Type 0} → Ghosts D → D → List ℕ → List NoteKind → Option (List Motion) → Type 0
@@ -61,11 +69,49 @@ IsRestored old new = (records : List Rec) × IsPossible old.records old.in_doubt
 -- a possible list was read again, and there is no room for its boot record
 abbrev pub IsUnrestored : View → View → Type 0
 IsUnrestored old new = (records : List Rec) × IsPossible old.records old.in_doubt records
-    × (exceeds old.limits (with_boot records old.places) ≡ true) × (new ≡ reread old records)
+    × (exceeds old.limits old.base (with_boot records old.places) ≡ true) × (new ≡ reread old records)
 
 -- a possible list was read again, and the disk failed at its boot record
 abbrev pub IsUnbooted : View → View → Type 0
 IsUnbooted old new = (records : List Rec) × IsPossible old.records old.in_doubt records × (new ≡ unbooted old records)
+
+-- a possible list of the journal was read again, and has its boot record, which alone is in memory
+abbrev pub IsRebooted : View → View → Type 0
+IsRebooted old new = (records : List Rec) × IsPossible old.records old.in_doubt records × (new ≡ rebooted old records)
+
+-- a possible list was read again, memory has it from its last boot record on, and there is no room behind that for another
+abbrev pub IsUnrebooted : View → View → Type 0
+IsUnrebooted old new = (records : List Rec) × IsPossible old.records old.in_doubt records
+    × (has_no_room_at_boot old.limits records old.places ≡ true) × (new ≡ record (reread old records) { base = base_of records })
+
+-- a possible list was read again, memory has it from its last boot record on, and the disk failed at another
+abbrev pub IsUnstarted : View → View → Type 0
+IsUnstarted old new = (records : List Rec) × IsPossible old.records old.in_doubt records × (new ≡ record (unbooted old records) { base = base_of records })
+
+-- how many of the records memory doesn't have once they are read again: a reboot rebases, and a restore has as many as before
+abbrev pub base_then : Bool → ℕ → List Rec → ℕ
+base_then rebases base records = if rebases then base_of records else base
+
+-- these are the records that the disk has, with a boot record of these places, for which a restore or a reboot had room
+abbrev pub HadRoomThen : Bool → ℕ → Option (List ℕ) → Limits → Places → List Rec → Type 0
+HadRoomThen rebases base held limits places now = IsFound held (λ records.
+    (now ≡ with_boot records places) × (exceeds limits (base_then rebases base records) (with_boot records places) ≡ false))
+
+-- a restore or a reboot read a possible list again, and gave it its boot record
+abbrev pub IsRestoredThen : Bool → View → View → Type 0
+IsRestoredThen rebases old new = (records : List Rec) × IsPossible old.records old.in_doubt records
+    × (new ≡ record (restarted old records) { base = base_then rebases old.base (with_boot records old.places) })
+
+-- it found no room for the boot record
+abbrev pub IsUnrestoredThen : Bool → View → View → Type 0
+IsUnrestoredThen rebases old new = (records : List Rec) × IsPossible old.records old.in_doubt records
+    × (exceeds old.limits (base_then rebases old.base records) (with_boot records old.places) ≡ true)
+    × (new ≡ record (reread old records) { base = base_then rebases old.base records })
+
+-- the disk failed at the boot record
+abbrev pub IsUnbootedThen : Bool → View → View → Type 0
+IsUnbootedThen rebases old new = (records : List Rec) × IsPossible old.records old.in_doubt records
+    × (new ≡ record (unbooted old records) { base = base_then rebases old.base records })
 
 -- the journal was not read, and is shut
 abbrev pub IsUnread : View → View → Type 0

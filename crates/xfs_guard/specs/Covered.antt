@@ -1,5 +1,5 @@
 -- What a dispense must be so that nothing stands against it, and a present behind it.
-use Rattle.std.specs.Prelude.{◌≡◌, ◌≤◌, ◌⊎◌, ◌+◌, ℕ, false, List, length, sum, Some, None}
+use Rattle.std.specs.Prelude.{◌≡◌, ◌≤◌, ◌⊎◌, ◌+◌, ◌-◌, ℕ, false, List, length, sum, Some, None}
 use Rattle.xfs_base.specs.Counts.{at, LiesIn}
 use Rattle.xfs_base.specs.Money.{value}
 use Rattle.xfs_base.specs.declared.counts.Counts.{Counts as CountsOf}
@@ -13,11 +13,11 @@ use Rattle.xfs_guard.specs.Refusals.{bound_token}
 use Rattle.xfs_guard.specs.declared.fit.TheConstants.{LEAST_BYTES, LEAST_RECORDS}
 use Rattle.xfs_guard.specs.declared.nonce.Nonce.{Nonce}
 
--- the journal is open, its boot record isn't missing, and so many records and bytes are left of its limits
+-- the journal is open, its boot record isn't missing, and so many records and bytes are left of its limits, which count the records that memory has and the bytes of the file
 pub record HasSpace (v : View) (many long : ℕ) : Type 0 where
   pub open_still : v.shut ≡ false
   pub booted : v.boot_missing ≡ false
-  pub records : length v.records + many ≤ v.limits.records
+  pub records : length v.records - v.base + many ≤ v.limits.records
   pub bytes : size v.records + long ≤ v.limits.bytes
 
 -- the bytes are of a genuine token with the live nonce and these amounts

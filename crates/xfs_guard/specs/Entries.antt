@@ -8,7 +8,7 @@ use Rattle.xfs_mech.specs.declared.mechanism.Mechanism.{Ghosts as Mechanisms}
 use Rattle.xfs_mech.specs.declared.motion.Motion.{Motion}
 use Rattle.xfs_journal.specs.declared.limits.Limits.{Limits}
 use Rattle.xfs_journal.specs.declared.record.Rec.{Rec}
-use Rattle.xfs_journal.specs.Journal.{with_boot}
+use Rattle.xfs_journal.specs.Journal.{base_of, with_boot}
 use Rattle.xfs_guard.specs.Balance.{no_notes}
 use Rattle.xfs_guard.specs.Booting.{IsFound}
 use Rattle.xfs_guard.specs.View.{View}
@@ -45,13 +45,14 @@ entry_of m d mech disk key seed units limits = record {
 abbrev pub at_entry : {M D : Type 0} → Mechanisms M → Disks D → Core M D → AtEntry
 at_entry m d core = entry_of m d core.mech core.disk core.key core.seed core.units core.limits
 
--- the guard of a boot whose journal has these records then
+-- the guard of a boot whose journal has these records then: memory has those from its own boot record on
 abbrev pub opened : AtEntry → List Rec → View
 opened e records = record {
   key = e.key;
   seed = e.seed;
   units = e.units;
   records = records;
+  base = base_of records;
   bound = None;
   open_order = No;
   motions = e.motions;

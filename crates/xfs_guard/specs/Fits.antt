@@ -7,9 +7,9 @@ use Rattle.xfs_guard.specs.declared.fit.Fit.{Fit}
 use Rattle.xfs_guard.specs.declared.fit.TheConstants.{LEAST_BYTES, LEAST_RECORDS}
 use Rattle.xfs_guard.specs.View.{View}
 
--- too little is left of the limits
+-- too little is left of the limits: of the records those that memory has count, of the bytes those of the file
 abbrev pub is_short : View → Bool
-is_short v = nat_lt (v.limits.records - length v.records) LEAST_RECORDS || nat_lt (v.limits.bytes - size v.records) LEAST_BYTES
+is_short v = nat_lt (v.limits.records - (length v.records - v.base)) LEAST_RECORDS || nat_lt (v.limits.bytes - size v.records) LEAST_BYTES
 
 abbrev pub is_full : View → Bool
 is_full v = v.boot_missing || is_short v

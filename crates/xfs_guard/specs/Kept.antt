@@ -1,5 +1,5 @@
 -- What stands in a guard beside what is seen of it.
-use Rattle.std.specs.Prelude.{◌≡◌, ℕ, ◌+◌, ◌<◌, ◌≤◌, true, false, List, [], ◌∷◌, ◌++◌, None, length, ⊤}
+use Rattle.std.specs.Prelude.{◌≡◌, ℕ, ◌+◌, ◌-◌, ◌<◌, ◌≤◌, true, false, List, [], ◌∷◌, ◌++◌, None, length, ⊤}
 use Rattle.xfs_base.specs.declared.money.NoteKind.{NoteKind}
 use Rattle.xfs_journal.specs.Image.{size}
 use Rattle.xfs_journal.specs.JournalView.{IsPossible, exceeds}
@@ -18,11 +18,11 @@ HasRoom No spare room = ⊤
 HasRoom (Written kind counts) spare room = (0 < spare) × (0 < room)
 HasRoom (Acted kind moved diverted failed) spare room = 0 < room
 
--- the limits leave a written order its Done, which has 68 bytes with its gate, and an acted one the Done that it gets
+-- the limits, which count the records that memory has and the bytes of the file, leave a written order its Done, which has 68 bytes with its gate, and an acted one the Done that it gets
 abbrev pub HasLimits : Open → View → Type 0
 HasLimits No v = ⊤
-HasLimits (Written kind counts) v = (length v.records + 1 ≤ v.limits.records) × (size v.records + 68 ≤ v.limits.bytes)
-HasLimits (Acted kind moved diverted failed) v = exceeds v.limits (v.records ++ Done moved diverted ∷ []) ≡ false
+HasLimits (Written kind counts) v = (length v.records - v.base + 1 ≤ v.limits.records) × (size v.records + 68 ≤ v.limits.bytes)
+HasLimits (Acted kind moved diverted failed) v = exceeds v.limits v.base (v.records ++ Done moved diverted ∷ []) ≡ false
 
 -- What a guard is: sound while its journal isn't shut and has its boot record, with room to carry its order through, over a mechanism of its units, whose notes balance with the last boot record. Each list that the disk may have agrees with the mechanism's, where both are told.
 pub record IsKept (v : View) (spare left : ℕ) (kinds : List NoteKind) : Type 0 where

@@ -1,5 +1,5 @@
 -- What a ledger keeps beside its records.
-use Rattle.std.specs.Prelude.{◌≡◌, ℕ, ◌+◌, ◌≤◌, Bool, false, List, length, slice_get, slice_index, Some, None, ⊤}
+use Rattle.std.specs.Prelude.{◌≡◌, ℕ, ◌+◌, ◌<◌, ◌≤◌, Bool, false, List, length, slice_get, slice_index, Some, None, ⊤}
 use Rattle.std.specs.declared.option.Option.{Option}
 use Rattle.std.specs.Option.{option_map}
 use Rattle.xfs_base.specs.declared.money.NoteKind.{NoteKind}
@@ -38,20 +38,27 @@ IsBound units records (Some live) (Some b) = IsBind units records live.number b
 abbrev pub amounts_kept : Option Bound → Option (List (List ℕ × ℕ))
 amounts_kept bound = option_map (λ (b : Bound). b.amounts) bound
 
+-- memory has the record of the bind
+abbrev pub IsBehind : ℕ → Option Bound → Type 0
+IsBehind base None = ⊤
+IsBehind base (Some b) = base < b.number
+
 -- what is kept beside the records is what is read of them
-pub record IsRead (records : List Rec) (units : List NoteKind) (issues mark : ℕ) (live : Option Live) (bound : Option Bound) : Type 0 where
+pub record IsRead (records : List Rec) (base : ℕ) (units : List NoteKind) (issues mark : ℕ) (live : Option Live) (bound : Option Bound) : Type 0 where
   pub issued : issues + 1 ≡ next_issue records
-  pub few : issues ≤ length records
+  pub few : issues < length records
+  pub within : base ≤ length records
   pub marked : mark ≡ last_mark records
   pub lives : IsLive records live
   pub binds : IsBound units records live bound
+  pub behind : IsBehind base bound
 
 -- where the record in doubt is an issue, its nonce is kept
 abbrev pub IsDoubted : Option Rec → Option Nonce → Type 0
 IsDoubted in_doubt doubted = (n : Nonce) → nonce_of in_doubt ≡ Some n → doubted ≡ Some n
 
 -- all of it is so while the journal is open and has its boot record, and the live issue also while it is shut
-pub record KeepsLedger (records : List Rec) (in_doubt : Option Rec) (shut boot_missing : Bool) (units : List NoteKind) (issues mark : ℕ) (live : Option Live) (bound : Option Bound) (doubted : Option Nonce) : Type 0 where
-  pub read : shut ≡ false → boot_missing ≡ false → IsRead records units issues mark live bound
+pub record KeepsLedger (records : List Rec) (base : ℕ) (in_doubt : Option Rec) (shut boot_missing : Bool) (units : List NoteKind) (issues mark : ℕ) (live : Option Live) (bound : Option Bound) (doubted : Option Nonce) : Type 0 where
+  pub read : shut ≡ false → boot_missing ≡ false → IsRead records base units issues mark live bound
   pub lives : boot_missing ≡ false → IsLive records live
   pub doubts : IsDoubted in_doubt doubted

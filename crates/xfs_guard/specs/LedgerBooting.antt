@@ -1,5 +1,5 @@
--- What a restore makes of a ledger, and what an append makes of its journal.
-use Rattle.std.specs.Prelude.{◌≡◌, ◌⊎◌, ℕ, ◌+◌, ◌<◌, ◌^◌, true, false, List, [], ◌∷◌, ◌++◌, ◌||◌, Some, None}
+-- What a restore or a reboot, which rebases, makes of a ledger, and what an append makes of its journal.
+use Rattle.std.specs.Prelude.{◌≡◌, ◌⊎◌, ℕ, ◌+◌, ◌<◌, ◌^◌, Bool, true, false, List, [], ◌∷◌, ◌++◌, ◌||◌, Some, None}
 use Rattle.xfs_base.specs.Causes.{IfTold, Rose}
 use Rattle.xfs_base.specs.Money.{value}
 use Rattle.xfs_base.specs.declared.counts.Counts.{Counts}
@@ -12,14 +12,16 @@ use Rattle.xfs_journal.specs.Journal.{boot_of, with_boot}
 use Rattle.xfs_journal.specs.JournalView.{JournalView, exceeds, IsPossible, StandsForEither}
 use Rattle.xfs_journal.specs.declared.record.Rec.{Rec}
 use Rattle.xfs_guard.specs.Balance.{no_notes}
+use Rattle.xfs_guard.specs.Booting.{base_then}
 use Rattle.xfs_guard.specs.Crashed.{IsCrashOutcome, StandsReread}
 use Rattle.xfs_guard.specs.LedgerView.{LedgerView}
 use Rattle.xfs_guard.specs.Presented.{presented_in}
 
 -- a possible list of the journal was read again, and has a boot record of these places behind it, since which nothing was loaded
-abbrev pub IsBootedNow : {D : Type 0} → LedgerView D → LedgerView D → Places → Type 0
-IsBootedNow old new places = (records : List Rec) × IsPossible old.records old.in_doubt records × (new ≡ record old {
+abbrev pub IsBootedNow : {D : Type 0} → Bool → LedgerView D → LedgerView D → Places → Type 0
+IsBootedNow rebases old new places = (records : List Rec) × IsPossible old.records old.in_doubt records × (new ≡ record old {
   records = with_boot records places;
+  base = base_then rebases old.base (with_boot records places);
   bound = None;
   booted = places;
   loaded = no_notes;
@@ -31,21 +33,24 @@ IsBootedNow old new places = (records : List Rec) × IsPossible old.records old.
 })
 
 -- a possible list was read again, and there is no room for its boot record
-abbrev pub IsMissingNow : {D : Type 0} → LedgerView D → LedgerView D → Places → Type 0
-IsMissingNow old new places = (records : List Rec) × IsPossible old.records old.in_doubt records × (exceeds old.limits (with_boot records places) ≡ true) × (new ≡ record old {
-  records = records;
-  bound = None;
-  shut = false;
-  boot_missing = true;
-  in_doubt = None;
-  room = new.room;
-  disk = new.disk;
-})
+abbrev pub IsMissingNow : {D : Type 0} → Bool → LedgerView D → LedgerView D → Places → Type 0
+IsMissingNow rebases old new places = (records : List Rec) × IsPossible old.records old.in_doubt records
+    × (exceeds old.limits (base_then rebases old.base records) (with_boot records places) ≡ true) × (new ≡ record old {
+      records = records;
+      base = base_then rebases old.base records;
+      bound = None;
+      shut = false;
+      boot_missing = true;
+      in_doubt = None;
+      room = new.room;
+      disk = new.disk;
+    })
 
 -- a possible list was read again, and the disk failed at its boot record
-abbrev pub IsFailedNow : {D : Type 0} → LedgerView D → LedgerView D → Places → Type 0
-IsFailedNow old new places = (records : List Rec) × IsPossible old.records old.in_doubt records × (new ≡ record old {
+abbrev pub IsFailedNow : {D : Type 0} → Bool → LedgerView D → LedgerView D → Places → Type 0
+IsFailedNow rebases old new places = (records : List Rec) × IsPossible old.records old.in_doubt records × (new ≡ record old {
   records = records;
+  base = base_then rebases old.base records;
   bound = None;
   shut = true;
   in_doubt = Some (boot_of records places);

@@ -16,6 +16,8 @@ use Rattle.xfs_guard.specs.Presented.{presented_in}
 -- a ledger: its journal with the disk, the table of its units, the amounts of the token that is bound to the live nonce, the places of the last boot record that it appended and the notes that were loaded since, the room for more records, and whether its boot record is missing, for which a restore found no room
 pub record LedgerView (D : Type 0) : Type 0 where
   pub records : List Rec
+  -- how many of them, from the first on, memory doesn't have
+  pub base : ℕ
   pub units : List NoteKind
   pub bound : Option (List (List ℕ × ℕ))
   pub booted : Places
@@ -35,6 +37,7 @@ IsOpen l = (l.shut ≡ false) × (l.boot_missing ≡ false)
 -- one record is written, and these amounts are bound then
 pub record Writes {D : Type 0} (old new : LedgerView D) (r : Rec) (bound : Option (List (List ℕ × ℕ))) : Type 0 where
   pub records : new.records ≡ old.records ++ r ∷ []
+  pub base : new.base ≡ old.base
   pub units : new.units ≡ old.units
   pub bound_is : new.bound ≡ bound
   pub booted : new.booted ≡ old.booted
@@ -47,6 +50,7 @@ pub record Writes {D : Type 0} (old new : LedgerView D) (r : Rec) (bound : Optio
 -- all is as before, the room aside
 pub record IsSame {D : Type 0} (old new : LedgerView D) : Type 0 where
   pub records : new.records ≡ old.records
+  pub base : new.base ≡ old.base
   pub units : new.units ≡ old.units
   pub bound : new.bound ≡ old.bound
   pub booted : new.booted ≡ old.booted
@@ -60,6 +64,7 @@ pub record IsSame {D : Type 0} (old new : LedgerView D) : Type 0 where
 -- the disk failed: the journal is shut, the record is in doubt, and the list is the old one
 pub record Doubts {D : Type 0} (old new : LedgerView D) (r : Rec) : Type 0 where
   pub records : new.records ≡ old.records
+  pub base : new.base ≡ old.base
   pub units : new.units ≡ old.units
   pub bound : new.bound ≡ old.bound
   pub booted : new.booted ≡ old.booted
@@ -77,7 +82,7 @@ Wrote (Err e) old new r bound = IsSame old new
 
 -- why a record isn't taken: the journal is shut, its boot record is missing, or a limit would be exceeded
 abbrev pub write_refusal : {D : Type 0} → LedgerView D → Rec → Option Deny
-write_refusal l r = if l.shut then Some Shut else if l.boot_missing then Some Full else (if exceeds l.limits (l.records ++ r ∷ []) then Some Full else None)
+write_refusal l r = if l.shut then Some Shut else if l.boot_missing then Some Full else (if exceeds l.limits l.base (l.records ++ r ∷ []) then Some Full else None)
 
 -- why a record that nothing refuses isn't written
 abbrev pub IsWriteFault : Deny → Type 0

@@ -1,5 +1,5 @@
 -- The motions that a journal stands for: its orders with a Done, its loads, and what was taken from the outlet in between.
-use Rattle.std.specs.Prelude.{ℕ, ◌+◌, ◌-◌, ◌≤◌, ◌==◌, List, [], ◌∷◌, ◌++◌, fold, map, replicate, sum, Some, None, if◌then◌else◌, ⊤}
+use Rattle.std.specs.Prelude.{◌≡◌, ℕ, ◌+◌, ◌-◌, ◌≤◌, ◌==◌, List, [], ◌∷◌, ◌++◌, fold, map, replicate, sum, Some, None, if◌then◌else◌, ⊤}
 use Rattle.std.specs.declared.option.Option.{Option}
 use Rattle.xfs_base.specs.Counts.{at}
 use Rattle.xfs_base.specs.declared.counts.Counts.{Counts}
@@ -11,7 +11,7 @@ use Rattle.xfs_journal.specs.declared.record.Rec.{Rec}
 use Rattle.xfs_journal.specs.declared.record.Rec.TheVariants.{Order, Done, Load}
 use Rattle.xfs_base.specs.declared.counts.Places.{Places}
 use Rattle.xfs_journal.specs.Journal.{boot_places, Walk}
-use Rattle.xfs_guard.specs.Agrees.{MayFollow, keep_last}
+use Rattle.xfs_guard.specs.Agrees.{Agrees, MayFollow, keep_last}
 
 -- how many records were read, the kind of the order that was the last of them, what lies in the outlet, and the motions
 pub record Replay : Type 0 where
@@ -78,6 +78,21 @@ replay records = fold replay_after nothing_replayed records
 -- the motions that the records stand for; at the end what lies in the outlet is taken
 abbrev pub replayed : List Rec → List Motion
 replayed records = (replay records).motions ++ taken_of (replay records).outlet
+
+-- a moved entry's number with the base on top; any other entry as it is
+abbrev pub renumber : ℕ → Motion → Motion
+renumber base (Moved number kind moved diverted) = Moved (base + number) kind moved diverted
+renumber base m = m
+
+-- the entries, with the base on top of each number
+abbrev pub renumbered : ℕ → List Motion → List Motion
+renumbered base motions = map (renumber base) motions
+
+-- but for the base on top of its numbers the list agrees with the records
+pub record AgreesFrom (base : ℕ) (records : List Rec) (list : List Motion) : Type 0 where
+  pub motions : List Motion
+  pub agrees : Agrees records motions
+  pub counted : list ≡ renumbered base motions
 
 -- a Done moved and diverted no more than the order before it asked for
 abbrev pub KeepsWithin : Option Rec → Rec → Type 0

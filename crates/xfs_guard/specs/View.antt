@@ -6,7 +6,7 @@ use Rattle.xfs_base.specs.declared.counts.Counts.{Counts}
 use Rattle.xfs_base.specs.declared.counts.Places.{Places}
 use Rattle.xfs_mech.specs.declared.motion.Motion.{Motion}
 use Rattle.xfs_journal.specs.declared.record.Rec.{Rec}
-use Rattle.xfs_journal.specs.Journal.{boot_of, with_boot}
+use Rattle.xfs_journal.specs.Journal.{base_of, boot_of, with_boot}
 use Rattle.xfs_journal.specs.declared.limits.Limits.{Limits}
 use Rattle.xfs_guard.specs.Balance.{no_notes}
 use Rattle.xfs_guard.specs.LedgerView.{LedgerView}
@@ -19,6 +19,8 @@ pub record View : Type 0 where
   pub seed : List ℕ
   pub units : List NoteKind
   pub records : List Rec
+  -- how many of them, from the first on, memory doesn't have
+  pub base : ℕ
   pub bound : Option (List (List ℕ × ℕ))
   pub open_order : Open
   pub motions : Option (List Motion)
@@ -39,6 +41,7 @@ over key seed open_order motions places faults l told = record {
   seed = seed;
   units = l.units;
   records = l.records;
+  base = l.base;
   bound = l.bound;
   open_order = open_order;
   motions = motions;
@@ -72,6 +75,10 @@ restarted v records = record (reread v (with_boot records v.places)) { booted = 
 -- and the disk failed at that boot record; whether an earlier one is missing stays
 abbrev pub unbooted : View → List Rec → View
 unbooted v records = record (reread v records) { shut = true; boot_missing = v.boot_missing; in_doubt = Some (boot_of records v.places) }
+
+-- the journal was read again, as this list, and has a boot record of the mechanism's places behind it, which alone is in memory
+abbrev pub rebooted : View → List Rec → View
+rebooted v records = record (restarted v records) { base = base_of (with_boot records v.places) }
 
 -- the same, and the disk of the journal
 pub record GuardView (D : Type 0) : Type 0 where

@@ -11,7 +11,7 @@ pub enum Fit {
     Ready,
     /// The disk failed, and the journal wasn't read again since.
     Shut,
-    /// Fewer than `LEAST_RECORDS` or `LEAST_BYTES` are left of the journal's limits, or a restore found no room
-    /// for its boot record.
+    /// Fewer than `LEAST_RECORDS` or `LEAST_BYTES` are left of the journal's limits, which count the records in memory
+    /// and the bytes of the file, or a restore found no room for its boot record.
     Full,
 }

@@ -1,10 +1,10 @@
-ghost use Rattle.std.specs.Prelude.{MatchResult, ◌≡◌, ◌≢◌, ◌↔◌, ℕ, true, ◌<◌, ◌≤◌, [], ◌∷◌, ◌++◌, length, false, true, is_some, OnOk, OnErr, IfOk, IfErr, IsTrue, Some, None, Err};
+ghost use Rattle.std.specs.Prelude.{MatchResult, ◌≡◌, ◌≢◌, ◌↔◌, ℕ, true, ◌<◌, ◌≤◌, ◌^◌, [], ◌∷◌, ◌++◌, drop, length, false, true, is_some, OnOk, OnErr, IfOk, IfErr, IsTrue, Some, None, Err};
 ghost use Rattle.std.specs.Option.{option_or};
 ghost use Rattle.xfs_base.specs.Causes.{IfTold, Rose};
 ghost use Rattle.xfs_journal.specs.declared.record.Rec.TheVariants.{Issue, Clear, Expire, Order};
-ghost use Rattle.xfs_journal.specs.Journal.{next_issue};
+ghost use Rattle.xfs_journal.specs.Journal.{base_of, next_issue};
 ghost use Rattle.xfs_guard.specs.declared.open.Open.TheVariants.{No, Written};
-ghost use Rattle.xfs_guard.specs.Booting.{LacksRoom, LeavesEither, LeavesListOf, LeavesRecorded, SparesAll, SparesUnlisted};
+ghost use Rattle.xfs_guard.specs.Booting.{HadRoom, LacksRoom, LeavesEither, LeavesListOf, LeavesRecorded, SparesAll, SparesUnlisted};
 ghost use Rattle.xfs_guard.specs.Entries.{Begins, entry_of};
 ghost use Rattle.xfs_guard.specs.Nonce.{Ends, live_in, live_nonce};
 ghost use Rattle.xfs_guard.specs.View.{shut_at};
@@ -18,7 +18,7 @@ ghost use Rattle.xfs_guard.specs.LedgerView.{IsWriteFault};
 ghost use Rattle.xfs_guard.specs.Lives.{WasNeverAnswered};
 ghost use Rattle.xfs_guard.specs.Stored.{IsStored};
 ghost use Rattle.xfs_guard.specs.declared.fail.BootFault.TheVariants.{NotJournal, Disk as BootDisk, Full as BootFull};
-ghost use Rattle.xfs_journal.specs.JournalView.{IsCarriedOver, IsNoJournal, exceeds};
+ghost use Rattle.xfs_journal.specs.JournalView.{IsCarriedOver, IsNoJournal};
 ghost use Rattle.xfs_disk.specs.Moments.{LeavesOnly};
 ghost use Rattle.xfs_journal.specs.Paging.{IsQuiet};
 ghost use Rattle.xfs_journal.specs.declared.record.Rec.{Rec};
@@ -90,7 +90,7 @@ impl<M: Mechanism, D: Disk> Guard<M, D> {
         requires units { M.units mech ≡ units }
         requires recorded { LeavesRecorded D.Disk disk key units (M.motions mech) }
         ensures ok { IfOk result (λ g. Begins (entry_of M.Mechanism D.Disk mech disk key seed units limits) g.state) }
-        ensures fits { IfOk result (λ g. exceeds limits g.state.records ≡ false) }
+        ensures fits { IfOk result (λ g. HadRoom (D.held disk) limits (M.places mech) g.state.records) }
         ensures continues { IfOk result (λ g. ContinuesFound (M.places mech) g.state) }
         ensures carried { IfOk result (λ g. IsCarriedOver (D.held g.disk)) }
 
@@ -257,11 +257,21 @@ impl<M: Mechanism, D: Disk> Guard<M, D> {
         self.ledger.loaded()
     }
 
-    /// The journal. Its records are numbered from 1.
+    /// The journal's records that are in memory: those behind its base. The number of the first is one more than the base.
     pub fn records(&self) -> &[Rec]
-        ensures { result.now ≡ self.now.state.records }
+        ensures { result.now ≡ drop self.now.state.base self.now.state.records }
     {
         self.ledger.records()
+    }
+
+    /// How many records of the journal memory doesn't have: those in front of this guard's own boot record.
+    pub fn base(&self) -> u64
+        ensures base { result ≡ self.now.state.base }
+        ensures led { self.now.state.base ≤ base_of self.now.state.records }
+        ensures within { self.now.state.base ≤ length self.now.state.records }
+        ensures few { length self.now.state.records < 2 ^ 62 }
+    {
+        self.ledger.base()
     }
 
     /// Issues the next nonce; its word is the seed's. A nonce that was live is so no longer. After `Disk`
@@ -476,7 +486,7 @@ impl<M: Mechanism, D: Disk> Guard<M, D> {
         let Open::Written { kind, counts } = self.open_order else {
             unreachable!()
         };
-        let number = self.ledger.records().len() as u64;
+        let number = self.ledger.newest();
         let outcome = self.mech.execute(MechOrder::new(number, kind, counts));
         self.open_order = Open::Acted {
             kind,

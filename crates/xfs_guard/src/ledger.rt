@@ -1,6 +1,6 @@
 //! The records of the journal, with what is read of them kept beside: no call but `boot` and `restore` goes through them.
 
-ghost use Rattle.std.specs.Prelude.{MatchResult, ◌≡◌, ◌≢◌, ◌⊎◌, ℕ, List, ◌+◌, ◌-◌, ◌<◌, ◌≤◌, ◌^◌, [], ◌∷◌, ◌++◌, true, false, is_some, length, slice_get, slice_index, take, OnErr, IfErr, IfOk, OnOk, Some, None, Err, ◌||◌};
+ghost use Rattle.std.specs.Prelude.{MatchResult, ◌≡◌, ◌≢◌, ◌⊎◌, ℕ, List, ◌+◌, ◌-◌, ◌<◌, ◌≤◌, ◌^◌, [], ◌∷◌, ◌++◌, true, false, is_some, length, slice_get, slice_index, drop, take, OnErr, IfErr, IfOk, OnOk, Some, None, Err, ◌||◌};
 ghost use Rattle.std.specs.Option.{option_copied, option_map};
 ghost use Rattle.xfs_base.specs.Causes.{IfTold, Rose};
 ghost use Rattle.xfs_base.specs.Counts.{at};
@@ -14,14 +14,14 @@ ghost use Rattle.xfs_guard.specs.declared.fail.BootFault.TheVariants.{NotJournal
 ghost use Rattle.xfs_journal.specs.JournalView.{exceeds, refusal, IsCarriedOver, IsNoJournal, IsPossible, StandsForEither};
 ghost use Rattle.xfs_disk.specs.Moments.{LeavesOnly};
 ghost use Rattle.xfs_journal.specs.declared.record.Rec.TheVariants.{Issue, Clear, Bind, Order, Done, Load};
-ghost use Rattle.xfs_journal.specs.Journal.{boot_of, issues_in, record_at, live_of, token_of, last_mark, next_issue, nonce_text, with_boot};
+ghost use Rattle.xfs_journal.specs.Journal.{base_of, boot_of, issues_in, record_at, live_of, token_of, last_mark, next_issue, nonce_text, with_boot};
 ghost use Rattle.xfs_guard.specs.Nonce.{Ends, live_in, nonce_of};
 ghost use Rattle.xfs_guard.specs.Refusals.{bound_token, bound_number};
 ghost use Rattle.xfs_guard.specs.Presented.{presented_in};
 ghost use Rattle.xfs_guard.specs.LedgerBooting.{FailsAt, HasAtMost, IsAppended, IsBootedNow, IsFailedNow, IsMissingNow, IsOldOrReread, IsSmall, IsUnreadNow, IsUnwritten};
 ghost use Rattle.xfs_guard.specs.LedgerView.{IsOpen, IsWriteFault, Wrote, IsSame, IsPresentedBound, write_refusal};
 ghost use Rattle.xfs_guard.specs.Balance.{no_notes, with_notes};
-ghost use Rattle.xfs_guard.specs.Booting.{AddsAtMost, IsBooted, IsFound, LacksRoom, LeavesEither, SparesAll, SparesUnlisted, TellsAs};
+ghost use Rattle.xfs_guard.specs.Booting.{AddsAtMost, HadRoom, HadRoomThen, IsBooted, IsFound, LacksRoom, LeavesEither, SparesAll, SparesUnlisted, TellsAs, base_then};
 ghost use Rattle.xfs_guard.specs.Ledger.{IsLive, IsDoubted};
 ghost use Rattle.xfs_guard.specs.CrashOutcomes.{IsOldOrBooted, Leaves};
 ghost use Rattle.xfs_guard.specs.Crashed.{IsCrashOutcome, StandsReread};
@@ -35,7 +35,7 @@ use std::alloc::Global;
 use std::marker::Model;
 use xfs_base::{Counts, Currency, Kind, Memory, Places, UnitTable};
 use xfs_disk::Disk;
-use xfs_journal::{AppendFault, Journal, Limits, Rec, Survey, Text};
+use xfs_journal::{AppendFault, Journal, Limits, Rec, Survey, Text, count_issues};
 use xfs_token::Amounts;
 
 /// The journal, and beside it what of its records would else be looked for at each call: the number of issues,
@@ -64,6 +64,7 @@ impl<D: Disk> Model for Ledger<D> {
 
     ghost view = { λ l. record {
       records = l.journal.records;
+      base = l.journal.base;
       units = l.units;
       bound = amounts_kept l.bound;
       booted = l.booted;
@@ -76,7 +77,7 @@ impl<D: Disk> Model for Ledger<D> {
       disk = l.journal.disk;
     } };
 
-    ghost invariant = { λ l. KeepsLedger l.journal.records l.journal.in_doubt l.journal.shut l.boot_missing l.units l.issues l.mark l.live l.bound l.doubted };
+    ghost invariant = { λ l. KeepsLedger l.journal.records l.journal.base l.journal.in_doubt l.journal.shut l.boot_missing l.units l.issues l.mark l.live l.bound l.doubted };
 }
 
 /// A refused boot, with the disk.
@@ -96,7 +97,8 @@ impl<D: Disk> Ledger<D> {
         places: Survey,
     ) -> Result<Ledger<D>, RefusedLedger<D>>
         ensures records { IfOk result (λ l. IsFound (D.held disk) (λ records. l.records ≡ with_boot records places)) }
-        ensures fits { IfOk result (λ l. exceeds limits l.records ≡ false) }
+        ensures based { IfOk result (λ l. l.base ≡ base_of l.records) }
+        ensures fits { IfOk result (λ l. HadRoom (D.held disk) limits places l.records) }
         ensures opened { IfOk result (λ l. (l.shut ≡ false) × (l.in_doubt ≡ None) × (l.bound ≡ None) × (l.boot_missing ≡ false)) }
         ensures same { IfOk result (λ l. (l.limits ≡ limits) × (l.units ≡ units)) }
         ensures unloaded { IfOk result (λ l. (l.booted ≡ places) × (l.loaded ≡ no_notes)) }
@@ -120,9 +122,9 @@ impl<D: Disk> Ledger<D> {
             Ok(journal) => journal,
             Err(refused) => return Err(refused),
         };
-        let issues = issues_of(journal.records());
+        let issues = issues_of(&journal);
         let booted = *places.places();
-        match append_boot(&mut journal, issues, places) {
+        match append_boot(&mut journal, issues, places, true) {
             Ok(mark) => Ok(Ledger {
                 journal,
                 units,
@@ -142,11 +144,29 @@ impl<D: Disk> Ledger<D> {
         }
     }
 
-    /// The records of the journal.
+    /// The records of the journal that are in memory: those behind its base.
     pub fn records(&self) -> &[Rec]
-        ensures { result.now ≡ self.now.records }
+        ensures { result.now ≡ drop self.now.base self.now.records }
     {
         self.journal.records()
+    }
+
+    /// How many records of the journal memory doesn't have.
+    pub fn base(&self) -> u64
+        ensures base { result ≡ self.now.base }
+        ensures led { self.now.base ≤ base_of self.now.records }
+        ensures within { self.now.base ≤ length self.now.records }
+        ensures few { length self.now.records < 2 ^ 62 }
+    {
+        self.journal.base()
+    }
+
+    /// The number of the newest record.
+    pub fn newest(&self) -> u64
+        ensures number { result ≡ length self.now.records }
+        ensures within { self.now.base ≤ result }
+    {
+        self.base() + self.records().len() as u64
     }
 
     /// The journal's disk.
@@ -204,7 +224,7 @@ impl<D: Disk> Ledger<D> {
         requires { IsOpen self.now }
         ensures { result ≡ next_issue self.now.records }
     {
-        prove!(self.issues <= self.journal.records().len() as u64);
+        prove!(self.issues < self.newest());
         self.issues + 1
     }
 
@@ -227,7 +247,7 @@ impl<D: Disk> Ledger<D> {
         ensures { option_copied result ≡ bound_token self.now.records }
     {
         match &self.bound {
-            Some(bound) => match &self.journal.records()[bound.number as usize - 1] {
+            Some(bound) => match &self.records()[(bound.number - self.base()) as usize - 1] {
                 Rec::Bind { token } => Some(token),
                 _ => unreachable!(),
             },
@@ -294,9 +314,9 @@ impl<D: Disk> Ledger<D> {
         self.loaded.0[usize::from(unit) - 1] += count;
     }
 
-    /// Each limit less what the journal has of it.
+    /// Each limit less what the journal has of it: of the records those in memory, of the bytes those of the file.
     pub fn left(&self) -> Limits
-        ensures records { result.records ≡ self.now.limits.records - length self.now.records }
+        ensures records { result.records ≡ self.now.limits.records - (length self.now.records - self.now.base) }
         ensures bytes { result.bytes ≡ self.now.limits.bytes - size self.now.records }
     {
         self.journal.left()
@@ -437,14 +457,14 @@ impl<D: Disk> Ledger<D> {
     }
 
     /// The journal is read again, and gets a boot record with these places.
-    pub fn restore(&mut self, places: Survey) -> Result<(), BootFault>
-        ensures ok { OnOk result (IsBootedNow self.old self.new places) }
-        ensures fits { OnOk result (exceeds self.old.limits self.new.records ≡ false) }
+    pub fn restore(&mut self, places: Survey, rebases: bool) -> Result<(), BootFault>
+        ensures ok { OnOk result (IsBootedNow rebases self.old self.new places) }
+        ensures fits { OnOk result (HadRoomThen rebases self.old.base (D.held self.old.disk) self.old.limits places self.new.records) }
         ensures stands { OnOk result (IsBooted (D.held self.old.disk) places self.new.records) }
         ensures memory { result ≡ Err BootMemory → self.new ≡ record self.old { disk = self.new.disk } }
-        ensures full { result ≡ Err BootFull → IsMissingNow self.old self.new places }
+        ensures full { result ≡ Err BootFull → IsMissingNow rebases self.old self.new places }
         ensures found { result ≡ Err BootFull → IfTold (D.held self.old.disk) (λ all. StandsFor all self.new.records) }
-        ensures disk { result ≡ Err BootDisk → IsUnreadNow self.old self.new ⊎ IsFailedNow self.old self.new places }
+        ensures disk { result ≡ Err BootDisk → IsUnreadNow self.old self.new ⊎ IsFailedNow rebases self.old self.new places }
         ensures not_journal { IfErr result (λ f. (at : ℕ) → f ≡ NotJournal at → (D.held self.old.disk ≡ None) × IsUnreadNow self.old self.new) }
         ensures cause { result ≡ Err BootDisk → Rose (D.faults self.old.disk) (D.faults self.new.disk) }
         ensures faults { D.faults self.old.disk ≤ D.faults self.new.disk }
@@ -453,15 +473,15 @@ impl<D: Disk> Ledger<D> {
         ensures any_moment { IfTold (D.held self.old.disk) (λ _.
             LeavesOnly D.Disk self.old.disk self.new.disk (IsOldOrReread D.Disk self.old self.new places)) }
     {
-        let before = self.journal.records().len();
+        let before = self.newest();
         if let Err(why) = self.journal.remount() {
             return Err(BootFault::from(why));
         }
         self.bound = None;
-        self.live = live_found(self.live, self.doubted, self.journal.records(), before);
-        let issues = issues_of(self.journal.records());
+        self.live = live_found(self.live, self.doubted, &self.journal, before);
+        let issues = issues_of(&self.journal);
         let booted = *places.places();
-        match append_boot(&mut self.journal, issues, places) {
+        match append_boot(&mut self.journal, issues, places, rebases) {
             Ok(mark) => {
                 self.issues = issues;
                 self.mark = mark;
@@ -481,41 +501,49 @@ impl<D: Disk> Ledger<D> {
     }
 }
 
-// How many issues there are.
-fn issues_of(records: &[Rec]) -> u64
-    ensures issues { result + 1 ≡ next_issue records.now }
-    ensures counted { result ≡ issues_in records.now }
-    ensures few { result ≤ length records.now }
+// Memory keeps what came from the last boot record on, where the journal is to be rebased.
+fn rebase_where<D: Disk>(rebases: bool, journal: &mut Journal<D>)
+    ensures based { journal.new ≡ record journal.old { base = base_then rebases journal.old.base journal.old.records; room = journal.new.room } }
+    ensures room { journal.old.room ≤ journal.new.room }
 {
-    let mut issues = 0;
-    for i in 0..records.len() {
-        if matches!(records[i], Rec::Issue { .. }) {
-            issues += 1;
-        }
+    if rebases {
+        journal.rebase();
     }
-    issues
+}
+
+// How many nonces were issued: in front of the journal's base, and behind it.
+fn issues_of<D: Disk>(journal: &Journal<D>) -> u64
+    ensures issues { result + 1 ≡ next_issue journal.now.records }
+    ensures counted { result ≡ issues_in journal.now.records }
+    ensures few { result ≤ length journal.now.records }
+{
+    let _few = journal.base();
+    journal.issues() + count_issues(journal.records())
 }
 
 // The live issue, once a journal was read again that had so many records: it has one more where that in doubt was
 // found.
-fn live_found(
+fn live_found<D: Disk>(
     live: Option<Live>,
     doubted: Option<Nonce>,
-    records: &[Rec],
-    before: usize,
+    journal: &Journal<D>,
+    before: u64,
 ) -> Option<Live>
-    requires low { before ≤ length records.now }
-    requires high { length records.now ≤ before + 1 }
-    requires doubted { IsDoubted (record_at records.now (before + 1)) doubted }
-    ensures { IsLive (take before records.now) live → IsLive records.now result }
+    requires based { journal.now.base ≤ before }
+    requires low { before ≤ length journal.now.records }
+    requires high { length journal.now.records ≤ before + 1 }
+    requires doubted { IsDoubted (record_at journal.now.records (before + 1)) doubted }
+    ensures { IsLive (take before journal.now.records) live → IsLive journal.now.records result }
 {
-    if before == records.len() {
+    let kept = journal.records();
+    let at = (before - journal.base()) as usize;
+    if at == kept.len() {
         return live;
     }
-    match &records[before] {
+    match &kept[at] {
         Rec::Issue { .. } => match doubted {
             Some(nonce) => Some(Live {
-                number: before as u64 + 1,
+                number: before + 1,
                 nonce,
             }),
             None => None,
@@ -525,19 +553,21 @@ fn live_found(
     }
 }
 
-// Appends the record of a start to a journal that was just mounted, in which so many nonces were issued.
+// Appends the record of a start to a journal that was just read, in which so many nonces were issued. Where it rebases,
+// memory keeps the records from the last boot record on, and then the new one alone.
 #[tactic(auto, unfolding(xfs_journal::specs::Journal::boot_of))]
 fn append_boot<D: Disk>(
     journal: &mut Journal<D>,
     issues: u64,
     places: Survey,
+    rebases: bool,
 ) -> Result<u64, BootFault>
     requires open { journal.old.shut ≡ false }
     requires issues { issues ≡ issues_in journal.old.records }
     ensures number { IfOk result (λ n. n ≡ length journal.old.records + 1) }
     ensures ok { OnOk result (IsAppended journal.old journal.new (boot_of journal.old.records places)) }
-    ensures fits { OnOk result (exceeds journal.old.limits journal.new.records ≡ false) }
-    ensures full { result ≡ Err BootFull → exceeds journal.old.limits (with_boot journal.old.records places) ≡ true }
+    ensures fits { OnOk result (exceeds journal.old.limits (base_then rebases journal.old.base journal.old.records) journal.new.records ≡ false) }
+    ensures full { result ≡ Err BootFull → exceeds journal.old.limits (base_then rebases journal.old.base journal.old.records) (with_boot journal.old.records places) ≡ true }
     ensures disk { result ≡ Err BootDisk → Rose (D.faults journal.old.disk) (D.faults journal.new.disk) }
     ensures kept { OnOk result (Leaves D.Disk journal.new.disk journal.new.records) }
     ensures carried { OnOk result (IsCarriedOver (D.held journal.old.disk) → IsCarriedOver (D.held journal.new.disk)) }
@@ -550,11 +580,17 @@ fn append_boot<D: Disk>(
     ensures same { OnErr result (journal.new.records ≡ journal.old.records) }
     ensures mounted { result ≡ Err BootFull → (journal.new.shut ≡ false) × (journal.new.in_doubt ≡ journal.old.in_doubt) }
     ensures in_doubt { result ≡ Err BootDisk → (journal.new.shut ≡ true) × (journal.new.in_doubt ≡ Some (boot_of journal.old.records places)) }
+    ensures based { OnOk result (journal.new.base ≡ base_then rebases journal.old.base journal.new.records) }
+    ensures base { OnErr result (journal.new.base ≡ base_then rebases journal.old.base journal.old.records) }
     ensures limits { journal.new.limits ≡ journal.old.limits }
     ensures faults { D.faults journal.old.disk ≤ D.faults journal.new.disk }
 {
+    rebase_where(rebases, journal);
     match journal.append(Rec::Start { issues, places }) {
-        Ok(number) => Ok(number),
+        Ok(number) => {
+            rebase_where(rebases, journal);
+            Ok(number)
+        }
         Err(AppendFault::Full) => Err(BootFault::Full),
         Err(AppendFault::Memory) => Err(BootFault::Memory),
         Err(AppendFault::Disk) => Err(BootFault::Disk),
@@ -573,6 +609,7 @@ fn append<D: Disk>(journal: &mut Journal<D>, rec: Rec) -> Result<u64, Deny>
     ensures memory { result ≡ Err Deny.Memory → IsUnwritten journal.old journal.new }
     ensures disk { result ≡ Err Deny.Disk → FailsAt D.Disk journal.old journal.new rec }
     ensures reserved { 1 ≤ journal.old.room → IfErr result (λ e. e ≡ Deny.Disk) }
+    ensures base { journal.new.base ≡ journal.old.base }
     ensures limits { journal.new.limits ≡ journal.old.limits }
     ensures room { journal.old.room ≤ journal.new.room + 1 }
     ensures faults { D.faults journal.old.disk ≤ D.faults journal.new.disk }

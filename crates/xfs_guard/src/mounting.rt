@@ -4,6 +4,7 @@ ghost use Rattle.std.specs.Prelude.{MatchResult, ◌≡◌, ◌≢◌, ◌≤◌
 ghost use Rattle.xfs_base.specs.Causes.{IfTold, Rose};
 ghost use Rattle.xfs_disk.specs.Moments.{LeavesOnly};
 ghost use Rattle.xfs_journal.specs.Image.{StandsFor};
+ghost use Rattle.xfs_journal.specs.Journal.{base_of};
 ghost use Rattle.xfs_journal.specs.JournalView.{IsCarriedOver, IsNoJournal};
 ghost use Rattle.xfs_journal.specs.Paging.{IsQuiet};
 ghost use Rattle.xfs_guard.specs.Booting.{SparesAll, SparesUnlisted, TellsAs};
@@ -24,6 +25,7 @@ pub(crate) fn mount<D: Disk>(
 ) -> Result<Journal<D>, RefusedLedger<D>>
     ensures ok { IfOk result (λ j. IfTold (D.held disk) (λ all. StandsFor all j.records)) }
     ensures opened { IfOk result (λ j. (j.shut ≡ false) × (j.in_doubt ≡ None) × (j.limits ≡ limits)) }
+    ensures based { IfOk result (λ j. j.base ≡ base_of j.records) }
     ensures not_journal { IfErr result (λ f. (at : ℕ) → f.why ≡ NotJournal at → IsNoJournal (D.held disk) at) }
     ensures refused { IfErr result (λ f. (at : ℕ) → f.why ≡ NotJournal at → IsQuiet D.Disk disk f.disk) }
     ensures disk { IfErr result (λ f. f.why ≡ BootDisk → Rose (D.faults disk) (D.faults f.disk)) }

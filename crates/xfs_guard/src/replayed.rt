@@ -1,9 +1,9 @@
 //! The motions that a journal stands for.
 
-ghost use Rattle.std.specs.Prelude.{◌≡◌, ◌-◌, ◌<◌, ◌^◌, List, ◌++◌, IfOk, OnOk};
+ghost use Rattle.std.specs.Prelude.{◌≡◌, ◌+◌, ◌-◌, ◌<◌, ◌≤◌, ◌^◌, List, ◌++◌, length, IfOk, OnOk};
 ghost use Rattle.xfs_mech.specs.declared.motion.Motion.{Motion};
 ghost use Rattle.xfs_guard.specs.Agrees.{Agrees};
-ghost use Rattle.xfs_guard.specs.Replayed.{CanReplay, left_of, outlet_done, done_motions, taken_of, nothing_replayed, replay_after, replayed};
+ghost use Rattle.xfs_guard.specs.Replayed.{AgreesFrom, CanReplay, left_of, outlet_done, done_motions, taken_of, nothing_replayed, renumbered, replay_after, replayed};
 
 use std::alloc::Global;
 use std::marker::Model;
@@ -11,27 +11,29 @@ use xfs_base::{Counts, Kind, Memory};
 use xfs_journal::Rec;
 use xfs_mech::Motion;
 
-/// The motions that a journal's records stand for: a Moved for each order with a Done, with the order's
-/// number and kind and the Done's counts; a Loaded for each Load; and, before the Moved of each order
-/// to present and at the end, a Taken of what then lies in the outlet, where it isn't empty. What lies
-/// there is what the last boot record tells, and what the orders since then presented and retracted; a count
-/// that would fall below 0 stays there. An order without a Done gives no entry.
+/// The motions that a journal's records stand for, where `base` records stand in front of them: a Moved
+/// for each order with a Done, with the order's number and kind and the Done's counts; a Loaded for each
+/// Load; and, before the Moved of each order to present and at the end, a Taken of what then lies in the
+/// outlet, where it isn't empty. What lies there is what the last boot record tells, and what the orders
+/// since then presented and retracted; a count that would fall below 0 stays there. An order without a
+/// Done gives no entry. An order's number is its place in the records with the base on top.
 ///
-/// The list agrees with the records wherever some list does, as the mechanism's does with its guard's
-/// records. The call is refused only for want of memory.
-pub fn motions_of(alloc: Global, records: &[Rec]) -> Result<Vec<Motion>, Memory>
-    ensures replayed { IfOk result (λ list. list.items ≡ replayed records.now) }
-    ensures agrees { IfOk result (λ list. CanReplay records.now → Agrees records.now list.items) }
-    ensures possible { IfOk result (λ list. (motions : List Motion) → Agrees records.now motions → Agrees records.now list.items) }
+/// But for the base in its numbers the list agrees with the records wherever some list does, as the
+/// mechanism's does with its guard's records. The call is refused only for want of memory.
+pub fn motions_of(alloc: Global, base: u64, records: &[Rec]) -> Result<Vec<Motion>, Memory>
+    requires room { base + length records.now ≤ 18446744073709551615 }
+    ensures replayed { IfOk result (λ list. list.items ≡ renumbered base (replayed records.now)) }
+    ensures agrees { IfOk result (λ list. CanReplay records.now → AgreesFrom base records.now list.items) }
+    ensures possible { IfOk result (λ list. (motions : List Motion) → Agrees records.now motions → AgreesFrom base records.now list.items) }
 {
-    let mut replay = Replay::new(alloc);
+    let mut replay = Replay::new(alloc, base);
     for entry in records {
         replay.read(entry)?;
     }
     replay.end()
 }
 
-// What the records that were read so far tell.
+// What the records that were read so far tell; the count has the base on top.
 #[derive(Drop)]
 struct Replay {
     count: u64,
@@ -49,11 +51,11 @@ impl Model for Replay {
 }
 
 impl Replay {
-    fn new(alloc: Global) -> Replay
-        ensures { result ≡ nothing_replayed }
+    fn new(alloc: Global, base: u64) -> Replay
+        ensures { result ≡ record nothing_replayed { count = base } }
     {
         Replay {
-            count: 0,
+            count: base,
             ordered: None,
             outlet: Counts([0; 8]),
             motions: Vec::new(alloc),

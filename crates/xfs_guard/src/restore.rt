@@ -1,14 +1,14 @@
-//! Reading the journal again after the disk failed.
+//! Reading the journal again: after the disk failed, and where the machine starts anew.
 
-ghost use Rattle.std.specs.Prelude.{◌≡◌, ◌≤◌, ◌⊎◌, ℕ, true, false, List, [], ◌∷◌, ◌++◌, Some, None, Err, OnOk, IfErr};
+ghost use Rattle.std.specs.Prelude.{◌≡◌, ◌≤◌, ◌⊎◌, ◌+◌, ℕ, true, false, List, [], ◌∷◌, ◌++◌, length, Some, None, Err, OnOk, IfErr};
 ghost use Rattle.xfs_base.specs.Causes.{IfTold, Rose};
 ghost use Rattle.xfs_journal.specs.Image.{StandsFor};
 ghost use Rattle.xfs_journal.specs.JournalView.{IsPossible, exceeds};
 ghost use Rattle.xfs_journal.specs.declared.record.Rec.{Rec};
 ghost use Rattle.xfs_guard.specs.declared.fail.BootFault.TheVariants.{NotJournal, Disk as BootDisk, Full as BootFull, Memory as BootMemory};
-ghost use Rattle.xfs_guard.specs.Booting.{IsBooted, IsRestored, IsUnbooted, IsUnread, IsUnrestored, IsUntold};
+ghost use Rattle.xfs_guard.specs.Booting.{HadRoom, HadRoomThen, IsBooted, IsRebooted, IsRestored, IsRestoredThen, IsUnbooted, IsUnbootedThen, IsUnread, IsUnrebooted, IsUnrestored, IsUnrestoredThen, IsUnstarted, IsUntold};
 ghost use Rattle.xfs_guard.specs.Keeps.{Keeps, NoEntry};
-ghost use Rattle.xfs_guard.specs.View.{reread, restarted, unbooted, unread};
+ghost use Rattle.xfs_guard.specs.View.{reread, rebooted, restarted, unbooted, unread};
 
 use crate::{BootFault, Guard, Open};
 use xfs_disk::Disk;
@@ -24,7 +24,7 @@ impl<M: Mechanism, D: Disk> Guard<M, D> {
     /// as `NotJournal`.
     pub fn restore(&mut self) -> Result<(), BootFault>
         ensures ok { OnOk result (IsRestored self.old.state self.new.state) }
-        ensures fits { OnOk result (exceeds self.old.state.limits self.new.state.records ≡ false) }
+        ensures fits { OnOk result (exceeds self.old.state.limits self.old.state.base self.new.state.records ≡ false) }
         ensures stands { OnOk result (IsBooted (D.held self.old.disk) self.old.state.places self.new.state.records) }
         ensures memory { result ≡ Err BootMemory → self.new.state ≡ self.old.state }
         ensures full { result ≡ Err BootFull → IsUnrestored self.old.state self.new.state }
@@ -35,12 +35,50 @@ impl<M: Mechanism, D: Disk> Guard<M, D> {
         ensures cause { result ≡ Err BootDisk → Rose (D.faults self.old.disk) (D.faults self.new.disk) }
         ensures keeps { Keeps D.Disk NoEntry self.old self.new }
     {
+        self.read_again(false)
+    }
+
+    /// Starts anew: a restore that lets go of the records in front of the last boot record that it read, and once its own
+    /// is written of all but that one. So it has room where a boot would have, also where the records in memory are as many
+    /// as their limit allows. After `Full`, and after a `Disk` that came behind the reading, memory has the records from
+    /// the last boot record on; for the rest each answer tells what a restore's does.
+    pub fn reboot(&mut self) -> Result<(), BootFault>
+        ensures ok { OnOk result (IsRebooted self.old.state self.new.state) }
+        ensures alone { OnOk result (self.new.state.base + 1 ≡ length self.new.state.records) }
+        ensures fits { OnOk result (HadRoom (D.held self.old.disk) self.old.state.limits self.old.state.places self.new.state.records) }
+        ensures stands { OnOk result (IsBooted (D.held self.old.disk) self.old.state.places self.new.state.records) }
+        ensures memory { result ≡ Err BootMemory → self.new.state ≡ self.old.state }
+        ensures full { result ≡ Err BootFull → IsUnrebooted self.old.state self.new.state }
+        ensures found { result ≡ Err BootFull → IfTold (D.held self.old.disk) (λ all. StandsFor all self.new.state.records) }
+        ensures disk { result ≡ Err BootDisk → IsUnread self.old.state self.new.state ⊎ IsUnstarted self.old.state self.new.state }
+        ensures not_journal { IfErr result (λ f. (at : ℕ) → f ≡ NotJournal at → IsUntold D.Disk self.old.disk × IsUnread self.old.state self.new.state) }
+        ensures untold { IfErr result (λ f. (at : ℕ) → f ≡ NotJournal at → self.old.state.disk_told ≡ false) }
+        ensures cause { result ≡ Err BootDisk → Rose (D.faults self.old.disk) (D.faults self.new.disk) }
+        ensures keeps { Keeps D.Disk NoEntry self.old self.new }
+    {
+        self.read_again(true)
+    }
+
+    // A restore, and a reboot where it rebases.
+    fn read_again(&mut self, rebases: bool) -> Result<(), BootFault>
+        ensures ok { OnOk result (IsRestoredThen rebases self.old.state self.new.state) }
+        ensures fits { OnOk result (HadRoomThen rebases self.old.state.base (D.held self.old.disk) self.old.state.limits self.old.state.places self.new.state.records) }
+        ensures stands { OnOk result (IsBooted (D.held self.old.disk) self.old.state.places self.new.state.records) }
+        ensures memory { result ≡ Err BootMemory → self.new.state ≡ self.old.state }
+        ensures full { result ≡ Err BootFull → IsUnrestoredThen rebases self.old.state self.new.state }
+        ensures found { result ≡ Err BootFull → IfTold (D.held self.old.disk) (λ all. StandsFor all self.new.state.records) }
+        ensures disk { result ≡ Err BootDisk → IsUnread self.old.state self.new.state ⊎ IsUnbootedThen rebases self.old.state self.new.state }
+        ensures not_journal { IfErr result (λ f. (at : ℕ) → f ≡ NotJournal at → IsUntold D.Disk self.old.disk × IsUnread self.old.state self.new.state) }
+        ensures untold { IfErr result (λ f. (at : ℕ) → f ≡ NotJournal at → self.old.state.disk_told ≡ false) }
+        ensures cause { result ≡ Err BootDisk → Rose (D.faults self.old.disk) (D.faults self.new.disk) }
+        ensures keeps { Keeps D.Disk NoEntry self.old self.new }
+    {
         let places = self.mech.survey();
         // The memory of the boot record is had before the journal is read.
         let Ok(survey) = Survey::new(self.alloc, places) else {
             return Err(BootFault::Memory);
         };
-        let read = self.ledger.restore(survey);
+        let read = self.ledger.restore(survey, rebases);
         if read == Err(BootFault::Memory) {
             return read;
         }

@@ -1,5 +1,5 @@
 -- Where the notes lie after a journal's records.
-use Rattle.std.specs.Prelude.{◌≡◌, ◌+◌, ◌≤◌, ◌⊎◌, ℕ, List, [], ◌∷◌, ◌++◌, fold, is_some, slice_get, take, Some, None, if◌then◌else◌, ⊤}
+use Rattle.std.specs.Prelude.{◌≡◌, ◌+◌, ◌≤◌, ◌⊎◌, ℕ, List, [], ◌∷◌, slice_get, take, Some, None, ⊤}
 use Rattle.std.specs.declared.option.Option.{Option}
 use Rattle.xfs_base.specs.Counts.{LiesIn, at}
 use Rattle.xfs_base.specs.declared.counts.Places.{Places}
@@ -11,14 +11,6 @@ use Rattle.xfs_mech.specs.declared.motion.Motion.TheVariants.{Moved, Taken, Load
 use Rattle.xfs_journal.specs.declared.record.Rec.{Rec}
 use Rattle.xfs_journal.specs.Journal.{boot_places}
 use Rattle.xfs_guard.specs.Replayed.{replayed}
-
--- a boot record begins the list anew
-abbrev pub since_after : List Rec → Rec → List Rec
-since_after since r = if is_some (boot_places r) then r ∷ [] else since ++ r ∷ []
-
--- the records from the last boot record on; all of them where there is none
-abbrev pub since_boot : List Rec → List Rec
-since_boot records = fold since_after [] records
 
 -- the motions lead from the first places to the second, which a mechanism may have
 pub record Leads (units : List NoteKind) (start : Places) (motions : List Motion) (places : Places) : Type 0 where
@@ -35,13 +27,9 @@ abbrev pub LeadsFrom : List NoteKind → Option Places → List Motion → Place
 LeadsFrom units (Some booted) motions places = Leads units booted motions places
 LeadsFrom units None motions places = ⊥
 
--- the motions that records stand for lead there from the places of the boot record that is the first of them
-abbrev pub LeadsSince : List NoteKind → List Rec → Places → Type 0
-LeadsSince units records places = LeadsFrom units (first_places records) (replayed records) places
-
--- the notes lie where the records from the last boot record on leave them
+-- the motions that the records stand for lead there from the places of the boot record that is the first of them
 abbrev pub IsLeft : List NoteKind → List Rec → Places → Type 0
-IsLeft units records places = LeadsSince units (since_boot records) places
+IsLeft units records places = LeadsFrom units (first_places records) (replayed records) places
 
 -- the notes of the motion lie where it takes them from, or the places have room for those that it loads
 abbrev pub CanBeMade : List NoteKind → Places → Motion → Type 0
@@ -67,9 +55,6 @@ abbrev pub LeadsNowhereFrom : List NoteKind → Option Places → List Motion �
 LeadsNowhereFrom units (Some booted) motions = LeadsNowhere units booted motions
 LeadsNowhereFrom units None motions = ⊤
 
-abbrev pub LeadsNowhereSince : List NoteKind → List Rec → Type 0
-LeadsNowhereSince units records = LeadsNowhereFrom units (first_places records) (replayed records)
-
--- there is no boot record, or the records from the last one on lead nowhere
+-- the first of the records is no boot record, or the motions that they stand for lead nowhere from its places
 abbrev pub IsLost : List NoteKind → List Rec → Type 0
-IsLost units records = LeadsNowhereSince units (since_boot records)
+IsLost units records = LeadsNowhereFrom units (first_places records) (replayed records)

@@ -6,7 +6,7 @@ ghost use Rattle.xfs_base.specs.declared.money.NoteKind.{NoteKind};
 ghost use Rattle.xfs_mech.specs.Mechanism.{PlacesFit, source_of};
 ghost use Rattle.xfs_mech.specs.Motions.{PlacesOf};
 ghost use Rattle.xfs_mech.specs.declared.motion.Motion.TheVariants.{Moved};
-ghost use Rattle.xfs_simulated.specs.Leaving.{CanBeMade, IsLeft, IsLost, Leads, LeadsNowhere, since_boot};
+ghost use Rattle.xfs_simulated.specs.Leaving.{CanBeMade, IsLeft, IsLost, Leads, LeadsNowhere};
 
 use std::alloc::Global;
 use xfs_base::{Counts, Kind, Memory, Places, UnitTable};
@@ -14,9 +14,9 @@ use xfs_guard::motions_of;
 use xfs_journal::Rec;
 use xfs_mech::{Motion, after_loading, after_order, after_taking, can_load, lies_in, places_fit};
 
-/// What a journal's records behind its last boot record give on that boot record's places; what lies in the outlet at the end is
-/// taken, as `motions_of` has it. None where there is no boot record, and where on the way there are no places that a
-/// mechanism may have.
+/// What the records that a mounted journal keeps give on the places of the boot record that is the first of them; what lies in
+/// the outlet at the end is taken, as `motions_of` has it. None where the first is no boot record, and where on the way there
+/// are no places that a mechanism may have.
 pub fn places_left(
     alloc: Global,
     units: &UnitTable,
@@ -25,25 +25,11 @@ pub fn places_left(
     ensures left { IfOk result (λ left. IfSome left (λ places. IsLeft units.now records.now places)) }
     ensures none { IfOk result (λ left. IfNone left (IsLost units.now records.now)) }
 {
-    let since = since_boot(records);
-    let Some(Rec::Boot { places } | Rec::Start { places, .. }) = since.first() else {
+    let Some(Rec::Boot { places } | Rec::Start { places, .. }) = records.first() else {
         return Ok(None);
     };
-    let motions = motions_of(alloc, since)?;
+    let motions = motions_of(alloc, 0, records)?;
     Ok(after_all(units, places.places(), &motions))
-}
-
-// The records from the last boot record on; all of them where there is none.
-fn since_boot(records: &[Rec]) -> &[Rec]
-    ensures { result.now ≡ since_boot records.now }
-{
-    let mut begin = 0;
-    for place in 0..records.len() {
-        if let Rec::Boot { .. } | Rec::Start { .. } = &records[place] {
-            begin = place;
-        }
-    }
-    &records[begin..]
 }
 
 // The places after these motions, where each of them leads to places that a mechanism may have.

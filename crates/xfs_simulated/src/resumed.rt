@@ -1,12 +1,12 @@
 //! The machine that goes on where a journal leaves it.
 
-ghost use Rattle.std.specs.Prelude.{◌≡◌, ◌≢◌, ◌⊎◌, List, IfOk, IfSome};
+ghost use Rattle.std.specs.Prelude.{◌≡◌, ◌≢◌, ◌⊎◌, ◌+◌, ◌≤◌, List, length, IfOk, IfSome};
 ghost use Rattle.xfs_base.specs.Causes.{IfTold, Rose};
 ghost use Rattle.xfs_journal.specs.Image.{StandsFor};
 ghost use Rattle.xfs_journal.specs.declared.faults.MountFault.TheVariants.{Memory as NoMemory};
 ghost use Rattle.xfs_journal.specs.declared.record.Rec.{Rec};
 ghost use Rattle.xfs_mech.specs.Sim.{failures_of, faults_of, motions_of as done_by, places_of, units_of};
-ghost use Rattle.xfs_simulated.specs.Resumed.{GoesOn, IsResumed};
+ghost use Rattle.xfs_simulated.specs.Resumed.{GoesOn, GoesOnFrom, IsResumed};
 ghost use Rattle.xfs_simulated.specs.Simulated.{four_units};
 
 use crate::leaving::places_left;
@@ -22,9 +22,9 @@ use xfs_mech::{Fault, Motion, SimMech, places_fit};
 /// For how many milliseconds a nonce lives in a server.
 pub const LIFE: u32 = 600_000;
 
-/// A core whose mechanism goes on where the journal on the disk leaves it: with the motions that the records stand for,
-/// and the notes where they leave them, and with these faults to come. Where they leave them nowhere, and where the
-/// disk's bytes can't be used, each unit has 100 notes. It is refused only for want of memory.
+/// A core whose mechanism goes on where the journal on the disk leaves it: with the motions that the records from the last
+/// boot record on stand for, and the notes where they leave them, and with these faults to come. Where they leave them
+/// nowhere, and where the disk's bytes can't be used, each unit has 100 notes. It is refused only for want of memory.
 pub fn core_resumed<D: Disk>(
     alloc: Global,
     disk: D,
@@ -78,7 +78,7 @@ fn read_back<D: Disk>(alloc: Global, units: &UnitTable, disk: D) -> Result<(D, T
 {
     match Journal::mount(alloc, disk, LIMITS) {
         Ok(journal) => {
-            let told = told_by(alloc, units, journal.records())?;
+            let told = told_by(alloc, units, journal.base(), journal.records())?;
             Ok((journal.end(), told))
         }
         Err(MountFail { why, disk }) => Ok((disk, untold(alloc, why)?)),
@@ -98,11 +98,13 @@ fn untold(alloc: Global, why: MountFault) -> Result<Told, Memory>
     }
 }
 
-fn told_by(alloc: Global, units: &UnitTable, records: &[Rec]) -> Result<Told, Memory>
-    ensures { IfOk result (λ told. GoesOn units.now records.now told.motions.items told.places) }
+// What the records that are kept behind a base tell.
+fn told_by(alloc: Global, units: &UnitTable, base: u64, kept: &[Rec]) -> Result<Told, Memory>
+    requires room { base + length kept.now ≤ 18446744073709551615 }
+    ensures { IfOk result (λ told. GoesOnFrom units.now base kept.now told.motions.items told.places) }
 {
-    let motions = motions_of(alloc, records)?;
-    let places = match places_left(alloc, units, records)? {
+    let motions = motions_of(alloc, base, kept)?;
+    let places = match places_left(alloc, units, kept)? {
         Some(left) => left,
         None => places(),
     };

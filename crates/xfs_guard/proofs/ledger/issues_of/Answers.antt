@@ -1,9 +1,22 @@
-use Rattle.std.proofs.Common.{arith, take, length}
-use Rattle.std.proofs.lemmas.List.{take_all}
-use Rattle.xfs_journal.proofs.StartLaws.{counts-issues}
+use Rattle.std.proofs.Common.{arith}
+use Rattle.xfs_journal.proofs.JournalLaws.{issues_in-next}
+use Rattle.xfs_guard.proofs.LedgerLaws.{issues-few, issues-of}
 use Rattle.xfs_guard.proofs.ledger.issues_of.Goals as goal
 
+pub overflow_add-result : goal.overflow_add-result
+overflow_add-result g c =
+    let all = issues-of c.args.journal.now.records c.args.journal.now.base _ _ _ c.issues.ensures c.records.ensures c.count_issues.ensures.counted in
+    omega (arith, all, issues-few c.args.journal.now.records, c.base-few.ensures.few)
+
+pub returns-clause-issues : goal.returns-clause-issues
+returns-clause-issues g c =
+    let all = issues-of c.args.journal.now.records c.args.journal.now.base _ _ _ c.issues.ensures c.records.ensures c.count_issues.ensures.counted in
+    rw all (issues_in-next c.args.journal.now.records)
+
 pub returns-clause-counted : goal.returns-clause-counted
-returns-clause-counted c =
-    let all = take_all c.loop-i.i c.args.records.now (omega (arith, c.loop-i-test.false)) in
-    counts-issues c.args.records.now c.loop-i.issues (rw all at c.loop-i.invariant.0)
+returns-clause-counted g c = issues-of c.args.journal.now.records c.args.journal.now.base _ _ _ c.issues.ensures c.records.ensures c.count_issues.ensures.counted
+
+pub returns-clause-few : goal.returns-clause-few
+returns-clause-few g c =
+    let all = issues-of c.args.journal.now.records c.args.journal.now.base _ _ _ c.issues.ensures c.records.ensures c.count_issues.ensures.counted in
+    rw all (issues-few c.args.journal.now.records)

@@ -1,4 +1,3 @@
-use Rattle.std.proofs.Common.{rules}
 use Rattle.xfs_guard.proofs.LeftLaws.{left-carried, left-found, left-renewed}
 use Rattle.xfs_guard.proofs.StoredLaws.{unlisted-booted, unlisted-mount}
 use Rattle.xfs_guard.proofs.mounting.mount.Goals as goal

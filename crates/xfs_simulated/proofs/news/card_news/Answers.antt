@@ -1,4 +1,4 @@
-use Rattle.std.proofs.Common.{◌≡◌, ◌∙◌, sym}
+use Rattle.std.proofs.Common.{◌∙◌, sym}
 use Rattle.xfs_simulated.proofs.NewsLaws.{visit-pushed, visits-none}
 use Rattle.xfs_simulated.proofs.news.card_news.Goals as goal
 

@@ -1,4 +1,4 @@
-use Rattle.std.proofs.Common.{◌≡◌, ◌∙◌, sym}
+use Rattle.std.proofs.Common.{◌∙◌, sym}
 use Rattle.xfs_simulated.proofs.NewsLaws.{entries-none, entry-pushed}
 use Rattle.xfs_simulated.proofs.news.key_news.Goals as goal
 

@@ -1,4 +1,4 @@
-use Rattle.std.proofs.Common.{refl, ◌≡◌, ◌∙◌, length, ap, arith}
+use Rattle.std.proofs.Common.{refl, ◌≡◌, ◌∙◌, length, arith}
 use Rattle.xfs_guard.proofs.ContinueLaws.{Continues-act}
 use Rattle.xfs_guard.proofs.KeptLaws.{IsKept-acted, still-open}
 use Rattle.xfs_guard.specs.CrashOutcomes.{MayMove}
@@ -8,7 +8,7 @@ use Rattle.xfs_guard.proofs.guard.Guard.act.Goals as goal
 
 pub invariant_of-self : goal.invariant_of-self
 invariant_of-self g c = (
-  (let number : length c.records.result.now ≡ length c.self.inside.ledger.records = ap length c.records.ensures in
+  (let number = c.newest-number.ensures.number in
       let e = rw (c.new.ensures.number, c.new.ensures.kind, c.new.ensures.counts) at c.execute-outcome.ensures in
       let motions = rw number at e.motions in
       let places = rw number at e.places in
@@ -23,7 +23,7 @@ invariant_of-self g c = (
 pub returns-clause-keeps : goal.returns-clause-keeps
 returns-clause-keeps g c =
     Keeps-moved g.D.Disk _ _ _ g.met.D.Disk.only_now (rw (← c.self.view_is) refl)
-    (let number : length c.records.result.now ≡ length c.self.inside.ledger.records = ap length c.records.ensures in
+    (let number = c.newest-number.ensures.number in
     let e = rw (c.new.ensures.number, c.new.ensures.kind, c.new.ensures.counts) at c.execute-outcome.ensures in
     let motions = rw number at e.motions in
     let places = rw number at e.places in

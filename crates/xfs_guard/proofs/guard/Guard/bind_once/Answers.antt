@@ -30,7 +30,7 @@ bind-requires-clause-fits g c =
     let fit = fit-at _ _ c.self.view_is c.requires.passes.fit in
     let spelled = rw (← c.claim.view_is) at c.requires.passes.spelled in
     let short : length (body (Bind c.claim.inside.token)) ≤ 1025 = omega (arith, spelled.short) in
-    may-write c.self.inside.ledger (Bind c.claim.inside.token) fit.0 fit.2 (takes-one c.self.inside.ledger.limits c.self.inside.ledger.records (Bind c.claim.inside.token) fit.1 short)
+    may-write c.self.inside.ledger (Bind c.claim.inside.token) fit.0 fit.2 (takes-one c.self.inside.ledger.limits c.self.inside.ledger.base c.self.inside.ledger.records (Bind c.claim.inside.token) fit.1 short)
 
 pub invariant_of-self : goal.invariant_of-self
 invariant_of-self g c = (
@@ -50,7 +50,7 @@ invariant_of-self-2 g c = (
       let fit = fit-at _ _ c.self.view_is c.requires.passes.fit in
       let free : bound_token c.self.inside.ledger.records ≡ None = copied-none c.token.result _ c.token.ensures (sym c.is_some.ensures ∙ c.if-is_some.false) in
       let w = c.in_ok-bind.ensures.wrote in
-      rw (w.records, w.units, w.bound_is, w.booted, w.loaded, w.limits, w.open_still, w.boot_missing, w.in_doubt, c.bind.ensures.told, none)
+      rw (w.records, w.base, w.units, w.bound_is, w.booted, w.loaded, w.limits, w.open_still, w.boot_missing, w.in_doubt, c.bind.ensures.told, none)
       (IsKept-open _ _ _ _ (IsSound-claim _ c.claim.inside.token c.claim.inside.amounts (c.self.invariant.0.sound fit.0 fit.2) none passes free) (balanced-push c.self.inside.ledger.records (Bind c.claim.inside.token) _ _ _ c.self.invariant.0.balanced) fit.2 tt tt c.self.invariant.0.units)),
   leaves-list g.D.Disk c.bind.new.self.disk c.bind.new.self.records c.bind.new.self.in_doubt c.in_ok-bind.ensures.kept,
 )
@@ -74,7 +74,7 @@ returns-clause-keeps g c =
     Keeps-wrote g.D.Disk _ _
     (let fit = fit-at _ _ c.self.view_is c.requires.passes.fit in
     let w = c.in_ok-bind.ensures.wrote in
-    rw (← c.self.view_is, w.records, w.units, w.bound_is, w.booted, w.loaded, w.limits, w.open_still, w.boot_missing, w.in_doubt, c.bind.ensures.told)
+    rw (← c.self.view_is, w.records, w.base, w.units, w.bound_is, w.booted, w.loaded, w.limits, w.open_still, w.boot_missing, w.in_doubt, c.bind.ensures.told)
     (Continues-written _ (Bind c.claim.inside.token) (Some c.claim.inside.amounts) c.self.inside.open_order (c.self.invariant.0.clean fit.0) fit.0 fit.2 (λ p e. cc)))
     (rw (← c.self.view_is) c.bind.ensures.faults) (rw (← c.self.view_is) (omega arith))
     (rw (← c.self.view_is) (behind-written g.D.Disk _ _ (Bind c.claim.inside.token) c.bind.ensures.told c.bind.ensures.any_moment c.in_ok-bind.ensures.wrote.records))

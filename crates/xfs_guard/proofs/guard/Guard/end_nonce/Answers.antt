@@ -16,7 +16,7 @@ pub end_nonce-requires : goal.end_nonce-requires
 end_nonce-requires g c =
     let fit = fit-at _ _ c.self.view_is c.requires.fit in
     let short : length (body c.args.rec) ≤ 1025 = ends-short c.args.rec c.requires.ends in record {
-      fits = may-write c.self.inside.ledger c.args.rec fit.0 fit.2 (takes-one c.self.inside.ledger.limits c.self.inside.ledger.records c.args.rec fit.1 short);
+      fits = may-write c.self.inside.ledger c.args.rec fit.0 fit.2 (takes-one c.self.inside.ledger.limits c.self.inside.ledger.base c.self.inside.ledger.records c.args.rec fit.1 short);
       ends = c.requires.ends;
     }
 
@@ -34,7 +34,7 @@ invariant_of-self-2 g c = (
   (let none : c.self.inside.open_order ≡ No = rw (← c.self.view_is) at c.requires.none in
       let fit = fit-at _ _ c.self.view_is c.requires.fit in
       let w = c.in_ok-end_nonce.ensures.wrote in
-      rw (w.records, w.units, w.bound_is, w.booted, w.loaded, w.limits, w.open_still, w.boot_missing, w.in_doubt, c.end_nonce.ensures.told, none)
+      rw (w.records, w.base, w.units, w.bound_is, w.booted, w.loaded, w.limits, w.open_still, w.boot_missing, w.in_doubt, c.end_nonce.ensures.told, none)
       (IsKept-open _ _ _ _ (IsSound-end _ c.args.rec c.requires.ends (c.self.invariant.0.sound fit.0 fit.2) none) (balanced-push c.self.inside.ledger.records c.args.rec _ _ _ c.self.invariant.0.balanced) fit.2 tt tt c.self.invariant.0.units)),
   leaves-list g.D.Disk c.end_nonce.new.self.disk c.end_nonce.new.self.records c.end_nonce.new.self.in_doubt c.in_ok-end_nonce.ensures.kept,
 )
@@ -56,7 +56,7 @@ returns-clause-keeps g c =
     Keeps-wrote g.D.Disk _ _
     (let fit = fit-at _ _ c.self.view_is c.requires.fit in
     let w = c.in_ok-end_nonce.ensures.wrote in
-    rw (← c.self.view_is, w.records, w.units, w.bound_is, w.booted, w.loaded, w.limits, w.open_still, w.boot_missing, w.in_doubt, c.end_nonce.ensures.told)
+    rw (← c.self.view_is, w.records, w.base, w.units, w.bound_is, w.booted, w.loaded, w.limits, w.open_still, w.boot_missing, w.in_doubt, c.end_nonce.ensures.told)
     (Continues-written _ c.args.rec None c.self.inside.open_order (c.self.invariant.0.clean fit.0) fit.0 fit.2 (λ p e. absurd (ends-plain c.args.rec p c.requires.ends e))))
     (rw (← c.self.view_is) c.end_nonce.ensures.faults) (rw (← c.self.view_is) (omega arith))
     (rw (← c.self.view_is) (behind-written g.D.Disk _ _ c.args.rec c.end_nonce.ensures.told c.end_nonce.ensures.any_moment c.in_ok-end_nonce.ensures.wrote.records))

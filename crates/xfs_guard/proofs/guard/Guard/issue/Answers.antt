@@ -19,7 +19,7 @@ pub issue-requires-clause-fits : goal.issue-requires-clause-fits
 issue-requires-clause-fits g c =
     let fit = fit-at _ _ c.self.view_is (sym c.unfit.ensures.first ∙ c.in_default.is) in
     let short : length (body (Issue c.of-nonce.result.number c.at-word.result)) ≤ 1025 = omega arith in
-    may-write c.self.inside.ledger (Issue c.of-nonce.result.number c.at-word.result) fit.0 fit.2 (takes-one c.self.inside.ledger.limits c.self.inside.ledger.records (Issue c.of-nonce.result.number c.at-word.result) fit.1 short)
+    may-write c.self.inside.ledger (Issue c.of-nonce.result.number c.at-word.result) fit.0 fit.2 (takes-one c.self.inside.ledger.limits c.self.inside.ledger.base c.self.inside.ledger.records (Issue c.of-nonce.result.number c.at-word.result) fit.1 short)
 
 pub invariant_of-self : goal.invariant_of-self
 invariant_of-self g c = (
@@ -35,7 +35,7 @@ invariant_of-self-2 g c = (
   (let none : c.self.inside.open_order ≡ No = rw (← c.self.view_is) at c.requires in
       let fit = fit-at _ _ c.self.view_is (sym c.unfit.ensures.first ∙ c.in_default.is) in
       let w = c.in_ok-issue.ensures.wrote in
-      rw (w.records, w.units, w.bound_is, w.booted, w.loaded, w.limits, w.open_still, w.boot_missing, w.in_doubt, c.issue.ensures.told, none, c.turn_to.ensures)
+      rw (w.records, w.base, w.units, w.bound_is, w.booted, w.loaded, w.limits, w.open_still, w.boot_missing, w.in_doubt, c.issue.ensures.told, none, c.turn_to.ensures)
       (IsKept-open _ _ _ _ (IsSound-issue _ c.of-nonce.result.number c.at-word.result (c.self.invariant.0.sound fit.0 fit.2) none (c.of-nonce.ensures.number ∙ c.next_issue-number.ensures)) (balanced-push c.self.inside.ledger.records (Issue c.of-nonce.result.number c.at-word.result) _ _ _ c.self.invariant.0.balanced) fit.2 tt tt c.self.invariant.0.units)),
   leaves-list g.D.Disk c.issue.new.self.disk c.issue.new.self.records c.issue.new.self.in_doubt c.in_ok-issue.ensures.kept,
 )
@@ -70,7 +70,7 @@ returns-clause-keeps g c =
     Keeps-wrote g.D.Disk _ _
     (let fit = fit-at _ _ c.self.view_is (sym c.unfit.ensures.first ∙ c.in_default.is) in
     let w = c.in_ok-issue.ensures.wrote in
-    rw (← c.self.view_is, w.records, w.units, w.bound_is, w.booted, w.loaded, w.limits, w.open_still, w.boot_missing, w.in_doubt, c.issue.ensures.told, c.turn_to.ensures)
+    rw (← c.self.view_is, w.records, w.base, w.units, w.bound_is, w.booted, w.loaded, w.limits, w.open_still, w.boot_missing, w.in_doubt, c.issue.ensures.told, c.turn_to.ensures)
     (Continues-written _ (Issue c.of-nonce.result.number c.at-word.result) None c.self.inside.open_order (c.self.invariant.0.clean fit.0) fit.0 fit.2 (λ p e. cc)))
     (rw (← c.self.view_is) c.issue.ensures.faults) (rw (← c.self.view_is) (omega arith))
     (rw (← c.self.view_is) (behind-written g.D.Disk _ _ (Issue c.of-nonce.result.number c.at-word.result) c.issue.ensures.told c.issue.ensures.any_moment c.in_ok-issue.ensures.wrote.records))

@@ -17,7 +17,7 @@ pub load-requires-clause-fits : goal.load-requires-clause-fits
 load-requires-clause-fits g c =
     let fit = fit-at _ _ c.self.view_is (sym c.unfit.ensures.first ∙ c.in_default.is) in
     let short : length (body (Load c.args.unit c.args.count)) ≤ 1025 = omega arith in
-    may-write c.self.inside.ledger (Load c.args.unit c.args.count) fit.0 fit.2 (takes-one c.self.inside.ledger.limits c.self.inside.ledger.records (Load c.args.unit c.args.count) fit.1 short)
+    may-write c.self.inside.ledger (Load c.args.unit c.args.count) fit.0 fit.2 (takes-one c.self.inside.ledger.limits c.self.inside.ledger.base c.self.inside.ledger.records (Load c.args.unit c.args.count) fit.1 short)
 
 pub invariant_of-self : goal.invariant_of-self
 invariant_of-self g c = (
@@ -33,7 +33,7 @@ invariant_of-self-2 g c = (
   (let none : c.self.inside.open_order ≡ No = rw (← c.self.view_is) at c.requires.none in
       let fit = fit-at _ _ c.self.view_is (sym c.unfit.ensures.first ∙ c.in_default.is) in
       let w = c.in_ok-load.ensures.wrote in
-      rw (w.records, w.units, w.bound_is, w.booted, w.loaded, w.limits, w.open_still, w.boot_missing, w.in_doubt, c.load.ensures.told, none)
+      rw (w.records, w.base, w.units, w.bound_is, w.booted, w.loaded, w.limits, w.open_still, w.boot_missing, w.in_doubt, c.load.ensures.told, none)
       (IsKept-open _ _ _ _ (IsSound-load _ c.args.unit c.args.count (c.self.invariant.0.sound fit.0 fit.2) none) (balanced-push c.self.inside.ledger.records (Load c.args.unit c.args.count) _ _ _ c.self.invariant.0.balanced) fit.2 tt tt c.self.invariant.0.units)),
   leaves-list g.D.Disk c.load.new.self.disk c.load.new.self.records c.load.new.self.in_doubt c.in_ok-load.ensures.kept,
 )
@@ -58,7 +58,7 @@ returns-clause-keeps g c =
     Keeps-wrote g.D.Disk _ _
     (let fit = fit-at _ _ c.self.view_is (sym c.unfit.ensures.first ∙ c.in_default.is) in
     let w = c.in_ok-load.ensures.wrote in
-    rw (← c.self.view_is, w.records, w.units, w.bound_is, w.booted, w.loaded, w.limits, w.open_still, w.boot_missing, w.in_doubt, c.load.ensures.told)
+    rw (← c.self.view_is, w.records, w.base, w.units, w.bound_is, w.booted, w.loaded, w.limits, w.open_still, w.boot_missing, w.in_doubt, c.load.ensures.told)
     (Continues-written _ (Load c.args.unit c.args.count) c.self.inside.ledger.bound c.self.inside.open_order (c.self.invariant.0.clean fit.0) fit.0 fit.2 (λ p e. cc)))
     (rw (← c.self.view_is) c.load.ensures.faults) (rw (← c.self.view_is) (omega arith))
     (rw (← c.self.view_is) (behind-written g.D.Disk _ _ (Load c.args.unit c.args.count) c.load.ensures.told c.load.ensures.any_moment c.in_ok-load.ensures.wrote.records))

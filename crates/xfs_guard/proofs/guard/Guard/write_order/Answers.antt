@@ -20,7 +20,7 @@ order-requires-clause-fits g c =
     let eight = order-short c.args.kind c.args.counts (omega arith) in
     let short : length (body (Order c.args.kind c.args.counts)) ≤ 1025 = omega (arith, eight) in
     may-write c.reserve_two.new.self (Order c.args.kind c.args.counts) (same.shut ∙ fit.0) (same.boot_missing ∙ fit.2)
-    (rw (same.limits, same.records) (takes-one c.self.inside.ledger.limits c.self.inside.ledger.records (Order c.args.kind c.args.counts) fit.1 short))
+    (rw (same.limits, same.base, same.records) (takes-one c.self.inside.ledger.limits c.self.inside.ledger.base c.self.inside.ledger.records (Order c.args.kind c.args.counts) fit.1 short))
 
 pub invariant_of-self-in_err-order : goal.invariant_of-self-in_err-order
 invariant_of-self-in_err-order g c = (
@@ -30,7 +30,7 @@ invariant_of-self-in_err-order g c = (
       let same = c.in_ok-reserve_two.ensures.same in
       let s = rw c.in_err-order.ensures.err at c.in_err-order.ensures.wrote in
       let sound = c.self.invariant.0.sound fit.0 fit.2 in
-      rw (s.records, s.units, s.bound, s.booted, s.loaded, s.limits, s.shut, s.boot_missing, s.in_doubt, c.order.ensures.told, same.records, same.units, same.bound, same.booted, same.loaded, same.limits, same.boot_missing, same.disk, c.ready.ensures.motions, c.ready.ensures.places, c.ready.ensures.faults, none, fine.1, fine.2)
+      rw (s.records, s.base, s.units, s.bound, s.booted, s.loaded, s.limits, s.shut, s.boot_missing, s.in_doubt, c.order.ensures.told, same.records, same.base, same.units, same.bound, same.booted, same.loaded, same.limits, same.boot_missing, same.disk, c.ready.ensures.motions, c.ready.ensures.places, c.ready.ensures.faults, none, fine.1, fine.2)
       (IsKept-doubted _ _ _ _ _ _ _ sound c.self.invariant.0.balanced (IsSound-asked _ c.requires.admitted.0 sound none fine.0) (c.ready.ensures.units ∙ c.self.invariant.0.units))),
   (let same = c.in_ok-reserve_two.ensures.same in
       leaves-refused g.D.Disk Unit c.in_err-order.field-0.0 c.reserve_two.new.self c.order.new.self (Order c.args.kind c.args.counts) _ g.met.D.Disk.counts_now c.in_err-order.ensures.wrote (inr c.in_err-order.ensures.err) c.order.ensures.told c.order.ensures.any_moment (rw (same.disk, same.records, same.in_doubt) c.self.invariant.1)),
@@ -46,10 +46,10 @@ invariant_of-self-2 g c = (
       let same = c.in_ok-reserve_two.ensures.same in
       let w = c.in_ok-order.ensures.wrote in
       let marked = rw (fine.1, fine.2) at (balanced-push c.self.inside.ledger.records (Order c.args.kind c.args.counts) _ _ _ c.self.invariant.0.balanced) in
-      rw (w.records, w.units, w.bound_is, w.booted, w.loaded, w.limits, w.open_still, w.boot_missing, w.in_doubt, c.order.ensures.told, same.records, same.units, same.bound, same.booted, same.loaded, same.limits, same.boot_missing, same.disk, c.ready.ensures.motions, c.ready.ensures.places, c.ready.ensures.faults, fine.1, fine.2)
+      rw (w.records, w.base, w.units, w.bound_is, w.booted, w.loaded, w.limits, w.open_still, w.boot_missing, w.in_doubt, c.order.ensures.told, same.records, same.base, same.units, same.bound, same.booted, same.loaded, same.limits, same.boot_missing, same.disk, c.ready.ensures.motions, c.ready.ensures.places, c.ready.ensures.faults, fine.1, fine.2)
       (IsKept-open _ _ _ _ (IsSound-asked _ c.requires.admitted.0 (c.self.invariant.0.sound fit.0 fit.2) none fine.0) marked fit.2
       (omega (arith, c.in_ok-ready.ensures.room), omega (arith, c.in_ok-reserve_two.ensures.ok, c.order.ensures.room))
-      (leaves-done c.self.inside.ledger.limits c.self.inside.ledger.records _ _ fit.1 eight)
+      (leaves-done c.self.inside.ledger.limits c.self.inside.ledger.base c.self.inside.ledger.records _ _ fit.1 eight)
       (c.ready.ensures.units ∙ c.self.invariant.0.units))),
   leaves-list g.D.Disk c.order.new.self.disk c.order.new.self.records c.order.new.self.in_doubt c.in_ok-order.ensures.kept,
 )
@@ -60,7 +60,7 @@ returns-in_err-order-clause-keeps g c =
     (let fit = fit-at _ _ c.self.view_is c.requires.fit in
     let same = c.in_ok-reserve_two.ensures.same in
     let s = rw c.in_err-order.ensures.err at c.in_err-order.ensures.wrote in
-    rw (← c.self.view_is, s.records, s.units, s.bound, s.booted, s.loaded, s.limits, s.shut, s.boot_missing, s.in_doubt, c.order.ensures.told, same.records, same.units, same.bound, same.booted, same.loaded, same.limits, same.boot_missing, same.disk, c.ready.ensures.motions, c.ready.ensures.places, c.ready.ensures.faults)
+    rw (← c.self.view_is, s.records, s.base, s.units, s.bound, s.booted, s.loaded, s.limits, s.shut, s.boot_missing, s.in_doubt, c.order.ensures.told, same.records, same.base, same.units, same.bound, same.booted, same.loaded, same.limits, same.boot_missing, same.disk, c.ready.ensures.motions, c.ready.ensures.places, c.ready.ensures.faults)
     (Continues-doubted _ (Order c.args.kind c.args.counts) c.self.inside.open_order (c.self.invariant.0.clean fit.0) fit.0 fit.2 (λ p e. cc)))
     (let same = c.in_ok-reserve_two.ensures.same in rw (← c.self.view_is) (rw same.disk at c.order.ensures.faults)) (rw (← c.self.view_is, c.ready.ensures.faults) (omega arith))
     (let same = c.in_ok-reserve_two.ensures.same in
@@ -81,7 +81,7 @@ returns-clause-keeps g c =
     (let fit = fit-at _ _ c.self.view_is c.requires.fit in
     let same = c.in_ok-reserve_two.ensures.same in
     let w = c.in_ok-order.ensures.wrote in
-    rw (← c.self.view_is, w.records, w.units, w.bound_is, w.booted, w.loaded, w.limits, w.open_still, w.boot_missing, w.in_doubt, c.order.ensures.told, same.records, same.units, same.bound, same.booted, same.loaded, same.limits, same.boot_missing, same.disk, c.ready.ensures.motions, c.ready.ensures.places, c.ready.ensures.faults)
+    rw (← c.self.view_is, w.records, w.base, w.units, w.bound_is, w.booted, w.loaded, w.limits, w.open_still, w.boot_missing, w.in_doubt, c.order.ensures.told, same.records, same.base, same.units, same.bound, same.booted, same.loaded, same.limits, same.boot_missing, same.disk, c.ready.ensures.motions, c.ready.ensures.places, c.ready.ensures.faults)
     (Continues-written _ (Order c.args.kind c.args.counts) c.self.inside.ledger.bound (Written c.args.kind c.args.counts) (c.self.invariant.0.clean fit.0) fit.0 fit.2 (λ p e. cc)))
     (let same = c.in_ok-reserve_two.ensures.same in rw (← c.self.view_is) (rw same.disk at c.order.ensures.faults)) (rw (← c.self.view_is, c.ready.ensures.faults) (omega arith))
     (let same = c.in_ok-reserve_two.ensures.same in
@@ -102,4 +102,4 @@ returns-in_err-ready-clause-keeps g c =
 pub returns-in_err-reserve_two-clause-keeps : goal.returns-in_err-reserve_two-clause-keeps
 returns-in_err-reserve_two-clause-keeps g c =
     let same = c.in_err-reserve_two.ensures.same in
-    rw (← c.self.view_is, same.records, same.units, same.bound, same.booted, same.loaded, same.limits, same.shut, same.boot_missing, same.in_doubt, same.disk, c.ready.ensures.motions, c.ready.ensures.places, c.ready.ensures.faults) (Keeps-still g.D.Disk _ g.met.D.Disk.only_now c.self.invariant.1 c.self.invariant.0.recorded)
+    rw (← c.self.view_is, same.records, same.base, same.units, same.bound, same.booted, same.loaded, same.limits, same.shut, same.boot_missing, same.in_doubt, same.disk, c.ready.ensures.motions, c.ready.ensures.places, c.ready.ensures.faults) (Keeps-still g.D.Disk _ g.met.D.Disk.only_now c.self.invariant.1 c.self.invariant.0.recorded)

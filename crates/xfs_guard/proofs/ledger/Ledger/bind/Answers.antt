@@ -7,7 +7,7 @@ pub invariant_of-self-2 : goal.invariant_of-self-2
 invariant_of-self-2 g c =
     let was = write-open _ _ _ c.self.view_is c.requires.fits in
     let w = c.in_ok-number.ensures in
-    rw w.ok.0 (KeepsLedger-read _ _ _ _ _ _ _ _ _ _ (IsRead-bind _ _ _ _ _ _ c.args.token _ (c.self.invariant.read was.0 was.1) (rw (← c.self.view_is) at c.requires.live) (rw (← c.self.view_is) at c.requires.free) (fresh-at _ _ c.self.view_is c.requires.fresh) zeros w.number) w.ok.2)
+    rw (w.ok.0, w.base) (KeepsLedger-read _ _ _ _ _ _ _ _ _ _ (IsRead-bind _ _ _ _ _ _ c.args.token _ (c.self.invariant.read was.0 was.1) (rw (← c.self.view_is) at c.requires.live) (rw (← c.self.view_is) at c.requires.free) (fresh-at _ _ c.self.view_is c.requires.fresh) zeros w.number) w.ok.2)
   where
     zeros : (j : ℕ) → slice_index (0 ∷ 0 ∷ 0 ∷ 0 ∷ 0 ∷ 0 ∷ 0 ∷ 0 ∷ 0 ∷ []) j ≡ 0
     zeros zero = refl

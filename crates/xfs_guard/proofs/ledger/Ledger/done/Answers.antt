@@ -11,5 +11,5 @@ pub invariant_of-self-2 : goal.invariant_of-self-2
 invariant_of-self-2 g c =
     let was = write-open _ _ _ c.self.view_is c.requires.fits in
     let ordered = rw (← c.self.view_is) at c.requires.ordered in
-    rw c.in_ok-append.ensures.ok.0 (KeepsLedger-read _ _ _ _ _ _ _ _ _ _
+    rw (c.in_ok-append.ensures.ok.0, c.in_ok-append.ensures.base) (KeepsLedger-read _ _ _ _ _ _ _ _ _ _
     (IsRead-paid _ _ _ _ _ c.self.inside.bound _ c.args.kind c.args.moved c.args.diverted (c.self.invariant.read was.0 was.1) ordered (rw c.take.ensures.value at c.paid-self-inside.ensures)) c.in_ok-append.ensures.ok.2)

@@ -5,5 +5,5 @@ use Rattle.xfs_guard.proofs.ledger.Ledger.order.Goals as goal
 pub invariant_of-self-2 : goal.invariant_of-self-2
 invariant_of-self-2 g c =
     let was = write-open _ _ _ c.self.view_is c.requires.fits in
-    let w = c.in_ok-append.ensures.ok in
-    rw w.0 (KeepsLedger-read _ _ _ _ _ _ _ _ _ _ (IsRead-order _ _ _ _ _ _ c.args.kind c.args.counts (c.self.invariant.read was.0 was.1)) w.2)
+    let w = c.in_ok-append.ensures in
+    rw (w.ok.0, w.base) (KeepsLedger-read _ _ _ _ _ _ _ _ _ _ (IsRead-order _ _ _ _ _ _ c.args.kind c.args.counts (c.self.invariant.read was.0 was.1)) w.ok.2)

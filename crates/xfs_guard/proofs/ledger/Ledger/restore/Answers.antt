@@ -1,10 +1,11 @@
-use Rattle.std.proofs.Common.{inl, inr, Err, ap, refl, rules}
+use Rattle.std.proofs.Common.{arith, inl, inr, Err, ap, refl, rules}
 use Rattle.xfs_journal.specs.Journal.{boot_of}
 use Rattle.xfs_journal.proofs.StartLaws.{boot-ends, boot-issues_none, boot-marks, boot_of-places}
-use Rattle.xfs_guard.proofs.LedgerLaws.{boot_of-doubts, front-possible, IsRead-mark, KeepsLedger-read}
+use Rattle.xfs_guard.proofs.LedgerLaws.{boot_of-doubts, front-possible, longer-possible, IsRead-mark, KeepsLedger-read}
 use Rattle.xfs_guard.proofs.CrashedLaws.{begins-same, begins-push, IsTorn-missing, IsTorn-in_doubt}
 use Rattle.xfs_guard.proofs.PossibleLaws.{leaves-list, leaves-either}
 use Rattle.xfs_guard.proofs.RereadLaws.{reread-append}
+use Rattle.xfs_guard.proofs.RestoreLaws.{base_then-within}
 use Rattle.xfs_guard.proofs.StoredLaws.{booted_behind}
 use Rattle.xfs_guard.proofs.ledger.Ledger.restore.Goals as goal
 
@@ -13,13 +14,13 @@ invariant_of-self-in-Ok g c =
     let w = c.in-Ok.ensures in
     let boot = boot_of c.remount.new.self.records c.args.places in
     let tells = boot_of-places c.remount.new.self.records c.args.places in
-    rw (w.ok.0, w.number) (KeepsLedger-read _ _ _ _ _ _ _ _ _ _
-    (IsRead-mark _ _ _ boot (rw c.records-2.ensures at c.issues_of-issues.ensures.issues) (rw c.records-2.ensures at c.issues_of-issues.ensures.few) (boot-issues_none boot _ tells) (boot-ends boot _ tells) (boot-marks boot _ tells)) w.ok.2)
+    rw (w.ok.0, w.number, w.based, w.ok.0) (KeepsLedger-read _ _ _ _ _ _ _ _ _ _
+    (IsRead-mark _ _ _ boot c.issues_of-issues.ensures.issues c.issues_of-issues.ensures.few (base_then-within c.args.rebases c.remount.new.self.base _ _ (let before = rw (← c.self.view_is) at c.newest-before.ensures in let longer = longer-possible _ _ _ c.in_default.ensures.ok in omega (arith, before.within, before.number, longer.0, c.remount.ensures.base))) (boot-issues_none boot _ tells) (boot-ends boot _ tells) (boot-marks boot _ tells)) w.ok.2)
 
 pub invariant_of-self-in-Err-Disk : goal.invariant_of-self-in-Err-Disk
 invariant_of-self-in-Err-Disk g c = record {
   read = search rules;
-  lives = λ booted. rw c.in-Err-Disk.ensures.same (rw c.records.ensures at (c.live_found-self-inside.ensures (rw (c.records-before.ensures, c.records.ensures, front-possible _ _ _ c.in_default.ensures.ok) (c.self.invariant.lives booted))));
+  lives = λ booted. rw c.in-Err-Disk.ensures.same (c.live_found-self-inside.ensures (rw ((rw (← c.self.view_is) at c.newest-before.ensures.number), front-possible _ _ _ c.in_default.ensures.ok) (c.self.invariant.lives booted)));
   doubts = rw (c.in-Err-Disk.ensures.in_doubt (ap Err c.in-Err-Disk.field-0-is)).1 (boot_of-doubts _ _ _);
 }
 
@@ -27,12 +28,12 @@ pub returns-in-Err-Full-clause-full : goal.returns-in-Err-Full-clause-full
 returns-in-Err-Full-clause-full g c = rw (← c.self.view_is) (λ full.
     let e = c.in-Err-Full.ensures in
     let m = e.mounted (ap Err c.in-Err-Full.field-0-is) in
-    (c.remount.new.self.records, c.in_default.ensures.ok, rw c.remount.ensures.limits at (e.full (ap Err c.in-Err-Full.field-0-is)), rw (e.same, e.limits, c.remount.ensures.limits, m.0, m.1, c.in_default.ensures.opened.1) refl))
+    (c.remount.new.self.records, c.in_default.ensures.ok, rw (c.remount.ensures.limits, c.remount.ensures.base) at (e.full (ap Err c.in-Err-Full.field-0-is)), rw (e.same, e.base, e.limits, c.remount.ensures.base, c.remount.ensures.limits, m.0, m.1, c.in_default.ensures.opened.1) refl))
 
 pub returns-in-Ok-clause-ok : goal.returns-in-Ok-clause-ok
 returns-in-Ok-clause-ok g c = rw (← c.self.view_is)
     (let w = c.in-Ok.ensures in
-    (c.remount.new.self.records, c.in_default.ensures.ok, rw (w.ok.0, w.ok.1, w.ok.2, w.limits, c.remount.ensures.limits, c.places-booted.ensures) refl))
+    (c.remount.new.self.records, c.in_default.ensures.ok, rw (w.based, w.ok.0, w.ok.1, w.ok.2, w.limits, c.remount.ensures.base, c.remount.ensures.limits, c.places-booted.ensures) refl))
 
 pub returns-in-Ok-clause-stands : goal.returns-in-Ok-clause-stands
 returns-in-Ok-clause-stands g c = rw (← c.self.view_is)

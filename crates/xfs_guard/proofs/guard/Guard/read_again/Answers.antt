@@ -5,14 +5,14 @@ use Rattle.xfs_guard.proofs.KeepsLaws.{Keeps-still, Keeps-wrote}
 use Rattle.xfs_guard.proofs.KeptLaws.{over}
 use Rattle.xfs_guard.proofs.RestoreLaws.{restored, may-restore, IsKept-restored, Continues-restored}
 use Rattle.xfs_guard.proofs.RereadLaws.{behind-reread, recorded-reread}
-use Rattle.xfs_guard.proofs.guard.Guard.restore.Goals as goal
+use Rattle.xfs_guard.proofs.guard.Guard.read_again.Goals as goal
 
 pub invariant_of-self-2 : goal.invariant_of-self-2
 invariant_of-self-2 g c = (
   (let e = c.restore-read.ensures in
       let other : c.restore-read.result ≢ Err Memory = λ is. true≢false (rw is at (sym c.eq.ensures ∙ c.if-eq.false)) in
-      IsKept-restored _ _ _ _ _ _ c.self.inside.ledger c.restore-read.new.self c.in-Ok.survey _ _ _ _ _ _
-      (restored c.restore-read.result c.self.inside.ledger c.restore-read.new.self c.in-Ok.survey (g.D.Disk.held c.self.inside.ledger.disk ≡ None) other e.ok e.full e.disk e.not_journal) (c.in-Ok.ensures ∙ c.survey-places.ensures) e.told c.self.invariant.0),
+      IsKept-restored _ _ _ _ _ _ _ c.self.inside.ledger c.restore-read.new.self c.in-Ok.survey _ _ _ _ _ _
+      (restored c.restore-read.result _ c.self.inside.ledger c.restore-read.new.self c.in-Ok.survey (g.D.Disk.held c.self.inside.ledger.disk ≡ None) other e.ok e.full e.disk e.not_journal) (c.in-Ok.ensures ∙ c.survey-places.ensures) e.told c.self.invariant.0),
   c.restore-read.ensures.left,
 )
 
@@ -21,8 +21,8 @@ returns-then-eq-clause-keeps g c =
     let e = c.restore-read.ensures in
     Keeps-wrote g.D.Disk _ _
     (let e = rw (c.in-Ok.ensures, c.survey-places.ensures) at c.restore-read.ensures in
-    rw (← c.self.view_is) (Continues-restored _ _ _ _ _ _ _ c.self.inside.ledger c.restore-read.new.self _ _ e.told
-    (may-restore c.restore-read.result c.self.inside.ledger c.restore-read.new.self (g.M.Mechanism.places c.self.inside.mech) (g.D.Disk.held c.self.inside.ledger.disk ≡ None) e.ok e.memory e.full e.disk e.not_journal)))
+    rw (← c.self.view_is) (Continues-restored _ _ _ _ _ _ _ _ c.self.inside.ledger c.restore-read.new.self _ _ e.told
+    (may-restore c.restore-read.result _ c.self.inside.ledger c.restore-read.new.self (g.M.Mechanism.places c.self.inside.mech) (g.D.Disk.held c.self.inside.ledger.disk ≡ None) e.ok e.memory e.full e.disk e.not_journal)))
     (rw (← c.self.view_is) e.faults) (rw (← c.self.view_is) (omega arith))
     (rw (← c.self.view_is) (behind-reread g.D.Disk _ _ c.in-Ok.survey e.told e.any_moment))
     (rw (← c.self.view_is) (recorded-reread g.D.Disk c.self.inside.ledger.disk c.restore-read.new.self.disk
@@ -34,8 +34,8 @@ returns-clause-keeps g c =
     let e = c.restore-read.ensures in
     Keeps-wrote g.D.Disk _ _
     (let e = rw (c.in-Ok.ensures, c.survey-places.ensures) at c.restore-read.ensures in
-    rw (← c.self.view_is) (Continues-restored _ _ _ _ _ _ _ c.self.inside.ledger c.restore-read.new.self _ _ e.told
-    (may-restore c.restore-read.result c.self.inside.ledger c.restore-read.new.self (g.M.Mechanism.places c.self.inside.mech) (g.D.Disk.held c.self.inside.ledger.disk ≡ None) e.ok e.memory e.full e.disk e.not_journal)))
+    rw (← c.self.view_is) (Continues-restored _ _ _ _ _ _ _ _ c.self.inside.ledger c.restore-read.new.self _ _ e.told
+    (may-restore c.restore-read.result _ c.self.inside.ledger c.restore-read.new.self (g.M.Mechanism.places c.self.inside.mech) (g.D.Disk.held c.self.inside.ledger.disk ≡ None) e.ok e.memory e.full e.disk e.not_journal)))
     (rw (← c.self.view_is) e.faults) (rw (← c.self.view_is) (omega arith))
     (rw (← c.self.view_is) (behind-reread g.D.Disk _ _ c.in-Ok.survey e.told e.any_moment))
     (rw (← c.self.view_is) (recorded-reread g.D.Disk c.self.inside.ledger.disk c.restore-read.new.self.disk

@@ -1,0 +1,5 @@
+use Rattle.xfs_guard.proofs.RestoreLaws.{rebooted-alone}
+use Rattle.xfs_guard.proofs.guard.Guard.reboot.Goals as goal
+
+pub returns-clause-alone : goal.returns-clause-alone
+returns-clause-alone g c = rebooted-alone c.read_again.result c.args.self.now.state c.read_again.new.self.state c.read_again.ensures.ok
