@@ -1,25 +1,44 @@
 -- A lawful step keeps the chronicle, and adds the journal's new records behind it. So what a seat had seen begins what it has seen after a turn.
-use Rattle.std.proofs.Common.{◌≡◌, ℕ, Bool, List, map, refl, sym, subst}
+use Rattle.std.proofs.Common.{◌≡◌, ◌≢◌, ◌-◌, ◌∙◌, ◌++◌, ◌∷◌, [], ℕ, zero, suc, Bool, List, drop, length, map, ap, refl, sym, subst, arith}
 use mathlib.Core.List.{IsPrefix}
 use Rattle.std.proofs.lemmas.List.{map-append}
+use Rattle.xfs_guard.specs.View.{GuardView}
 use Rattle.xfs_base.specs.declared.moment.Service.{Service}
 use Rattle.xfs_machine.specs.Laws.{IsLawful}
 use Rattle.xfs_machine.specs.Wanted.{wants}
-use Rattle.xfs_model.specs.Events.{Event, Answer}
+use Rattle.xfs_model.specs.Events.{Event, Answer, restart}
 use Rattle.xfs_model.specs.Step.{Step}
 use Rattle.xfs_model.specs.Told.{AllTell}
 use Rattle.xfs_turn.proofs.Prefixes.{begins_longer}
-use Rattle.xfs_board.specs.Chronicles.{Shared, chronicle}
+use Rattle.xfs_machine.specs.MachineView.{MachineView}
+use Rattle.xfs_board.specs.Chronicles.{HasBase, Shared, chronicle}
 use Rattle.xfs_board.specs.Turns.{HandsTold, IsLook, IsTurn}
 use Rattle.xfs_board.specs.declared.shared.Entry.{Entry}
 use Rattle.xfs_board.specs.declared.shared.Entry.TheVariants.{Written}
+
+-- a lawful step leaves the base, but for a restart
+pub same_base : {D : Type 0} (start : GuardView D) (there found left : MachineView D) (event : Event) (answer : Answer) → event ≢ restart → IsLawful found.state event answer left.state → found ≡ there
+    → HasBase start there → HasBase start left
+same_base {D} start there found left event answer other laws same has =
+    let base : left.state.seen.guard.base ≡ found.state.seen.guard.base = laws.advances.base other in
+    let before : found.state.seen.guard.base ≡ there.state.seen.guard.base = ap (λ (m : MachineView D). m.state.seen.guard.base) same in
+    base ∙ before ∙ has
+
+-- what lies behind a place of a list that grew
+drop-append : {X : Type 0} (n : ℕ) (xs ys : List X) → drop n (xs ++ ys) ≡ drop n xs ++ drop (n - length xs) ys
+drop-append zero xs ys = let none : 0 ≡ 0 - length xs = omega arith in ap (λ k. xs ++ drop k ys) none
+drop-append {X} (suc n) [] ys = let same : suc n ≡ suc n - length {A = X} [] = omega arith in ap (λ k. drop k ys) same
+drop-append (suc n) (x ∷ xs) ys = let less : n - length xs ≡ suc n - length (x ∷ xs) = omega arith in drop-append n xs ys ∙ ap (λ k. drop n xs ++ drop k ys) less
 
 module _ {M D : Type 0} where
   pub grows : (old new : Shared D) (event : Event) (answer : Answer) → new.start ≡ old.start → IsLawful old.machine.state event answer new.machine.state
       → IsPrefix (chronicle {M = M} old) (chronicle new)
   grows old new event answer same laws =
       let a = laws.advances in
-      (map Written a.records.more, rw (same, a.records.is, map-append {B = Entry M D} Written old.machine.state.seen.guard.records a.records.more) refl)
+      let base = old.start.state.base in
+      let records = old.machine.state.seen.guard.records in
+      let more = drop (base - length records) a.records.more in
+      (map Written more, rw (same, a.records.is, drop-append base records a.records.more, map-append {B = Entry M D} Written (drop base records) more) refl)
 
   -- what the seat had seen, as it was taken out, begins the list of the machine that was found
   begins_found : (seen taken : List (Entry M D)) (there found : Shared D) → taken ≡ seen → IsPrefix taken (chronicle there) → found ≡ there → IsPrefix seen (chronicle found)

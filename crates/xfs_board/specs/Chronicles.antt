@@ -1,5 +1,5 @@
--- What lies behind the lock: a machine, and its guard as it was when the lock was opened, from which it went on. Its chronicle is that guard, and then the records of the journal: a record's place is one more than its number.
-use Rattle.std.specs.Prelude.{List, ◌∷◌, map}
+-- What lies behind the lock: a machine, and its guard as it was when the lock was opened, from which it went on. Its chronicle is that guard, and then the records that memory has of the journal: a record's place is its number less the base, plus one.
+use Rattle.std.specs.Prelude.{◌≡◌, List, ◌∷◌, drop, map}
 use mathlib.Core.List.{IsPrefix}
 use Rattle.xfs_disk.specs.declared.disk.Disk.{Ghosts}
 use Rattle.xfs_guard.specs.Keeps.{Proceeds}
@@ -17,7 +17,11 @@ abbrev pub opened : {D : Type 0} → MachineView D → Shared D
 opened machine = record { start = guard_of machine; machine = machine }
 
 abbrev pub chronicle : {M D : Type 0} → Shared D → List (Entry M D)
-chronicle s = Began s.start ∷ map Written s.machine.state.seen.guard.records
+chronicle s = Began s.start ∷ map Written (drop s.start.state.base s.machine.state.seen.guard.records)
+
+-- as many records stand in front of those in memory as when the lock was opened
+abbrev pub HasBase : {D : Type 0} → GuardView D → MachineView D → Type 0
+HasBase start m = m.state.seen.guard.base ≡ start.state.base
 
 -- this machine comes back of the lock: it went on from a guard that was put behind it, and what was seen begins its chronicle
 pub record ComesBack {M D : Type 0} (g : Ghosts D) (seen : List (Entry M D)) (last : MachineView D) : Type 0 where

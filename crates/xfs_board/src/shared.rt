@@ -44,7 +44,7 @@ pub struct SharedMachine<M: Mechanism, D: Disk> {
 
 impl<M: Mechanism, D: Disk> Model for SharedMachine<M, D> {
     ghost use Rattle.std.specs.Coded.{codes};
-    ghost use Rattle.xfs_board.specs.Chronicles.{Shared};
+    ghost use Rattle.xfs_board.specs.Chronicles.{HasBase, Shared};
     ghost use Rattle.xfs_guard.specs.Keeps.{Proceeds};
     ghost use Rattle.xfs_machine.specs.DataCodes.{data_code};
     ghost use Rattle.xfs_machine.specs.MachineView.{guard_of};
@@ -55,7 +55,7 @@ impl<M: Mechanism, D: Disk> Model for SharedMachine<M, D> {
 
     ghost view = { λ s. record { start = guard_of s.start.value; machine = s.machine.value } };
 
-    ghost invariant = { λ s. Proceeds D.Disk (guard_of s.start.value) (guard_of s.machine.value) };
+    ghost invariant = { λ s. Proceeds D.Disk (guard_of s.start.value) (guard_of s.machine.value) × HasBase (guard_of s.start.value) s.machine.value };
 }
 
 impl<M: Mechanism, D: Disk> Chronicle for SharedMachine<M, D> {

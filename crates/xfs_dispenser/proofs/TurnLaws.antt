@@ -124,6 +124,7 @@ pub record IsFull (s : Seen) (ask : Ask) (next : Seen) : Type 0 where
   pub number : ℕ
   pub places : PlacesOf s.guard.places (Moved number (asked_kind ask) (asked_counts s.guard ask) diverted ∷ []) next.guard.places
   pub records : next.guard.records ≡ (s.guard.records ++ order_record s.guard ask ∷ []) ++ Done (asked_counts s.guard ask) diverted ∷ []
+  pub base : next.guard.base ≡ s.guard.base
   pub settled : next.guard.open_order ≡ No
   pub bound : next.guard.bound ≡ s.guard.bound
   pub units : next.guard.units ≡ s.guard.units
@@ -174,6 +175,7 @@ full-of s ask written acted next moved diverted failed w fine a t =
       records = appended ∙ (ap (λ l. l ++ Done t.moved t.diverted ∷ []) kept
           ∙ (ap (λ m. (s.guard.records ++ order_record s.guard ask ∷ []) ++ Done m t.diverted ∷ []) (done_as.0 ∙ all)
           ∙ ap (λ d. (s.guard.records ++ order_record s.guard ask ∷ []) ++ Done (asked_counts s.guard ask) d ∷ []) done_as.1));
+      base = ap (λ (v : View). v.base) t.same ∙ (ap (λ (v : View). v.base) a.same ∙ ap (λ (v : View). v.base) w);
       settled = ap (λ (v : View). v.open_order) t.same;
       bound = ap (λ (v : View). v.bound) t.same ∙ (ap (λ (v : View). v.bound) a.same ∙ ap (λ (v : View). v.bound) w);
       units = ap (λ (v : View). v.units) t.same ∙ (ap (λ (v : View). v.units) a.same ∙ ap (λ (v : View). v.units) w);

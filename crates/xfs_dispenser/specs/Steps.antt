@@ -109,7 +109,7 @@ Orders ask rest s plan next after went =
 pub record IsRestored (s : Seen) (plan : Plan) (next : Seen) (after : Plan) (went : Went) : Type 0 where
   pub records : List Rec
   pub possible : IsPossible s.guard.records s.guard.in_doubt records
-  pub fits : exceeds s.guard.limits (with_boot records s.guard.places) ≡ false
+  pub fits : exceeds s.guard.limits s.guard.base (with_boot records s.guard.places) ≡ false
   pub becomes : Becomes s (restarted s.guard records) next
   pub left : after ≡ with_parts plan (emptying s.guard.places)
   pub is : went ≡ onward s.guard.units plan.notes (emptying s.guard.places)
@@ -118,7 +118,7 @@ pub record IsRestored (s : Seen) (plan : Plan) (next : Seen) (after : Plan) (wen
 pub record IsFull (s next : Seen) : Type 0 where
   pub records : List Rec
   pub possible : IsPossible s.guard.records s.guard.in_doubt records
-  pub exceeded : exceeds s.guard.limits (with_boot records s.guard.places) ≡ true
+  pub exceeded : exceeds s.guard.limits s.guard.base (with_boot records s.guard.places) ≡ true
   pub becomes : Becomes s (reread s.guard records) next
 
 -- the disk fails at it, before the list was read or at its boot record

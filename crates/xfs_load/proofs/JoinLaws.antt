@@ -1,5 +1,5 @@
 -- A machine that has just booted has room for a client.
-use Rattle.std.proofs.Common.{◌≡◌, ℕ, inl, inr, arith, length}
+use Rattle.std.proofs.Common.{◌≡◌, inl, inr, arith, length}
 use Rattle.xfs_base.specs.declared.moment.Service.{Service}
 use Rattle.xfs_model.specs.Events.{Answer, join, full}
 use Rattle.xfs_model.specs.State.{State, bare}

@@ -1,3 +1,4 @@
+pub mod BaseLaws
 pub mod HearLaws
 pub mod JoinLaws
 pub mod PlayLaws

@@ -1,5 +1,5 @@
 -- The summary of a load: its rounds, what its Done records say was presented, how many rounds were refused, and how many records it wrote.
-use Rattle.std.specs.Prelude.{◌≡◌, ◌+◌, ◌-◌, ◌/◌, ◌++◌, ℕ, List, Bool, true, false, codes, decimal, drop, fold, length, if◌then◌else◌}
+use Rattle.std.specs.Prelude.{◌≡◌, ◌+◌, ◌-◌, ◌/◌, ◌++◌, ℕ, List, true, false, codes, decimal, drop, fold, length, if◌then◌else◌}
 use Rattle.xfs_base.specs.declared.counts.Kind.TheVariants as kind
 use Rattle.xfs_base.specs.declared.money.NoteKind.{NoteKind}
 use Rattle.xfs_base.specs.Money.{value}

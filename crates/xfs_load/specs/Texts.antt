@@ -1,5 +1,5 @@
 -- The texts of what the client of `load` asks: commands of the dispenser, by their names, with a payload each.
-use Rattle.std.specs.Prelude.{◌≡◌, ◌*◌, ◌+◌, ◌++◌, ◌∷◌, [], ℕ, List, codes, decimal, None, Some, option_and_then}
+use Rattle.std.specs.Prelude.{◌≡◌, ◌*◌, ◌++◌, ◌∷◌, [], ℕ, List, codes, decimal, None, Some, option_and_then}
 use Rattle.std.specs.declared.option.Option.{Option}
 use Rattle.xfs_envelope.specs.Fields.{passing}
 use Rattle.xfs_token.specs.Amounts.{IsMade}

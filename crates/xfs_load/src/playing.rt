@@ -1,6 +1,6 @@
 //! A load played on a machine.
 
-ghost use Rattle.std.specs.Prelude.{◌≡◌, ◌-◌, drop, length, IfOk, OnErr};
+ghost use Rattle.std.specs.Prelude.{◌≡◌, ◌≤◌, ◌-◌, drop, length, IfOk, OnErr};
 ghost use Rattle.xfs_guard.specs.Keeps.{Proceeds};
 ghost use Rattle.xfs_load.specs.Plays.{PlaysRounds, RoundsInPart};
 ghost use Rattle.xfs_load.specs.Summaries.{IsSummary};
@@ -12,6 +12,7 @@ use crate::summary::Summary;
 use std::alloc::Global;
 use xfs_base::{Memory, Service};
 use xfs_disk::Disk;
+use xfs_journal::Rec;
 use xfs_machine::{JoinFault, Machine};
 use xfs_mech::Mechanism;
 
@@ -29,7 +30,7 @@ pub fn play<M: Mechanism, D: Disk>(
     ensures memory { OnErr result (RoundsInPart key rounds machine.old.state machine.new.state) }
     ensures proceeds { Proceeds D.Disk (guard_of machine.old) (guard_of machine.new) }
 {
-    let before = machine.records().len().saturating_sub(1);
+    let before = older(machine);
     let pass = match machine.join(Service::Cash) {
         Ok(pass) => pass,
         Err(JoinFault::Memory) => return Err(Memory),
@@ -43,6 +44,24 @@ pub fn play<M: Mechanism, D: Disk>(
         rounds,
         client.refused(),
         machine.units(),
-        &machine.records()[before..],
+        behind(machine, before),
     ))
+}
+
+// How many records there are in front of the newest: memory may not have the first of them.
+fn older<M: Mechanism, D: Disk>(machine: &Machine<M, D>) -> u64
+    ensures count { result ≡ length machine.now.state.seen.guard.records - 1 }
+    ensures kept { machine.now.state.seen.guard.base ≤ result }
+{
+    let _base = machine.base();
+    machine.newest().saturating_sub(1)
+}
+
+// The records of a machine's journal behind so many of them.
+fn behind<M: Mechanism, D: Disk>(machine: &Machine<M, D>, many: u64) -> &[Rec]
+    requires kept { machine.now.state.seen.guard.base ≤ many }
+    requires within { many ≤ length machine.now.state.seen.guard.records }
+    ensures { result.now ≡ drop many machine.now.state.seen.guard.records }
+{
+    &machine.records()[(many - machine.base()) as usize..]
 }

@@ -1,23 +1,26 @@
 -- What the guard's own clauses say, in the words of the machine's definitions.
-use Rattle.std.proofs.Common.{◌≡◌, ◌≢◌, ◌≤◌, ◌⊎◌, ℕ, Bool, true, false, List, None, Some, Result, Ok, Err, inl, inr, refl, subst}
+use Rattle.std.proofs.Common.{◌≡◌, ◌≢◌, ◌≤◌, ◌⊎◌, ℕ, Bool, true, false, List, [], ◌∷◌, length, take, None, Some, Option, Result, Ok, Err, inl, inr, refl, sym, ap, ◌∙◌, subst, arith, length-append}
+use Rattle.std.proofs.lemmas.List.{take-append-le, take_all}
 use Rattle.std.specs.Prelude.{is_ok, IfErr, OnErr, OnOk}
 use Rattle.xfs_base.specs.Causes.{Rose}
 use Rattle.xfs_base.specs.declared.counts.Counts.{Counts}
 use Rattle.xfs_base.specs.declared.counts.Kind.{Kind}
 use Rattle.xfs_base.specs.Counts.{LiesIn}
+use Rattle.xfs_base.specs.declared.counts.Places.{Places}
 use Rattle.xfs_dispenser.specs.Seen.{Seen, MechCalled}
+use Rattle.xfs_guard.specs.Booting.{HadRoom, IsRebooted, IsUnread, IsUnrebooted, IsUnstarted, has_no_room_at_boot}
 use Rattle.xfs_guard.specs.Reports.{HasReported}
 use Rattle.xfs_mech.specs.declared.motion.Motion.TheVariants.{Taken}
 use Rattle.xfs_guard.specs.Orders.{Settles, Unsettles, kind_unacted}
-use Rattle.xfs_guard.specs.View.{GuardView, View, reread, restarted, unbooted, unread}
+use Rattle.xfs_guard.specs.View.{GuardView, View, unread}
 use Rattle.xfs_guard.specs.declared.deny.Deny.{Deny}
 use Rattle.xfs_guard.specs.declared.fail.BootFault.{BootFault}
 use Rattle.xfs_guard.specs.declared.fail.BootFault.TheVariants.{NotJournal, Disk, Full, Memory}
 use Rattle.xfs_guard.specs.declared.open.Open.{Open}
 use Rattle.xfs_guard.specs.declared.open.Open.TheVariants.{No, Written, Acted}
-use Rattle.xfs_journal.specs.JournalView.{IsPossible, exceeds}
+use Rattle.xfs_journal.specs.declared.limits.Limits.{Limits}
 use Rattle.xfs_journal.specs.declared.record.Rec.{Rec}
-use Rattle.xfs_journal.specs.Journal.{with_boot}
+use Rattle.xfs_journal.specs.Journal.{boot_of, with_boot}
 use Rattle.xfs_disk.specs.declared.disk.Disk.{Ghosts}
 use Rattle.xfs_machine.specs.Endings.{ActsThenSettles, ClosesThrough, RefusesAs}
 use Rattle.xfs_model.specs.Events.{fault, taken}
@@ -25,37 +28,43 @@ use Rattle.xfs_model.specs.Guards.{ActsAndSettles, Closes, IsUnbooted, Reboots, 
 use Rattle.xfs_model.specs.State.{State}
 use Rattle.xfs_model.specs.Touches.{TakesNotes, failed, took}
 
--- the journal was read again, and has its boot record
-pub reboots : (old new : Seen) (records : List Rec) → IsPossible old.guard.records old.guard.in_doubt records → new.guard ≡ restarted old.guard records
-    → exceeds old.guard.limits new.guard.records ≡ false → old.disk_faults ≤ new.disk_faults → Reboots old new
-reboots old new records possible is fits later = record {
-  records = records;
-  possible = possible;
-  fits = subst (λ (v : View). exceeds old.guard.limits v.records ≡ false) is fits;
-  becomes = record { guard_is = is; later = later };
+-- lists are the same that are so behind their boot record
+same_read : (read records : List Rec) (places : Places) → with_boot read places ≡ with_boot records places → read ≡ records
+same_read read records places is =
+    let one = length-append read (boot_of read places ∷ []) in
+    let other = length-append records (boot_of records places ∷ []) in
+    let sizes = ap (λ (l : List Rec). length l) is in
+    let same : length read ≡ length records = omega (arith, one, other, sizes) in
+    sym (take-append-le (length read) read (boot_of read places ∷ []) (omega arith) ∙ take_all (length read) read (omega arith))
+    ∙ ap (λ (l : List Rec). take (length read) l) is
+    ∙ take-append-le (length read) records (boot_of records places ∷ []) (omega (arith, same)) ∙ take_all (length read) records (omega (arith, same))
+
+-- there was room for the boot record behind the list that was read
+fits_read : (held : Option (List ℕ)) (limits : Limits) (places : Places) (records now : List Rec) → now ≡ with_boot records places → HadRoom held limits places now
+    → has_no_room_at_boot limits records places ≡ false
+fits_read held limits places records now is (read, stands, room) =
+    subst (λ (l : List Rec). has_no_room_at_boot limits l places ≡ false) (same_read read records places (sym room.0 ∙ is)) room.1
+
+-- the journal was read again, and has its boot record, which alone is in memory
+pub reboots : (held : Option (List ℕ)) (r : Result Unit BootFault) (old new : Seen) → OnOk r (IsRebooted old.guard new.guard)
+    → OnOk r (HadRoom held old.guard.limits old.guard.places new.guard.records) → old.disk_faults ≤ new.disk_faults → OnOk r (Reboots old new)
+reboots held (Ok done) old new is fits later = record {
+  records = is.0;
+  possible = is.1;
+  fits = fits_read held old.guard.limits old.guard.places is.0 new.guard.records (ap (λ (v : View). v.records) is.2) fits;
+  becomes = record { guard_is = is.2; later = later };
 }
+reboots held (Err why) old new is fits later = tt
 
-pub rebooted : (r : Result Unit BootFault) (old new : Seen) → OnOk r ((records : List Rec) × IsPossible old.guard.records old.guard.in_doubt records × (new.guard ≡ restarted old.guard records))
-    → OnOk r (exceeds old.guard.limits new.guard.records ≡ false) → old.disk_faults ≤ new.disk_faults → OnOk r (Reboots old new)
-rebooted (Ok done) old new is fits later = reboots old new is.0 is.1 is.2 fits later
-rebooted (Err why) old new is fits later = tt
-
-abbrev FoundFull : Seen → Seen → Type 0
-FoundFull old new = (records : List Rec) × IsPossible old.guard.records old.guard.in_doubt records × (exceeds old.guard.limits (with_boot records old.guard.places) ≡ true) × (new.guard ≡ reread old.guard records)
-
-abbrev FoundFault : Seen → Seen → Type 0
-FoundFault old new = (new.guard ≡ unread old.guard) ⊎ ((records : List Rec) × IsPossible old.guard.records old.guard.in_doubt records × (new.guard ≡ unbooted old.guard records))
-
--- the restore was refused, by the fault
-pub refuses_as : (Untold : Type 0) (r : Result Unit BootFault) (old new : Seen) → (r ≡ Err Memory → new.guard ≡ old.guard) → (r ≡ Err Full → FoundFull old new) → (r ≡ Err Disk → FoundFault old new)
+-- the reboot was refused, by the fault
+pub refuses_as : (Untold : Type 0) (r : Result Unit BootFault) (old new : Seen) → (r ≡ Err Memory → new.guard ≡ old.guard) → (r ≡ Err Full → IsUnrebooted old.guard new.guard)
+    → (r ≡ Err Disk → IsUnread old.guard new.guard ⊎ IsUnstarted old.guard new.guard)
     → IfErr r (λ f. (at : ℕ) → f ≡ NotJournal at → Untold × (new.guard ≡ unread old.guard)) → IfErr r (λ f. (at : ℕ) → f ≡ NotJournal at → old.guard.disk_told ≡ false)
     → (r ≡ Err Disk → Rose old.disk_faults new.disk_faults) → old.disk_faults ≤ new.disk_faults → IfErr r (λ f. RefusesAs f old new)
 refuses_as Untold (Ok done) old new memory full disk other untold cause later = tt
 refuses_as Untold (Err (NotJournal at)) old new memory full disk other untold cause later = record { untold = untold at refl; becomes = record { guard_is = (other at refl).1; later = later } }
 refuses_as Untold (Err Disk) old new memory full disk other untold cause later = record { now = new.guard; is = disk refl; fails = record { becomes = record { guard_is = refl; later = later }; cause = cause refl } }
-refuses_as Untold (Err Full) old new memory full disk other untold cause later =
-    let w = full refl in
-    record { records = w.0; possible = w.1; exceeded = w.2; becomes = record { guard_is = w.3; later = later } }
+refuses_as Untold (Err Full) old new memory full disk other untold cause later = record { now = new.guard; is = full refl; becomes = record { guard_is = refl; later = later } }
 refuses_as Untold (Err Memory) old new memory full disk other untold cause later = record { guard_is = memory refl; later = later }
 
 pub unbooted_as : (f : BootFault) (old new : Seen) → RefusesAs f old new → f ≢ Memory → IsUnbooted old new

@@ -2,7 +2,7 @@
 use Rattle.std.specs.Prelude.{◌≡◌, ◌≢◌, Result, is_some}
 use Rattle.xfs_disk.specs.declared.disk.Disk.{Ghosts}
 use Rattle.xfs_dispenser.specs.Seen.{Becomes, Seen, seen}
-use Rattle.xfs_dispenser.specs.Steps.{IsFull, IsUnknown, IsUnread}
+use Rattle.xfs_dispenser.specs.Steps.{IsUnknown}
 use Rattle.xfs_guard.specs.CrashOutcomes.{MayMove}
 use Rattle.xfs_guard.specs.Keeps.{Keeps, NoEntry, Proceeds}
 use Rattle.xfs_guard.specs.Stored.{IsStored}
@@ -15,6 +15,7 @@ use Rattle.xfs_guard.specs.declared.open.Open.TheVariants.{No, Written, Acted}
 use Rattle.xfs_mech.specs.declared.mechanism.Mechanism.{Ghosts as Mechanisms}
 use Rattle.xfs_machine.specs.Answers.{finished}
 use Rattle.xfs_model.specs.Events.{finish, restart, unrestarted}
+use Rattle.xfs_model.specs.Guards.{FailsToBoot, FindsNoRoom}
 use Rattle.xfs_model.specs.State.{State}
 use Rattle.xfs_model.specs.Step.{Step, gone}
 
@@ -28,11 +29,11 @@ pub record IsHandedBack {M D : Type 0} (m : Mechanisms M) (g : Ghosts D) (last :
   pub units : m.units mech ≡ last.guard.units
   pub faults : m.faults mech ≡ last.guard.faults
 
--- why a restart is refused: a disk that tells nothing is no journal, the disk fails, the boot record passes a limit, or memory runs out and the guard is as before
+-- why a restart is refused: a disk that tells nothing is no journal, the disk fails, the boot record passes a limit where a boot's would, or memory runs out and the guard is as before
 abbrev pub RefusesAs : BootFault → Seen → Seen → Type 0
 RefusesAs (NotJournal at) old new = IsUnknown old new
-RefusesAs Disk old new = IsUnread old new
-RefusesAs Full old new = IsFull old new
+RefusesAs Disk old new = FailsToBoot old new
+RefusesAs Full old new = FindsNoRoom old new
 RefusesAs Memory old new = Becomes old old.guard new
 
 -- the written order is acted, and then settled: a crash in between finds the guard of between

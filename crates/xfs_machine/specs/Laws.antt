@@ -12,7 +12,7 @@ use Rattle.xfs_model.specs.Told.{IsTold}
 pub record IsLawful (old : State) (event : Event) (answer : Answer) (new : State) : Type 0 where
   pub conversation : Keeps old event answer new
   pub told : IsTold new
-  pub advances : Advances old.seen new.seen
+  pub advances : Advances event old.seen new.seen
   pub marks : MarksHaveCauses old event new
   pub causes : HasCauses new
   pub faults : FaultsHaveCauses old event new

@@ -1,15 +1,15 @@
 //! How a machine begins.
 
-ghost use Rattle.std.specs.Prelude.{MatchResult, ◌≡◌, ◌≢◌, ℕ, false, ◌≤◌, length, is_some, IfOk, IfErr};
+ghost use Rattle.std.specs.Prelude.{MatchResult, ◌≡◌, ◌≢◌, ℕ, ◌≤◌, length, is_some, IfOk, IfErr};
 ghost use Rattle.xfs_base.specs.Causes.{IfTold, Rose};
 ghost use Rattle.xfs_disk.specs.Moments.{LeavesOnly};
-ghost use Rattle.xfs_guard.specs.Booting.{LacksRoom, LeavesEither, LeavesRecorded, SparesAll, SparesUnlisted};
+ghost use Rattle.xfs_guard.specs.Booting.{HadRoom, LacksRoom, LeavesEither, LeavesRecorded, SparesAll, SparesUnlisted};
 ghost use Rattle.xfs_guard.specs.Continues.{ContinuesFound};
 ghost use Rattle.xfs_guard.specs.CrashOutcomes.{EachStands, IsOldOrBooted, StandsRecorded};
 ghost use Rattle.xfs_guard.specs.Entries.{Begins, at_entry};
 ghost use Rattle.xfs_guard.specs.declared.fail.BootFault.TheVariants.{NotJournal, Disk as BootDisk, Full as BootFull};
 ghost use Rattle.xfs_guard.specs.declared.open.Open.TheVariants.{No};
-ghost use Rattle.xfs_journal.specs.JournalView.{exceeds, IsCarriedOver, IsNoJournal};
+ghost use Rattle.xfs_journal.specs.JournalView.{IsCarriedOver, IsNoJournal};
 ghost use Rattle.xfs_journal.specs.Paging.{IsQuiet};
 ghost use Rattle.xfs_dispenser.specs.Seen.{seen};
 ghost use Rattle.xfs_model.specs.State.{bare};
@@ -35,7 +35,7 @@ impl<M: Mechanism, D: Disk> Machine<M, D> {
         ensures bare { IfOk result (λ m. m.state ≡ bare m.state.seen bench.life (length m.state.seen.guard.records)) }
         ensures ok { IfOk result (λ m. Begins (at_entry M.Mechanism D.Disk bench) m.state.seen.guard) }
         ensures tied { IfOk result (λ m. m.state.seen.disk_faults ≡ D.faults m.disk) }
-        ensures fits { IfOk result (λ m. exceeds bench.limits m.state.seen.guard.records ≡ false) }
+        ensures fits { IfOk result (λ m. HadRoom (D.held bench.disk) bench.limits (M.places bench.mech) m.state.seen.guard.records) }
         ensures continues { IfOk result (λ m. ContinuesFound (M.places bench.mech) m.state.seen.guard) }
         ensures carried { IfOk result (λ m. IsCarriedOver (D.held m.disk)) }
         ensures mech { IfErr result (λ f. f.mech ≡ bench.mech) }
@@ -84,7 +84,7 @@ impl<M: Mechanism, D: Disk> Machine<M, D> {
         ensures bare { result.state ≡ bare (seen D.Disk guard) life (length guard.state.records) }
         ensures disk { result.disk ≡ guard.disk }
     {
-        let boot = guard.records().len() as u64;
+        let boot = newest(&guard);
         Machine {
             alloc,
             guard,
@@ -100,4 +100,11 @@ impl<M: Mechanism, D: Disk> Machine<M, D> {
             queues: Queues::new(alloc),
         }
     }
+}
+
+// The number of the newest record of a guard's journal: memory may not have its first ones.
+pub(crate) fn newest<M: Mechanism, D: Disk>(guard: &Guard<M, D>) -> u64
+    ensures { result ≡ length guard.now.state.records }
+{
+    guard.base() + guard.records().len() as u64
 }

@@ -13,6 +13,7 @@ ghost use Rattle.xfs_model.specs.Events.{restart, restarted, unrestarted, end_, 
 ghost use Rattle.xfs_model.specs.State.{State, bare};
 ghost use Rattle.xfs_model.specs.Step.{Step, gone};
 
+use crate::boot::newest;
 use crate::connections::Connections;
 use crate::machine::Machine;
 use crate::queues::Queues;
@@ -27,7 +28,8 @@ use xfs_mech::Mechanism;
 
 impl<M: Mechanism, D: Disk> Machine<M, D> {
     /// boot records again in place, on the same mechanism and disk: every connection, command, card, entry and
-    /// exchange is gone. So they are after a refusal, but for `Memory`, which leaves all as it was.
+    /// exchange is gone. So they are after a refusal, but for `Memory`, which leaves all as it was. The limit of records
+    /// counts anew from the boot record, which has room where a boot's would have it.
     pub fn reboot(&mut self) -> Result<(), BootFault>
         ensures ok { OnOk result (Step self.old.state restart restarted self.new.state) }
         ensures laws { OnOk result (IsLawful self.old.state restart restarted self.new.state) }
@@ -161,7 +163,7 @@ fn boot_after<M: Mechanism, D: Disk>(
     ensures err { OnErr outcome.now (result ≡ boot) }
 {
     match outcome {
-        Ok(()) => guard.records().len() as u64,
+        Ok(()) => newest(guard),
         Err(_) => boot,
     }
 }

@@ -1,7 +1,8 @@
-ghost use Rattle.std.specs.Prelude.{◌≡◌, ◌≢◌, ◌≤◌, ◌++◌, ℕ, nat_le, is_some, length, option_map, if◌then◌else◌};
+ghost use Rattle.std.specs.Prelude.{◌≡◌, ◌≢◌, ◌<◌, ◌≤◌, ◌^◌, ◌++◌, ℕ, drop, nat_le, is_some, length, option_map, if◌then◌else◌};
 ghost use Rattle.xfs_base.specs.Causes.{next_count};
 ghost use Rattle.xfs_base.specs.declared.moment.TheConstants.{LAST_MOMENT};
 ghost use Rattle.xfs_guard.specs.Nonce.{live_in};
+ghost use Rattle.xfs_journal.specs.Journal.{base_of};
 ghost use Rattle.xfs_machine.specs.Answers.{joined_as, posted};
 ghost use Rattle.xfs_machine.specs.Laws.{IsLawful};
 ghost use Rattle.xfs_machine.specs.MachineView.{guard_of};
@@ -11,6 +12,7 @@ ghost use Rattle.xfs_machine.specs.Wanted.{wants};
 ghost use Rattle.xfs_model.specs.Step.{Step};
 ghost use Rattle.xfs_model.specs.Told.{AllTell};
 
+use crate::boot::newest;
 use crate::connection::Connection;
 use crate::connections::Connections;
 use crate::frames::Frames;
@@ -222,11 +224,28 @@ impl<M: Mechanism, D: Disk> Machine<M, D> {
         }
     }
 
-    /// The journal. A record's number is its place, from 1.
+    /// The journal's records that are in memory: those behind its base. The number of the first is one more than the base.
     pub fn records(&self) -> &[Rec]
-        ensures { result.now ≡ self.now.state.seen.guard.records }
+        ensures { result.now ≡ drop self.now.state.seen.guard.base self.now.state.seen.guard.records }
     {
         self.guard.records()
+    }
+
+    /// How many records of the journal memory doesn't have: those in front of the boot record of this machine's boot.
+    pub fn base(&self) -> u64
+        ensures base { result ≡ self.now.state.seen.guard.base }
+        ensures led { self.now.state.seen.guard.base ≤ base_of self.now.state.seen.guard.records }
+        ensures within { self.now.state.seen.guard.base ≤ length self.now.state.seen.guard.records }
+        ensures few { length self.now.state.seen.guard.records < 2 ^ 62 }
+    {
+        self.guard.base()
+    }
+
+    /// The number of the newest record.
+    pub fn newest(&self) -> u64
+        ensures { result ≡ length self.now.state.seen.guard.records }
+    {
+        newest(&self.guard)
     }
 
     // The service of the open connection of a pass.

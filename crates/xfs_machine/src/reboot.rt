@@ -13,14 +13,15 @@ use xfs_disk::Disk;
 use xfs_guard::{BootFault, Deny, Guard};
 use xfs_mech::Mechanism;
 
-/// Reads the journal again, which then gets a boot record. After a refusal but for `Memory` no order is open.
+/// Reads the journal again, which then gets a boot record, the one record that stays in memory. After a refusal but for
+/// `Memory` no order is open.
 pub(crate) fn reboot<M: Mechanism, D: Disk>(guard: &mut Guard<M, D>) -> Result<(), BootFault>
     ensures ok { OnOk result (Reboots (seen D.Disk guard.old) (seen D.Disk guard.new)) }
     ensures cause { IfErr result (λ f. RefusesAs f (seen D.Disk guard.old) (seen D.Disk guard.new)) }
     ensures disk { result ≡ Err BootDisk → Rose (D.faults guard.old.disk) (D.faults guard.new.disk) }
     ensures keeps { Keeps D.Disk NoEntry guard.old guard.new }
 {
-    guard.restore()
+    guard.reboot()
 }
 
 /// Carries out the order that is open, where it is written alone, and settles it. Its one refusal is `Disk`.

@@ -27,7 +27,7 @@ use Rattle.xfs_model.specs.State.{State}
 use Rattle.xfs_model.specs.Step.{Step}
 use Rattle.xfs_model.specs.Successes.{IsOfPlace, OrderFollows}
 use Rattle.xfs_model.proofs.Calls.{one_call}
-use Rattle.xfs_model.proofs.Sounds.{unbooted_closed}
+use Rattle.xfs_model.proofs.Sounds.{unrestored_closed}
 
 -- the order stays, or none is open
 stays : (o : Open) (v : View) → v.open_order ≡ o → OrderFollows o v
@@ -60,7 +60,7 @@ part (Order ask) rest s plan next after went none (inl (w, left, is)) =
 part (Order ask) rest s plan next after went none (inr (kept_, inl d)) = kept s.guard next.guard (ap (λ (x : Seen). x.guard.open_order) d.same)
 part (Order ask) rest s plan next after went none (inr (kept_, inr u)) = kept s.guard next.guard (ap (λ (v : View). v.open_order) u.fails.becomes.guard_is)
 part Restore rest s plan next after went none (inl r) = closed s.guard next.guard (ap (λ (v : View). v.open_order) r.becomes.guard_is)
-part Restore rest s plan next after went none (inr (kept_, is, how)) = closed s.guard next.guard (unbooted_closed s next how)
+part Restore rest s plan next after went none (inr (kept_, is, how)) = closed s.guard next.guard (unrestored_closed s next how)
 part (Load unit count) rest s plan next after went none is = kept s.guard next.guard (ap (λ (v : View). v.open_order) is.reported.same)
 part (Note unit count) rest s plan next after went none (inl (w, left, is)) = kept s.guard next.guard (ap (λ (v : View). v.open_order) w.becomes.guard_is)
 part (Note unit count) rest s plan next after went none (inr (kept_, inl d)) = kept s.guard next.guard (ap (λ (x : Seen). x.guard.open_order) d.same)

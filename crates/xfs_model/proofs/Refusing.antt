@@ -40,8 +40,8 @@ use Rattle.xfs_queue.specs.Commands.{is_at, ticket_of}
 use Rattle.xfs_model.specs.Cases.{with_start, with_went}
 use Rattle.xfs_model.specs.Devices.{Saying, card_says, keyboard_says, with_saying}
 use Rattle.xfs_model.specs.Events.{Answer as Answered, Event}
-use Rattle.xfs_model.specs.Faults.{IsRefused, RefusalsHaveCauses, disk, is_not_ready, is_refused, so_before, unbooted, unfit, was_refused}
-use Rattle.xfs_model.specs.Guards.{IsUnbooted, NonceCommand, cleared_, is_fit, issued, none_to_clear, refused, uncleared, unissued}
+use Rattle.xfs_model.specs.Faults.{IsRefused, RefusalsHaveCauses, disk, is_not_ready, is_refused, so_before, unfit, unrestored, was_refused}
+use Rattle.xfs_model.specs.Guards.{IsUnrestored, NonceCommand, cleared_, is_fit, issued, none_to_clear, refused, uncleared, unissued}
 use Rattle.xfs_model.specs.Results.{with_result}
 use Rattle.xfs_model.specs.Sound.{IsSound}
 use Rattle.xfs_model.specs.State.{Ask, Job, Outcome, State, queue_at}
@@ -52,7 +52,7 @@ use Rattle.xfs_model.proofs.Turns.{Speaks, Turn, accepted, at_event, begun, card
 
 -- why the guard gave that answer
 abbrev pub IsBarred : Seen → Seen → Type 0
-IsBarred s next = (is_fit s ≡ false) ⊎ (Rose s.disk_faults next.disk_faults ⊎ IsUnbooted s next)
+IsBarred s next = (is_fit s ≡ false) ⊎ (Rose s.disk_faults next.disk_faults ⊎ IsUnrestored s next)
 
 -- a refusal of its own check is another answer
 own_ready : (records : List Rec) (deny : Deny) → OwnDeny records deny → IfSome (denial deny) (λ (a : Answer). is_not_ready a.code ≡ false)
@@ -257,7 +257,7 @@ module _ (old new : State) (service : Service) where
   barred : (b : Command Job) → service ≡ Cash → IsBarred old.seen new.seen → IsRefused old new service b
   barred b at (inl unfit_) = unfit at unfit_
   barred b at (inr (inl rose)) = disk at rose
-  barred b at (inr (inr how)) = unbooted at how
+  barred b at (inr (inr how)) = unrestored at how
 
   by_start : (start : Start) (a : Command Job) → IsKnown old service a → service ≡ Cash → StartBars old.seen new.seen start → is_refused (with_start start a).job.outcome ≡ true → IsRefused old new service (with_start start a)
   by_start (told answer) a known_ at bars refused_ = barred (with_start (told answer) a) at (bars refused_)

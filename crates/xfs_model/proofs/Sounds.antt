@@ -13,6 +13,7 @@ use Rattle.xfs_dispenser.specs.Steps.{Works}
 use Rattle.xfs_dispenser.specs.declared.ask.CashAsk.{CashAsk}
 use Rattle.xfs_dispenser.specs.declared.plan.Plan.{Plan}
 use Rattle.xfs_dispenser.proofs.WorkLaws.{work-planned}
+use Rattle.xfs_guard.specs.Booting.{IsUnread as IsNotRead, IsUnstarted}
 use Rattle.xfs_guard.specs.View.{View, unbooted, unread}
 use Rattle.xfs_journal.specs.JournalView.{IsPossible}
 use Rattle.xfs_journal.specs.declared.record.Rec.{Rec}
@@ -25,7 +26,7 @@ use Rattle.xfs_queue.specs.Queue.{mark}
 use Rattle.xfs_model.specs.Cases.{with_start, with_went}
 use Rattle.xfs_model.specs.Devices.{Saying, with_saying}
 use Rattle.xfs_model.specs.Events.{Answer, Event}
-use Rattle.xfs_model.specs.Guards.{IsUnbooted}
+use Rattle.xfs_model.specs.Guards.{IsUnbooted, IsUnrestored}
 use Rattle.xfs_model.specs.Results.{with_plan, with_result}
 use Rattle.xfs_model.specs.Runs.{Run, begun as begun_, next}
 use Rattle.xfs_model.specs.Sound.{IsFitting, IsFresh, IsOnPlan, IsSound}
@@ -211,10 +212,20 @@ unread_closed : (v now : View) → (now ≡ unread v) ⊎ ((records : List Rec) 
 unread_closed v now (inl e) = ap (λ (w : View). w.open_order) e
 unread_closed v now (inr e) = ap (λ (w : View). w.open_order) e.2
 
--- what a refused restart leaves has no order open
+-- what a refused restore leaves has no order open
+pub unrestored_closed : (old new : Seen) → IsUnrestored old new → new.guard.open_order ≡ No
+unrestored_closed old new (inl f) = ap (λ (v : View). v.open_order) f.becomes.guard_is
+unrestored_closed old new (inr (inl u)) = ap (λ (v : View). v.open_order) u.fails.becomes.guard_is ∙ unread_closed old.guard u.now u.is
+unrestored_closed old new (inr (inr u)) = ap (λ (v : View). v.open_order) u.becomes.guard_is
+
+unstarted_closed : (v now : View) → IsNotRead v now ⊎ IsUnstarted v now → now.open_order ≡ No
+unstarted_closed v now (inl e) = ap (λ (w : View). w.open_order) e
+unstarted_closed v now (inr e) = ap (λ (w : View). w.open_order) e.2
+
+-- nor has what a refused restart leaves
 pub unbooted_closed : (old new : Seen) → IsUnbooted old new → new.guard.open_order ≡ No
-unbooted_closed old new (inl f) = ap (λ (v : View). v.open_order) f.becomes.guard_is
-unbooted_closed old new (inr (inl u)) = ap (λ (v : View). v.open_order) u.fails.becomes.guard_is ∙ unread_closed old.guard u.now u.is
+unbooted_closed old new (inl f) = ap (λ (v : View). v.open_order) (f.becomes.guard_is ∙ f.is.3)
+unbooted_closed old new (inr (inl u)) = ap (λ (v : View). v.open_order) u.fails.becomes.guard_is ∙ unstarted_closed old.guard u.now u.is
 unbooted_closed old new (inr (inr u)) = ap (λ (v : View). v.open_order) u.becomes.guard_is
 
 -- a run keeps it

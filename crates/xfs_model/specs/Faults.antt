@@ -12,7 +12,7 @@ use Rattle.xfs_queue.specs.Commands.{is_at, is_running, ticket_of}
 use Rattle.xfs_queue.specs.declared.command.Command.{Command}
 use Rattle.xfs_queue.specs.declared.command.Ticket.{Ticket}
 use Rattle.xfs_model.specs.Events.{Event, touch}
-use Rattle.xfs_model.specs.Guards.{IsUnbooted, is_fit}
+use Rattle.xfs_model.specs.Guards.{IsUnrestored, is_fit}
 use Rattle.xfs_model.specs.State.{Job, Outcome, State, queue_at}
 
 abbrev pub is_hardware_error : Code → Bool
@@ -66,7 +66,7 @@ pub data IsRefused (old : State) (new : State) (service : Service) (a : Command 
   so_before : was_refused old service (ticket_of a) ≡ true → IsRefused old new service a
   unfit : service ≡ Cash → is_fit old.seen ≡ false → IsRefused old new service a
   disk : service ≡ Cash → Rose old.seen.disk_faults new.seen.disk_faults → IsRefused old new service a
-  unbooted : service ≡ Cash → IsUnbooted old.seen new.seen → IsRefused old new service a
+  unrestored : service ≡ Cash → IsUnrestored old.seen new.seen → IsRefused old new service a
 
 abbrev pub RefusalsHaveCauses : State → State → Type 0
 RefusalsHaveCauses old new = (service : Service) → All (λ a. is_refused a.job.outcome ≡ true → IsRefused old new service a) (queue_at new service)

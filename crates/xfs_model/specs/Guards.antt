@@ -10,16 +10,17 @@ use Rattle.xfs_common.specs.Payloads.{nothing, nonce_payload}
 use Rattle.xfs_dispenser.specs.Seen.{Seen, Becomes, Fails, MechCalled}
 use Rattle.xfs_dispenser.specs.Steps.{IsFull, IsUnread, IsUnknown}
 use Rattle.xfs_envelope.specs.declared.code.Code.TheVariants.{DeviceNotReady}
+use Rattle.xfs_guard.specs.Booting.{IsUnread as IsNotRead, IsUnrebooted, IsUnstarted, has_no_room_at_boot}
 use Rattle.xfs_guard.specs.Fits.{unfit}
 use Rattle.xfs_guard.specs.Nonce.{live_in}
 use Rattle.xfs_guard.specs.Orders.{Acts, Settles, Unsettles, kind_unacted}
 use Rattle.xfs_guard.specs.Reports.{HasReported}
-use Rattle.xfs_guard.specs.View.{View, shut_at, restarted}
+use Rattle.xfs_guard.specs.View.{View, shut_at, rebooted}
 use Rattle.xfs_guard.specs.Word.{issue_word}
 use Rattle.xfs_guard.specs.declared.open.Open.{Open}
 use Rattle.xfs_guard.specs.declared.open.Open.TheVariants.{No, Written, Acted}
-use Rattle.xfs_journal.specs.Journal.{next_issue, nonce_text, with_boot}
-use Rattle.xfs_journal.specs.JournalView.{IsPossible, exceeds}
+use Rattle.xfs_journal.specs.Journal.{next_issue, nonce_text}
+use Rattle.xfs_journal.specs.JournalView.{IsPossible}
 use Rattle.xfs_journal.specs.declared.record.Rec.{Rec}
 use Rattle.xfs_journal.specs.declared.record.Rec.TheVariants.{Issue, Clear, Expire}
 use Rattle.xfs_mech.specs.declared.motion.Motion.TheVariants.{Taken}
@@ -86,16 +87,32 @@ pub record Takes (old : Seen) (moved : Counts) (failed : Bool) (new : Seen) : Ty
   pub reported : HasReported old.guard new.guard (Taken moved) moved diverted failed
   pub called : MechCalled old failed new
 
--- a restart: the journal is read again as a possible list, and gets a boot record with the places
+-- a restart: the journal is read again as a possible list, and gets a boot record with the places, which has room where a boot would have it and is alone in memory
 pub record Reboots (old new : Seen) : Type 0 where
   pub records : List Rec
   pub possible : IsPossible old.guard.records old.guard.in_doubt records
-  pub fits : exceeds old.guard.limits (with_boot records old.guard.places) ≡ false
-  pub becomes : Becomes old (restarted old.guard records) new
+  pub fits : has_no_room_at_boot old.guard.limits records old.guard.places ≡ false
+  pub becomes : Becomes old (rebooted old.guard records) new
+
+-- its boot record passes a limit, where a boot's would
+pub record FindsNoRoom (old new : Seen) : Type 0 where
+  pub now : View
+  pub is : IsUnrebooted old.guard now
+  pub becomes : Becomes old now new
+
+-- the disk fails at it, before the list was read or at its boot record
+pub record FailsToBoot (old new : Seen) : Type 0 where
+  pub now : View
+  pub is : IsNotRead old.guard now ⊎ IsUnstarted old.guard now
+  pub fails : Fails old now new
 
 -- it is refused: its boot record passes a limit, the disk fails, or a disk that tells nothing is no journal
 abbrev pub IsUnbooted : Seen → Seen → Type 0
-IsUnbooted old new = IsFull old new ⊎ (IsUnread old new ⊎ IsUnknown old new)
+IsUnbooted old new = FindsNoRoom old new ⊎ (FailsToBoot old new ⊎ IsUnknown old new)
+
+-- a Reset's restore is refused for such a reason, by the room behind the records in memory
+abbrev pub IsUnrestored : Seen → Seen → Type 0
+IsUnrestored old new = IsFull old new ⊎ (IsUnread old new ⊎ IsUnknown old new)
 
 -- the open order is acted
 pub record ActsOn (old new : Seen) : Type 0 where

@@ -88,9 +88,10 @@ pub fn bare_machines_are_sound()
 {}
 
 /// No step takes back what the guard has: the journal's list only grows, no count of faults falls, and
-/// key, seed, units and limits stay. A restart, an end and a finish are such steps too.
+/// key, seed, units and limits stay. The journal's base stays too, but in a restart. A restart, an end and a
+/// finish are such steps too.
 pub fn steps_advance_the_guard()
-    ensures { (old new : State) (event : Event) (answer : Answer) → Step old event answer new → Advances old.seen new.seen }
+    ensures { (old new : State) (event : Event) (answer : Answer) → Step old event answer new → Advances event old.seen new.seen }
 {}
 
 /// Each step keeps what was told of the journal: each frame that waits, and each result, names only

@@ -1,8 +1,9 @@
-use Rattle.std.proofs.Common.{◌≡◌, ◌-◌, inl, inr, refl, ap, arith, ◌∙◌, drop, length}
-use Rattle.std.proofs.lemmas.List.{length-drop, take_all}
+use Rattle.std.proofs.Common.{◌≡◌, inr, refl, ap, arith, ◌∙◌, length, length-append}
 use Rattle.xfs_guard.proofs.KeepsLaws.{Proceeds-same, Proceeds-trans}
 use Rattle.xfs_guard.specs.View.{GuardView}
 use Rattle.xfs_load.specs.Generator.{Client}
+use Rattle.xfs_load.specs.Summaries.{summary_of}
+use Rattle.xfs_load.proofs.BaseLaws.{plays-base, step-base}
 use Rattle.xfs_load.proofs.RestLaws.{on-err}
 use Rattle.xfs_load.proofs.JoinLaws.{never-full}
 use Rattle.xfs_load.proofs.PlayLaws.{plan-next, plan-part, proceeds-kept}
@@ -53,10 +54,8 @@ returns-in_err-round-clause-memory g c =
 pub returns-clause-plays : goal.returns-clause-plays
 returns-clause-plays g c =
     let end : c.loop-i.i ≡ c.args.rounds = omega (arith, c.loop-i-test.false, c.loop-i.auto.i-end) in
+    let told : c.of.result ≡ summary_of c.args.rounds c.refused.result c.units.result.now c.behind.result.now = c.of.ensures in
     let units = c.loop-i.invariant.proceeds.continues.units ∙ ap (λ (v : GuardView g.row.D.Denot). v.state.units) c.join.ensures.guard in
-    let first = length c.args.machine.now.state.seen.guard.records - 1 in
-    let all = c.loop-i.machine.state.seen.guard.records in
-    let written = take_all (length all - first) (drop first all) (omega (arith, length-drop first all)) in
     record {
       client = c.loop-i.client;
       plays = record {
@@ -65,5 +64,17 @@ returns-clause-plays g c =
         joins = rw c.in-Ok.is at c.join.ensures.step;
         plays = rw (end, c.new-client.ensures) at c.loop-i.invariant.plays;
       };
-      is = rw (c.refused.ensures, c.units.ensures, units, c.records-2.ensures, c.saturating_sub-before.ensures, c.records.ensures, written) at c.of.ensures;
+      is = rw (c.refused.ensures, c.units.ensures, units, c.behind.ensures, c.older-before.ensures.count) at told;
     }
+
+pub behind-requires-clause-kept : goal.behind-requires-clause-kept
+behind-requires-clause-kept g c =
+    let base = plays-base _ _ _ _ _ c.loop-i.invariant.plays ∙ step-base _ _ _ _ c.join.ensures.step (λ e. cc) in
+    omega (arith, base, c.older-before.ensures.kept)
+
+pub behind-requires-clause-within : goal.behind-requires-clause-within
+behind-requires-clause-within g c =
+    let grew = c.loop-i.invariant.proceeds.continues.grew in
+    let first = ap (λ (v : GuardView g.row.D.Denot). length v.state.records) c.join.ensures.guard in
+    let longer = ap length grew.is in
+    omega (arith, c.older-before.ensures.count, first, longer, length-append c.join.new.self.state.seen.guard.records grew.more)

@@ -1,4 +1,3 @@
-use Rattle.std.proofs.Common.{◌++◌}
 use Rattle.std.specs.Prelude.{codes, decimal}
 use Rattle.xfs_load.specs.Texts.{headed_text, token_member}
 use Rattle.xfs_load.proofs.TextLaws.{closed-pieces}

@@ -3,14 +3,14 @@ use mathlib.Core.List.{IsPrefix}
 use Rattle.xfs_guard.specs.Keeps.{Proceeds}
 use Rattle.xfs_machine.specs.MachineView.{guard_of}
 use Rattle.xfs_board.specs.Chronicles.{Shared, chronicle}
-use Rattle.xfs_board.proofs.Chronicles.{grows}
+use Rattle.xfs_board.proofs.Chronicles.{grows, same_base}
 use Rattle.xfs_board.proofs.shared.SharedMachine.post.Goals as goal
 
 pub invariant_of-self : goal.invariant_of-self
 invariant_of-self g c =
     let start = guard_of c.self.inside.start.value in
-    let before = subst (λ m. Proceeds g.D.Disk start (guard_of m)) (sym c.deref_mut.ensures.value) c.self.invariant in
-    subst (λ v. Proceeds g.D.Disk start v) (sym c.post_read.ensures.guard) before
+    let before = subst (λ m. Proceeds g.D.Disk start (guard_of m)) (sym c.deref_mut.ensures.value) c.self.invariant.0 in
+    (subst (λ v. Proceeds g.D.Disk start v) (sym c.post_read.ensures.guard) before, same_base start c.self.inside.machine.value c.deref_mut.result.now c.post_read.new.self _ _ (λ e. cc) c.post_read.ensures.laws c.deref_mut.ensures.value c.self.invariant.1)
 
 pub returns-clause-grown : goal.returns-clause-grown
 returns-clause-grown g c =

@@ -4,14 +4,14 @@ use Rattle.xfs_guard.specs.Keeps.{Proceeds}
 use Rattle.xfs_guard.proofs.KeepsLaws.{Proceeds-trans}
 use Rattle.xfs_machine.specs.MachineView.{guard_of}
 use Rattle.xfs_board.specs.Chronicles.{Shared, chronicle}
-use Rattle.xfs_board.proofs.Chronicles.{grows}
+use Rattle.xfs_board.proofs.Chronicles.{grows, same_base}
 use Rattle.xfs_board.proofs.shared.SharedMachine.touch.Goals as goal
 
 pub invariant_of-self : goal.invariant_of-self
 invariant_of-self g c =
     let start = guard_of c.self.inside.start.value in
-    let before = subst (λ m. Proceeds g.D.Disk start (guard_of m)) (sym c.deref_mut.ensures.value) c.self.invariant in
-    Proceeds-trans g.D.Disk start (guard_of c.deref_mut.result.now) (guard_of c.touch.new.self) g.met.D.Disk.counts_now before c.touch.ensures.proceeds
+    let before = subst (λ m. Proceeds g.D.Disk start (guard_of m)) (sym c.deref_mut.ensures.value) c.self.invariant.0 in
+    (Proceeds-trans g.D.Disk start (guard_of c.deref_mut.result.now) (guard_of c.touch.new.self) g.met.D.Disk.counts_now before c.touch.ensures.proceeds, same_base start c.self.inside.machine.value c.deref_mut.result.now c.touch.new.self _ _ (λ e. cc) c.touch.ensures.laws c.deref_mut.ensures.value c.self.invariant.1)
 
 pub returns-clause-grown : goal.returns-clause-grown
 returns-clause-grown g c =
