@@ -1,8 +1,8 @@
 -- A run with one boot is as its record says.
-use Rattle.std.proofs.Common.{◌≡◌, ◌≢◌, ap}
+use Rattle.std.proofs.Common.{◌≡◌, ◌≢◌}
 use Rattle.xfs_disk.specs.declared.disk.Disk.{Ghosts as Disks}
 use Rattle.xfs_mech.specs.declared.mechanism.Mechanism.{Ghosts as Mechanisms}
-use Rattle.xfs_guard.specs.View.{GuardView, View}
+use Rattle.xfs_guard.specs.View.{GuardView}
 use Rattle.xfs_guard.specs.declared.fail.BootFault.{BootFault}
 use Rattle.xfs_guard.specs.declared.machine_core.Core.{Core}
 use Rattle.xfs_cli.specs.Boots.{IsNoJournal, WritesBoot, boot_status}
@@ -35,5 +35,5 @@ boots-served m d core g result io b not_7 not_12 = record {
   unread = journal-run b.records _ _ b.stands;
   unwritten = journal-run b.records _ _ b.stands;
   unmoved = journal-run b.records _ _ b.stands;
-  overfull = fits-run _ _ g.state b.records _ _ (ap (λ (v : View). v.records) b.guard_is) b.stands b.fits;
+  overfull = fits-run _ _ g.state _ _ b.fits;
 }

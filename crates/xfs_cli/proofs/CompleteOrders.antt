@@ -120,6 +120,7 @@ pub record IsFull (s : Seen) (ask : Ask) (result : Result Outcome Deny) (next : 
   pub number : ℕ
   pub places : PlacesOf s.guard.places (Moved number (asked_kind ask) (asked_counts s.guard ask) outcome.diverted ∷ []) next.guard.places
   pub records : next.guard.records ≡ (s.guard.records ++ order_record s.guard ask ∷ []) ++ Done (asked_counts s.guard ask) outcome.diverted ∷ []
+  pub base : next.guard.base ≡ s.guard.base
   pub bound : next.guard.bound ≡ s.guard.bound
   pub units : next.guard.units ≡ s.guard.units
   pub limits : next.guard.limits ≡ s.guard.limits
@@ -162,6 +163,7 @@ settled-full s ask outcome next calm h =
       records = appended ∙ (ap (λ l. l ++ Done h.settles.moved h.settles.diverted ∷ []) kept
           ∙ (ap (λ m. (s.guard.records ++ order_record s.guard ask ∷ []) ++ Done m h.settles.diverted ∷ []) (done.0 ∙ moved)
           ∙ ap (λ d. (s.guard.records ++ order_record s.guard ask ∷ []) ++ Done (asked_counts s.guard ask) d ∷ []) done.1));
+      base = ap (λ (v : View). v.base) h.settles.same ∙ (ap (λ (v : View). v.base) a.acts.same ∙ ap (λ (v : View). v.base) a.order.guard_is);
       bound = ap (λ (v : View). v.bound) h.settles.same ∙ (ap (λ (v : View). v.bound) a.acts.same ∙ ap (λ (v : View). v.bound) a.order.guard_is);
       units = ap (λ (v : View). v.units) h.settles.same ∙ (ap (λ (v : View). v.units) a.acts.same ∙ ap (λ (v : View). v.units) a.order.guard_is);
       limits = ap (λ (v : View). v.limits) h.settles.same ∙ (ap (λ (v : View). v.limits) a.acts.same ∙ ap (λ (v : View). v.limits) a.order.guard_is);

@@ -45,7 +45,7 @@ open-after s middle issue u n amounts orders result f o =
     record {
       open_still = f.shut ∙ o.open_still;
       booted = f.boot_missing ∙ o.booted;
-      records = rw f.limits (omega (arith, o.records, many));
+      records = rw (f.limits, f.base) (omega (arith, o.records, many));
       bytes = rw f.limits (omega (arith, o.bytes, long));
       lives = ap (λ l. option_map (λ (n : Nonce). n.number) l) live ∙ o.lives;
       bound = f.bound ∙ o.bound;

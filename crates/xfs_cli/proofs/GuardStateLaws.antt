@@ -9,12 +9,12 @@ use Rattle.xfs_base.specs.declared.counts.Counts.{Counts}
 use Rattle.xfs_base.specs.declared.money.NoteKind.{NoteKind}
 use Rattle.xfs_mix.specs.Asked.{count_fault, is_none, first_short}
 use Rattle.xfs_mix.specs.declared.asked.CountFault.TheVariants.{Empty, TooMany, Short}
-use Rattle.xfs_journal.specs.Journal.{next_issue, nonce_text, with_boot}
+use Rattle.xfs_journal.specs.Journal.{next_issue, nonce_text}
 use Rattle.xfs_journal.specs.declared.record.Rec.{Rec}
 use Rattle.xfs_journal.specs.declared.record.Rec.TheVariants.{Issue, Clear}
 use Rattle.xfs_disk.specs.declared.disk.Disk.{Ghosts}
 use Rattle.xfs_guard.specs.Keeps.{Proceeds}
-use Rattle.xfs_guard.specs.View.{View, GuardView, reread, unbooted, unread}
+use Rattle.xfs_guard.specs.View.{View, GuardView}
 use Rattle.xfs_guard.specs.Fits.{unfit}
 use Rattle.xfs_guard.specs.Nonce.{live_nonce}
 use Rattle.xfs_guard.specs.Refusals.{Answers}
@@ -25,17 +25,14 @@ use Rattle.xfs_guard.specs.declared.deny.Deny.TheVariants.{Disk, Memory}
 use Rattle.xfs_guard.specs.declared.nonce.Nonce.{Nonce}
 use Rattle.xfs_guard.specs.declared.open.Open.TheVariants.{No}
 use Rattle.xfs_guard.proofs.LedgerLaws.{live-issued}
-use Rattle.xfs_journal.specs.JournalView.{IsPossible, exceeds}
 use Rattle.xfs_guard.specs.declared.fail.BootFault.{BootFault}
-use Rattle.xfs_guard.specs.declared.fail.BootFault.TheVariants.{NotJournal, Disk as BootDisk, Full as BootFull, Memory as BootMemory}
 use Rattle.xfs_script.specs.Guard.{IsGuardLine}
 use Rattle.xfs_script.specs.declared.guard_line.GuardLine.{GuardLine}
 use Rattle.xfs_script.specs.declared.guard_line.GuardLine.TheVariants.{Restart}
-use Rattle.xfs_cli.specs.Restarts.{IsFull, RestartCause, RestartFails}
+use Rattle.xfs_cli.specs.Restarts.{RestartFails}
 use Rattle.xfs_cli.specs.declared.guard_player.NoAnswer.{NoAnswer}
-use Rattle.xfs_cli.specs.declared.guard_player.NoAnswer.TheVariants.{Unbooted}
 use Rattle.xfs_cli.specs.Refused.{refusal_text}
-use Rattle.xfs_cli.specs.GuardStates.{GuardState, IsLater, IsStill, guard_state, shut_at}
+use Rattle.xfs_cli.specs.GuardStates.{GuardState, IsLater, guard_state, shut_at}
 use Rattle.xfs_cli.specs.OneRecord.{WritesOne, WritesNone}
 use Rattle.xfs_guard.specs.NextNonce.{next_record}
 use Rattle.xfs_cli.specs.GuardVerbs.{Issues, Clears}
@@ -178,62 +175,10 @@ none-past units have counts fine = go (is_none counts.0) (is_none (drop (length 
 err-fault : {T : Type 0} {a b : NoAnswer} → ◌≡◌ {A = Result T NoAnswer} (Err a) (Err b) → a ≡ b
 err-fault e = cc
 
-unbooted-same : {a b : BootFault} → ◌≡◌ {A = NoAnswer} (Unbooted a) (Unbooted b) → a ≡ b
-unbooted-same e = cc
-
 -- a fault is handed on
 pub fault-through : {T U : Type 0} (result : Result T NoAnswer) (given fault : NoAnswer) → IsErrAnd result (λ e. e ≡ given) → result ≡ Err fault → ◌≡◌ {A = Result U NoAnswer} (Err given) (Err fault)
 fault-through (Ok x) given fault err is = absurd err
 fault-through (Err e) given fault err is = ap (λ d. Err d) (sym err ∙ err-fault is)
-
--- a restart was refused for this
-abbrev pub IsFault : BootFault → BootFault → Type 0
-IsFault why fault = ◌≡◌ {A = Result (Unit {0}) BootFault} (Err why) (Err fault)
-
--- a restart found no room for its boot record
-abbrev FindsFull : View → View → Type 0
-FindsFull old new = (J : List Rec) × IsPossible old.records old.in_doubt J × (exceeds old.limits (with_boot J old.places) ≡ true)
-    × (new ≡ reread old J)
-
--- a call that changes nothing of the mechanism
-still-of : {D : Type 0} (faults : D → ℕ) (old new : GuardView D) (last : Option (List ℕ)) (now : View) → faults old.disk ≤ faults new.disk → new.state ≡ now
-    → old.state.motions ≡ now.motions → old.state.places ≡ now.places → old.state.faults ≡ now.faults → IsStill new.state.motions new.state.places new.state.faults (faults new.disk) (guard_state faults old last)
-still-of faults old new last now later is m p f = rw is (record { motions_are = m; places_are = p; mech_is = f; later = later })
-
--- a restart that is refused moves nothing
-pub restart-still : {D P : Type 0} (faults : D → ℕ) (old new : GuardView D) (last : Option (List ℕ)) (why : BootFault) → faults old.disk ≤ faults new.disk
-    → (IsFault why BootMemory → new.state ≡ old.state) → (IsFault why BootFull → FindsFull old.state new.state)
-    → (IsFault why BootDisk → (new.state ≡ unread old.state) ⊎ ((J : List Rec) × IsPossible old.state.records old.state.in_doubt J × (new.state ≡ unbooted old.state J)))
-    → ((at : ℕ) → why ≡ NotJournal at → P × (new.state ≡ unread old.state))
-    → IsStill new.state.motions new.state.places new.state.faults (faults new.disk) (guard_state faults old last)
-restart-still faults old new last (NotJournal at) later memory full disk none = still-of faults old new last _ later (none at refl).1 refl refl refl
-restart-still faults old new last BootDisk later memory full disk none = elim (disk refl) [
-  | inl is ↦ still-of faults old new last _ later is refl refl refl
-  | inr found ↦ still-of faults old new last _ later found.2 refl refl refl
-]
-restart-still faults old new last BootFull later memory full disk none = still-of faults old new last _ later (full refl).3 refl refl refl
-restart-still faults old new last BootMemory later memory full disk none = still-of faults old new last _ later (memory refl) refl refl refl
-
--- a restart that is refused
-pub restart-fails : {D T : Type 0} (faults : D → ℕ) (old new : GuardView D) (last : Option (List ℕ)) (result : Result T NoAnswer) (why : BootFault)
-    → IsErrAnd result (λ e. e ≡ Unbooted why) → IsStill new.state.motions new.state.places new.state.faults (faults new.disk) (guard_state faults old last)
-    → ((at : ℕ) → why ≡ NotJournal at → old.state.disk_told ≡ false) → (IsFault why BootDisk → Rose (faults old.disk) (faults new.disk)) → (IsFault why BootFull → FindsFull old.state new.state)
-    → faults old.disk ≤ faults new.disk → (IsFault why BootMemory → new.state ≡ old.state)
-    → (fault : BootFault) → result ≡ Err (Unbooted fault) → RestartFails (guard_state faults old last) fault (guard_state faults new last)
-restart-fails faults old new last (Ok x) why err still untold cause full later memory fault is = absurd err
-restart-fails faults old new last (Err e) why err still untold cause full later memory fault is =
-    let same : why ≡ fault = unbooted-same (sym err ∙ err-fault is) in
-    subst (λ f. RestartFails (guard_state faults old last) f (guard_state faults new last)) same (record { still = still; cause = by-fault why untold cause full memory })
-  where
-    by-fault : (why : BootFault) → ((at : ℕ) → why ≡ NotJournal at → old.state.disk_told ≡ false) → (IsFault why BootDisk → Rose (faults old.disk) (faults new.disk)) → (IsFault why BootFull → FindsFull old.state new.state) → (IsFault why BootMemory → new.state ≡ old.state)
-        → RestartCause (guard_state faults old last) why (guard_state faults new last)
-    by-fault (NotJournal at) untold cause full memory = untold at refl
-    by-fault BootDisk untold cause full memory = cause refl
-    by-fault BootFull untold cause full memory =
-        let f = full refl in
-        let none : IsFull new.state = rw f.3 (record { clear = refl; exceeds_limit = f.2 }) in
-        (record { records = f.0; possible = f.1; exceeds_limit = f.2 }, none)
-    by-fault BootMemory untold cause full memory = record { guard_is = memory refl; later = later; last_is = refl }
 
 -- the line of a restart, with the fault that is told
 pub restart-line : {D : Type 0} (faults : D → ℕ) (old new : GuardView D) (last last' : Option (List ℕ)) (verb : GuardLine) (text : List ℕ) (why fault : BootFault) → verb ≡ Restart → IsGuardLine text verb

@@ -1,3 +1,4 @@
+pub mod AuditLaws
 pub mod BegunLaws
 pub mod BootedLaws
 pub mod BootsOnceLaws

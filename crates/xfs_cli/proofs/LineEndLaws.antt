@@ -5,9 +5,11 @@ use Rattle.std.specs.declared.option.Option.{Option}
 use Rattle.xfs_base.specs.Causes.{IfTold}
 use Rattle.xfs_script.specs.declared.token_line.TokenLine.TheVariants.{Skip}
 use Rattle.xfs_script.specs.declared.host_line.HostLine.TheVariants as host
+use Rattle.xfs_script.specs.declared.audit_line.AuditLine.TheVariants as audit
 use Rattle.xfs_script.specs.Lines.{AllLines, StopsAtLine}
 use Rattle.xfs_script.specs.Reading.{GaveAll}
 use Rattle.xfs_cli.specs.Statuses.{IsStatus, IsFinished}
+use Rattle.xfs_cli.specs.AuditVerbs.{IsLineOfAudit}
 use Rattle.xfs_cli.specs.HostVerbs.{IsLineOfHost}
 use Rattle.xfs_cli.specs.TokenVerbs.{IsLineOfToken}
 use Rattle.xfs_cli.proofs.EndLaws.{lines-all, short-all}
@@ -17,6 +19,9 @@ empty-token = record { verb = Skip; reads = tt; short = omega arith }
 
 pub empty-host : IsLineOfHost []
 empty-host = record { verb = host.Skip; reads = tt; short = omega arith }
+
+pub empty-audit : IsLineOfAudit []
+empty-audit = record { verb = audit.Skip; reads = tt; short = omega arith }
 
 pub unbooted-finishes : (IsLine : List ℕ → Type 0) → IsLine [] → (status : ℕ) (left left' : Option (List ℕ)) (source sink : Type 0) → IsStatus status
     → (status ≡ 2 → ⊥) → (status ≢ 6) × (status ≢ 7) × (status ≢ 12) → (status ≡ 3 → source) → (status ≡ 5 → sink) → (status ≡ 10 → GaveAll left left')

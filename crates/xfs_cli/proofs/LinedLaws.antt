@@ -1,9 +1,9 @@
 -- A line that answers a verb, and want of memory for it.
-use Rattle.std.proofs.Common.{◌≡◌, ◌≢◌, ℕ, List, [], ◌∷◌, Ok, Err, inl, inr, refl, sym, ◌∙◌, ap}
+use Rattle.std.proofs.Common.{◌≡◌, ◌≢◌, ℕ, List, Ok, Err, inl, inr, sym, ◌∙◌}
 use Rattle.std.specs.Prelude.{IfOk, OnErr}
 use Rattle.std.specs.declared.result.Result.{Result}
 use Rattle.xfs_guard.specs.declared.fail.BootFault.{BootFault}
-use Rattle.xfs_script.specs.Answered.{Tells, lines_text}
+use Rattle.xfs_script.specs.Answered.{Tells}
 use Rattle.xfs_script.specs.declared.guard_line.GuardLine.{GuardLine}
 use Rattle.xfs_cli.specs.Begun.{LeavesOfVerb, WholeOrNone}
 use Rattle.xfs_cli.specs.GuardStates.{GuardState}

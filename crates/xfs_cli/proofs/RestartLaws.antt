@@ -1,14 +1,15 @@
--- A restart of the machine that is refused ends a run of `replay` as one of the guard ends a run of `guard`.
-use Rattle.std.proofs.Common.{◌≡◌, ◌≤◌, ◌⊎◌, ℕ, List, Option, Result, Ok, Err, inl, inr, refl, ap, sym, subst, ◌∙◌}
-use Rattle.std.specs.Prelude.{IsErrAnd}
+-- A restart of the guard or of the machine, answered or refused, in the words of the two commands that have such a line.
+use Rattle.std.proofs.Common.{◌≡◌, ◌⊎◌, ℕ, List, Option, Result, Ok, Err, inl, inr, refl, ap, sym, subst, ◌∙◌}
+use Rattle.std.specs.Prelude.{IsErrAnd, codes}
 use Rattle.xfs_dispenser.specs.Seen as Of
+use Rattle.xfs_guard.specs.Booting.{IsUnread, IsUnstarted}
 use Rattle.xfs_guard.specs.View.{View, reread, unbooted, unread}
 use Rattle.xfs_guard.specs.declared.fail.BootFault.{BootFault}
 use Rattle.xfs_guard.specs.declared.fail.BootFault.TheVariants.{NotJournal, Disk, Full, Memory}
-use Rattle.xfs_journal.specs.JournalView.{IsPossible}
-use Rattle.xfs_journal.specs.declared.record.Rec.{Rec}
+use Rattle.xfs_journal.specs.Journal.{base_of}
 use Rattle.xfs_machine.specs.Endings.{RefusesAs}
-use Rattle.xfs_cli.specs.Restarts.{IsFull, RestartFails}
+use Rattle.xfs_model.specs.Guards.{Reboots}
+use Rattle.xfs_cli.specs.Restarts.{IsFull, RestartFails, Restarts}
 use Rattle.xfs_cli.specs.GuardStates.{IsStill, GuardState}
 use Rattle.xfs_cli.specs.declared.guard_player.NoAnswer.{NoAnswer}
 use Rattle.xfs_cli.specs.declared.guard_player.NoAnswer.TheVariants.{Unbooted}
@@ -33,16 +34,15 @@ refused_as old new last Disk is = record { still = of is.is; cause = is.fails.ca
     kept : (v : View) → is.now ≡ v → v.motions ≡ old.guard.motions → v.places ≡ old.guard.places → v.faults ≡ old.guard.faults → IsStill new.guard.motions new.guard.places new.guard.faults new.disk_faults (at old last)
     kept v same motions places faults = still old new v last (subst (λ (w : View). Of.Becomes old w new) same is.fails.becomes) motions places faults
 
-    of : (is.now ≡ unread old.guard) ⊎ ((records : List Rec) × IsPossible old.guard.records old.guard.in_doubt records × (is.now ≡ unbooted old.guard records))
-        → IsStill new.guard.motions new.guard.places new.guard.faults new.disk_faults (at old last)
+    of : IsUnread old.guard is.now ⊎ IsUnstarted old.guard is.now → IsStill new.guard.motions new.guard.places new.guard.faults new.disk_faults (at old last)
     of (inl u) = kept (unread old.guard) u refl refl refl
-    of (inr w) = kept (unbooted old.guard w.0) w.2 refl refl refl
+    of (inr w) = kept (record (unbooted old.guard w.0) { base = base_of w.0 }) w.2 refl refl refl
 refused_as old new last Full is =
-    let none : IsFull new.guard = rw (is.becomes.guard_is) (record { clear = refl; exceeds_limit = is.exceeded }) in
-    record {
-      still = still old new (reread old.guard is.records) last is.becomes refl refl refl;
-      cause = (record { records = is.records; possible = is.possible; exceeds_limit = is.exceeded }, none);
-    }
+    let f = is.is in
+    let now : View = record (reread old.guard f.0) { base = base_of f.0 } in
+    let became : Of.Becomes old now new = subst (λ (w : View). Of.Becomes old w new) f.3 is.becomes in
+    let none : IsFull new.guard = rw (became.guard_is) (record { clear = refl; exceeds_limit = f.2 }) in
+    record { still = still old new now last became refl refl refl; cause = (record { records = f.0; possible = f.1; exceeds_limit = f.2 }, none) }
 refused_as old new last Memory is = record {
   still = still old new old.guard last is refl refl refl;
   cause = record { guard_is = is.guard_is; later = is.later; last_is = refl };
@@ -60,3 +60,13 @@ pub restart_refused : {T : Type 0} (result : Result T NoAnswer) (why : BootFault
 restart_refused (Ok x) why old new last err is fault same = absurd err
 restart_refused (Err e) why old new last err is fault same =
     subst (λ f. RestartFails (at old last) f (at new last)) (fault_of (sym err ∙ err_of same)) (refused_as old new last why is)
+
+-- a restart that is answered
+pub restart_answered : (old new : Of.Seen) (last : Option (List ℕ)) (line : List ℕ) → Reboots old new → line ≡ codes "restarted" → Restarts (at old last) line (at new last)
+restart_answered old new last line is told = record {
+  records = is.records;
+  possible = is.possible;
+  fits = is.fits;
+  text = told;
+  becomes = record { guard_is = is.becomes.guard_is; later = is.becomes.later; last_is = refl };
+}

@@ -9,13 +9,14 @@ use Rattle.xfs_disk.specs.Disk.{Only}
 use Rattle.xfs_disk.specs.declared.disk.Disk.{Ghosts}
 use Rattle.xfs_mech.specs.declared.motion.Motion.{Motion}
 use Rattle.xfs_journal.specs.Image.{StandsFor}
-use Rattle.xfs_journal.specs.JournalView.{IsPossible, HasPossible, StandsForEither, exceeds}
+use Rattle.xfs_journal.specs.JournalView.{IsPossible, HasPossible, StandsForEither}
 use Rattle.xfs_journal.specs.Paging.{CeasesAt}
 use Rattle.xfs_journal.specs.declared.limits.Limits.{Limits}
 use Rattle.xfs_journal.specs.declared.record.Rec.{Rec}
 use Rattle.xfs_journal.specs.Journal.{boot_of, with_boot}
 use Rattle.xfs_journal.proofs.StartLaws.{boot_of-only}
 use Rattle.xfs_journal.proofs.Unique.{stands_for_one}
+use Rattle.xfs_guard.specs.Booting.{HadRoom, has_no_room_at_boot}
 use Rattle.xfs_guard.specs.Continues.{Continues, Leads}
 use Rattle.xfs_guard.specs.Recorded.{IsRecorded}
 use Rattle.xfs_guard.specs.Stored.{MayLeave}
@@ -116,14 +117,13 @@ upholds-run first last J0 (Some bytes) (Some now) images images' told places boo
     })
 
 -- a boot record that was written passed no limit
-pub fits-run : (limits : Limits) (P : Places) (first : View) (J0 : List Rec) (held : Option (List ℕ)) (X : Type 0) → first.records ≡ with_boot J0 P → IfTold held (λ bytes. StandsFor bytes J0)
-    → exceeds limits first.records ≡ false → IfTold held (λ bytes. (J : List Rec) → StandsFor bytes J → BootExceeds limits P J → X)
-fits-run limits P first J0 None X booted stood fits = tt
-fits-run limits P first J0 (Some bytes) X booted stood fits = λ J stands over.
+pub fits-run : (limits : Limits) (P : Places) (first : View) (held : Option (List ℕ)) (X : Type 0) → HadRoom held limits P first.records
+    → IfTold held (λ bytes. (J : List Rec) → StandsFor bytes J → BootExceeds limits P J → X)
+fits-run limits P first None X fits = tt
+fits-run limits P first (Some bytes) X (J0, stood, (booted, room)) = λ J stands over.
     let same : J ≡ J0 = stands_for_one bytes J J0 stands stood in
-    let is : exceeds limits (with_boot J0 P) ≡ true = rw same at over in
-    let no : exceeds limits (with_boot J0 P) ≡ false = rw booted at fits in
-    absurd (let e : true ≡ false = sym is ∙ no in cc)
+    let is : has_no_room_at_boot limits J0 P ≡ true = rw same at over in
+    absurd (let e : true ≡ false = sym is ∙ room in cc)
 
 -- where a list stands for the bytes, they are a journal
 pub journal-run : (J0 : List Rec) (held : Option (List ℕ)) (X : Type 0) → IfTold held (λ bytes. StandsFor bytes J0) → IfTold held (λ bytes. IsNoJournal bytes → X)

@@ -1,11 +1,10 @@
 -- A run of a command that boots is as its record says: where its lines were served, and where the boot was refused.
-use Rattle.std.proofs.Common.{◌≡◌, ◌≤◌, [], ℕ, false, true, List, None, Some, inl, inr, refl, sym, ◌∙◌, ap, arith}
-use Rattle.std.specs.declared.option.Option.{Option}
+use Rattle.std.proofs.Common.{◌≡◌, ◌≤◌, [], ℕ, true, List, None, Some, inl, inr, refl, sym, ◌∙◌, ap, arith}
 use Rattle.xfs_base.specs.Causes.{IfTold, Rose}
 use Rattle.xfs_disk.specs.declared.disk.Disk.{Ghosts as Disks}
 use Rattle.xfs_mech.specs.declared.mechanism.Mechanism.{Ghosts as Mechanisms}
 use Rattle.xfs_journal.specs.Image.{StandsFor}
-use Rattle.xfs_journal.specs.JournalView.{HasPossible, exceeds}
+use Rattle.xfs_journal.specs.JournalView.{HasPossible}
 use Rattle.xfs_journal.specs.Paging.{CeasesAt, IsQuiet}
 use Rattle.xfs_journal.specs.declared.record.Rec.{Rec}
 use Rattle.xfs_journal.specs.Journal.{with_boot}
@@ -19,6 +18,7 @@ use Rattle.xfs_script.specs.Commands.{Command}
 use Rattle.xfs_script.specs.Lines.{AllLines, StopsAtLine}
 use Rattle.xfs_cli.specs.BootLines.{IsOfBoot}
 use Rattle.xfs_cli.specs.Boots.{IsNoJournal, WritesBoot, boot_status}
+use Rattle.xfs_guard.specs.Booting.{HadRoom, has_no_room_at_boot}
 use Rattle.xfs_guard.specs.Entries.{at_entry, opened}
 use Rattle.xfs_cli.specs.Restarts.{IsFull}
 use Rattle.xfs_cli.specs.Runs.{IsEnd, IsFullAtEnd, Runs}
@@ -40,7 +40,7 @@ pub record HasBooted {M D : Type 0} (m : Mechanisms M) (d : Disks D) (core : Cor
   pub stands : IfTold (d.held core.disk) (λ bytes. StandsFor bytes records)
   pub guard_is : g.state ≡ opened (at_entry m d core) (with_boot records (m.places core.mech))
   pub later : d.faults core.disk ≤ d.faults g.disk
-  pub fits : exceeds core.limits g.state.records ≡ false
+  pub fits : HadRoom (d.held core.disk) core.limits (m.places core.mech) g.state.records
 
 -- the mechanism and the disk of a guard that is over
 pub record HasEnded {M D : Type 0} (m : Mechanisms M) (d : Disks D) (g : GuardView D) (result : Return M D) : Type 0 where
@@ -88,7 +88,7 @@ module _ {M D S A : Type 0} (m : Mechanisms M) (d : Disks D) (c : Command S Boot
     unread = journal-run b.records _ _ b.stands;
     unwritten = journal-run b.records _ _ b.stands;
     unmoved = journal-run b.records _ _ b.stands;
-    overfull = fits-run _ _ (guard start).state b.records _ _ (ap (λ (v : View). v.records) b.guard_is) b.stands b.fits;
+    overfull = fits-run _ _ (guard start).state _ _ b.fits;
     newer = newer-run (opened (at_entry m d core) (with_boot b.records (m.places core.mech))) (guard end).state b.records _ _ _ refl refl b.stands starts (as_read core.disk) (rw b.guard_is at continues) e.motions;
     finishes = λ none. finishes _ _ empty _ _ io.left _ _ _ _ _ _ (causes-served _ _ _ _ _ _ _ _ _ _ _ s.statuses s.usage failed untold
         (λ twelve. full-line c see restarts IsStartOf _ (state start) (state end) result.status io begins
@@ -122,7 +122,7 @@ module _ {M D S A : Type 0} (m : Mechanisms M) (d : Disks D) (c : Command S Boot
 pub record IsRefused {M D : Type 0} (m : Mechanisms M) (d : Disks D) (core : Core M D) (why : BootFault) (mech : M) (disk : D) : Type 0 where
   pub mech_is : mech ≡ core.mech
   pub not_journal : (at : ℕ) → why ≡ NotJournal at → IfTold (d.held core.disk) (λ all. CeasesAt all at × ((records : List Rec) → ¬ StandsFor all records))
-  pub full : why ≡ Full → (records : List Rec) × IfTold (d.held core.disk) (λ all. StandsFor all records) × (exceeds core.limits (with_boot records (m.places core.mech)) ≡ true)
+  pub full : why ≡ Full → (records : List Rec) × IfTold (d.held core.disk) (λ all. StandsFor all records) × (has_no_room_at_boot core.limits records (m.places core.mech) ≡ true)
   pub failed : why ≡ Disk → Rose (d.faults core.disk) (d.faults disk)
   pub unlisted : IfTold (d.held core.disk) (λ all. ((records : List Rec) → ¬ StandsFor all records) → IsQuiet d core.disk disk)
 

@@ -31,7 +31,6 @@ use Rattle.xfs_serving.specs.Takings.{Takes, faults_in}
 use Rattle.xfs_serving.specs.declared.ending.Ending.{Ending}
 use Rattle.xfs_serving.specs.declared.ending.Ending.TheVariants as taking
 use Rattle.xfs_cli.specs.Boots.{WritesBoot, boot_status}
-use Rattle.xfs_guard.specs.Entries.{at_entry}
 use Rattle.xfs_cli.specs.Returns.{Return}
 use Rattle.xfs_cli.specs.ServeRuns.{RunsServe, StandsForMore, served_line, served_status}
 use Rattle.xfs_cli.specs.Served.{WritesLast}

@@ -5,11 +5,10 @@ use Rattle.xfs_base.specs.Causes.{Rose, IfTold}
 use Rattle.xfs_base.specs.declared.counts.Places.{Places}
 use Rattle.xfs_disk.specs.Disk.{AddsNone}
 use Rattle.xfs_journal.specs.Image.{StandsFor}
-use Rattle.xfs_journal.specs.JournalView.{exceeds}
 use Rattle.xfs_journal.specs.Paging.{CeasesAt}
 use Rattle.xfs_journal.specs.declared.limits.Limits.{Limits}
 use Rattle.xfs_journal.specs.declared.record.Rec.{Rec}
-use Rattle.xfs_journal.specs.Journal.{with_boot}
+use Rattle.xfs_guard.specs.Booting.{has_no_room_at_boot}
 use Rattle.xfs_guard.specs.declared.fail.BootFault.{BootFault}
 use Rattle.xfs_guard.specs.declared.fail.BootFault.TheVariants.{NotJournal, Disk, Full}
 use Rattle.xfs_cli.specs.Served.{WritesLast}
@@ -36,9 +35,9 @@ pub record EndsFailed (faults now : ℕ) (io : Streams) : Type 0 where
   pub cause : Rose faults now
   pub written : WritesBoot Disk io
 
--- the boot record of these places passes a limit behind these records
+-- the boot record of these places passes a limit behind these records, of which those from the last boot record on count against the limit of records
 abbrev pub BootExceeds : Limits → Places → List Rec → Type 0
-BootExceeds limits places records = exceeds limits (with_boot records places) ≡ true
+BootExceeds limits places records = has_no_room_at_boot limits records places ≡ true
 
 -- the boot record passes a limit behind the records that the disk has, and the last line says so
 pub record EndsFull (limits : Limits) (places : Places) (held : Option (List ℕ)) (io : Streams) : Type 0 where

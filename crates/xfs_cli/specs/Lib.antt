@@ -1,3 +1,5 @@
+pub mod AuditRuns
+pub mod AuditVerbs
 pub mod Begun
 pub mod BootLines
 pub mod Boots

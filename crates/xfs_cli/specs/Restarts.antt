@@ -1,11 +1,11 @@
--- The line `restart`: the journal is read again and gets a boot record; or the run ends as a refused boot does.
+-- The line `restart`: the journal is read again and gets a boot record, which has room where a boot's would have it; or the run ends as a refused boot does.
 use Rattle.std.specs.Prelude.{◌≡◌, ℕ, false, List, codes, None, Result, Err}
 use Rattle.xfs_base.specs.Causes.{Rose}
-use Rattle.xfs_journal.specs.JournalView.{IsPossible, exceeds}
+use Rattle.xfs_journal.specs.JournalView.{IsPossible}
 use Rattle.xfs_journal.specs.declared.record.Rec.{Rec}
-use Rattle.xfs_journal.specs.Journal.{with_boot}
+use Rattle.xfs_guard.specs.Booting.{has_no_room_at_boot}
 use Rattle.xfs_guard.specs.Continues.{Continues}
-use Rattle.xfs_guard.specs.View.{View, restarted}
+use Rattle.xfs_guard.specs.View.{View, rebooted}
 use Rattle.xfs_guard.specs.declared.fail.BootFault.{BootFault}
 use Rattle.xfs_guard.specs.declared.fail.BootFault.TheVariants.{NotJournal, Disk, Full, Memory}
 use Rattle.xfs_cli.specs.Boots.{BootExceeds}
@@ -13,15 +13,15 @@ use Rattle.xfs_cli.specs.GuardStates.{GuardState, Becomes, IsLater, IsStill}
 use Rattle.xfs_cli.specs.declared.guard_player.NoAnswer.{NoAnswer}
 use Rattle.xfs_cli.specs.declared.guard_player.NoAnswer.TheVariants.{Unbooted}
 
--- the journal is read as the kept list, or as that one with the record in doubt, and its boot record passes no limit; the token that was minted last stays
+-- the journal is read as the kept list, or as that one with the record in doubt, and its boot record, which passes no limit, is then alone in memory; the token that was minted last stays
 pub record Restarts (s : GuardState) (line : List ℕ) (next : GuardState) : Type 0 where
   pub records : List Rec
   pub possible : IsPossible s.guard.records s.guard.in_doubt records
-  pub fits : exceeds s.guard.limits (with_boot records s.guard.places) ≡ false
+  pub fits : has_no_room_at_boot s.guard.limits records s.guard.places ≡ false
   pub text : line ≡ codes "restarted"
-  pub becomes : Becomes s (restarted s.guard records) next
+  pub becomes : Becomes s (rebooted s.guard records) next
 
--- the boot record passes a limit behind such a list
+-- a boot record of the places passes a limit behind such a list
 pub record HasNoRoom (v : View) : Type 0 where
   pub records : List Rec
   pub possible : IsPossible v.records v.in_doubt records

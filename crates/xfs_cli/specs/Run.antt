@@ -4,7 +4,7 @@ use Rattle.std.specs.declared.alloc.Global.{Global}
 use Rattle.xfs_words.specs.Words.{Names, texts}
 use Rattle.xfs_cli.specs.declared.words.Task.{Task}
 use Rattle.xfs_words.specs.declared.command.Command.{Command}
-use Rattle.xfs_words.specs.declared.command.Command.TheVariants.{Guard, Token, Replay, Load, Serve, Client, Host}
+use Rattle.xfs_words.specs.declared.command.Command.TheVariants.{Guard, Token, Replay, Load, Serve, Client, Host, Audit}
 
 -- the words are this one word
 abbrev pub IsWord : List ℕ → List (String Global) → Type 0
@@ -42,6 +42,9 @@ IsClient words = (currency : List ℕ) × (amount : ℕ) × IsClientOf currency 
 
 abbrev pub IsHost : List (String Global) → Type 0
 IsHost words = Names Host (texts words)
+
+abbrev pub IsAudit : List (String Global) → Type 0
+IsAudit words = Names Audit (texts words)
 
 -- the words name a command
 abbrev pub IsCommand : List (String Global) → Type 0

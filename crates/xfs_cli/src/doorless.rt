@@ -2,6 +2,7 @@
 
 ghost use Rattle.std.specs.Prelude.{◌≡◌, ◌↔◌, ◌∷◌, [], None};
 ghost use Rattle.xfs_guard.specs.Starts.{Starts};
+ghost use Rattle.xfs_cli.specs.AuditRuns.{RunsAuditOf};
 ghost use Rattle.xfs_cli.specs.GuardRuns.{RunsGuardOf};
 ghost use Rattle.xfs_cli.specs.HostRuns.{RunsHostOf};
 ghost use Rattle.xfs_cli.specs.LoadRuns.{RunsLoadOf};
@@ -15,6 +16,7 @@ ghost use Rattle.xfs_cli.specs.Streams.{io_of};
 ghost use Rattle.xfs_cli.specs.TokenRuns.{IsKept, RunsTokenOf, WritesUsage};
 ghost use Rattle.xfs_cli.specs.Upholds.{Accounts, UpholdsAll};
 
+use crate::audit_command::audit;
 use crate::ended::Ended;
 use crate::guard_command::guard;
 use crate::host_command::host;
@@ -50,6 +52,7 @@ pub fn run_without_doors<S: Source, K: Sink, M: Mechanism, D: Disk, P: Watch, Q:
     ensures load { RunsLoadOf words.now M.Mechanism D.Disk bench.core result (io_of S.Source K.Sink source.old source.new sink.old sink.new) }
     ensures token { RunsTokenOf words.now bench.core result (io_of S.Source K.Sink source.old source.new sink.old sink.new) }
     ensures host { RunsHostOf words.now bench.core result (io_of S.Source K.Sink source.old source.new sink.old sink.new) }
+    ensures audit { RunsAuditOf words.now bench.core result (io_of S.Source K.Sink source.old source.new sink.old sink.new) }
     ensures usage { (result.status ≡ USAGE) ↔ ¬ (IsCommand words.now) }
     ensures usage_written { result.status ≡ USAGE → WritesUsage (io_of S.Source K.Sink source.old source.new sink.old sink.new) }
     ensures idle { result.status ≡ USAGE → IsKept bench.core (back result) }
@@ -67,6 +70,7 @@ pub fn run_without_doors<S: Source, K: Sink, M: Mechanism, D: Disk, P: Watch, Q:
         Some(Command::Replay) => linkless(replay(alloc, words, source, sink, bench)),
         Some(Command::Load(_)) => linkless(load(alloc, words, source, sink, bench)),
         Some(Command::Host) => linkless(host(alloc, words, source, sink, bench)),
+        Some(Command::Audit) => linkless(audit(alloc, words, source, sink, bench)),
         // These two ask something of the doors.
         Some(Command::Serve(_) | Command::Client(_, _)) => untouched(sink, bench),
         None => untouched(sink, bench),

@@ -209,7 +209,7 @@ impl<M: Mechanism, D: Disk> GuardPlayer<M, D> {
         }
     }
 
-    // Reads the journal again, as a start of the guard would. The token that was minted last stays.
+    // Starts the guard anew. The token that was minted last stays.
     fn restart(&mut self) -> Result<Vec<u8>, NoAnswer>
         requires { self.old.guard.state.open_order ≡ No }
         ensures answer { IfOk result (λ text. Restarts (state_in D.faults self.old) text.items (state_in D.faults self.new)) }
@@ -219,7 +219,7 @@ impl<M: Mechanism, D: Disk> GuardPlayer<M, D> {
         ensures none { self.new.guard.state.open_order ≡ No }
         ensures key { self.new.key ≡ self.old.key }
     {
-        self.guard.restore()?;
+        self.guard.reboot()?;
         Ok(joined(self.alloc, b"restarted", b"")?)
     }
 

@@ -1,6 +1,8 @@
 //! The top call of the program, and the commands that it runs.
 #![tactic(auto)]
 
+mod audit_answer;
+mod audit_command;
 mod client_command;
 mod clients;
 mod doorless;
@@ -31,6 +33,7 @@ mod top;
 mod verbs;
 mod words;
 
+pub use audit_command::audit;
 pub use ended::Ended;
 pub use guard_command::guard;
 pub use host_command::host;

@@ -2,6 +2,7 @@
 
 ghost use Rattle.std.specs.Prelude.{◌≡◌, ◌⊎◌, ◌↔◌, None};
 ghost use Rattle.xfs_guard.specs.Starts.{Starts};
+ghost use Rattle.xfs_cli.specs.AuditRuns.{RunsAuditOf};
 ghost use Rattle.xfs_cli.specs.ClientRuns.{IsUndialled, RunsClientOf};
 ghost use Rattle.xfs_cli.specs.GuardRuns.{RunsGuardOf};
 ghost use Rattle.xfs_cli.specs.HostRuns.{RunsHostOf};
@@ -69,6 +70,7 @@ pub fn run<
     ensures load { RunsLoadOf words.now M.Mechanism D.Disk bench.core result (io_of S.Source K.Sink source.old source.new sink.old sink.new) }
     ensures token { RunsTokenOf words.now bench.core result (io_of S.Source K.Sink source.old source.new sink.old sink.new) }
     ensures host { RunsHostOf words.now bench.core result (io_of S.Source K.Sink source.old source.new sink.old sink.new) }
+    ensures audit { RunsAuditOf words.now bench.core result (io_of S.Source K.Sink source.old source.new sink.old sink.new) }
     ensures serve { RunsServeOf words.now M.Mechanism D.Disk bench.core result (O.log doors.old) (O.log doors.new) (output K.Sink sink.old sink.new) }
     ensures client { RunsClientOf words.now O.Link.log bench.core result (O.log doors.old) (O.log doors.new) (output K.Sink sink.old sink.new) }
 

@@ -38,7 +38,8 @@ pub fn rounds_of(alloc: Global, words: &[String]) -> Option<u32>
 {
     match command_of(alloc, words) {
         Some(Command::Load(rounds)) => Some(rounds as u32),
-        Some(Command::Guard | Command::Token | Command::Replay | Command::Host) => None,
+        Some(Command::Guard | Command::Token | Command::Replay) => None,
+        Some(Command::Host | Command::Audit) => None,
         Some(Command::Serve(_) | Command::Client(_, _)) => None,
         None => None,
     }
@@ -51,7 +52,8 @@ pub fn withdrawal_of(alloc: Global, words: &[String]) -> Option<(Currency, u32)>
 {
     match &command_of(alloc, words) {
         Some(Command::Client(currency, amount)) => Some((*currency, *amount as u32)),
-        Some(Command::Guard | Command::Token | Command::Replay | Command::Host) => None,
+        Some(Command::Guard | Command::Token | Command::Replay) => None,
+        Some(Command::Host | Command::Audit) => None,
         Some(Command::Load(_) | Command::Serve(_)) => None,
         None => None,
     }
@@ -75,7 +77,7 @@ pub fn task_of(alloc: Global, words: &[String]) -> Task
         Some(Command::Serve(connections)) => Task::Serve(connections as u32),
         Some(Command::Client(_, _)) => Task::Client,
         Some(Command::Guard | Command::Token | Command::Replay) => Task::Other,
-        Some(Command::Load(_) | Command::Host) => Task::Other,
+        Some(Command::Load(_) | Command::Host | Command::Audit) => Task::Other,
         None => Task::Other,
     }
 }

@@ -1,5 +1,6 @@
 pub mod AmountParts
 pub mod AnswerLaws
+pub mod AuditFields
 pub mod Blocks
 pub mod Cases
 pub mod Due

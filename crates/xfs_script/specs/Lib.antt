@@ -1,5 +1,6 @@
 pub mod Answer
 pub mod Answered
+pub mod AuditLines
 pub mod Commands
 pub mod Counts
 pub mod Dispense

@@ -1,10 +1,9 @@
-ghost use Rattle.std.specs.Prelude.{◌≡◌, ◌∷◌, [], List, ℕ, codes, IfSome, IfNone};
-ghost use Rattle.xfs_script.specs.Fields.{fields};
+ghost use Rattle.std.specs.Prelude.{List, ℕ, IfSome, IfNone};
 ghost use Rattle.xfs_script.specs.HostLines.{IsAccount, IsAsk, IsNumber};
 
 use crate::number::read_number;
 use crate::token_line::is_nonce;
-use crate::word::{cut, is_word, three_fields};
+use crate::word::{four_fields, is_word, three_fields};
 use xfs_base::{Currency, Milli};
 use xfs_token::read_amount;
 
@@ -30,7 +29,7 @@ pub(crate) fn read_ask(text: &[u8]) -> Option<(u64, u64, &[u8], Currency, Milli)
     ensures found { IfSome result (λ a. IsAsk text.now a.0 a.1 a.2.now a.3 a.4.0) }
     ensures none { IfNone result ((tx account : ℕ) (nonce currency : List ℕ) (amount : ℕ) → ¬ IsAsk text.now tx account nonce currency amount) }
 {
-    let (first, second, nonce, field) = ask_fields(text)?;
+    let (first, second, nonce, field) = four_fields(text, b"ask")?;
     let tx = read_any(first)?;
     let account = read_any(second)?;
     if !is_nonce(nonce) {
@@ -40,22 +39,8 @@ pub(crate) fn read_ask(text: &[u8]) -> Option<(u64, u64, &[u8], Currency, Milli)
     Some((tx, account, nonce, currency, amount))
 }
 
-// The four fields of an `ask` line.
-fn ask_fields(text: &[u8]) -> Option<(&[u8], &[u8], &[u8], &[u8])>
-    ensures found { IfSome result (λ f. fields text.now ≡ codes "ask" ∷ f.0.now ∷ f.1.now ∷ f.2.now ∷ f.3.now ∷ []) }
-    ensures none { IfNone result ((a b c d : List ℕ) → ¬ (fields text.now ≡ codes "ask" ∷ a ∷ b ∷ c ∷ d ∷ [])) }
-{
-    let (verb, behind) = cut(text, b' ');
-    let (first, behind) = cut(behind?, b' ');
-    let (second, third, fourth) = three_fields(behind?)?;
-    if !is_word(verb, b"ask") {
-        return None;
-    }
-    Some((first, second, third, fourth))
-}
-
 // A number without leading zeros.
-fn read_any(field: &[u8]) -> Option<u64>
+pub(crate) fn read_any(field: &[u8]) -> Option<u64>
     ensures found { IfSome result (IsNumber field.now) }
     ensures none { IfNone result ((n : ℕ) → ¬ IsNumber field.now n) }
 {

@@ -11,7 +11,7 @@ use std::alloc::Global;
 use xfs_base::{Bytes, Currency, Milli};
 
 /// A line of the command `host`: its verb with its fields.
-#[derive(Debug, Drop)]
+#[derive(Drop)]
 pub enum HostLine {
     /// An empty line or a comment. It has no answer.
     Skip,

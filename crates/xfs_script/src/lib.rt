@@ -4,12 +4,15 @@
 mod amounts;
 mod answerer;
 mod answering;
+mod audit_fields;
+mod audit_line;
 mod counts;
 mod counts_field;
 mod dispense;
 mod feed;
 mod fill;
 mod guard_line;
+mod hex_field;
 mod host_fields;
 mod host_line;
 mod line;
@@ -23,6 +26,7 @@ mod word;
 
 pub use answerer::{Answerer, Ending, Unanswered};
 pub use answering::answer_lines;
+pub use audit_line::{AuditLine, read_audit};
 pub use counts::counts_text;
 pub use feed::{LONGEST_LINE, QUOTA};
 pub use guard_line::{Given, GuardLine, ScriptFault, read_guard};

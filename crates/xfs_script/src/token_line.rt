@@ -8,14 +8,14 @@ ghost use Rattle.xfs_script.specs.declared.guard_line.ScriptFault.TheVariants as
 
 use crate::amounts::read_amounts;
 use crate::guard_line::ScriptFault;
+use crate::hex_field::bytes_of_digits;
 use crate::word::{field_of, is_skipped, is_word, three_fields};
-use hex::FromHexError;
 use std::alloc::Global;
 use xfs_base::Bytes;
 use xfs_token::Amounts;
 
 /// A line of the command `token`: its verb with its fields.
-#[derive(Debug, Drop)]
+#[derive(Drop)]
 pub enum TokenLine {
     /// An empty line or a comment. It has no answer.
     Skip,
@@ -92,10 +92,10 @@ fn read_hex(alloc: Global, field: &[u8]) -> Result<Bytes, ScriptFault>
     if is_word(field, b"-") {
         return Ok(Bytes::new(Vec::new(alloc)));
     }
-    match hex::decode(alloc, field) {
-        Ok(bytes) => Ok(Bytes::new(bytes)),
-        Err(FromHexError::OutOfMemory) => Err(ScriptFault::Memory),
-        Err(_) => Err(ScriptFault::NotALine),
+    match bytes_of_digits(alloc, field) {
+        Ok(Some(bytes)) => Ok(Bytes::new(bytes)),
+        Ok(None) => Err(ScriptFault::NotALine),
+        Err(_) => Err(ScriptFault::Memory),
     }
 }
 

@@ -7,8 +7,8 @@ ghost use Rattle.xfs_script.specs.ReplayLines.{HasTrackFields, IsTrackField, Spe
 ghost use Rattle.xfs_script.specs.declared.guard_line.ScriptFault.TheVariants as ScriptFault;
 
 use crate::guard_line::ScriptFault;
+use crate::hex_field::bytes_of_digits;
 use crate::word::{field_of, is_word, three_fields};
-use hex::FromHexError;
 use std::alloc::Global;
 use xfs_mech::Tracks;
 
@@ -46,9 +46,9 @@ fn read_track(alloc: Global, field: &[u8]) -> Result<Option<Vec<u8>>, ScriptFaul
     if is_word(field, b"-") {
         return Ok(None);
     }
-    match hex::decode(alloc, field) {
-        Ok(bytes) => Ok(Some(bytes)),
-        Err(FromHexError::OutOfMemory) => Err(ScriptFault::Memory),
-        Err(_) => Err(ScriptFault::NotALine),
+    match bytes_of_digits(alloc, field) {
+        Ok(Some(bytes)) => Ok(Some(bytes)),
+        Ok(None) => Err(ScriptFault::NotALine),
+        Err(_) => Err(ScriptFault::Memory),
     }
 }

@@ -61,3 +61,20 @@ pub(crate) fn three_fields(text: &[u8]) -> Option<(&[u8], &[u8], &[u8])>
     }
     Some((first, second, third))
 }
+
+// The fields behind a verb, where there are four.
+pub(crate) fn four_fields<'a>(
+    text: &'a [u8],
+    verb: &[u8],
+) -> Option<(&'a [u8], &'a [u8], &'a [u8], &'a [u8])>
+    ensures found { IfSome result (λ f. fields text.now ≡ verb.now ∷ f.0.now ∷ f.1.now ∷ f.2.now ∷ f.3.now ∷ []) }
+    ensures none { IfNone result ((a b c d : List ℕ) → ¬ (fields text.now ≡ verb.now ∷ a ∷ b ∷ c ∷ d ∷ [])) }
+{
+    let (word, behind) = cut(text, b' ');
+    let (first, behind) = cut(behind?, b' ');
+    let (second, third, fourth) = three_fields(behind?)?;
+    if !is_word(word, verb) {
+        return None;
+    }
+    Some((first, second, third, fourth))
+}

@@ -27,6 +27,7 @@ load_made name rows result k is gives found = record {
   serve = λ e. let clash : 108 ≡ 115 = ap (λ (t : Text). slice_index t 0) (sym is ∙ e) in absurd (omega arith);
   client = λ e. let clash : 108 ≡ 99 = ap (λ (t : Text). slice_index t 0) (sym is ∙ e) in absurd (omega arith);
   host = λ e. let clash : 108 ≡ 104 = ap (λ (t : Text). slice_index t 0) (sym is ∙ e) in absurd (omega arith);
+  audit = λ e. let clash : 108 ≡ 97 = ap (λ (t : Text). slice_index t 0) (sym is ∙ e) in absurd (omega arith);
 }
 
 pub serve_made : (name : Text) (rows : List Row) (result : Result ℕ WordsFault) (k : ℕ) → name ≡ codes "serve" → GivesNumber rows result → result ≡ Ok k
@@ -39,6 +40,7 @@ serve_made name rows result k is gives found = record {
   serve = λ e n has. ap (λ i. Ok (Serve i)) (same_number rows result k 1000000 n gives found (omega arith) has);
   client = λ e. let clash : 115 ≡ 99 = ap (λ (t : Text). slice_index t 0) (sym is ∙ e) in absurd (omega arith);
   host = λ e. let clash : 115 ≡ 104 = ap (λ (t : Text). slice_index t 0) (sym is ∙ e) in absurd (omega arith);
+  audit = λ e. let clash : 115 ≡ 97 = ap (λ (t : Text). slice_index t 0) (sym is ∙ e) in absurd (omega arith);
 }
 
 -- ---- the command `client`

@@ -122,6 +122,10 @@ pub host_found : Finds (codes "host") []
 unfolding clap_on_literals
 host_found = (sub_fault (codes "host") [] refl refl refl, sub_rows (codes "host") [] refl refl refl)
 
+pub audit_found : Finds (codes "audit") []
+unfolding clap_on_literals
+audit_found = (sub_fault (codes "audit") [] refl refl refl, sub_rows (codes "audit") [] refl refl refl)
+
 -- ---- which words are taken, and what is found in them
 
 -- of a command without arguments

@@ -12,7 +12,7 @@ use Rattle.clap.specs.declared.builder.value_parser.ValueParser.TheVariants.{Uns
 use Rattle.xfs_base.specs.Values.{IsCurrency}
 use Rattle.xfs_words.specs.Words.{IsNumber}
 use Rattle.xfs_words.specs.declared.command.Command.{Command}
-use Rattle.xfs_words.specs.declared.command.Command.TheVariants.{Guard, Token, Replay, Load, Serve, Client, Host}
+use Rattle.xfs_words.specs.declared.command.Command.TheVariants.{Guard, Token, Replay, Load, Serve, Client, Host, Audit}
 use Rattle.xfs_words.specs.declared.command.WordsFault.{WordsFault}
 use Rattle.xfs_words.specs.declared.command.WordsFault.TheVariants.{Usage}
 
@@ -47,6 +47,7 @@ commands = leaf (codes "guard") []
     ∷ leaf (codes "serve") (number_rule 1000000 ∷ [])
     ∷ leaf (codes "client") (currency_rule ∷ number_rule 1000000 ∷ [])
     ∷ leaf (codes "host") []
+    ∷ leaf (codes "audit") []
     ∷ []
 
 -- one command, whose subcommands these are; it knows no words for help or for the version
@@ -77,7 +78,7 @@ is_plain words = list_all (λ word. not (begins_with_hyphen (string_bytes word))
 -- the word is the name of a command
 abbrev pub IsName : Text → Type 0
 IsName word = (word ≡ codes "guard") ⊎ ((word ≡ codes "token") ⊎ ((word ≡ codes "replay")
-    ⊎ ((word ≡ codes "load") ⊎ ((word ≡ codes "serve") ⊎ ((word ≡ codes "client") ⊎ (word ≡ codes "host"))))))
+    ⊎ ((word ≡ codes "load") ⊎ ((word ≡ codes "serve") ⊎ ((word ≡ codes "client") ⊎ ((word ≡ codes "host") ⊎ (word ≡ codes "audit")))))))
 
 -- the first word is
 abbrev pub HasName : List Text → Type 0
@@ -107,3 +108,4 @@ pub record IsMadeOf (name : Text) (rows : List Row) (result : Result Command Wor
   pub client : name ≡ codes "client" → (letters : Text) (n : ℕ) → first_of (codes "currency") rows ≡ Some letters
       → HasNumber 1000000 rows n → IsWithdrawal letters n result
   pub host : name ≡ codes "host" → result ≡ Ok Host
+  pub audit : name ≡ codes "audit" → result ≡ Ok Audit

@@ -4,7 +4,7 @@ use Rattle.std.specs.Str.Parse.{IsNumeral, digits_value, without_leading_plus}
 use Rattle.std.specs.declared.alloc.Global.{Global}
 use Rattle.xfs_base.specs.Values.{IsCurrency}
 use Rattle.xfs_words.specs.declared.command.Command.{Command}
-use Rattle.xfs_words.specs.declared.command.Command.TheVariants.{Guard, Token, Replay, Load, Serve, Client, Host}
+use Rattle.xfs_words.specs.declared.command.Command.TheVariants.{Guard, Token, Replay, Load, Serve, Client, Host, Audit}
 
 -- the words as their bytes
 abbrev pub texts : List (String Global) → List (List ℕ)
@@ -39,3 +39,4 @@ Names (Load rounds) words = IsNumbered (codes "load") 10000 words rounds
 Names (Serve connections) words = IsNumbered (codes "serve") 1000000 words connections
 Names (Client currency amount) words = IsClient words currency amount
 Names Host words = words ≡ codes "host" ∷ []
+Names Audit words = words ≡ codes "audit" ∷ []

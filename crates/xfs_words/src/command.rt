@@ -21,6 +21,8 @@ pub enum Command {
     Client(Currency, u64),
     /// `host`: answers lines of accounts, and of what is asked of them for the machine's nonces.
     Host,
+    /// `audit`: reads lines of a journal and of a mechanism's list, and answers at their end which rule they break.
+    Audit,
 }
 
 /// Why words give no command.

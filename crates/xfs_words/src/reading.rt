@@ -61,7 +61,7 @@ fn is_name(word: &str) -> bool
 {
     matches!(
         word,
-        "guard" | "token" | "replay" | "load" | "serve" | "client" | "host"
+        "guard" | "token" | "replay" | "load" | "serve" | "client" | "host" | "audit"
     )
 }
 
@@ -89,6 +89,7 @@ fn command(name: &str, found: &ArgMatches<'_>) -> Result<Command, WordsFault>
         "serve" => Ok(Command::Serve(number(found)?)),
         "client" => client(found),
         "host" => Ok(Command::Host),
+        "audit" => Ok(Command::Audit),
         _ => Err(WordsFault::Usage),
     }
 }

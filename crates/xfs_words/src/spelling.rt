@@ -37,6 +37,7 @@ fn bare(name: &str) -> Option<Command>
         "token" => Some(Command::Token),
         "replay" => Some(Command::Replay),
         "host" => Some(Command::Host),
+        "audit" => Some(Command::Audit),
         _ => None,
     }
 }

@@ -24,7 +24,8 @@ pub(crate) fn table<'a>(alloc: Global) -> Result<Command<'a>, AllocError>
         .subcommand(load(alloc)?)?
         .subcommand(serve(alloc)?)?
         .subcommand(client(alloc)?)?
-        .subcommand(Command::new(alloc, "host"))
+        .subcommand(Command::new(alloc, "host"))?
+        .subcommand(Command::new(alloc, "audit"))
 }
 
 fn load<'a>(alloc: Global) -> Result<Command<'a>, AllocError>

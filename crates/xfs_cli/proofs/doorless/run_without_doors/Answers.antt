@@ -1,5 +1,5 @@
 use Rattle.std.proofs.Common.{refl, subst, sym}
-use Rattle.xfs_words.specs.declared.command.Command.TheVariants.{Guard, Host, Load, Replay, Token}
+use Rattle.xfs_words.specs.declared.command.Command.TheVariants.{Audit, Guard, Host, Load, Replay, Token}
 use Rattle.xfs_cli.specs.Moments.{WasOnTheWayAll}
 use Rattle.xfs_cli.specs.Returns.{back}
 use Rattle.xfs_cli.specs.Upholds.{UpholdsAll}
@@ -50,3 +50,16 @@ pub returns-in-Some-Host-clause-any_moment : goal.returns-in-Some-Host-clause-an
 returns-in-Some-Host-clause-any_moment g c =
     subst (λ r. WasOnTheWayAll g.M.Mechanism g.D.Disk c.args.bench.core (back r)) (sym c.linkless-in-Some-Host.ensures)
     (moments-kept g.M.Mechanism g.D.Disk c.args.bench.core (back c.host.result) g.met.D.Disk.as_read g.met.D.Disk.only_now c.host.ensures.kept c.requires.starts.at_rest)
+
+pub returns-in-None-clause-audit : goal.returns-in-None-clause-audit
+returns-in-None-clause-audit g c = λ audit. absurd (c.in-None.ensures.none (Audit, audit))
+
+pub returns-in-Some-Audit-clause-upholds : goal.returns-in-Some-Audit-clause-upholds
+returns-in-Some-Audit-clause-upholds g c =
+    subst (λ r. UpholdsAll g.M.Mechanism g.D.Disk c.args.bench.core (back r)) (sym c.linkless-in-Some-Audit.ensures)
+    (upholds-kept g.M.Mechanism g.D.Disk c.args.bench.core (back c.audit.result) c.audit.ensures.kept c.requires.starts.recorded c.requires.starts.at_rest)
+
+pub returns-in-Some-Audit-clause-any_moment : goal.returns-in-Some-Audit-clause-any_moment
+returns-in-Some-Audit-clause-any_moment g c =
+    subst (λ r. WasOnTheWayAll g.M.Mechanism g.D.Disk c.args.bench.core (back r)) (sym c.linkless-in-Some-Audit.ensures)
+    (moments-kept g.M.Mechanism g.D.Disk c.args.bench.core (back c.audit.result) g.met.D.Disk.as_read g.met.D.Disk.only_now c.audit.ensures.kept c.requires.starts.at_rest)

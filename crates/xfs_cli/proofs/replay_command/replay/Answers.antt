@@ -1,6 +1,8 @@
 use Rattle.std.proofs.Common.{◌≤◌, [], arith, refl, ap, sym, ◌∙◌}
+use Rattle.std.specs.Prelude.{is_some}
 use Rattle.xfs_guard.specs.View.{View}
 use Rattle.xfs_machine.specs.MachineView.{guard_of}
+use Rattle.xfs_mech.proofs.MoveLaws.{AddsUp-Moves, told-GrowsBy}
 use Rattle.xfs_script.specs.declared.replay_line.ReplayLine.TheVariants.{Skip}
 use Rattle.xfs_cli.specs.ReplayCommand.{IsLine, Progresses, replay_lines}
 use Rattle.xfs_cli.specs.ReplayStates.{guard_state_of, played}
@@ -71,3 +73,14 @@ returns-in-Err-clause-any_moment g c =
 
 pub returns-in-Ok-clause-units : goal.returns-in-Ok-clause-units
 returns-in-Ok-clause-units g c = c.end-mech.ensures.back.units ∙ (c.serve-status.ensures.keeps.proceeds.continues.units ∙ ap (λ (v : View). v.units) c.in-Ok.ensures.ok.2)
+
+pub returns-in-Ok-clause-accounts : goal.returns-in-Ok-clause-accounts
+returns-in-Ok-clause-accounts g c =
+    let boot = c.in-Ok.ensures.ok.2 in
+    let back = c.end-mech.ensures.back in
+    let continues = c.serve-status.ensures.keeps.proceeds.continues in
+    record {
+      adds = rw (back.motions, back.places) (AddsUp-Moves _ _ _ _ (rw boot at continues.moves));
+      told = ap is_some back.motions ∙ told-GrowsBy _ _ _ continues.moves.grown ∙ ap (λ (v : View). is_some v.motions) boot;
+      told_disk = back.told ∙ continues.disk_told ∙ ap (λ (v : View). v.disk_told) boot;
+    }

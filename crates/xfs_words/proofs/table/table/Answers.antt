@@ -23,4 +23,5 @@ returns c =
     let four = c.in_ok-subcommand-4.ensures.shape c.in_ok-load.ensures.local ∙ ap₂ with_subcommand three c.in_ok-load.ensures.shape in
     let five = c.in_ok-subcommand-5.ensures.shape c.in_ok-serve.ensures.local ∙ ap₂ with_subcommand four c.in_ok-serve.ensures.shape in
     let six = c.in_ok-subcommand-6.ensures.shape c.in_ok-client.ensures.local ∙ ap₂ with_subcommand five c.in_ok-client.ensures.shape in
-    IfOk-weaker c.subcommand-7.result _ _ (λ command h. h.shape (search rules) ∙ ap₂ with_subcommand six (ap (λ (x : App). x.top) c.new-5.ensures.app)) c.subcommand-7.ensures
+    let seven = c.in_ok-subcommand-7.ensures.shape (search rules) ∙ ap₂ with_subcommand six (ap (λ (x : App). x.top) c.new-5.ensures.app) in
+    IfOk-weaker c.subcommand-8.result _ _ (λ command h. h.shape (search rules) ∙ ap₂ with_subcommand seven (ap (λ (x : App). x.top) c.new-6.ensures.app)) c.subcommand-8.ensures

@@ -1,8 +1,30 @@
-use Rattle.xfs_cli.proofs.GuardStateLaws.{restart-fails, restart-still}
+use Rattle.std.proofs.Common.{◌≡◌, None, Ok, Err, inr, refl}
+use Rattle.std.specs.Prelude.{codes}
+use Rattle.xfs_dispenser.specs.Seen.{seen}
+use Rattle.xfs_machine.proofs.GuardLaws.{reboots, refuses_as}
+use Rattle.xfs_cli.proofs.RestartLaws.{restart_answered, restart_refused}
 use Rattle.xfs_cli.proofs.guard_player.GuardPlayer.restart.Goals as goal
 
-pub returns-in_err-restore-clause-unbooted : goal.returns-in_err-restore-clause-unbooted
-returns-in_err-restore-clause-unbooted g c =
-    let e = c.in_err-restore.ensures in
-    restart-fails g.D.Disk.faults c.args.self.now.guard c.restore.new.self c.args.self.now.last c.from_residual.result c.in_err-restore.field-0.0 c.from_residual.ensures.1
-    (restart-still g.D.Disk.faults c.args.self.now.guard c.restore.new.self c.args.self.now.last c.in_err-restore.field-0.0 e.keeps.proceeds.disk_faults e.memory e.full e.disk e.not_journal) e.untold e.cause e.full e.keeps.proceeds.disk_faults e.memory
+pub returns-in_err-reboot-clause-unbooted : goal.returns-in_err-reboot-clause-unbooted
+returns-in_err-reboot-clause-unbooted g c =
+    let e = c.in_err-reboot.ensures in
+    let old = seen g.D.Disk c.args.self.now.guard in
+    let new = seen g.D.Disk c.reboot.new.self in
+    let refused = refuses_as (g.D.Disk.held c.args.self.now.guard.disk ≡ None) (Err c.in_err-reboot.field-0.0) old new e.memory e.full e.disk e.not_journal e.untold e.cause e.keeps.proceeds.disk_faults in
+    restart_refused c.from_residual.result c.in_err-reboot.field-0.0 old new c.args.self.now.last c.from_residual.ensures.1 refused
+
+pub returns-in_err-joined-clause-memory : goal.returns-in_err-joined-clause-memory
+returns-in_err-joined-clause-memory g c = λ is.
+    let e = c.in_ok-reboot.ensures in
+    let old = seen g.D.Disk c.args.self.now.guard in
+    let new = seen g.D.Disk c.reboot.new.self in
+    let done = reboots (g.D.Disk.held c.args.self.now.guard.disk) (Ok tt) old new e.ok e.fits e.keeps.proceeds.disk_faults in
+    inr (codes "restarted", restart_answered old new c.args.self.now.last (codes "restarted") done refl)
+
+pub returns-clause-answer : goal.returns-clause-answer
+returns-clause-answer g c =
+    let e = c.in_ok-reboot.ensures in
+    let old = seen g.D.Disk c.args.self.now.guard in
+    let new = seen g.D.Disk c.reboot.new.self in
+    let done = reboots (g.D.Disk.held c.args.self.now.guard.disk) (Ok tt) old new e.ok e.fits e.keeps.proceeds.disk_faults in
+    restart_answered old new c.args.self.now.last c.in_ok-joined.field-0.items done c.in_ok-joined.ensures

@@ -1,4 +1,4 @@
-use Rattle.std.proofs.Common.{◌≤◌, Err, ap, inr, ◌∙◌, arith}
+use Rattle.std.proofs.Common.{Err, ap, inr, ◌∙◌, arith}
 use Rattle.xfs_guard.proofs.KeepsLaws.{Proceeds-trans}
 use Rattle.xfs_cli.specs.ReplayCommand.{leaves-none, progress-same}
 use Rattle.xfs_cli.specs.ReplayStates.{played}
