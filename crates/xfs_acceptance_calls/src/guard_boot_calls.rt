@@ -1,7 +1,7 @@
-//! The guard's boot over files, which tell nothing, and its restore.
+//! The guard's boot over files, which tell nothing, its restore and its reboot.
 
 use crate::files::opened;
-use crate::guard_bench::{GENUINE, guard_on, sim, units};
+use crate::guard_bench::{GENUINE, guard_on, guard_over, sim, units};
 use crate::journal_calls::old_file;
 use std::alloc::Global;
 use std::fs::{self, File};
@@ -10,22 +10,23 @@ use std::test::Fail;
 use xfs_base::Counts;
 use xfs_disk::FileDisk;
 use xfs_guard::{Ask, BootFault, Fit, Guard};
-use xfs_journal::Rec;
+use xfs_journal::{Limits, Rec};
 use xfs_simulated::{KEY, LIMITS, SEED, places};
 
-// How a boot over a file ends: with so many records and no live nonce, or refused.
+// How a boot over a file ends: with so many records in front of those in memory, so many there and no live nonce; or
+// refused.
 fn booted_over(
     rt: &impl Abort,
     alloc: Global,
     file: File,
-) -> Result<Result<usize, BootFault>, Fail> {
+) -> Result<Result<(u64, usize), BootFault>, Fail> {
     let units = units()?;
     let mech = sim(alloc, &units)?;
     let disk = FileDisk::new(file);
     match Guard::boot(alloc, mech, disk, KEY, SEED, units, LIMITS) {
         Ok(guard) => {
             assert!(rt; guard.live().is_none());
-            Ok(Ok(guard.records().len()))
+            Ok(Ok((guard.base(), guard.records().len())))
         }
         Err(fail) => Ok(Err(fail.why)),
     }
@@ -41,9 +42,9 @@ fn a_boot_over_a_file_finds_a_journal_or_none(rt: HostRuntime) -> Result<(), Fai
     let disk = disk.inner();
     let whole = disk.bytes();
     for (bytes, answer) in [
-        ([].as_slice(), Ok(1)),
-        (whole, Ok(3)),
-        (&[0xff; 9], Ok(1)),
+        ([].as_slice(), Ok((0, 1))),
+        (whole, Ok((2, 1))),
+        (&[0xff; 9], Ok((0, 1))),
         (&[0xff; 10], Err(BootFault::NotJournal { at: 0 })),
         (
             whole.get(..232).ok_or("shorter")?,
@@ -65,7 +66,8 @@ fn a_boot_over_a_file_finds_a_journal_or_none(rt: HostRuntime) -> Result<(), Fai
     Ok(())
 }
 
-// The older file has a Boot and the first nonce's Issue; a Start comes behind them, and then the second nonce.
+// The older file has a Boot and the first nonce's Issue, which memory lets go; a Start comes behind them, and then the
+// second nonce.
 #[test]
 fn an_older_file_is_carried_over_by_a_boot(rt: HostRuntime) -> Result<(), Fail> {
     let alloc = rt.alloc();
@@ -87,7 +89,13 @@ fn an_older_file_is_carried_over_by_a_boot(rt: HostRuntime) -> Result<(), Fail> 
         file.get(224..237),
         Some(b"\x01\0\xC9\x4B\0\0\0\0\0\0\0\x01\0".as_slice())
     );
-    assert!(rt; guard.issue()?.number == 2 && guard.records().len() == 4);
+    assert!(rt; guard.base() == 2 && guard.issue()?.number == 2);
+    assert!(rt;
+        matches!(
+            guard.records(),
+            [Rec::Start { issues: 1, .. }, Rec::Issue { number: 2, .. }]
+        )
+    );
     fs::remove_file(&rt, "xfs_acceptance_older.test")?;
     Ok(())
 }
@@ -102,7 +110,7 @@ fn a_restore_gives_the_journal_a_start_with_the_places(rt: HostRuntime) -> Resul
     assert!(rt; nonce.number == 1 && live.number == 1 && live.text == nonce.text);
     assert!(rt; guard.clear()? && !guard.clear()?);
     assert!(rt; guard.restore() == Ok(()) && guard.live().is_none());
-    assert!(rt; guard.records().len() == 4 && guard.units().len() == 4);
+    assert!(rt; guard.base() == 0 && guard.records().len() == 4 && guard.units().len() == 4);
     match guard.records().last() {
         Some(
             Rec::Start {
@@ -131,5 +139,68 @@ fn an_order_that_was_open_is_never_carried_out(rt: HostRuntime) -> Result<(), Fa
     assert!(rt; guard.restore() == Ok(()));
     assert!(rt; !guard.ordering() && guard.places() == places());
     assert!(rt; guard.records().len() == 5);
+    Ok(())
+}
+
+// The list is then five Starts, of which the last is in memory.
+#[test]
+fn a_reboot_frees_a_journal_that_restores_have_filled(rt: HostRuntime) -> Result<(), Fail> {
+    let limits = Limits {
+        records: 4,
+        bytes: 1_000_000,
+    };
+    let units = units()?;
+    let mech = sim(rt.alloc(), &units)?;
+    let mut guard = guard_over(rt.alloc(), mech, units, limits, &[])?;
+    for answer in [Ok(()), Ok(()), Ok(()), Err(BootFault::Full)] {
+        assert!(rt; guard.restore() == answer);
+    }
+    assert!(rt; guard.base() == 0 && guard.records().len() == 4 && guard.fit() == Fit::Full);
+    assert!(rt; guard.reboot() == Ok(()));
+    assert!(rt; guard.base() == 4 && guard.records().len() == 1 && guard.fit() == Fit::Ready);
+    Ok(())
+}
+
+#[test]
+fn a_reboot_behind_an_issue_keeps_its_start_alone(rt: HostRuntime) -> Result<(), Fail> {
+    let mut guard = guard_on(rt.alloc(), &[])?;
+    assert!(rt; guard.issue()?.number == 1);
+    guard.reboot()?;
+    assert!(rt; guard.base() == 2 && guard.live().is_none() && !guard.ordering());
+    assert!(rt; matches!(guard.records(), [Rec::Start { issues: 1, .. }]));
+    assert!(rt; guard.issue()?.number == 2);
+    Ok(())
+}
+
+// The bytes are those of two Starts.
+#[test]
+fn a_reboot_without_room_keeps_what_it_read(rt: HostRuntime) -> Result<(), Fail> {
+    let limits = Limits {
+        records: 100,
+        bytes: 417,
+    };
+    let units = units()?;
+    let mech = sim(rt.alloc(), &units)?;
+    let mut guard = guard_over(rt.alloc(), mech, units, limits, &[])?;
+    assert!(rt; guard.restore() == Ok(()) && guard.base() == 0);
+    for _ in 0..2 {
+        assert!(rt; guard.reboot() == Err(BootFault::Full) && guard.fit() == Fit::Full);
+        assert!(rt; guard.base() == 1 && guard.records().len() == 1);
+    }
+    Ok(())
+}
+
+// The boot makes 8 calls of the disk, an append 4 and a remount 3: what fails is the remount of the first reboot, the
+// append of the second, and nothing of the third.
+#[test]
+fn a_reboot_over_a_disk_that_fails_is_made_again(rt: HostRuntime) -> Result<(), Fail> {
+    let mut guard = guard_on(rt.alloc(), &[16, 20])?;
+    assert!(rt; guard.restore() == Ok(()));
+    assert!(rt; guard.reboot() == Err(BootFault::Disk) && guard.fit() == Fit::Shut);
+    assert!(rt; guard.base() == 0 && guard.records().len() == 2);
+    assert!(rt; guard.reboot() == Err(BootFault::Disk) && guard.fit() == Fit::Shut);
+    assert!(rt; guard.base() == 1 && guard.records().len() == 1);
+    assert!(rt; guard.reboot() == Ok(()) && guard.fit() == Fit::Ready);
+    assert!(rt; guard.base() == 2 && guard.records().len() == 1);
     Ok(())
 }

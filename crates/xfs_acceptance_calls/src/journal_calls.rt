@@ -9,7 +9,7 @@ use xfs_base::{Counts, Kind, Places};
 use xfs_disk::{Disk, FileDisk, MemDisk};
 use xfs_journal::{BodyFault, Journal, Limits, MountFault, Rec, Survey, Text, read_body};
 
-const LIMITS: Limits = Limits {
+pub const LIMITS: Limits = Limits {
     records: 1_000_000,
     bytes: 17_179_869_184,
 };
@@ -20,7 +20,7 @@ fn disk(alloc: Global, bytes: &[u8]) -> Result<MemDisk, Fail> {
     Ok(MemDisk::new(alloc, bytes.to_vec(alloc)?))
 }
 
-fn mounted<D: Disk>(alloc: Global, disk: D) -> Result<Journal<D>, Fail> {
+pub fn mounted<D: Disk>(alloc: Global, disk: D) -> Result<Journal<D>, Fail> {
     match Journal::mount(alloc, disk, LIMITS) {
         Ok(journal) => Ok(journal),
         Err(_) => Err("the disk is not mounted")?,
@@ -72,7 +72,7 @@ pub fn old_file(alloc: Global) -> Result<Vec<u8>, Fail> {
 }
 
 // The file after the start on an empty disk, and an issue.
-fn short_file(alloc: Global) -> Result<Vec<u8>, Fail> {
+pub fn short_file(alloc: Global) -> Result<Vec<u8>, Fail> {
     file_from(alloc, b"XFSJRNL2\x01\x00\xC9\x4B\0\0\0\0\0\0\0\0")
 }
 
@@ -107,10 +107,10 @@ fn a_start_and_an_issue_are_213_and_233_bytes(rt: HostRuntime) -> Result<(), Fai
     Ok(())
 }
 
-// The number of records of a file, or the place from which it is no journal.
-fn count_in(alloc: Global, bytes: &[u8]) -> Result<Result<usize, u64>, Fail> {
+// How many records of a file a mount lets go, and how many it keeps; or the place from which it is no journal.
+fn count_in(alloc: Global, bytes: &[u8]) -> Result<Result<(u64, usize), u64>, Fail> {
     match Journal::mount(alloc, disk(alloc, bytes)?, LIMITS) {
-        Ok(journal) => Ok(Ok(journal.records().len())),
+        Ok(journal) => Ok(Ok((journal.base(), journal.records().len()))),
         Err(refused) => match refused.why {
             MountFault::NotJournal { at } => {
                 let same = refused.disk.bytes() == bytes;
@@ -132,31 +132,31 @@ fn a_file_that_is_cut_is_refused_at_the_record_that_is_not_whole(
     let alloc = rt.alloc();
     let file = short_file(alloc)?;
     for (from, to, answer) in [
-        (0, 10, Ok(0)),
+        (0, 10, Ok((0, 0))),
         (10, 212, Err(8)),
         (212, 232, Err(212)),
         (232, 233, Err(232)),
-        (233, 234, Ok(2)),
+        (233, 234, Ok((0, 2))),
     ] {
         for len in from..to {
             let prefix = file.get(..len).ok_or("shorter")?;
             assert_eq!(rt; count_in(alloc, prefix)?, answer, "cut to {len}");
         }
     }
-    assert_eq!(rt; count_in(alloc, &[0xFF; 9])?, Ok(0));
+    assert_eq!(rt; count_in(alloc, &[0xFF; 9])?, Ok((0, 0)));
     assert_eq!(rt; count_in(alloc, &[0xFF; 10])?, Err(0));
     Ok(())
 }
 
-// A Boot and an Issue, and a Start and an Issue behind them.
+// A Boot and an Issue, and a Start and an Issue behind them, which a mount keeps.
 #[test]
 fn boots_and_starts_stand_in_one_file(rt: HostRuntime) -> Result<(), Fail> {
     let alloc = rt.alloc();
     let mut bytes = old_file(alloc)?;
-    assert_eq!(rt; count_in(alloc, &bytes)?, Ok(2));
+    assert_eq!(rt; count_in(alloc, &bytes)?, Ok((0, 2)));
     bytes.pop();
     bytes.extend_from_slice(short_file(alloc)?.get(8..).ok_or("shorter")?)?;
-    assert_eq!(rt; count_in(alloc, &bytes)?, Ok(4));
+    assert_eq!(rt; count_in(alloc, &bytes)?, Ok((2, 2)));
     Ok(())
 }
 
@@ -253,7 +253,8 @@ fn split_block(block: &[u8]) -> Option<(&[u8], &[u8])> {
     behind.split_at_checked(usize::from(u16::from_be_bytes([*high, *low])))
 }
 
-// A plain reader: the whole file is one slice. It shows the records, or the place from which they are none.
+// A plain reader: the whole file is one slice. It shows the records from the last boot record on, or the place from which
+// they are none.
 fn plain(alloc: Global, bytes: &[u8]) -> Result<Result<String, u64>, Fail> {
     let Some([_, behind @ ..]) = bytes.strip_prefix(b"XFSJRNL".as_slice()) else {
         return Ok(Err(0));
@@ -271,7 +272,12 @@ fn plain(alloc: Global, bytes: &[u8]) -> Result<Result<String, u64>, Fail> {
             return Ok(Err(at));
         };
         match read_body(alloc, body) {
-            Ok(rec) => records.push(rec)?,
+            Ok(rec) => {
+                if matches!(rec, Rec::Boot { .. } | Rec::Start { .. }) {
+                    records.clear();
+                }
+                records.push(rec)?;
+            }
             Err(_) => return Ok(Err(at)),
         }
         rest = behind;

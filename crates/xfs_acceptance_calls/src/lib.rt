@@ -22,6 +22,8 @@ mod hmac_calls;
 #[cfg(test)]
 mod journal_calls;
 #[cfg(test)]
+mod kept_calls;
+#[cfg(test)]
 mod mechanism_calls;
 #[cfg(test)]
 mod migrate_calls;

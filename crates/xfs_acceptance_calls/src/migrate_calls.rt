@@ -1,28 +1,16 @@
 //! Files of an older version, and how they are carried over.
 
-use crate::journal_calls::old_file;
+use crate::journal_calls::{mounted, old_file};
 use std::alloc::Global;
 use std::test::Fail;
-use xfs_disk::{Disk, FailDisk, MemDisk};
-use xfs_journal::{Journal, Limits, Rec};
-
-const LIMITS: Limits = Limits {
-    records: 1_000_000,
-    bytes: 17_179_869_184,
-};
+use xfs_disk::{FailDisk, MemDisk};
+use xfs_journal::Rec;
 
 // The older file with this byte as its eighth.
 fn file_of(alloc: Global, version: u8) -> Result<Vec<u8>, Fail> {
     let mut bytes = old_file(alloc)?;
     *bytes.get_mut(7).ok_or("shorter")? = version;
     Ok(bytes)
-}
-
-fn mounted<D: Disk>(alloc: Global, disk: D) -> Result<Journal<D>, Fail> {
-    match Journal::mount(alloc, disk, LIMITS) {
-        Ok(journal) => Ok(journal),
-        Err(_) => Err("the disk is not mounted")?,
-    }
 }
 
 // Whether the file of this version has its records, and which version it has once it was carried over.

@@ -10,18 +10,19 @@ use xfs_mech::Motion;
 
 const NONE: Counts = Counts([0; 8]);
 
-// Records, with notes of EUR 10 and EUR 20 in place of counts, and the motions. First a token of EUR 50 is paid out as a
-// note of EUR 20 and, once that was taken, three of EUR 10; then come a load, an order that a start cut off, a note that
-// went to the bin on its way, a retract that leaves two of three notes, of which the customer takes those, one by which
-// more notes come back than lay there, and a done of no order.
+// The base, the records, with notes of EUR 10 and EUR 20 in place of counts, and the motions. First a token of EUR 50 is paid
+// out as a note of EUR 20 and, once that was taken, three of EUR 10, and the same behind seven records; then come a load, an
+// order that a start cut off, a note that went to the bin on its way, a retract that leaves two of three notes, of which the
+// customer takes those, one by which more notes come back than lay there, and a done of no order.
 const ROWS: &str =
-    "boot 00, issue, bind, stack 01, done 01 00, present 01, done 01 00, stack 30, done 30 00, present 30, done 30 00 => 4 Stack 01 00, 6 Present 01 00, 8 Stack 30 00, taken 01, 10 Present 30 00, taken 30
-boot 00, load 2 5 => loaded 2 5
-boot 00, stack 01, boot 00 => 
-boot 00, stack 20, done 10 10 => 2 Stack 10 10
-boot 30, retract 30, done 10 00 => 2 Retract 10 00, taken 20
-boot 10, retract 20, done 20 00 => 2 Retract 20 00
-boot 00, done 10 00 => ";
+    "0: boot 00, issue, bind, stack 01, done 01 00, present 01, done 01 00, stack 30, done 30 00, present 30, done 30 00 => 4 Stack 01 00, 6 Present 01 00, 8 Stack 30 00, taken 01, 10 Present 30 00, taken 30
+7: boot 00, issue, bind, stack 01, done 01 00, present 01, done 01 00, stack 30, done 30 00, present 30, done 30 00 => 11 Stack 01 00, 13 Present 01 00, 15 Stack 30 00, taken 01, 17 Present 30 00, taken 30
+0: boot 00, load 2 5 => loaded 2 5
+0: boot 00, stack 01, boot 00 => 
+0: boot 00, stack 20, done 10 10 => 2 Stack 10 10
+0: boot 30, retract 30, done 10 00 => 2 Retract 10 00, taken 20
+0: boot 10, retract 20, done 20 00 => 2 Retract 20 00
+0: boot 00, done 10 00 => ";
 
 // So many notes as the two digits say.
 fn counts(digits: &str) -> Counts {
@@ -109,13 +110,17 @@ fn digits(alloc: Global, counts: &Counts) -> Result<String, Fail> {
 
 // The records of a row give its motions.
 fn give(rt: &impl Abort, alloc: Global, row: &str) -> Result<(), Fail> {
+    let (base, row) = row.split_once(": ").ok_or("a colon")?;
+    let base = base.parse::<u64>().ok().ok_or("a number")?;
     let (words, due) = row.split_once(" => ").ok_or("an arrow")?;
     let mut records = Vec::new(alloc);
     for words in words.split(", ") {
         records.push(record(alloc, words)?)?;
     }
+    base.checked_add(records.len() as u64)
+        .ok_or("a smaller base")?;
     let mut all = String::new(alloc);
-    for motion in motions_of(alloc, records.as_slice())?.as_slice() {
+    for motion in motions_of(alloc, base, records.as_slice())?.as_slice() {
         if !all.is_empty() {
             all.push_str(", ")?;
         }

@@ -6,7 +6,7 @@ use std::test::Fail;
 use xfs_base::{Counts, Kind, Places};
 use xfs_disk::MemDisk;
 use xfs_journal::{Journal, Rec, Survey};
-use xfs_mech::{KeyName, Mechanism, News, SimWatch, Touch, Watch};
+use xfs_mech::{KeyName, Mechanism, Motion, News, SimWatch, Touch, Watch};
 use xfs_simulated::{
     LIMITS, OWN, card_news, core_on, core_resumed, empty, key_news, mechanism, places, secret_in,
     units,
@@ -162,6 +162,14 @@ fn the_machine_goes_on_where_its_journal_leaves_it(rt: HostRuntime) -> Result<()
     };
     assert_eq!(rt; core.mech.survey(), left);
     assert_eq!(rt; core.mech.motions().len(), 4);
+    // The first Boot stands in front of the records that are kept.
+    for (place, due) in [(0, 3), (1, 5)] {
+        let motion = core.mech.motions().get(place);
+        assert!(rt;
+            matches!(motion, Some(Motion::Moved { number, .. }) if *number == due),
+            "{due}"
+        );
+    }
     assert_eq!(rt; core.life, 600_000);
     Ok(())
 }

@@ -8,6 +8,8 @@ use xfs_words::{read, spelled};
 const WORDS: &str = "guard => Guard
 token => Token
 replay => Replay
+host => Host
+audit => Audit
 load/1 => Load(1)
 load/8 => Load(8)
 load/08 => Load(8)
@@ -37,6 +39,11 @@ guard/guard => none
 token/8 => none
 replay/8 => none
 replay/token => none
+host/ => none
+audit/audit => none
+audit/1 => none
+Audit => none
+audits => none
 help => none
 help/load => none
 load/help => none

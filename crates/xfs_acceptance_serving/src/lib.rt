@@ -22,6 +22,8 @@ mod doors;
 #[cfg(test)]
 mod lists;
 #[cfg(test)]
+mod restart_calls;
+#[cfg(test)]
 mod rows;
 #[cfg(test)]
 mod run_client;
