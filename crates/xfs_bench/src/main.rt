@@ -10,6 +10,7 @@ mod macs;
 mod messages;
 mod mixes;
 mod mounting;
+mod records;
 mod talk;
 mod tally;
 mod tokens;

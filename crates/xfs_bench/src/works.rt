@@ -3,12 +3,13 @@
 use crate::macs::{KeyedMac, TokenMac};
 use crate::messages::Dispense;
 use crate::mixes::{Filled, MixSearch};
-use crate::mounting::mounted;
+use crate::mounting::{appended, booted, mounted};
+use crate::records::Between;
 use crate::tokens::TokenCheck;
 use crate::work::right_rounds;
 use std::alloc::Global;
 
-pub const WORKS: [&str; 8] = [
+pub const WORKS: [&str; 12] = [
     "tokens",
     "macs",
     "keyed_macs",
@@ -17,6 +18,10 @@ pub const WORKS: [&str; 8] = [
     "worst_mixes",
     "denominate",
     "mount",
+    "mount_boots",
+    "mount_all",
+    "append",
+    "append_all",
 ];
 
 /// How often a work's answer was right. None for a name of no work, and where memory ran out before the first round.
@@ -30,6 +35,10 @@ pub fn right(alloc: Global, work: &str, count: u64) -> Option<u64> {
         "worst_mixes" => Some(right_rounds(alloc, &MixSearch::of_eight()?, count)),
         "denominate" => Some(right_rounds(alloc, &Filled::new()?, count)),
         "mount" => mounted(alloc, count),
+        "mount_boots" => booted(alloc, count, Between::Nonces),
+        "mount_all" => booted(alloc, count, Between::Withdrawals),
+        "append" => appended(alloc, count, Between::Nonces),
+        "append_all" => appended(alloc, count, Between::Withdrawals),
         _ => None,
     }
 }
