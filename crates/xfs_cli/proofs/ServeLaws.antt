@@ -1,5 +1,5 @@
 -- A run of `serve` is as its record says: where its connections were taken, and where the boot was refused.
-use Rattle.std.proofs.Common.{◌≡◌, ◌≢◌, ◌≤◌, ◌∷◌, [], ◌⊎◌, ℕ, List, None, Some, Result, Ok, Err, false, is_ok, inl, inr, refl, subst, sym, ap, ◌∙◌, arith, length}
+use Rattle.std.proofs.Common.{◌≡◌, ◌≢◌, ◌≤◌, ◌∷◌, [], ◌⊎◌, ℕ, List, None, Some, Result, Ok, Err, Bool, true, false, is_ok, inl, inr, refl, subst, sym, ap, ◌∙◌, arith, length}
 use Rattle.std.proofs.lemmas.Bool.{false≢true}
 use Rattle.std.specs.declared.option.Option.{Option}
 use Rattle.xfs_base.specs.Causes.{IfTold, Rose, next_count}
@@ -8,6 +8,12 @@ use Rattle.xfs_mech.specs.declared.mechanism.Mechanism.{Ghosts as Mechanisms}
 use Rattle.xfs_journal.specs.JournalView.{HasPossible}
 use Rattle.xfs_journal.specs.declared.record.Rec.{Rec}
 use Rattle.xfs_guard.specs.Continues.{Continues}
+use Rattle.xfs_guard.specs.Entries.{AtEntry, opened}
+use Rattle.xfs_guard.specs.Reach.{BeginsBehind, IsComparable, StandsBehind}
+use Rattle.xfs_guard.specs.View.{GuardView, View}
+use Rattle.xfs_guard.proofs.BegunLaws.{begun}
+use Rattle.xfs_guard.proofs.BootLaws.{base_of-boot}
+use Rattle.xfs_journal.specs.Journal.{with_boot}
 use Rattle.xfs_guard.specs.Lives.{BeginsWith}
 use Rattle.xfs_guard.proofs.CrashedLaws.{begins-possible, begins-trans}
 use Rattle.xfs_guard.specs.declared.deny.Deny.{Deny}
@@ -16,9 +22,9 @@ use Rattle.xfs_guard.specs.declared.fail.BootFault.TheVariants.{NotJournal, Disk
 use Rattle.xfs_guard.specs.declared.machine_core.Core.{Core}
 use Rattle.xfs_guard.specs.declared.open.Open.{Open}
 use Rattle.xfs_guard.specs.declared.open.Open.TheVariants.{No, Written, Acted}
-use Rattle.xfs_dispenser.specs.Seen.{Seen}
+use Rattle.xfs_dispenser.specs.Seen.{Seen, seen}
 use Rattle.xfs_machine.specs.Answers.{finished}
-use Rattle.xfs_machine.specs.Endings.{Finishes}
+use Rattle.xfs_machine.specs.Endings.{Finishes, IsHandedBack}
 use Rattle.xfs_machine.specs.MachineView.{MachineView, guard_of}
 use Rattle.xfs_model.specs.Events.{finish, unsettled as unsettled_}
 use Rattle.xfs_model.specs.Guards.{Closes, SettlesOn, unwritten}
@@ -32,7 +38,7 @@ use Rattle.xfs_serving.specs.declared.ending.Ending.{Ending}
 use Rattle.xfs_serving.specs.declared.ending.Ending.TheVariants as taking
 use Rattle.xfs_cli.specs.Boots.{WritesBoot, boot_status}
 use Rattle.xfs_cli.specs.Returns.{Return}
-use Rattle.xfs_cli.specs.ServeRuns.{RunsServe, StandsForMore, served_line, served_status}
+use Rattle.xfs_cli.specs.ServeRuns.{ClosesBehind, RunsServe, StandsForMore, served_line, served_status}
 use Rattle.xfs_cli.specs.Served.{WritesLast}
 use Rattle.xfs_cli.specs.Statuses.{IsFinished, IsOneOf}
 use Rattle.xfs_cli.specs.Streams.{Output, unread_io}
@@ -83,13 +89,31 @@ served-one taking.Served (Ok done) status is = inr (inl (is, refl))
 served-one taking.Failed (Ok done) status is = inr (inr (inl (is, refl)))
 served-one taking.Memory (Ok done) status is = inr (inr (inr is))
 
+-- ---- what stands behind the base of the boot
+
+pub closes-behind : {M D : Type 0} (m : Mechanisms M) (d : Disks D) (e : AtEntry) (records : List Rec) (start : View) (last : GuardView D) (mech : M) (disk : D)
+    → start ≡ opened e (with_boot records e.places) → Continues start last.state → IsHandedBack m d (seen d last) mech disk → ClosesBehind m d start mech disk
+closes-behind m d e records start last mech disk is goes_on back = record {
+  last = last;
+  goes_on = goes_on;
+  back = back;
+  numbered = ((stood false (λ compared. absurd (false≢true compared))).recorded last.state.records (inl refl)).numbered;
+  recorded = λ none. rw (back.motions, ← goes_on.key, ← goes_on.units) ((stood true (λ compared. none)).recorded last.state.records (inl refl));
+}
+  where
+    begins : BeginsBehind start
+    begins = begun start records e.places (ap (λ (v : View). v.records) is) (ap (λ (v : View). v.base) is ∙ base_of-boot records e.places) (ap (λ (v : View). v.open_order) is) (ap (λ (v : View). v.in_doubt) is)
+
+    stood : (compared : Bool) → IsComparable compared start.base start.motions → StandsBehind compared start.base last.state
+    stood compared comparable = goes_on.behind compared start.base (begins compared comparable)
+
 -- where the boot was not refused
 pub serves-booted : {M D : Type 0} (m : Mechanisms M) (d : Disks D) (core : Core M D) (connections : ℕ) (result : Return M D) (before now : DoorLog) (o : Output) (start : MachineView D) (last : State) (ending : Ending) (settled : Result Unit Deny)
     → HasBooted m d core (guard_of start) → start.state ≡ bare start.state.seen core.life (length start.state.seen.guard.records)
     → start.state.seen.disk_faults ≡ d.faults start.disk → Takes connections ending before now → Continues start.state.seen.guard last.seen.guard → start.state.seen.disk_faults ≤ last.seen.disk_faults
-    → Finishes m d last settled result.mech result.disk → result.status ≡ served_status ending settled
+    → Finishes m d last settled result.mech result.disk → ClosesBehind m d start.state.seen.guard result.mech result.disk → result.status ≡ served_status ending settled
     → WritesLast (served_line settled) o.faults o.faults_now o.held o.held_now → RunsServe m d core connections result before now o
-serves-booted m d core connections result before now o start last ending settled b bare_is tied takes goes_on grown f status line = record {
+serves-booted m d core connections result before now o start last ending settled b bare_is tied takes goes_on grown f closes status line = record {
   serves = inr (record {
     start = start.state;
     begins = record { boots = record { records = b.records; stands = b.stands; guard_is = b.guard_is; later = low; none = refl }; machine = bare_is };
@@ -103,6 +127,7 @@ serves-booted m d core connections result before now o start last ending settled
       finishes = f;
       status_is = status;
       line = line;
+      closes = closes;
       begins = stands-more _ _ _ f.0.guard.records f.0.guard.in_doubt begun f.2.stored;
     };
   });

@@ -8,10 +8,13 @@ use Rattle.xfs_journal.specs.Image.{StandsFor}
 use Rattle.xfs_journal.specs.declared.record.Rec.{Rec}
 use Rattle.xfs_guard.specs.Continues.{Continues}
 use Rattle.xfs_guard.specs.Lives.{BeginsWith}
+use Rattle.xfs_guard.specs.Reach.{IsRecordedBehind, NoneInReach, NumberedBehind}
+use Rattle.xfs_guard.specs.View.{GuardView, View}
 use Rattle.xfs_guard.specs.declared.deny.Deny.{Deny}
 use Rattle.xfs_guard.specs.declared.fail.BootFault.TheVariants.{Disk}
 use Rattle.xfs_guard.specs.declared.machine_core.Core.{Core}
-use Rattle.xfs_machine.specs.Endings.{Finishes}
+use Rattle.xfs_machine.specs.Endings.{Finishes, IsHandedBack}
+use Rattle.xfs_dispenser.specs.Seen.{seen}
 use Rattle.xfs_model.specs.State.{State}
 use Rattle.xfs_server.specs.Counted.{counted}
 use Rattle.xfs_server.specs.Doors.{DoorLog}
@@ -49,6 +52,14 @@ pub record StandsForMore (records : List Rec) (bytes : List ℕ) : Type 0 where
   pub stands : StandsFor bytes list
   pub begins : BeginsWith list records
 
+-- Mechanism and disk are handed back by a guard that went on from that of the boot: from the base of the boot on its issues are numbered, and where no moved entry of the mechanism was in reach of that base, its list is recorded there with that of the mechanism that comes back. So it is also where the disk tells nothing.
+pub record ClosesBehind {M D : Type 0} (m : Mechanisms M) (d : Disks D) (start : View) (mech : M) (disk : D) : Type 0 where
+  pub last : GuardView D
+  pub goes_on : Continues start last.state
+  pub back : IsHandedBack m d (seen d last) mech disk
+  pub numbered : NumberedBehind start.base last.state.records
+  pub recorded : IfTold start.motions (NoneInReach start.base) → IsRecordedBehind start.base start.key start.units last.state.records (m.motions mech)
+
 -- so many connections are taken at the doors from a machine on, until one whose finish hands back the mechanism and the disk
 pub record ServesUntil {M D : Type 0} (m : Mechanisms M) (d : Disks D) (connections : ℕ) (result : Return M D) (before now : DoorLog) (o : Output) (start : State) : Type 0 where
   pub ending : Ending
@@ -61,6 +72,7 @@ pub record ServesUntil {M D : Type 0} (m : Mechanisms M) (d : Disks D) (connecti
   pub finishes : Finishes m d last settled result.mech result.disk
   pub status_is : result.status ≡ served_status ending settled
   pub line : WritesLast (served_line settled) o.faults o.faults_now o.held o.held_now
+  pub closes : ClosesBehind m d start.seen.guard result.mech result.disk
   -- every image of the disk begins with the records of the boot
   pub begins : IfTold (d.held result.disk) (λ _. (image : List ℕ) → d.images result.disk image → StandsForMore start.seen.guard.records image)
 

@@ -1,5 +1,5 @@
 -- What happened from one state of a guard to a later one.
-use Rattle.std.proofs.Common.{◌≡◌, ◌⊎◌, inl, inr, ℕ, ◌≤◌, Bool, true, false, List, [], ◌∷◌, ◌++◌, length, None, Some, refl, sym, ◌∙◌, ap, arith, length-append}
+use Rattle.std.proofs.Common.{◌≡◌, ◌⊎◌, inl, inr, ℕ, ◌≤◌, Bool, true, false, List, [], ◌∷◌, ◌++◌, length, None, Some, refl, sym, ◌∙◌, ap, subst, arith, length-append}
 use Rattle.std.proofs.lemmas.List.{append-nil}
 use Rattle.std.specs.declared.option.Option.{Option}
 use Rattle.xfs_base.specs.declared.counts.Counts.{Counts}
@@ -24,22 +24,9 @@ use Rattle.xfs_mech.proofs.MotionLaws.{all-append, all-numbers}
 use Rattle.xfs_mech.proofs.MoveLaws.{Moves-same, Moves-trans, Moves-entry}
 use Rattle.xfs_guard.proofs.RecordLaws.{longer}
 use Rattle.xfs_guard.proofs.SoundLaws.{acted_view}
-
--- where no record is in doubt, the journal's list is the one possible list
-pub only-possible : (records found : List Rec) (d : Option Rec) → d ≡ None → IsPossible records d found → found ≡ records
-only-possible records found d none (inl is) = is
-only-possible records found d none (inr (r, doubt, is)) = absurd (never (sym none ∙ doubt))
-  where
-    never : None ≡ Some r → ⊥
-    never e = cc
-
--- a record in doubt stands behind the journal's list
-pub doubted-possible : (records found : List Rec) (r : Rec) → IsPossible records (Some r) found → (found ≡ records) ⊎ (found ≡ records ++ r ∷ [])
-doubted-possible records found r (inl is) = inl is
-doubted-possible records found r (inr (x, doubt, is)) = inr (rw (same doubt) is)
-  where
-    same : Some r ≡ Some x → r ≡ x
-    same e = cc
+pub use Rattle.xfs_guard.proofs.StandLaws.{only-possible, doubted-possible}
+use Rattle.xfs_guard.proofs.StandLaws.{Grows, stands-doubted, stands-written}
+use Rattle.xfs_guard.specs.Reach.{StandsBehind}
 
 -- nothing happened
 pub Led-same : (records : List Rec) (motions : List Motion) (places : Places) → Led records motions places records motions places
@@ -100,7 +87,7 @@ leads-trans (Some x) (Some y) None records records' records'' places places' pla
 leads-trans (Some x) (Some y) (Some z) records records' records'' places places' places'' p q = Led-trans records records' records'' x y z places places' places'' p q
 
 pub Continues-trans : (a b c : View) → Continues a b → Continues b c → Continues a c
-Continues-trans a b c p q = record { leads = comes; key = q.key ∙ p.key; seed = q.seed ∙ p.seed; units = q.units ∙ p.units; moves = Moves-trans a.motions b.motions c.motions a.places b.places c.places p.moves q.moves; disk_told = q.disk_told ∙ p.disk_told; limits = q.limits ∙ p.limits; grew = begins-trans a.records b.records c.records p.grew q.grew; left = λ records was. q.left records (p.left records was) }
+Continues-trans a b c p q = record { leads = comes; key = q.key ∙ p.key; seed = q.seed ∙ p.seed; units = q.units ∙ p.units; moves = Moves-trans a.motions b.motions c.motions a.places b.places c.places p.moves q.moves; disk_told = q.disk_told ∙ p.disk_told; limits = q.limits ∙ p.limits; grew = begins-trans a.records b.records c.records p.grew q.grew; left = λ records was. q.left records (p.left records was); behind = λ compared from s. q.behind compared from (p.behind compared from s) }
   where
     comes : (records : List Rec) → IsPossible c.records c.in_doubt records → Comes a c records
     comes records possible = let late = q.leads records possible in let early = p.leads late.from late.possible in record {
@@ -122,35 +109,38 @@ MayGrow v r records = IsPossible v.records v.in_doubt records ⊎ ((found : List
 
 -- at most this record came behind the possible lists; a boot record has the places
 pub Continues-grown : (v w : View) (r : Rec) → ((p : Places) → boot_places r ≡ Some p → v.places ≡ p) → w.motions ≡ v.motions → w.places ≡ v.places → w.key ≡ v.key → w.seed ≡ v.seed → w.units ≡ v.units → w.disk_told ≡ v.disk_told → w.limits ≡ v.limits
-    → ((records : List Rec) → IsPossible w.records w.in_doubt records → MayGrow v r records) → BeginsWith w.records v.records → ((records : List Rec) → IsCrashOutcomeAt v records → IsCrashOutcomeAt w records) → Continues v w
-Continues-grown v w r boots motions places key seed units disk limits grown longer left = record { leads = λ records possible. comes records (grown records possible); key = key; seed = seed; units = units; moves = rw (motions, places) (Moves-same v.motions v.places); disk_told = disk; limits = limits; grew = longer; left = left }
+    → ((records : List Rec) → IsPossible w.records w.in_doubt records → MayGrow v r records) → BeginsWith w.records v.records → ((records : List Rec) → IsCrashOutcomeAt v records → IsCrashOutcomeAt w records)
+    → ((compared : Bool) (from : ℕ) → StandsBehind compared from v → StandsBehind compared from w) → Continues v w
+Continues-grown v w r boots motions places key seed units disk limits grown begins left stands = record { leads = λ records possible. comes records (grown records possible); key = key; seed = seed; units = units; moves = rw (motions, places) (Moves-same v.motions v.places); disk_told = disk; limits = limits; grew = begins; left = left; behind = stands }
   where
     comes : (records : List Rec) → MayGrow v r records → Comes v w records
     comes records (inl old) = record { from = records; possible = old; led = rw (motions, places) (leads-same v.motions records v.places) }
     comes records (inr (list, old, is)) = record { from = list; possible = old; led = rw (is, motions, places) (leads-record v.motions list r v.places boots) }
 
 pub Continues-same : (v : View) → Continues v v
-Continues-same v = record { leads = λ records possible. record { from = records; possible = possible; led = leads-same v.motions records v.places }; key = refl; seed = refl; units = refl; moves = Moves-same v.motions v.places; disk_told = refl; limits = refl; grew = begins-same v.records; left = λ records was. was }
+Continues-same v = record { leads = λ records possible. record { from = records; possible = possible; led = leads-same v.motions records v.places }; key = refl; seed = refl; units = refl; moves = Moves-same v.motions v.places; disk_told = refl; limits = refl; grew = begins-same v.records; left = λ records was. was; behind = λ compared from s. s }
 
 -- one more record was written
-pub Continues-written : (v : View) (r : Rec) (w : Option (List (List ℕ × ℕ))) (o : Open) → v.in_doubt ≡ None → v.shut ≡ false → v.boot_missing ≡ false → ((p : Places) → boot_places r ≡ Some p → v.places ≡ p) → Continues v (record (longer v r w o) { shut = false; in_doubt = None })
-Continues-written v r w o none open_still booted boots =
+pub Continues-written : (v : View) (r : Rec) (w : Option (List (List ℕ × ℕ))) (o : Open) → v.in_doubt ≡ None → v.shut ≡ false → v.boot_missing ≡ false → ((p : Places) → boot_places r ≡ Some p → v.places ≡ p) → (o' : Open) → o ≡ o' → Grows v r w o' → Continues v (record (longer v r w o) { shut = false; in_doubt = None })
+Continues-written v r w o none open_still booted boots o' is grows =
     Continues-grown v (record (longer v r w o) { shut = false; in_doubt = None }) r boots refl refl refl refl refl refl refl (λ records possible. inr (v.records, inl refl, only-possible (v.records ++ r ∷ []) records None refl possible))
     (begins-push v.records v.records r (begins-same v.records)) (λ records was. left-push v.records r v.in_doubt (is_closed v) (is_closed (record (longer v r w o) { shut = false; in_doubt = None })) records none (rw (open_still, booted) refl) was)
+    (λ compared from s. stands-written v r w o (subst (λ (x : Open). Grows v r w x) (sym is) grows) compared from open_still booted s)
 
 -- it is not known whether the record was written
-pub Continues-doubted : (v : View) (r : Rec) (o : Open) → v.in_doubt ≡ None → v.shut ≡ false → v.boot_missing ≡ false → ((p : Places) → boot_places r ≡ Some p → v.places ≡ p) → Continues v (record v { shut = true; in_doubt = Some r; open_order = o })
-Continues-doubted v r o none open_still booted boots =
+pub Continues-doubted : (v : View) (r : Rec) (w : Option (List (List ℕ × ℕ))) (o o' : Open) → v.in_doubt ≡ None → v.shut ≡ false → v.boot_missing ≡ false → ((p : Places) → boot_places r ≡ Some p → v.places ≡ p) → Grows v r w o' → Continues v (record v { shut = true; in_doubt = Some r; open_order = o })
+Continues-doubted v r w o o' none open_still booted boots grows =
     Continues-grown v (record v { shut = true; in_doubt = Some r; open_order = o }) r boots refl refl refl refl refl refl refl (λ records possible. elim (doubted-possible v.records records r possible) [
       | inl is ↦ inl (inl is)
       | inr is ↦ inr (v.records, inl refl, is)
     ]) (begins-same v.records) (λ records was. left-doubt v.records r v.in_doubt (is_closed v) records none (rw (open_still, booted) refl) was)
+    (λ compared from s. stands-doubted v r w o' grows compared from open_still booted s o)
 
 -- the order was carried out, while no record was in doubt
 pub Continues-act : (v : View) (k : Kind) (m d : Counts) (failed : Bool) (now : Option (List Motion)) (places' : Places) (f : ℕ) → v.in_doubt ≡ None
     → AddsEntry v.motions (Moved (length v.records) k m d) now → PlacesOf v.places (Moved (length v.records) k m d ∷ []) places'
-    → Continues v (acted_view v k m d failed now places' f)
-Continues-act v k m d failed now places' f none grows places = record {
+    → ((compared : Bool) (from : ℕ) → StandsBehind compared from v → StandsBehind compared from (acted_view v k m d failed now places' f)) → Continues v (acted_view v k m d failed now places' f)
+Continues-act v k m d failed now places' f none grows places stands = record {
   leads = λ records possible. record {
     from = v.records;
     possible = inl refl;
@@ -164,4 +154,5 @@ Continues-act v k m d failed now places' f none grows places = record {
   limits = refl;
   grew = begins-same v.records;
   left = λ records was. was;
+  behind = stands;
 }

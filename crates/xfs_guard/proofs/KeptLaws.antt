@@ -34,6 +34,7 @@ use Rattle.xfs_guard.proofs.ContinueLaws.{Continues-grown, doubted-possible}
 use Rattle.xfs_guard.proofs.SoundLaws.{acted_view, IsSound-act}
 use Rattle.xfs_guard.proofs.RecordLaws.{longer}
 use Rattle.xfs_guard.proofs.SizeLaws.{takes-done}
+use Rattle.xfs_guard.proofs.StandLaws.{Grows, stands-doubted}
 
 pub told-at : (b : Bool) (v : View) (m : Option (List Motion)) → b ≡ true → IfTold (where_told b m) (Ties v) → IfTold m (Ties v)
 told-at true v m e t = t
@@ -143,12 +144,13 @@ IsKept-refused T e key seed o motions places faults old new r w was told spare r
 -- what follows then
 pub Continues-refused : (T : Type 0) {D : Type 0} (e : Deny) (key seed : List ℕ) (o : Open) (motions : Option (List Motion)) (places : Places) (faults : ℕ) (old new : LedgerView D) (r : Rec)
     (w : Option (List (List ℕ × ℕ))) (was told : Bool)
-    → Wrote {T = T} (Err e) old new r w → IsWriteFault e → told ≡ was → old.in_doubt ≡ None → old.shut ≡ false → old.boot_missing ≡ false → ((p : Places) → boot_places r ≡ Some p → places ≡ p) → Continues (over key seed o motions places faults old was) (over key seed o motions places faults new told)
-Continues-refused T e key seed o motions places faults old new r w was told wrote why same none open_still booted boots = ⊎_elim memory disk why
+    → Wrote {T = T} (Err e) old new r w → IsWriteFault e → told ≡ was → old.in_doubt ≡ None → old.shut ≡ false → old.boot_missing ≡ false → ((p : Places) → boot_places r ≡ Some p → places ≡ p) → (o' : Open) → Grows (over key seed o motions places faults old was) r w o' → Continues (over key seed o motions places faults old was) (over key seed o motions places faults new told)
+Continues-refused T e key seed o motions places faults old new r w was told wrote why same none open_still booted boots o' grows = ⊎_elim memory disk why
   where
     memory : e ≡ Memory → Continues (over key seed o motions places faults old was) (over key seed o motions places faults new told)
     memory is = let s = rw is at wrote in Continues-grown (over key seed o motions places faults old was) (over key seed o motions places faults new told) r boots refl refl refl refl s.units same s.limits
         (λ records possible. inl (rw (s.records, s.in_doubt) at possible)) (rw s.records (begins-same old.records)) (λ records was. rw (s.records, s.in_doubt, s.shut, s.boot_missing) was)
+        (λ compared from stood. rw (s.records, s.base, s.units, s.bound, s.booted, s.loaded, s.limits, s.shut, s.boot_missing, s.in_doubt, same) stood)
 
     disk : e ≡ Disk → Continues (over key seed o motions places faults old was) (over key seed o motions places faults new told)
     disk is = let s = rw is at wrote in Continues-grown (over key seed o motions places faults old was) (over key seed o motions places faults new told) r boots refl refl refl refl s.units same s.limits
@@ -156,6 +158,8 @@ Continues-refused T e key seed o motions places faults old new r w was told wrot
           | inl kept ↦ inl (inl kept)
           | inr more ↦ inr (old.records, inl refl, more)
         ]) (rw s.records (begins-same old.records)) (λ records was. rw (s.records, s.in_doubt, s.shut) (left-doubt old.records r old.in_doubt (old.shut || old.boot_missing) records none (rw (open_still, booted) refl) was))
+        (λ compared from stood. rw (s.records, s.base, s.units, s.bound, s.booted, s.loaded, s.limits, s.shut, s.boot_missing, s.in_doubt, same)
+        (stands-doubted (over key seed o motions places faults old was) r w o' grows compared from open_still booted stood o))
 
 -- an order is open only in a journal that is
 pub still-open : (shut : Bool) (o : Open) (k : Kind) (c : Counts) → (shut ≡ true → o ≡ No) → o ≡ Written k c → shut ≡ false

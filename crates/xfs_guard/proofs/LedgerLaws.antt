@@ -1,5 +1,5 @@
 -- What a ledger keeps beside its records is what is read of them.
-use Rattle.std.proofs.Common.{◌≡◌, ◌≢◌, ◌⊎◌, Bool, true, false, true≢false, drop, take, get_or, ℕ, zero, suc, ◌+◌, ◌-◌, ◌<◌, ◌≤◌, ◌^◌, List, [], ◌∷◌, ◌++◌, length, None, Some, refl, sym, ◌∙◌, ap, arith, length-append, length-drop}
+use Rattle.std.proofs.Common.{◌≡◌, ◌≢◌, ◌⊎◌, Bool, true, false, true≢false, drop, take, get_or, ℕ, zero, suc, ◌+◌, ◌-◌, ◌<◌, ◌≤◌, List, [], ◌∷◌, ◌++◌, length, None, Some, refl, sym, ◌∙◌, ap, arith, length-append, length-drop}
 use Rattle.std.specs.Prelude.{slice_get, slice_index}
 use Rattle.std.specs.declared.option.Option.{Option}
 use Rattle.std.specs.Option.{option_map}
@@ -288,7 +288,7 @@ amounts-pays u (Some b) (Some c) k m p = ap Some p.amounts
 
 -- the sums fit, where what is presented in each currency does
 pub fits-sums : (u : List NoteKind) (records : List Rec) (l : Option Live) (b : Option Bound) (k : Kind) (m : Counts) → IsBound u records l b
-    → (k ≡ Present → (c : List ℕ) → presented_in u records c + value u m c < 2 ^ 64) → Fits u k m b
+    → (k ≡ Present → (c : List ℕ) → presented_in u records c + value u m c ≤ 999999999999) → Fits u k m b
 fits-sums u records l None k m h small = tt
 fits-sums u records None (Some b) k m h small = absurd h
 fits-sums u records (Some l) (Some b) k m h small = λ is i a e. let s = small is a.0 in let t = h.sums i a e in omega (arith, s, t)
@@ -408,6 +408,6 @@ found-plain list n r l at le issue clear expire boot start lives =
 pub fresh-at : {D : Type 0} (a b : LedgerView D) → a ≡ b → ((c : List ℕ) → presented_in b.units b.records c ≡ 0) → (c : List ℕ) → presented_in a.units a.records c ≡ 0
 fresh-at a b e h c = rw e (h c)
 
-pub small-at : {D : Type 0} (a b : LedgerView D) (k : Kind) (m : Counts) → a ≡ b → (k ≡ Present → (c : List ℕ) → presented_in b.units b.records c + value b.units m c < 2 ^ 64)
-    → k ≡ Present → (c : List ℕ) → presented_in a.units a.records c + value a.units m c < 2 ^ 64
+pub small-at : {D : Type 0} (a b : LedgerView D) (k : Kind) (m : Counts) → a ≡ b → (k ≡ Present → (c : List ℕ) → presented_in b.units b.records c + value b.units m c ≤ 999999999999)
+    → k ≡ Present → (c : List ℕ) → presented_in a.units a.records c + value a.units m c ≤ 999999999999
 small-at a b k m e h is c = rw e (h is c)

@@ -1,5 +1,6 @@
 pub mod AgreesLaws
 pub mod BalanceLaws
+pub mod BegunLaws
 pub mod BehindLaws
 pub mod BootLaws
 pub mod BudgetLaws
@@ -19,14 +20,18 @@ pub mod NamedLaws
 pub mod OrderLaws
 pub mod PossibleLaws
 pub mod PresentedLaws
+pub mod ReachLaws
 pub mod RecordLaws
 pub mod ReplayLaws
 pub mod ReportLaws
 pub mod RereadLaws
 pub mod RestoreLaws
+pub mod SegmentLaws
 pub mod SizeLaws
 pub mod SoundLaws
+pub mod StandLaws
 pub mod StartLaws
 pub mod StoredLaws
+pub mod TellableLaws
 pub mod UpheldLaws
 pub mod WithinLaws

@@ -1,5 +1,5 @@
 -- An order that isn't refused may be written.
-use Rattle.std.proofs.Common.{◌≡◌, ◌≢◌, inl, inr, ℕ, zero, suc, ◌+◌, ◌-◌, ◌<◌, ◌≤◌, ◌^◌, ◌==◌, Bool, true, false, List, [], ◌∷◌, length, None, Some, refl, sym, ◌∙◌, ap, arith, get_or, set}
+use Rattle.std.proofs.Common.{◌≡◌, ◌≢◌, inl, inr, ℕ, zero, suc, ◌+◌, ◌-◌, ◌<◌, ◌≤◌, ◌==◌, Bool, true, false, List, [], ◌∷◌, length, None, Some, refl, sym, ◌∙◌, ap, arith, get_or, set}
 use Rattle.std.specs.Prelude.{unwrap_or, if◌then◌else◌}
 use Rattle.std.specs.declared.option.Option.{Option}
 use Rattle.std.specs.Option.{option_and_then, option_or}
@@ -164,7 +164,7 @@ IsSound-asked v (AskStack issue unit count) s none fine = go (live_nonce v.recor
 
 -- what an order to present put out is small, since the budget covers it
 pub small-done : (v : View) (k : Kind) (m d : Counts) (failed : Bool) → IsSound v → v.open_order ≡ Acted k m d failed → k ≡ Present
-    → (c : List ℕ) → presented_in v.units v.records c + value v.units m c < 2 ^ 64
+    → (c : List ℕ) → presented_in v.units v.records c + value v.units m c ≤ 999999999999
 small-done v Stack m d failed s acted is c = cc
 small-done v Reject m d failed s acted is c = cc
 small-done v Retract m d failed s acted is c = cc

@@ -29,7 +29,7 @@ use Rattle.xfs_guard.specs.declared.open.Open.{Open}
 use Rattle.xfs_guard.specs.declared.open.Open.TheVariants.{No, Written, Acted}
 use Rattle.xfs_guard.specs.Nonce.{Ends, live_nonce}
 use Rattle.xfs_guard.specs.View.{View}
-use Rattle.xfs_guard.specs.Agrees.{MayFollow, IsOrder, IsNoOrder}
+use Rattle.xfs_guard.specs.Agrees.{MayFollow, IsNoOrder}
 use Rattle.xfs_guard.specs.Within.{IsOfNonce, shown, shown_by}
 use Rattle.xfs_guard.specs.Presented.{done_worth, presented_in, unsettled}
 use Rattle.xfs_guard.specs.Budget.{IsFunded}
@@ -59,6 +59,14 @@ Ties-record v r w o motions t may done counted acted =
       counted = λ p c lives. shown-record v.units v.records r p c motions known ∙ counted p c lives;
       acted = acted;
     }
+
+-- an order is written behind a record that is none
+pub Ties-order : (v : View) (k : Kind) (c : Counts) (motions : List Motion) → v.open_order ≡ No → IsNoOrder (record_at v.records (length v.records)) → Ties v motions → Ties (longer v (Order k c) v.bound (Written k c)) motions
+Ties-order v k c motions none before t = Ties-record v (Order k c) v.bound (Written k c) motions t before (λ k' c' m' d o e. cc)
+    (λ p cur lives.
+    let was = rw none at (t.counted p cur (sym (live_of-push v.records (Order k c)) ∙ lives)) in
+    was ∙ ap (λ n. n + 0) (sym (presented_in-push v.units v.records (Order k c) cur)))
+    (rw length-pushed (all-numbers (λ n. n ≤ length v.records) (λ n. n < length v.records + 1) motions (λ n le. omega arith) (numbers_within v.records motions t.agrees)))
 
 -- an order is written
 pub IsSound-order : (v : View) (k : Kind) (c : Counts) → IsSound v → v.open_order ≡ No → LiesIn c (source_of k v.places)
@@ -94,9 +102,7 @@ IsSound-order v k c s none lies released funded = record {
 
     ties : (told : Option (List Motion)) → IfTold told (Ties v) → IfTold told (Ties (longer v (Order k c) v.bound (Written k c)))
     ties None t = tt
-    ties (Some motions) t = Ties-record v (Order k c) v.bound (Written k c) motions t before (λ k' c' m' d o e. cc)
-        (λ p cur lives. let was = rw none at (t.counted p cur (live p lives)) in was ∙ ap (λ n. n + 0) (sym (presented_in-push v.units v.records (Order k c) cur)))
-        (rw length-pushed (all-numbers (λ n. n ≤ length v.records) (λ n. n < length v.records + 1) motions (λ n le. omega arith) (numbers_within v.records motions t.agrees)))
+    ties (Some motions) t = Ties-order v k c motions none before t
 
 -- the worth of a done record is that of the order's motion
 done_worth-settles : (u : List NoteKind) (cur : List ℕ) (last : Option Rec) (k : Kind) (c m d : Counts) (failed : Bool) → last ≡ Some (Order k c)
@@ -116,6 +122,26 @@ unsettled-unbound v Present m d failed p cur r lives free =
 unsettled-unbound v Stack m d failed p cur r lives free = refl
 unsettled-unbound v Reject m d failed p cur r lives free = refl
 unsettled-unbound v Retract m d failed p cur r lives free = refl
+
+-- the order that stands last is settled
+pub Ties-done : (v : View) (k : Kind) (c m d : Counts) (failed : Bool) (motions : List Motion) → v.open_order ≡ Acted k m d failed → record_at v.records (length v.records) ≡ Some (Order k c) → Ties v motions
+    → Ties (longer v (Done m d) v.bound No) motions
+Ties-done v k c m d failed motions acted last t = Ties-record v (Done m d) v.bound No motions t (rw last tt) moved
+    (λ p cur lives. let was = rw acted at (t.counted p cur (sym (live_of-push v.records (Done m d)) ∙ lives)) in let e = worth cur in omega (arith, was, e))
+    tt
+  where
+    worth : (cur : List ℕ) → presented_in v.units (v.records ++ Done m d ∷ []) cur ≡ presented_in v.units v.records cur + unsettled v.units (Acted k m d failed) cur
+    worth cur = presented_in-push v.units v.records (Done m d) cur
+        ∙ ap (λ n. presented_in v.units v.records cur + n) (done_worth-settles v.units cur (record_at v.records (length v.records)) k c m d failed last)
+
+    moved : (k' : Kind) (c' m' d' : Counts) → record_at v.records (length v.records) ≡ Some (Order k' c') → Done m d ≡ Done m' d' → Contains motions (Moved (length v.records) k' m' d')
+    moved k' c' m' d' o e =
+        let mine : Contains motions (Moved (length v.records) k m d) = rw acted at t.acted in
+        let same : Some (Order k c) ≡ Some (Order k' c') = sym last ∙ o in
+        let kinds : k ≡ k' = cc in
+        let ms : m ≡ m' = cc in
+        let ds : d ≡ d' = cc in
+        rw (← kinds, ← ms, ← ds) mine
 
 -- the order is settled
 pub IsSound-done : (v : View) (k : Kind) (m d : Counts) (failed : Bool) → IsSound v → v.open_order ≡ Acted k m d failed → IsSound (longer v (Done m d) v.bound No)
@@ -151,26 +177,12 @@ IsSound-done v k m d failed s acted = record {
     worth cur = presented_in-push v.units v.records (Done m d) cur
         ∙ ap (λ n. presented_in v.units v.records cur + n) (done_worth-settles v.units cur (record_at v.records (length v.records)) k stands.0 m d failed stands.1)
 
-    moved : (motions : List Motion) → Ties v motions → (k' : Kind) (c' m' d' : Counts) → record_at v.records (length v.records) ≡ Some (Order k' c') → Done m d ≡ Done m' d' → Contains motions (Moved (length v.records) k' m' d')
-    moved motions t k' c' m' d' o e =
-        let mine : Contains motions (Moved (length v.records) k m d) = rw acted at t.acted in
-        let same : Some (Order k stands.0) ≡ Some (Order k' c') = sym stands.1 ∙ o in
-        let kinds : k ≡ k' = cc in
-        let ms : m ≡ m' = cc in
-        let ds : d ≡ d' = cc in
-        rw (← kinds, ← ms, ← ds) mine
-
-    may : IsOrder (record_at v.records (length v.records))
-    may = rw stands.1 tt
-
     ties : (told : Option (List Motion)) → IfTold told (Ties v) → IfTold told (Ties (longer v (Done m d) v.bound No))
     ties None t = tt
-    ties (Some motions) t = Ties-record v (Done m d) v.bound No motions t may (moved motions t)
-        (λ p cur lives. let was = rw acted at (t.counted p cur (live p lives)) in let e = worth cur in omega (arith, was, e))
-        tt
+    ties (Some motions) t = Ties-done v k stands.0 m d failed motions acted stands.1 t
 
 -- the live issue is one of the records
-abbrev LivesWithin : ℕ → Option ℕ → Type 0
+abbrev pub LivesWithin : ℕ → Option ℕ → Type 0
 LivesWithin count None = ⊤
 LivesWithin count (Some p) = p ≤ count
 
@@ -178,7 +190,7 @@ lives-later : (count : ℕ) (l : Option ℕ) → LivesWithin count l → LivesWi
 lives-later count None h = tt
 lives-later count (Some p) h = omega arith
 
-lives-step : (count : ℕ) (l : Option ℕ) (r : Rec) → LivesWithin count l → LivesWithin (count + 1) (live_after count l r)
+pub lives-step : (count : ℕ) (l : Option ℕ) (r : Rec) → LivesWithin count l → LivesWithin (count + 1) (live_after count l r)
 lives-step count l (Issue n w) h = omega arith
 lives-step count l Clear h = tt
 lives-step count l Expire h = tt
@@ -196,7 +208,7 @@ lives-from s (r ∷ rs) h = let e : s.count + suc (length rs) ≡ s.count + 1 + 
 pub lives-within : (records : List Rec) → LivesWithin (length records) (live_of records)
 lives-within records = rw zero-add at (lives-from nothing_read records tt)
 
-is_place-no : (l : Option ℕ) (count p : ℕ) → LivesWithin count l → count < p → is_place p l ≡ false
+pub is_place-no : (l : Option ℕ) (count p : ℕ) → LivesWithin count l → count < p → is_place p l ≡ false
 is_place-no None count p h lt = refl
 is_place-no (Some q) count p h lt = eqb-no q p (omega arith)
 
@@ -214,6 +226,18 @@ shown-before u records p cur (m ∷ ms) lt = rw (sum_by-cons, none m, shown-befo
     none (Moved n Retract moved d) = refl
     none (Taken c) = refl
     none (Loaded i n) = refl
+
+-- a nonce is issued behind a record that is no order
+pub Ties-issue : (v : View) (number word : ℕ) (motions : List Motion) → IsNoOrder (record_at v.records (length v.records)) → Ties v motions → Ties (longer v (Issue number word) None No) motions
+Ties-issue v number word motions before t = Ties-record v (Issue number word) None No motions t before (λ k' c' m' d' o e. cc)
+    (λ p cur lives.
+    let e = issued p lives in
+    let z = shown-before v.units v.records p cur motions (omega arith) in
+    let w = presented_in-push v.units v.records (Issue number word) cur in omega (arith, z, w))
+    tt
+  where
+    issued : (p : ℕ) → live_of (v.records ++ Issue number word ∷ []) ≡ Some p → length v.records + 1 ≡ p
+    issued p lives = let e : Some (length v.records + 1) ≡ Some p = sym (live_of-push v.records (Issue number word)) ∙ lives in cc
 
 -- a nonce is issued
 pub IsSound-issue : (v : View) (number word : ℕ) → IsSound v → v.open_order ≡ No → number ≡ next_issue v.records → IsSound (longer v (Issue number word) None No)
@@ -241,12 +265,15 @@ IsSound-issue v number word s none is = record {
 
     ties : (told : Option (List Motion)) → IfTold told (Ties v) → IfTold told (Ties (longer v (Issue number word) None No))
     ties None t = tt
-    ties (Some motions) t = Ties-record v (Issue number word) None No motions t before (λ k' c' m' d' o e. cc)
-        (λ p cur lives.
-        let e = issued p lives in
-        let z = shown-before v.units v.records p cur motions (omega arith) in
-        let w = presented_in-push v.units v.records (Issue number word) cur in omega (arith, z, w))
-        tt
+    ties (Some motions) t = Ties-issue v number word motions before t
+
+-- a record is written behind which no nonce lives
+pub Ties-mark : (v : View) (r : Rec) (w : Option (List (List ℕ × ℕ))) (motions : List Motion) → ((n : ℕ) (l : Option ℕ) → live_after n l r ≡ None) → MayFollow (record_at v.records (length v.records)) r
+    → ((m d : Counts) → r ≡ Done m d → ⊥) → Ties v motions → Ties (longer v r w No) motions
+Ties-mark v r w motions dies may other t = Ties-record v r w No motions t may (λ k' c' m' d' o e. absurd (other m' d' e)) (λ p cur lives. absurd (gone p lives)) tt
+  where
+    gone : (p : ℕ) → live_of (v.records ++ r ∷ []) ≡ Some p → ⊥
+    gone p lives = let e : None ≡ Some p = sym (live_of-push v.records r ∙ dies (length v.records) (live_of v.records)) ∙ lives in cc
 
 -- a mark is written behind which no nonce lives
 sound-end : (v : View) (r : Rec) → IsSound v → v.open_order ≡ No → ((n : ℕ) → CarriesNumber n r) → ((n : ℕ) (l : Option ℕ) → live_after n l r ≡ None) → IsNoOrder (Some r)
@@ -270,7 +297,7 @@ sound-end v r s none numbers dies plain may other = record {
 
     ties : (told : Option (List Motion)) → IfTold told (Ties v) → IfTold told (Ties (longer v r None No))
     ties None t = tt
-    ties (Some motions) t = Ties-record v r None No motions t (may _ before) (λ k' c' m' d' o e. absurd (other m' d' e)) (λ p cur lives. absurd (gone p lives)) tt
+    ties (Some motions) t = Ties-mark v r None motions dies (may _ before) other t
 
 -- the live nonce is cleared, or its life is over
 pub IsSound-end : (v : View) (r : Rec) → Ends r → IsSound v → v.open_order ≡ No → IsSound (longer v r None No)
@@ -312,6 +339,14 @@ no-binding records p e = of (binding_of records p) e
     of : (o : Option Binding) → option_map (λ (b : Binding). b.token) o ≡ None → o ≡ None
     of None h = refl
     of (Some b) h = cc
+
+-- a token is bound behind a record that is no order
+pub Ties-bind : (v : View) (b : List ℕ) (w : Option (List (List ℕ × ℕ))) (motions : List Motion) → v.open_order ≡ No → IsNoOrder (record_at v.records (length v.records)) → Ties v motions → Ties (longer v (Bind b) w No) motions
+Ties-bind v b w motions none before t = Ties-record v (Bind b) w No motions t before (λ k' c' m' d' o e. cc)
+    (λ q cur l.
+    let was = rw none at (t.counted q cur (sym (live_of-push v.records (Bind b)) ∙ l)) in
+    let more = presented_in-push v.units v.records (Bind b) cur in omega (arith, was, more))
+    tt
 
 -- a token is bound to the live nonce, which had none
 pub IsSound-bind : (v : View) (p : ℕ) (b : List ℕ) (t : Parts) (amounts : List (List ℕ × ℕ)) → IsSound v → v.open_order ≡ No → live_of v.records ≡ Some p → token_of v.records p ≡ None
@@ -359,9 +394,15 @@ IsSound-bind v p b t amounts s none lives unbound carries are enough = record {
 
     ties : (told : Option (List Motion)) → IfTold told (Ties v) → IfTold told (Ties (longer v (Bind b) (Some amounts) No))
     ties None u = tt
-    ties (Some motions) u = Ties-record v (Bind b) (Some amounts) No motions u before (λ k' c' m' d' o e. cc)
-        (λ q cur l. let was = rw none at (u.counted q cur (live q l)) in let w = presented_in-push v.units v.records (Bind b) cur in omega (arith, was, w))
-        tt
+    ties (Some motions) u = Ties-bind v b (Some amounts) motions none before u
+
+-- a loading is written behind a record that is no order
+pub Ties-load : (v : View) (unit count : ℕ) (motions : List Motion) → v.open_order ≡ No → IsNoOrder (record_at v.records (length v.records)) → Ties v motions → Ties (longer v (Load unit count) v.bound No) motions
+Ties-load v unit count motions none before t = Ties-record v (Load unit count) v.bound No motions t before (λ k' c' m' d' o e. cc)
+    (λ p cur lives.
+    let was = rw none at (t.counted p cur (sym (live_of-push v.records (Load unit count)) ∙ lives)) in
+    let e = presented_in-push v.units v.records (Load unit count) cur in omega (arith, was, e))
+    tt
 
 -- a loading is written
 pub IsSound-load : (v : View) (unit count : ℕ) → IsSound v → v.open_order ≡ No → IsSound (longer v (Load unit count) v.bound No)
@@ -394,9 +435,7 @@ IsSound-load v unit count s none = record {
 
     ties : (told : Option (List Motion)) → IfTold told (Ties v) → IfTold told (Ties (longer v (Load unit count) v.bound No))
     ties None t = tt
-    ties (Some motions) t = Ties-record v (Load unit count) v.bound No motions t before (λ k' c' m' d' o e. cc)
-        (λ p cur lives. let was = rw none at (t.counted p cur (live p lives)) in let e = presented_in-push v.units v.records (Load unit count) cur in omega (arith, was, e))
-        tt
+    ties (Some motions) t = Ties-load v unit count motions none before t
 
 -- what an order to present wants of the journal before it
 pub released-order : (records : List Rec) (c : Counts) (p : ℕ) (b : List ℕ) → live_of records ≡ Some p → token_of records p ≡ Some b → IsReleased (records ++ Order Present c ∷ [])

@@ -1,5 +1,5 @@
 -- What a guard keeps when the mechanism reports a taking or a loading.
-use Rattle.std.proofs.Common.{◌≡◌, ◌≢◌, ℕ, ◌≤◌, ◌<◌, Bool, true, false, List, [], ◌∷◌, ◌++◌, length, None, Some, refl, arith}
+use Rattle.std.proofs.Common.{◌≡◌, ◌≢◌, ℕ, ◌≤◌, ◌<◌, Bool, true, false, List, [], ◌∷◌, ◌++◌, length, drop, None, Some, refl, arith}
 use Rattle.std.specs.Prelude.{⊤}
 use Rattle.std.specs.declared.option.Option.{Option}
 use Rattle.std.proofs.lemmas.List.Elements.{Contains-append_left}
@@ -32,6 +32,8 @@ use Rattle.xfs_guard.proofs.CrashedLaws.{begins-same}
 use Rattle.xfs_mech.proofs.MoveLaws.{Moves-same, Moves-entry}
 use Rattle.xfs_guard.proofs.ContinueLaws.{leads-same, leads-motion}
 use Rattle.xfs_guard.proofs.SoundLaws.{grows-told}
+use Rattle.xfs_guard.specs.Reach.{reached, AgreesBehind, IsRecordedBehind, StandsBehind, view_behind, WithinBehind}
+use Rattle.xfs_guard.proofs.StandLaws.{reached-push}
 use Rattle.xfs_guard.proofs.WithinLaws.{Within-quiet, shown-motion}
 
 -- the guard after a report
@@ -61,7 +63,7 @@ rises-report low (Moved i k m d ∷ ms) e is r = (r.0, rises-report i ms e is r.
 rises-report low (Taken c ∷ ms) e is r = rises-report low ms e is r
 rises-report low (Loaded u n ∷ ms) e is r = rises-report low ms e is r
 
-asked-report : (records : List Rec) (e : Motion) → IsReport e → IsAsked records e
+pub asked-report : (records : List Rec) (e : Motion) → IsReport e → IsAsked records e
 asked-report records (Moved n k m d) is = absurd is
 asked-report records (Taken c) is = tt
 asked-report records (Loaded u n) is = tt
@@ -80,7 +82,7 @@ shown_by-report u records p c (Moved n k m d) is = absurd is
 shown_by-report u records p c (Taken x) is = refl
 shown_by-report u records p c (Loaded i n) is = refl
 
-within-report : (key : List ℕ) (u : List NoteKind) (records : List Rec) (motions : List Motion) (e : Motion) → IsReport e → IsWithin key u records motions e
+pub within-report : (key : List ℕ) (u : List NoteKind) (records : List Rec) (motions : List Motion) (e : Motion) → IsReport e → IsWithin key u records motions e
 within-report key u records motions (Moved n k m d) is = absurd is
 within-report key u records motions (Taken x) is = tt
 within-report key u records motions (Loaded i n) is = tt
@@ -119,10 +121,10 @@ budget-report v now places' f l same budget = record {
 }
 
 -- what the mechanism tells, once its list is this one
-ties-same : (v : View) (now : Option (List Motion)) (places' : Places) (f : ℕ) (l : Counts) (motions : List Motion) → Ties v motions → Ties (reported_view v now places' f l) motions
+pub ties-same : (v : View) (now : Option (List Motion)) (places' : Places) (f : ℕ) (l : Counts) (motions : List Motion) → Ties v motions → Ties (reported_view v now places' f l) motions
 ties-same v now places' f l motions t = record { agrees = t.agrees; within = t.within; counted = t.counted; acted = t.acted }
 
-ties-report : (v : View) (now : Option (List Motion)) (places' : Places) (f : ℕ) (l : Counts) (motions : List Motion) (e : Motion) → IsReport e → Ties v motions → Ties (reported_view v now places' f l) (motions ++ e ∷ [])
+pub ties-report : (v : View) (now : Option (List Motion)) (places' : Places) (f : ℕ) (l : Counts) (motions : List Motion) (e : Motion) → IsReport e → Ties v motions → Ties (reported_view v now places' f l) (motions ++ e ∷ [])
 ties-report v now places' f l motions e is t = record {
   agrees = Agrees-report v.records motions e is t.agrees;
   within = Within-quiet v.key v.units v.records motions e (λ p cur. shown_by-report v.units v.records p cur e is) (within-report v.key v.units v.records (motions ++ e ∷ []) e is) t.within;
@@ -178,10 +180,51 @@ HasRoom-report o e m d failed was now places places' before spare left room h mo
     go (Written k c) le h = (omega (arith, h.0), h.1)
     go (Acted k m d failed) le h = h
 
+-- an entry that has no number is in reach of every one
+reached-report : (from : ℕ) (motions : List Motion) (e : Motion) → IsReport e → reached from (motions ++ e ∷ []) ≡ reached from motions ++ e ∷ []
+reached-report from motions (Moved n k m d) is = absurd is
+reached-report from motions (Taken c) is = reached-push from motions (Taken c) refl
+reached-report from motions (Loaded u n) is = reached-push from motions (Loaded u n) refl
+
+recorded-entry : (from : ℕ) (key : List ℕ) (u : List NoteKind) (records : List Rec) (e : Motion) (was now : Option (List Motion)) → IsReport e → AddsEntry was e now
+    → IsRecordedBehind from key u records was → IsRecordedBehind from key u records now
+recorded-entry from key u records e was now is g h = record { numbered = h.numbered; agrees = agrees was h.agrees g; within = within was h.within g }
+  where
+    agrees : (was : Option (List Motion)) → IfTold was (AgreesBehind from records) → AddsEntry was e now → IfTold now (AgreesBehind from records)
+    agrees None a g = rw g tt
+    agrees (Some motions) a g = rw (g, reached-report from motions e is) (Agrees-report (drop from records) (reached from motions) e is a)
+
+    within : (was : Option (List Motion)) → IfTold was (WithinBehind from key u records) → AddsEntry was e now → IfTold now (WithinBehind from key u records)
+    within None a g = rw g tt
+    within (Some motions) a g = rw (g, reached-report from motions e is)
+        (Within-quiet key u (drop from records) (reached from motions) e (λ p cur. shown_by-report u (drop from records) p cur e is) (within-report key u (drop from records) (reached from motions ++ e ∷ []) e is) a)
+
+-- what stands behind a number stands beside a report
+stands-entry : (v : View) (e : Motion) (now : Option (List Motion)) (places' : Places) (f : ℕ) (l : Counts) → IsReport e → AddsEntry v.motions e now → (compared : Bool) (from : ℕ)
+    → StandsBehind compared from v → StandsBehind compared from (reported_view v now places' f l)
+stands-entry v e now places' f l is g compared from s = record {
+  booted = s.booted;
+  recorded = λ records p. recorded-entry from v.key v.units records e (where_told compared v.motions) (where_told compared now) is (grows-told compared v.motions now e g) (s.recorded records p);
+  tied = λ still booted. ties (where_told compared v.motions) (where_told compared now) (grows-told compared v.motions now e g) (s.tied still booted);
+}
+  where
+    ties : (was now' : Option (List Motion)) → AddsEntry was e now' → IfTold was (λ motions. Ties (view_behind from v) (reached from motions))
+        → IfTold now' (λ motions. Ties (view_behind from (reported_view v now places' f l)) (reached from motions))
+    ties None now' g t = rw g tt
+    ties (Some motions) now' g t = rw (g, reached-report from motions e is) (ties-report (view_behind from v) now places' f l (reached from motions) e is t)
+
+stands-failed : (v : View) (f : ℕ) (l : Counts) (compared : Bool) (from : ℕ) → StandsBehind compared from v → StandsBehind compared from (reported_view v v.motions v.places f l)
+stands-failed v f l compared from s = record { booted = s.booted; recorded = s.recorded; tied = λ still booted. ties (where_told compared v.motions) (s.tied still booted) }
+  where
+    ties : (told : Option (List Motion)) → IfTold told (λ motions. Ties (view_behind from v) (reached from motions))
+        → IfTold told (λ motions. Ties (view_behind from (reported_view v v.motions v.places f l)) (reached from motions))
+    ties None t = tt
+    ties (Some motions) t = ties-same (view_behind from v) v.motions v.places f l (reached from motions) t
+
 -- what follows after a report, also behind a record in doubt
 pub Continues-report : (v : View) (e : Motion) (m d : Counts) (failed : Bool) (now : Option (List Motion)) (places' : Places) (f : ℕ) (l : Counts) (spare left : ℕ) → IsReport e
     → Reports e m d failed v.motions now v.places places' spare left → Continues v (reported_view v now places' f l)
-Continues-report v e m d true now places' f l spare left is r = let none = r.nothing refl in rw (none.0, none.1) (record { leads = λ records possible. record { from = records; possible = possible; led = leads-same v.motions records v.places }; key = refl; seed = refl; units = refl; moves = Moves-same v.motions v.places; disk_told = refl; limits = refl; grew = begins-same v.records; left = λ records was. was })
+Continues-report v e m d true now places' f l spare left is r = let none = r.nothing refl in rw (none.0, none.1) (record { leads = λ records possible. record { from = records; possible = possible; led = leads-same v.motions records v.places }; key = refl; seed = refl; units = refl; moves = Moves-same v.motions v.places; disk_told = refl; limits = refl; grew = begins-same v.records; left = λ records was. was; behind = stands-failed v f l })
 Continues-report v e m d false now places' f l spare left is r = record {
   leads = λ records possible. record {
     from = records;
@@ -196,6 +239,7 @@ Continues-report v e m d false now places' f l spare left is r = record {
   limits = refl;
   grew = begins-same v.records;
   left = λ records was. was;
+  behind = stands-entry v e now places' f l is (r.grown refl);
 }
 
 -- a taking leaves what an order takes, where that is no retract

@@ -1,16 +1,19 @@
 -- What a guard is after a restore or a reboot, and what follows then.
-use Rattle.std.proofs.Common.{◌≡◌, ◌≢◌, ◌⊎◌, inl, inr, ⊎_elim, ℕ, ◌+◌, ◌≤◌, Bool, true, false, true≢false, List, [], ◌∷◌, length, length-append, None, Some, Ok, Err, refl, arith}
+use Rattle.std.proofs.Common.{◌≡◌, ◌≢◌, ◌⊎◌, inl, inr, ⊎_elim, ℕ, ◌+◌, ◌≤◌, Bool, true, false, true≢false, List, [], ◌∷◌, ◌++◌, length, length-append, drop, None, Some, Ok, Err, refl, sym, ◌∙◌, arith}
 use Rattle.std.specs.Prelude.{OnOk, IfErr, ◌||◌, is_some}
 use Rattle.std.specs.declared.option.Option.{Option}
 use Rattle.std.specs.declared.result.Result.{Result}
+use Rattle.std.proofs.lemmas.List.{drop-append-le}
+use Rattle.xfs_base.specs.Causes.{IfTold}
 use Rattle.xfs_base.specs.declared.money.NoteKind.{NoteKind}
 use Rattle.xfs_base.specs.declared.counts.Places.{Places}
 use Rattle.xfs_mech.specs.declared.motion.Motion.{Motion}
 use Rattle.xfs_journal.specs.JournalView.{IsPossible, exceeds}
 use Rattle.xfs_journal.specs.declared.record.Rec.{Rec}
 use Rattle.xfs_journal.specs.declared.record.Rec.TheVariants.{Clear}
-use Rattle.xfs_journal.specs.Journal.{boot_of, with_boot}
-use Rattle.xfs_journal.proofs.StartLaws.{boot_of-only}
+use Rattle.xfs_journal.specs.Journal.{boot_of, boot_places, live_of, with_boot}
+use Rattle.xfs_journal.proofs.JournalLaws.{live_of-push}
+use Rattle.xfs_journal.proofs.StartLaws.{boot-ends, boot_of-numbered, boot_of-only, boot_of-places}
 use Rattle.xfs_guard.specs.declared.fail.BootFault.{BootFault}
 use Rattle.xfs_guard.specs.declared.fail.BootFault.TheVariants.{NotJournal, Disk, Full, Memory}
 use Rattle.xfs_guard.specs.declared.open.Open.{Open}
@@ -26,6 +29,11 @@ use Rattle.xfs_guard.proofs.BootLaws.{base_of-boot, IsKept-boot, IsRecorded-boot
 use Rattle.xfs_guard.proofs.ContinueLaws.{Continues-grown, only-possible, doubted-possible}
 use Rattle.xfs_guard.proofs.CrashedLaws.{begins-same, begins-push, begins-possible, left-close, left-mount, left-boot, left-boot_doubt}
 use Rattle.xfs_guard.proofs.KeptLaws.{over}
+use Rattle.xfs_guard.specs.Reach.{reached, AgreesBehind, IsBootAt, IsRecordedBehind, StandsBehind, view_behind, WithinBehind}
+use Rattle.xfs_guard.specs.Sound.{Ties, where_told}
+use Rattle.xfs_guard.proofs.AgreesLaws.{Agrees-record, boot-follows, boot-no_done, numbers_within}
+use Rattle.xfs_guard.proofs.ReachLaws.{booted-push, from-within, numbered-push, split}
+use Rattle.xfs_guard.proofs.WithinLaws.{Within-record}
 
 -- no more than the records in front of the boot record are let go of
 pub base_then-within : (b : Bool) (base : ℕ) (records : List Rec) (p : Places) → base ≤ length records → base_then b base (with_boot records p) ≤ length records
@@ -74,19 +82,6 @@ restored (Err Disk) b old new p told other ok full disk silent = elim (disk refl
   | inr read ↦ inr (read.0, read.1, inr (inr read.2))
 ]
 restored (Err (NotJournal at)) b old new p told other ok full disk silent = inl (silent at refl).1
-
-pub may-restore : {T D : Type 0} (res : Result T BootFault) (b : Bool) (old new : LedgerView D) (p : Places) (told : Type 0)
-    → OnOk res ((records : List Rec) × IsPossible old.records old.in_doubt records × (new ≡ booted_now b old new p records))
-    → (res ≡ Err Memory → new ≡ untouched old new)
-    → (res ≡ Err Full → (records : List Rec) × IsPossible old.records old.in_doubt records × (exceeds old.limits (base_then b old.base records) (with_boot records p) ≡ true) × (new ≡ missing_now b old new records))
-    → (res ≡ Err Disk → (new ≡ shut_now old new) ⊎ ((records : List Rec) × IsPossible old.records old.in_doubt records × (new ≡ doubted_now b old new p records)))
-    → IfErr res (λ f. (at : ℕ) → f ≡ NotJournal at → told × (new ≡ shut_now old new))
-    → (new ≡ untouched old new) ⊎ MayRestore b old new p
-may-restore (Err Memory) b old new p told ok memory full disk silent = inl (memory refl)
-may-restore (Ok x) b old new p told ok memory full disk silent = inr (restored (Ok x) b old new p told (λ e. cc) ok full disk silent)
-may-restore (Err Full) b old new p told ok memory full disk silent = inr (restored {T = Unit {0}} (Err Full) b old new p told (λ e. cc) tt (λ e. full refl) (λ e. cc) (λ at e. cc))
-may-restore (Err Disk) b old new p told ok memory full disk silent = inr (restored {T = Unit {0}} (Err Disk) b old new p told (λ e. cc) tt (λ e. cc) (λ e. disk refl) (λ at e. cc))
-may-restore (Err (NotJournal at)) b old new p told ok memory full disk silent = inr (restored {T = Unit {0}} (Err (NotJournal at)) b old new p told (λ e. cc) tt (λ e. cc) (λ e. cc) silent)
 
 -- a restore that wants memory leaves what a guard is
 pub IsKept-untouched : {D : Type 0} (key seed : List ℕ) (o : Open) (motions : Option (List Motion)) (places : Places) (faults : ℕ) (old new : LedgerView D) (was told : Bool) (spare : ℕ) (kinds : List NoteKind)
@@ -149,23 +144,109 @@ IsKept-restored key seed o motions places faults b old new p was told spare room
 IsKept-restored key seed o motions places faults b old new p was told spare room left kinds (inr (records, possible, inr (inr is))) there same kept =
     rw (is, same) (IsKept-unbooted (over key seed o motions places faults old was) records p (base_then b old.base records) spare room left kinds possible kept)
 
+-- the boot record keeps its number in each possible list
+booted-possible : (records : List Rec) (d : Option Rec) (list : List Rec) (n : ℕ) → IsPossible records d list → IsBootAt records n → IsBootAt list n
+booted-possible records d list n (inl is) b = rw is b
+booted-possible records d list n (inr (r, doubt, is)) b = rw is (booted-push records r n b)
+
+-- what is recorded behind a number is so with one more boot record
+recorded-booted : (from : ℕ) (key : List ℕ) (u : List NoteKind) (records : List Rec) (p : Places) (m : Option (List Motion)) → IsBootAt records (from + 1) → IsRecordedBehind from key u records m → IsRecordedBehind from key u (with_boot records p) m
+recorded-booted from key u records p m b h = record {
+  numbered = numbered-push from records (boot_of records p) within (boot_of-numbered records p) h.numbered;
+  agrees = agrees m h.agrees;
+  within = held m h.agrees h.within;
+}
+  where
+    within : from ≤ length records
+    within = from-within records from (split records from b)
+
+    tells : boot_places (boot_of records p) ≡ Some p
+    tells = boot_of-places records p
+
+    agrees : (m : Option (List Motion)) → IfTold m (AgreesBehind from records) → IfTold m (AgreesBehind from (with_boot records p))
+    agrees None a = tt
+    agrees (Some motions) a = rw (drop-append-le from records (boot_of records p ∷ []) within)
+        (Agrees-record (drop from records) (boot_of records p) (reached from motions) a (boot-follows _ (boot_of records p) p tells) (λ k c m d o e. absurd (boot-no_done (boot_of records p) p m d tells e)))
+
+    held : (m : Option (List Motion)) → IfTold m (AgreesBehind from records) → IfTold m (WithinBehind from key u records) → IfTold m (WithinBehind from key u (with_boot records p))
+    held None a w = tt
+    held (Some motions) a w = rw (drop-append-le from records (boot_of records p ∷ []) within)
+        (Within-record key u (drop from records) (boot_of records p) (reached from motions) (numbers_within (drop from records) (reached from motions) a) w)
+
+-- no nonce lives behind a boot record, and no order is open: what is recorded there is tied
+tied-booted : (v : View) (from : ℕ) (records : List Rec) (p : Places) (m : Option (List Motion)) → v.records ≡ with_boot records p → v.open_order ≡ No → IsRecordedBehind from v.key v.units (with_boot records p) m → from ≤ length records
+    → IfTold m (λ motions. Ties (view_behind from v) (reached from motions))
+tied-booted v from records p None is none h within = tt
+tied-booted v from records p (Some motions) is none h within = record {
+  agrees = rw is h.agrees;
+  within = rw is h.within;
+  counted = λ q c lives. absurd (gone q (rw (is, drop-append-le from records (boot_of records p ∷ []) within) at lives));
+  acted = rw none tt;
+}
+  where
+    gone : (q : ℕ) → live_of (drop from records ++ boot_of records p ∷ []) ≡ Some q → ⊥
+    gone q lives =
+        let ends = boot-ends (boot_of records p) p (boot_of-places records p) (length (drop from records)) (live_of (drop from records)) in
+        let e : None ≡ Some q = sym (live_of-push (drop from records) (boot_of records p) ∙ ends) ∙ lives in cc
+
+-- the journal is shut, and the order that was open is never carried out
+stands-unread : (v : View) (compared : Bool) (from : ℕ) → StandsBehind compared from v → StandsBehind compared from (unread v)
+stands-unread v compared from s = record { booted = s.booted; recorded = s.recorded; tied = λ e m. absurd (true≢false e) }
+
+-- the journal was read again, and its boot record is missing
+stands-reread : (v : View) (records : List Rec) (base : ℕ) (o : Open) → IsPossible v.records v.in_doubt records → (compared : Bool) (from : ℕ) → StandsBehind compared from v
+    → StandsBehind compared from (record (reread v records) { base = base; open_order = o })
+stands-reread v records base o possible compared from s = record {
+  booted = booted-possible v.records v.in_doubt records (from + 1) possible s.booted;
+  recorded = λ list only. rw (only-possible records list None refl only) (s.recorded records possible);
+  tied = λ e m. absurd (true≢false m);
+}
+
+-- and its boot record is in doubt
+stands-unbooted : (v : View) (records : List Rec) (p : Places) (base : ℕ) (o : Open) → IsPossible v.records v.in_doubt records → (compared : Bool) (from : ℕ) → StandsBehind compared from v
+    → StandsBehind compared from (record (reread v records) { base = base; open_order = o; shut = true; boot_missing = v.boot_missing; in_doubt = Some (boot_of records p) })
+stands-unbooted v records p base o possible compared from s =
+    let booted = booted-possible v.records v.in_doubt records (from + 1) possible s.booted in record {
+      booted = booted;
+      recorded = λ list either. ⊎_elim (λ same. rw same (s.recorded records possible))
+          (λ more. rw more (recorded-booted from v.key v.units records p (where_told compared v.motions) booted (s.recorded records possible))) (doubted-possible records list (boot_of records p) either);
+      tied = λ e m. absurd (true≢false e);
+    }
+
+-- and has its boot record
+stands-booted : (v : View) (records : List Rec) (p : Places) (base : ℕ) (o : Open) → o ≡ No → IsPossible v.records v.in_doubt records → (compared : Bool) (from : ℕ) → StandsBehind compared from v
+    → StandsBehind compared from (record v { records = with_boot records p; base = base; bound = None; open_order = o; booted = p; loaded = no_notes; shut = false; boot_missing = false; in_doubt = None })
+stands-booted v records p base o none possible compared from s =
+    let booted = booted-possible v.records v.in_doubt records (from + 1) possible s.booted in
+    let all = recorded-booted from v.key v.units records p (where_told compared v.motions) booted (s.recorded records possible) in record {
+      booted = booted-push records (boot_of records p) (from + 1) booted;
+      recorded = λ list only. rw (only-possible (with_boot records p) list None refl only) all;
+      tied = λ e m. tied-booted (record v { records = with_boot records p; base = base; bound = None; open_order = o; booted = p; loaded = no_notes; shut = false; boot_missing = false; in_doubt = None })
+          from records p (where_told compared v.motions) refl none all (from-within records from (split records from booted));
+    }
+
 -- what follows then: the boot record, which has the places, comes behind a possible list, or nothing does
 pub Continues-restored : {D : Type 0} (key seed : List ℕ) (o o' : Open) (motions : Option (List Motion)) (places : Places) (faults : ℕ) (b : Bool) (old new : LedgerView D) (was told : Bool)
-    → told ≡ was → (new ≡ untouched old new) ⊎ MayRestore b old new places → Continues (over key seed o motions places faults old was) (over key seed o' motions places faults new told)
-Continues-restored key seed o o' motions places faults b old new was told same (inl is) =
-    rw is (Continues-grown _ _ Clear (λ q e. cc) refl refl refl refl refl same refl (λ later possible. inl possible) (begins-same old.records) (λ X left. left))
-Continues-restored key seed o o' motions places faults b old new was told same (inr (inl is)) =
-    rw is (Continues-grown _ _ Clear (λ q e. cc) refl refl refl refl refl same refl (λ later possible. inl possible) (begins-same old.records) (λ X left. left-close old.records old.in_doubt (old.shut || old.boot_missing) X left))
-Continues-restored key seed o o' motions places faults b old new was told same (inr (inr (records, found, inl is))) =
+    → told ≡ was → ((new ≡ untouched old new) × (o' ≡ o)) ⊎ (MayRestore b old new places × (o' ≡ No)) → Continues (over key seed o motions places faults old was) (over key seed o' motions places faults new told)
+Continues-restored key seed o o' motions places faults b old new was told same (inl (is, still)) =
+    rw is (Continues-grown _ _ Clear (λ q e. cc) refl refl refl refl refl same refl (λ later possible. inl possible) (begins-same old.records) (λ X left. left)
+    (λ compared from s. rw (same, still) s))
+Continues-restored key seed o o' motions places faults b old new was told same (inr (inl is, none)) =
+    rw is (Continues-grown _ _ Clear (λ q e. cc) refl refl refl refl refl same refl (λ later possible. inl possible) (begins-same old.records) (λ X left. left-close old.records old.in_doubt (old.shut || old.boot_missing) X left)
+    (λ compared from s. rw (same, none) (stands-unread (over key seed o motions places faults old was) compared from s)))
+Continues-restored key seed o o' motions places faults b old new was told same (inr (inr (records, found, inl is), none)) =
     rw is (Continues-grown _ _ (boot_of records places) (boot_of-only records places) refl refl refl refl refl same refl (λ later possible. inr (records, found, only-possible (with_boot records places) later None refl possible))
     (begins-push old.records records (boot_of records places) (begins-possible old.records old.in_doubt records found))
-    (λ X left. left-boot records places false X (left-mount old.records old.in_doubt (old.shut || old.boot_missing) records X found left)))
-Continues-restored key seed o o' motions places faults b old new was told same (inr (inr (records, found, inr (inl is)))) =
+    (λ X left. left-boot records places false X (left-mount old.records old.in_doubt (old.shut || old.boot_missing) records X found left))
+    (λ compared from s. rw same (stands-booted (over key seed o motions places faults old was) records places (base_then b old.base (with_boot records places)) o' none found compared from s)))
+Continues-restored key seed o o' motions places faults b old new was told same (inr (inr (records, found, inr (inl is)), none)) =
     rw is (Continues-grown _ _ (boot_of records places) (boot_of-only records places) refl refl refl refl refl same refl (λ later possible. inl (rw (only-possible records later None refl possible) found))
-    (begins-possible old.records old.in_doubt records found) (λ X left. left-mount old.records old.in_doubt (old.shut || old.boot_missing) records X found left))
-Continues-restored key seed o o' motions places faults b old new was told same (inr (inr (records, found, inr (inr is)))) =
+    (begins-possible old.records old.in_doubt records found) (λ X left. left-mount old.records old.in_doubt (old.shut || old.boot_missing) records X found left)
+    (λ compared from s. rw same (stands-reread (over key seed o motions places faults old was) records (base_then b old.base records) o' found compared from s)))
+Continues-restored key seed o o' motions places faults b old new was told same (inr (inr (records, found, inr (inr is)), none)) =
     rw is (Continues-grown _ _ (boot_of records places) (boot_of-only records places) refl refl refl refl refl same refl (λ later possible. ⊎_elim (λ same. inl (rw same found)) (λ more. inr (records, found, more)) (doubted-possible records later (boot_of records places) possible))
-    (begins-possible old.records old.in_doubt records found) (λ X left. left-boot_doubt records places X (left-mount old.records old.in_doubt (old.shut || old.boot_missing) records X found left)))
+    (begins-possible old.records old.in_doubt records found) (λ X left. left-boot_doubt records places X (left-mount old.records old.in_doubt (old.shut || old.boot_missing) records X found left))
+    (λ compared from s. rw same (stands-unbooted (over key seed o motions places faults old was) records places (base_then b old.base records) o' found compared from s)))
 
 -- the boot record is the last one, and all that is in memory
 pub rebooted-alone : {T : Type 0} (result : Result T BootFault) (old new : View) → OnOk result (IsRebooted old new) → OnOk result (new.base + 1 ≡ length new.records)

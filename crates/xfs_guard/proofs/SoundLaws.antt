@@ -105,17 +105,23 @@ counted-act v Present c m d failed motions written released t p cur lives =
     some_same : {a b : ℕ} → Some a ≡ Some b → a ≡ b
     some_same e = cc
 
+-- what the mechanism carried out stands beside the journal
+pub Ties-act : (v : View) (k : Kind) (c m d : Counts) (failed : Bool) (motions : List Motion) (seen : Option (List Motion)) (Q : Places) (f : ℕ) → Budget v → v.open_order ≡ Written k c
+    → record_at v.records (length v.records) ≡ Some (Order k c) → LiesIn c (source_of k v.places) → IfPresent k (IsReleased v.records)
+    → MayCarry k c m d failed → Ties v motions → Ties (acted_view v k m d failed seen Q f) (motions ++ Moved (length v.records) k m d ∷ [])
+Ties-act v k c m d failed motions seen Q f budget written last lies released may t = record {
+  agrees = Agrees-motion v.records motions k c m d t.agrees last (rw written at t.acted) may.within;
+  within = within-act v k c m d failed motions budget written last lies released t may;
+  counted = counted-act v k c m d failed motions written released t;
+  acted = Contains-push motions (Moved (length v.records) k m d);
+}
+
 pub told-act : (v : View) (k : Kind) (c m d : Counts) (failed : Bool) (was now seen : Option (List Motion)) (Q : Places) (f : ℕ) → Budget v → v.open_order ≡ Written k c
     → record_at v.records (length v.records) ≡ Some (Order k c) → LiesIn c (source_of k v.places) → IfPresent k (IsReleased v.records)
     → MayCarry k c m d failed → IfTold was (Ties v) → AddsEntry was (Moved (length v.records) k m d) now
     → IfTold now (Ties (acted_view v k m d failed seen Q f))
 told-act v k c m d failed None now seen Q f budget written last lies released may told grows = rw grows tt
-told-act v k c m d failed (Some motions) now seen Q f budget written last lies released may t grows = rw grows (record {
-  agrees = Agrees-motion v.records motions k c m d t.agrees last (rw written at t.acted) may.within;
-  within = within-act v k c m d failed motions budget written last lies released t may;
-  counted = counted-act v k c m d failed motions written released t;
-  acted = Contains-push motions (Moved (length v.records) k m d);
-})
+told-act v k c m d failed (Some motions) now seen Q f budget written last lies released may t grows = rw grows (Ties-act v k c m d failed motions seen Q f budget written last lies released may t)
 
 -- a list that stands beside a journal that isn't told is not told
 pub grows-told : (b : Bool) (was now : Option (List Motion)) (m : Motion) → AddsEntry was m now → AddsEntry (where_told b was) m (where_told b now)

@@ -1,5 +1,5 @@
 -- What happened from one state of a guard to a later one. The possible lists of a guard are its journal's list and, where the journal keeps a record in doubt, that list with this record: each of the later ones comes from one of the earlier ones.
-use Rattle.std.specs.Prelude.{◌≡◌, ◌≤◌, List, length, Some, None}
+use Rattle.std.specs.Prelude.{◌≡◌, ◌≤◌, ℕ, Bool, List, length, Some, None}
 use Rattle.std.specs.List.{AllByRecursion}
 use Rattle.std.specs.declared.option.Option.{Option}
 use Rattle.xfs_base.specs.declared.counts.Places.{Places}
@@ -11,6 +11,7 @@ use Rattle.xfs_mech.specs.Motions.{NumberIs}
 use Rattle.xfs_mech.specs.Moves.{Moves}
 use Rattle.xfs_guard.specs.Crashed.{IsCrashOutcomeAt}
 use Rattle.xfs_guard.specs.Lives.{BeginsWith}
+use Rattle.xfs_guard.specs.Reach.{StandsBehind}
 use Rattle.xfs_guard.specs.View.{View}
 use Rattle.xfs_guard.specs.Follows.{Follows}
 
@@ -44,6 +45,8 @@ pub record Continues (old new : View) : Type 0 where
   pub grew : BeginsWith new.records old.records
   -- a list that a crash left on the way there was left on the way here
   pub left : (list : List Rec) → IsCrashOutcomeAt old list → IsCrashOutcomeAt new list
+  -- what stood behind a number goes on standing, also where the disk tells nothing
+  pub behind : (compared : Bool) (from : ℕ) → StandsBehind compared from old → StandsBehind compared from new
 
 -- a boot goes on from the records that it found, before the boot record of these places
 abbrev pub ContinuesFound : Places → View → Type 0

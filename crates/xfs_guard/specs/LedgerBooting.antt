@@ -1,5 +1,5 @@
 -- What a restore or a reboot, which rebases, makes of a ledger, and what an append makes of its journal.
-use Rattle.std.specs.Prelude.{◌≡◌, ◌⊎◌, ℕ, ◌+◌, ◌<◌, ◌^◌, Bool, true, false, List, [], ◌∷◌, ◌++◌, ◌||◌, Some, None}
+use Rattle.std.specs.Prelude.{◌≡◌, ◌⊎◌, ℕ, ◌+◌, ◌≤◌, Bool, true, false, List, [], ◌∷◌, ◌++◌, ◌||◌, Some, None}
 use Rattle.xfs_base.specs.Causes.{IfTold, Rose}
 use Rattle.xfs_base.specs.Money.{value}
 use Rattle.xfs_base.specs.declared.counts.Counts.{Counts}
@@ -83,6 +83,6 @@ IsUnwritten old new = (new.disk ≡ old.disk) × (new.shut ≡ old.shut) × (new
 abbrev pub FailsAt : {D : Type 0} → Ghosts D → JournalView D → JournalView D → Rec → Type 0
 FailsAt g old new rec = (new.shut ≡ true) × (new.in_doubt ≡ Some rec) × Rose (g.faults old.disk) (g.faults new.disk)
 
--- with these notes, what was presented stays below 2 ^ 64 in each currency
+-- with these notes, what was presented stays within a token's amounts in each currency
 abbrev pub IsSmall : List NoteKind → List Rec → Kind → Counts → Type 0
-IsSmall units records kind moved = kind ≡ Present → (c : List ℕ) → presented_in units records c + value units moved c < 2 ^ 64
+IsSmall units records kind moved = kind ≡ Present → (c : List ℕ) → presented_in units records c + value units moved c ≤ 999999999999

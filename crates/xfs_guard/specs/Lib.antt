@@ -24,10 +24,12 @@ pub mod Orders
 pub mod OverBudget
 pub mod Pays
 pub mod Presented
+pub mod Reach
 pub mod Recorded
 pub mod Refusals
 pub mod Replayed
 pub mod Reports
+pub mod Segment
 pub mod Sound
 pub mod Starts
 pub mod Stored

@@ -6,6 +6,7 @@ ghost use Rattle.xfs_journal.specs.Journal.{base_of, next_issue};
 ghost use Rattle.xfs_guard.specs.declared.open.Open.TheVariants.{No, Written};
 ghost use Rattle.xfs_guard.specs.Booting.{HadRoom, LacksRoom, LeavesEither, LeavesListOf, LeavesRecorded, SparesAll, SparesUnlisted};
 ghost use Rattle.xfs_guard.specs.Entries.{Begins, entry_of};
+ghost use Rattle.xfs_guard.specs.Reach.{BeginsBehind};
 ghost use Rattle.xfs_guard.specs.Nonce.{Ends, live_in, live_nonce};
 ghost use Rattle.xfs_guard.specs.View.{shut_at};
 ghost use Rattle.xfs_guard.specs.Upheld.{IsUpheld};
@@ -16,6 +17,7 @@ ghost use Rattle.xfs_guard.specs.CrashOutcomes.{EachStands, IsOldOrBooted, Leave
 ghost use Rattle.xfs_guard.specs.Keeps.{Keeps, NoEntry};
 ghost use Rattle.xfs_guard.specs.LedgerView.{IsWriteFault};
 ghost use Rattle.xfs_guard.specs.Lives.{WasNeverAnswered};
+ghost use Rattle.xfs_guard.specs.Segment.{IsTellable};
 ghost use Rattle.xfs_guard.specs.Stored.{IsStored};
 ghost use Rattle.xfs_guard.specs.declared.fail.BootFault.TheVariants.{NotJournal, Disk as BootDisk, Full as BootFull};
 ghost use Rattle.xfs_journal.specs.JournalView.{IsCarriedOver, IsNoJournal};
@@ -93,6 +95,9 @@ impl<M: Mechanism, D: Disk> Guard<M, D> {
         ensures fits { IfOk result (λ g. HadRoom (D.held disk) limits (M.places mech) g.state.records) }
         ensures continues { IfOk result (λ g. ContinuesFound (M.places mech) g.state) }
         ensures carried { IfOk result (λ g. IsCarriedOver (D.held g.disk)) }
+
+        // From its base on it stands, also where the disk tells nothing, where no entry of the mechanism is in reach of that.
+        ensures behind { IfOk result (λ g. BeginsBehind g.state) }
 
         ensures mech { IfErr result (λ f. f.mech ≡ mech) }
         ensures not_journal { IfErr result (λ f. (at : ℕ) → f.why ≡ NotJournal at → IsNoJournal (D.held disk) at) }
@@ -229,6 +234,13 @@ impl<M: Mechanism, D: Disk> Guard<M, D> {
         }
     }
 
+    /// The key of the tokens, prepared.
+    pub fn signer(&self) -> &Signer
+        ensures { result.now ≡ self.now.state.key }
+    {
+        &self.key
+    }
+
     /// The kinds of notes of the units.
     pub fn units(&self) -> &UnitTable
         ensures { result.now ≡ self.now.state.units }
@@ -258,8 +270,10 @@ impl<M: Mechanism, D: Disk> Guard<M, D> {
     }
 
     /// The journal's records that are in memory: those behind its base. The number of the first is one more than the base.
+    /// What was presented for the last nonce among them can be told in a token.
     pub fn records(&self) -> &[Rec]
-        ensures { result.now ≡ drop self.now.state.base self.now.state.records }
+        ensures records { result.now ≡ drop self.now.state.base self.now.state.records }
+        ensures tellable { IsTellable self.now.state.units result.now }
     {
         self.ledger.records()
     }

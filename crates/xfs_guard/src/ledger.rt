@@ -27,6 +27,7 @@ ghost use Rattle.xfs_guard.specs.CrashOutcomes.{IsOldOrBooted, Leaves};
 ghost use Rattle.xfs_guard.specs.Crashed.{IsCrashOutcome, StandsReread};
 ghost use Rattle.xfs_guard.specs.Stored.{IsStored, LeavesPossible, MayLeave, WasLeft};
 ghost use Rattle.xfs_guard.specs.Pays.{Fits, Pays, IsSumOf};
+ghost use Rattle.xfs_guard.specs.Segment.{IsTellable};
 
 use crate::bound::{Bound, Live};
 use crate::mounting::mount;
@@ -59,6 +60,7 @@ pub struct Ledger<D: Disk> {
 impl<D: Disk> Model for Ledger<D> {
     ghost use Rattle.xfs_guard.specs.LedgerView.{LedgerView};
     ghost use Rattle.xfs_guard.specs.Ledger.{KeepsLedger, amounts_kept};
+    ghost use Rattle.xfs_guard.specs.Segment.{AreTellable};
 
     ghost Value = { LedgerView D };
 
@@ -77,7 +79,8 @@ impl<D: Disk> Model for Ledger<D> {
       disk = l.journal.disk;
     } };
 
-    ghost invariant = { λ l. KeepsLedger l.journal.records l.journal.base l.journal.in_doubt l.journal.shut l.boot_missing l.units l.issues l.mark l.live l.bound l.doubted };
+    ghost invariant = { λ l. KeepsLedger l.journal.records l.journal.base l.journal.in_doubt l.journal.shut l.boot_missing l.units l.issues l.mark l.live l.bound l.doubted
+        × AreTellable l.units l.journal.base l.journal.records l.journal.in_doubt };
 }
 
 /// A refused boot, with the disk.
@@ -146,7 +149,8 @@ impl<D: Disk> Ledger<D> {
 
     /// The records of the journal that are in memory: those behind its base.
     pub fn records(&self) -> &[Rec]
-        ensures { result.now ≡ drop self.now.base self.now.records }
+        ensures records { result.now ≡ drop self.now.base self.now.records }
+        ensures tellable { IsTellable self.now.units result.now }
     {
         self.journal.records()
     }
@@ -165,6 +169,7 @@ impl<D: Disk> Ledger<D> {
     pub fn newest(&self) -> u64
         ensures number { result ≡ length self.now.records }
         ensures within { self.now.base ≤ result }
+        ensures led { self.now.base ≤ base_of self.now.records }
     {
         self.base() + self.records().len() as u64
     }

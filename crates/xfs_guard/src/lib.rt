@@ -34,4 +34,5 @@ pub use machine_core::Core;
 pub use nonce::Nonce;
 pub use open::Open;
 pub use replayed::motions_of;
+pub use signer::Signer;
 pub use xfs_base::Kind;

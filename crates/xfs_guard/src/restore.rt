@@ -8,6 +8,7 @@ ghost use Rattle.xfs_journal.specs.declared.record.Rec.{Rec};
 ghost use Rattle.xfs_guard.specs.declared.fail.BootFault.TheVariants.{NotJournal, Disk as BootDisk, Full as BootFull, Memory as BootMemory};
 ghost use Rattle.xfs_guard.specs.Booting.{HadRoom, HadRoomThen, IsBooted, IsRebooted, IsRestored, IsRestoredThen, IsUnbooted, IsUnbootedThen, IsUnread, IsUnrebooted, IsUnrestored, IsUnrestoredThen, IsUnstarted, IsUntold};
 ghost use Rattle.xfs_guard.specs.Keeps.{Keeps, NoEntry};
+ghost use Rattle.xfs_guard.specs.Reach.{BeginsBehind};
 ghost use Rattle.xfs_guard.specs.View.{reread, rebooted, restarted, unbooted, unread};
 
 use crate::{BootFault, Guard, Open};
@@ -45,6 +46,7 @@ impl<M: Mechanism, D: Disk> Guard<M, D> {
     pub fn reboot(&mut self) -> Result<(), BootFault>
         ensures ok { OnOk result (IsRebooted self.old.state self.new.state) }
         ensures alone { OnOk result (self.new.state.base + 1 ≡ length self.new.state.records) }
+        ensures behind { OnOk result (BeginsBehind self.new.state) }
         ensures fits { OnOk result (HadRoom (D.held self.old.disk) self.old.state.limits self.old.state.places self.new.state.records) }
         ensures stands { OnOk result (IsBooted (D.held self.old.disk) self.old.state.places self.new.state.records) }
         ensures memory { result ≡ Err BootMemory → self.new.state ≡ self.old.state }

@@ -7,7 +7,8 @@ use Rattle.xfs_mech.proofs.MoveLaws.{AddsUp-Moves, told-GrowsBy}
 use Rattle.xfs_cli.specs.Returns.{Return}
 use Rattle.xfs_cli.proofs.MomentLaws.{moments-refused, moments-run}
 use Rattle.xfs_cli.proofs.RunLaws.{recorded-start, upholds-refused, upholds-run}
-use Rattle.xfs_cli.proofs.ServeLaws.{serves-booted, serves-refused}
+use Rattle.xfs_guard.specs.Entries.{at_entry}
+use Rattle.xfs_cli.proofs.ServeLaws.{closes-behind, serves-booted, serves-refused}
 use Rattle.xfs_cli.proofs.serve_command.serve_machine.Goals as goal
 
 pub boot-requires-clause-recorded : goal.boot-requires-clause-recorded
@@ -54,9 +55,13 @@ returns-in-Ok-clause-runs g c =
     let grown : c.in-Ok.machine.state.seen.disk_faults ≤ c.serve_connections-ending.result.machine.state.seen.disk_faults =
     let first = c.in-Ok.ensures.tied in let last = c.finish-settled.ensures.tied in let between = s.proceeds.disk_faults in omega (arith, first, last, between) in
     let over : Return g.row.M.Denot g.row.D.Denot = record { status = c.settle.result; mech = c.finish-settled.result.1; disk = c.finish-settled.result.2 } in
+    let disk = g.met.D.Disk g.world.𝓛 g.world.𝓜 g.world.𝓡 ((λ s x. x), (λ x. x), (λ x. x), λ x. x) in
+    let t = c.finish-settled.ensures.through in
+    let p = Proceeds-trans g.D.Disk _ _ _ disk.counts_now s.proceeds t.proceeds in
     serves-booted g.M.Mechanism g.D.Disk c.args.bench.core _ over _ _ _ c.in-Ok.machine c.serve_connections-ending.result.machine.state _ _
     (record { records = ok.0; stands = ok.1; guard_is = ok.2; later = c.in-Ok.ensures.faults; fits = c.in-Ok.ensures.fits })
-    c.in-Ok.ensures.bare c.in-Ok.ensures.tied s.doors s.proceeds.continues grown c.finish-settled.ensures.step c.settle.ensures.status c.settle.ensures.line
+    c.in-Ok.ensures.bare c.in-Ok.ensures.tied s.doors s.proceeds.continues grown c.finish-settled.ensures.step
+    (closes-behind g.M.Mechanism g.D.Disk (at_entry g.M.Mechanism g.D.Disk c.args.bench.core) ok.0 _ t.last _ _ ok.2 p.continues t.back) c.settle.ensures.status c.settle.ensures.line
 
 pub returns-in-Err-clause-runs : goal.returns-in-Err-clause-runs
 returns-in-Err-clause-runs g c =

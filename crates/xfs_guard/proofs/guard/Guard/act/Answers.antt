@@ -4,6 +4,7 @@ use Rattle.xfs_guard.proofs.KeptLaws.{IsKept-acted, still-open}
 use Rattle.xfs_guard.specs.CrashOutcomes.{MayMove}
 use Rattle.xfs_guard.proofs.KeepsLaws.{Keeps-moved}
 use Rattle.xfs_guard.proofs.LeftLaws.{left-through, one-possible, recorded-moved}
+use Rattle.xfs_guard.proofs.StandLaws.{stands-act}
 use Rattle.xfs_guard.proofs.guard.Guard.act.Goals as goal
 
 pub invariant_of-self : goal.invariant_of-self
@@ -28,8 +29,12 @@ returns-clause-keeps g c =
     let motions = rw number at e.motions in
     let places = rw number at e.places in
     let still = still-open _ _ _ _ c.self.invariant.0.closed c.in-Written.is in
+    let booted = still-open _ _ _ _ c.self.invariant.0.missing c.in-Written.is in
     rw (← c.self.view_is) (Continues-act _ c.in-Written.kind c.execute-outcome.result.moved c.execute-outcome.result.diverted c.execute-outcome.result.failed
-    (g.M.Mechanism.motions c.execute-outcome.new.self) (g.M.Mechanism.places c.execute-outcome.new.self) (g.M.Mechanism.faults c.execute-outcome.new.self) (c.self.invariant.0.clean still) motions places))
+    (g.M.Mechanism.motions c.execute-outcome.new.self) (g.M.Mechanism.places c.execute-outcome.new.self) (g.M.Mechanism.faults c.execute-outcome.new.self) (c.self.invariant.0.clean still) motions places
+    (stands-act _ c.in-Written.kind c.in-Written.counts c.execute-outcome.result.moved c.execute-outcome.result.diverted c.execute-outcome.result.failed
+    (g.M.Mechanism.motions c.execute-outcome.new.self) (g.M.Mechanism.places c.execute-outcome.new.self) (g.M.Mechanism.faults c.execute-outcome.new.self)
+    (c.self.invariant.0.sound still booted) still booted (c.self.invariant.0.clean still) c.in-Written.is e.carried motions)))
     (rw (← c.self.view_is) c.execute-outcome.ensures.later)
     (let still = still-open _ _ _ _ c.self.invariant.0.closed c.in-Written.is in
     let booted = still-open _ _ _ _ c.self.invariant.0.missing c.in-Written.is in

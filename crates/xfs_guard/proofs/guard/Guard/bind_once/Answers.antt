@@ -12,6 +12,7 @@ use Rattle.xfs_guard.proofs.SizeLaws.{fit-at, takes-one, may-write}
 use Rattle.xfs_guard.proofs.LeftLaws.{left-written}
 use Rattle.xfs_guard.proofs.BehindLaws.{behind-refused, behind-written}
 use Rattle.xfs_guard.proofs.PossibleLaws.{leaves-list, leaves-refused}
+use Rattle.xfs_guard.proofs.StandLaws.{grows-bind}
 use Rattle.xfs_guard.proofs.guard.Guard.bind_once.Goals as goal
 
 pub returns-then-is_some-clause-ok : goal.returns-then-is_some-clause-ok
@@ -58,8 +59,10 @@ invariant_of-self-2 g c = (
 pub returns-in_err-bind-clause-keeps : goal.returns-in_err-bind-clause-keeps
 returns-in_err-bind-clause-keeps g c =
     Keeps-wrote g.D.Disk _ _
-    (let fit = fit-at _ _ c.self.view_is c.requires.passes.fit in
-    rw (← c.self.view_is) (Continues-refused Unit c.in_err-bind.field-0.0 _ _ _ _ _ _ c.self.inside.ledger c.bind.new.self _ (Some c.claim.inside.amounts) _ _ c.in_err-bind.ensures.wrote c.in_err-bind.ensures.err c.bind.ensures.told (c.self.invariant.0.clean fit.0) fit.0 fit.2 (λ p e. cc)))
+    (let none : c.self.inside.open_order ≡ No = rw (← c.self.view_is) at c.requires.none in
+    let fit = fit-at _ _ c.self.view_is c.requires.passes.fit in
+    rw (← c.self.view_is) (Continues-refused Unit c.in_err-bind.field-0.0 _ _ _ _ _ _ c.self.inside.ledger c.bind.new.self _ (Some c.claim.inside.amounts) _ _ c.in_err-bind.ensures.wrote c.in_err-bind.ensures.err c.bind.ensures.told (c.self.invariant.0.clean fit.0) fit.0 fit.2 (λ p e. cc) No
+    (grows-bind _ c.claim.inside.token (Some c.claim.inside.amounts) (c.self.invariant.0.sound fit.0 fit.2) none)))
     (rw (← c.self.view_is) c.bind.ensures.faults) (rw (← c.self.view_is) (omega arith))
     (rw (← c.self.view_is) (behind-refused Unit g.D.Disk c.in_err-bind.field-0.0 _ _ _ _ _ _ c.self.inside.ledger c.bind.new.self _ (Some c.claim.inside.amounts) _ _ g.met.D.Disk.only_now c.in_err-bind.ensures.wrote c.in_err-bind.ensures.err c.bind.ensures.told c.bind.ensures.any_moment))
     (let none : c.self.inside.open_order ≡ No = rw (← c.self.view_is) at c.requires.none in
@@ -72,10 +75,12 @@ returns-in_err-bind-clause-keeps g c =
 pub returns-clause-keeps : goal.returns-clause-keeps
 returns-clause-keeps g c =
     Keeps-wrote g.D.Disk _ _
-    (let fit = fit-at _ _ c.self.view_is c.requires.passes.fit in
+    (let none : c.self.inside.open_order ≡ No = rw (← c.self.view_is) at c.requires.none in
+    let fit = fit-at _ _ c.self.view_is c.requires.passes.fit in
     let w = c.in_ok-bind.ensures.wrote in
     rw (← c.self.view_is, w.records, w.base, w.units, w.bound_is, w.booted, w.loaded, w.limits, w.open_still, w.boot_missing, w.in_doubt, c.bind.ensures.told)
-    (Continues-written _ (Bind c.claim.inside.token) (Some c.claim.inside.amounts) c.self.inside.open_order (c.self.invariant.0.clean fit.0) fit.0 fit.2 (λ p e. cc)))
+    (Continues-written _ (Bind c.claim.inside.token) (Some c.claim.inside.amounts) c.self.inside.open_order (c.self.invariant.0.clean fit.0) fit.0 fit.2 (λ p e. cc) No none
+    (grows-bind _ c.claim.inside.token (Some c.claim.inside.amounts) (c.self.invariant.0.sound fit.0 fit.2) none)))
     (rw (← c.self.view_is) c.bind.ensures.faults) (rw (← c.self.view_is) (omega arith))
     (rw (← c.self.view_is) (behind-written g.D.Disk _ _ (Bind c.claim.inside.token) c.bind.ensures.told c.bind.ensures.any_moment c.in_ok-bind.ensures.wrote.records))
     (let none : c.self.inside.open_order ≡ No = rw (← c.self.view_is) at c.requires.none in

@@ -1,14 +1,16 @@
-use Rattle.std.proofs.Common.{refl, ◌∙◌, false, None, sym}
+use Rattle.std.proofs.Common.{refl, ◌∙◌, ap, false, None, sym}
 use Rattle.std.specs.Prelude.{is_some}
-use Rattle.xfs_journal.specs.Journal.{boot_of}
+use Rattle.xfs_journal.specs.Journal.{base_of, boot_of}
 use Rattle.xfs_journal.proofs.StartLaws.{boot_of-only}
 use Rattle.xfs_guard.specs.declared.open.Open.TheVariants.{No}
-use Rattle.xfs_guard.proofs.BootLaws.{IsKept-boot, WasLeft-recorded}
+use Rattle.xfs_guard.proofs.BootLaws.{base_of-boot, IsKept-boot, WasLeft-recorded}
+use Rattle.xfs_guard.proofs.BegunLaws.{begun}
 use Rattle.xfs_guard.proofs.ContinueLaws.{Continues-written}
 use Rattle.xfs_guard.proofs.KeptLaws.{over}
 use Rattle.xfs_guard.proofs.StoredLaws.{MayLeave-held}
 use Rattle.xfs_guard.proofs.LeftLaws.{left-boot}
 use Rattle.xfs_guard.proofs.PossibleLaws.{leaves-list}
+use Rattle.xfs_guard.proofs.StandLaws.{grows-boot}
 use Rattle.xfs_guard.proofs.guard.Guard.boot.Goals as goal
 
 pub invariant_of-result : goal.invariant_of-result
@@ -25,7 +27,12 @@ invariant_of-result g c = (
 pub returns-in-Ok-boot-clause-continues : goal.returns-in-Ok-boot-clause-continues
 returns-in-Ok-boot-clause-continues g c = λ records is.
     let v = over c.new-in-Ok-boot.result c.new-in-Ok-boot-2.result No (g.M.Mechanism.motions c.args.mech) (g.M.Mechanism.places c.args.mech) (g.M.Mechanism.faults c.args.mech) c.in-Ok-boot.ledger (is_some (g.D.Disk.held c.in-Ok-boot.ledger.disk)) in
-    rw (is, c.in-Ok-boot.ensures.opened.0, c.in-Ok-boot.ensures.opened.1, c.in-Ok-boot.ensures.opened.3) (Continues-written (record v { records = records; shut = false; boot_missing = false; in_doubt = None }) (boot_of records (g.M.Mechanism.places c.args.mech)) c.in-Ok-boot.ledger.bound No refl refl refl (boot_of-only records (g.M.Mechanism.places c.args.mech)))
+    rw (is, c.in-Ok-boot.ensures.opened.0, c.in-Ok-boot.ensures.opened.1, c.in-Ok-boot.ensures.opened.3) (Continues-written (record v { records = records; shut = false; boot_missing = false; in_doubt = None }) (boot_of records (g.M.Mechanism.places c.args.mech)) c.in-Ok-boot.ledger.bound No refl refl refl (boot_of-only records (g.M.Mechanism.places c.args.mech)) No refl (grows-boot (record v { records = records; shut = false; boot_missing = false; in_doubt = None }) (g.M.Mechanism.places c.args.mech) c.in-Ok-boot.ledger.bound))
+
+pub returns-in-Ok-boot-clause-behind : goal.returns-in-Ok-boot-clause-behind
+returns-in-Ok-boot-clause-behind g c =
+    let e = c.in-Ok-boot.ensures in
+    begun _ e.records.0 c.in-Ok.survey e.records.2 (e.based ∙ (ap base_of e.records.2 ∙ base_of-boot e.records.0 c.in-Ok.survey)) refl e.opened.1
 
 pub returns-in-Err-clause-left : goal.returns-in-Err-clause-left
 returns-in-Err-clause-left g c = λ records may.

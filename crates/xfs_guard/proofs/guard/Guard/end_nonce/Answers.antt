@@ -10,6 +10,7 @@ use Rattle.xfs_guard.proofs.RecordLaws.{IsSound-end, ends-short, ends-plain, end
 use Rattle.xfs_guard.proofs.LeftLaws.{left-written}
 use Rattle.xfs_guard.proofs.BehindLaws.{behind-refused, behind-written}
 use Rattle.xfs_guard.proofs.PossibleLaws.{leaves-list, leaves-refused}
+use Rattle.xfs_guard.proofs.StandLaws.{grows-end}
 use Rattle.xfs_guard.proofs.guard.Guard.end_nonce.Goals as goal
 
 pub end_nonce-requires : goal.end_nonce-requires
@@ -42,8 +43,10 @@ invariant_of-self-2 g c = (
 pub returns-in_err-end_nonce-clause-keeps : goal.returns-in_err-end_nonce-clause-keeps
 returns-in_err-end_nonce-clause-keeps g c =
     Keeps-wrote g.D.Disk _ _
-    (let fit = fit-at _ _ c.self.view_is c.requires.fit in
-    rw (← c.self.view_is) (Continues-refused Unit c.in_err-end_nonce.field-0.0 _ _ _ _ _ _ c.self.inside.ledger c.end_nonce.new.self _ None _ _ c.in_err-end_nonce.ensures.wrote c.in_err-end_nonce.ensures.err c.end_nonce.ensures.told (c.self.invariant.0.clean fit.0) fit.0 fit.2 (λ p e. absurd (ends-plain c.args.rec p c.requires.ends e))))
+    (let none : c.self.inside.open_order ≡ No = rw (← c.self.view_is) at c.requires.none in
+    let fit = fit-at _ _ c.self.view_is c.requires.fit in
+    rw (← c.self.view_is) (Continues-refused Unit c.in_err-end_nonce.field-0.0 _ _ _ _ _ _ c.self.inside.ledger c.end_nonce.new.self _ None _ _ c.in_err-end_nonce.ensures.wrote c.in_err-end_nonce.ensures.err c.end_nonce.ensures.told (c.self.invariant.0.clean fit.0) fit.0 fit.2 (λ p e. absurd (ends-plain c.args.rec p c.requires.ends e)) No
+    (grows-end _ c.args.rec c.requires.ends (c.self.invariant.0.sound fit.0 fit.2) none)))
     (rw (← c.self.view_is) c.end_nonce.ensures.faults) (rw (← c.self.view_is) (omega arith))
     (rw (← c.self.view_is) (behind-refused Unit g.D.Disk c.in_err-end_nonce.field-0.0 _ _ _ _ _ _ c.self.inside.ledger c.end_nonce.new.self _ None _ _ g.met.D.Disk.only_now c.in_err-end_nonce.ensures.wrote c.in_err-end_nonce.ensures.err c.end_nonce.ensures.told c.end_nonce.ensures.any_moment))
     (let none : c.self.inside.open_order ≡ No = rw (← c.self.view_is) at c.requires.none in
@@ -54,10 +57,12 @@ returns-in_err-end_nonce-clause-keeps g c =
 pub returns-clause-keeps : goal.returns-clause-keeps
 returns-clause-keeps g c =
     Keeps-wrote g.D.Disk _ _
-    (let fit = fit-at _ _ c.self.view_is c.requires.fit in
+    (let none : c.self.inside.open_order ≡ No = rw (← c.self.view_is) at c.requires.none in
+    let fit = fit-at _ _ c.self.view_is c.requires.fit in
     let w = c.in_ok-end_nonce.ensures.wrote in
     rw (← c.self.view_is, w.records, w.base, w.units, w.bound_is, w.booted, w.loaded, w.limits, w.open_still, w.boot_missing, w.in_doubt, c.end_nonce.ensures.told)
-    (Continues-written _ c.args.rec None c.self.inside.open_order (c.self.invariant.0.clean fit.0) fit.0 fit.2 (λ p e. absurd (ends-plain c.args.rec p c.requires.ends e))))
+    (Continues-written _ c.args.rec None c.self.inside.open_order (c.self.invariant.0.clean fit.0) fit.0 fit.2 (λ p e. absurd (ends-plain c.args.rec p c.requires.ends e)) No none
+    (grows-end _ c.args.rec c.requires.ends (c.self.invariant.0.sound fit.0 fit.2) none)))
     (rw (← c.self.view_is) c.end_nonce.ensures.faults) (rw (← c.self.view_is) (omega arith))
     (rw (← c.self.view_is) (behind-written g.D.Disk _ _ c.args.rec c.end_nonce.ensures.told c.end_nonce.ensures.any_moment c.in_ok-end_nonce.ensures.wrote.records))
     (let none : c.self.inside.open_order ≡ No = rw (← c.self.view_is) at c.requires.none in

@@ -13,6 +13,7 @@ use Rattle.xfs_guard.proofs.LeftLaws.{left-written}
 use Rattle.xfs_guard.proofs.LifeLaws.{next-fresh}
 use Rattle.xfs_guard.proofs.BehindLaws.{behind-refused, behind-written}
 use Rattle.xfs_guard.proofs.PossibleLaws.{leaves-list, leaves-refused}
+use Rattle.xfs_guard.proofs.StandLaws.{grows-issue}
 use Rattle.xfs_guard.proofs.guard.Guard.issue.Goals as goal
 
 pub issue-requires-clause-fits : goal.issue-requires-clause-fits
@@ -56,8 +57,10 @@ returns-in-Some-clause-keeps g c = Keeps-same g.D.Disk _ g.met.D.Disk.only_now c
 pub returns-in_err-issue-clause-keeps : goal.returns-in_err-issue-clause-keeps
 returns-in_err-issue-clause-keeps g c =
     Keeps-wrote g.D.Disk _ _
-    (let fit = fit-at _ _ c.self.view_is (sym c.unfit.ensures.first ∙ c.in_default.is) in
-    rw (← c.self.view_is) (Continues-refused Unit c.in_err-issue.field-0.0 _ _ _ _ _ _ c.self.inside.ledger c.issue.new.self _ None _ _ c.in_err-issue.ensures.wrote c.in_err-issue.ensures.err c.issue.ensures.told (c.self.invariant.0.clean fit.0) fit.0 fit.2 (λ p e. cc)))
+    (let none : c.self.inside.open_order ≡ No = rw (← c.self.view_is) at c.requires in
+    let fit = fit-at _ _ c.self.view_is (sym c.unfit.ensures.first ∙ c.in_default.is) in
+    rw (← c.self.view_is) (Continues-refused Unit c.in_err-issue.field-0.0 _ _ _ _ _ _ c.self.inside.ledger c.issue.new.self _ None _ _ c.in_err-issue.ensures.wrote c.in_err-issue.ensures.err c.issue.ensures.told (c.self.invariant.0.clean fit.0) fit.0 fit.2 (λ p e. cc) No
+    (grows-issue _ c.of-nonce.result.number c.at-word.result (c.self.invariant.0.sound fit.0 fit.2) none (c.of-nonce.ensures.number ∙ c.next_issue-number.ensures))))
     (rw (← c.self.view_is) c.issue.ensures.faults) (rw (← c.self.view_is) (omega arith))
     (rw (← c.self.view_is) (behind-refused Unit g.D.Disk c.in_err-issue.field-0.0 _ _ _ _ _ _ c.self.inside.ledger c.issue.new.self _ None _ _ g.met.D.Disk.only_now c.in_err-issue.ensures.wrote c.in_err-issue.ensures.err c.issue.ensures.told c.issue.ensures.any_moment))
     (let none : c.self.inside.open_order ≡ No = rw (← c.self.view_is) at c.requires in
@@ -68,10 +71,12 @@ returns-in_err-issue-clause-keeps g c =
 pub returns-clause-keeps : goal.returns-clause-keeps
 returns-clause-keeps g c =
     Keeps-wrote g.D.Disk _ _
-    (let fit = fit-at _ _ c.self.view_is (sym c.unfit.ensures.first ∙ c.in_default.is) in
+    (let none : c.self.inside.open_order ≡ No = rw (← c.self.view_is) at c.requires in
+    let fit = fit-at _ _ c.self.view_is (sym c.unfit.ensures.first ∙ c.in_default.is) in
     let w = c.in_ok-issue.ensures.wrote in
     rw (← c.self.view_is, w.records, w.base, w.units, w.bound_is, w.booted, w.loaded, w.limits, w.open_still, w.boot_missing, w.in_doubt, c.issue.ensures.told, c.turn_to.ensures)
-    (Continues-written _ (Issue c.of-nonce.result.number c.at-word.result) None c.self.inside.open_order (c.self.invariant.0.clean fit.0) fit.0 fit.2 (λ p e. cc)))
+    (Continues-written _ (Issue c.of-nonce.result.number c.at-word.result) None c.self.inside.open_order (c.self.invariant.0.clean fit.0) fit.0 fit.2 (λ p e. cc) No none
+    (grows-issue _ c.of-nonce.result.number c.at-word.result (c.self.invariant.0.sound fit.0 fit.2) none (c.of-nonce.ensures.number ∙ c.next_issue-number.ensures))))
     (rw (← c.self.view_is) c.issue.ensures.faults) (rw (← c.self.view_is) (omega arith))
     (rw (← c.self.view_is) (behind-written g.D.Disk _ _ (Issue c.of-nonce.result.number c.at-word.result) c.issue.ensures.told c.issue.ensures.any_moment c.in_ok-issue.ensures.wrote.records))
     (let none : c.self.inside.open_order ≡ No = rw (← c.self.view_is) at c.requires in

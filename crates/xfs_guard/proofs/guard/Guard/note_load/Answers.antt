@@ -11,6 +11,7 @@ use Rattle.xfs_guard.proofs.RecordLaws.{IsSound-load}
 use Rattle.xfs_guard.proofs.LeftLaws.{left-written}
 use Rattle.xfs_guard.proofs.BehindLaws.{behind-refused, behind-written}
 use Rattle.xfs_guard.proofs.PossibleLaws.{leaves-list, leaves-refused}
+use Rattle.xfs_guard.proofs.StandLaws.{grows-load}
 use Rattle.xfs_guard.proofs.guard.Guard.note_load.Goals as goal
 
 pub load-requires-clause-fits : goal.load-requires-clause-fits
@@ -44,8 +45,10 @@ returns-in-Some-clause-keeps g c = Keeps-same g.D.Disk _ g.met.D.Disk.only_now c
 pub returns-in_err-load-clause-keeps : goal.returns-in_err-load-clause-keeps
 returns-in_err-load-clause-keeps g c =
     Keeps-wrote g.D.Disk _ _
-    (let fit = fit-at _ _ c.self.view_is (sym c.unfit.ensures.first ∙ c.in_default.is) in
-    rw (← c.self.view_is) (Continues-refused Unit c.in_err-load.field-0.0 _ _ _ _ _ _ c.self.inside.ledger c.load.new.self _ c.self.inside.ledger.bound _ _ c.in_err-load.ensures.wrote c.in_err-load.ensures.err c.load.ensures.told (c.self.invariant.0.clean fit.0) fit.0 fit.2 (λ p e. cc)))
+    (let none : c.self.inside.open_order ≡ No = rw (← c.self.view_is) at c.requires.none in
+    let fit = fit-at _ _ c.self.view_is (sym c.unfit.ensures.first ∙ c.in_default.is) in
+    rw (← c.self.view_is) (Continues-refused Unit c.in_err-load.field-0.0 _ _ _ _ _ _ c.self.inside.ledger c.load.new.self _ c.self.inside.ledger.bound _ _ c.in_err-load.ensures.wrote c.in_err-load.ensures.err c.load.ensures.told (c.self.invariant.0.clean fit.0) fit.0 fit.2 (λ p e. cc) No
+    (grows-load _ c.args.unit c.args.count (c.self.invariant.0.sound fit.0 fit.2) none)))
     (rw (← c.self.view_is) c.load.ensures.faults) (rw (← c.self.view_is) (omega arith))
     (rw (← c.self.view_is) (behind-refused Unit g.D.Disk c.in_err-load.field-0.0 _ _ _ _ _ _ c.self.inside.ledger c.load.new.self _ c.self.inside.ledger.bound _ _ g.met.D.Disk.only_now c.in_err-load.ensures.wrote c.in_err-load.ensures.err c.load.ensures.told c.load.ensures.any_moment))
     (let none : c.self.inside.open_order ≡ No = rw (← c.self.view_is) at c.requires.none in
@@ -56,10 +59,12 @@ returns-in_err-load-clause-keeps g c =
 pub returns-clause-keeps : goal.returns-clause-keeps
 returns-clause-keeps g c =
     Keeps-wrote g.D.Disk _ _
-    (let fit = fit-at _ _ c.self.view_is (sym c.unfit.ensures.first ∙ c.in_default.is) in
+    (let none : c.self.inside.open_order ≡ No = rw (← c.self.view_is) at c.requires.none in
+    let fit = fit-at _ _ c.self.view_is (sym c.unfit.ensures.first ∙ c.in_default.is) in
     let w = c.in_ok-load.ensures.wrote in
     rw (← c.self.view_is, w.records, w.base, w.units, w.bound_is, w.booted, w.loaded, w.limits, w.open_still, w.boot_missing, w.in_doubt, c.load.ensures.told)
-    (Continues-written _ (Load c.args.unit c.args.count) c.self.inside.ledger.bound c.self.inside.open_order (c.self.invariant.0.clean fit.0) fit.0 fit.2 (λ p e. cc)))
+    (Continues-written _ (Load c.args.unit c.args.count) c.self.inside.ledger.bound c.self.inside.open_order (c.self.invariant.0.clean fit.0) fit.0 fit.2 (λ p e. cc) No none
+    (grows-load _ c.args.unit c.args.count (c.self.invariant.0.sound fit.0 fit.2) none)))
     (rw (← c.self.view_is) c.load.ensures.faults) (rw (← c.self.view_is) (omega arith))
     (rw (← c.self.view_is) (behind-written g.D.Disk _ _ (Load c.args.unit c.args.count) c.load.ensures.told c.load.ensures.any_moment c.in_ok-load.ensures.wrote.records))
     (let none : c.self.inside.open_order ≡ No = rw (← c.self.view_is) at c.requires.none in

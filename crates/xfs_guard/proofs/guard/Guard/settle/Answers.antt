@@ -11,6 +11,7 @@ use Rattle.xfs_guard.proofs.OrderLaws.{small-done}
 use Rattle.xfs_guard.proofs.LeftLaws.{left-written}
 use Rattle.xfs_guard.proofs.BehindLaws.{behind-doubted, behind-written}
 use Rattle.xfs_guard.proofs.PossibleLaws.{leaves-list, leaves-refused}
+use Rattle.xfs_guard.proofs.StandLaws.{grows-done}
 use Rattle.xfs_guard.proofs.guard.Guard.settle.Goals as goal
 
 pub done-requires-clause-fits : goal.done-requires-clause-fits
@@ -53,7 +54,8 @@ returns-in_err-done-clause-keeps g c =
     let booted = still-acted _ _ _ _ _ _ c.self.invariant.0.missing c.in-Acted.is in
     let s = rw c.in_err-done.ensures.err at c.in_err-done.ensures.wrote in
     rw (← c.self.view_is, s.records, s.base, s.units, s.bound, s.booted, s.loaded, s.limits, s.shut, s.boot_missing, s.in_doubt, c.done.ensures.told)
-    (Continues-doubted _ (Done c.in-Acted.moved c.in-Acted.diverted) No (c.self.invariant.0.clean still) still booted (λ p e. cc)))
+    (Continues-doubted _ (Done c.in-Acted.moved c.in-Acted.diverted) c.self.inside.ledger.bound No No (c.self.invariant.0.clean still) still booted (λ p e. cc)
+    (grows-done _ c.in-Acted.kind c.in-Acted.moved c.in-Acted.diverted c.in-Acted.failed (c.self.invariant.0.sound still booted) c.in-Acted.is)))
     (rw (← c.self.view_is) c.done.ensures.faults) (rw (← c.self.view_is) (omega arith))
     (let s = rw c.in_err-done.ensures.err at c.in_err-done.ensures.wrote in
     rw (← c.self.view_is) (behind-doubted g.D.Disk _ _ (Done c.in-Acted.moved c.in-Acted.diverted) c.done.ensures.told c.done.ensures.any_moment s.records s.shut s.in_doubt))
@@ -69,7 +71,8 @@ returns-clause-keeps g c =
     let booted = still-acted _ _ _ _ _ _ c.self.invariant.0.missing c.in-Acted.is in
     let w = c.in_ok-done.ensures.wrote in
     rw (← c.self.view_is, w.records, w.base, w.units, w.bound_is, w.booted, w.loaded, w.limits, w.open_still, w.boot_missing, w.in_doubt, c.done.ensures.told)
-    (Continues-written _ (Done c.in-Acted.moved c.in-Acted.diverted) c.self.inside.ledger.bound No (c.self.invariant.0.clean still) still booted (λ p e. cc)))
+    (Continues-written _ (Done c.in-Acted.moved c.in-Acted.diverted) c.self.inside.ledger.bound No (c.self.invariant.0.clean still) still booted (λ p e. cc) No refl
+    (grows-done _ c.in-Acted.kind c.in-Acted.moved c.in-Acted.diverted c.in-Acted.failed (c.self.invariant.0.sound still booted) c.in-Acted.is)))
     (rw (← c.self.view_is) c.done.ensures.faults) (rw (← c.self.view_is) (omega arith))
     (rw (← c.self.view_is) (behind-written g.D.Disk _ _ (Done c.in-Acted.moved c.in-Acted.diverted) c.done.ensures.told c.done.ensures.any_moment c.in_ok-done.ensures.wrote.records))
     (let still = still-acted _ _ _ _ _ _ c.self.invariant.0.closed c.in-Acted.is in

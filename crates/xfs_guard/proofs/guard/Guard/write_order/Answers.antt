@@ -11,6 +11,7 @@ use Rattle.xfs_guard.proofs.OrderLaws.{IsSound-asked}
 use Rattle.xfs_guard.proofs.LeftLaws.{left-written}
 use Rattle.xfs_guard.proofs.BehindLaws.{behind-doubted, behind-written}
 use Rattle.xfs_guard.proofs.PossibleLaws.{leaves-list, leaves-refused}
+use Rattle.xfs_guard.proofs.StandLaws.{grows-order}
 use Rattle.xfs_guard.proofs.guard.Guard.write_order.Goals as goal
 
 pub order-requires-clause-fits : goal.order-requires-clause-fits
@@ -57,11 +58,13 @@ invariant_of-self-2 g c = (
 pub returns-in_err-order-clause-keeps : goal.returns-in_err-order-clause-keeps
 returns-in_err-order-clause-keeps g c =
     Keeps-wrote g.D.Disk _ _
-    (let fit = fit-at _ _ c.self.view_is c.requires.fit in
+    (let none : c.self.inside.open_order ≡ No = rw (← c.self.view_is) at c.requires.none in
+    let fit = fit-at _ _ c.self.view_is c.requires.fit in
     let same = c.in_ok-reserve_two.ensures.same in
     let s = rw c.in_err-order.ensures.err at c.in_err-order.ensures.wrote in
     rw (← c.self.view_is, s.records, s.base, s.units, s.bound, s.booted, s.loaded, s.limits, s.shut, s.boot_missing, s.in_doubt, c.order.ensures.told, same.records, same.base, same.units, same.bound, same.booted, same.loaded, same.limits, same.boot_missing, same.disk, c.ready.ensures.motions, c.ready.ensures.places, c.ready.ensures.faults)
-    (Continues-doubted _ (Order c.args.kind c.args.counts) c.self.inside.open_order (c.self.invariant.0.clean fit.0) fit.0 fit.2 (λ p e. cc)))
+    (Continues-doubted _ (Order c.args.kind c.args.counts) c.self.inside.ledger.bound c.self.inside.open_order (Written c.args.kind c.args.counts) (c.self.invariant.0.clean fit.0) fit.0 fit.2 (λ p e. cc)
+    (grows-order _ c.args.kind c.args.counts (c.self.invariant.0.sound fit.0 fit.2) none)))
     (let same = c.in_ok-reserve_two.ensures.same in rw (← c.self.view_is) (rw same.disk at c.order.ensures.faults)) (rw (← c.self.view_is, c.ready.ensures.faults) (omega arith))
     (let same = c.in_ok-reserve_two.ensures.same in
     let s = rw c.in_err-order.ensures.err at c.in_err-order.ensures.wrote in
@@ -78,11 +81,13 @@ returns-in_err-order-clause-keeps g c =
 pub returns-clause-keeps : goal.returns-clause-keeps
 returns-clause-keeps g c =
     Keeps-wrote g.D.Disk _ _
-    (let fit = fit-at _ _ c.self.view_is c.requires.fit in
+    (let none : c.self.inside.open_order ≡ No = rw (← c.self.view_is) at c.requires.none in
+    let fit = fit-at _ _ c.self.view_is c.requires.fit in
     let same = c.in_ok-reserve_two.ensures.same in
     let w = c.in_ok-order.ensures.wrote in
     rw (← c.self.view_is, w.records, w.base, w.units, w.bound_is, w.booted, w.loaded, w.limits, w.open_still, w.boot_missing, w.in_doubt, c.order.ensures.told, same.records, same.base, same.units, same.bound, same.booted, same.loaded, same.limits, same.boot_missing, same.disk, c.ready.ensures.motions, c.ready.ensures.places, c.ready.ensures.faults)
-    (Continues-written _ (Order c.args.kind c.args.counts) c.self.inside.ledger.bound (Written c.args.kind c.args.counts) (c.self.invariant.0.clean fit.0) fit.0 fit.2 (λ p e. cc)))
+    (Continues-written _ (Order c.args.kind c.args.counts) c.self.inside.ledger.bound (Written c.args.kind c.args.counts) (c.self.invariant.0.clean fit.0) fit.0 fit.2 (λ p e. cc) (Written c.args.kind c.args.counts) refl
+    (grows-order _ c.args.kind c.args.counts (c.self.invariant.0.sound fit.0 fit.2) none)))
     (let same = c.in_ok-reserve_two.ensures.same in rw (← c.self.view_is) (rw same.disk at c.order.ensures.faults)) (rw (← c.self.view_is, c.ready.ensures.faults) (omega arith))
     (let same = c.in_ok-reserve_two.ensures.same in
     rw (← c.self.view_is) (behind-written g.D.Disk _ _ (Order c.args.kind c.args.counts) (rw same.disk at c.order.ensures.told) (rw (same.records, same.disk) at c.order.ensures.any_moment)

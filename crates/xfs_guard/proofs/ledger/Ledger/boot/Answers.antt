@@ -1,10 +1,11 @@
 use Rattle.xfs_journal.specs.Journal.{base_of, boot_of, with_boot}
-use Rattle.std.proofs.Common.{◌≤◌, length, arith}
+use Rattle.std.proofs.Common.{◌≤◌, length, arith, refl}
 use Rattle.xfs_journal.proofs.StartLaws.{boot-ends, boot-issues_none, boot-marks, boot_of-places}
 use Rattle.xfs_guard.proofs.BootLaws.{base_of-boot}
 use Rattle.xfs_guard.proofs.LedgerLaws.{IsRead-mark, KeepsLedger-read}
 use Rattle.xfs_guard.proofs.StoredLaws.{WasLeft-mount, WasLeft-append, stays-mount, stays-append, unlisted-booted}
 use Rattle.xfs_guard.proofs.LeftLaws.{left-mounted, left-booted}
+use Rattle.xfs_guard.proofs.TellableLaws.{tells-booted}
 use Rattle.xfs_guard.proofs.ledger.Ledger.boot.Goals as goal
 
 pub invariant_of-result : goal.invariant_of-result
@@ -14,8 +15,11 @@ invariant_of-result g c =
     let tells = boot_of-places c.in-Ok.journal.records c.args.places in
     let places = base_of-boot c.in-Ok.journal.records c.args.places in
     let based : base_of (with_boot c.in-Ok.journal.records c.args.places) ≤ length c.in-Ok.journal.records = omega (arith, places) in
-    rw (w.based, w.ok.0, w.number) (KeepsLedger-read _ _ _ _ _ _ _ _ _ _
-    (IsRead-mark _ _ _ boot c.issues_of-issues.ensures.issues c.issues_of-issues.ensures.few based (boot-issues_none boot _ tells) (boot-ends boot _ tells) (boot-marks boot _ tells)) w.ok.2)
+    rw (w.based, w.ok.0, w.number) (
+      KeepsLedger-read _ _ _ _ _ _ _ _ _ _
+          (IsRead-mark _ _ _ boot c.issues_of-issues.ensures.issues c.issues_of-issues.ensures.few based (boot-issues_none boot _ tells) (boot-ends boot _ tells) (boot-marks boot _ tells)) w.ok.2,
+      tells-booted _ _ c.in-Ok.journal.records c.args.places _ refl w.ok.2,
+    )
 
 pub returns-in-Err-clause-left : goal.returns-in-Err-clause-left
 returns-in-Err-clause-left g c = WasLeft-mount g.D.Disk c.args.disk c.in-Err.refused.disk c.args.places

@@ -1,4 +1,4 @@
-use Rattle.std.proofs.Common.{arith, inl, inr, Err, ap, refl, rules}
+use Rattle.std.proofs.Common.{arith, inl, inr, Err, ap, refl, rules, ◌∙◌}
 use Rattle.xfs_journal.specs.Journal.{boot_of}
 use Rattle.xfs_journal.proofs.StartLaws.{boot-ends, boot-issues_none, boot-marks, boot_of-places}
 use Rattle.xfs_guard.proofs.LedgerLaws.{boot_of-doubts, front-possible, longer-possible, IsRead-mark, KeepsLedger-read}
@@ -7,6 +7,7 @@ use Rattle.xfs_guard.proofs.PossibleLaws.{leaves-list, leaves-either}
 use Rattle.xfs_guard.proofs.RereadLaws.{reread-append}
 use Rattle.xfs_guard.proofs.RestoreLaws.{base_then-within}
 use Rattle.xfs_guard.proofs.StoredLaws.{booted_behind}
+use Rattle.xfs_guard.proofs.TellableLaws.{tells-doubted, tells-missing, tells-restored}
 use Rattle.xfs_guard.proofs.ledger.Ledger.restore.Goals as goal
 
 pub invariant_of-self-in-Ok : goal.invariant_of-self-in-Ok
@@ -14,15 +15,33 @@ invariant_of-self-in-Ok g c =
     let w = c.in-Ok.ensures in
     let boot = boot_of c.remount.new.self.records c.args.places in
     let tells = boot_of-places c.remount.new.self.records c.args.places in
-    rw (w.ok.0, w.number, w.based, w.ok.0) (KeepsLedger-read _ _ _ _ _ _ _ _ _ _
-    (IsRead-mark _ _ _ boot c.issues_of-issues.ensures.issues c.issues_of-issues.ensures.few (base_then-within c.args.rebases c.remount.new.self.base _ _ (let before = rw (← c.self.view_is) at c.newest-before.ensures in let longer = longer-possible _ _ _ c.in_default.ensures.ok in omega (arith, before.within, before.number, longer.0, c.remount.ensures.base))) (boot-issues_none boot _ tells) (boot-ends boot _ tells) (boot-marks boot _ tells)) w.ok.2)
+    rw (w.ok.0, w.number, w.based, w.ok.0) (
+      KeepsLedger-read _ _ _ _ _ _ _ _ _ _
+          (IsRead-mark _ _ _ boot c.issues_of-issues.ensures.issues c.issues_of-issues.ensures.few (base_then-within c.args.rebases c.remount.new.self.base _ _ (let before = rw (← c.self.view_is) at c.newest-before.ensures in let longer = longer-possible _ _ _ c.in_default.ensures.ok in omega (arith, before.within, before.number, longer.0, c.remount.ensures.base))) (boot-issues_none boot _ tells) (boot-ends boot _ tells) (boot-marks boot _ tells)) w.ok.2,
+      rw c.remount.ensures.base (tells-restored c.self.inside.units c.args.rebases c.self.inside.journal.base c.self.inside.journal.records c.remount.new.self.records c.args.places _ _ c.in_default.ensures.ok c.self.invariant.1 w.ok.2),
+    )
+
+pub invariant_of-self-in-Err-Full : goal.invariant_of-self-in-Err-Full
+invariant_of-self-in-Err-Full g c =
+    let e = c.in-Err-Full.ensures in
+    let none = (e.mounted (ap Err c.in-Err-Full.field-0-is)).1 ∙ c.in_default.ensures.opened.1 in
+    let led = rw (← c.self.view_is) at c.newest-before.ensures.led in (
+      record { read = λ still booted. cc; lives = λ booted. cc; doubts = rw none (λ n is. cc) },
+      rw (e.same, e.base, c.remount.ensures.base) (tells-missing c.self.inside.units c.args.rebases c.self.inside.journal.base c.self.inside.journal.records c.remount.new.self.records _ _ led c.in_default.ensures.ok c.self.invariant.1 none),
+    )
 
 pub invariant_of-self-in-Err-Disk : goal.invariant_of-self-in-Err-Disk
-invariant_of-self-in-Err-Disk g c = record {
-  read = search rules;
-  lives = λ booted. rw c.in-Err-Disk.ensures.same (c.live_found-self-inside.ensures (rw ((rw (← c.self.view_is) at c.newest-before.ensures.number), front-possible _ _ _ c.in_default.ensures.ok) (c.self.invariant.lives booted)));
-  doubts = rw (c.in-Err-Disk.ensures.in_doubt (ap Err c.in-Err-Disk.field-0-is)).1 (boot_of-doubts _ _ _);
-}
+invariant_of-self-in-Err-Disk g c =
+    let e = c.in-Err-Disk.ensures in
+    let doubt = (e.in_doubt (ap Err c.in-Err-Disk.field-0-is)).1 in
+    let led = rw (← c.self.view_is) at c.newest-before.ensures.led in (
+      record {
+        read = search rules;
+        lives = λ booted. rw e.same (c.live_found-self-inside.ensures (rw ((rw (← c.self.view_is) at c.newest-before.ensures.number), front-possible _ _ _ c.in_default.ensures.ok) (c.self.invariant.0.lives booted)));
+        doubts = rw doubt (boot_of-doubts _ _ _);
+      },
+      rw (e.same, e.base, c.remount.ensures.base) (tells-doubted c.self.inside.units c.args.rebases c.self.inside.journal.base c.self.inside.journal.records c.remount.new.self.records c.args.places _ _ led c.in_default.ensures.ok c.self.invariant.1 doubt),
+    )
 
 pub returns-in-Err-Full-clause-full : goal.returns-in-Err-Full-clause-full
 returns-in-Err-Full-clause-full g c = rw (← c.self.view_is) (λ full.
