@@ -1,0 +1,12 @@
+pub mod Once
+pub mod Pairs
+pub mod Places
+pub mod PutOut
+pub mod Rising
+pub mod Segmented
+pub mod Shares
+pub mod Spelling
+pub mod Summing
+pub mod Telling
+pub mod Texts
+pub mod Valued
