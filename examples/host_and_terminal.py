@@ -1,5 +1,6 @@
 #!/usr/bin/env python3
-"""A bank's host and a terminal of another make: a withdrawal from `xfs serve`, by docs/TOKEN.md and docs/MESSAGES.md alone.
+"""A bank's host and a terminal of another make: a withdrawal from `xfs serve`, and what the machine says it presented, by
+docs/TOKEN.md and docs/MESSAGES.md alone.
 
     ../xfs serve 1                     # in one window: it says when it listens, and ends with this connection, or by Ctrl-C
     ./host_and_terminal.py [amount]    # in another; EUR 70 where none is given
@@ -13,6 +14,8 @@ import importlib.metadata
 import itertools
 import json
 import pathlib
+import re
+import secrets
 import sys
 
 try:
@@ -28,10 +31,11 @@ except ImportError:
 
 CASH = "ws://127.0.0.1:5849/xfs4iot/v1.0/cashdispenser"
 HMAC_BYTES = len(",HMACSHA256=") + 64
+EVIDENCE = re.compile(r"NONCE=([0-9A-F]+),TOKENFORMAT=1,TOKENLENGTH=([0-9]{4}),ISSUE=([1-9][0-9]*)((,PRESENTED[1-8]=[0-9]+\.[0-9]{2}[A-Z]{3})*)")
 
 
 class Host:
-    """It has the key, and allows an amount to be put out."""
+    """It has the key, allows an amount to be put out, and reads what the machine says it presented."""
 
     def __init__(self, key):
         self.key = key
@@ -40,7 +44,18 @@ class Host:
         """A token that carries the nonce; the HMAC covers all bytes before it."""
         parts = f"NONCE={nonce},TOKENFORMAT=1,TOKENLENGTH=%04d,DISPENSE1={amount}.00EUR"
         covered = parts % (len(parts % 0) + HMAC_BYTES)
+        return self.sealed(covered)
+
+    def sealed(self, covered):
         return f"{covered},HMACSHA256={hmac.new(self.key, covered.encode(), hashlib.sha256).hexdigest().upper()}"
+
+    def read(self, asked, token):
+        """The number of the last nonce and the amounts presented for it; None where the token isn't the machine's answer to this nonce."""
+        covered = token[:-HMAC_BYTES]
+        told = EVIDENCE.fullmatch(covered)
+        if not told or told[1] != asked or int(told[2]) != len(token) or not hmac.compare_digest(self.sealed(covered).encode(), token.encode()):
+            return None
+        return int(told[3]), [pair.split("=")[1] for pair in told[4].split(",")[1:]]
 
 
 class Terminal:
@@ -71,6 +86,18 @@ class Terminal:
         sys.exit("the dispenser closed the connection")
 
 
+async def present_status(host, terminal, nonce):
+    """What the machine presented for this nonce. The terminal carries the answer and can't make it: it has no key, and the ask is new."""
+    asked = secrets.token_hex(16).upper()
+    told = host.read(asked, (await terminal.ask("CashDispenser.GetPresentStatus", {"nonce": asked}))["presentStatus"]["token"])
+    if told is None:
+        sys.exit("that is not the machine's answer")
+    issue, amounts = told
+    if issue != int(nonce[-16:], 16):
+        sys.exit(f"the last nonce is number {issue}: of this one the journal tells")
+    return amounts
+
+
 async def main():
     amount = int(sys.argv[1]) if len(sys.argv) > 1 else 70
     file = pathlib.Path("xfs.key")
@@ -81,6 +108,8 @@ async def main():
         token = host.mint(nonce, amount)
         await terminal.ask("CashDispenser.Dispense", {"denomination": {"currencies": {"EUR": amount}}, "mix": "minimum", "token": token})
         await terminal.ask("CashDispenser.Present", {})
+        amounts = await present_status(host, terminal, nonce)
+    print(f"the machine presented {', '.join(amounts)}")
     print(f"EUR {amount} put out")
 
 

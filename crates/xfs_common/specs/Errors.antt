@@ -1,7 +1,7 @@
 -- The texts of the errors that commands complete with.
 use Rattle.std.specs.Prelude.{ℕ, List, codes}
 use Rattle.xfs_common.specs.declared.error.ErrorCode.{ErrorCode}
-use Rattle.xfs_common.specs.declared.error.ErrorCode.TheVariants.{ExchangeActive, NoItems, NotDispensable, TooManyItems, InvalidCurrency, InvalidDenomination, NoExchangeActive, InvalidUnit, StorageFull, NoMatchingRequestIds, NoMedia}
+use Rattle.xfs_common.specs.declared.error.ErrorCode.TheVariants.{ExchangeActive, NoItems, NotDispensable, TooManyItems, InvalidCurrency, InvalidDenomination, NoExchangeActive, InvalidUnit, StorageFull, NoMatchingRequestIds, NoMedia, NoIssue, Unsettled}
 
 abbrev pub error_text : ErrorCode → List ℕ
 error_text ExchangeActive = codes "exchangeActive"
@@ -15,3 +15,5 @@ error_text InvalidUnit = codes "invalidUnit"
 error_text StorageFull = codes "storageFull"
 error_text NoMatchingRequestIds = codes "noMatchingRequestIDs"
 error_text NoMedia = codes "noMedia"
+error_text NoIssue = codes "noIssue"
+error_text Unsettled = codes "unsettled"

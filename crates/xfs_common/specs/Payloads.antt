@@ -57,6 +57,9 @@ is_upper_hex b = is_in_range 48 57 b || is_in_range 65 70 b
 abbrev pub nonce_payload : List ℕ → Data
 nonce_payload text = only (codes "commandNonce") (string text)
 
+abbrev pub present_status_payload : List ℕ → Data
+present_status_payload token = only (codes "presentStatus") (only (codes "token") (string token))
+
 abbrev pub record_payload : ℕ → Data
 record_payload since = only (codes "journalRecord") (number (unsigned since))
 

@@ -27,6 +27,10 @@ pub enum ErrorCode {
     NoMatchingRequestIds,
     /// There is no card where the command needs one.
     NoMedia,
+    /// No nonce was issued since the machine's last start.
+    NoIssue,
+    /// Of an order to present under the last nonce it isn't known what it put out.
+    Unsettled,
 }
 
 impl ErrorCode {
@@ -46,6 +50,8 @@ impl ErrorCode {
             ErrorCode::StorageFull => "storageFull",
             ErrorCode::NoMatchingRequestIds => "noMatchingRequestIDs",
             ErrorCode::NoMedia => "noMedia",
+            ErrorCode::NoIssue => "noIssue",
+            ErrorCode::Unsettled => "unsettled",
         }
     }
 }

@@ -8,4 +8,6 @@ mod payloads;
 
 pub use cancel::{CancelWhat, ReadFail, read_cancel};
 pub use error::ErrorCode;
-pub use payloads::{Fit2, capabilities, error_code, nonce, nothing, record_note, services, status};
+pub use payloads::{
+    Fit2, capabilities, error_code, nonce, nothing, present_status, record_note, services, status,
+};

@@ -1,8 +1,9 @@
 ghost use Rattle.std.specs.Prelude.{◌≡◌, codes, IfOk, IsTrue};
 ghost use Rattle.std.specs.List.{list_all};
+ghost use Rattle.std.specs.Str.{IsUtf8};
 ghost use Rattle.serde_json.specs.Data.{object, member, no_members};
 ghost use Rattle.serde_json.specs.View.{view};
-ghost use Rattle.xfs_common.specs.Payloads.{status_payload, device_state, capabilities_payload, dispenser_security, services_payload, service_entry, is_upper_hex, nonce_payload, record_payload, error_payload};
+ghost use Rattle.xfs_common.specs.Payloads.{status_payload, device_state, capabilities_payload, dispenser_security, services_payload, service_entry, is_upper_hex, nonce_payload, present_status_payload, record_payload, error_payload};
 
 use serde_json::{Value, json, put};
 use std::alloc::{AllocError, Global};
@@ -110,6 +111,27 @@ fn digits(text: &[u8; 32]) -> &str
     ensures { result.now ≡ text.now }
 {
     match str::from_utf8(text) {
+        Ok(text) => text,
+        Err(_) => unreachable!(),
+    }
+}
+
+/// The payload of CashDispenser.GetPresentStatus: the token that tells what was presented.
+pub fn present_status(alloc: Global, token: &[u8]) -> Result<Value, Memory>
+    requires { IsUtf8 token.now }
+    ensures { IfOk result (λ v. view v ≡ present_status_payload token.now) }
+{
+    let status = json!(in alloc; {"token": text_of(token)})?;
+    let mut members = Map::new(alloc);
+    put(&mut members, alloc, "presentStatus", status)?;
+    Ok(Value::Object(members))
+}
+
+fn text_of(bytes: &[u8]) -> &str
+    requires { IsUtf8 bytes.now }
+    ensures { result.now ≡ bytes.now }
+{
+    match str::from_utf8(bytes) {
         Ok(text) => text,
         Err(_) => unreachable!(),
     }

@@ -10,6 +10,7 @@ pub mod Laws
 pub mod LifeLaws
 pub mod Places
 pub mod Posting
+pub mod Presents
 pub mod Withdrawn
 pub mod NonceLaws
 pub mod NonceTexts

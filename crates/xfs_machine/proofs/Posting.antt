@@ -1,5 +1,5 @@
 -- What becomes of a text, from what was sent and what was done with the pending commands.
-use Rattle.std.proofs.Common.{◌≡◌, ℕ, true, false, not, codes, List, [], ◌∷◌, ◌++◌, Option, None, Some, Result, Ok, Err, refl, ap, sym, ◌∙◌}
+use Rattle.std.proofs.Common.{◌≡◌, ℕ, Bool, ◌&&◌, true, false, not, codes, List, [], ◌∷◌, ◌++◌, Option, None, Some, Result, Ok, Err, refl, ap, sym, ◌∙◌}
 use Rattle.std.specs.Prelude.{count_by, length, nat_le}
 use Rattle.std.specs.List.{list_any}
 use Rattle.std.specs.Str.{bytes_eq}
@@ -18,7 +18,10 @@ use Rattle.xfs_machine.specs.Seats.{IsCompleted, IsRefused, with_both}
 use Rattle.xfs_machine.specs.declared.post.Seat.{Seat}
 use Rattle.xfs_model.specs.Commands.{Asks, line_of}
 use Rattle.xfs_model.specs.Frames.{IsAcknowledge}
-use Rattle.xfs_model.specs.Immediate.{AtOnce, canceling, done_at_once, ids_of, stopped, told_of}
+use Rattle.xfs_model.specs.Immediate.{AtOnce, ComesTo, canceling, done_at_once, ids_of, stopped, told_of}
+use Rattle.xfs_model.specs.Connections.{is_service}
+use Rattle.xfs_model.specs.PresentStatus.{TellsPresented, is_present_status, nonce_in}
+use Rattle.xfs_base.specs.declared.moment.Service.TheVariants.{Cash}
 use Rattle.xfs_model.specs.Pendings.{pending_in}
 use Rattle.xfs_model.specs.Posts.{Accepts, DoesAtOnce, Refuses, Takes, is_crowded, job_of}
 use Rattle.xfs_model.specs.Results.{error, plain, success}
@@ -32,6 +35,10 @@ use Rattle.xfs_base.specs.declared.moment.ClientId.{ClientId}
 use Rattle.xfs_model.proofs.Pendings.{is_pending_there}
 use Rattle.std.proofs.lemmas.Bool.{or_parts}
 use Rattle.xfs_model.proofs.Queues.{with_same_queue}
+
+and_false : (b : Bool) → (b && false) ≡ false
+and_false true = refl
+and_false false = refl
 
 module _ (s : State) (k : Connection) (seat : Seat) (client : k.client ≡ seat.client) (service : k.service ≡ seat.service) where
   pub refuses : (id : Option ℕ) (name : Option (List ℕ)) (why : Status) (ks ks' : List Connection) (qs : Queues) → IsRefused seat id name why ks ks'
@@ -87,25 +94,44 @@ module _ (s : State) (k : Connection) (seat : Seat) (client : k.client ≡ seat.
         ∙ ap (λ q. with_both s (mailed seat (reply ∷ []) ks) q) (f ∙ ap (λ m. with_queue qs seat.service (queue_of qs seat.service ++ offered seat.client c.id line c.timeout m (job_of c.name ask) ∷ [])) (sym at)));
   }
 
-  pub does : (c : envelope.Command) (did : AtOnce) (ks ks' : List Connection) (qs qs' : Queues) → done_at_once (with_both s ks qs) k c ≡ did
-      → IsCompleted seat c did.result ks ks' → qs' ≡ with_queue qs seat.service did.queue → DoesAtOnce (with_both s ks qs) k c (with_both s ks' qs')
-  does c did ks ks' qs qs' comes is f = record {
+  -- the result, whatever it rests on, and the pending commands then
+  comes_ : (c : envelope.Command) (did : AtOnce) (result : Outcome) (ks ks' : List Connection) (qs qs' : Queues) → done_at_once (with_both s ks qs) k c ≡ did → ComesTo (with_both s ks qs) k c result
+      → IsCompleted seat c result ks ks' → qs' ≡ with_queue qs seat.service did.queue → DoesAtOnce (with_both s ks qs) k c (with_both s ks' qs')
+  comes_ c did result ks ks' qs qs' does comes is f = record {
     reply = is.reply;
     last = is.last;
+    result = result;
+    comes = comes;
     acknowledges = is.acknowledges;
-    completes = rw comes is.completes;
-    is = rw (comes, client, service) (ap (λ l. with_both s l qs') is.is ∙ ap (λ q. with_both s (mailed seat (is.reply ∷ is.last ∷ []) ks) q) f);
+    completes = is.completes;
+    is = rw (does, client, service) (ap (λ l. with_both s l qs') is.is ∙ ap (λ q. with_both s (mailed seat (is.reply ∷ is.last ∷ []) ks) q) f);
   }
 
-  pub tells : (c : envelope.Command) (result : Outcome) (ks ks' : List Connection) (qs : Queues) → bytes_eq c.name (codes "Common.Cancel") ≡ false → result ≡ told_of (with_both s ks qs) seat.service c.name
+  pub does : (c : envelope.Command) (did : AtOnce) (ks ks' : List Connection) (qs qs' : Queues) → is_present_status seat.service c.name ≡ false → done_at_once (with_both s ks qs) k c ≡ did
+      → IsCompleted seat c did.result ks ks' → qs' ≡ with_queue qs seat.service did.queue → DoesAtOnce (with_both s ks qs) k c (with_both s ks' qs')
+  does c did ks ks' qs qs' other comes is f =
+      let here : is_present_status k.service c.name ≡ false = rw service other in
+      comes_ c did did.result ks ks' qs qs' comes (rw here (rw comes refl)) is f
+
+  pub tells : (c : envelope.Command) (result : Outcome) (ks ks' : List Connection) (qs : Queues) → is_present_status seat.service c.name ≡ false → bytes_eq c.name (codes "Common.Cancel") ≡ false → result ≡ told_of (with_both s ks qs) seat.service c.name
       → IsCompleted seat c result ks ks' → DoesAtOnce (with_both s ks qs) k c (with_both s ks' qs)
-  tells c result ks ks' qs other told is =
-      does c (record { result = result; queue = queue_of qs seat.service }) ks ks' qs qs (rw (other, told, service) refl) is (sym (with_same_queue qs seat.service))
+  tells c result ks ks' qs elsewhere other told is =
+      does c (record { result = result; queue = queue_of qs seat.service }) ks ks' qs qs elsewhere (rw (other, told, service) refl) is (sym (with_same_queue qs seat.service))
+
+  pub tells_presents : (c : envelope.Command) (result : Outcome) (ks ks' : List Connection) (qs : Queues) → is_present_status seat.service c.name ≡ true → bytes_eq c.name (codes "Common.Cancel") ≡ false
+      → TellsPresented s.seen.guard (nonce_in c.payload) result → IsCompleted seat c result ks ks' → DoesAtOnce (with_both s ks qs) k c (with_both s ks' qs)
+  tells_presents c result ks ks' qs named other tells is =
+      let here : is_present_status k.service c.name ≡ true = rw service named in
+      comes_ c (record { result = told_of (with_both s ks qs) seat.service c.name; queue = queue_of qs seat.service }) result ks ks' qs qs (rw (other, service) refl) (rw here tells) is (sym (with_same_queue qs seat.service))
+
+  -- a Cancel asks for no status of presents
+  elsewhere : (c : envelope.Command) → c.name ≡ codes "Common.Cancel" → is_present_status seat.service c.name ≡ false
+  elsewhere c name = rw name (and_false (is_service Cash seat.service))
 
   cancels : (c : envelope.Command) (ids : Result (Option (List ℕ)) Shape) (did : AtOnce) (ks ks' : List Connection) (qs qs' : Queues) → c.name ≡ codes "Common.Cancel" → request_ids c.payload ≡ ids
       → canceling (queue_of qs seat.service) seat.client ids ≡ did
       → IsCompleted seat c did.result ks ks' → qs' ≡ with_queue qs seat.service did.queue → DoesAtOnce (with_both s ks qs) k c (with_both s ks' qs')
-  cancels c ids did ks ks' qs qs' name asks comes is f = does c did ks ks' qs qs' (rw (name, asks, client, service) comes) is f
+  cancels c ids did ks ks' qs qs' name asks comes is f = does c did ks ks' qs qs' (elsewhere c name) (rw (name, asks, client, service) comes) is f
 
   pub cancels_badly : (c : envelope.Command) (shape : Shape) (ks ks' : List Connection) (qs : Queues) → c.name ≡ codes "Common.Cancel" → request_ids c.payload ≡ Err shape
       → IsCompleted seat c (plain InvalidData) ks ks' → DoesAtOnce (with_both s ks qs) k c (with_both s ks' qs)

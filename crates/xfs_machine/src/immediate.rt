@@ -23,6 +23,7 @@ ghost use Rattle.xfs_queue.specs.Queue.{is_named};
 use crate::connections::{Connections, is_service};
 use crate::job::{Job, Outcome};
 use crate::post::{Seat, accepted};
+use crate::present_status::{is_present_status, told_present_status};
 use crate::queues::Queues;
 use std::alloc::Global;
 use xfs_base::{Bytes, ClientId, Memory, Service};
@@ -53,6 +54,10 @@ pub(crate) fn do_at_once<M: Mechanism, D: Disk>(
 {
     if command.name.as_str() == "Common.Cancel" {
         return cancel(alloc, connections, queues, seat, command);
+    }
+    if is_present_status(seat.service, command.name.as_str()) {
+        let outcome = told_present_status(alloc, guard, &command.payload)?;
+        return complete(alloc, connections, seat, command, &outcome);
     }
     let outcome = told(alloc, guard, seat.service, command.name.as_str())?;
     complete(alloc, connections, seat, command, &outcome)

@@ -22,6 +22,7 @@ mod notices;
 mod pass;
 mod plan;
 mod post;
+mod present_status;
 mod queues;
 mod reading;
 mod reboot;

@@ -104,8 +104,8 @@ module _ (s : State) (pass : Pass) (text : List ℕ) (k : Connection) (found : c
   at_once c reads right new is = rw (is.is) (post_desk s pass text k found named (is.reply ∷ is.last ∷ []) (done_at_once s k c).queue mine ts fs
       (λ me same heard talks. rw (pending_at_once me s k c) (completed_at_once ts heard (pending_in me q) text is.reply is.last talks (record {
         command = c;
-        code = (done_at_once s k c).result.code;
-        payload = (done_at_once s k c).result.payload;
+        code = is.result.code;
+        payload = is.result.payload;
         asks = reads;
         right = rw (pending_same me k.client q same) right;
         accepts = is.acknowledges.reads_back;

@@ -1,6 +1,6 @@
 -- Each frame that a step sends, and each result that it makes, tells what stands in the journal.
 use Rattle.std.proofs.Common.{◌≡◌, ℕ, ◌+◌, ◌==◌, ◌&&◌, not, Bool, true, false, cond, MatchBool, MatchOption, List, [], ◌∷◌, Option, None, Some, Result, Ok, Err, length, map, All, codes, refl, ap, sym, subst}
-use Rattle.std.specs.Prelude.{⊤}
+use Rattle.std.specs.Prelude.{⊤, drop}
 use Rattle.std.specs.List.{list_any}
 use Rattle.std.specs.Option.{IfSome, option_and_then}
 use Rattle.std.specs.Str.{bytes_eq}
@@ -14,7 +14,7 @@ use Rattle.xfs_base.specs.declared.moment.Service.TheVariants.{Publisher, Card, 
 use Rattle.xfs_card.specs.Table as card_reader
 use Rattle.xfs_card.specs.declared.state.CardEvent.TheVariants as card_event
 use Rattle.xfs_common.specs.Cancel.{request_ids}
-use Rattle.xfs_common.specs.Payloads.{capabilities_payload, nothing, services_payload, status_payload}
+use Rattle.xfs_common.specs.Payloads.{capabilities_payload, nothing, present_status_payload, services_payload, status_payload}
 use Rattle.xfs_common.specs.declared.error.ErrorCode.TheVariants.{NoMatchingRequestIds}
 use Rattle.xfs_common.specs.declared.payloads.Fit2.{Fit2}
 use Rattle.xfs_conversation.specs.Pending.{is_wrong_id}
@@ -50,7 +50,11 @@ use Rattle.xfs_model.specs.Devices.{Hears, Saying, card_says, device_stopped, ke
 use Rattle.xfs_model.specs.Events.{Answer, Event, join, post, touch, work, outbox, leave, restart, end_, finish, joined, full, done, handed, restarted, unrestarted, ended, unsettled}
 use Rattle.xfs_model.specs.Frames.{Announces, AreEvents, IsAcknowledge, IsCompletion, IsUnsolicited, Notice}
 use Rattle.xfs_model.specs.Guards.{NonceCommand, cleared_, issued, none_to_clear, refused, uncleared, unissued}
-use Rattle.xfs_model.specs.Immediate.{AtOnce, canceling, done_at_once, health_of, ids_of, told_of}
+use Rattle.xfs_model.specs.Immediate.{AtOnce, ComesTo, canceling, done_at_once, health_of, ids_of, told_of}
+use Rattle.xfs_model.specs.PresentStatus.{TellsPresented, TellsUnless, is_present_status, nonce_in}
+use Rattle.xfs_evidence.specs.Evidence.{evidence_refusal}
+use Rattle.xfs_evidence.specs.declared.faults.EvidenceFault.{EvidenceFault}
+use Rattle.xfs_evidence.specs.declared.faults.EvidenceFault.TheVariants.{NoIssue, Unsettled, Memory}
 use Rattle.xfs_model.specs.Kept.{IsMachine}
 use Rattle.xfs_model.specs.Pendings.{pending_in}
 use Rattle.xfs_model.specs.Posts.{Accepts, Refuses, Takes, TakesOn, is_crowded}
@@ -189,6 +193,23 @@ module _ (records : List Rec) where
       go true = canceling_stands (queue_at s k.service) k.client (request_ids c.payload)
       go false = told_stands s k.service c.name
 
+  presented_stands : (v : View) (text : List ℕ) (result : Outcome) (why : Option EvidenceFault) → TellsUnless v text result why → Stands records result.payload
+  presented_stands v text result None tells = rw (tells.is) (silent records (present_status_payload tells.token) refl refl)
+  presented_stands v text result (Some NoIssue) tells = rw tells (error_stands records _)
+  presented_stands v text result (Some (Unsettled order)) tells = rw tells (error_stands records _)
+  presented_stands v text result (Some Memory) tells = absurd tells
+
+  status_of_present_stands : (v : View) (text : Option (List ℕ)) (result : Outcome) → TellsPresented v text result → Stands records result.payload
+  status_of_present_stands v None result tells = rw tells (nothing_stands records)
+  status_of_present_stands v (Some text) result tells = presented_stands v text result (evidence_refusal v.base (drop v.base v.records)) tells
+
+  comes_stands : (s : State) (k : Connection) (c : envelope.Command) (result : Outcome) → ComesTo s k c result → Stands records result.payload
+  comes_stands s k c result comes = go (is_present_status k.service c.name) comes
+    where
+      go : (b : Bool) → MatchBool b (TellsPresented s.seen.guard (nonce_in c.payload) result) (result ≡ (done_at_once s k c).result) → Stands records result.payload
+      go true tells = status_of_present_stands s.seen.guard (nonce_in c.payload) result tells
+      go false is = rw is (at_once_stands s k c)
+
   -- all that waits tells what stands
   abbrev FramesTell : State → Type 0
   FramesTell s = All (λ k. All (Tells records) k.waiting) s.connections
@@ -277,7 +298,7 @@ module _ (records : List Rec) (s new : State) (h : FramesTell records s) (result
 
   takes_on : (k : Connection) (c : envelope.Command) (line : Option Line) → TakesOn s k c line new → FramesTell records new
   takes_on k c None is =
-      let last = completion_tells records c.id c.name _ _ is.last is.completes (at_once_stands records s k c) in
+      let last = completion_tells records c.id c.name _ _ is.last is.completes (comes_stands records s k c is.result is.comes) in
       rw (is.is) (sent_tell records s k.service k.client (is.reply ∷ is.last ∷ [])
       (All-cons (Tells records) is.reply (is.last ∷ []) (acknowledge_tells records _ _ _ is.reply is.acknowledges) (one_frame is.last last)) h)
   takes_on k c (Some line) is = of_room (is_crowded (queue_at s k.service) k.client) is

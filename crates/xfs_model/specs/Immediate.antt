@@ -1,5 +1,5 @@
 -- The commands that are done at once: none of them changes the guard or a device, and a Cancel alone changes other commands.
-use Rattle.std.specs.Prelude.{ℕ, List, map, codes, ◌&&◌, Option, None, Some, Result, Ok, Err, if◌then◌else◌}
+use Rattle.std.specs.Prelude.{◌≡◌, ℕ, List, map, codes, ◌&&◌, Option, None, Some, Result, Ok, Err, MatchBool, if◌then◌else◌}
 use Rattle.std.specs.List.{list_any}
 use Rattle.std.specs.Str.{bytes_eq}
 use Rattle.xfs_base.specs.declared.moment.ClientId.{ClientId}
@@ -21,6 +21,7 @@ use Rattle.xfs_queue.specs.Queue.{canceled, is_named}
 use Rattle.xfs_units.specs.Payloads.{storage_payload}
 use Rattle.xfs_model.specs.Connections.{is_service}
 use Rattle.xfs_model.specs.Guards.{is_fit}
+use Rattle.xfs_model.specs.PresentStatus.{TellsPresented, is_present_status, nonce_in}
 use Rattle.xfs_model.specs.Results.{plain, success, error, with_result}
 use Rattle.xfs_model.specs.State.{Connection, Job, Outcome, State, queue_at}
 
@@ -65,3 +66,9 @@ abbrev pub done_at_once : State → Connection → envelope.Command → AtOnce
 done_at_once s k c = if bytes_eq c.name (codes "Common.Cancel")
     then canceling (queue_at s k.service) k.client (request_ids c.payload)
     else record { result = told_of s k.service c.name; queue = queue_at s k.service }
+
+-- the result of a command that is done at once; GetPresentStatus tells a token, which is told by what is read in it
+abbrev pub ComesTo : State → Connection → envelope.Command → Outcome → Type 0
+ComesTo s k c result = MatchBool (is_present_status k.service c.name)
+    (TellsPresented s.seen.guard (nonce_in c.payload) result)
+    (result ≡ (done_at_once s k c).result)

@@ -16,6 +16,7 @@ pub mod Laws
 pub mod Moved
 pub mod Pendings
 pub mod Posts
+pub mod PresentStatus
 pub mod Results
 pub mod Runs
 pub mod Sound

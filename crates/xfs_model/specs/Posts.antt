@@ -14,9 +14,9 @@ use Rattle.xfs_queue.specs.Queue.{offered}
 use Rattle.xfs_model.specs.Commands.{Asks, line_of}
 use Rattle.xfs_model.specs.Connections.{sent, with_queue_at}
 use Rattle.xfs_model.specs.Frames.{IsAcknowledge, IsCompletion}
-use Rattle.xfs_model.specs.Immediate.{done_at_once}
+use Rattle.xfs_model.specs.Immediate.{ComesTo, done_at_once}
 use Rattle.xfs_model.specs.Pendings.{pending_in}
-use Rattle.xfs_model.specs.State.{Ask, Connection, Job, State, queue_at}
+use Rattle.xfs_model.specs.State.{Ask, Connection, Job, Outcome, State, queue_at}
 
 -- 32 commands are pending on the connection, or 256 at the service
 abbrev pub is_crowded : List (Command Job) → ClientId → Bool
@@ -32,8 +32,10 @@ pub record Refuses (s : State) (k : Connection) (id : Option ℕ) (name : Option
 pub record DoesAtOnce (s : State) (k : Connection) (c : envelope.Command) (new : State) : Type 0 where
   pub reply : List ℕ
   pub last : List ℕ
+  pub result : Outcome
+  pub comes : ComesTo s k c result
   pub acknowledges : IsAcknowledge (Some c.id) (Some c.name) None reply
-  pub completes : IsCompletion c.id c.name (done_at_once s k c).result.code (done_at_once s k c).result.payload last
+  pub completes : IsCompletion c.id c.name result.code result.payload last
   pub is : new ≡ with_queue_at (sent s k.service k.client (reply ∷ last ∷ [])) k.service (done_at_once s k c).queue
 
 -- a command as it is accepted
