@@ -1,4 +1,12 @@
 pub mod Choices
+mod Adding
+mod Choosing
+mod Counting
+mod Hearing
+mod Resting
+mod Splitting
+mod Stepping
+mod Unended
 pub mod Claiming
 pub mod Ends
 pub mod Findings

@@ -1,6 +1,9 @@
 pub mod Claims
+pub mod Conversing
+pub mod Fitting
 pub mod Flow
 pub mod Paying
 pub mod Reading
 pub mod Told
 pub mod Verdicts
+pub mod Ways
