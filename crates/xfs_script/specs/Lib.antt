@@ -6,6 +6,7 @@ pub mod Counts
 pub mod Dispense
 pub mod Endings
 pub mod Fields
+pub mod FleetLines
 pub mod Found
 pub mod Guard
 pub mod HostLines

@@ -12,7 +12,7 @@ use xfs_base::{Bytes, Counts};
 use xfs_token::Amounts;
 
 /// A line of the command `guard`: its verb with its fields.
-#[derive(Debug, Drop)]
+#[derive(Drop)]
 pub enum GuardLine {
     /// An empty line or a comment. It has no answer.
     Skip,
@@ -31,7 +31,7 @@ pub enum GuardLine {
 }
 
 /// The token of a `dispense` line.
-#[derive(Debug, Drop)]
+#[derive(Drop)]
 pub enum Given {
     /// `@`, the last token that was minted.
     Last,

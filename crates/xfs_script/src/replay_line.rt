@@ -15,7 +15,7 @@ use xfs_token::Amounts;
 
 /// A line of the command `replay`: its verb with its fields. Clients have the numbers that the
 /// script gives them, from 1 to 999.
-#[derive(Debug, Drop)]
+#[derive(Drop)]
 pub enum ReplayLine {
     /// An empty line or a comment. It has no answer.
     Skip,

@@ -5,8 +5,8 @@ ghost use Rattle.xfs_script.specs.Words.{IsSkipped};
 
 use memchr::memchr;
 
-// An empty line, or a comment.
-pub(crate) fn is_skipped(text: &[u8]) -> bool
+/// Whether a line is empty or a comment, which no command answers.
+pub fn is_skipped(text: &[u8]) -> bool
     ensures { IsTrue result ↔ IsSkipped text.now }
 {
     match text {
@@ -21,8 +21,8 @@ pub(crate) fn is_word(text: &[u8], word: &[u8]) -> bool
     text == word
 }
 
-// What stands behind these bytes.
-pub(crate) fn field_of<'a>(text: &'a [u8], front: &[u8]) -> Option<&'a [u8]>
+/// What stands behind these bytes, where the text begins with them.
+pub fn field_of<'a>(text: &'a [u8], front: &[u8]) -> Option<&'a [u8]>
     ensures found { IfSome result (λ field. text.now ≡ front.now ++ field.now) }
     ensures none { IfNone result ((field : List ℕ) → ¬ (text.now ≡ front.now ++ field)) }
 {

@@ -1,0 +1,4 @@
+pub mod Boots
+pub mod Endings
+pub mod FleetView
+pub mod Lending

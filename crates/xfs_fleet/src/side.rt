@@ -1,0 +1,6 @@
+/// One of the two machines of a fleet.
+#[derive(Clone, Copy)]
+pub enum Side {
+    A,
+    B,
+}
