@@ -73,9 +73,9 @@ fn serve<R: Threads + Wait + Sync>(
     };
     doors.close_after(connections);
     let disk = FileDisk::new(folder.journal()?);
-    tell_listening(host, &doors.ports(), &secrets);
-    tell_open_files(host, &folder)?;
     let bench = server_bench(alloc, disk, secrets, setup)?;
+    tell_listening(host, &doors.ports(), &bench.core.key);
+    tell_open_files(host, &folder)?;
     let (status, _) = run_over(rt, host, words, bench, &clock, &mut doors);
     Ok(status)
 }

@@ -6,7 +6,7 @@ use std::{env, io};
 use xfs_cli::status::NO_MEMORY;
 use xfs_envelope::{Answer, Code, read_answer};
 use xfs_json::words;
-use xfs_simulated::{OWN, Secrets};
+use xfs_simulated::OWN;
 use xfs_sockets::Ports;
 use xfs_start::{Folder, JOURNAL_FILE, KEY_FILE, SEED_FILE, StartFault};
 
@@ -69,14 +69,14 @@ pub fn tell_fault(rt: &HostRuntime, fault: StartFault) -> u8 {
 }
 
 /// Tells that `serve` listens: at which addresses, with which journal, and under whose key.
-pub fn tell_listening(rt: &HostRuntime, ports: &Ports, secrets: &Secrets) {
+pub fn tell_listening(rt: &HostRuntime, ports: &Ports, key: &[u8; 32]) {
     let Ports {
         publisher,
         card,
         keys,
         cash,
     } = ports;
-    let whose = if secrets.key == OWN.key {
+    let whose = if *key == OWN.key {
         "the public key of the examples"
     } else {
         KEY_FILE
