@@ -66,37 +66,58 @@ fn a_boot_over_a_file_finds_a_journal_or_none(rt: HostRuntime) -> Result<(), Fai
     Ok(())
 }
 
-// The older file has a Boot and the first nonce's Issue, which memory lets go; a Start comes behind them, and then the
-// second nonce.
-#[test]
-fn an_older_file_is_carried_over_by_a_boot(rt: HostRuntime) -> Result<(), Fail> {
+// The older file with the second nonce's Issue behind the first.
+fn with_two_nonces(alloc: Global) -> Result<Vec<u8>, Fail> {
+    let mut bytes = old_file(alloc)?;
+    bytes.pop();
+    bytes.extend_from_slice(b"\x01\0\x11I\0\0\0\0\0\0\0\x02\xB8\x19\xD2\xBD\x1A\xED\x8D\xA0\0")?;
+    Ok(bytes)
+}
+
+// Whether an older file of a Boot and so many nonces, which memory lets go, gets a Start that counts them and then the
+// next nonce.
+fn carries_over(rt: &HostRuntime, older: &[u8], issues: u8) -> Result<bool, Fail> {
     let alloc = rt.alloc();
-    fs::write(
-        &rt,
-        "xfs_acceptance_older.test",
-        old_file(alloc)?.as_slice(),
-    )?;
+    fs::write(rt, "xfs_acceptance_older.test", older)?;
     let units = units()?;
     let mech = sim(alloc, &units)?;
-    let disk = FileDisk::new(opened(&rt, "xfs_acceptance_older.test")?);
+    let disk = FileDisk::new(opened(rt, "xfs_acceptance_older.test")?);
     let mut guard = match Guard::boot(alloc, mech, disk, KEY, SEED, units, LIMITS) {
         Ok(guard) => guard,
         Err(fail) => return Err(fail.why.into()),
     };
-    let file = fs::read(&rt, "xfs_acceptance_older.test")?;
-    assert!(rt; file.len() == 429 && file.get(..8) == Some(b"XFSJRNL2".as_slice()));
-    assert_eq!(rt;
-        file.get(224..237),
-        Some(b"\x01\0\xC9\x4B\0\0\0\0\0\0\0\x01\0".as_slice())
-    );
-    assert!(rt; guard.base() == 2 && guard.issue()?.number == 2);
-    assert!(rt;
-        matches!(
-            guard.records(),
-            [Rec::Start { issues: 1, .. }, Rec::Issue { number: 2, .. }]
-        )
-    );
-    fs::remove_file(&rt, "xfs_acceptance_older.test")?;
+    let file = fs::read(rt, "xfs_acceptance_older.test")?;
+    fs::remove_file(rt, "xfs_acceptance_older.test")?;
+    let (base, issued) = (guard.base(), guard.issue()?.number);
+    let next = u64::from(issues) + 1;
+    let is_next = base == next && issued == next;
+    Ok(is_next && has_start(&file, older, issues) && goes_on_behind(guard.records(), issues.into()))
+}
+
+// The file is of version 2, and has such a Start in place of the closed gate at the end of the older one.
+fn has_start(file: &[u8], older: &[u8], issues: u8) -> bool {
+    let gate = older.len().saturating_sub(1);
+    let head = [1, 0, 0xC9, 0x4B, 0, 0, 0, 0, 0, 0, 0, issues, 0];
+    let Some(start) = file.get(gate..) else {
+        return false;
+    };
+    file.starts_with(b"XFSJRNL2") && start.len() == 205 && start.starts_with(&head)
+}
+
+// A Start that counts so many nonces, and the next nonce's Issue.
+fn goes_on_behind(records: &[Rec], before: u64) -> bool {
+    matches!(
+        records,
+        [Rec::Start { issues, .. }, Rec::Issue { number, .. }]
+            if *issues == before && *number == before.saturating_add(1)
+    )
+}
+
+#[test]
+fn an_older_file_is_carried_over_by_a_boot(rt: HostRuntime) -> Result<(), Fail> {
+    let one = carries_over(&rt, old_file(rt.alloc())?.as_slice(), 1)?;
+    let two = carries_over(&rt, with_two_nonces(rt.alloc())?.as_slice(), 2)?;
+    assert!(rt; one && two);
     Ok(())
 }
 

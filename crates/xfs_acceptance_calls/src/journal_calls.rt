@@ -77,7 +77,7 @@ pub fn short_file(alloc: Global) -> Result<Vec<u8>, Fail> {
 }
 
 // The first 212 bytes of it, and a closed gate.
-fn start_file(alloc: Global) -> Result<Vec<u8>, Fail> {
+pub fn start_file(alloc: Global) -> Result<Vec<u8>, Fail> {
     let mut bytes = short_file(alloc)?;
     bytes.truncate(212);
     bytes.push(0)?;

@@ -10,7 +10,11 @@ mod crash_calls;
 #[cfg(test)]
 mod disk_calls;
 #[cfg(test)]
+mod evidence_calls;
+#[cfg(test)]
 mod files;
+#[cfg(test)]
+mod fleet_calls;
 #[cfg(test)]
 mod guard_bench;
 #[cfg(test)]
@@ -29,6 +33,8 @@ mod mechanism_calls;
 mod migrate_calls;
 #[cfg(test)]
 mod motion_calls;
+#[cfg(test)]
+mod reach_calls;
 #[cfg(test)]
 mod simulated_calls;
 #[cfg(test)]

@@ -8,6 +8,7 @@ use std::process::Abort;
 use std::test::Fail;
 use xfs_base::Counts;
 use xfs_disk::FailDisk;
+use xfs_evidence::{evidence, is_nonce};
 use xfs_guard::{Ask, Deny, Guard};
 use xfs_mech::{Mechanism, Outcome};
 use xfs_script::counts_text;
@@ -50,6 +51,7 @@ impl<M: Mechanism> Teller<M> {
             "reject" => carried(self.alloc, self.carry(rt, Ask::Reject)),
             "retract" => carried(self.alloc, self.carry(rt, Ask::Retract)),
             "issue" | "clear" | "expire" | "restore" => self.record(verb),
+            "evidence" => self.tell(rt, rest),
             _ => self.look(verb),
         }
     }
@@ -118,6 +120,24 @@ impl<M: Mechanism> Teller<M> {
         match self.guard.restore() {
             Ok(()) => String::from_str(self.alloc, "done"),
             Err(fault) => format!(in self.alloc; "{fault:?}"),
+        }
+    }
+
+    // The evidence with this nonce, under the key of the simulated machine.
+    fn tell(&self, rt: &impl Abort, nonce: &str) -> Result<String, Fail> {
+        let nonce = nonce.as_bytes();
+        assert!(rt; is_nonce(nonce));
+        let (base, records) = (self.guard.base(), self.guard.records());
+        match evidence(
+            self.alloc,
+            &[0x0b; 32],
+            self.guard.units(),
+            base,
+            records,
+            nonce,
+        ) {
+            Ok(text) => Ok(String::from_str(self.alloc, str::from_utf8(&text).unwrap_or(""))?),
+            Err(fault) => Ok(format!(in self.alloc; "{fault:?}")?),
         }
     }
 

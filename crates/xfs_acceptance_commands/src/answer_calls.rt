@@ -7,6 +7,7 @@ use std::cell::Cell;
 use std::test::Fail;
 use xfs_base::{Failed, MemSink, MemSource, Sink, Source};
 use xfs_script::{Answerer, Ending, Unanswered, answer_lines};
+use xfs_sides::{TwoSides, answer_sides};
 
 /// Answers a line by itself. `no` is no line of it, and it ends at `end`.
 #[derive(Drop)]
@@ -78,6 +79,36 @@ fn a_run_ends_with_its_input_or_at_a_line(rt: HostRuntime) -> Result<(), Fail> {
         let ending = answer_lines(alloc, &mut Echo { alloc }, &mut source, &mut sink);
         assert_eq!(rt; ending, due);
         assert_eq!(rt; sink.bytes(), output);
+    }
+    Ok(())
+}
+
+// What is skipped reaches neither side, and what a side's two bytes stand before reaches that one.
+#[test]
+fn each_side_answers_its_own_lines(rt: HostRuntime) -> Result<(), Fail> {
+    let alloc = rt.alloc();
+    let table: [(&[u8], &[u8], Ending<u8>); 6] = [
+        (b"a x\nb y\n\n#a z\n", b"a x\nb y\n", Ending::AtEnd),
+        (b"a \nb #\nb b z", b"a \nb #\nb b z\n", Ending::AtEnd),
+        (b"a x\nc y\n", b"a x\n", Ending::NotALine { number: 2 }),
+        (b"b no", b"", Ending::NotALine { number: 1 }),
+        (b"a\n", b"", Ending::NotALine { number: 1 }),
+        (b"b x\na end\nb y\n", b"b x\n", Ending::Ended(7)),
+    ];
+    for (input, output, due) in table {
+        let mut source = MemSource::new(input.to_vec(alloc)?, Vec::new(alloc));
+        let mut sink = MemSink::new(alloc, Vec::new(alloc));
+        let mut two = TwoSides {
+            alloc,
+            a: Echo { alloc },
+            b: Echo { alloc },
+        };
+        let ending = answer_sides(alloc, &mut two, &mut source, &mut sink);
+        assert_eq!(rt; ending, due);
+        assert_eq!(rt; sink.bytes(), output);
+        let TwoSides { alloc: _, a, b } = two;
+        drop(a);
+        drop(b);
     }
     Ok(())
 }

@@ -12,6 +12,8 @@ mod client_calls;
 #[cfg(test)]
 mod conversation_calls;
 #[cfg(test)]
+mod converse_calls;
+#[cfg(test)]
 mod device_calls;
 #[cfg(test)]
 mod envelope_calls;
