@@ -1,3 +1,4 @@
+pub mod Following
 pub mod Once
 pub mod Pairs
 pub mod Places

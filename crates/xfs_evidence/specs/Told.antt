@@ -29,6 +29,10 @@ told_amount text = if nat_le 6 (length text) && slice_index text (length text - 
 abbrev pub told_text : List ℕ × ℕ → List ℕ
 told_text a = decimal (a.1 / 1000) ++ 46 ∷ (48 + a.1 / 100 % 10) ∷ (48 + a.1 / 10 % 10) ∷ [] ++ a.0
 
+-- the pairs that tell an issue and amounts
+abbrev pub told_pairs : ℕ → List (List ℕ × ℕ) → List (List ℕ × List ℕ)
+told_pairs issue amounts = (codes "ISSUE", decimal issue) ∷ presented_pairs 1 (map told_text amounts)
+
 -- the amounts of texts, where each is one
 abbrev pub told_amounts : List (List ℕ) → Option (List (List ℕ × ℕ))
 told_amounts [] = Some []

@@ -10,6 +10,7 @@ mod nonce;
 mod reading;
 mod segment;
 mod shown;
+mod signing;
 mod sums;
 mod text;
 
