@@ -43,8 +43,8 @@ impl<M: Mechanism, D: Disk> Fleet<M, D> {
 }
 
 impl<M: Mechanism, D: Disk> Pair<M, D> {
-    // What comes back of a machine that ends.
-    pub(crate) fn of(machine: Machine<M, D>) -> Pair<M, D>
+    /// What comes back of a machine that ends.
+    pub fn of(machine: Machine<M, D>) -> Pair<M, D>
         ensures { Ends M.Mechanism D.Disk machine result.mech result.disk }
     {
         let (mech, disk) = machine.end();

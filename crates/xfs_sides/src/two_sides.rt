@@ -3,6 +3,7 @@ ghost use Rattle.xfs_script.specs.Answered.{IsUnanswered, Tells};
 ghost use Rattle.xfs_script.specs.declared.feed.TheConstants.{LONGEST_LINE};
 ghost use Rattle.xfs_script.specs.declared.answerer.Ending.TheVariants as Ending;
 ghost use Rattle.xfs_base.specs.Causes.{IfTold};
+ghost use Rattle.xfs_sides.specs.ReadLines.{HasFleetLines, HasReplayLines};
 ghost use Rattle.xfs_sides.specs.Sides.{AnswersMarked, AreAlone, both, unwritten};
 
 use crate::mark::mark_lines;
@@ -59,7 +60,8 @@ impl<A: Answerer> Answerer for TwoSides<A> {
 }
 
 /// Has each line of the input answered at its side, and writes its answer before the next line is read. Where the input
-/// is read to its end, each side has answered as if it were alone.
+/// is read to its end, each side has answered as if it were alone. Where the lines of a side are those of `replay`, the
+/// lines of both are those of `fleet`.
 pub fn answer_sides<S: Source, K: Sink, A: Answerer>(
     alloc: Global,
     two: &mut TwoSides<A>,
@@ -72,6 +74,7 @@ pub fn answer_sides<S: Source, K: Sink, A: Answerer>(
     ensures keeps_b { A.Keeps two.old.b two.new.b }
     ensures alone { result ≡ Ending.AtEnd → IfTold (S.left source.old)
         (AreAlone A.command (both A.state two.old.a two.old.b) (both A.state two.new.a two.new.b) (K.held sink.old) (K.held sink.new)) }
+    ensures fleet { HasReplayLines A.command → HasFleetLines A.command }
 {
     answer_lines(alloc, two, source, sink)
 }

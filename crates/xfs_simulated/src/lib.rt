@@ -12,9 +12,9 @@ mod setup;
 pub use leaving::places_left;
 pub use machine::{
     KEY, LIMITS, SEED, core_failing, core_on, core_under, empty, mechanism, places, quiet_bench,
-    units,
+    second_core, units,
 };
 pub use news::{card_news, key_news};
 pub use resumed::{LIFE, core_resumed};
-pub use secret::{OWN, Secrets, secret_in};
+pub use secret::{OWN, SECOND, Secrets, secret_in};
 pub use setup::Setup;

@@ -4,13 +4,14 @@ ghost use Rattle.xfs_disk.specs.Disk.{Only};
 ghost use Rattle.xfs_disk.specs.MemDisk.{IsImage as MayBe, bytes_of, steps_of};
 ghost use Rattle.xfs_disk.specs.Wrapped.{failing_calls, failing_inner};
 ghost use Rattle.xfs_guard.specs.Recorded.{IsRecorded};
+ghost use Rattle.xfs_guard.specs.Starts.{Starts};
 ghost use Rattle.xfs_journal.specs.Image.{IsImage, StandsFor};
 ghost use Rattle.xfs_journal.specs.declared.record.Rec.{Rec};
 ghost use Rattle.xfs_mech.specs.SimWatch.{touches_of};
 ghost use Rattle.xfs_mech.specs.Sim.{units_of, places_of, motions_of, faults_of, failures_of};
 ghost use Rattle.xfs_simulated.specs.Simulated.{four_units, filled};
 
-use crate::secret::{OWN, Secrets};
+use crate::secret::{OWN, SECOND, Secrets};
 use std::alloc::Global;
 use xfs_base::{Counts, Currency, NoteKind, Places, UnitTable};
 use xfs_disk::{Disk, FailDisk, MemDisk};
@@ -179,17 +180,35 @@ pub fn core_failing<M: Mechanism>(
     }
 }
 
-/// A bench over this core, whose card slot and key pad have no news.
+/// The second machine of `fleet`: like the first, with its own key and seed, over an empty disk in memory. Nothing of it
+/// fails, and it is never None.
+pub fn second_core(alloc: Global) -> Option<Core<SimMech, FailDisk>>
+    ensures secrets { IfSome result (λ core. (core.key ≡ replicate 32 0x0c) × (core.seed ≡ replicate 32 0x01) × (core.life ≡ 0)) }
+    ensures units { IfSome result (λ core. (core.units ≡ four_units) × (units_of core.mech ≡ core.units)) }
+    ensures places { IfSome result (λ core. (places_of core.mech ≡ filled) × (motions_of core.mech ≡ [])) }
+    ensures sound { IfSome result (λ core. (faults_of core.mech ≡ []) × (failing_calls core.disk ≡ [])) }
+    ensures limits { IfSome result (λ core. core.limits ≡ record { records = 1000000; bytes = 17179869184 }) }
+    ensures starts { IfSome result (Starts ⟦<SimMech as Mechanism>⟧ ⟦<FailDisk as Disk>⟧) }
+{
+    let units = units()?;
+    let mech = mechanism(alloc, &units, Vec::new(alloc))?;
+    let none = Vec::new(alloc);
+    Some(core_failing(SECOND, mech, units, empty(alloc), LIMITS, none))
+}
+
+/// A bench over these two cores, whose card slot and key pad have no news.
 pub fn quiet_bench<M: Mechanism, D: Disk>(
     alloc: Global,
     core: Core<M, D>,
+    second: Core<M, D>,
 ) -> Bench<M, D, SimWatch, SimWatch>
-    ensures core { result.core ≡ core }
+    ensures cores { (result.core ≡ core) × (result.second ≡ second) }
     ensures quiet { (touches_of result.cards ≡ []) × (touches_of result.keys ≡ []) }
 {
     Bench {
         core,
         cards: SimWatch::new(Vec::new(alloc), Vec::new(alloc)),
         keys: SimWatch::new(Vec::new(alloc), Vec::new(alloc)),
+        second,
     }
 }

@@ -22,6 +22,12 @@ pub const OWN: Secrets = Secrets {
     seed: SEED,
 };
 
+/// Those of the second machine of `fleet`: 32 bytes 0x0c, and 32 bytes 0x01.
+pub const SECOND: Secrets = Secrets {
+    key: [0x0c; 32],
+    seed: [0x01; 32],
+};
+
 /// The 32 bytes that a file's text tells. None exactly where it isn't 64 hexadecimal digits, of either case, behind which
 /// one line feed may stand.
 pub fn secret_in(text: &[u8]) -> Option<[u8; 32]>

@@ -1,2 +1,3 @@
 pub mod BenchFile
 pub mod BenchLines
+pub mod EitherDisks

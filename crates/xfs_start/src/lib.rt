@@ -5,6 +5,7 @@
 mod bench;
 mod bench_file;
 mod bench_line;
+mod either_disk;
 mod fault;
 mod folder;
 mod journal;
@@ -13,5 +14,6 @@ mod number_line;
 pub use bench::server_bench;
 pub use bench_file::setup_in;
 pub use bench_line::BenchFault;
+pub use either_disk::EitherDisk;
 pub use fault::{FileFault, StartFault};
 pub use folder::{BENCH_FILE, Folder, JOURNAL_FILE, KEY_FILE, ORIGINS_FILE, SEED_FILE};

@@ -1,12 +1,15 @@
 -- What `clap` says of words of the table, computed.
-use Rattle.std.proofs.Common.{◌≡◌, ◌∙◌, ℕ, cond, true, false, refl, sym, ap, ap₂, List, [], ◌∷◌, ◌++◌, Some, None, is_some}
+use Rattle.std.proofs.Common.{◌≡◌, ◌∙◌, ℕ, cond, true, false, refl, subst, sym, ap, ap₂, List, [], ◌∷◌, ◌++◌, Some, None, inl, inr, is_some}
 use Rattle.std.specs.Prelude.{find, option_map, ◌&&◌}
 use Rattle.std.specs.Str.{bytes_eq}
 use Rattle.clap.specs.Lexer.{long_of, short_of}
 use Rattle.clap.specs.Walk.{Held, Names, Row, Rule, Step, Text, Walk, after_step, answers_to, arg_by_index, finished, idle, long_or_other, nothing_held, plain_word, rows_after, settled, short_or_plain, subcommand_met, subcommand_or_other, to_positional, value, walk, walk_from, walked, word_met}
 use Rattle.clap.specs.Simple.{Shape, built, built_leaf, entered, inherited, label_of, marked_built, names_of, subcommand_of, with_leaf_noted}
-use Rattle.clap.specs.Kinds.{Kinds, or_else}
+use Rattle.clap.specs.Kinds.{HasKind, Kinds, or_else}
 use Rattle.clap.specs.Faults.{check_fault, defaults_fault, entered_fault, fault_of, flag_word_fault, is_simple_and_free, level_fault, settle_fault, step_fault, turn_fault, walk_fault, word_fault}
+use Rattle.clap.specs.Words.{App, kind_of}
+use Rattle.clap.specs.declared.error.Error.{Error}
+use Rattle.clap.specs.declared.error.kind.ErrorKind.TheVariants.{OutOfMemory}
 use Rattle.clap.proofs.OnLiterals.{clap_on_literals}
 use Rattle.clap.proofs.WalkLemmas.{walk_stopped}
 use Rattle.xfs_words.specs.Table.{begins_with_hyphen, leaf, table}
@@ -14,6 +17,18 @@ use Rattle.xfs_words.specs.Table.{begins_with_hyphen, leaf, table}
 pub simple_table : is_simple_and_free table ≡ true
 unfolding clap_on_literals
 simple_table = refl
+
+-- ---- an app that is the table
+
+pub table_taken : (a : App) (words : List Text) → a ≡ table → fault_of a words ≡ [] → fault_of table words ≡ []
+table_taken a words is = subst (λ x. fault_of x words ≡ []) is
+
+-- where `clap` finds no fault in the words, an error is want of memory
+pub memory_alone : (a : App) (words : List Text) (error : Error) → a ≡ table → fault_of table words ≡ [] → HasKind (fault_of a words) error
+    → kind_of error ≡ OutOfMemory
+memory_alone a words error is none has =
+    let kinds : HasKind [] error = subst (λ k. HasKind k error) (ap (λ x. fault_of x words) is ∙ none) has in
+    elim kinds [ inl memory ↦ memory | inr other ↦ absurd other ]
 
 -- ---- words without a hyphen
 

@@ -28,6 +28,7 @@ load_made name rows result k is gives found = record {
   client = λ e. let clash : 108 ≡ 99 = ap (λ (t : Text). slice_index t 0) (sym is ∙ e) in absurd (omega arith);
   host = λ e. let clash : 108 ≡ 104 = ap (λ (t : Text). slice_index t 0) (sym is ∙ e) in absurd (omega arith);
   audit = λ e. let clash : 108 ≡ 97 = ap (λ (t : Text). slice_index t 0) (sym is ∙ e) in absurd (omega arith);
+  fleet = λ e. let clash : 108 ≡ 102 = ap (λ (t : Text). slice_index t 0) (sym is ∙ e) in absurd (omega arith);
 }
 
 pub serve_made : (name : Text) (rows : List Row) (result : Result ℕ WordsFault) (k : ℕ) → name ≡ codes "serve" → GivesNumber rows result → result ≡ Ok k
@@ -41,6 +42,7 @@ serve_made name rows result k is gives found = record {
   client = λ e. let clash : 115 ≡ 99 = ap (λ (t : Text). slice_index t 0) (sym is ∙ e) in absurd (omega arith);
   host = λ e. let clash : 115 ≡ 104 = ap (λ (t : Text). slice_index t 0) (sym is ∙ e) in absurd (omega arith);
   audit = λ e. let clash : 115 ≡ 97 = ap (λ (t : Text). slice_index t 0) (sym is ∙ e) in absurd (omega arith);
+  fleet = λ e. let clash : 115 ≡ 102 = ap (λ (t : Text). slice_index t 0) (sym is ∙ e) in absurd (omega arith);
 }
 
 -- ---- the command `client`

@@ -126,6 +126,10 @@ pub audit_found : Finds (codes "audit") []
 unfolding clap_on_literals
 audit_found = (sub_fault (codes "audit") [] refl refl refl, sub_rows (codes "audit") [] refl refl refl)
 
+pub fleet_found : Finds (codes "fleet") []
+unfolding clap_on_literals
+fleet_found = (sub_fault (codes "fleet") [] refl refl refl, sub_rows (codes "fleet") [] refl refl refl)
+
 -- ---- which words are taken, and what is found in them
 
 -- of a command without arguments

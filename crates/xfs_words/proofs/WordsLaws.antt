@@ -15,13 +15,13 @@ use Rattle.xfs_base.specs.Values.{IsCurrency}
 use Rattle.xfs_words.specs.Table.{HasName, HasNumber, IsMadeOf, IsName, IsWithdrawal, begins_with_hyphen, currency_rule, is_plain, number_rule, table}
 use Rattle.xfs_words.specs.Words.{IsNumber, IsNumbered, Names, texts}
 use Rattle.xfs_words.specs.declared.command.Command.{Command}
-use Rattle.xfs_words.specs.declared.command.Command.TheVariants.{Guard, Token, Replay, Load, Serve, Client, Host, Audit}
+use Rattle.xfs_words.specs.declared.command.Command.TheVariants.{Guard, Token, Replay, Load, Serve, Client, Host, Audit, Fleet}
 use Rattle.xfs_words.specs.declared.command.WordsFault.{WordsFault}
 use Rattle.xfs_words.specs.declared.command.WordsFault.TheVariants.{Usage}
 use Rattle.xfs_words.proofs.ClapLaws.{sub}
 use Rattle.xfs_words.proofs.LeafLaws.{client_letters}
 use Rattle.xfs_words.proofs.NumberLaws.{letters_plain, number_plain}
-use Rattle.xfs_words.proofs.TableLaws.{all_plain, amount_is_found, audit_found, bare_taken, client_found, client_taken, guard_found, host_found, load_found, number_is_found, numbered_taken, replay_found, serve_found, taken_bare, taken_client, taken_numbered, token_found}
+use Rattle.xfs_words.proofs.TableLaws.{all_plain, amount_is_found, audit_found, bare_taken, client_found, client_taken, fleet_found, guard_found, host_found, load_found, number_is_found, numbered_taken, replay_found, serve_found, taken_bare, taken_client, taken_numbered, token_found}
 
 -- ---- words that name a command
 
@@ -42,6 +42,7 @@ named_plain (Serve n) ws h = numbered_plain (codes "serve") 1000000 ws n refl h
 named_plain (Client letters n) ws h = rw (h.words_are, letters_plain letters h.letters, number_plain 1000000 h.text n h.number) refl
 named_plain Host ws h = rw h refl
 named_plain Audit ws h = rw h refl
+named_plain Fleet ws h = rw h refl
 
 -- their first is a name
 pub named_first : (command : Command) (ws : List Text) → Names command ws → HasName ws
@@ -52,7 +53,8 @@ named_first (Load n) ws h = subst HasName (sym h.words_are) (inr (inr (inr (inl 
 named_first (Serve n) ws h = subst HasName (sym h.words_are) (inr (inr (inr (inr (inl refl)))))
 named_first (Client letters n) ws h = subst HasName (sym h.words_are) (inr (inr (inr (inr (inr (inl refl))))))
 named_first Host ws h = subst HasName (sym h) (inr (inr (inr (inr (inr (inr (inl refl)))))))
-named_first Audit ws h = subst HasName (sym h) (inr (inr (inr (inr (inr (inr (inr refl)))))))
+named_first Audit ws h = subst HasName (sym h) (inr (inr (inr (inr (inr (inr (inr (inl refl))))))))
+named_first Fleet ws h = subst HasName (sym h) (inr (inr (inr (inr (inr (inr (inr (inr refl))))))))
 
 -- and `clap` takes them
 pub named_taken : (command : Command) (ws : List Text) → Names command ws → fault_of table ws ≡ []
@@ -70,6 +72,7 @@ named_taken (Client letters n) ws h =
     ∙ client_taken letters h.text (letters_plain letters h.letters) (number_plain 1000000 h.text n h.number) n h.number
 named_taken Host ws h = ap (fault_of table) h ∙ bare_taken (codes "host") host_found
 named_taken Audit ws h = ap (fault_of table) h ∙ bare_taken (codes "audit") audit_found
+named_taken Fleet ws h = ap (fault_of table) h ∙ bare_taken (codes "fleet") fleet_found
 
 -- ---- one command
 
@@ -79,7 +82,7 @@ value_of text = digits_value 10 (without_leading_plus text)
 -- the only command that the words may name
 abbrev candidate : List Text → Option Command
 candidate [] = None
-candidate (word ∷ []) = cond (bytes_eq word (codes "guard")) (Some Guard) (cond (bytes_eq word (codes "token")) (Some Token) (cond (bytes_eq word (codes "replay")) (Some Replay) (cond (bytes_eq word (codes "host")) (Some Host) (Some Audit))))
+candidate (word ∷ []) = cond (bytes_eq word (codes "guard")) (Some Guard) (cond (bytes_eq word (codes "token")) (Some Token) (cond (bytes_eq word (codes "replay")) (Some Replay) (cond (bytes_eq word (codes "host")) (Some Host) (cond (bytes_eq word (codes "audit")) (Some Audit) (Some Fleet)))))
 candidate (word ∷ text ∷ []) = cond (bytes_eq word (codes "load")) (Some (Load (value_of text))) (Some (Serve (value_of text)))
 candidate (word ∷ letters ∷ text ∷ rest) = Some (Client letters (value_of text))
 
@@ -92,6 +95,7 @@ named_candidate (Serve n) ws h = ap candidate h.words_are ∙ ap (λ k. Some (Se
 named_candidate (Client letters n) ws h = ap candidate h.words_are ∙ ap (λ k. Some (Client letters k)) (sym h.number.value)
 named_candidate Host ws h = ap candidate h
 named_candidate Audit ws h = ap candidate h
+named_candidate Fleet ws h = ap candidate h
 
 -- words name one command at most
 pub one_command : (a b : Command) (ws : List Text) → Names a ws → Names b ws → b ≡ a
@@ -110,6 +114,7 @@ client_names Token letters text h = absurd cc
 client_names Replay letters text h = absurd cc
 client_names Host letters text h = absurd cc
 client_names Audit letters text h = absurd cc
+client_names Fleet letters text h = absurd cc
 client_names (Load n) letters text h =
     let are = h.words_are in
     absurd cc
@@ -197,6 +202,10 @@ module _ (rest : List Text) (plain : all_plain rest ≡ true) (name : Text) (row
   audit_answers taken found =
       bare_answers (codes "audit") Audit (taken_bare (codes "audit") audit_found rest plain taken) refl (made.audit (found_name _ _ _ _ (found ∙ audit_found.1 rest)))
 
+  fleet_answers : Taken (codes "fleet") → Found (codes "fleet") → Answers (codes "fleet" ∷ rest) result
+  fleet_answers taken found =
+      bare_answers (codes "fleet") Fleet (taken_bare (codes "fleet") fleet_found rest plain taken) refl (made.fleet (found_name _ _ _ _ (found ∙ fleet_found.1 rest)))
+
   answers_of : (word : Text) → IsName word → Taken word → Found word → Answers (word ∷ rest) result
   answers_of word named = elim named [
     | inl guard ↦ from word (codes "guard") guard guard_answers
@@ -212,7 +221,10 @@ module _ (rest : List Text) (plain : all_plain rest ≡ true) (name : Text) (row
               | inl client ↦ from word (codes "client") client withdrawal_answers
               | inr others ↦ elim others [
                 | inl host ↦ from word (codes "host") host host_answers
-                | inr audit ↦ from word (codes "audit") audit audit_answers
+                | inr others ↦ elim others [
+                  | inl audit ↦ from word (codes "audit") audit audit_answers
+                  | inr fleet ↦ from word (codes "fleet") fleet fleet_answers
+                ]
               ]
             ]
           ]
@@ -248,7 +260,10 @@ always_found (word ∷ rest) named = elim named [
             | inl e ↦ at word (codes "client") e (λ r. ap is_some (client_found.1 r))
             | inr others ↦ elim others [
               | inl e ↦ at word (codes "host") e (λ r. ap is_some (host_found.1 r))
-              | inr e ↦ at word (codes "audit") e (λ r. ap is_some (audit_found.1 r))
+              | inr others ↦ elim others [
+                | inl e ↦ at word (codes "audit") e (λ r. ap is_some (audit_found.1 r))
+                | inr e ↦ at word (codes "fleet") e (λ r. ap is_some (fleet_found.1 r))
+              ]
             ]
           ]
         ]

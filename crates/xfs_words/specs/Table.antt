@@ -12,7 +12,7 @@ use Rattle.clap.specs.declared.builder.value_parser.ValueParser.TheVariants.{Uns
 use Rattle.xfs_base.specs.Values.{IsCurrency}
 use Rattle.xfs_words.specs.Words.{IsNumber}
 use Rattle.xfs_words.specs.declared.command.Command.{Command}
-use Rattle.xfs_words.specs.declared.command.Command.TheVariants.{Guard, Token, Replay, Load, Serve, Client, Host, Audit}
+use Rattle.xfs_words.specs.declared.command.Command.TheVariants.{Guard, Token, Replay, Load, Serve, Client, Host, Audit, Fleet}
 use Rattle.xfs_words.specs.declared.command.WordsFault.{WordsFault}
 use Rattle.xfs_words.specs.declared.command.WordsFault.TheVariants.{Usage}
 
@@ -48,6 +48,7 @@ commands = leaf (codes "guard") []
     ∷ leaf (codes "client") (currency_rule ∷ number_rule 1000000 ∷ [])
     ∷ leaf (codes "host") []
     ∷ leaf (codes "audit") []
+    ∷ leaf (codes "fleet") []
     ∷ []
 
 -- one command, whose subcommands these are; it knows no words for help or for the version
@@ -78,7 +79,7 @@ is_plain words = list_all (λ word. not (begins_with_hyphen (string_bytes word))
 -- the word is the name of a command
 abbrev pub IsName : Text → Type 0
 IsName word = (word ≡ codes "guard") ⊎ ((word ≡ codes "token") ⊎ ((word ≡ codes "replay")
-    ⊎ ((word ≡ codes "load") ⊎ ((word ≡ codes "serve") ⊎ ((word ≡ codes "client") ⊎ ((word ≡ codes "host") ⊎ (word ≡ codes "audit")))))))
+    ⊎ ((word ≡ codes "load") ⊎ ((word ≡ codes "serve") ⊎ ((word ≡ codes "client") ⊎ ((word ≡ codes "host") ⊎ ((word ≡ codes "audit") ⊎ (word ≡ codes "fleet"))))))))
 
 -- the first word is
 abbrev pub HasName : List Text → Type 0
@@ -109,3 +110,4 @@ pub record IsMadeOf (name : Text) (rows : List Row) (result : Result Command Wor
       → HasNumber 1000000 rows n → IsWithdrawal letters n result
   pub host : name ≡ codes "host" → result ≡ Ok Host
   pub audit : name ≡ codes "audit" → result ≡ Ok Audit
+  pub fleet : name ≡ codes "fleet" → result ≡ Ok Fleet

@@ -4,7 +4,7 @@ use Rattle.std.specs.Str.Parse.{IsNumeral, digits_value, without_leading_plus}
 use Rattle.std.specs.declared.alloc.Global.{Global}
 use Rattle.xfs_base.specs.Values.{IsCurrency}
 use Rattle.xfs_words.specs.declared.command.Command.{Command}
-use Rattle.xfs_words.specs.declared.command.Command.TheVariants.{Guard, Token, Replay, Load, Serve, Client, Host, Audit}
+use Rattle.xfs_words.specs.declared.command.Command.TheVariants.{Guard, Token, Replay, Load, Serve, Client, Host, Audit, Fleet}
 
 -- the words as their bytes
 abbrev pub texts : List (String Global) → List (List ℕ)
@@ -40,3 +40,4 @@ Names (Serve connections) words = IsNumbered (codes "serve") 1000000 words conne
 Names (Client currency amount) words = IsClient words currency amount
 Names Host words = words ≡ codes "host" ∷ []
 Names Audit words = words ≡ codes "audit" ∷ []
+Names Fleet words = words ≡ codes "fleet" ∷ []

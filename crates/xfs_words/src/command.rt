@@ -23,6 +23,8 @@ pub enum Command {
     Host,
     /// `audit`: reads lines of a journal and of a mechanism's list, and answers at their end which rule they break.
     Audit,
+    /// `fleet`: answers lines of two machines, each of its own, by the letter in front.
+    Fleet,
 }
 
 /// Why words give no command.

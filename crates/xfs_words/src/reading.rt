@@ -61,7 +61,7 @@ fn is_name(word: &str) -> bool
 {
     matches!(
         word,
-        "guard" | "token" | "replay" | "load" | "serve" | "client" | "host" | "audit"
+        "guard" | "token" | "replay" | "load" | "serve" | "client" | "host" | "audit" | "fleet"
     )
 }
 
@@ -90,6 +90,7 @@ fn command(name: &str, found: &ArgMatches<'_>) -> Result<Command, WordsFault>
         "client" => client(found),
         "host" => Ok(Command::Host),
         "audit" => Ok(Command::Audit),
+        "fleet" => Ok(Command::Fleet),
         _ => Err(WordsFault::Usage),
     }
 }

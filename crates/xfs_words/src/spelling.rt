@@ -38,6 +38,7 @@ fn bare(name: &str) -> Option<Command>
         "replay" => Some(Command::Replay),
         "host" => Some(Command::Host),
         "audit" => Some(Command::Audit),
+        "fleet" => Some(Command::Fleet),
         _ => None,
     }
 }

@@ -25,7 +25,8 @@ pub(crate) fn table<'a>(alloc: Global) -> Result<Command<'a>, AllocError>
         .subcommand(serve(alloc)?)?
         .subcommand(client(alloc)?)?
         .subcommand(Command::new(alloc, "host"))?
-        .subcommand(Command::new(alloc, "audit"))
+        .subcommand(Command::new(alloc, "audit"))?
+        .subcommand(Command::new(alloc, "fleet"))
 }
 
 fn load<'a>(alloc: Global) -> Result<Command<'a>, AllocError>

@@ -24,4 +24,5 @@ returns c =
     let five = c.in_ok-subcommand-5.ensures.shape c.in_ok-serve.ensures.local ∙ ap₂ with_subcommand four c.in_ok-serve.ensures.shape in
     let six = c.in_ok-subcommand-6.ensures.shape c.in_ok-client.ensures.local ∙ ap₂ with_subcommand five c.in_ok-client.ensures.shape in
     let seven = c.in_ok-subcommand-7.ensures.shape (search rules) ∙ ap₂ with_subcommand six (ap (λ (x : App). x.top) c.new-5.ensures.app) in
-    IfOk-weaker c.subcommand-8.result _ _ (λ command h. h.shape (search rules) ∙ ap₂ with_subcommand seven (ap (λ (x : App). x.top) c.new-6.ensures.app)) c.subcommand-8.ensures
+    let eight = c.in_ok-subcommand-8.ensures.shape (search rules) ∙ ap₂ with_subcommand seven (ap (λ (x : App). x.top) c.new-6.ensures.app) in
+    IfOk-weaker c.subcommand-9.result _ _ (λ command h. h.shape (search rules) ∙ ap₂ with_subcommand eight (ap (λ (x : App). x.top) c.new-7.ensures.app)) c.subcommand-9.ensures

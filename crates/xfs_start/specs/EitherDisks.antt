@@ -1,0 +1,31 @@
+-- A disk of one of two kinds: what it holds, and what a crash leaves of it, is that of the one it is.
+use Rattle.std.specs.Prelude.{ℕ, List}
+use Rattle.std.specs.declared.option.Option.{Option}
+use Rattle.xfs_disk.specs.declared.disk.Disk.{Ghosts as Disks}
+use Rattle.xfs_start.specs.declared.either_disk.EitherDisk.{EitherDisk}
+use Rattle.xfs_start.specs.declared.either_disk.EitherDisk.TheVariants.{File, Memory}
+
+-- what a read of the one it is gives, where that tells it
+abbrev pub held_of : {F M : Type 0} → Disks F → Disks M → EitherDisk F M → Option (List ℕ)
+held_of f m (File disk) = f.held disk
+held_of f m (Memory disk) = m.held disk
+
+-- the images of the one it is
+abbrev pub is_image : {F M : Type 0} → Disks F → Disks M → EitherDisk F M → List ℕ → Type 0
+is_image f m (File disk) = f.images disk
+is_image f m (Memory disk) = m.images disk
+
+-- the moment of the one it is
+abbrev pub moment_of : {F M : Type 0} → Disks F → Disks M → EitherDisk F M → ℕ
+moment_of f m (File disk) = f.moment disk
+moment_of f m (Memory disk) = m.moment disk
+
+-- the images of the one it is since a moment
+abbrev pub was_image : {F M : Type 0} → Disks F → Disks M → EitherDisk F M → ℕ → List ℕ → Type 0
+was_image f m (File disk) = f.images_since disk
+was_image f m (Memory disk) = m.images_since disk
+
+-- how often the one it is failed
+abbrev pub counted : {F M : Type 0} → Disks F → Disks M → EitherDisk F M → ℕ
+counted f m (File disk) = f.faults disk
+counted f m (Memory disk) = m.faults disk
