@@ -10,7 +10,6 @@ use crate::outside::{
     read_words, tell_error, tell_fault, tell_listening, tell_open_files, tell_unreached,
     tell_version,
 };
-use std::alloc::Global;
 use std::io;
 use std::process::ExitCode;
 use std::sync::Wait;
@@ -21,7 +20,9 @@ use xfs_disk::{Disk, FileDisk};
 use xfs_guard::Bench;
 use xfs_mech::{Mechanism, SimWatch};
 use xfs_server::{Doors, OpenGate};
-use xfs_simulated::{LIMITS, Secrets, Setup, core_failing, empty, mechanism, units};
+use xfs_simulated::{
+    LIMITS, Secrets, Setup, core_failing, empty, mechanism, quiet_bench, second_core, units,
+};
 use xfs_sockets::{OpenFault, Origins, PORTS, Ports, TcpDoors};
 use xfs_start::{Folder, StartFault, server_bench};
 use xfs_words::{Command, spelled};
@@ -111,11 +112,9 @@ fn other<R: Threads + Wait + Sync>(
     };
     let units = units().ok_or(StartFault::Memory)?;
     let mech = mechanism(alloc, &units, setup.faults).ok_or(StartFault::Memory)?;
-    let bench = Bench {
-        core: core_failing(secrets, mech, units, empty(alloc), LIMITS, setup.failing),
-        cards: silent(alloc),
-        keys: silent(alloc),
-    };
+    let core = core_failing(secrets, mech, units, empty(alloc), LIMITS, setup.failing);
+    let second = second_core(alloc).ok_or(StartFault::Memory)?;
+    let bench = quiet_bench(alloc, core, second);
     let (status, link) = run_over(rt, host, words, bench, &clock, &mut doors);
     if let Some((port, why)) = doors.unreached() {
         tell_unreached(host, port, why);
@@ -142,6 +141,7 @@ fn run_over<
     doors: &mut O,
 ) -> (u8, Option<O::Link>)
     requires starts { Starts M.Mechanism D.Disk bench.core }
+    requires second { Starts M.Mechanism D.Disk bench.second }
 {
     let mut source = StdSource::new(host.reader());
     let mut sink = StdSink::new(io::writer(host));
@@ -157,9 +157,4 @@ fn run_over<
         &OpenGate,
     );
     (ended.status, ended.link)
-}
-
-// A watch that has nothing to tell.
-fn silent(alloc: Global) -> SimWatch {
-    SimWatch::new(Vec::new(alloc), Vec::new(alloc))
 }

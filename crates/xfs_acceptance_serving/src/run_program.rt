@@ -18,7 +18,7 @@ use xfs_disk::{FailDisk, MemDisk};
 use xfs_guard::{Bench, Core};
 use xfs_mech::{Mechanism, SimMech, TakerWatch};
 use xfs_server::{Doors, OpenGate};
-use xfs_simulated::{LIMITS, core_on, empty, mechanism, units};
+use xfs_simulated::{LIMITS, core_on, empty, mechanism, second_core, units};
 
 // The same core, over a disk whose calls at these places fail.
 fn failing_core<M: Mechanism>(core: Core<M, MemDisk>, failing: Vec<u64>) -> Core<M, FailDisk>
@@ -59,6 +59,7 @@ pub fn program<R: Threads + Wait + Sync, C: Clock + Sync, O: Doors>(
         core,
         cards: TakerWatch,
         keys: TakerWatch,
+        second: second_core(alloc).ok_or("the second machine")?,
     };
     let mut source = MemSource::new(Vec::from_slice(alloc, b"issue\n")?, Vec::new(alloc));
     let mut owned = Vec::new(alloc);

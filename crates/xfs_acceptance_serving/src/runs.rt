@@ -1,5 +1,8 @@
 //! The program under `serve`.
 
+ghost use Rattle.std.specs.Prelude.{IfOk};
+ghost use Rattle.xfs_guard.specs.Starts.{Starts};
+
 use crate::bench::{a_card, a_key};
 use crate::doors::{PatientDoors, crowd};
 use crate::scene::{Scene, Until};
@@ -11,9 +14,11 @@ use std::thread::Threads;
 use std::time;
 use xfs_base::{Clock, MemSink, MemSource, StdClock};
 use xfs_cli::run;
-use xfs_guard::Bench;
+use xfs_disk::{Disk, MemDisk};
+use xfs_guard::{Bench, Core};
+use xfs_mech::{Mechanism, SimMech};
 use xfs_server::{Doors, Gate};
-use xfs_simulated::{LIMITS, core_on, empty, mechanism, units};
+use xfs_simulated::{LIMITS, SECOND, core_on, core_under, empty, mechanism, units};
 
 /// The status, and how many bytes were written and stand in the journal.
 #[derive(Clone, Copy)]
@@ -21,6 +26,15 @@ struct Report {
     status: u8,
     written: usize,
     journal: usize,
+}
+
+// The second machine, which a server leaves alone.
+fn second(alloc: Global) -> Result<Core<SimMech, MemDisk>, Fail>
+    ensures starts { IfOk result (Starts ⟦<SimMech as Mechanism>⟧ ⟦<MemDisk as Disk>⟧) }
+{
+    let units = units().ok_or("the units")?;
+    let mech = mechanism(alloc, &units, Vec::new(alloc)).ok_or("the mechanism")?;
+    Ok(core_under(SECOND, mech, units, empty(alloc), LIMITS))
 }
 
 // Serves two connections of the simulated machine.
@@ -36,6 +50,7 @@ fn serve_two<R: Threads + Wait + Sync, O: Doors, C: Clock + Sync, G: Gate + Sync
     let cards = a_card(alloc)?;
     let keys = a_key(alloc)?;
     let core = core_on(mech, units, empty(alloc), LIMITS);
+    let second = second(alloc)?;
     let mut words = Vec::new(alloc);
     words.push(String::from_str(alloc, "serve")?)?;
     words.push(String::from_str(alloc, "2")?)?;
@@ -47,7 +62,12 @@ fn serve_two<R: Threads + Wait + Sync, O: Doors, C: Clock + Sync, G: Gate + Sync
         words.as_slice(),
         &mut source,
         &mut sink,
-        Bench { core, cards, keys },
+        Bench {
+            core,
+            cards,
+            keys,
+            second,
+        },
         clock,
         doors,
         gate,

@@ -1,5 +1,5 @@
 -- What was written from the boot on, once the mechanism and the disk come back.
-use Rattle.std.proofs.Common.{◌≡◌, ◌≤◌, ℕ, false, List, None, Some, inl, inr, refl, sym, ◌∙◌, ap, subst, arith}
+use Rattle.std.proofs.Common.{◌≡◌, ◌≤◌, ℕ, false, List, None, Some, codes, inl, inr, refl, sym, ◌∙◌, ap, subst, arith}
 use Rattle.std.specs.Prelude.{is_some}
 use Rattle.std.specs.declared.option.Option.{Option}
 use Rattle.xfs_base.specs.Causes.{IfTold, Rose}
@@ -148,10 +148,10 @@ ends-full BootMemory limits places held io status is written full twelve = absur
 -- under status 12 a restart found no room for its boot record
 pub full-line : {S : Type 0} (c : Command S BootFault) (see : S → GuardState) → EndsAtRestarts c see → (IsStartOf : S → Type 0) (Still : GuardState → Type 0) (start end : S) (status : ℕ) (io : Streams) → IsStartOf start
     → ((s : GuardState) → IsStill (see end).guard.motions (see end).guard.places (see end).guard.faults (see end).disk_faults s → Still s)
-    → IfTold io.input (Serves c start end status io) → status ≡ 12 → IfTold io.input (HasFullRestart c see IsStartOf Still)
+    → IfTold io.input (Serves c start end status io) → status ≡ 12 → IfTold io.input (HasFullRestart (codes "restart") c see IsStartOf Still)
 full-line c see restarts IsStartOf Still start end status io begins more h twelve = told-more io.input _ _ (λ text h. go text h) h
   where
-    go : (text : List ℕ) → Serves c start end status io text → HasFullRestart c see IsStartOf Still text
+    go : (text : List ℕ) → Serves c start end status io text → HasFullRestart (codes "restart") c see IsStartOf Still text
     go text h =
         let e = is-boot h.ending (inr (inr (sym h.status_is ∙ twelve))) in
         let a : AnswersInput c (Ended e.0) start end io.left io.output h.answered text = rw e.1 at h.answers in

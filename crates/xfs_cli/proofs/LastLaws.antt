@@ -2,7 +2,7 @@
 use Rattle.std.proofs.Common.{◌≤◌, ◌+◌, ℕ, List, [], ◌∷◌, ◌++◌, length, take, Ok, Err, OnOk, OnErr, inl, inr, arith}
 use Rattle.std.proofs.lemmas.Bool.{cases_lt}
 use Rattle.std.proofs.lemmas.List.{take-append-le, take_all}
-use Rattle.std.proofs.Math.Seq.{take-append-add}
+use Rattle.std.proofs.Math.Seq.{take-append-add, take-nil}
 use Rattle.std.specs.Io.KnownBytes.{Appends}
 use Rattle.std.specs.declared.result.Result.{Result}
 use Rattle.xfs_base.specs.Causes.{HasCause, TookPrefix}
@@ -45,3 +45,8 @@ said line faults now before after (Err e) whole front cause = inr (cause.failed,
 pub err-more : {T E P Q : Type 0} (result : Result T E) → (P → Q) → OnErr result P → OnErr result Q
 err-more (Ok x) more h = tt
 err-more (Err e) more h = more h
+
+-- no last line leaves the output as it was
+pub last-taken : (faults now : ℕ) (before after : Option (List ℕ)) → WritesLast [] faults now before after → Appends before after []
+last-taken faults now before after (inl whole) = whole
+last-taken faults now before after (inr broken) = rw (take-nil broken.1.many) at broken.1.taken

@@ -7,10 +7,14 @@ pub mod CompleteLaws
 pub mod CompleteOrders
 pub mod CompleteStacks
 pub mod DispenseLaws
+pub mod DoorlessLaws
 pub mod EndLaws
 pub mod EndingLaws
 pub mod FilledLaws
+pub mod FleetEndLaws
+pub mod FleetRunsLaws
 pub mod GuardStateLaws
+pub mod HeadlineLaws
 pub mod HostTexts
 pub mod KeptLaws
 pub mod LastLaws

@@ -4,7 +4,7 @@ use Rattle.std.specs.Prelude.{String, string_bytes}
 use Rattle.std.specs.declared.alloc.Global.{Global}
 use Rattle.xfs_words.specs.Words.{Names, texts}
 use Rattle.xfs_words.specs.declared.command.Command.{Command}
-use Rattle.xfs_words.specs.declared.command.Command.TheVariants.{Guard, Token, Replay, Load, Serve, Client, Host, Audit}
+use Rattle.xfs_words.specs.declared.command.Command.TheVariants.{Guard, Token, Replay, Load, Serve, Client, Host, Audit, Fleet}
 use Rattle.xfs_words.proofs.WordsLaws.{one_command}
 use Rattle.xfs_cli.specs.Run.{IsCommand, IsLoadOf, IsWord}
 
@@ -44,6 +44,7 @@ kind_of (Serve connections) = 4
 kind_of (Client currency amount) = 5
 kind_of Host = 6
 kind_of Audit = 7
+kind_of Fleet = 8
 
 -- words don't name commands of two kinds
 pub apart : (words : List (String Global)) (a b : Command) → kind_of a ≢ kind_of b → Names a (texts words) → Names b (texts words) → ⊥

@@ -7,6 +7,7 @@ pub mod BootsOnce
 pub mod ClientRuns
 pub mod Complete
 pub mod Dispenses
+pub mod FleetRuns
 pub mod GuardCommand
 pub mod GuardLines
 pub mod GuardRuns
@@ -14,6 +15,7 @@ pub mod GuardStarts
 pub mod GuardStates
 pub mod GuardTexts
 pub mod GuardVerbs
+pub mod Headlines
 pub mod HostRuns
 pub mod HostVerbs
 pub mod Lined

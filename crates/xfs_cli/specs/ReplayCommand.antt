@@ -13,6 +13,7 @@ use Rattle.xfs_script.specs.Commands.{Command}
 use Rattle.xfs_script.specs.ReplayLines.{IsReplayLine}
 use Rattle.xfs_script.specs.declared.replay_line.ReplayLine.{ReplayLine}
 use Rattle.xfs_script.specs.declared.replay_line.ReplayLine.TheVariants.{Rest}
+use Rattle.xfs_sides.specs.ReadLines.{IsReplayText}
 use Rattle.xfs_load.specs.Steps.{HappensInPart, RestsInPart}
 use Rattle.xfs_machine.specs.MachineView.{MachineView, guard_of}
 use Rattle.xfs_model.specs.Events.{outbox}
@@ -24,12 +25,6 @@ use Rattle.xfs_cli.specs.declared.clients.Client.{Client}
 use Rattle.xfs_cli.specs.declared.player.Player.{Player}
 use Rattle.xfs_cli.specs.ReplayEvents.{AnswersReplay, event_of}
 use Rattle.xfs_script.specs.declared.feed.TheConstants.{LONGEST_LINE}
-
--- a line of at most 70,000 bytes that writes a verb
-pub record IsLine (text : List ℕ) : Type 0 where
-  pub verb : ReplayLine
-  pub reads : IsReplayLine text verb
-  pub short : length text ≤ LONGEST_LINE
 
 -- the first of a verb's events happened: of a rest, of so many rounds
 abbrev pub IsPartDone : Played → ReplayLine → Played → Type 0
@@ -60,7 +55,7 @@ pub record LeavesReplay (s : Played) (text : List ℕ) (end : Played) : Type 0 w
   pub later : IsLater (guard_state_of s) (guard_state_of end)
 
 abbrev pub replay_lines : Command Played BootFault
-replay_lines = record { IsLine = IsLine; Answers = AnswersReplay; Leaves = LeavesReplay; EndsAt = EndsRestart guard_state_of }
+replay_lines = record { IsLine = IsReplayText; Answers = AnswersReplay; Leaves = LeavesReplay; EndsAt = EndsRestart guard_state_of }
 
 -- the guard proceeds, and the count of its disk's failures that the machine keeps doesn't fall
 pub record Progresses {D : Type 0} (d : Disks D) (old new : MachineView D) : Type 0 where
@@ -81,5 +76,5 @@ pub leaves-none : (s : Played) (text : List ℕ) → LeavesReplay s text s
 leaves-none s text = record { begun = inl refl; continues = Continues-same s.machine.seen.guard; later = record { mech = omega arith; disk = omega arith } }
 
 -- what is answered is a line
-pub is-replay-line : (s next : Played) (text : List ℕ) (output : List (List ℕ)) → AnswersReplay s text output next → IsLine text
-is-replay-line s next text output a = record { verb = a.verb; reads = a.reads; short = a.short }
+pub is-replay-line : (s next : Played) (text : List ℕ) (output : List (List ℕ)) → AnswersReplay s text output next → IsReplayText text
+is-replay-line s next text output a = record { line = a.verb; reads = a.reads; short = a.short }

@@ -1,5 +1,5 @@
 -- What the lines of `replay` are answered from: a machine, and what the script keeps beside it.
-use Rattle.std.specs.Prelude.{ℕ, ◌==◌, nat_lt, List, find, is_some, Bool}
+use Rattle.std.specs.Prelude.{ℕ, ◌==◌, nat_lt, List, [], find, is_some, Bool, None}
 use Rattle.std.specs.List.{insert, remove, position_or_len}
 use Rattle.std.specs.declared.option.Option.{Option}
 use Rattle.std.specs.Option.{option_map}
@@ -21,6 +21,10 @@ pub record Played : Type 0 where
 -- the same of what answers the lines
 abbrev pub played : {M D : Type 0} {m : Mechanisms M} {d : Disks D} → Player M D m d → Played
 played p = record { machine = p.machine.state; clients = p.clients; now = p.now; last = p.last }
+
+-- a machine at which no client is joined, at the moment 0, and no token that was minted
+abbrev pub begun : State → Played
+begun machine = record { machine = machine; clients = []; now = record { 0 = 0 }; last = None }
 
 -- what a run of `guard` would see of it: the guard, how often its disk failed, and the last token
 abbrev pub guard_state_of : Played → GuardState

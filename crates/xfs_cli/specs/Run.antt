@@ -4,7 +4,7 @@ use Rattle.std.specs.declared.alloc.Global.{Global}
 use Rattle.xfs_words.specs.Words.{Names, texts}
 use Rattle.xfs_cli.specs.declared.words.Task.{Task}
 use Rattle.xfs_words.specs.declared.command.Command.{Command}
-use Rattle.xfs_words.specs.declared.command.Command.TheVariants.{Guard, Token, Replay, Load, Serve, Client, Host, Audit}
+use Rattle.xfs_words.specs.declared.command.Command.TheVariants.{Guard, Token, Replay, Load, Serve, Client, Host, Audit, Fleet}
 
 -- the words are this one word
 abbrev pub IsWord : List ℕ → List (String Global) → Type 0
@@ -46,6 +46,9 @@ IsHost words = Names Host (texts words)
 abbrev pub IsAudit : List (String Global) → Type 0
 IsAudit words = Names Audit (texts words)
 
+abbrev pub IsFleet : List (String Global) → Type 0
+IsFleet words = Names Fleet (texts words)
+
 -- the words name a command
 abbrev pub IsCommand : List (String Global) → Type 0
 IsCommand words = (command : Command) × Names command (texts words)
@@ -54,8 +57,9 @@ IsCommand words = (command : Command) × Names command (texts words)
 abbrev pub IsUnread : List (String Global) → Type 0
 IsUnread words = IsLoad words ⊎ (IsServe words ⊎ IsClient words)
 
--- what the words ask of the doors
+-- what the words ask of the doors and of the second machine
 abbrev pub IsTask : List (String Global) → Task → Type 0
 IsTask words (Task.Serve connections) = IsServeOf connections words
 IsTask words Task.Client = IsClient words
-IsTask words Task.Other = (¬ (IsServe words)) × (¬ (IsClient words))
+IsTask words Task.Fleet = IsFleet words
+IsTask words Task.Other = (¬ (IsServe words)) × (¬ (IsClient words)) × (¬ (IsFleet words))

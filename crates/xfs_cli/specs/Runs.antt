@@ -1,5 +1,5 @@
 -- A run of a command that boots: what it writes, its statuses with their causes, and what the mechanism and the disk that come back are. S is the state that its lines are answered from, and `see` what is seen of it.
-use Rattle.std.specs.Prelude.{◌≡◌, ◌⊎◌, ℕ, List, length, None}
+use Rattle.std.specs.Prelude.{◌≡◌, ◌⊎◌, ℕ, List, length, None, codes}
 use Rattle.std.specs.declared.option.Option.{Option}
 use Rattle.xfs_base.specs.Causes.{IfTold, Rose}
 use Rattle.xfs_base.specs.declared.counts.Places.{Places}
@@ -95,4 +95,4 @@ pub record Runs {M D S : Type 0} (c : Command S BootFault) (see : S → GuardSta
   pub newer : AtEntryList d core.disk (λ records. IsNewer (length records) (m.motions core.mech) (m.motions result.mech))
   -- a run that nothing hinders ends with its input
   pub finishes : NothingFailed io (d.faults core.disk) (d.faults result.disk) → IfTold io.input (λ text. AtEntryList d core.disk (λ records.
-      IsUnhindered c.IsLine (HasFullRestart c see IsStartOf (IsStillAt m d result)) text core.limits (m.places core.mech) records → IsFinished result.status))
+      IsUnhindered c.IsLine (HasFullRestart (codes "restart") c see IsStartOf (IsStillAt m d result)) text core.limits (m.places core.mech) records → IsFinished result.status))

@@ -15,7 +15,7 @@ use Rattle.xfs_cli.specs.declared.status.TheConstants.{INPUT_TOO_LONG, NOT_A_LIN
 
 -- the line that tells the words that there are
 abbrev pub usage_line : List ℕ
-usage_line = codes "usage: xfs guard | token | replay | load N | serve N | client CUR AMOUNT | host | audit"
+usage_line = codes "usage: xfs guard | token | replay | load N | serve N | client CUR AMOUNT | host | audit | fleet"
 
 -- the line that tells of one that is none
 abbrev pub no_line_text : ℕ → List ℕ

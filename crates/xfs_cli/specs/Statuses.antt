@@ -1,5 +1,5 @@
 -- The statuses of the program, and when a run of a command that boots ends with its input: where every line is one, the input is short enough, the journal has room for each boot record, and nothing failed.
-use Rattle.std.specs.Prelude.{◌≡◌, ◌⊎◌, ℕ, ◌<◌, List, String, [], ◌∷◌, length, codes}
+use Rattle.std.specs.Prelude.{◌≡◌, ◌⊎◌, ℕ, ◌<◌, List, String, [], ◌∷◌, length}
 use Rattle.std.specs.Io.KnownBytes.{IsAtEnd}
 use Rattle.std.specs.declared.alloc.Global.{Global}
 use Rattle.xfs_base.specs.Causes.{IfTold, Rose}
@@ -39,15 +39,15 @@ pub record IsCaused (status : ℕ) (io : Streams) : Type 0 where
   pub write : status ≡ WRITE_FAULT → Rose io.write_faults io.write_faults_now
   pub quota : status ≡ INPUT_TOO_LONG → GaveAll io.input io.left
 
--- a line of the text is `restart`, and finds no room for its boot record behind the state that the lines before it left, answered from the start of the run on; Ends tells of what is seen of that state
-pub record HasFullRestart {S : Type 0} (c : Command S BootFault) (see : S → GuardState) (IsStartOf : S → Type 0) (Ends : GuardState → Type 0) (text : List ℕ) : Type 0 where
+-- a line of the text is this restart, and finds no room for its boot record behind the state that the lines before it left, answered from the start of the run on; Ends tells of what is seen of that state
+pub record HasFullRestart {S : Type 0} (restart : List ℕ) (c : Command S BootFault) (see : S → GuardState) (IsStartOf : S → Type 0) (Ends : GuardState → Type 0) (text : List ℕ) : Type 0 where
   pub start : S
   pub begins : IsStartOf start
   pub many : ℕ
   pub output : List (List ℕ)
   pub last : S
   pub each : AnswersEach c.Answers start (first_lines many text) output last
-  pub line : first_line (behind many text) ≡ codes "restart"
+  pub line : first_line (behind many text) ≡ restart
   pub full : HasNoRoom (see last).guard
   pub ends : Ends (see last)
 

@@ -5,14 +5,14 @@ ghost use Rattle.xfs_base.specs.Causes.{IfTold, Rose};
 ghost use Rattle.xfs_script.specs.Lines.{AllLines, StopsAtLine};
 ghost use Rattle.xfs_cli.specs.AuditRuns.{Audits, Judges, RunsAuditOf};
 ghost use Rattle.xfs_cli.specs.AuditVerbs.{IsLineOfAudit, handed_of};
-ghost use Rattle.xfs_cli.specs.Returns.{back};
+ghost use Rattle.xfs_cli.specs.Returns.{back, second_back};
 ghost use Rattle.xfs_cli.specs.Run.{IsAudit};
 ghost use Rattle.xfs_cli.specs.Statuses.{IsCaused, IsStatus};
 ghost use Rattle.xfs_cli.specs.Streams.{io_of};
 ghost use Rattle.xfs_cli.specs.TokenRuns.{IsKept, WritesUsage};
 
 use crate::audit_answer::Auditor;
-use crate::ended::Ended;
+use crate::ended::{Ended, kept};
 use crate::last_line::{finish, usage};
 use crate::status::{
     DISK_FAULT, JOURNAL_FULL, NO_MEMORY, NOT_A_JOURNAL, NOT_A_LINE, READ_TO_END, USAGE, WRITE_FAULT,
@@ -41,8 +41,15 @@ pub fn audit<S: Source, K: Sink, M: Mechanism, D: Disk, P: Watch, Q: Watch>(
     ensures unread { result.status ≡ USAGE → source.new ≡ source.old }
     ensures statuses { IsStatus result.status }
     ensures causes { IsCaused result.status (io_of S.Source K.Sink source.old source.new sink.old sink.new) }
+    ensures second { IsKept bench.second (second_back result) }
 {
-    let Bench { core, cards, keys } = bench;
+    let Bench {
+        core,
+        cards,
+        keys,
+        second,
+    } = bench;
+    let second = kept(second);
     drop(cards);
     drop(keys);
     let Core {
@@ -61,6 +68,7 @@ pub fn audit<S: Source, K: Sink, M: Mechanism, D: Disk, P: Watch, Q: Watch>(
             mech,
             disk,
             link: None,
+            second,
         };
     }
     let status = judge(alloc, &key, &units, source, sink);
@@ -69,6 +77,7 @@ pub fn audit<S: Source, K: Sink, M: Mechanism, D: Disk, P: Watch, Q: Watch>(
         mech,
         disk,
         link: None,
+        second,
     }
 }
 

@@ -4,13 +4,13 @@ ghost use Rattle.std.specs.Prelude.{◌≡◌, ◌↔◌, None};
 ghost use Rattle.xfs_guard.specs.Starts.{Starts};
 ghost use Rattle.xfs_cli.specs.ClientRuns.{RunsClientOf};
 ghost use Rattle.xfs_cli.specs.Moments.{WasOnTheWayAll};
-ghost use Rattle.xfs_cli.specs.Returns.{back};
+ghost use Rattle.xfs_cli.specs.Returns.{back, second_back};
 ghost use Rattle.xfs_cli.specs.Run.{IsClient};
 ghost use Rattle.xfs_cli.specs.Streams.{output};
 ghost use Rattle.xfs_cli.specs.TokenRuns.{IsKept};
 ghost use Rattle.xfs_cli.specs.Upholds.{UpholdsAll};
 
-use crate::ended::Ended;
+use crate::ended::{Ended, kept};
 use crate::last_line::usage;
 use crate::status::USAGE;
 use crate::words::withdrawal_of;
@@ -40,8 +40,15 @@ pub fn client<R: Wait, K: Sink, M: Mechanism, D: Disk, P: Watch, Q: Watch, C: Cl
     ensures kept { IsKept bench.core (back result) }
     ensures runs { RunsClientOf words.now O.Link.log bench.core result (O.log doors.old) (O.log doors.new) (output K.Sink sink.old sink.new) }
     ensures usage { (result.status ≡ USAGE) ↔ ¬ (IsClient words.now) }
+    ensures second { IsKept bench.second (second_back result) }
 {
-    let Bench { core, cards, keys } = bench;
+    let Bench {
+        core,
+        cards,
+        keys,
+        second,
+    } = bench;
+    let second = kept(second);
     drop(cards);
     drop(keys);
     let Some((currency, amount)) = withdrawal_of(alloc, words) else {
@@ -51,6 +58,7 @@ pub fn client<R: Wait, K: Sink, M: Mechanism, D: Disk, P: Watch, Q: Watch, C: Cl
             mech: core.mech,
             disk: core.disk,
             link: None,
+            second,
         };
     };
     let withdrawn = withdraw(rt, alloc, currency, amount, core.key, doors, clock, sink);
@@ -59,5 +67,6 @@ pub fn client<R: Wait, K: Sink, M: Mechanism, D: Disk, P: Watch, Q: Watch, C: Cl
         mech: core.mech,
         disk: core.disk,
         link: withdrawn.link,
+        second,
     }
 }

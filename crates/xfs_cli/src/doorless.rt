@@ -1,6 +1,6 @@
 //! The commands that ask nothing of the doors.
 
-ghost use Rattle.std.specs.Prelude.{◌≡◌, ◌↔◌, ◌∷◌, [], None};
+ghost use Rattle.std.specs.Prelude.{◌≡◌, ◌≢◌, ◌↔◌, ◌⊎◌, IsTrue, None};
 ghost use Rattle.xfs_guard.specs.Starts.{Starts};
 ghost use Rattle.xfs_cli.specs.AuditRuns.{RunsAuditOf};
 ghost use Rattle.xfs_cli.specs.GuardRuns.{RunsGuardOf};
@@ -8,9 +8,8 @@ ghost use Rattle.xfs_cli.specs.HostRuns.{RunsHostOf};
 ghost use Rattle.xfs_cli.specs.LoadRuns.{RunsLoadOf};
 ghost use Rattle.xfs_cli.specs.Moments.{WasOnTheWayAll};
 ghost use Rattle.xfs_cli.specs.ReplayRuns.{RunsReplayOf};
-ghost use Rattle.xfs_cli.specs.Returns.{back};
-ghost use Rattle.xfs_cli.specs.Run.{IsClient, IsCommand, IsLoad, IsServe};
-ghost use Rattle.xfs_cli.specs.Served.{WritesLast, usage_line};
+ghost use Rattle.xfs_cli.specs.Returns.{back, second_back};
+ghost use Rattle.xfs_cli.specs.Run.{IsAudit, IsClient, IsCommand, IsFleet, IsGuard, IsHost, IsLoad, IsReplay, IsServe, IsToken};
 ghost use Rattle.xfs_cli.specs.Statuses.{IsCaused, IsStatus};
 ghost use Rattle.xfs_cli.specs.Streams.{io_of};
 ghost use Rattle.xfs_cli.specs.TokenRuns.{IsKept, RunsTokenOf, WritesUsage};
@@ -20,21 +19,19 @@ use crate::audit_command::audit;
 use crate::ended::Ended;
 use crate::guard_command::guard;
 use crate::host_command::host;
-use crate::last_line::usage;
 use crate::load_command::load;
 use crate::replay_command::replay;
 use crate::status::USAGE;
 use crate::token_command::token;
-use crate::words::command_of;
+use crate::words::{is_word, rounds_of};
 use std::alloc::Global;
 use xfs_base::{Sink, Source};
 use xfs_disk::Disk;
 use xfs_guard::Bench;
 use xfs_mech::{Mechanism, Watch};
-use xfs_words::Command;
 
-/// Runs the command that the words name, other than `serve` and `client`; words that name none are told those that
-/// there are. No link comes back.
+/// Runs the command that the words name, other than `serve`, `client` and `fleet`; words that name none are told those
+/// that there are. No link comes back, and the second machine is not touched.
 pub fn run_without_doors<S: Source, K: Sink, M: Mechanism, D: Disk, P: Watch, Q: Watch, L>(
     alloc: Global,
     words: &[String],
@@ -45,6 +42,7 @@ pub fn run_without_doors<S: Source, K: Sink, M: Mechanism, D: Disk, P: Watch, Q:
     requires starts { Starts M.Mechanism D.Disk bench.core }
     requires serve { ¬ (IsServe words.now) }
     requires client { ¬ (IsClient words.now) }
+    requires fleet { ¬ (IsFleet words.now) }
     ensures upholds { UpholdsAll M.Mechanism D.Disk bench.core (back result) }
     ensures any_moment { WasOnTheWayAll M.Mechanism D.Disk bench.core (back result) }
     ensures guard { RunsGuardOf words.now M.Mechanism D.Disk bench.core result (io_of S.Source K.Sink source.old source.new sink.old sink.new) }
@@ -63,48 +61,91 @@ pub fn run_without_doors<S: Source, K: Sink, M: Mechanism, D: Disk, P: Watch, Q:
     ensures accounts { Accounts M.Mechanism D.Disk bench.core (back result) }
     ensures units { M.units result.mech ≡ bench.core.units }
     ensures unlinked { result.link ≡ None }
+    ensures second { IsKept bench.second (second_back result) }
 {
-    match command_of(alloc, words) {
-        Some(Command::Guard) => linkless(guard(alloc, words, source, sink, bench)),
-        Some(Command::Token) => linkless(token(alloc, words, source, sink, bench)),
-        Some(Command::Replay) => linkless(replay(alloc, words, source, sink, bench)),
-        Some(Command::Load(_)) => linkless(load(alloc, words, source, sink, bench)),
-        Some(Command::Host) => linkless(host(alloc, words, source, sink, bench)),
-        Some(Command::Audit) => linkless(audit(alloc, words, source, sink, bench)),
-        // These two ask something of the doors.
-        Some(Command::Serve(_) | Command::Client(_, _)) => untouched(sink, bench),
-        None => untouched(sink, bench),
+    if boots(alloc, words) {
+        linkless(run_booting(alloc, words, source, sink, bench))
+    } else {
+        linkless(run_unbooted(alloc, words, source, sink, bench))
     }
 }
 
-// Tells the words that there are.
-fn untouched<K: Sink, M: Mechanism, D: Disk, P: Watch, Q: Watch, L>(
+// Whether the words name a command that boots its machine or its guard, and asks nothing of the doors.
+fn boots(alloc: Global, words: &[String]) -> bool
+    ensures { IsTrue result ↔ (IsGuard words.now ⊎ (IsReplay words.now ⊎ IsLoad words.now)) }
+{
+    is_word(words, "guard") || is_word(words, "replay") || rounds_of(alloc, words).is_some()
+}
+
+// Runs the command that boots.
+fn run_booting<S: Source, K: Sink, M: Mechanism, D: Disk, P: Watch, Q: Watch>(
+    alloc: Global,
+    words: &[String],
+    source: &mut S,
     sink: &mut K,
     bench: Bench<M, D, P, Q>,
-) -> Ended<M, D, L>
-    ensures same { result ≡ record { status = USAGE; mech = bench.core.mech; disk = bench.core.disk; link = None } }
-    ensures written { WritesLast (usage_line ∷ []) (K.faults sink.old) (K.faults sink.new) (K.held sink.old) (K.held sink.new) }
+) -> Ended<M, D, ()>
+    requires starts { Starts M.Mechanism D.Disk bench.core }
+    requires boots { IsGuard words.now ⊎ (IsReplay words.now ⊎ IsLoad words.now) }
+    ensures upholds { UpholdsAll M.Mechanism D.Disk bench.core (back result) }
+    ensures any_moment { WasOnTheWayAll M.Mechanism D.Disk bench.core (back result) }
+    ensures guard { RunsGuardOf words.now M.Mechanism D.Disk bench.core result (io_of S.Source K.Sink source.old source.new sink.old sink.new) }
+    ensures replay { RunsReplayOf words.now M.Mechanism D.Disk bench.core result (io_of S.Source K.Sink source.old source.new sink.old sink.new) }
+    ensures load { RunsLoadOf words.now M.Mechanism D.Disk bench.core result (io_of S.Source K.Sink source.old source.new sink.old sink.new) }
+    ensures usage { result.status ≢ USAGE }
+    ensures load_unread { IsLoad words.now → source.new ≡ source.old }
+    ensures statuses { IsStatus result.status }
+    ensures causes { ¬ (IsLoad words.now) → IsCaused result.status (io_of S.Source K.Sink source.old source.new sink.old sink.new) }
+    ensures accounts { Accounts M.Mechanism D.Disk bench.core (back result) }
+    ensures units { M.units result.mech ≡ bench.core.units }
+    ensures second { IsKept bench.second (second_back result) }
 {
-    usage(sink);
-    let Bench { core, cards, keys } = bench;
-    drop(cards);
-    drop(keys);
-    Ended {
-        status: USAGE,
-        mech: core.mech,
-        disk: core.disk,
-        link: None,
+    if is_word(words, "guard") {
+        return guard(alloc, words, source, sink, bench);
     }
+    if is_word(words, "replay") {
+        return replay(alloc, words, source, sink, bench);
+    }
+    load(alloc, words, source, sink, bench)
+}
+
+// Runs the command that answers lines and boots nothing; other words are told those that there are.
+fn run_unbooted<S: Source, K: Sink, M: Mechanism, D: Disk, P: Watch, Q: Watch>(
+    alloc: Global,
+    words: &[String],
+    source: &mut S,
+    sink: &mut K,
+    bench: Bench<M, D, P, Q>,
+) -> Ended<M, D, ()>
+    ensures kept { IsKept bench.core (back result) }
+    ensures token { RunsTokenOf words.now bench.core result (io_of S.Source K.Sink source.old source.new sink.old sink.new) }
+    ensures host { RunsHostOf words.now bench.core result (io_of S.Source K.Sink source.old source.new sink.old sink.new) }
+    ensures audit { RunsAuditOf words.now bench.core result (io_of S.Source K.Sink source.old source.new sink.old sink.new) }
+    ensures usage { (result.status ≡ USAGE) ↔ ¬ (IsToken words.now ⊎ (IsHost words.now ⊎ IsAudit words.now)) }
+    ensures usage_written { result.status ≡ USAGE → WritesUsage (io_of S.Source K.Sink source.old source.new sink.old sink.new) }
+    ensures unread { result.status ≡ USAGE → source.new ≡ source.old }
+    ensures statuses { IsStatus result.status }
+    ensures causes { IsCaused result.status (io_of S.Source K.Sink source.old source.new sink.old sink.new) }
+    ensures second { IsKept bench.second (second_back result) }
+{
+    if is_word(words, "token") {
+        return token(alloc, words, source, sink, bench);
+    }
+    if is_word(words, "host") {
+        return host(alloc, words, source, sink, bench);
+    }
+    audit(alloc, words, source, sink, bench)
 }
 
 // The same of a command that dials nothing, where a link could be.
-fn linkless<M: Mechanism, D: Disk, L>(ended: Ended<M, D, ()>) -> Ended<M, D, L>
-    ensures { result ≡ record { status = ended.status; mech = ended.mech; disk = ended.disk; link = None } }
+pub(crate) fn linkless<M: Mechanism, D: Disk, L>(ended: Ended<M, D, ()>) -> Ended<M, D, L>
+    ensures { result ≡ record { status = ended.status; mech = ended.mech; disk = ended.disk; link = None; second = ended.second } }
 {
     Ended {
         status: ended.status,
         mech: ended.mech,
         disk: ended.disk,
         link: None,
+        second: ended.second,
     }
 }

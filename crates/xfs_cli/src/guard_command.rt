@@ -6,14 +6,14 @@ ghost use Rattle.xfs_guard.specs.Stored.{IsStored};
 ghost use Rattle.xfs_guard.specs.Starts.{Starts};
 ghost use Rattle.xfs_cli.specs.GuardRuns.{RunsGuardOf};
 ghost use Rattle.xfs_cli.specs.Moments.{WasOnTheWayAll};
-ghost use Rattle.xfs_cli.specs.Returns.{back};
+ghost use Rattle.xfs_cli.specs.Returns.{back, second_back};
 ghost use Rattle.xfs_cli.specs.Run.{IsGuard};
 ghost use Rattle.xfs_cli.specs.Statuses.{IsCaused, IsStatus};
 ghost use Rattle.xfs_cli.specs.Streams.{io_of};
 ghost use Rattle.xfs_cli.specs.TokenRuns.{IsKept, WritesUsage};
 ghost use Rattle.xfs_cli.specs.Upholds.{Accounts, UpholdsAll};
 
-use crate::ended::Ended;
+use crate::ended::{Ended, kept};
 use crate::guard_player::GuardPlayer;
 use crate::last_line::{unbooted, usage};
 use crate::serve::serve;
@@ -46,8 +46,15 @@ pub fn guard<S: Source, K: Sink, M: Mechanism, D: Disk, P: Watch, Q: Watch>(
     ensures causes { IsCaused result.status (io_of S.Source K.Sink source.old source.new sink.old sink.new) }
     ensures accounts { Accounts M.Mechanism D.Disk bench.core (back result) }
     ensures units { M.units result.mech ≡ bench.core.units }
+    ensures second { IsKept bench.second (second_back result) }
 {
-    let Bench { core, cards, keys } = bench;
+    let Bench {
+        core,
+        cards,
+        keys,
+        second,
+    } = bench;
+    let second = kept(second);
     drop(cards);
     drop(keys);
     let Core {
@@ -66,6 +73,7 @@ pub fn guard<S: Source, K: Sink, M: Mechanism, D: Disk, P: Watch, Q: Watch>(
             mech,
             disk,
             link: None,
+            second,
         };
     }
     match Guard::boot(alloc, mech, disk, key, seed, units, limits) {
@@ -83,6 +91,7 @@ pub fn guard<S: Source, K: Sink, M: Mechanism, D: Disk, P: Watch, Q: Watch>(
                 mech,
                 disk,
                 link: None,
+                second,
             }
         }
         Err(BootFail { why, mech, disk }) => Ended {
@@ -90,6 +99,7 @@ pub fn guard<S: Source, K: Sink, M: Mechanism, D: Disk, P: Watch, Q: Watch>(
             mech,
             disk,
             link: None,
+            second,
         },
     }
 }

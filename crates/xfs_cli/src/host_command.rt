@@ -2,13 +2,13 @@
 
 ghost use Rattle.std.specs.Prelude.{◌≡◌, ◌↔◌};
 ghost use Rattle.xfs_cli.specs.HostRuns.{RunsHostOf};
-ghost use Rattle.xfs_cli.specs.Returns.{back};
+ghost use Rattle.xfs_cli.specs.Returns.{back, second_back};
 ghost use Rattle.xfs_cli.specs.Run.{IsHost};
 ghost use Rattle.xfs_cli.specs.Statuses.{IsCaused, IsStatus};
 ghost use Rattle.xfs_cli.specs.Streams.{io_of};
 ghost use Rattle.xfs_cli.specs.TokenRuns.{IsKept, WritesUsage};
 
-use crate::ended::Ended;
+use crate::ended::{Ended, kept};
 use crate::host_answer::Bank;
 use crate::last_line::usage;
 use crate::serve::serve;
@@ -37,8 +37,15 @@ pub fn host<S: Source, K: Sink, M: Mechanism, D: Disk, P: Watch, Q: Watch>(
     ensures unread { result.status ≡ USAGE → source.new ≡ source.old }
     ensures statuses { IsStatus result.status }
     ensures causes { IsCaused result.status (io_of S.Source K.Sink source.old source.new sink.old sink.new) }
+    ensures second { IsKept bench.second (second_back result) }
 {
-    let Bench { core, cards, keys } = bench;
+    let Bench {
+        core,
+        cards,
+        keys,
+        second,
+    } = bench;
+    let second = kept(second);
     drop(cards);
     drop(keys);
     let Core {
@@ -57,6 +64,7 @@ pub fn host<S: Source, K: Sink, M: Mechanism, D: Disk, P: Watch, Q: Watch>(
             mech,
             disk,
             link: None,
+            second,
         };
     }
     let mut bank = Bank {
@@ -69,5 +77,6 @@ pub fn host<S: Source, K: Sink, M: Mechanism, D: Disk, P: Watch, Q: Watch>(
         mech,
         disk,
         link: None,
+        second,
     }
 }

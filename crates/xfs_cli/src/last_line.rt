@@ -78,7 +78,7 @@ pub fn usage<K: Sink>(sink: &mut K)
 {
     say(
         sink,
-        b"usage: xfs guard | token | replay | load N | serve N | client CUR AMOUNT | host | audit",
+        b"usage: xfs guard | token | replay | load N | serve N | client CUR AMOUNT | host | audit | fleet",
         b"",
         b"",
     );

@@ -7,6 +7,7 @@ mod client_command;
 mod clients;
 mod doorless;
 mod ended;
+mod fleet_command;
 mod guard_answer;
 mod guard_command;
 mod guard_player;
@@ -35,6 +36,7 @@ mod words;
 
 pub use audit_command::audit;
 pub use ended::Ended;
+pub use fleet_command::fleet;
 pub use guard_command::guard;
 pub use host_command::host;
 pub use load_command::load;

@@ -10,14 +10,14 @@ ghost use Rattle.xfs_script.specs.Answered.{lines_text};
 ghost use Rattle.xfs_cli.specs.LoadEnds.{EndsLoad, TellsOrNot, output};
 ghost use Rattle.xfs_cli.specs.LoadRuns.{RunsLoadOf};
 ghost use Rattle.xfs_cli.specs.Moments.{WasOnTheWayAll};
-ghost use Rattle.xfs_cli.specs.Returns.{back};
+ghost use Rattle.xfs_cli.specs.Returns.{back, second_back};
 ghost use Rattle.xfs_cli.specs.Run.{IsLoad};
 ghost use Rattle.xfs_cli.specs.Statuses.{IsStatus};
 ghost use Rattle.xfs_cli.specs.Streams.{io_of};
 ghost use Rattle.xfs_cli.specs.TokenRuns.{IsKept, WritesUsage};
 ghost use Rattle.xfs_cli.specs.Upholds.{Accounts, UpholdsAll};
 
-use crate::ended::Ended;
+use crate::ended::{Ended, kept};
 use crate::last_line::{unbooted, usage};
 use crate::status::{NO_MEMORY, READ_TO_END, USAGE, WRITE_FAULT};
 use crate::text::ended;
@@ -50,8 +50,15 @@ pub fn load<S: Source, K: Sink, M: Mechanism, D: Disk, P: Watch, Q: Watch>(
     ensures statuses { IsStatus result.status }
     ensures accounts { Accounts M.Mechanism D.Disk bench.core (back result) }
     ensures units { M.units result.mech ≡ bench.core.units }
+    ensures second { IsKept bench.second (second_back result) }
 {
-    let Bench { core, cards, keys } = bench;
+    let Bench {
+        core,
+        cards,
+        keys,
+        second,
+    } = bench;
+    let second = kept(second);
     drop(cards);
     drop(keys);
     let Some(rounds) = rounds_of(alloc, words) else {
@@ -61,6 +68,7 @@ pub fn load<S: Source, K: Sink, M: Mechanism, D: Disk, P: Watch, Q: Watch>(
             mech: core.mech,
             disk: core.disk,
             link: None,
+            second,
         };
     };
     let key = core.key;
@@ -73,6 +81,7 @@ pub fn load<S: Source, K: Sink, M: Mechanism, D: Disk, P: Watch, Q: Watch>(
                 mech,
                 disk,
                 link: None,
+                second,
             }
         }
         Err(BootFail { why, mech, disk }) => Ended {
@@ -80,6 +89,7 @@ pub fn load<S: Source, K: Sink, M: Mechanism, D: Disk, P: Watch, Q: Watch>(
             mech,
             disk,
             link: None,
+            second,
         },
     }
 }

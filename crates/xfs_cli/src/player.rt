@@ -25,3 +25,25 @@ pub struct Player<M: Mechanism, D: Disk> {
     ghost keyed: { key ≡ machine.state.seen.guard.key },
     ghost timed: { now.0 ≤ LAST_MOMENT },
 }
+
+impl<M: Mechanism, D: Disk> Player<M, D> {
+    ghost use Rattle.std.specs.Prelude.{◌≡◌};
+    ghost use Rattle.xfs_cli.specs.ReplayStates.{begun, played};
+
+    /// Over a machine that was booted: no client is joined, the moment is 0, and no token was minted.
+    pub fn new(alloc: Global, machine: Machine<M, D>, key: [u8; 32]) -> Player<M, D>
+        requires key { key ≡ machine.state.seen.guard.key }
+        ensures machine { result.machine ≡ machine }
+        ensures begun { played result ≡ begun machine.state }
+    {
+        Player {
+            alloc,
+            machine,
+            key: TokenKey::new(key),
+            clients: Clients::new(alloc),
+            now: Moment(0),
+            last: None,
+            tally: Tally::new(),
+        }
+    }
+}

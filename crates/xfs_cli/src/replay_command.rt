@@ -4,26 +4,24 @@ ghost use Rattle.std.specs.Prelude.{◌≡◌, ◌↔◌};
 ghost use Rattle.xfs_guard.specs.Starts.{Starts};
 ghost use Rattle.xfs_cli.specs.Moments.{WasOnTheWayAll};
 ghost use Rattle.xfs_cli.specs.ReplayRuns.{RunsReplayOf};
-ghost use Rattle.xfs_cli.specs.Returns.{back};
+ghost use Rattle.xfs_cli.specs.Returns.{back, second_back};
 ghost use Rattle.xfs_cli.specs.Run.{IsReplay};
 ghost use Rattle.xfs_cli.specs.Statuses.{IsCaused, IsStatus};
 ghost use Rattle.xfs_cli.specs.Streams.{io_of};
 ghost use Rattle.xfs_cli.specs.TokenRuns.{IsKept, WritesUsage};
 ghost use Rattle.xfs_cli.specs.Upholds.{Accounts, UpholdsAll};
 
-use crate::clients::Clients;
-use crate::ended::Ended;
+use crate::ended::{Ended, kept};
 use crate::last_line::{unbooted, usage};
 use crate::player::Player;
 use crate::serve::serve;
 use crate::status::USAGE;
-use crate::token_key::TokenKey;
 use crate::words::is_word;
 use std::alloc::Global;
-use xfs_base::{Moment, Sink, Source};
+use xfs_base::{Sink, Source};
 use xfs_disk::Disk;
 use xfs_guard::{Bench, BootFail};
-use xfs_machine::{Machine, Tally};
+use xfs_machine::Machine;
 use xfs_mech::{Mechanism, Watch};
 
 /// Reads replay lines and answers each of them from a machine, before the next line is read.
@@ -46,8 +44,15 @@ pub fn replay<S: Source, K: Sink, M: Mechanism, D: Disk, P: Watch, Q: Watch>(
     ensures causes { IsCaused result.status (io_of S.Source K.Sink source.old source.new sink.old sink.new) }
     ensures accounts { Accounts M.Mechanism D.Disk bench.core (back result) }
     ensures units { M.units result.mech ≡ bench.core.units }
+    ensures second { IsKept bench.second (second_back result) }
 {
-    let Bench { core, cards, keys } = bench;
+    let Bench {
+        core,
+        cards,
+        keys,
+        second,
+    } = bench;
+    let second = kept(second);
     drop(cards);
     drop(keys);
     if !is_word(words, "replay") {
@@ -57,20 +62,13 @@ pub fn replay<S: Source, K: Sink, M: Mechanism, D: Disk, P: Watch, Q: Watch>(
             mech: core.mech,
             disk: core.disk,
             link: None,
+            second,
         };
     }
     let key = core.key;
     match Machine::boot(alloc, core) {
         Ok(machine) => {
-            let mut player = Player {
-                alloc,
-                machine,
-                key: TokenKey::new(key),
-                clients: Clients::new(alloc),
-                now: Moment(0),
-                last: None,
-                tally: Tally::new(),
-            };
+            let mut player = Player::new(alloc, machine, key);
             let status = serve(alloc, &mut player, source, sink);
             let (mech, disk) = player.machine.end();
             Ended {
@@ -78,6 +76,7 @@ pub fn replay<S: Source, K: Sink, M: Mechanism, D: Disk, P: Watch, Q: Watch>(
                 mech,
                 disk,
                 link: None,
+                second,
             }
         }
         Err(BootFail { why, mech, disk }) => Ended {
@@ -85,6 +84,7 @@ pub fn replay<S: Source, K: Sink, M: Mechanism, D: Disk, P: Watch, Q: Watch>(
             mech,
             disk,
             link: None,
+            second,
         },
     }
 }

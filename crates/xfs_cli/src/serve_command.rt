@@ -3,13 +3,14 @@
 ghost use Rattle.std.specs.Prelude.{◌≡◌, ◌≤◌};
 ghost use Rattle.xfs_guard.specs.Starts.{Starts};
 ghost use Rattle.xfs_cli.specs.Moments.{WasOnTheWayAll};
-ghost use Rattle.xfs_cli.specs.Returns.{back};
+ghost use Rattle.xfs_cli.specs.Returns.{back, second_back};
 ghost use Rattle.xfs_cli.specs.ServeRuns.{RunsServe, served_line, served_status};
 ghost use Rattle.xfs_cli.specs.Served.{WritesLast};
 ghost use Rattle.xfs_cli.specs.Streams.{output};
+ghost use Rattle.xfs_cli.specs.TokenRuns.{IsKept};
 ghost use Rattle.xfs_cli.specs.Upholds.{Accounts, UpholdsAll};
 
-use crate::ended::Ended;
+use crate::ended::{Ended, kept};
 use crate::last_line::unbooted;
 use crate::status::{LINK_FAILED, NO_MEMORY, READ_TO_END};
 use std::alloc::Global;
@@ -53,8 +54,15 @@ pub fn serve_machine<
     ensures accounts { Accounts M.Mechanism D.Disk bench.core (back result) }
     ensures units { M.units result.mech ≡ bench.core.units }
     ensures undialled { result.link ≡ None }
+    ensures second { IsKept bench.second (second_back result) }
 {
-    let Bench { core, cards, keys } = bench;
+    let Bench {
+        core,
+        cards,
+        keys,
+        second,
+    } = bench;
+    let second = kept(second);
     match Machine::boot(alloc, core) {
         Ok(machine) => {
             let Served { ending, machine } = serve_connections::<R, M, D, O, C, G, P, Q>(
@@ -74,6 +82,7 @@ pub fn serve_machine<
                 mech,
                 disk,
                 link: None,
+                second,
             }
         }
         Err(BootFail { why, mech, disk }) => Ended {
@@ -81,6 +90,7 @@ pub fn serve_machine<
             mech,
             disk,
             link: None,
+            second,
         },
     }
 }

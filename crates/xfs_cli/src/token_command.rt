@@ -1,13 +1,13 @@
 //! The command `token`.
 
 ghost use Rattle.std.specs.Prelude.{◌≡◌, ◌↔◌};
-ghost use Rattle.xfs_cli.specs.Returns.{back};
+ghost use Rattle.xfs_cli.specs.Returns.{back, second_back};
 ghost use Rattle.xfs_cli.specs.Run.{IsToken};
 ghost use Rattle.xfs_cli.specs.Statuses.{IsCaused, IsStatus};
 ghost use Rattle.xfs_cli.specs.Streams.{io_of};
 ghost use Rattle.xfs_cli.specs.TokenRuns.{IsKept, RunsTokenOf, WritesUsage};
 
-use crate::ended::Ended;
+use crate::ended::{Ended, kept};
 use crate::last_line::usage;
 use crate::serve::serve;
 use crate::status::USAGE;
@@ -35,8 +35,15 @@ pub fn token<S: Source, K: Sink, M: Mechanism, D: Disk, P: Watch, Q: Watch>(
     ensures unread { result.status ≡ USAGE → source.new ≡ source.old }
     ensures statuses { IsStatus result.status }
     ensures causes { IsCaused result.status (io_of S.Source K.Sink source.old source.new sink.old sink.new) }
+    ensures second { IsKept bench.second (second_back result) }
 {
-    let Bench { core, cards, keys } = bench;
+    let Bench {
+        core,
+        cards,
+        keys,
+        second,
+    } = bench;
+    let second = kept(second);
     drop(cards);
     drop(keys);
     let Core {
@@ -55,6 +62,7 @@ pub fn token<S: Source, K: Sink, M: Mechanism, D: Disk, P: Watch, Q: Watch>(
             mech,
             disk,
             link: None,
+            second,
         };
     }
     let mut tokens = Tokens {
@@ -67,5 +75,6 @@ pub fn token<S: Source, K: Sink, M: Mechanism, D: Disk, P: Watch, Q: Watch>(
         mech,
         disk,
         link: None,
+        second,
     }
 }

@@ -4,13 +4,14 @@ ghost use Rattle.std.specs.Prelude.{◌≡◌, ◌⊎◌, ◌↔◌, None};
 ghost use Rattle.xfs_guard.specs.Starts.{Starts};
 ghost use Rattle.xfs_cli.specs.AuditRuns.{RunsAuditOf};
 ghost use Rattle.xfs_cli.specs.ClientRuns.{IsUndialled, RunsClientOf};
+ghost use Rattle.xfs_cli.specs.FleetRuns.{RunsFleetOf};
 ghost use Rattle.xfs_cli.specs.GuardRuns.{RunsGuardOf};
 ghost use Rattle.xfs_cli.specs.HostRuns.{RunsHostOf};
 ghost use Rattle.xfs_cli.specs.LoadRuns.{RunsLoadOf};
 ghost use Rattle.xfs_cli.specs.Moments.{WasOnTheWayAll};
 ghost use Rattle.xfs_cli.specs.ReplayRuns.{RunsReplayOf};
-ghost use Rattle.xfs_cli.specs.Returns.{back};
-ghost use Rattle.xfs_cli.specs.Run.{IsClient, IsCommand, IsUnread};
+ghost use Rattle.xfs_cli.specs.Returns.{back, second_back};
+ghost use Rattle.xfs_cli.specs.Run.{IsClient, IsCommand, IsFleet, IsUnread};
 ghost use Rattle.xfs_cli.specs.ServeRuns.{RunsServeOf};
 ghost use Rattle.xfs_cli.specs.Statuses.{IsCaused, IsStatusOf};
 ghost use Rattle.xfs_cli.specs.Streams.{io_of, output};
@@ -18,8 +19,9 @@ ghost use Rattle.xfs_cli.specs.TokenRuns.{IsKept, RunsTokenOf, WritesUsage};
 ghost use Rattle.xfs_cli.specs.Upholds.{Accounts, UpholdsAll};
 
 use crate::client_command::client;
-use crate::doorless::run_without_doors;
+use crate::doorless::{linkless, run_without_doors};
 use crate::ended::Ended;
+use crate::fleet_command::fleet;
 use crate::serve_command::serve_machine;
 use crate::status::USAGE;
 use crate::words::{Task, task_of};
@@ -57,6 +59,7 @@ pub fn run<
     gate: &G,
 ) -> Ended<M, D, O::Link>
     requires starts { Starts M.Mechanism D.Disk bench.core }
+    requires second { IsFleet words.now → Starts M.Mechanism D.Disk bench.second }
 
     // The headline: what was put out is within the tokens, whatever a crash leaves of the disk, and it follows what was
     // there at entry. A crash at any moment of the run leaves a list that begins with the records at entry, and is a
@@ -71,6 +74,7 @@ pub fn run<
     ensures token { RunsTokenOf words.now bench.core result (io_of S.Source K.Sink source.old source.new sink.old sink.new) }
     ensures host { RunsHostOf words.now bench.core result (io_of S.Source K.Sink source.old source.new sink.old sink.new) }
     ensures audit { RunsAuditOf words.now bench.core result (io_of S.Source K.Sink source.old source.new sink.old sink.new) }
+    ensures fleet { RunsFleetOf words.now M.Mechanism D.Disk bench.core bench.second result (io_of S.Source K.Sink source.old source.new sink.old sink.new) }
     ensures serve { RunsServeOf words.now M.Mechanism D.Disk bench.core result (O.log doors.old) (O.log doors.new) (output K.Sink sink.old sink.new) }
     ensures client { RunsClientOf words.now O.Link.log bench.core result (O.log doors.old) (O.log doors.new) (output K.Sink sink.old sink.new) }
 
@@ -85,9 +89,10 @@ pub fn run<
     ensures causes { ¬ (IsUnread words.now) → IsCaused result.status (io_of S.Source K.Sink source.old source.new sink.old sink.new) }
 
     // What comes back: the mechanism's notes add up, its table of units is the one that was handed in, and what told
-    // its list or its bytes still does. Only `client` dials, and its link comes back.
+    // its list or its bytes still does. Only `client` dials, and its link comes back. Only `fleet` touches the second.
     ensures accounts { Accounts M.Mechanism D.Disk bench.core (back result) }
     ensures units { M.units result.mech ≡ bench.core.units }
+    ensures second { ¬ (IsFleet words.now) → IsKept bench.second (second_back result) }
     ensures undialled { ¬ (IsClient words.now) → IsUndialled result.link (O.log doors.old) (O.log doors.new) }
 {
     match task_of(alloc, words) {
@@ -102,6 +107,7 @@ pub fn run<
             gate,
         ),
         Task::Client => client(rt, alloc, words, sink, bench, clock, doors),
+        Task::Fleet => linkless(fleet(alloc, words, source, sink, bench)),
         Task::Other => run_without_doors(alloc, words, source, sink, bench),
     }
 }

@@ -39,7 +39,7 @@ pub fn rounds_of(alloc: Global, words: &[String]) -> Option<u32>
     match command_of(alloc, words) {
         Some(Command::Load(rounds)) => Some(rounds as u32),
         Some(Command::Guard | Command::Token | Command::Replay) => None,
-        Some(Command::Host | Command::Audit) => None,
+        Some(Command::Host | Command::Audit | Command::Fleet) => None,
         Some(Command::Serve(_) | Command::Client(_, _)) => None,
         None => None,
     }
@@ -53,29 +53,32 @@ pub fn withdrawal_of(alloc: Global, words: &[String]) -> Option<(Currency, u32)>
     match &command_of(alloc, words) {
         Some(Command::Client(currency, amount)) => Some((*currency, *amount as u32)),
         Some(Command::Guard | Command::Token | Command::Replay) => None,
-        Some(Command::Host | Command::Audit) => None,
+        Some(Command::Host | Command::Audit | Command::Fleet) => None,
         Some(Command::Load(_) | Command::Serve(_)) => None,
         None => None,
     }
 }
 
-/// What words ask of the doors.
+/// What words ask of the doors and of the second machine.
 pub enum Task {
     /// `serve N`: to take so many connections.
     Serve(u32),
     /// `client CUR AMOUNT`: to dial.
     Client,
+    /// `fleet`: to play the second machine beside the first.
+    Fleet,
     /// Nothing.
     Other,
 }
 
-/// What the words ask of the doors.
+/// What the words ask of the doors and of the second machine.
 pub fn task_of(alloc: Global, words: &[String]) -> Task
     ensures { IsTask words.now result }
 {
     match command_of(alloc, words) {
         Some(Command::Serve(connections)) => Task::Serve(connections as u32),
         Some(Command::Client(_, _)) => Task::Client,
+        Some(Command::Fleet) => Task::Fleet,
         Some(Command::Guard | Command::Token | Command::Replay) => Task::Other,
         Some(Command::Load(_) | Command::Host | Command::Audit) => Task::Other,
         None => Task::Other,

@@ -1,5 +1,10 @@
-use Rattle.std.proofs.Common.{inl, inr}
-use Rattle.xfs_words.specs.declared.command.Command.TheVariants.{Serve, Client}
+use Rattle.std.proofs.Common.{inl, inr, subst, sym}
+use Rattle.xfs_words.specs.declared.command.Command.TheVariants.{Client, Fleet, Serve}
+use Rattle.xfs_cli.specs.FleetRuns.{RunsFleet}
+use Rattle.xfs_cli.specs.Moments.{WasOnTheWayAll}
+use Rattle.xfs_cli.specs.Returns.{back, second_back}
+use Rattle.xfs_cli.specs.Streams.{io_of}
+use Rattle.xfs_cli.specs.Upholds.{Accounts, UpholdsAll}
 use Rattle.xfs_cli.proofs.ServeLaws.{served-no-usage}
 use Rattle.xfs_cli.proofs.top.run.Goals as goal
 
@@ -26,3 +31,27 @@ returns-in-Other-clause-unread g c = λ either. elim either [
 
 pub returns-in-Other-clause-causes : goal.returns-in-Other-clause-causes
 returns-in-Other-clause-causes g c = λ reads. c.run_without_doors.ensures.causes (λ load. reads (inl load))
+
+pub returns-in-Fleet-clause-upholds : goal.returns-in-Fleet-clause-upholds
+returns-in-Fleet-clause-upholds g c =
+    subst (λ r. UpholdsAll g.M.Mechanism g.D.Disk c.args.bench.core (back r)) (sym c.linkless.ensures) c.fleet.ensures.machines.0.upholds
+
+pub returns-in-Fleet-clause-any_moment : goal.returns-in-Fleet-clause-any_moment
+returns-in-Fleet-clause-any_moment g c =
+    subst (λ r. WasOnTheWayAll g.M.Mechanism g.D.Disk c.args.bench.core (back r)) (sym c.linkless.ensures) c.fleet.ensures.machines.0.any_moment
+
+pub returns-in-Fleet-clause-accounts : goal.returns-in-Fleet-clause-accounts
+returns-in-Fleet-clause-accounts g c =
+    subst (λ r. Accounts g.M.Mechanism g.D.Disk c.args.bench.core (back r)) (sym c.linkless.ensures) c.fleet.ensures.machines.0.accounts
+
+pub returns-in-Fleet-clause-units : goal.returns-in-Fleet-clause-units
+returns-in-Fleet-clause-units g c = rw c.linkless.ensures c.fleet.ensures.machines.0.units
+
+pub returns-in-Fleet-clause-fleet : goal.returns-in-Fleet-clause-fleet
+returns-in-Fleet-clause-fleet g c = λ named.
+    let io = io_of g.S.Source g.K.Sink c.args.source.now c.fleet.new.source c.args.sink.now c.fleet.new.sink in
+    subst (λ r. RunsFleet g.M.Mechanism g.D.Disk c.args.bench.core c.args.bench.second (back r) (second_back r) io) (sym c.linkless.ensures) (c.fleet.ensures.runs named)
+
+pub returns-in-Fleet-clause-usage : goal.returns-in-Fleet-clause-usage
+returns-in-Fleet-clause-usage g c =
+    (λ two is. c.fleet.ensures.usage.0 (rw c.linkless.ensures at two) c.in-Fleet.ensures, λ none. absurd (none (Fleet, c.in-Fleet.ensures)))
