@@ -22,11 +22,11 @@ pub record IsAuthorised (key : List ℕ) (records : List Rec) (p : ℕ) (t : Ter
   pub decision : Decision
   pub replied : IsReply key t decision (Token text)
 
--- then what was put out since that issue is worth no more than the ask
+-- what was put out since the issue at p is worth no more than the ask
 abbrev pub IsWithinAsk : List NoteKind → List Rec → List Motion → ℕ → Terms → Type 0
 IsWithinAsk units records motions p t = (currency : List ℕ) → shown units records motions p currency ≤ asked_in currency t
 
--- so it is of every machine whose motions are paid for, each by the one token of its segment
+-- of every machine whose motions are paid for, each by the one token of its segment, what was put out since an authorised issue is within its ask
 abbrev pub AreWithinAsks : Type 0
 AreWithinAsks = (key : List ℕ) (units : List NoteKind) (records : List Rec) (motions : List Motion) → Within key units records motions
     → (p : ℕ) (t : Terms) → IsAuthorised key records p t → IsWithinAsk units records motions p t

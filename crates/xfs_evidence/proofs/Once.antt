@@ -5,7 +5,7 @@ use Rattle.std.specs.declared.option.Option.{Option}
 use Rattle.std.proofs.lemmas.Fmt.{decimal_injective}
 use Rattle.xfs_token.specs.Token.{Parts, Genuine}
 use Rattle.xfs_token.proofs.Whole.{one_token}
-use Rattle.xfs_evidence.specs.Told.{presented_pairs, presented_key, told_amounts, Tells}
+use Rattle.xfs_evidence.specs.Told.{presented_pairs, presented_key, told_amounts, AreEvidencePairs}
 use Rattle.xfs_evidence.specs.Evidence.{IsToldBy, unless_none}
 use Rattle.xfs_evidence.specs.Laws.{AreOne, AreTaken, AreRefusedOnce}
 use Rattle.xfs_evidence.specs.declared.faults.CheckFault.TheVariants.{NoToken, OtherNonce, WrongMac, NotEvidence, Memory}
@@ -46,7 +46,7 @@ taken key nonce bytes s OtherNonce told fault = absurd (fault.other (ap (λ (p :
 taken key nonce bytes s WrongMac told fault = absurd (fault.wrong (subst (λ p. Genuine key p bytes) (sym (one_token fault.token told.token bytes fault.spelled told.genuine.spelled)) told.genuine))
 taken key nonce bytes s NotEvidence told fault =
     let same = one_token fault.token told.token bytes fault.genuine.spelled told.genuine.spelled in
-    absurd (fault.other s.issue told.by.amounts (subst (λ (p : Parts). Tells p.pairs s.issue told.by.amounts) (sym same) told.by.tells))
+    absurd (fault.other s.issue told.by.amounts (subst (λ (p : Parts). AreEvidencePairs p.pairs s.issue told.by.amounts) (sym same) told.by.tells))
 taken key nonce bytes s Memory told fault = refl
 
 pub once : AreRefusedOnce

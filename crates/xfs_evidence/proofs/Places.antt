@@ -9,7 +9,7 @@ use Rattle.xfs_journal.specs.declared.record.Rec.TheVariants.{Issue}
 use Rattle.xfs_journal.specs.Journal.{is_issue, is_mark}
 use Rattle.xfs_guard.specs.Segment.{has_issue, last_issue, behind_issue, carried, issue_of}
 use Rattle.xfs_guard.proofs.SegmentLaws.{before-cons, cut, last_issue-cut, last_issue-none, behind_issue-cut, issue_of-cut}
-use Rattle.xfs_evidence.specs.Evidence.{is_open, first_open}
+use Rattle.xfs_evidence.specs.Evidence.{is_unsettled, first_open}
 
 pub drop-here : {X : Type 0} (xs : List X) (i : ℕ) (d : X) → i < length xs → drop i xs ≡ get_or xs i d ∷ drop (i + 1) xs
 drop-here xs i d lt = let e : suc i ≡ i + 1 = omega arith in drop-cons xs i d lt ∙ ap (λ n. get_or xs i d ∷ drop n xs) e
@@ -50,10 +50,10 @@ before-any (r ∷ rs) = ap (list_any is_mark) (before-cons r rs) ∙ by r rs (is
     by r rs false is rest = rw is (rw is rest)
 
 -- the record is the first order to present without a Done, or it isn't
-pub open-here : (number : ℕ) (records : List Rec) (i : ℕ) (d : Rec) → i < length records → is_open (get_or records i d) (drop (i + 1) records) ≡ true → first_open number (drop i records) ≡ Some number
+pub open-here : (number : ℕ) (records : List Rec) (i : ℕ) (d : Rec) → i < length records → is_unsettled (get_or records i d) (drop (i + 1) records) ≡ true → first_open number (drop i records) ≡ Some number
 open-here number records i d lt is = ap (first_open number) (drop-here records i d lt) ∙ rw is refl
 
-pub open-on : (number : ℕ) (records : List Rec) (i : ℕ) (d : Rec) → i < length records → is_open (get_or records i d) (drop (i + 1) records) ≡ false → first_open number (drop i records) ≡ first_open (number + 1) (drop (i + 1) records)
+pub open-on : (number : ℕ) (records : List Rec) (i : ℕ) (d : Rec) → i < length records → is_unsettled (get_or records i d) (drop (i + 1) records) ≡ false → first_open number (drop i records) ≡ first_open (number + 1) (drop (i + 1) records)
 open-on number records i d lt is = ap (first_open number) (drop-here records i d lt) ∙ rw is refl
 
 pub last-back : (records : List Rec) (n : ℕ) (d : Rec) → 0 < n → n ≤ length records → is_issue (get_or records (n - 1) d) ≡ true → has_issue (drop n records) ≡ false → last_issue records ≡ n
@@ -113,7 +113,7 @@ issue-carries records d number some carries =
 -- an order that is open in a list is so whatever its number
 pub open-none : (n m : ℕ) (records : List Rec) → first_open n records ≡ None → first_open m records ≡ None
 open-none n m [] none = refl
-open-none n m (r ∷ rs) none = by (is_open r rs) none (open-none (n + 1) (m + 1) rs)
+open-none n m (r ∷ rs) none = by (is_unsettled r rs) none (open-none (n + 1) (m + 1) rs)
   where
     by : (b : Bool) → (if b then Some n else first_open (n + 1) rs) ≡ None → (first_open (n + 1) rs ≡ None → first_open (m + 1) rs ≡ None) → (if b then Some m else first_open (m + 1) rs) ≡ None
     by true e rest = cc

@@ -17,7 +17,7 @@ use Rattle.xfs_journal.specs.declared.record.Rec.TheVariants.{Issue, Clear, Expi
 use Rattle.xfs_journal.specs.Journal.{is_mark, record_at}
 use Rattle.xfs_guard.specs.Agrees.{Agrees, IsAsked, RisesFrom}
 use Rattle.xfs_guard.specs.Presented.{paid_after, worth_after, presented_in}
-use Rattle.xfs_evidence.specs.Evidence.{is_present, begins_done, is_open, first_open}
+use Rattle.xfs_evidence.specs.Evidence.{is_present, begins_done, is_unsettled, first_open}
 use Rattle.xfs_evidence.specs.Sums.{added}
 use Rattle.xfs_evidence.proofs.Valued.{worth-added}
 
@@ -251,7 +251,7 @@ ordered (Done m d) e = absurd (true≢false (sym e))
 ordered (Load i x) e = absurd (true≢false (sym e))
 
 -- what was put out on the first of records
-on-first : (units : List NoteKind) (c : List ℕ) (J front : List Rec) (r : Rec) (S R : List Rec) (L : List Motion) → J ≡ front ++ r ∷ (S ++ R) → Agrees J L → is_open r S ≡ false → sum_by (on units c (length front + 1)) L ≡ added_first units c (is_present r) S
+on-first : (units : List NoteKind) (c : List ℕ) (J front : List Rec) (r : Rec) (S R : List Rec) (L : List Motion) → J ≡ front ++ r ∷ (S ++ R) → Agrees J L → is_unsettled r S ≡ false → sum_by (on units c (length front + 1)) L ≡ added_first units c (is_present r) S
 on-first units c J front r S R L is a settled = by (is_present r) refl S is settled
   where
     here : record_at J (length front + 1) ≡ Some r
@@ -274,10 +274,10 @@ on-first units c J front r S R L is a settled = by (is_present r) refl S is sett
     by true some (Order k x ∷ rest) is settled = absurd (true≢false (sym (ap (λ t. t && true) some) ∙ settled))
     by true some (Load i x ∷ rest) is settled = absurd (true≢false (sym (ap (λ t. t && true) some) ∙ settled))
 
-first-settled : (n : ℕ) (r : Rec) (S : List Rec) → first_open n (r ∷ S) ≡ None → (is_open r S ≡ false) × (first_open (n + 1) S ≡ None)
-first-settled n r S none = by (is_open r S) refl none
+first-settled : (n : ℕ) (r : Rec) (S : List Rec) → first_open n (r ∷ S) ≡ None → (is_unsettled r S ≡ false) × (first_open (n + 1) S ≡ None)
+first-settled n r S none = by (is_unsettled r S) refl none
   where
-    by : (b : Bool) → is_open r S ≡ b → (if b then Some n else first_open (n + 1) S) ≡ None → (is_open r S ≡ false) × (first_open (n + 1) S ≡ None)
+    by : (b : Bool) → is_unsettled r S ≡ b → (if b then Some n else first_open (n + 1) S) ≡ None → (is_unsettled r S ≡ false) × (first_open (n + 1) S ≡ None)
     by true e none = cc
     by false e none = (e, none)
 

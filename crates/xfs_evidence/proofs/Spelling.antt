@@ -7,7 +7,7 @@ use Rattle.xfs_hmac.specs.Hmac.{hmac}
 use Rattle.xfs_token.specs.Token.{Parts, IsMac, Spells, covered, is_nonce, may_follow, pairs_text}
 use Rattle.xfs_token.proofs.Written.{length-form, take-form, spelled}
 use Rattle.xfs_evidence.specs.Evidence.{IsSigned, unless_none}
-use Rattle.xfs_evidence.specs.Told.{presented_key, presented_pairs, told_pairs, told_text, AreTold, Tells}
+use Rattle.xfs_evidence.specs.Told.{presented_key, presented_pairs, told_pairs, told_text, AreTold, AreEvidencePairs}
 
 -- how long a spelled text is, and what its HMAC covers
 spelled-long : (t : Parts) (bytes : List ℕ) → Spells t bytes → length bytes ≡ length t.nonce + length (pairs_text t.pairs) + 113
@@ -59,7 +59,7 @@ pub pairs-chain : (v0 v1 v2 v3 digits : List ℕ) (issue : ℕ) (amounts : List 
 pairs-chain v0 v1 v2 v3 digits issue amounts h0 h1 h2 h3 hd = rw (h3, h2, h1, h0, hd) refl
 
 -- what these pairs tell
-pub told : (issue : ℕ) (amounts : List (List ℕ × ℕ)) (pairs : List (List ℕ × List ℕ)) → 1 ≤ issue → issue < 2 ^ 64 → AreTold amounts → pairs ≡ told_pairs issue amounts → Tells pairs issue amounts
+pub told : (issue : ℕ) (amounts : List (List ℕ × ℕ)) (pairs : List (List ℕ × List ℕ)) → 1 ≤ issue → issue < 2 ^ 64 → AreTold amounts → pairs ≡ told_pairs issue amounts → AreEvidencePairs pairs issue amounts
 told issue amounts pairs low high t is = record {
   low = low;
   high = omega (arith, high);

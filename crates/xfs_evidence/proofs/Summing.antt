@@ -13,7 +13,7 @@ use Rattle.xfs_token.specs.Amounts.{amount_in, has_currency, is_currency}
 use Rattle.xfs_journal.specs.declared.record.Rec.{Rec}
 use Rattle.xfs_guard.specs.Presented.{presented_in}
 use Rattle.xfs_evidence.specs.Told.{is_before, told_text, told_amounts}
-use Rattle.xfs_evidence.specs.Sums.{is_behind, nearest, nearer, HasUnit, IsNext, AreSums, AreSumsTo, left_behind, with_worth}
+use Rattle.xfs_evidence.specs.Sums.{is_behind, nearest, nearer, IsOfAUnit, IsNextCurrency, AreSegmentSums, AreSumsTo, left_behind, with_worth}
 use Rattle.xfs_evidence.proofs.Rising.{before-trans, before-self, before-neither, before-other, may_end-push, rising-push, new-behind, amount_in-more, amount_in-new}
 use Rattle.xfs_evidence.proofs.Telling.{tells, tells-more}
 use Rattle.xfs_evidence.proofs.Valued.{AreOther, presented-other, presented-round}
@@ -61,13 +61,13 @@ fewer-by-one p q (y ∷ ys) (suc i) x h got passes fails =
     by true false h = absurd (true≢false (sym (h refl)))
 
 -- one currency fewer is left
-pub left-less : (units : List NoteKind) (last : Option (List ℕ)) (c : List ℕ) → IsNext units last (Some c) → left_behind units (Some c) + 1 ≤ left_behind units last
+pub left-less : (units : List NoteKind) (last : Option (List ℕ)) (c : List ℕ) → IsNextCurrency units last (Some c) → left_behind units (Some c) + 1 ≤ left_behind units last
 left-less units last c next =
     let u = next.0 in
     fewer-by-one (λ (kind : NoteKind). is_behind last kind.currency) (λ (kind : NoteKind). is_behind (Some c) kind.currency) units u.place u.kind
     (λ kind e. behind-trans last c kind.currency next.1 e) u.there (ap (is_behind last) u.same ∙ next.1) (ap (is_before c) u.same ∙ before-self c)
 
-module _ (units : List NoteKind) (segment : List Rec) (last : Option (List ℕ)) (c : List ℕ) (next : IsNext units last (Some c)) (amounts : List (List ℕ × ℕ)) (s : AreSumsTo units segment last amounts) (worth : ℕ) (is : worth ≡ presented_in units segment c) where
+module _ (units : List NoteKind) (segment : List Rec) (last : Option (List ℕ)) (c : List ℕ) (next : IsNextCurrency units last (Some c)) (amounts : List (List ℕ × ℕ)) (s : AreSumsTo units segment last amounts) (worth : ℕ) (is : worth ≡ presented_in units segment c) where
   -- a currency that doesn't come behind the next one is that one, was told already, or is no unit's
   told-right : (d : List ℕ) → is_behind (Some c) d ≡ false → (c ≡ d) ⊎ (amount_in amounts d ≡ presented_in units segment d)
   told-right d e = ⊎_elim
@@ -147,7 +147,7 @@ sums-begin units segment = record {
     fewer-all (k ∷ ks) = let ih = fewer-all ks in let e = sum_by-cons (λ (x : NoteKind). cond (is_behind None x.currency) 1 0) k ks in omega (arith, ih, e)
 
 -- all is told once no unit's currency comes behind
-pub sums-end : (units : List NoteKind) (segment : List Rec) (last : Option (List ℕ)) (amounts : List (List ℕ × ℕ)) → length units ≤ 8 → IsNext units last None → AreSumsTo units segment last amounts → AreSums units segment amounts
+pub sums-end : (units : List NoteKind) (segment : List Rec) (last : Option (List ℕ)) (amounts : List (List ℕ × ℕ)) → length units ≤ 8 → IsNextCurrency units last None → AreSumsTo units segment last amounts → AreSegmentSums units segment amounts
 sums-end units segment last amounts eight next s = record {
   told = record { few = (let f = s.few in omega (arith, f)); rising = s.rising; texts = s.texts };
   right = λ c. ⊎_elim (λ behind. s.rest c behind ∙ sym (presented-other units segment c (other c behind))) (λ not_. s.right c not_) (cases_Bool (is_behind last c));
@@ -176,17 +176,17 @@ push-here : {X : Type 0} (xs : List X) (x : X) → slice_get (xs ++ x ∷ []) (l
 push-here [] x = refl
 push-here (z ∷ zs) x = push-here zs x
 
-unit-there : (ks : List NoteKind) (k : NoteKind) (c : List ℕ) → HasUnit ks c → HasUnit (ks ++ k ∷ []) c
+unit-there : (ks : List NoteKind) (k : NoteKind) (c : List ℕ) → IsOfAUnit ks c → IsOfAUnit (ks ++ k ∷ []) c
 unit-there ks k c u = record { place = u.place; kind = u.kind; there = push-there ks k u.place u.kind u.there; same = u.same }
 
 -- the first of the currencies so far, with one more unit
-next-more : (ks : List NoteKind) (k : NoteKind) (after first : Option (List ℕ)) → IsNext ks after first → IsNext (ks ++ k ∷ []) after (nearer after first k.currency)
+next-more : (ks : List NoteKind) (k : NoteKind) (after first : Option (List ℕ)) → IsNextCurrency ks after first → IsNextCurrency (ks ++ k ∷ []) after (nearer after first k.currency)
 next-more ks k after first next = by (is_behind after k.currency) refl first next
   where
-    here : HasUnit (ks ++ k ∷ []) k.currency
+    here : IsOfAUnit (ks ++ k ∷ []) k.currency
     here = record { place = length ks; kind = k; there = push-here ks k; same = refl }
 
-    by : (b : Bool) → is_behind after k.currency ≡ b → (o : Option (List ℕ)) → IsNext ks after o → IsNext (ks ++ k ∷ []) after (if b then nearest o k.currency else o)
+    by : (b : Bool) → is_behind after k.currency ≡ b → (o : Option (List ℕ)) → IsNextCurrency ks after o → IsNextCurrency (ks ++ k ∷ []) after (if b then nearest o k.currency else o)
     by false e None next = λ kind place got. ⊎_elim (λ old. next kind place old) (λ new. ap (λ (x : NoteKind). is_behind after x.currency) (sym new) ∙ e) (push-cases ks k place kind got)
     by false e (Some c) next = (
       unit-there ks k c next.0,
@@ -202,7 +202,7 @@ next-more ks k after first next = by (is_behind after k.currency) refl first nex
     )
     by true e (Some c) next = chosen (is_before k.currency c) refl
       where
-        chosen : (t : Bool) → is_before k.currency c ≡ t → IsNext (ks ++ k ∷ []) after (Some (if t then k.currency else c))
+        chosen : (t : Bool) → is_before k.currency c ≡ t → IsNextCurrency (ks ++ k ∷ []) after (Some (if t then k.currency else c))
         chosen true before = (
           here,
           e,
@@ -219,7 +219,7 @@ next-more ks k after first next = by (is_behind after k.currency) refl first nex
                 go true x = absurd (true≢false (sym (before-trans d k.currency c x before) ∙ no_))
         chosen false later = (unit-there ks k c next.0, next.1, λ kind place got behind. ⊎_elim (λ old. next.2 kind place old behind) (λ new. ap (λ (x : NoteKind). is_before x.currency c) (sym new) ∙ later) (push-cases ks k place kind got))
 
-pub next-step : (ks : List NoteKind) (i : ℕ) (d : NoteKind) (after first : Option (List ℕ)) → i < length ks → IsNext (take i ks) after first → IsNext (take (i + 1) ks) after (nearer after first (get_or ks i d).currency)
+pub next-step : (ks : List NoteKind) (i : ℕ) (d : NoteKind) (after first : Option (List ℕ)) → i < length ks → IsNextCurrency (take i ks) after first → IsNextCurrency (take (i + 1) ks) after (nearer after first (get_or ks i d).currency)
 next-step ks i d after first lt next = rw (take_more ks i d lt) (next-more (take i ks) (get_or ks i d) after first next)
 
 pub units-few : (units : List NoteKind) (segment : List Rec) (last : Option (List ℕ)) (amounts : List (List ℕ × ℕ)) → length units ≤ 8 → AreSumsTo units segment last amounts → length amounts ≤ 8

@@ -20,26 +20,26 @@ is_behind (Some d) c = is_before d c
 abbrev pub earlier : List ℕ → List ℕ → List ℕ
 earlier first c = if is_before c first then c else first
 
--- the first so far, with one more currency
+-- the earliest currency so far, with one more currency
 abbrev pub nearest : Option (List ℕ) → List ℕ → Option (List ℕ)
 nearest None c = Some c
 nearest (Some first) c = Some (earlier first c)
 
--- where it comes behind another
+-- the earliest currency so far, with one more where that comes behind another
 abbrev pub nearer : Option (List ℕ) → Option (List ℕ) → List ℕ → Option (List ℕ)
 nearer after first c = if is_behind after c then nearest first c else first
 
 -- some unit has this currency
-pub record HasUnit (units : List NoteKind) (currency : List ℕ) : Type 0 where
+pub record IsOfAUnit (units : List NoteKind) (currency : List ℕ) : Type 0 where
   pub place : ℕ
   pub kind : NoteKind
   pub there : slice_get units place ≡ Some kind
   pub same : kind.currency ≡ currency
 
 -- of the currencies of the units that come behind one, this is the first; or there is none
-abbrev pub IsNext : List NoteKind → Option (List ℕ) → Option (List ℕ) → Type 0
-IsNext units after None = (kind : NoteKind) (place : ℕ) → slice_get units place ≡ Some kind → is_behind after kind.currency ≡ false
-IsNext units after (Some c) = HasUnit units c × (is_behind after c ≡ true)
+abbrev pub IsNextCurrency : List NoteKind → Option (List ℕ) → Option (List ℕ) → Type 0
+IsNextCurrency units after None = (kind : NoteKind) (place : ℕ) → slice_get units place ≡ Some kind → is_behind after kind.currency ≡ false
+IsNextCurrency units after (Some c) = IsOfAUnit units c × (is_behind after c ≡ true)
     × ((kind : NoteKind) (place : ℕ) → slice_get units place ≡ Some kind → is_behind after kind.currency ≡ true → is_before kind.currency c ≡ false)
 
 -- what a record adds to what was presented, where an order to present stands before it or not
@@ -48,7 +48,7 @@ added units true (Done moved diverted) currency = value units moved currency
 added units ordered r currency = 0
 
 -- what was presented in a segment, in each currency
-pub record AreSums (units : List NoteKind) (segment : List Rec) (amounts : List (List ℕ × ℕ)) : Type 0 where
+pub record AreSegmentSums (units : List NoteKind) (segment : List Rec) (amounts : List (List ℕ × ℕ)) : Type 0 where
   pub told : AreTold amounts
   pub right : (currency : List ℕ) → amount_in amounts currency ≡ presented_in units segment currency
 
@@ -56,7 +56,7 @@ pub record AreSums (units : List NoteKind) (segment : List Rec) (amounts : List 
 abbrev pub left_behind : List NoteKind → Option (List ℕ) → ℕ
 left_behind units last = count_by (λ kind. is_behind last kind.currency) units
 
--- the same, as far as this currency
+-- what was presented in a segment, in each currency up to this one
 pub record AreSumsTo (units : List NoteKind) (segment : List Rec) (last : Option (List ℕ)) (amounts : List (List ℕ × ℕ)) : Type 0 where
   pub few : length amounts + left_behind units last ≤ length units
   pub rising : are_rising amounts ≡ true

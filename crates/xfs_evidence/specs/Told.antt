@@ -48,8 +48,8 @@ are_rising [] = true
 are_rising (a ∷ []) = true
 are_rising (a ∷ b ∷ rest) = is_before a.0 b.0 && are_rising (b ∷ rest)
 
--- these pairs tell this issue and these amounts
-pub record Tells (pairs : List (List ℕ × List ℕ)) (issue : ℕ) (amounts : List (List ℕ × ℕ)) : Type 0 where
+-- the pairs of a token tell this issue and these amounts, as those of an evidence do
+pub record AreEvidencePairs (pairs : List (List ℕ × List ℕ)) (issue : ℕ) (amounts : List (List ℕ × ℕ)) : Type 0 where
   pub low : 1 ≤ issue
   pub high : issue ≤ 18446744073709551615
   pub texts : List (List ℕ)

@@ -2,14 +2,14 @@
 
 ghost use Rattle.std.specs.Prelude.{◌≡◌};
 ghost use Rattle.xfs_evidence.specs.Sums as sums;
-ghost use Rattle.xfs_evidence.specs.Sums.{IsNext};
+ghost use Rattle.xfs_evidence.specs.Sums.{IsNextCurrency};
 ghost use Rattle.xfs_evidence.specs.Told as told;
 
 use xfs_base::{Currency, UnitTable};
 
 /// Of the currencies of the units that come behind one, the first.
 pub fn next_currency(units: &UnitTable, after: &Option<Currency>) -> Option<Currency>
-    ensures { IsNext units.now after.now result }
+    ensures { IsNextCurrency units.now after.now result }
 {
     let kinds = units.kinds();
     let mut first = None;

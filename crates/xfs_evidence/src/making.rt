@@ -1,16 +1,13 @@
 //! The evidence.
 
-ghost use Rattle.std.specs.Prelude.{◌≡◌, ◌+◌, ◌≤◌, ◌++◌, IfOk, IsTrue, List, Some, length};
+ghost use Rattle.std.specs.Prelude.{◌≡◌, ◌+◌, ◌≤◌, IfOk, IsTrue, Some, length};
 ghost use Rattle.xfs_token.specs.Token.{is_nonce};
-ghost use Rattle.xfs_mech.specs.declared.motion.Motion.{Motion};
-ghost use Rattle.xfs_journal.specs.declared.record.Rec.{Rec as Record};
-ghost use Rattle.xfs_guard.specs.Agrees.{Agrees};
 ghost use Rattle.xfs_guard.specs.Segment.{carried, IsTellable};
 ghost use Rattle.xfs_journal.specs.Journal.{is_issue};
-ghost use Rattle.xfs_evidence.specs.Evidence.{evidence_refusal, IsEvidence, IsEvidenceOf, IsRefusedAs};
+ghost use Rattle.xfs_evidence.specs.Evidence.{evidence_refusal, IsEvidence, IsEvidenceBehind, MakesUnless};
 
-use crate::segment::{last_issue, open_order, unmarked};
-use crate::sums::presented;
+use crate::segment::{last_issue, open_order, unmarked_part};
+use crate::sums::amounts_presented;
 use crate::text::spell;
 use crate::{EvidenceFault, Shown};
 use std::alloc::Global;
@@ -35,9 +32,8 @@ pub fn evidence(
     requires room { base + length records.now ≤ 18446744073709551615 }
     requires tellable { IsTellable units.now records.now }
     ensures ok { IfOk result (λ text. IsEvidence key.now units.now records.now nonce.now text.items) }
-    ensures refused { IsRefusedAs (evidence_refusal base records.now) result }
-    ensures put_out { IfOk result (λ text. (front : List Record) (motions : List Motion) → length front ≡ base → Agrees (front ++ records.now) motions
-        → IsEvidenceOf key.now units.now (front ++ records.now) motions nonce.now text.items) }
+    ensures refused { MakesUnless (evidence_refusal base records.now) result }
+    ensures put_out { IfOk result (λ text. IsEvidenceBehind base key.now units.now records.now nonce.now text.items) }
 {
     evidence_under(alloc, &Signer::new(*key), units, base, records, nonce)
 }
@@ -55,16 +51,15 @@ pub fn evidence_under(
     requires room { base + length records.now ≤ 18446744073709551615 }
     requires tellable { IsTellable units.now records.now }
     ensures ok { IfOk result (λ text. IsEvidence key.now units.now records.now nonce.now text.items) }
-    ensures refused { IsRefusedAs (evidence_refusal base records.now) result }
-    ensures put_out { IfOk result (λ text. (front : List Record) (motions : List Motion) → length front ≡ base → Agrees (front ++ records.now) motions
-        → IsEvidenceOf key.now units.now (front ++ records.now) motions nonce.now text.items) }
+    ensures refused { MakesUnless (evidence_refusal base records.now) result }
+    ensures put_out { IfOk result (λ text. IsEvidenceBehind base key.now units.now records.now nonce.now text.items) }
 {
     let place = last_issue(records);
     if place == 0 {
         return Err(EvidenceFault::NoIssue);
     }
     let (front, behind) = records.split_at(place);
-    let segment = unmarked(behind);
+    let segment = unmarked_part(behind);
     if let Some(open) = open_order(segment) {
         return Err(EvidenceFault::Unsettled {
             order: base + place as u64 + 1 + open as u64,
@@ -72,7 +67,7 @@ pub fn evidence_under(
     }
     let shown = Shown {
         issue: number_of(&front[place - 1]),
-        amounts: presented(units, segment),
+        amounts: amounts_presented(units, segment),
     };
     match spell(alloc, key, nonce, &shown) {
         Ok(text) => Ok(text),

@@ -26,7 +26,7 @@ pub fn last_issue(records: &[Rec]) -> usize
 }
 
 /// The records in front of the first mark.
-pub fn unmarked(records: &[Rec]) -> &[Rec]
+pub fn unmarked_part(records: &[Rec]) -> &[Rec]
     ensures front { result.now ≡ before_first journal.is_mark records.now }
     ensures unmarked { list_any journal.is_mark result.now ≡ false }
 {
@@ -50,15 +50,15 @@ pub fn open_order(segment: &[Rec]) -> Option<usize>
     ensures within { IfSome result (λ place. place < length segment.now) }
 {
     for i in 0..segment.len() {
-        if is_open(&segment[i], segment.split_at(i + 1).1) {
+        if is_unsettled(&segment[i], segment.split_at(i + 1).1) {
             return Some(i);
         }
     }
     None
 }
 
-fn is_open(rec: &Rec, behind: &[Rec]) -> bool
-    ensures { result ≡ evidences.is_open rec.now behind.now }
+fn is_unsettled(rec: &Rec, behind: &[Rec]) -> bool
+    ensures { result ≡ evidences.is_unsettled rec.now behind.now }
 {
     is_present(rec) && !begins_done(behind)
 }

@@ -1,10 +1,10 @@
 //! A token of pairs that are written already, with its HMAC.
 
-ghost use Rattle.std.specs.Prelude.{◌≡◌, ◌≤◌, ◌++◌, ℕ, List, [], IfOk, IsTrue, OnOk, codes, length};
+ghost use Rattle.std.specs.Prelude.{◌≡◌, ◌≤◌, ◌++◌, ℕ, List, IfOk, IsTrue, OnOk, codes, length};
 ghost use Rattle.hex.specs.Hex.{encode_upper};
 ghost use Rattle.xfs_token.specs.Token as grammar;
-ghost use Rattle.xfs_token.specs.Token.{IsMac, Parts, four_digits, is_nonce, may_follow, pairs_text};
-ghost use Rattle.xfs_evidence.specs.Evidence.{IsSigned};
+ghost use Rattle.xfs_token.specs.Token.{IsMac, Parts, four_digits, is_nonce, pairs_text};
+ghost use Rattle.xfs_evidence.specs.Evidence.{IsSigned, IsWrittenAs};
 
 use std::alloc::{AllocError, Global};
 use xfs_guard::Signer;
@@ -17,17 +17,22 @@ const FRAME: usize = 113;
 pub fn sign(alloc: Global, key: &Signer, nonce: &[u8], pairs: &[u8]) -> Result<Vec<u8>, AllocError>
     requires nonce { IsTrue (is_nonce nonce.now) }
     requires short { length pairs.now ≤ 256 }
-    ensures { (t : Parts) → t.nonce ≡ nonce.now → IsTrue (may_follow [] t.pairs) → pairs.now ≡ pairs_text t.pairs → IfOk result (λ text. IsSigned key.now t text.items) }
+    ensures { (t : Parts) → IsWrittenAs t nonce.now pairs.now → IfOk result (λ text. IsSigned key.now t text.items) }
 {
     let total = nonce.len() + pairs.len() + FRAME;
-    let mut text = covered(alloc, nonce, pairs, total as u16)?;
+    let mut text = covered_part(alloc, nonce, pairs, total as u16)?;
     let code = key.mac(&text);
     push_mac(&mut text, &code)?;
     Ok(text)
 }
 
 // The bytes that the HMAC covers. Room for the rest is taken with them.
-fn covered(alloc: Global, nonce: &[u8], pairs: &[u8], total: u16) -> Result<Vec<u8>, AllocError>
+fn covered_part(
+    alloc: Global,
+    nonce: &[u8],
+    pairs: &[u8],
+    total: u16,
+) -> Result<Vec<u8>, AllocError>
     ensures { (ps : List (List ℕ × List ℕ)) → pairs.now ≡ pairs_text ps → IfOk result (λ v. v.items ≡ grammar.covered nonce.now ps total) }
 {
     let mut text = Vec::with_capacity(alloc, usize::from(total))?;

@@ -6,7 +6,7 @@ ghost use Rattle.xfs_journal.specs.Journal.{is_mark};
 ghost use Rattle.xfs_token.specs.Amounts.{has_currency, is_currency};
 ghost use Rattle.xfs_guard.specs.Presented as guard;
 ghost use Rattle.xfs_evidence.specs.Sums as sums;
-ghost use Rattle.xfs_evidence.specs.Sums.{AreSums};
+ghost use Rattle.xfs_evidence.specs.Sums.{AreSegmentSums};
 
 use crate::currencies::next_currency;
 use crate::segment::is_present;
@@ -15,16 +15,16 @@ use xfs_journal::Rec;
 use xfs_token::Amounts;
 
 /// What was presented in a segment, in each currency of which something was, in the order of the currencies' bytes.
-pub fn presented(units: &UnitTable, segment: &[Rec]) -> Option<Amounts>
+pub fn amounts_presented(units: &UnitTable, segment: &[Rec]) -> Option<Amounts>
     requires unmarked { list_any is_mark segment.now ≡ false }
     requires small { (currency : List ℕ) → guard.presented_in units.now segment.now currency ≤ 999999999999 }
-    ensures { AreSums units.now segment.now (unwrap_or result []) }
+    ensures { AreSegmentSums units.now segment.now (unwrap_or result []) }
 {
     prove!(units.len() <= 8);
     let mut told = None;
     let mut last = None;
     'currencies: while let Some(currency) = next_currency(units, &last) {
-        let worth = presented_in(units, segment, currency);
+        let worth = worth_presented(units, segment, currency);
         told = with_worth(told, currency, worth);
         last = Some(currency);
     }
@@ -51,7 +51,7 @@ fn with_worth(told: Option<Amounts>, currency: Currency, worth: u64) -> Option<A
 }
 
 // What was presented in one currency, in thousandths.
-fn presented_in(units: &UnitTable, segment: &[Rec], currency: Currency) -> u64
+fn worth_presented(units: &UnitTable, segment: &[Rec], currency: Currency) -> u64
     requires unmarked { list_any is_mark segment.now ≡ false }
     requires small { guard.presented_in units.now segment.now currency ≤ 999999999999 }
     ensures worth { result ≡ guard.presented_in units.now segment.now currency }
@@ -62,14 +62,14 @@ fn presented_in(units: &UnitTable, segment: &[Rec], currency: Currency) -> u64
     let mut worth = 0u64;
     for i in 0..segment.len() {
         let entry = &segment[i];
-        worth += added(units, ordered, entry, currency) as u64;
+        worth += worth_added(units, ordered, entry, currency) as u64;
         ordered = is_present(entry);
     }
     worth
 }
 
 // What a record adds, where an order to present stands before it or not.
-fn added(units: &UnitTable, ordered: bool, entry: &Rec, currency: Currency) -> u128
+fn worth_added(units: &UnitTable, ordered: bool, entry: &Rec, currency: Currency) -> u128
     ensures worth { result ≡ sums.added units.now ordered entry.now currency }
     ensures small { result < 2 ^ 65 }
 {

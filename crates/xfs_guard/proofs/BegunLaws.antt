@@ -24,7 +24,7 @@ use Rattle.xfs_guard.specs.Recorded.{IsRecorded}
 use Rattle.xfs_guard.specs.Reach.{reached, BeginsBehind, IsComparable, IsRecordedBehind, NoneInReach, StandsBehind, view_behind}
 use Rattle.xfs_guard.specs.Sound.{Ties, where_told}
 use Rattle.xfs_guard.specs.View.{View, rebooted}
-use Rattle.xfs_guard.specs.Booting.{IsRebooted}
+use Rattle.xfs_guard.specs.Booting.{IsRereadBooted}
 use Rattle.xfs_guard.specs.declared.fail.BootFault.{BootFault}
 use Rattle.xfs_guard.proofs.BootLaws.{base_of-boot}
 use Rattle.xfs_guard.specs.Within.{IsWithin}
@@ -106,6 +106,6 @@ recorded-all key u records None h = record { numbered = h.numbered; agrees = tt;
 recorded-all key u records (Some motions) h = record { numbered = h.numbered; agrees = rw (reached-all motions) at h.agrees; within = rw (reached-all motions) at h.within }
 
 -- a guard that was started anew
-pub begun-rebooted : {T : Type 0} (result : Result T BootFault) (old new : View) → OnOk result (IsRebooted old new) → OnOk result (BeginsBehind new)
+pub begun-rebooted : {T : Type 0} (result : Result T BootFault) (old new : View) → OnOk result (IsRereadBooted true old new) → OnOk result (BeginsBehind new)
 begun-rebooted (Ok x) old new is = rw is.2 (begun (rebooted old is.0) is.0 old.places refl (base_of-boot is.0 old.places) refl refl)
 begun-rebooted (Err f) old new is = tt

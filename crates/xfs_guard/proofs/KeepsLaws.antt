@@ -1,5 +1,5 @@
 -- What every call keeps, by what the call did.
-use Rattle.std.proofs.Common.{◌≡◌, ℕ, ◌≤◌, true, is_some, List, refl, arith}
+use Rattle.std.proofs.Common.{◌≡◌, ℕ, ◌≤◌, Bool, true, is_some, List, Result, refl, arith}
 use Rattle.xfs_base.specs.Causes.{IfTold}
 use Rattle.xfs_disk.specs.Moments.{LeavesOnly}
 use Rattle.xfs_disk.specs.declared.disk.Disk.{Ghosts}
@@ -8,6 +8,7 @@ use Rattle.xfs_journal.specs.declared.record.Rec.{Rec}
 use Rattle.xfs_journal.proofs.Moments.{weaken}
 use Rattle.xfs_journal.proofs.Told.{on_told, from_told}
 use Rattle.xfs_mech.specs.declared.motion.Motion.{Motion}
+use Rattle.xfs_guard.specs.Calls.{UsesMechanism, WritesRecord}
 use Rattle.xfs_guard.specs.Continues.{Continues}
 use Rattle.xfs_guard.specs.Crashed.{LeavesBehind}
 use Rattle.xfs_guard.specs.Keeps.{Proceeds, Keeps, NoEntry}
@@ -16,6 +17,7 @@ use Rattle.xfs_guard.specs.Recorded.{IsRecorded}
 use Rattle.xfs_guard.specs.Stored.{LeavesPossible}
 use Rattle.xfs_guard.specs.Upheld.{IsUpheld}
 use Rattle.xfs_guard.specs.View.{View, GuardView}
+use Rattle.xfs_guard.specs.declared.deny.Deny.{Deny}
 use Rattle.xfs_guard.proofs.BehindLaws.{behind-still, behind-trans}
 use Rattle.xfs_guard.proofs.ContinueLaws.{Continues-same, Continues-trans}
 use Rattle.xfs_guard.proofs.LeftLaws.{left-same, left-unwritten}
@@ -76,3 +78,13 @@ Keeps-moved g MayAdd old new only_now same continues mech through = record {
   proceeds = record { continues = continues; disk_faults = rw same (omega arith); mech_faults = mech; crashes = behind-still g old new only_now same };
   recorded = rw same through;
 }
+
+-- what a call keeps that writes, beside what every call keeps
+pub writes-keeping : {T D : Type 0} {g : Ghosts D} {rec : Rec} {result : Result T Deny} {old new : GuardView D} → Keeps g NoEntry old new
+    → (Keeps g NoEntry old new → WritesRecord g rec result old new) → WritesRecord g rec result old new
+writes-keeping keeps rest = rest keeps
+
+-- what a call of the mechanism keeps, beside what every call keeps
+pub uses-keeping : {D : Type 0} {g : Ghosts D} {MayAdd : Motion → Type 0} {is_failed : Bool} {old new : GuardView D} → Keeps g MayAdd old new
+    → (Keeps g MayAdd old new → UsesMechanism g MayAdd is_failed old new) → UsesMechanism g MayAdd is_failed old new
+uses-keeping keeps rest = rest keeps

@@ -26,8 +26,8 @@ use Rattle.xfs_guard.specs.declared.bound.Bound.{Bound}
 use Rattle.xfs_guard.specs.declared.nonce.Nonce.{Nonce}
 use Rattle.xfs_guard.specs.Nonce.{nonce_of, live_nonce, live_in}
 use Rattle.xfs_guard.specs.Refusals.{bound_token, bound_number}
-use Rattle.xfs_guard.specs.Ledger.{IsLive, IsBound, IsBehind, IsRead, IsDoubted, KeepsLedger, AreSums, amounts_kept}
-use Rattle.xfs_guard.specs.Pays.{Fits, Pays}
+use Rattle.xfs_guard.specs.Ledger.{IsLive, IsBound, IsBehind, IsReadFrom, IsDoubted, KeepsLedger, AreSumsPresented, amounts_kept}
+use Rattle.xfs_guard.specs.Pays.{FitsSums, GrowsSums}
 use Rattle.xfs_guard.specs.LedgerView.{LedgerView, IsWriteFault}
 use Rattle.xfs_guard.specs.declared.deny.Deny.{Deny}
 use Rattle.xfs_guard.specs.declared.deny.Deny.TheVariants.{Disk, Memory}
@@ -82,8 +82,8 @@ issues-few (r ∷ records) = grind (arith, issues-few records)
 
 -- an issue is written
 pub IsRead-issue : {base : ℕ} (records : List Rec) (u : List NoteKind) (i m : ℕ) (l : Option Live) (b : Option Bound) (n w : ℕ) (nonce : Nonce)
-    → IsRead records base u i m l b → n ≡ next_issue records → nonce.text ≡ nonce_text n w → nonce.number ≡ n
-    → IsRead (records ++ Issue n w ∷ []) base u n (length records + 1) (Some (record { number = length records + 1; nonce = nonce })) None
+    → IsReadFrom records base u i m l b → n ≡ next_issue records → nonce.text ≡ nonce_text n w → nonce.number ≡ n
+    → IsReadFrom (records ++ Issue n w ∷ []) base u n (length records + 1) (Some (record { number = length records + 1; nonce = nonce })) None
 IsRead-issue records u i m l b n w nonce h is text number = record {
   issued = rw (next_issue-push records (Issue n w)) (ap (λ k. k + 1) is);
   few = let e = length-append records (Issue n w ∷ []) in let f = h.few in let g = h.issued in omega (arith, e, f, g, is);
@@ -100,7 +100,7 @@ IsRead-issue records u i m l b n w nonce h is text number = record {
 -- a mark is written after which no issue lives
 pub IsRead-mark : {base : ℕ} (records : List Rec) (u : List NoteKind) (i : ℕ) (r : Rec) → i + 1 ≡ next_issue records → i ≤ length records → base ≤ length records
     → ((k : ℕ) → next_number k r ≡ k) → ((k : ℕ) (x : Option ℕ) → live_after k x r ≡ None) → ((k x : ℕ) → mark_after k x r ≡ k + 1)
-    → IsRead (records ++ r ∷ []) base u i (length records + 1) None None
+    → IsReadFrom (records ++ r ∷ []) base u i (length records + 1) None None
 IsRead-mark records u i r issued few based same dies marks = record {
   issued = rw (next_issue-push records r, same (next_issue records)) issued;
   few = let e = length-append records (r ∷ []) in omega (arith, e, few);
@@ -126,7 +126,7 @@ SameBind (Some b) (Some c) = c.number ≡ b.number
 
 abbrev pub SumsOf : List NoteKind → List Rec → Option Bound → Type 0
 SumsOf u records None = Unit {0}
-SumsOf u records (Some c) = AreSums u records c.amounts c.presented
+SumsOf u records (Some c) = AreSumsPresented u records c.amounts c.presented
 
 -- a record that is no mark leaves the live issue
 lives-plain : (records : List Rec) (r : Rec) (l : Option Live) → IsLive records l → ((k : ℕ) (x : Option ℕ) → live_after k x r ≡ x) → IsLive (records ++ r ∷ []) l
@@ -173,10 +173,10 @@ same-behind base (Some b) None s h = absurd s
 same-behind base (Some b) (Some c) s h = rw s h
 
 -- a record is written that no reading of the journal looks at
-IsRead-plain : {base : ℕ} (records : List Rec) (u : List NoteKind) (i m : ℕ) (l : Option Live) (b : Option Bound) (r : Rec) → IsRead records base u i m l b
+IsRead-plain : {base : ℕ} (records : List Rec) (u : List NoteKind) (i m : ℕ) (l : Option Live) (b : Option Bound) (r : Rec) → IsReadFrom records base u i m l b
     → ((k : ℕ) → next_number k r ≡ k) → ((k : ℕ) (x : Option ℕ) → live_after k x r ≡ x) → ((k x : ℕ) → mark_after k x r ≡ x)
     → ((p : ℕ) (f : Finding) → found_after p f r ≡ f.bind)
-    → ((c : List ℕ) → presented_in u (records ++ r ∷ []) c ≡ presented_in u records c) → IsRead (records ++ r ∷ []) base u i m l b
+    → ((c : List ℕ) → presented_in u (records ++ r ∷ []) c ≡ presented_in u records c) → IsReadFrom (records ++ r ∷ []) base u i m l b
 IsRead-plain records u i m l b r h numbers lives marks bind worth = record {
   issued = rw (next_issue-push records r, numbers (next_issue records)) h.issued;
   few = let e = length-append records (r ∷ []) in let f = h.few in omega (arith, e, f);
@@ -192,16 +192,16 @@ IsRead-plain records u i m l b r h numbers lives marks bind worth = record {
     more (Some b) s = λ j a e. s j a e ∙ sym (worth a.0)
 
 -- an order is written
-pub IsRead-order : {base : ℕ} (records : List Rec) (u : List NoteKind) (i m : ℕ) (l : Option Live) (b : Option Bound) (k : Kind) (c : Counts) → IsRead records base u i m l b → IsRead (records ++ Order k c ∷ []) base u i m l b
+pub IsRead-order : {base : ℕ} (records : List Rec) (u : List NoteKind) (i m : ℕ) (l : Option Live) (b : Option Bound) (k : Kind) (c : Counts) → IsReadFrom records base u i m l b → IsReadFrom (records ++ Order k c ∷ []) base u i m l b
 IsRead-order records u i m l b k c h = IsRead-plain records u i m l b (Order k c) h (λ n. refl) (λ n x. refl) (λ n x. refl) (λ p f. refl) (λ cur. presented_in-push u records (Order k c) cur)
 
 -- a loading is written
-pub IsRead-load : {base : ℕ} (records : List Rec) (u : List NoteKind) (i m : ℕ) (l : Option Live) (b : Option Bound) (unit count : ℕ) → IsRead records base u i m l b → IsRead (records ++ Load unit count ∷ []) base u i m l b
+pub IsRead-load : {base : ℕ} (records : List Rec) (u : List NoteKind) (i m : ℕ) (l : Option Live) (b : Option Bound) (unit count : ℕ) → IsReadFrom records base u i m l b → IsReadFrom (records ++ Load unit count ∷ []) base u i m l b
 IsRead-load records u i m l b unit count h = IsRead-plain records u i m l b (Load unit count) h (λ n. refl) (λ n x. refl) (λ n x. refl) (λ p f. refl) (λ cur. presented_in-push u records (Load unit count) cur)
 
 -- what an order did is written
-pub IsRead-done : {base : ℕ} (records : List Rec) (u : List NoteKind) (i m : ℕ) (l : Option Live) (b c : Option Bound) (n d : Counts) → IsRead records base u i m l b → SameBind b c → SumsOf u (records ++ Done n d ∷ []) c
-    → IsRead (records ++ Done n d ∷ []) base u i m l c
+pub IsRead-done : {base : ℕ} (records : List Rec) (u : List NoteKind) (i m : ℕ) (l : Option Live) (b c : Option Bound) (n d : Counts) → IsReadFrom records base u i m l b → SameBind b c → SumsOf u (records ++ Done n d ∷ []) c
+    → IsReadFrom (records ++ Done n d ∷ []) base u i m l c
 IsRead-done {base = base} records u i m l b c n d h same sums = record {
   issued = rw (next_issue-push records (Done n d)) h.issued;
   few = let e = length-append records (Done n d ∷ []) in let f = h.few in omega (arith, e, f);
@@ -213,9 +213,9 @@ IsRead-done {base = base} records u i m l b c n d h same sums = record {
 }
 
 -- a token is bound
-pub IsRead-bind : {base : ℕ} (records : List Rec) (u : List NoteKind) (i m : ℕ) (l : Option Live) (b : Option Bound) (t : List ℕ) (c : Bound) → IsRead records base u i m l b
+pub IsRead-bind : {base : ℕ} (records : List Rec) (u : List NoteKind) (i m : ℕ) (l : Option Live) (b : Option Bound) (t : List ℕ) (c : Bound) → IsReadFrom records base u i m l b
     → (p : ℕ) × (live_of records ≡ Some p) → bound_token records ≡ None → ((cur : List ℕ) → presented_in u records cur ≡ 0) → ((j : ℕ) → slice_index c.presented j ≡ 0) → c.number ≡ length records + 1
-    → IsRead (records ++ Bind t ∷ []) base u i m l (Some c)
+    → IsReadFrom (records ++ Bind t ∷ []) base u i m l (Some c)
 IsRead-bind records u i m l b t c h live free fresh zeros number = record {
   issued = rw (next_issue-push records (Bind t)) h.issued;
   few = let e = length-append records (Bind t ∷ []) in let f = h.few in omega (arith, e, f);
@@ -237,16 +237,16 @@ IsRead-bind records u i m l b t c h live free fresh zeros number = record {
     }
 
 -- what was presented of the bound currencies grows by what the order presented
-pub sums-present : (u : List NoteKind) (records : List Rec) (amounts : List (List ℕ × ℕ)) (old new : List ℕ) (counts m d : Counts) → AreSums u records amounts old → record_at records (length records) ≡ Some (Order Present counts)
-    → ((i : ℕ) (a : List ℕ × ℕ) → slice_get amounts i ≡ Some a → slice_index new i ≡ slice_index old i + value u m a.0) → AreSums u (records ++ Done m d ∷ []) amounts new
+pub sums-present : (u : List NoteKind) (records : List Rec) (amounts : List (List ℕ × ℕ)) (old new : List ℕ) (counts m d : Counts) → AreSumsPresented u records amounts old → record_at records (length records) ≡ Some (Order Present counts)
+    → ((i : ℕ) (a : List ℕ × ℕ) → slice_get amounts i ≡ Some a → slice_index new i ≡ slice_index old i + value u m a.0) → AreSumsPresented u (records ++ Done m d ∷ []) amounts new
 sums-present u records amounts old new counts m d sums last more i a e =
     let p = presented_in-push u records (Done m d) a.0 in
     let w : done_worth u a.0 (record_at records (length records)) m ≡ value u m a.0 = rw last refl in
     omega (arith, more i a e, sums i a e, p, w)
 
 -- an order of another kind presents nothing
-sums-other : (u : List NoteKind) (records : List Rec) (amounts : List (List ℕ × ℕ)) (old : List ℕ) (k : Kind) (counts m d : Counts) → AreSums u records amounts old → record_at records (length records) ≡ Some (Order k counts) → k ≢ Present
-    → AreSums u (records ++ Done m d ∷ []) amounts old
+sums-other : (u : List NoteKind) (records : List Rec) (amounts : List (List ℕ × ℕ)) (old : List ℕ) (k : Kind) (counts m d : Counts) → AreSumsPresented u records amounts old → record_at records (length records) ≡ Some (Order k counts) → k ≢ Present
+    → AreSumsPresented u (records ++ Done m d ∷ []) amounts old
 sums-other u records amounts old k counts m d sums last other i a e =
     let p = presented_in-push u records (Done m d) a.0 in
     let w : done_worth u a.0 (record_at records (length records)) m ≡ 0 = rw last (quiet k other) in
@@ -258,7 +258,7 @@ sums-other u records amounts old k counts m d sums last other i a e =
     quiet Reject other = refl
     quiet Retract other = refl
 
-sums-pays : (u : List NoteKind) (records : List Rec) (b c : Option Bound) (k : Kind) (counts m d : Counts) → SumsOf u records b → record_at records (length records) ≡ Some (Order k counts) → Pays u k m b c → SumsOf u (records ++ Done m d ∷ []) c
+sums-pays : (u : List NoteKind) (records : List Rec) (b c : Option Bound) (k : Kind) (counts m d : Counts) → SumsOf u records b → record_at records (length records) ≡ Some (Order k counts) → GrowsSums u k m b c → SumsOf u (records ++ Done m d ∷ []) c
 sums-pays u records None None k counts m d sums last p = tt
 sums-pays u records None (Some c) k counts m d sums last p = absurd p
 sums-pays u records (Some b) None k counts m d sums last p = absurd p
@@ -267,20 +267,20 @@ sums-pays u records (Some b) (Some c) Stack counts m d sums last p = let other :
 sums-pays u records (Some b) (Some c) Reject counts m d sums last p = let other : Reject ≢ Present = λ e. cc in rw (p.amounts, p.other other) (sums-other u records b.amounts b.presented Reject counts m d sums last other)
 sums-pays u records (Some b) (Some c) Retract counts m d sums last p = let other : Retract ≢ Present = λ e. cc in rw (p.amounts, p.other other) (sums-other u records b.amounts b.presented Retract counts m d sums last other)
 
-bind-pays : (u : List NoteKind) (b c : Option Bound) (k : Kind) (m : Counts) → Pays u k m b c → SameBind b c
+bind-pays : (u : List NoteKind) (b c : Option Bound) (k : Kind) (m : Counts) → GrowsSums u k m b c → SameBind b c
 bind-pays u None None k m p = tt
 bind-pays u None (Some c) k m p = absurd p
 bind-pays u (Some b) None k m p = absurd p
 bind-pays u (Some b) (Some c) k m p = p.number
 
 -- what an order did is written
-pub IsRead-paid : {base : ℕ} (records : List Rec) (u : List NoteKind) (i m : ℕ) (l : Option Live) (b c : Option Bound) (k : Kind) (n d : Counts) → IsRead records base u i m l b
-    → (counts : Counts) × (record_at records (length records) ≡ Some (Order k counts)) → Pays u k n b c → IsRead (records ++ Done n d ∷ []) base u i m l c
+pub IsRead-paid : {base : ℕ} (records : List Rec) (u : List NoteKind) (i m : ℕ) (l : Option Live) (b c : Option Bound) (k : Kind) (n d : Counts) → IsReadFrom records base u i m l b
+    → (counts : Counts) × (record_at records (length records) ≡ Some (Order k counts)) → GrowsSums u k n b c → IsReadFrom (records ++ Done n d ∷ []) base u i m l c
 IsRead-paid records u i m l b c k n d h last p =
     IsRead-done records u i m l b c n d h (bind-pays u b c k n p) (sums-pays u records b c k last.0 n d (sums-of u records l b h.binds) last.1 p)
 
 -- what is paid keeps the amounts
-pub amounts-pays : (u : List NoteKind) (b c : Option Bound) (k : Kind) (m : Counts) → Pays u k m b c → amounts_kept c ≡ amounts_kept b
+pub amounts-pays : (u : List NoteKind) (b c : Option Bound) (k : Kind) (m : Counts) → GrowsSums u k m b c → amounts_kept c ≡ amounts_kept b
 amounts-pays u None None k m p = refl
 amounts-pays u None (Some c) k m p = absurd p
 amounts-pays u (Some b) None k m p = absurd p
@@ -288,7 +288,7 @@ amounts-pays u (Some b) (Some c) k m p = ap Some p.amounts
 
 -- the sums fit, where what is presented in each currency does
 pub fits-sums : (u : List NoteKind) (records : List Rec) (l : Option Live) (b : Option Bound) (k : Kind) (m : Counts) → IsBound u records l b
-    → (k ≡ Present → (c : List ℕ) → presented_in u records c + value u m c ≤ 999999999999) → Fits u k m b
+    → (k ≡ Present → (c : List ℕ) → presented_in u records c + value u m c ≤ 999999999999) → FitsSums u k m b
 fits-sums u records l None k m h small = tt
 fits-sums u records None (Some b) k m h small = absurd h
 fits-sums u records (Some l) (Some b) k m h small = λ is i a e. let s = small is a.0 in let t = h.sums i a e in omega (arith, s, t)
@@ -298,7 +298,7 @@ pub live-issued : (records : List Rec) (n w : ℕ) (x : Nonce) → x.text ≡ no
 live-issued records n w x text number = rw (live_of-push records (Issue n w), record_at-pushed records (Issue n w)) (ap Some (rw (← text, ← number) refl))
 
 -- a journal that is open has nothing in doubt
-pub KeepsLedger-read : {base : ℕ} (records : List Rec) (d : Option Rec) (s m : Bool) (u : List NoteKind) (i k : ℕ) (l : Option Live) (b : Option Bound) (x : Option Nonce) → IsRead records base u i k l b → d ≡ None → KeepsLedger records base d s m u i k l b x
+pub KeepsLedger-read : {base : ℕ} (records : List Rec) (d : Option Rec) (s m : Bool) (u : List NoteKind) (i k : ℕ) (l : Option Live) (b : Option Bound) (x : Option Nonce) → IsReadFrom records base u i k l b → d ≡ None → KeepsLedger records base d s m u i k l b x
 KeepsLedger-read records d s m u i k l b x h none = record { read = λ _ _. h; lives = λ _. h.lives; doubts = λ n e. absurd (never n (rw none at e)) }
   where
     never : (n : Nonce) → nonce_of None ≡ Some n → ⊥

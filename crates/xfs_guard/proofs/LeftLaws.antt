@@ -9,7 +9,7 @@ use Rattle.xfs_mech.specs.declared.motion.Motion.{Motion}
 use Rattle.xfs_disk.specs.Moments.{LeavesOnly}
 use Rattle.xfs_disk.specs.declared.disk.Disk.{Ghosts}
 use Rattle.xfs_journal.specs.Image.{IsImage, StandsFor}
-use Rattle.xfs_journal.specs.JournalView.{IsButForEighth, IsPossible, HasPossible, StandsForEither}
+use Rattle.xfs_journal.specs.JournalView.{IsButForEighth, IsPossible, HasPossible, StandsForEither, LeavesOneOf, LeavesList}
 use Rattle.xfs_journal.specs.Paging.{IsOldOrShort, IsQuiet}
 use Rattle.xfs_journal.specs.declared.record.Rec.{Rec}
 use Rattle.xfs_journal.specs.Journal.{boot_of}
@@ -17,11 +17,11 @@ use Rattle.xfs_journal.proofs.Emptying.{short_stands}
 use Rattle.xfs_journal.proofs.Moments.{started, weaken, joins}
 use Rattle.xfs_journal.proofs.Told.{on_told, from_told}
 use Rattle.xfs_guard.specs.declared.open.Open.{Open}
-use Rattle.xfs_guard.specs.CrashOutcomes.{EachStands, IsOldOrBooted, IsOldOrFound, Leaves, MayMove, StandsRecorded, StandsThrough}
+use Rattle.xfs_guard.specs.CrashOutcomes.{EachStands, IsOldOrBooted, IsOldOrFound, MayMove, StandsRecorded, StandsThrough}
 use Rattle.xfs_guard.specs.Booting.{IsSpared}
 use Rattle.xfs_guard.specs.Recorded.{IsRecorded}
 use Rattle.xfs_guard.specs.Sound.{IsSound}
-use Rattle.xfs_guard.specs.Stored.{IsStored, LeavesPossible, StandsForPossible, MayLeave}
+use Rattle.xfs_guard.specs.Stored.{LeavesPossible, StandsForPossible, MayLeave}
 use Rattle.xfs_guard.specs.View.{View}
 use Rattle.xfs_guard.proofs.BootLaws.{IsRecorded-boot}
 use Rattle.xfs_guard.proofs.KeptLaws.{recorded-sound, recorded-ties, told-at}
@@ -95,7 +95,7 @@ one-possible records d found none (inr doubt) = absurd (never doubt.0 (sym none 
     never r e = cc
 
 -- a crash leaves it
-pub leaves-kept : {D : Type 0} (g : Ghosts D) (disk : D) (records : List Rec) (d : Option Rec) → d ≡ None → IsStored g disk records d → Leaves g disk records
+pub leaves-kept : {D : Type 0} (g : Ghosts D) (disk : D) (records : List Rec) (d : Option Rec) → d ≡ None → LeavesOneOf g disk records d → LeavesList g disk records
 leaves-kept g disk records d none stored = on_told (g.held disk) (λ _. (c : List ℕ) → g.images disk c → StandsFor c records) (λ all told c left.
     let has = from_told (g.held disk) (λ _. (c : List ℕ) → g.images disk c → HasPossible records d c) stored all told c left in
     inl (subst (λ (list : List Rec). IsImage c list) (one-possible records d has.0 none has.1) has.2))

@@ -6,10 +6,9 @@ use Rattle.xfs_base.specs.Causes.{IfTold}
 use Rattle.xfs_disk.specs.Moments.{LeavesOnly}
 use Rattle.xfs_disk.specs.declared.disk.Disk.{Ghosts}
 use Rattle.xfs_journal.specs.Image.{StandsFor}
-use Rattle.xfs_journal.specs.JournalView.{StandsForEither}
+use Rattle.xfs_journal.specs.JournalView.{StandsForEither, LeavesList}
 use Rattle.xfs_journal.specs.declared.record.Rec.{Rec}
 use Rattle.xfs_journal.proofs.Told.{on_told, from_told}
-use Rattle.xfs_guard.specs.CrashOutcomes.{Leaves}
 use Rattle.xfs_guard.specs.LedgerView.{LedgerView, Wrote, IsWriteFault}
 use Rattle.xfs_guard.specs.Stored.{LeavesPossible, StandsForPossible}
 use Rattle.xfs_guard.specs.declared.deny.Deny.{Deny}
@@ -18,7 +17,7 @@ use Rattle.xfs_guard.proofs.StoredLaws.{tells}
 
 module _ {D : Type 0} (g : Ghosts D) where
   -- a crash leaves the kept list
-  pub leaves-list : (disk : D) (records : List Rec) (in_doubt : Option Rec) → Leaves g disk records → LeavesPossible g disk records in_doubt
+  pub leaves-list : (disk : D) (records : List Rec) (in_doubt : Option Rec) → LeavesList g disk records → LeavesPossible g disk records in_doubt
   leaves-list disk records in_doubt leaves = on_told (g.held disk) (λ _. (c : List ℕ) → g.images disk c → StandsForPossible records in_doubt c) (λ all told c left.
       (records, inl refl, from_told (g.held disk) (λ _. (c : List ℕ) → g.images disk c → StandsFor c records) leaves all told c left))
 

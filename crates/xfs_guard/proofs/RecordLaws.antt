@@ -27,7 +27,7 @@ use Rattle.xfs_journal.specs.Journal.{boot_places, record_at, live_at, live_of, 
 use Rattle.xfs_journal.proofs.JournalLaws.{live_of-push, live_at-pushed, token_of-push, record_at-pushed, Walk-push, eqb-same, eqb-no}
 use Rattle.xfs_guard.specs.declared.open.Open.{Open}
 use Rattle.xfs_guard.specs.declared.open.Open.TheVariants.{No, Written, Acted}
-use Rattle.xfs_guard.specs.Nonce.{Ends, live_nonce}
+use Rattle.xfs_guard.specs.Nonce.{EndsNonce, live_nonce}
 use Rattle.xfs_guard.specs.View.{View}
 use Rattle.xfs_guard.specs.Agrees.{MayFollow, IsNoOrder}
 use Rattle.xfs_guard.specs.Within.{IsOfNonce, shown, shown_by}
@@ -300,36 +300,36 @@ sound-end v r s none numbers dies plain may other = record {
     ties (Some motions) t = Ties-mark v r None motions dies (may _ before) other t
 
 -- the live nonce is cleared, or its life is over
-pub IsSound-end : (v : View) (r : Rec) → Ends r → IsSound v → v.open_order ≡ No → IsSound (longer v r None No)
+pub IsSound-end : (v : View) (r : Rec) → EndsNonce r → IsSound v → v.open_order ≡ No → IsSound (longer v r None No)
 IsSound-end v r (inl is) s none = rw is (sound-end v Clear s none (λ n. tt) (λ n l. refl) tt (λ last h. h) (λ m d e. cc))
 IsSound-end v r (inr is) s none = rw is (sound-end v Expire s none (λ n. tt) (λ n l. refl) tt (λ last h. h) (λ m d e. cc))
 
 -- what ends a nonce is short, has no unit and is no boot record, and no nonce lives behind it
-pub ends-short : (r : Rec) → Ends r → length (body r) ≤ 1025
+pub ends-short : (r : Rec) → EndsNonce r → length (body r) ≤ 1025
 ends-short r (inl is) = rw is (omega arith)
 ends-short r (inr is) = rw is (omega arith)
 
-pub ends-unit : (r : Rec) → Ends r → HasUnit r
+pub ends-unit : (r : Rec) → EndsNonce r → HasUnit r
 ends-unit r (inl is) = rw is tt
 ends-unit r (inr is) = rw is tt
 
-pub ends-plain : (r : Rec) (p : Places) → Ends r → boot_places r ≡ Some p → ⊥
+pub ends-plain : (r : Rec) (p : Places) → EndsNonce r → boot_places r ≡ Some p → ⊥
 ends-plain r p (inl is) e = let no : None ≡ Some p = sym (ap boot_places is) ∙ e in cc
 ends-plain r p (inr is) e = let no : None ≡ Some p = sym (ap boot_places is) ∙ e in cc
 
-pub ends-live : (r : Rec) → Ends r → (k : ℕ) (x : Option ℕ) → live_after k x r ≡ None
+pub ends-live : (r : Rec) → EndsNonce r → (k : ℕ) (x : Option ℕ) → live_after k x r ≡ None
 ends-live r (inl is) k x = rw is refl
 ends-live r (inr is) k x = rw is refl
 
-pub ends-mark : (r : Rec) → Ends r → (k x : ℕ) → mark_after k x r ≡ k + 1
+pub ends-mark : (r : Rec) → EndsNonce r → (k x : ℕ) → mark_after k x r ≡ k + 1
 ends-mark r (inl is) k x = rw is refl
 ends-mark r (inr is) k x = rw is refl
 
-pub ends-number : (r : Rec) → Ends r → (k : ℕ) → next_number k r ≡ k
+pub ends-number : (r : Rec) → EndsNonce r → (k : ℕ) → next_number k r ≡ k
 ends-number r (inl is) k = rw is refl
 ends-number r (inr is) k = rw is refl
 
-pub ends-dead : (records : List Rec) (r : Rec) → Ends r → live_nonce (records ++ r ∷ []) ≡ None
+pub ends-dead : (records : List Rec) (r : Rec) → EndsNonce r → live_nonce (records ++ r ∷ []) ≡ None
 ends-dead records r ends = rw (live_of-push, ends-live r ends (length records) (live_of records)) refl
 
 -- where no token is bound there is no Bind

@@ -128,13 +128,13 @@ ordered_in None = None
 ordered_in (Some r) = ordered_by r
 
 -- what reading keeps
-record IsRead (records : List Rec) (s : Replay) : Type 0 where
+record IsReadFrom (records : List Rec) (s : Replay) : Type 0 where
   count : s.count ≡ length records
   ordered : s.ordered ≡ ordered_in (record_at records (length records))
   motions : Replays records s.motions
 
 -- a done and the order before it
-step-done : (records : List Rec) (s : Replay) (m d : Counts) (before : Option Rec) → record_at records (length records) ≡ before → IsRead records s → IsOrder before → KeepsWithin before (Done m d)
+step-done : (records : List Rec) (s : Replay) (m d : Counts) (before : Option Rec) → record_at records (length records) ≡ before → IsReadFrom records s → IsOrder before → KeepsWithin before (Done m d)
     → Replays (records ++ Done m d ∷ []) (replay_after s (Done m d)).motions
 step-done records s m d (Some (Order k c)) e i o w =
     let kind : s.ordered ≡ Some k = i.ordered ∙ ap ordered_in e in
@@ -150,7 +150,7 @@ step-done records s m d (Some (Done x y)) e i o w = absurd o
 step-done records s m d (Some (Load u c)) e i o w = absurd o
 step-done records s m d None e i o w = absurd o
 
-step-motions : (records : List Rec) (s : Replay) (r : Rec) → IsRead records s → MayFollow (record_at records (length records)) r → KeepsWithin (record_at records (length records)) r → Replays (records ++ r ∷ []) (replay_after s r).motions
+step-motions : (records : List Rec) (s : Replay) (r : Rec) → IsReadFrom records s → MayFollow (record_at records (length records)) r → KeepsWithin (record_at records (length records)) r → Replays (records ++ r ∷ []) (replay_after s r).motions
 step-motions records s (Done m d) i may w = step-done records s m d (record_at records (length records)) refl i may w
 step-motions records s (Load u c) i may w = Replays-record records (Load u c) (s.motions ++ Loaded u c ∷ []) (Replays-quiet records s.motions (Loaded u c) tt i.motions) may (λ k x m d o e. cc)
 step-motions records s (Issue n x) i may w = Replays-record records (Issue n x) s.motions i.motions may (λ k c m d o e. cc)
@@ -161,21 +161,21 @@ step-motions records s (Start issues p) i may w = Replays-record records (Start 
 step-motions records s (Bind t) i may w = Replays-record records (Bind t) s.motions i.motions may (λ k c m d o e. cc)
 step-motions records s (Order k c) i may w = Replays-record records (Order k c) s.motions i.motions may (λ k' c' m d o e. cc)
 
-step : (records : List Rec) (s : Replay) (r : Rec) → IsRead records s → MayFollow (record_at records (length records)) r → KeepsWithin (record_at records (length records)) r → IsRead (records ++ r ∷ []) (replay_after s r)
+step : (records : List Rec) (s : Replay) (r : Rec) → IsReadFrom records s → MayFollow (record_at records (length records)) r → KeepsWithin (record_at records (length records)) r → IsReadFrom (records ++ r ∷ []) (replay_after s r)
 step records s r i may w = record {
   count = rw length-pushed (ap (λ n. n + 1) i.count);
   ordered = rw last-pushed refl;
   motions = step-motions records s r i may w;
 }
 
-walk : (R records : List Rec) (s : Replay) → IsRead records s → Walk keep_last MayFollow (record_at records (length records)) R → Walk keep_last KeepsWithin (record_at records (length records)) R → IsRead (records ++ R) (fold replay_after s R)
+walk : (R records : List Rec) (s : Replay) → IsReadFrom records s → Walk keep_last MayFollow (record_at records (length records)) R → Walk keep_last KeepsWithin (record_at records (length records)) R → IsReadFrom (records ++ R) (fold replay_after s R)
 walk [] records s i may w = rw append-nil i
 walk (r ∷ rs) records s i may w =
     let next = step records s r i may.0 w.0 in
-    subst (λ (l : List Rec). IsRead l (fold replay_after s (r ∷ rs))) (append_assoc records (r ∷ []) rs)
+    subst (λ (l : List Rec). IsReadFrom l (fold replay_after s (r ∷ rs))) (append_assoc records (r ∷ []) rs)
     (walk rs (records ++ r ∷ []) (replay_after s r) next (rw last-pushed may.1) (rw last-pushed w.1))
 
-none_read : IsRead [] nothing_replayed
+none_read : IsReadFrom [] nothing_replayed
 none_read = record {
   count = refl;
   ordered = refl;

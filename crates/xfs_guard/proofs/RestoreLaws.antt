@@ -19,7 +19,7 @@ use Rattle.xfs_guard.specs.declared.fail.BootFault.TheVariants.{NotJournal, Disk
 use Rattle.xfs_guard.specs.declared.open.Open.{Open}
 use Rattle.xfs_guard.specs.declared.open.Open.TheVariants.{No}
 use Rattle.xfs_guard.specs.Balance.{no_notes}
-use Rattle.xfs_guard.specs.Booting.{IsRebooted, base_then}
+use Rattle.xfs_guard.specs.Booting.{IsRereadBooted, base_then}
 use Rattle.xfs_guard.specs.View.{View, unread, reread}
 use Rattle.xfs_guard.specs.Kept.{IsKept}
 use Rattle.xfs_guard.specs.LedgerView.{LedgerView}
@@ -249,7 +249,7 @@ Continues-restored key seed o o' motions places faults b old new was told same (
     (λ compared from s. rw same (stands-unbooted (over key seed o motions places faults old was) records places (base_then b old.base records) o' found compared from s)))
 
 -- the boot record is the last one, and all that is in memory
-pub rebooted-alone : {T : Type 0} (result : Result T BootFault) (old new : View) → OnOk result (IsRebooted old new) → OnOk result (new.base + 1 ≡ length new.records)
+pub rebooted-alone : {T : Type 0} (result : Result T BootFault) (old new : View) → OnOk result (IsRereadBooted true old new) → OnOk result (new.base + 1 ≡ length new.records)
 rebooted-alone (Ok x) old new is = rw is.2 (let e = base_of-boot is.0 old.places in let n = length-append is.0 (boot_of is.0 old.places ∷ []) in omega (arith, e, n))
 rebooted-alone (Err f) old new is = tt
 

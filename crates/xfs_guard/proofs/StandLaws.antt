@@ -23,7 +23,7 @@ use Rattle.xfs_guard.specs.declared.open.Open.{Open}
 use Rattle.xfs_guard.specs.declared.open.Open.TheVariants.{No, Written, Acted}
 use Rattle.xfs_guard.specs.Agrees.{IsNoOrder}
 use Rattle.xfs_guard.specs.Budget.{Budget}
-use Rattle.xfs_guard.specs.Nonce.{Ends}
+use Rattle.xfs_guard.specs.Nonce.{EndsNonce}
 use Rattle.xfs_guard.specs.Reach.{is_in_reach, is_reached, number_from, reached, IsRecordedBehind, NumberedBehind, StandsBehind, view_behind}
 use Rattle.xfs_guard.specs.Sound.{IfPresent, IsReleased, IsSound, OpenIsNewest, Ties, where_told}
 use Rattle.xfs_guard.specs.View.{View}
@@ -77,7 +77,7 @@ grows-bind v b w s none = record { numbered = tt; tied = λ from motions sp t. T
 pub grows-load : (v : View) (unit count : ℕ) → IsSound v → v.open_order ≡ No → Grows v (Load unit count) v.bound No
 grows-load v unit count s none = record { numbered = tt; tied = λ from motions sp t. Ties-load (view_behind from v) unit count motions none (no_order-behind v from s none sp) t }
 
-pub grows-end : (v : View) (r : Rec) → Ends r → IsSound v → v.open_order ≡ No → Grows v r None No
+pub grows-end : (v : View) (r : Rec) → EndsNonce r → IsSound v → v.open_order ≡ No → Grows v r None No
 grows-end v r (inl is) s none = rw is (record { numbered = tt; tied = λ from motions sp t. Ties-mark (view_behind from v) _ None motions (λ n l. refl) (no_order-behind v from s none sp) (λ m d e. cc) t })
 grows-end v r (inr is) s none = rw is (record { numbered = tt; tied = λ from motions sp t. Ties-mark (view_behind from v) _ None motions (λ n l. refl) (no_order-behind v from s none sp) (λ m d e. cc) t })
 

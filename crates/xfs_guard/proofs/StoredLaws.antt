@@ -8,15 +8,15 @@ use Rattle.xfs_base.specs.declared.counts.Places.{Places}
 use Rattle.xfs_disk.specs.Moments.{LeavesOnly}
 use Rattle.xfs_disk.specs.declared.disk.Disk.{Ghosts}
 use Rattle.xfs_journal.specs.Image.{StandsFor}
-use Rattle.xfs_journal.specs.JournalView.{IsPossible, HasPossible, StandsForEither}
+use Rattle.xfs_journal.specs.JournalView.{IsPossible, HasPossible, StandsForEither, LeavesOneOf}
 use Rattle.xfs_journal.specs.Paging.{IsQuiet}
 use Rattle.xfs_journal.specs.declared.record.Rec.{Rec}
 use Rattle.xfs_journal.specs.Journal.{boot_of, with_boot}
 use Rattle.xfs_journal.proofs.Emptying.{short_stands}
 use Rattle.xfs_journal.proofs.Unique.{stands_for_one}
-use Rattle.xfs_guard.specs.Booting.{IsBooted}
+use Rattle.xfs_guard.specs.Booting.{IsFoundBooted}
 use Rattle.xfs_guard.specs.CrashOutcomes.{IsOldOrFound}
-use Rattle.xfs_guard.specs.Stored.{IsStored, MayLeave, WasLeft}
+use Rattle.xfs_guard.specs.Stored.{MayLeave, WasLeft}
 
 -- what a disk that tells has
 abbrev pub Tells : Option (List ℕ) → Type 0
@@ -74,7 +74,7 @@ WasLeft-append g old mid new end places kept as_read mounted appended ended stan
     }
 
 -- a list that a crash may leave is a possible one
-pub left-possible : {D : Type 0} (g : Ghosts D) (d : D) (kept : List Rec) (in_doubt : Option Rec) → IsStored g d kept in_doubt
+pub left-possible : {D : Type 0} (g : Ghosts D) (d : D) (kept : List Rec) (in_doubt : Option Rec) → LeavesOneOf g d kept in_doubt
     → (records : List Rec) → MayLeave g d records → IsPossible kept in_doubt records
 left-possible g d kept in_doubt stored records may =
     let known = tells (g.held d) may.told in
@@ -135,6 +135,6 @@ unlisted-booted None kept Claim stands = tt
 unlisted-booted (Some all) kept Claim stands = λ none. absurd (none kept stands)
 
 -- a list that was read has its boot record
-pub booted_behind : (held : Option (List ℕ)) (kept now : List Rec) (places : Places) → IfTold held (λ all. StandsFor all kept) → now ≡ with_boot kept places → IsBooted held places now
+pub booted_behind : (held : Option (List ℕ)) (kept now : List Rec) (places : Places) → IfTold held (λ all. StandsFor all kept) → now ≡ with_boot kept places → IsFoundBooted held places now
 booted_behind None kept now places stands is = tt
 booted_behind (Some all) kept now places stands is = (kept, stands, is)

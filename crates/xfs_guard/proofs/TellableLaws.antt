@@ -20,10 +20,10 @@ use Rattle.xfs_journal.proofs.StartLaws.{boot_of-places}
 use Rattle.xfs_guard.specs.Booting.{base_then}
 use Rattle.xfs_guard.specs.declared.deny.Deny.{Deny}
 use Rattle.xfs_guard.specs.declared.deny.Deny.TheVariants.{Disk, Memory}
-use Rattle.xfs_guard.specs.LedgerBooting.{IsSmall}
+use Rattle.xfs_guard.specs.LedgerBooting.{StaysSmall}
 use Rattle.xfs_guard.specs.LedgerView.{IsWriteFault}
 use Rattle.xfs_guard.specs.Ledger.{IsDoubted}
-use Rattle.xfs_guard.specs.Nonce.{Ends, nonce_of}
+use Rattle.xfs_guard.specs.Nonce.{EndsNonce, nonce_of}
 use Rattle.xfs_guard.specs.declared.nonce.Nonce.{Nonce}
 use Rattle.xfs_guard.specs.Presented.{done_worth, presented_in}
 use Rattle.xfs_guard.specs.Segment.{has_issue, issue_of, segment, IsTellable, AreTellable}
@@ -170,7 +170,7 @@ tellable-done u front records m d low t = tellable-more u records (Done m d) ref
 done-adds : (u : List NoteKind) (records : List Rec) (o : Rec) (m d : Counts) (c : List ℕ) → record_at records (length records) ≡ Some o → presented_in u (records ++ Done m d ∷ []) c ≡ presented_in u records c + done_worth u c (Some o) m
 done-adds u records o m d c ordered = presented_in-push u records (Done m d) c ∙ ap (λ (r : Option Rec). presented_in u records c + done_worth u c r m) ordered
 
-pub paid-small : (u : List NoteKind) (records : List Rec) (k : Kind) (counts m d : Counts) → record_at records (length records) ≡ Some (Order k counts) → IsSmall u records k m
+pub paid-small : (u : List NoteKind) (records : List Rec) (k : Kind) (counts m d : Counts) → record_at records (length records) ≡ Some (Order k counts) → StaysSmall u records k m
     → (c : List ℕ) → presented_in u records c ≤ 999999999999 → presented_in u (records ++ Done m d ∷ []) c ≤ 999999999999
 paid-small u records Present counts m d ordered small c le = let e = done-adds u records (Order Present counts) m d c ordered in let s = small refl c in omega (arith, e, s)
 paid-small u records Stack counts m d ordered small c le = let e = done-adds u records (Order Stack counts) m d c ordered in omega (arith, e, le)
@@ -228,12 +228,12 @@ tells-refused e u base records r d d' all p (inl is) memory disk = rw (memory is
 tells-refused e u base records r d d' all p (inr is) memory disk = rw (disk is) (tells-either u base records r (tells-now u base records d all) (tellable-push u base records r p (tells-now u base records d all)))
 
 -- so it is with a Done
-pub tells-paid : (u : List NoteKind) (base : ℕ) (records : List Rec) (k : Kind) (counts moved diverted : Counts) (d d' : Option Rec) → AreTellable u base records d → record_at records (length records) ≡ Some (Order k counts) → IsSmall u records k moved
+pub tells-paid : (u : List NoteKind) (base : ℕ) (records : List Rec) (k : Kind) (counts moved diverted : Counts) (d d' : Option Rec) → AreTellable u base records d → record_at records (length records) ≡ Some (Order k counts) → StaysSmall u records k moved
     → d' ≡ None → AreTellable u base (records ++ Done moved diverted ∷ []) d'
 tells-paid u base records k counts moved diverted d d' all ordered small none =
     tells-alone u base (records ++ Done moved diverted ∷ []) d' none (tellable-paid u base records moved diverted (paid-small u records k counts moved diverted ordered small) (tells-now u base records d all))
 
-pub tells-unpaid : (e : Deny) (u : List NoteKind) (base : ℕ) (records : List Rec) (k : Kind) (counts moved diverted : Counts) (d d' : Option Rec) → AreTellable u base records d → record_at records (length records) ≡ Some (Order k counts) → IsSmall u records k moved
+pub tells-unpaid : (e : Deny) (u : List NoteKind) (base : ℕ) (records : List Rec) (k : Kind) (counts moved diverted : Counts) (d d' : Option Rec) → AreTellable u base records d → record_at records (length records) ≡ Some (Order k counts) → StaysSmall u records k moved
     → IsWriteFault e → (e ≡ Memory → d' ≡ d) → (e ≡ Disk → d' ≡ Some (Done moved diverted)) → AreTellable u base records d'
 tells-unpaid e u base records k counts moved diverted d d' all ordered small (inl is) memory disk = rw (memory is) all
 tells-unpaid e u base records k counts moved diverted d d' all ordered small (inr is) memory disk =
@@ -278,12 +278,12 @@ start-plain records p = of (boot_of records p) (boot_of-places records p)
     of (Load i c) is = tt
 
 -- what ends a nonce is plain
-pub ends-plain : (r : Rec) → Ends r → CarriesOne r
+pub ends-plain : (r : Rec) → EndsNonce r → CarriesOne r
 ends-plain r (inl is) = rw is tt
 ends-plain r (inr is) = rw is tt
 
 -- and its record is none of a nonce's
-pub ends-doubts : (r : Rec) (x : Option Nonce) → Ends r → IsDoubted (Some r) x
+pub ends-doubts : (r : Rec) (x : Option Nonce) → EndsNonce r → IsDoubted (Some r) x
 ends-doubts r x (inl is) n e = let none : None ≡ Some n = sym (ap (λ (y : Rec). nonce_of (Some y)) is) ∙ e in cc
 ends-doubts r x (inr is) n e = let none : None ≡ Some n = sym (ap (λ (y : Rec). nonce_of (Some y)) is) ∙ e in cc
 

@@ -1,5 +1,5 @@
 -- What a boot finds on a disk and leaves there, and what a restore and a reboot make of a guard.
-use Rattle.std.specs.Prelude.{◌≡◌, ◌⊎◌, ℕ, Bool, true, false, if◌then◌else◌, List, is_some, None}
+use Rattle.std.specs.Prelude.{◌≡◌, ◌⊎◌, ℕ, Bool, true, false, if◌then◌else◌, List, is_some}
 use Rattle.std.specs.declared.option.Option.{Option}
 use Rattle.xfs_base.specs.Causes.{IfTold}
 use Rattle.xfs_base.specs.declared.counts.Places.{Places}
@@ -15,7 +15,7 @@ use Rattle.xfs_journal.specs.declared.record.Rec.{Rec}
 use Rattle.xfs_journal.specs.Journal.{base_of, boot_of, with_boot}
 use Rattle.xfs_guard.specs.Recorded.{IsRecorded}
 use Rattle.xfs_guard.specs.Stored.{MayLeave}
-use Rattle.xfs_guard.specs.View.{View, reread, rebooted, restarted, unbooted, unread}
+use Rattle.xfs_guard.specs.View.{View, reread, restarted, unbooted, unread}
 
 -- the disk has this list of records, where it tells
 abbrev pub IsFound : Option (List ℕ) → (List Rec → Type 0) → Type 0
@@ -59,34 +59,8 @@ abbrev pub AddsAtMost : {D : Type 0} → Ghosts D → D → D → List Rec → R
 AddsAtMost g old new records rec = IfTold (g.held old) (λ _. LeavesOnly g old new (StandsForEither records rec))
 
 -- these are the records that the disk has, with a boot record of these places behind them
-abbrev pub IsBooted : Option (List ℕ) → Places → List Rec → Type 0
-IsBooted held places now = IfTold held (λ all. (records : List Rec) × StandsFor all records × (now ≡ with_boot records places))
-
--- a possible list of the journal was read again, and has its boot record
-abbrev pub IsRestored : View → View → Type 0
-IsRestored old new = (records : List Rec) × IsPossible old.records old.in_doubt records × (new ≡ restarted old records)
-
--- a possible list was read again, and there is no room for its boot record
-abbrev pub IsUnrestored : View → View → Type 0
-IsUnrestored old new = (records : List Rec) × IsPossible old.records old.in_doubt records
-    × (exceeds old.limits old.base (with_boot records old.places) ≡ true) × (new ≡ reread old records)
-
--- a possible list was read again, and the disk failed at its boot record
-abbrev pub IsUnbooted : View → View → Type 0
-IsUnbooted old new = (records : List Rec) × IsPossible old.records old.in_doubt records × (new ≡ unbooted old records)
-
--- a possible list of the journal was read again, and has its boot record, which alone is in memory
-abbrev pub IsRebooted : View → View → Type 0
-IsRebooted old new = (records : List Rec) × IsPossible old.records old.in_doubt records × (new ≡ rebooted old records)
-
--- a possible list was read again, memory has it from its last boot record on, and there is no room behind that for another
-abbrev pub IsUnrebooted : View → View → Type 0
-IsUnrebooted old new = (records : List Rec) × IsPossible old.records old.in_doubt records
-    × (has_no_room_at_boot old.limits records old.places ≡ true) × (new ≡ record (reread old records) { base = base_of records })
-
--- a possible list was read again, memory has it from its last boot record on, and the disk failed at another
-abbrev pub IsUnstarted : View → View → Type 0
-IsUnstarted old new = (records : List Rec) × IsPossible old.records old.in_doubt records × (new ≡ record (unbooted old records) { base = base_of records })
+abbrev pub IsFoundBooted : Option (List ℕ) → Places → List Rec → Type 0
+IsFoundBooted held places now = IfTold held (λ all. (records : List Rec) × StandsFor all records × (now ≡ with_boot records places))
 
 -- how many of the records memory doesn't have once they are read again: a reboot rebases, and a restore has as many as before
 abbrev pub base_then : Bool → ℕ → List Rec → ℕ
@@ -97,25 +71,29 @@ abbrev pub HadRoomThen : Bool → ℕ → Option (List ℕ) → Limits → Place
 HadRoomThen rebases base held limits places now = IsFound held (λ records.
     (now ≡ with_boot records places) × (exceeds limits (base_then rebases base records) (with_boot records places) ≡ false))
 
--- a restore or a reboot read a possible list again, and gave it its boot record
-abbrev pub IsRestoredThen : Bool → View → View → Type 0
-IsRestoredThen rebases old new = (records : List Rec) × IsPossible old.records old.in_doubt records
+-- these are the records that a guard's disk has, with a boot record of its mechanism's places, for which a restore or a reboot had room
+abbrev pub HadRoomAgain : Bool → Option (List ℕ) → View → List Rec → Type 0
+HadRoomAgain rebases held old now = HadRoomThen rebases old.base held old.limits old.places now
+
+-- a possible list of the journal was read again, and has its boot record; where that rebases, memory has it alone
+abbrev pub IsRereadBooted : Bool → View → View → Type 0
+IsRereadBooted rebases old new = (records : List Rec) × IsPossible old.records old.in_doubt records
     × (new ≡ record (restarted old records) { base = base_then rebases old.base (with_boot records old.places) })
 
--- it found no room for the boot record
-abbrev pub IsUnrestoredThen : Bool → View → View → Type 0
-IsUnrestoredThen rebases old new = (records : List Rec) × IsPossible old.records old.in_doubt records
+-- a possible list was read again, and there is no room for its boot record; where that rebases, memory has the list from its last boot record on
+abbrev pub IsRereadFull : Bool → View → View → Type 0
+IsRereadFull rebases old new = (records : List Rec) × IsPossible old.records old.in_doubt records
     × (exceeds old.limits (base_then rebases old.base records) (with_boot records old.places) ≡ true)
     × (new ≡ record (reread old records) { base = base_then rebases old.base records })
 
--- the disk failed at the boot record
-abbrev pub IsUnbootedThen : Bool → View → View → Type 0
-IsUnbootedThen rebases old new = (records : List Rec) × IsPossible old.records old.in_doubt records
+-- a possible list was read again, and the disk failed at its boot record; where that rebases, memory has the list from its last boot record on
+abbrev pub IsRereadFailed : Bool → View → View → Type 0
+IsRereadFailed rebases old new = (records : List Rec) × IsPossible old.records old.in_doubt records
     × (new ≡ record (unbooted old records) { base = base_then rebases old.base records })
 
 -- the journal was not read, and is shut
-abbrev pub IsUnread : View → View → Type 0
-IsUnread old new = new ≡ unread old
+abbrev pub IsNotReread : View → View → Type 0
+IsNotReread old new = new ≡ unread old
 
 -- a disk goes on telling its bytes, or not telling them
 abbrev pub TellsAs : {D : Type 0} → Ghosts D → D → D → Type 0
@@ -124,7 +102,3 @@ TellsAs g old new = is_some (g.held new) ≡ is_some (g.held old)
 -- each list that a crash may leave is a possible one of this state
 abbrev pub LeavesListOf : {D : Type 0} → Ghosts D → D → View → Type 0
 LeavesListOf g disk v = (records : List Rec) → MayLeave g disk records → IsPossible v.records v.in_doubt records
-
--- the disk doesn't tell its bytes
-abbrev pub IsUntold : {D : Type 0} → Ghosts D → D → Type 0
-IsUntold g disk = g.held disk ≡ None

@@ -20,7 +20,7 @@ pub record Led (records : List Rec) (motions : List Motion) (places : Places) (r
   pub follows : Follows records motions places records' motions' places'
   pub known : AllByRecursion (NumberIs (λ n. n ≤ length records')) follows.moves
 
--- the same of a mechanism that tells its list in both states; one that tells it in neither leads to a list that begins with the earlier one
+-- earlier lists and places led to these, of a mechanism that tells its list in both states; one that tells it in neither leads to a list that begins with the earlier one
 abbrev pub Leads : List Rec → Option (List Motion) → Places → List Rec → Option (List Motion) → Places → Type 0
 Leads from None was records None is = BeginsWith records from
 Leads from None was records (Some now) is = ⊥

@@ -7,6 +7,8 @@ use Rattle.xfs_base.specs.declared.counts.Counts.{Counts}
 use Rattle.xfs_base.specs.declared.counts.Kind.{Kind}
 use Rattle.xfs_base.specs.declared.counts.Places.{Places}
 use Rattle.xfs_base.specs.declared.money.NoteKind.{NoteKind}
+use Rattle.xfs_disk.specs.Moments.{LeavesOnly}
+use Rattle.xfs_disk.specs.declared.disk.Disk.{Ghosts}
 use Rattle.xfs_mech.specs.Mechanism.{AddsEntry, MayCarry}
 use Rattle.xfs_mech.specs.declared.motion.Motion.{Motion}
 use Rattle.xfs_mech.specs.declared.motion.Motion.TheVariants.{Moved, Taken}
@@ -16,12 +18,7 @@ use Rattle.xfs_journal.specs.declared.record.Rec.{Rec}
 use Rattle.xfs_journal.specs.Journal.{boot_of}
 use Rattle.xfs_guard.specs.declared.open.Open.TheVariants.{Written}
 use Rattle.xfs_guard.specs.Recorded.{IsRecorded}
-use Rattle.xfs_disk.specs.declared.disk.Disk.{Ghosts}
 use Rattle.xfs_guard.specs.View.{View}
-
--- where the disk tells, a crash leaves this list
-abbrev pub Leaves : {D : Type 0} → Ghosts D → D → List Rec → Type 0
-Leaves g disk records = IfTold (g.held disk) (λ _. (c : List ℕ) → g.images disk c → StandsFor c records)
 
 -- each image stands for some list
 abbrev pub EachStands : (List ℕ → Type 0) → Type 0
@@ -61,6 +58,14 @@ pub record MayTake (v : View) (entry : Motion) : Type 0 where
 abbrev pub IsOldOrFound : (List ℕ → Type 0) → List ℕ → List ℕ → Type 0
 IsOldOrFound images all bytes = images bytes ⊎ ((found : List Rec) × StandsFor all found × StandsFor bytes found)
 
+-- at any moment since a disk that told was handed in, a crash leaves one of its images, or the list that it had
+abbrev pub LeavesFound : {D : Type 0} → Ghosts D → D → D → Type 0
+LeavesFound g before now = IfTold (g.held before) (λ all. LeavesOnly g before now (IsOldOrFound (g.images before) all))
+
 -- one of the images before, or the bytes stand for the list that was found, with this boot record or without it
 abbrev pub IsOldOrBooted : (List ℕ → Type 0) → List ℕ → Places → List ℕ → Type 0
 IsOldOrBooted images all places bytes = images bytes ⊎ ((found : List Rec) × StandsFor all found × StandsForEither found (boot_of found places) bytes)
+
+-- at any moment since a disk that told was handed in, a crash leaves one of its images, or the list that it had, with a boot record of these places or without it
+abbrev pub LeavesFoundOrBooted : {D : Type 0} → Ghosts D → D → D → Places → Type 0
+LeavesFoundOrBooted g before now places = IfTold (g.held before) (λ all. LeavesOnly g before now (IsOldOrBooted (g.images before) all places))

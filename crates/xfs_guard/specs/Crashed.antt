@@ -33,6 +33,7 @@ IsCrashOutcome records in_doubt closed list = BeginsWith records list ⊎ IsTorn
 abbrev pub is_closed : View → Bool
 is_closed v = v.shut || v.boot_missing
 
+-- a crash left this list on the way to this state of a guard
 abbrev pub IsCrashOutcomeAt : View → List Rec → Type 0
 IsCrashOutcomeAt v list = IsCrashOutcome v.records v.in_doubt (is_closed v) list
 

@@ -27,7 +27,7 @@ pub record AtEntry : Type 0 where
   pub held : Option (List ℕ)
   pub disk_faults : ℕ
 
--- this mechanism and disk, with this key, seed, table of the units and limits
+-- what a boot finds of this mechanism and this disk, with this key, seed, table of the units and limits
 abbrev pub entry_of : {M D : Type 0} → Mechanisms M → Disks D → M → D → List ℕ → List ℕ → List NoteKind → Limits → AtEntry
 entry_of m d mech disk key seed units limits = record {
   key = key;
@@ -41,7 +41,7 @@ entry_of m d mech disk key seed units limits = record {
   disk_faults = d.faults disk;
 }
 
--- the same of the core that is handed in
+-- what a boot finds of this core
 abbrev pub at_entry : {M D : Type 0} → Mechanisms M → Disks D → Core M D → AtEntry
 at_entry m d core = entry_of m d core.mech core.disk core.key core.seed core.units core.limits
 
@@ -68,5 +68,5 @@ opened e records = record {
 }
 
 -- the guard that a boot begins: the list that the disk had, with a boot record of the mechanism's places behind it
-abbrev pub Begins : AtEntry → View → Type 0
-Begins e guard = IsFound e.held (λ records. guard ≡ opened e (with_boot records e.places))
+abbrev pub BeginsFound : AtEntry → View → Type 0
+BeginsFound e guard = IsFound e.held (λ records. guard ≡ opened e (with_boot records e.places))

@@ -21,6 +21,6 @@ pub record Keeps {D : Type 0} (g : Ghosts D) (MayAdd : Motion → Type 0) (old n
   pub proceeds : Proceeds g old new
   pub recorded : IfTold (g.held old.disk) (λ _. LeavesOnly g old.disk new.disk (StandsThrough old.state MayAdd))
 
--- a call that writes adds no entry
+-- no entry of the mechanism: a call that writes a record adds none
 abbrev pub NoEntry : Motion → Type 0
 NoEntry entry = ⊥

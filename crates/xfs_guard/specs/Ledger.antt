@@ -18,15 +18,15 @@ IsLive records None = live_of records ≡ None
 IsLive records (Some live) = (live_of records ≡ Some live.number) × (nonce_of (record_at records live.number) ≡ Some live.nonce)
 
 -- for each of these amounts the sum presented in its currency
-abbrev pub AreSums : List NoteKind → List Rec → List (List ℕ × ℕ) → List ℕ → Type 0
-AreSums units records amounts presented = (i : ℕ) (a : List ℕ × ℕ) → slice_get amounts i ≡ Some a → slice_index presented i ≡ presented_in units records a.0
+abbrev pub AreSumsPresented : List NoteKind → List Rec → List (List ℕ × ℕ) → List ℕ → Type 0
+AreSumsPresented units records amounts presented = (i : ℕ) (a : List ℕ × ℕ) → slice_get amounts i ≡ Some a → slice_index presented i ≡ presented_in units records a.0
 
 -- the bind of the issue at p is that of the records
 pub record IsBind (units : List NoteKind) (records : List Rec) (p : ℕ) (b : Bound) : Type 0 where
   pub token : List ℕ
   pub found : binding_of records p ≡ Some (record { number = b.number; token = token })
   pub written : record_at records b.number ≡ Some (Bind token)
-  pub sums : AreSums units records b.amounts b.presented
+  pub sums : AreSumsPresented units records b.amounts b.presented
 
 -- the bind that is kept is that of the live issue
 abbrev pub IsBound : List NoteKind → List Rec → Option Live → Option Bound → Type 0
@@ -44,7 +44,7 @@ IsBehind base None = ⊤
 IsBehind base (Some b) = base < b.number
 
 -- what is kept beside the records is what is read of them
-pub record IsRead (records : List Rec) (base : ℕ) (units : List NoteKind) (issues mark : ℕ) (live : Option Live) (bound : Option Bound) : Type 0 where
+pub record IsReadFrom (records : List Rec) (base : ℕ) (units : List NoteKind) (issues mark : ℕ) (live : Option Live) (bound : Option Bound) : Type 0 where
   pub issued : issues + 1 ≡ next_issue records
   pub few : issues < length records
   pub within : base ≤ length records
@@ -57,8 +57,8 @@ pub record IsRead (records : List Rec) (base : ℕ) (units : List NoteKind) (iss
 abbrev pub IsDoubted : Option Rec → Option Nonce → Type 0
 IsDoubted in_doubt doubted = (n : Nonce) → nonce_of in_doubt ≡ Some n → doubted ≡ Some n
 
--- all of it is so while the journal is open and has its boot record, and the live issue also while it is shut
+-- what is kept beside the records is what is read of them while the journal is open and has its boot record, and the live issue also while it is shut
 pub record KeepsLedger (records : List Rec) (base : ℕ) (in_doubt : Option Rec) (shut boot_missing : Bool) (units : List NoteKind) (issues mark : ℕ) (live : Option Live) (bound : Option Bound) (doubted : Option Nonce) : Type 0 where
-  pub read : shut ≡ false → boot_missing ≡ false → IsRead records base units issues mark live bound
+  pub read : shut ≡ false → boot_missing ≡ false → IsReadFrom records base units issues mark live bound
   pub lives : boot_missing ≡ false → IsLive records live
   pub doubts : IsDoubted in_doubt doubted

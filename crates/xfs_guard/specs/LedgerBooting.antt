@@ -1,5 +1,7 @@
--- What a restore or a reboot, which rebases, makes of a ledger, and what an append makes of its journal.
-use Rattle.std.specs.Prelude.{◌≡◌, ◌⊎◌, ℕ, ◌+◌, ◌≤◌, Bool, true, false, List, [], ◌∷◌, ◌++◌, ◌||◌, Some, None}
+-- What a ledger is after a boot, after a restore or a reboot, which rebases, and after a call that writes.
+use Rattle.std.specs.Prelude.{◌≡◌, ◌≢◌, ◌⊎◌, ℕ, ◌+◌, ◌≤◌, Bool, true, false, is_some, List, [], ◌∷◌, ◌++◌, ◌||◌, Some, None, Err, IfErr, OnOk}
+use Rattle.std.specs.declared.option.Option.{Option}
+use Rattle.std.specs.declared.result.Result.{Result}
 use Rattle.xfs_base.specs.Causes.{IfTold, Rose}
 use Rattle.xfs_base.specs.Money.{value}
 use Rattle.xfs_base.specs.declared.counts.Counts.{Counts}
@@ -7,15 +9,26 @@ use Rattle.xfs_base.specs.declared.counts.Kind.{Kind}
 use Rattle.xfs_base.specs.declared.counts.Kind.TheVariants.{Present}
 use Rattle.xfs_base.specs.declared.money.NoteKind.{NoteKind}
 use Rattle.xfs_base.specs.declared.counts.Places.{Places}
+use Rattle.xfs_disk.specs.Moments.{LeavesOnly}
 use Rattle.xfs_disk.specs.declared.disk.Disk.{Ghosts}
-use Rattle.xfs_journal.specs.Journal.{boot_of, with_boot}
-use Rattle.xfs_journal.specs.JournalView.{JournalView, exceeds, IsPossible, StandsForEither}
+use Rattle.xfs_journal.specs.Image.{StandsFor}
+use Rattle.xfs_journal.specs.Journal.{base_of, boot_of, with_boot}
+use Rattle.xfs_journal.specs.JournalView.{JournalView, exceeds, IsCarriedOver, IsNoJournal, IsPossible, LeavesList}
+use Rattle.xfs_journal.specs.Outcomes.{DiskGoesOn, IsMounted}
+use Rattle.xfs_journal.specs.Paging.{IsQuiet}
+use Rattle.xfs_journal.specs.declared.limits.Limits.{Limits}
 use Rattle.xfs_journal.specs.declared.record.Rec.{Rec}
 use Rattle.xfs_guard.specs.Balance.{no_notes}
-use Rattle.xfs_guard.specs.Booting.{base_then}
+use Rattle.xfs_guard.specs.Booting.{AddsAtMost, HadRoom, IsFound, LacksRoom, LeavesEither, SparesAll, SparesUnlisted, TellsAs, base_then}
+use Rattle.xfs_guard.specs.CrashOutcomes.{LeavesFound, LeavesFoundOrBooted}
 use Rattle.xfs_guard.specs.Crashed.{IsCrashOutcome, StandsReread}
-use Rattle.xfs_guard.specs.LedgerView.{LedgerView}
+use Rattle.xfs_guard.specs.LedgerView.{IsWriteFault, LedgerView, Wrote}
 use Rattle.xfs_guard.specs.Presented.{presented_in}
+use Rattle.xfs_guard.specs.Stored.{MayLeave, WasLeft}
+use Rattle.xfs_guard.specs.declared.deny.Deny.{Deny}
+use Rattle.xfs_guard.specs.declared.deny.Deny.TheVariants as deny
+use Rattle.xfs_guard.specs.declared.fail.BootFault.{BootFault}
+use Rattle.xfs_guard.specs.declared.fail.BootFault.TheVariants.{NotJournal, Disk, Full, Memory}
 
 -- a possible list of the journal was read again, and has a boot record of these places behind it, since which nothing was loaded
 abbrev pub IsBootedNow : {D : Type 0} → Bool → LedgerView D → LedgerView D → Places → Type 0
@@ -67,22 +80,76 @@ abbrev pub IsOldOrReread : {D : Type 0} → Ghosts D → LedgerView D → Ledger
 IsOldOrReread g old new places bytes = g.images old.disk bytes
     ⊎ StandsReread old.records old.in_doubt places (IsCrashOutcome new.records new.in_doubt (new.shut || new.boot_missing)) bytes
 
--- the record is appended: the journal is open, and no record is in doubt
-abbrev pub IsAppended : {D : Type 0} → JournalView D → JournalView D → Rec → Type 0
-IsAppended old new rec = (new.records ≡ old.records ++ rec ∷ []) × (new.shut ≡ false) × (new.in_doubt ≡ None)
-
--- a crash leaves these records, with this one or without it
-abbrev pub HasAtMost : {D : Type 0} → Ghosts D → D → D → List Rec → Rec → Type 0
-HasAtMost g old new records rec = IfTold (g.held old) (λ _. (image : List ℕ) → g.images new image → StandsForEither records rec image)
-
--- nothing came of an append
-abbrev pub IsUnwritten : {D : Type 0} → JournalView D → JournalView D → Type 0
-IsUnwritten old new = (new.disk ≡ old.disk) × (new.shut ≡ old.shut) × (new.in_doubt ≡ old.in_doubt)
-
--- the disk failed at the append of this record
-abbrev pub FailsAt : {D : Type 0} → Ghosts D → JournalView D → JournalView D → Rec → Type 0
-FailsAt g old new rec = (new.shut ≡ true) × (new.in_doubt ≡ Some rec) × Rose (g.faults old.disk) (g.faults new.disk)
+-- at each moment of a restore or a reboot a crash leaves one of the images before, or a possible list that was read again, with its boot record or without it
+abbrev pub LeavesReread : {D : Type 0} → Ghosts D → LedgerView D → LedgerView D → Places → Type 0
+LeavesReread g old new places = IfTold (g.held old.disk) (λ _. LeavesOnly g old.disk new.disk (IsOldOrReread g old new places))
 
 -- with these notes, what was presented stays within a token's amounts in each currency
-abbrev pub IsSmall : List NoteKind → List Rec → Kind → Counts → Type 0
-IsSmall units records kind moved = kind ≡ Present → (c : List ℕ) → presented_in units records c + value units moved c ≤ 999999999999
+abbrev pub StaysSmall : List NoteKind → List Rec → Kind → Counts → Type 0
+StaysSmall units records kind moved = kind ≡ Present → (c : List ℕ) → presented_in units records c + value units moved c ≤ 999999999999
+
+-- The journal of a disk is mounted, whose file is of a version that boots write: nothing else was written.
+pub record MountsJournal {D : Type 0} (g : Ghosts D) (limits : Limits) (before : D) (j : JournalView D) : Type 0 where
+  pub mounted : IsMounted g before limits j
+  pub spared : SparesAll g before j.disk
+  pub carried : IsCarriedOver (g.held j.disk)
+  pub any_moment : LeavesFound g before j.disk
+  pub goes_on : DiskGoesOn g before j.disk
+
+-- A disk isn't mounted for this, and is left so.
+pub record RefusesMount {D : Type 0} (g : Ghosts D) (before : D) (why : BootFault) (now : D) : Type 0 where
+  pub not_journal : (at : ℕ) → why ≡ NotJournal at → IsNoJournal (g.held before) at
+  pub refused : (at : ℕ) → why ≡ NotJournal at → IsQuiet g before now
+  pub disk : why ≡ Disk → Rose (g.faults before) (g.faults now)
+  pub not_full : why ≢ Full
+  pub unlisted : SparesUnlisted g before now
+  pub unwritten : why ≢ Disk → SparesAll g before now
+  pub any_moment : LeavesFound g before now
+  pub goes_on : DiskGoesOn g before now
+
+-- What a call of a ledger does that writes this record, with which these amounts are bound.
+pub record WritesLedger {T D : Type 0} (g : Ghosts D) (rec : Rec) (bound : Option (List (List ℕ × ℕ))) (result : Result T Deny) (old new : LedgerView D) : Type 0 where
+  pub wrote : Wrote result old new rec bound
+  pub err : IfErr result IsWriteFault
+  pub cause : result ≡ Err deny.Disk → Rose (g.faults old.disk) (g.faults new.disk)
+  pub faults : g.faults old.disk ≤ g.faults new.disk
+  pub told : is_some (g.held new.disk) ≡ is_some (g.held old.disk)
+  pub any_moment : AddsAtMost g old.disk new.disk old.records rec
+  pub kept : OnOk result (LeavesList g new.disk new.records)
+
+-- The ledger of a boot: the list that the disk had, with a boot record of these places behind it, since which nothing was loaded.
+pub record BootsLedger {D : Type 0} (g : Ghosts D) (limits : Limits) (units : List NoteKind) (places : Places) (before : D) (l : LedgerView D) : Type 0 where
+  pub records : IsFound (g.held before) (λ records. l.records ≡ with_boot records places)
+  pub based : l.base ≡ base_of l.records
+  pub fits : HadRoom (g.held before) limits places l.records
+  pub opened : (l.shut ≡ false) × (l.in_doubt ≡ None) × (l.bound ≡ None) × (l.boot_missing ≡ false)
+  pub same : (l.limits ≡ limits) × (l.units ≡ units)
+  pub unloaded : (l.booted ≡ places) × (l.loaded ≡ no_notes)
+  pub kept : LeavesList g l.disk l.records
+  pub carried : IsCarriedOver (g.held l.disk)
+  pub told : TellsAs g before l.disk
+  pub any_moment : LeavesFoundOrBooted g before l.disk places
+  pub faults : g.faults before ≤ g.faults l.disk
+
+-- The boot of a ledger is refused for this, and leaves this disk.
+pub record RefusesLedger {D : Type 0} (g : Ghosts D) (limits : Limits) (places : Places) (before : D) (why : BootFault) (now : D) : Type 0 where
+  pub not_journal : (at : ℕ) → why ≡ NotJournal at → IsNoJournal (g.held before) at
+  pub refused : (at : ℕ) → why ≡ NotJournal at → IsQuiet g before now
+  pub full : why ≡ Full → LacksRoom (g.held before) limits places
+  pub disk : why ≡ Disk → Rose (g.faults before) (g.faults now)
+  pub left : (records : List Rec) → MayLeave g now records → WasLeft g before places records
+  pub either : LeavesEither g before now places
+  pub unlisted : SparesUnlisted g before now
+  pub unwritten : why ≢ Disk → SparesAll g before now
+  pub told : TellsAs g before now
+  pub any_moment : LeavesFoundOrBooted g before now places
+  pub faults : g.faults before ≤ g.faults now
+
+-- What each refusal of a restore or a reboot makes of a ledger: after want of memory all is as before, after want of room a list was read, and after the others the journal is shut.
+pub record RefusesReread {D : Type 0} (g : Ghosts D) (rebases : Bool) (places : Places) (result : Result Unit BootFault) (old new : LedgerView D) : Type 0 where
+  pub memory : result ≡ Err Memory → new ≡ record old { disk = new.disk }
+  pub full : result ≡ Err Full → IsMissingNow rebases old new places
+  pub found : result ≡ Err Full → IfTold (g.held old.disk) (λ all. StandsFor all new.records)
+  pub disk : result ≡ Err Disk → IsUnreadNow old new ⊎ IsFailedNow rebases old new places
+  pub not_journal : IfErr result (λ f. (at : ℕ) → f ≡ NotJournal at → (g.held old.disk ≡ None) × IsUnreadNow old new)
+  pub cause : result ≡ Err Disk → Rose (g.faults old.disk) (g.faults new.disk)

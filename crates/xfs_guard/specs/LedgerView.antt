@@ -13,29 +13,33 @@ use Rattle.xfs_guard.specs.declared.deny.Deny.{Deny}
 use Rattle.xfs_guard.specs.declared.deny.Deny.TheVariants.{Shut, Full, Disk, Memory}
 use Rattle.xfs_guard.specs.Presented.{presented_in}
 
--- a ledger: its journal with the disk, the table of its units, the amounts of the token that is bound to the live nonce, the places of the last boot record that it appended and the notes that were loaded since, the room for more records, and whether its boot record is missing, for which a restore found no room
+-- a ledger: its journal with the disk, and what of the records is kept beside them
 pub record LedgerView (D : Type 0) : Type 0 where
   pub records : List Rec
   -- how many of them, from the first on, memory doesn't have
   pub base : ℕ
   pub units : List NoteKind
+  -- the amounts of the token that is bound to the live nonce
   pub bound : Option (List (List ℕ × ℕ))
+  -- the places of the last boot record that was appended, and the notes that were loaded since
   pub booted : Places
   pub loaded : Counts
+  -- how many appends there is room for
   pub room : ℕ
   pub limits : Limits
   pub shut : Bool
+  -- a restore found no room for its boot record, and none was appended since
   pub boot_missing : Bool
   -- the record whose append last answered that the disk failed
   pub in_doubt : Option Rec
   pub disk : D
 
 -- the journal is open, and its boot record isn't missing
-abbrev pub IsOpen : {D : Type 0} → LedgerView D → Type 0
-IsOpen l = (l.shut ≡ false) × (l.boot_missing ≡ false)
+abbrev pub IsOpenLedger : {D : Type 0} → LedgerView D → Type 0
+IsOpenLedger l = (l.shut ≡ false) × (l.boot_missing ≡ false)
 
--- one record is written, and these amounts are bound then
-pub record Writes {D : Type 0} (old new : LedgerView D) (r : Rec) (bound : Option (List (List ℕ × ℕ))) : Type 0 where
+-- the list has this record more, and these amounts are bound then
+pub record HasOneMore {D : Type 0} (old new : LedgerView D) (r : Rec) (bound : Option (List (List ℕ × ℕ))) : Type 0 where
   pub records : new.records ≡ old.records ++ r ∷ []
   pub base : new.base ≡ old.base
   pub units : new.units ≡ old.units
@@ -76,7 +80,7 @@ pub record Doubts {D : Type 0} (old new : LedgerView D) (r : Rec) : Type 0 where
 
 -- what a call that writes this record leaves
 abbrev pub Wrote : {T D : Type 0} → Result T Deny → LedgerView D → LedgerView D → Rec → Option (List (List ℕ × ℕ)) → Type 0
-Wrote (Ok x) old new r bound = Writes old new r bound
+Wrote (Ok x) old new r bound = HasOneMore old new r bound
 Wrote (Err Disk) old new r bound = Doubts old new r
 Wrote (Err e) old new r bound = IsSame old new
 

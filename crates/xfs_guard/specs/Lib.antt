@@ -3,6 +3,7 @@ pub mod Balance
 pub mod BootFaults
 pub mod Booting
 pub mod Budget
+pub mod Calls
 pub mod Claims
 pub mod Continues
 pub mod Covered
@@ -21,6 +22,7 @@ pub mod Named
 pub mod NextNonce
 pub mod Nonce
 pub mod Orders
+pub mod Outcomes
 pub mod OverBudget
 pub mod Pays
 pub mod Presented

@@ -6,10 +6,10 @@ use Rattle.xfs_journal.specs.declared.record.Rec.TheVariants.{Issue}
 use Rattle.xfs_guard.specs.View.{View}
 use Rattle.xfs_guard.specs.Word.{issue_word}
 
--- its record: its number, and the seed's word
+-- the record of the next issue: the next number, and the seed's word for that
 abbrev pub next_record : View → Rec
 next_record v = Issue (next_issue v.records) (issue_word v.seed (next_issue v.records))
 
--- its text
+-- the text of the next nonce
 abbrev pub next_text : View → List ℕ
 next_text v = nonce_text (next_issue v.records) (issue_word v.seed (next_issue v.records))

@@ -13,8 +13,8 @@ nonce_of (Some (Issue number word)) = Some (record { text = nonce_text number wo
 nonce_of _ = None
 
 -- a record that ends the live nonce and is no Boot: it was cleared, or its life is over
-abbrev pub Ends : Rec → Type 0
-Ends r = (r ≡ Clear) ⊎ (r ≡ Expire)
+abbrev pub EndsNonce : Rec → Type 0
+EndsNonce r = (r ≡ Clear) ⊎ (r ≡ Expire)
 
 -- the nonce of the live Issue
 abbrev pub live_nonce : List Rec → Option Nonce

@@ -17,7 +17,7 @@ use Rattle.xfs_guard.specs.Presented.{presented_in}
 abbrev pub spent : List NoteKind → List Rec → Counts → List ℕ → ℕ
 spent units records transport c = presented_in units records c + value units transport c
 
--- with these counts on top it is worth more than the amount
+-- with these counts on top, what counts against a currency's amount is worth more than that
 abbrev pub is_over : List NoteKind → List Rec → Counts → List (List ℕ × ℕ) → Counts → List ℕ → Bool
 is_over units records transport amounts counts c = nat_lt (amount_in amounts c) (spent units records transport c + value units counts c)
 

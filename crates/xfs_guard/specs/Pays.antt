@@ -9,22 +9,31 @@ use Rattle.xfs_base.specs.declared.money.NoteKind.{NoteKind}
 use Rattle.xfs_token.specs.Amounts.{has_currency}
 use Rattle.xfs_guard.specs.declared.bound.Bound.{Bound}
 
--- the sums stay within 64 bits
-abbrev pub Fits : List NoteKind → Kind → Counts → Option Bound → Type 0
-Fits units kind moved None = ⊤
-Fits units kind moved (Some b) = kind ≡ Present → (i : ℕ) (a : List ℕ × ℕ) → slice_get b.amounts i ≡ Some a → slice_index b.presented i + value units moved a.0 < 2 ^ 64
+-- with these notes the sum beside each amount stays within 64 bits
+abbrev pub StayWithin : List NoteKind → Counts → List (List ℕ × ℕ) → List ℕ → Type 0
+StayWithin units moved amounts sums = (i : ℕ) (a : List ℕ × ℕ) → slice_get amounts i ≡ Some a → slice_index sums i + value units moved a.0 < 2 ^ 64
 
--- the sums grow by what was presented
+-- the sum beside each amount grows by what these notes are worth in its currency
+abbrev pub GrowBy : List NoteKind → Counts → List (List ℕ × ℕ) → List ℕ → List ℕ → Type 0
+GrowBy units moved amounts old new = (i : ℕ) (a : List ℕ × ℕ) → slice_get amounts i ≡ Some a → slice_index new i ≡ slice_index old i + value units moved a.0
+
+-- what an order to present moves keeps the sums of a bind within 64 bits
+abbrev pub FitsSums : List NoteKind → Kind → Counts → Option Bound → Type 0
+FitsSums units kind moved None = ⊤
+FitsSums units kind moved (Some b) = kind ≡ Present → StayWithin units moved b.amounts b.presented
+
+-- the sums of a bind grow by what was presented
 pub record AddsPresented (units : List NoteKind) (kind : Kind) (moved : Counts) (old new : Bound) : Type 0 where
   pub number : new.number ≡ old.number
   pub amounts : new.amounts ≡ old.amounts
-  pub present : kind ≡ Present → (i : ℕ) (a : List ℕ × ℕ) → slice_get old.amounts i ≡ Some a → slice_index new.presented i ≡ slice_index old.presented i + value units moved a.0
+  pub present : kind ≡ Present → GrowBy units moved old.amounts old.presented new.presented
   pub other : kind ≢ Present → new.presented ≡ old.presented
 
-abbrev pub Pays : List NoteKind → Kind → Counts → Option Bound → Option Bound → Type 0
-Pays units kind moved None None = ⊤
-Pays units kind moved (Some old) (Some new) = AddsPresented units kind moved old new
-Pays units kind moved old new = ⊥
+-- an order that moved these notes leaves no bind where none was, and else one whose sums grew
+abbrev pub GrowsSums : List NoteKind → Kind → Counts → Option Bound → Option Bound → Type 0
+GrowsSums units kind moved None None = ⊤
+GrowsSums units kind moved (Some old) (Some new) = AddsPresented units kind moved old new
+GrowsSums units kind moved old new = ⊥
 
 -- the sum that stands beside an amount in this currency
 pub record IsSumAt (amounts : List (List ℕ × ℕ)) (sums currency : List ℕ) (sum : ℕ) : Type 0 where

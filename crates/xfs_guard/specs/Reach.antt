@@ -25,7 +25,7 @@ abbrev pub is_reached : ℕ → Motion → Bool
 is_reached from (Moved number kind moved diverted) = is_in_reach from number
 is_reached from m = true
 
--- its number counted from there
+-- a moved entry's number counted from another
 abbrev pub number_from : ℕ → Motion → Motion
 number_from from (Moved number kind moved diverted) = Moved (number - from) kind moved diverted
 number_from from m = m

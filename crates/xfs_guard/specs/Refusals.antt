@@ -45,7 +45,7 @@ abbrev pub bind_refusal : View → List ℕ → Option (List ℕ) → Option Den
 bind_refusal v bytes (Some token) = if bytes_eq token bytes then None else Some (OtherBound (unwrap_or (bound_number v.records) 0))
 bind_refusal v bytes None = if sum v.places.transport.0 == 0 then None else Some (NotEmpty (sum v.places.transport.0))
 
--- what a token is refused for, whose bytes these are
+-- what a token is refused for, whose bytes these are, beside this nonce
 abbrev pub claim_refusal_at : View → List ℕ → Parts → Option Nonce → Option Deny
 claim_refusal_at v bytes t None = Some (NoNonce (last_mark v.records))
 claim_refusal_at v bytes t (Some nonce) =
@@ -55,7 +55,7 @@ claim_refusal_at v bytes t (Some nonce) =
     else if is_none (amounts_of t) then Some NoAmounts
     else bind_refusal v bytes (bound_token v.records)
 
--- the same beside the live nonce
+-- what a token is refused for, whose bytes these are, beside the nonce that lives
 abbrev pub claim_refusal : View → List ℕ → Parts → Option Deny
 claim_refusal v bytes t = claim_refusal_at v bytes t (live_nonce v.records)
 

@@ -64,14 +64,23 @@ abbrev pub outlet_after : Replay → Rec → Counts
 outlet_after r (Done moved diverted) = outlet_done r.ordered r.outlet moved
 outlet_after r x = outlet_told (boot_places x) r.outlet
 
+-- the kind of an order
 abbrev pub ordered_by : Rec → Option Kind
 ordered_by (Order kind counts) = Some kind
 ordered_by r = None
+
+-- a Done is read, of the order that was read last
+abbrev pub replay_done : Replay → Counts → Counts → Replay
+replay_done r moved diverted = record r {
+  outlet = outlet_done r.ordered r.outlet moved;
+  motions = r.motions ++ done_motions r.count r.ordered r.outlet moved diverted;
+}
 
 -- one more record is read
 abbrev pub replay_after : Replay → Rec → Replay
 replay_after r x = record { count = r.count + 1; ordered = ordered_by x; outlet = outlet_after r x; motions = motions_after r x }
 
+-- what all records tell
 abbrev pub replay : List Rec → Replay
 replay records = fold replay_after nothing_replayed records
 

@@ -46,6 +46,6 @@ pub record IsTellable (units : List NoteKind) (records : List Rec) : Type 0 wher
   pub issued : (number : ℕ) → issue_of records ≡ Some number → 1 ≤ number
   pub small : (c : List ℕ) → presented_last units records c ≤ 999999999999
 
--- so is each list that the disk may have, behind its base
+-- what was presented for the last nonce can be told in a token, of each list that the disk may have, behind its base
 pub record AreTellable (units : List NoteKind) (base : ℕ) (records : List Rec) (in_doubt : Option Rec) : Type 0 where
   pub each : (list : List Rec) → IsPossible records in_doubt list → IsTellable units (drop base list)

@@ -31,6 +31,7 @@ pub record IsReleased (records : List Rec) : Type 0 where
   pub lives : live_of records ≡ Some number
   pub bound : token_of records number ≡ Some bytes
 
+-- a fact of an order to present
 abbrev pub IfPresent : Kind → Type 0 → Type 0
 IfPresent Present Fact = Fact
 IfPresent k Fact = ⊤

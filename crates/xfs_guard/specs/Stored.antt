@@ -5,13 +5,9 @@ use Rattle.xfs_base.specs.Causes.{IfTold}
 use Rattle.xfs_base.specs.declared.counts.Places.{Places}
 use Rattle.xfs_disk.specs.declared.disk.Disk.{Ghosts}
 use Rattle.xfs_journal.specs.Image.{StandsFor}
-use Rattle.xfs_journal.specs.JournalView.{IsPossible, LeavesOneOf}
+use Rattle.xfs_journal.specs.JournalView.{IsPossible}
 use Rattle.xfs_journal.specs.declared.record.Rec.{Rec}
 use Rattle.xfs_journal.specs.Journal.{with_boot}
-
--- each image of a disk that tells is that of the kept list, or of that list with the record in doubt
-abbrev pub IsStored : {D : Type 0} → Ghosts D → D → List Rec → Option Rec → Type 0
-IsStored g disk records in_doubt = LeavesOneOf g disk records in_doubt
 
 -- the bytes stand for the kept list, or for that list with the record in doubt
 abbrev pub StandsForPossible : List Rec → Option Rec → List ℕ → Type 0

@@ -2,7 +2,7 @@
 
 ghost use Rattle.std.specs.Prelude.{◌≡◌, ◌<◌, ◌^◌};
 ghost use Rattle.xfs_guard.specs.OverBudget.{spent, is_over, earlier, first_currency, over_budget_in};
-ghost use Rattle.xfs_guard.specs.LedgerView.{IsOpen, IsPresentedBound};
+ghost use Rattle.xfs_guard.specs.LedgerView.{IsOpenLedger, IsPresentedBound};
 
 use crate::Deny;
 use crate::ledger::Ledger;
@@ -17,12 +17,12 @@ pub fn over_budget<D: Disk>(
     amounts: &Amounts,
     counts: &Counts,
 ) -> Option<Deny>
-    requires open_still { IsOpen ledger.now }
+    requires open_still { IsOpenLedger ledger.now }
     requires told { IsPresentedBound ledger.now }
     ensures { result ≡ over_budget_in ledger.now.units ledger.now.records transport.now amounts.now counts.now }
 {
     let currency = first_over(ledger, transport, amounts, counts)?;
-    let left = u128::from(amounts.of(currency).0).saturating_sub(spent(
+    let left = u128::from(amounts.of(currency).0).saturating_sub(spending(
         ledger, transport, currency,
     ));
     Some(Deny::OverBudget {
@@ -38,7 +38,7 @@ fn first_over<D: Disk>(
     amounts: &Amounts,
     counts: &Counts,
 ) -> Option<Currency>
-    requires open_still { IsOpen ledger.now }
+    requires open_still { IsOpenLedger ledger.now }
     requires told { IsPresentedBound ledger.now }
     ensures { result ≡ first_currency (is_over ledger.now.units ledger.now.records transport.now amounts.now counts.now) ledger.now.units }
 {
@@ -46,7 +46,7 @@ fn first_over<D: Disk>(
     let mut first = None;
     for i in 0..kinds.len() {
         let currency = kinds[kinds.len() - 1 - i].currency;
-        let worth = spent(ledger, transport, currency) + counts.value(ledger.units(), currency);
+        let worth = spending(ledger, transport, currency) + counts.value(ledger.units(), currency);
         if u128::from(amounts.of(currency).0) < worth {
             first = Some(before(currency, first));
         }
@@ -55,13 +55,13 @@ fn first_over<D: Disk>(
 }
 
 // What was presented since the live issue, and what lies on the transport.
-fn spent<D: Disk>(ledger: &Ledger<D>, transport: &Counts, currency: Currency) -> u128
-    requires open_still { IsOpen ledger.now }
+fn spending<D: Disk>(ledger: &Ledger<D>, transport: &Counts, currency: Currency) -> u128
+    requires open_still { IsOpenLedger ledger.now }
     requires told { IsPresentedBound ledger.now }
     ensures worth { result ≡ spent ledger.now.units ledger.now.records transport.now currency }
     ensures small { result < 2 ^ 66 }
 {
-    u128::from(ledger.presented(currency)) + transport.value(ledger.units(), currency)
+    u128::from(ledger.worth_presented(currency)) + transport.value(ledger.units(), currency)
 }
 
 // Of two currencies the first in the order of letters.

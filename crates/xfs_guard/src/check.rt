@@ -1,6 +1,6 @@
 //! Whether a token serves the live nonce, and whether it covers a dispense.
 
-ghost use Rattle.std.specs.Prelude.{◌≡◌, ◌≢◌, ◌≤◌, ◌-◌, length, take, sum, true, IfOk, IfErr, OnOk, OnErr, Some, None, Err, [], ◌∷◌, ◌++◌};
+ghost use Rattle.std.specs.Prelude.{◌≡◌, ◌≤◌, ◌-◌, length, take, sum, true, IfOk, IfErr, OnOk, Some, None, [], ◌∷◌, ◌++◌};
 ghost use Rattle.std.specs.Option.{option_map};
 ghost use Rattle.xfs_hmac.specs.Hmac.{hmac};
 ghost use Rattle.xfs_token.specs.Token.{Spells};
@@ -9,10 +9,7 @@ ghost use Rattle.xfs_token.specs.declared.text.TheConstants.{MAC_FIELD};
 ghost use Rattle.xfs_journal.specs.declared.record.Rec.TheVariants.{Bind};
 ghost use Rattle.xfs_guard.specs.declared.open.Open.TheVariants.{No};
 ghost use Rattle.xfs_guard.specs.Nonce.{live_nonce};
-ghost use Rattle.xfs_base.specs.Causes.{Rose};
-ghost use Rattle.xfs_guard.specs.Keeps.{Keeps, NoEntry};
-ghost use Rattle.xfs_guard.specs.CrashOutcomes.{Leaves};
-ghost use Rattle.xfs_guard.specs.View.{shut_at};
+ghost use Rattle.xfs_guard.specs.Calls.{BindsOnce, WritesRecord};
 ghost use Rattle.xfs_guard.specs.Fits.{unfit};
 ghost use Rattle.xfs_guard.specs.LedgerView.{IsWriteFault};
 ghost use Rattle.xfs_guard.specs.Refusals.{Answers, Passes, TokenRefused, Binds, claim_refusal, bind_refusal, bound_token, over_budget};
@@ -110,14 +107,8 @@ impl<M: Mechanism, D: Disk> Guard<M, D> {
         ensures refused { Answers result (over_budget self.old.state claim.amounts counts.now) }
         ensures issue { IfOk result (λ p. option_map (λ n. n.number) (live_nonce self.old.state.records) ≡ Some p.issue) }
         ensures ok { OnOk result (Binds self.old.state self.new.state claim.token claim.amounts) }
-        ensures none { self.new.state.open_order ≡ No }
-        ensures again { bound_token self.old.state.records ≢ None → self.new ≡ self.old }
-        ensures unbound { IfErr result (λ e. IsWriteFault e → bound_token self.old.state.records ≡ None) }
-        ensures disk { result ≡ Err Deny.Disk → self.new.state ≡ shut_at (Bind claim.token) self.old.state }
-        ensures cause { result ≡ Err Deny.Disk → Rose (D.faults self.old.disk) (D.faults self.new.disk) }
-        ensures same { IfErr result (λ e. e ≢ Deny.Disk → self.new ≡ self.old) }
-        ensures keeps { Keeps D.Disk NoEntry self.old self.new }
-        ensures kept { OnOk result (Leaves D.Disk self.new.disk self.new.state.records) }
+        ensures once { BindsOnce result self.old self.new }
+        ensures writes { WritesRecord D.Disk (Bind claim.token) result self.old self.new }
     {
         let Some(nonce) = self.ledger.live() else {
             unreachable!()
@@ -137,15 +128,9 @@ impl<M: Mechanism, D: Disk> Guard<M, D> {
         requires none { self.old.state.open_order ≡ No }
         requires passes { Passes self.old.state claim.token claim.amounts }
         ensures ok { OnOk result (Binds self.old.state self.new.state claim.token claim.amounts) }
-        ensures none { self.new.state.open_order ≡ No }
         ensures err { IfErr result IsWriteFault }
-        ensures again { bound_token self.old.state.records ≢ None → self.new ≡ self.old }
-        ensures unbound { OnErr result (bound_token self.old.state.records ≡ None) }
-        ensures disk { result ≡ Err Deny.Disk → self.new.state ≡ shut_at (Bind claim.token) self.old.state }
-        ensures cause { result ≡ Err Deny.Disk → Rose (D.faults self.old.disk) (D.faults self.new.disk) }
-        ensures same { IfErr result (λ e. e ≢ Deny.Disk → self.new ≡ self.old) }
-        ensures keeps { Keeps D.Disk NoEntry self.old self.new }
-        ensures kept { OnOk result (Leaves D.Disk self.new.disk self.new.state.records) }
+        ensures once { BindsOnce result self.old self.new }
+        ensures writes { WritesRecord D.Disk (Bind claim.token) result self.old self.new }
     {
         if self.ledger.token().is_some() {
             return Ok(());

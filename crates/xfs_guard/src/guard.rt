@@ -1,30 +1,25 @@
-ghost use Rattle.std.specs.Prelude.{MatchResult, ◌≡◌, ◌≢◌, ◌↔◌, ℕ, true, ◌<◌, ◌≤◌, ◌^◌, [], ◌∷◌, ◌++◌, drop, length, false, true, is_some, OnOk, OnErr, IfOk, IfErr, IsTrue, Some, None, Err};
+ghost use Rattle.std.specs.Prelude.{◌≡◌, ◌≢◌, ◌↔◌, ◌<◌, ◌≤◌, ◌^◌, drop, length, false, true, OnOk, OnErr, IfOk, IfErr, IsTrue, Ok, Some, None, Err};
 ghost use Rattle.std.specs.Option.{option_or};
-ghost use Rattle.xfs_base.specs.Causes.{IfTold, Rose};
+ghost use Rattle.xfs_base.specs.Causes.{Rose};
 ghost use Rattle.xfs_journal.specs.declared.record.Rec.TheVariants.{Issue, Clear, Expire, Order};
 ghost use Rattle.xfs_journal.specs.Journal.{base_of, next_issue};
-ghost use Rattle.xfs_guard.specs.declared.open.Open.TheVariants.{No, Written};
-ghost use Rattle.xfs_guard.specs.Booting.{HadRoom, LacksRoom, LeavesEither, LeavesListOf, LeavesRecorded, SparesAll, SparesUnlisted};
-ghost use Rattle.xfs_guard.specs.Entries.{Begins, entry_of};
-ghost use Rattle.xfs_guard.specs.Reach.{BeginsBehind};
-ghost use Rattle.xfs_guard.specs.Nonce.{Ends, live_in, live_nonce};
-ghost use Rattle.xfs_guard.specs.View.{shut_at};
+ghost use Rattle.xfs_journal.specs.JournalView.{LeavesList};
+ghost use Rattle.xfs_guard.specs.declared.open.Open.TheVariants.{No};
+ghost use Rattle.xfs_guard.specs.Booting.{LeavesRecorded};
+ghost use Rattle.xfs_guard.specs.Calls.{UsesMechanism, WritesRecord};
+ghost use Rattle.xfs_guard.specs.Entries.{entry_of};
+ghost use Rattle.xfs_guard.specs.Nonce.{EndsNonce, live_in, live_nonce};
 ghost use Rattle.xfs_guard.specs.Upheld.{IsUpheld};
+ghost use Rattle.xfs_guard.specs.View.{unbound_with, with_order};
 ghost use Rattle.xfs_guard.specs.NextNonce.{next_record, next_text};
 ghost use Rattle.xfs_guard.specs.Word.{issue_word};
 ghost use Rattle.xfs_guard.specs.Fits.{fit_of, unfit};
-ghost use Rattle.xfs_guard.specs.CrashOutcomes.{EachStands, IsOldOrBooted, Leaves, MayMove, StandsRecorded};
+ghost use Rattle.xfs_guard.specs.CrashOutcomes.{MayMove};
 ghost use Rattle.xfs_guard.specs.Keeps.{Keeps, NoEntry};
 ghost use Rattle.xfs_guard.specs.LedgerView.{IsWriteFault};
 ghost use Rattle.xfs_guard.specs.Lives.{WasNeverAnswered};
+ghost use Rattle.xfs_guard.specs.Outcomes.{BootsGuard, HandsBack, RefusesBoot};
 ghost use Rattle.xfs_guard.specs.Segment.{IsTellable};
-ghost use Rattle.xfs_guard.specs.Stored.{IsStored};
-ghost use Rattle.xfs_guard.specs.declared.fail.BootFault.TheVariants.{NotJournal, Disk as BootDisk, Full as BootFull};
-ghost use Rattle.xfs_journal.specs.JournalView.{IsCarriedOver, IsNoJournal};
-ghost use Rattle.xfs_disk.specs.Moments.{LeavesOnly};
-ghost use Rattle.xfs_journal.specs.Paging.{IsQuiet};
-ghost use Rattle.xfs_journal.specs.declared.record.Rec.{Rec};
-ghost use Rattle.xfs_guard.specs.Continues.{ContinuesFound};
 ghost use Rattle.xfs_guard.specs.Orders.{IsWritten, IsActed, Acts, Settles, Unsettles, kind_unacted};
 ghost use Rattle.xfs_guard.specs.Refusals.{Answers, IsAdmitted, IsAsk, order_refusal, nothing_refusal, notes_of, asked_kind, asked_counts};
 ghost use Rattle.xfs_guard.specs.declared.ask.Ask.TheVariants.{Stack as AskStack, Present as AskPresent};
@@ -91,36 +86,9 @@ impl<M: Mechanism, D: Disk> Guard<M, D> {
     ) -> Result<Guard<M, D>, BootFail<M, D>>
         requires units { M.units mech ≡ units }
         requires recorded { LeavesRecorded D.Disk disk key units (M.motions mech) }
-        ensures ok { IfOk result (λ g. Begins (entry_of M.Mechanism D.Disk mech disk key seed units limits) g.state) }
-        ensures fits { IfOk result (λ g. HadRoom (D.held disk) limits (M.places mech) g.state.records) }
-        ensures continues { IfOk result (λ g. ContinuesFound (M.places mech) g.state) }
-        ensures carried { IfOk result (λ g. IsCarriedOver (D.held g.disk)) }
-
-        // From its base on it stands, also where the disk tells nothing, where no entry of the mechanism is in reach of that.
-        ensures behind { IfOk result (λ g. BeginsBehind g.state) }
-
+        ensures ok { IfOk result (BootsGuard D.Disk (entry_of M.Mechanism D.Disk mech disk key seed units limits) disk) }
         ensures mech { IfErr result (λ f. f.mech ≡ mech) }
-        ensures not_journal { IfErr result (λ f. (at : ℕ) → f.why ≡ NotJournal at → IsNoJournal (D.held disk) at) }
-        ensures refused { IfErr result (λ f. (at : ℕ) → f.why ≡ NotJournal at → IsQuiet D.Disk disk f.disk) }
-        ensures full { IfErr result (λ f. f.why ≡ BootFull → LacksRoom (D.held disk) limits (M.places mech)) }
-        ensures disk { IfErr result (λ f. f.why ≡ BootDisk → Rose (D.faults disk) (D.faults f.disk)) }
-        ensures left { IfErr result (λ f. LeavesRecorded D.Disk f.disk key units (M.motions mech)) }
-        ensures either { IfErr result (λ f. LeavesEither D.Disk disk f.disk (M.places mech)) }
-        ensures unlisted { IfErr result (λ f. SparesUnlisted D.Disk disk f.disk) }
-        ensures unwritten { IfErr result (λ f. f.why ≢ BootDisk → SparesAll D.Disk disk f.disk) }
-        ensures faults { MatchResult result (λ g. D.faults disk ≤ D.faults g.disk) (λ f. D.faults disk ≤ D.faults f.disk) }
-        ensures told { IfErr result (λ f. is_some (D.held f.disk) ≡ is_some (D.held disk)) }
-
-        // Where the disk tells, and each image that it is handed in with stands for a list, so does each that a crash at
-        // any moment of the call leaves, and the list is recorded.
-        ensures any_moment { IfTold (D.held disk) (λ _. EachStands (D.images disk) → MatchResult result
-            (λ g. LeavesOnly D.Disk disk g.disk (StandsRecorded key units (M.motions mech)))
-            (λ f. LeavesOnly D.Disk disk f.disk (StandsRecorded key units (M.motions mech)))) }
-
-        // Each of them is one of those before, or stands for the list that was found, with the boot record or without it.
-        ensures crashes { IfTold (D.held disk) (λ all. MatchResult result
-            (λ g. LeavesOnly D.Disk disk g.disk (IsOldOrBooted (D.images disk) all (M.places mech)))
-            (λ f. LeavesOnly D.Disk disk f.disk (IsOldOrBooted (D.images disk) all (M.places mech)))) }
+        ensures refuses { IfErr result (λ f. RefusesBoot D.Disk (entry_of M.Mechanism D.Disk mech disk key seed units limits) disk f.why f.disk) }
     {
         let places = mech.survey();
         // The memory of the boot record is had before the journal is read.
@@ -147,16 +115,7 @@ impl<M: Mechanism, D: Disk> Guard<M, D> {
     /// The mechanism and the disk. Each image of the disk is that of a list of records that agrees with
     /// what the mechanism did: the kept one, or that one with the record in doubt.
     pub fn end(self) -> (M, D)
-        ensures stored { IsStored D.Disk result.1 self.state.records self.state.in_doubt }
-        ensures left { LeavesListOf D.Disk result.1 self.state }
-        ensures recorded { LeavesRecorded D.Disk result.1 self.state.key self.state.units self.state.motions }
-        ensures clean { self.state.shut ≡ false → self.state.in_doubt ≡ None }
-        ensures told { is_some (D.held result.1) ≡ self.state.disk_told }
-        ensures disk { result.1 ≡ self.disk }
-        ensures motions { M.motions result.0 ≡ self.state.motions }
-        ensures places { M.places result.0 ≡ self.state.places }
-        ensures units { M.units result.0 ≡ self.state.units }
-        ensures faults { M.faults result.0 ≡ self.state.faults }
+        ensures { HandsBack M.Mechanism D.Disk self result.0 result.1 }
     {
         let Guard {
             alloc: _,
@@ -295,16 +254,9 @@ impl<M: Mechanism, D: Disk> Guard<M, D> {
         ensures refused { Answers result (unfit self.old.state) }
         ensures number { IfOk result (λ n. n.number ≡ next_issue self.old.state.records) }
         ensures live { IfOk result (λ n. live_nonce self.new.state.records ≡ Some n) }
-        ensures ok { IfOk result (λ n. self.new.state ≡ record self.old.state {
-          records = self.old.state.records ++ Issue n.number (issue_word self.old.state.seed n.number) ∷ [];
-          bound = None;
-        }) }
-        ensures disk { result ≡ Err Deny.Disk → self.new.state ≡ shut_at (next_record self.old.state) self.old.state }
-        ensures cause { result ≡ Err Deny.Disk → Rose (D.faults self.old.disk) (D.faults self.new.disk) }
-        ensures same { IfErr result (λ e. e ≢ Deny.Disk → self.new ≡ self.old) }
-        ensures keeps { Keeps D.Disk NoEntry self.old self.new }
-        ensures kept { OnOk result (Leaves D.Disk self.new.disk self.new.state.records) }
+        ensures ok { IfOk result (λ n. self.new.state ≡ unbound_with (Issue n.number (issue_word self.old.state.seed n.number)) self.old.state) }
         ensures never_twice { IfOk result (λ n. self.old.state.disk_told ≡ true → WasNeverAnswered self.old.state.records n.number) }
+        ensures writes { WritesRecord D.Disk (next_record self.old.state) result self.old self.new }
     {
         if let Some(deny) = self.unfit() {
             return Err(deny);
@@ -323,13 +275,10 @@ impl<M: Mechanism, D: Disk> Guard<M, D> {
         requires { self.old.state.open_order ≡ No }
         ensures refused { Answers result (unfit self.old.state) }
         ensures dead { IfOk result (λ b. IsTrue b ↔ (live_nonce self.old.state.records ≢ None)) }
-        ensures cleared { result ≡ Ok true → self.new.state ≡ record self.old.state { records = self.old.state.records ++ Clear ∷ []; bound = None } }
+        ensures cleared { result ≡ Ok true → self.new.state ≡ unbound_with Clear self.old.state }
         ensures unwritten { result ≡ Err Deny.Disk → live_nonce self.old.state.records ≢ None }
-        ensures disk { result ≡ Err Deny.Disk → self.new.state ≡ shut_at Clear self.old.state }
-        ensures cause { result ≡ Err Deny.Disk → Rose (D.faults self.old.disk) (D.faults self.new.disk) }
-        ensures same { result ≢ Ok true → result ≢ Err Deny.Disk → self.new ≡ self.old }
-        ensures keeps { Keeps D.Disk NoEntry self.old self.new }
-        ensures kept { OnOk result (Leaves D.Disk self.new.disk self.new.state.records) }
+        ensures idle { result ≡ Ok false → self.new ≡ self.old }
+        ensures writes { WritesRecord D.Disk Clear result self.old self.new }
     {
         if let Some(deny) = self.unfit() {
             return Err(deny);
@@ -341,18 +290,14 @@ impl<M: Mechanism, D: Disk> Guard<M, D> {
         Ok(true)
     }
 
-    /// Ends the live nonce, whose life is over. After `Disk` the journal is shut.
+    /// EndsNonce the live nonce, whose life is over. After `Disk` the journal is shut.
     pub fn expire(&mut self) -> Result<(), Deny>
         requires none { self.old.state.open_order ≡ No }
         requires live { live_in self.old.state.boot_missing self.old.state.records ≢ None }
         ensures refused { Answers result (unfit self.old.state) }
-        ensures expired { OnOk result (self.new.state ≡ record self.old.state { records = self.old.state.records ++ Expire ∷ []; bound = None }) }
+        ensures expired { OnOk result (self.new.state ≡ unbound_with Expire self.old.state) }
         ensures dead { OnOk result (live_nonce self.new.state.records ≡ None) }
-        ensures disk { result ≡ Err Deny.Disk → self.new.state ≡ shut_at Expire self.old.state }
-        ensures cause { result ≡ Err Deny.Disk → Rose (D.faults self.old.disk) (D.faults self.new.disk) }
-        ensures same { IfErr result (λ e. e ≢ Deny.Disk → self.new ≡ self.old) }
-        ensures keeps { Keeps D.Disk NoEntry self.old self.new }
-        ensures kept { OnOk result (Leaves D.Disk self.new.disk self.new.state.records) }
+        ensures writes { WritesRecord D.Disk Expire result self.old self.new }
     {
         if let Some(deny) = self.unfit() {
             return Err(deny);
@@ -364,15 +309,11 @@ impl<M: Mechanism, D: Disk> Guard<M, D> {
     fn end_nonce(&mut self, rec: Rec) -> Result<(), Deny>
         requires none { self.old.state.open_order ≡ No }
         requires fit { unfit self.old.state ≡ None }
-        requires ends { Ends rec }
-        ensures ok { OnOk result (self.new.state ≡ record self.old.state { records = self.old.state.records ++ rec ∷ []; bound = None }) }
+        requires ends { EndsNonce rec }
+        ensures ok { OnOk result (self.new.state ≡ unbound_with rec self.old.state) }
         ensures dead { OnOk result (live_nonce self.new.state.records ≡ None) }
         ensures err { IfErr result IsWriteFault }
-        ensures disk { result ≡ Err Deny.Disk → self.new.state ≡ shut_at rec self.old.state }
-        ensures cause { result ≡ Err Deny.Disk → Rose (D.faults self.old.disk) (D.faults self.new.disk) }
-        ensures same { IfErr result (λ e. e ≢ Deny.Disk → self.new ≡ self.old) }
-        ensures keeps { Keeps D.Disk NoEntry self.old self.new }
-        ensures kept { OnOk result (Leaves D.Disk self.new.disk self.new.state.records) }
+        ensures writes { WritesRecord D.Disk rec result self.old self.new }
     {
         self.ledger.end_nonce(rec)?;
         Ok(())
@@ -384,20 +325,13 @@ impl<M: Mechanism, D: Disk> Guard<M, D> {
         requires none { self.old.state.open_order ≡ No }
         requires asked { IsAsk self.old.state ask }
         ensures refused { Answers result (option_or (unfit self.old.state) (order_refusal self.old.state ask)) }
-        ensures ok { OnOk result (self.new.state ≡ record self.old.state {
-          records = self.old.state.records ++ Order (asked_kind ask) (asked_counts self.old.state ask) ∷ [];
-          open_order = Written (asked_kind ask) (asked_counts self.old.state ask);
-        }) }
-        ensures disk { result ≡ Err Deny.Disk → self.new.state ≡ shut_at (Order (asked_kind ask) (asked_counts self.old.state ask)) self.old.state }
-        ensures cause { result ≡ Err Deny.Disk → Rose (D.faults self.old.disk) (D.faults self.new.disk) }
-        ensures same { IfErr result (λ e. e ≢ Deny.Disk → self.new ≡ self.old) }
-        ensures keeps { Keeps D.Disk NoEntry self.old self.new }
-        ensures kept { OnOk result (Leaves D.Disk self.new.disk self.new.state.records) }
+        ensures ok { OnOk result (self.new.state ≡ with_order (asked_kind ask) (asked_counts self.old.state ask) self.old.state) }
+        ensures writes { WritesRecord D.Disk (Order (asked_kind ask) (asked_counts self.old.state ask)) result self.old self.new }
     {
         if let Some(deny) = self.unfit() {
             return Err(deny);
         }
-        let (kind, counts) = self.admitted(ask)?;
+        let (kind, counts) = self.order_of(ask)?;
         self.write_order(kind, counts)
     }
 
@@ -407,15 +341,8 @@ impl<M: Mechanism, D: Disk> Guard<M, D> {
         requires fit { unfit self.old.state ≡ None }
         requires admitted { (ask : _) × IsAdmitted self.old.state ask (kind, counts) }
         ensures err { IfErr result IsWriteFault }
-        ensures ok { OnOk result (self.new.state ≡ record self.old.state {
-          records = self.old.state.records ++ Order kind counts ∷ [];
-          open_order = Written kind counts;
-        }) }
-        ensures disk { result ≡ Err Deny.Disk → self.new.state ≡ shut_at (Order kind counts) self.old.state }
-        ensures cause { result ≡ Err Deny.Disk → Rose (D.faults self.old.disk) (D.faults self.new.disk) }
-        ensures same { IfErr result (λ e. e ≢ Deny.Disk → self.new ≡ self.old) }
-        ensures keeps { Keeps D.Disk NoEntry self.old self.new }
-        ensures kept { OnOk result (Leaves D.Disk self.new.disk self.new.state.records) }
+        ensures ok { OnOk result (self.new.state ≡ with_order kind counts self.old.state) }
+        ensures writes { WritesRecord D.Disk (Order kind counts) result self.old self.new }
     {
         self.mech.ready()?;
         self.ledger.reserve_two()?;
@@ -425,21 +352,21 @@ impl<M: Mechanism, D: Disk> Guard<M, D> {
     }
 
     // The kind and the counts of an order, where nothing refuses it.
-    fn admitted(&self, ask: Ask) -> Result<(Kind, Counts), Deny>
+    fn order_of(&self, ask: Ask) -> Result<(Kind, Counts), Deny>
         requires asked { IsAsk self.now.state ask }
         requires fit { unfit self.now.state ≡ None }
         ensures ok { IfOk result (λ r. IsAdmitted self.now.state ask r) }
         ensures err { IfErr result (λ e. (e ≢ Deny.Memory) × (e ≢ Deny.Disk) × (order_refusal self.now.state ask ≡ Some e)) }
     {
         match ask {
-            Ask::Stack { issue, unit, count } => self.stacked(issue, unit, count),
-            Ask::Present => self.presented(),
-            Ask::Reject => moved_whole(Kind::Reject, self.mech.survey().transport),
-            Ask::Retract => moved_whole(Kind::Retract, self.mech.survey().outlet),
+            Ask::Stack { issue, unit, count } => self.stack_order(issue, unit, count),
+            Ask::Present => self.present_order(),
+            Ask::Reject => whole_of(Kind::Reject, self.mech.survey().transport),
+            Ask::Retract => whole_of(Kind::Retract, self.mech.survey().outlet),
         }
     }
 
-    fn stacked(&self, issue: u64, unit: u8, count: u32) -> Result<(Kind, Counts), Deny>
+    fn stack_order(&self, issue: u64, unit: u8, count: u32) -> Result<(Kind, Counts), Deny>
         requires asked { IsAsk self.now.state (AskStack issue unit count) }
         requires fit { unfit self.now.state ≡ None }
         ensures ok { IfOk result (λ r. IsAdmitted self.now.state (AskStack issue unit count) r) }
@@ -466,7 +393,7 @@ impl<M: Mechanism, D: Disk> Guard<M, D> {
         Ok((Kind::Stack, counts))
     }
 
-    fn presented(&self) -> Result<(Kind, Counts), Deny>
+    fn present_order(&self) -> Result<(Kind, Counts), Deny>
         requires { unfit self.now.state ≡ None }
         ensures ok { IfOk result (λ r. IsAdmitted self.now.state AskPresent r) }
         ensures err { IfErr result (λ e. (e ≢ Deny.Memory) × (e ≢ Deny.Disk) × (order_refusal self.now.state AskPresent ≡ Some e)) }
@@ -493,9 +420,7 @@ impl<M: Mechanism, D: Disk> Guard<M, D> {
     pub fn act(&mut self) -> Outcome
         requires { IsWritten self.old.state.open_order }
         ensures acted { Acts self.old.state self.new.state result.moved result.diverted result.failed }
-        ensures cause { result.failed ≡ true → Rose self.old.state.faults self.new.state.faults }
-        ensures same { self.new.disk ≡ self.old.disk }
-        ensures keeps { Keeps D.Disk (MayMove self.old.state) self.old self.new }
+        ensures uses { UsesMechanism D.Disk (MayMove self.old.state) result.failed self.old self.new }
     {
         let Open::Written { kind, counts } = self.open_order else {
             unreachable!()
@@ -520,7 +445,7 @@ impl<M: Mechanism, D: Disk> Guard<M, D> {
         ensures disk { OnErr result (Unsettles self.old.state self.new.state) }
         ensures cause { OnErr result (Rose (D.faults self.old.disk) (D.faults self.new.disk)) }
         ensures keeps { Keeps D.Disk NoEntry self.old self.new }
-        ensures kept { OnOk result (Leaves D.Disk self.new.disk self.new.state.records) }
+        ensures kept { OnOk result (LeavesList D.Disk self.new.disk self.new.state.records) }
     {
         let Open::Acted {
             kind,
@@ -538,7 +463,7 @@ impl<M: Mechanism, D: Disk> Guard<M, D> {
 }
 
 // All the notes of a place, where there are some.
-fn moved_whole(kind: Kind, counts: Counts) -> Result<(Kind, Counts), Deny>
+fn whole_of(kind: Kind, counts: Counts) -> Result<(Kind, Counts), Deny>
     ensures ok { IfOk result (λ r. (nothing_refusal counts ≡ None) × (r.0 ≡ kind) × (r.1 ≡ counts)) }
     ensures err { IfErr result (λ e. (e ≢ Deny.Memory) × (e ≢ Deny.Disk) × (nothing_refusal counts ≡ Some e)) }
 {

@@ -1,32 +1,25 @@
 //! The records of the journal, with what is read of them kept beside: no call but `boot` and `restore` goes through them.
 
-ghost use Rattle.std.specs.Prelude.{MatchResult, ◌≡◌, ◌≢◌, ◌⊎◌, ℕ, List, ◌+◌, ◌-◌, ◌<◌, ◌≤◌, ◌^◌, [], ◌∷◌, ◌++◌, true, false, is_some, length, slice_get, slice_index, drop, take, OnErr, IfErr, IfOk, OnOk, Some, None, Err, ◌||◌};
+ghost use Rattle.std.specs.Prelude.{◌≡◌, ◌≢◌, ℕ, List, ◌+◌, ◌-◌, ◌<◌, ◌≤◌, ◌^◌, false, true, ◌∷◌, ◌++◌, [], length, drop, take, OnErr, IfErr, IfOk, OnOk, Some, None, Err};
 ghost use Rattle.std.specs.Option.{option_copied, option_map};
-ghost use Rattle.xfs_base.specs.Causes.{IfTold, Rose};
 ghost use Rattle.xfs_base.specs.Counts.{at};
-ghost use Rattle.xfs_base.specs.Money.{value};
 ghost use Rattle.xfs_base.specs.declared.counts.Counts.{Counts};
-ghost use Rattle.xfs_base.specs.declared.counts.Kind.TheVariants.{Present};
-ghost use Rattle.xfs_journal.specs.Image.{HasUnit, StandsFor, size};
-ghost use Rattle.xfs_journal.specs.Paging.{CeasesAt, IsOldOrShort, IsQuiet};
-ghost use Rattle.xfs_journal.specs.declared.record.Rec.{Rec};
+ghost use Rattle.xfs_journal.specs.Image.{HasUnit, size};
+ghost use Rattle.xfs_journal.specs.Journal.{base_of, boot_of, issues_in, record_at, live_of, last_mark, next_issue, nonce_text, with_boot};
+ghost use Rattle.xfs_journal.specs.JournalView.{exceeds, refusal, LeavesOneOf};
+ghost use Rattle.xfs_journal.specs.Outcomes.{DiskGoesOn, FailsAt, IsAppended, IsUnwritten, KeepsJournal, WritesAtMost};
+ghost use Rattle.xfs_journal.specs.declared.record.Rec.TheVariants.{Issue, Bind, Order, Done, Load};
 ghost use Rattle.xfs_guard.specs.declared.fail.BootFault.TheVariants.{NotJournal, Disk as BootDisk, Full as BootFull, Memory as BootMemory};
-ghost use Rattle.xfs_journal.specs.JournalView.{exceeds, refusal, IsCarriedOver, IsNoJournal, IsPossible, StandsForEither};
-ghost use Rattle.xfs_disk.specs.Moments.{LeavesOnly};
-ghost use Rattle.xfs_journal.specs.declared.record.Rec.TheVariants.{Issue, Clear, Bind, Order, Done, Load};
-ghost use Rattle.xfs_journal.specs.Journal.{base_of, boot_of, issues_in, record_at, live_of, token_of, last_mark, next_issue, nonce_text, with_boot};
-ghost use Rattle.xfs_guard.specs.Nonce.{Ends, live_in, nonce_of};
+ghost use Rattle.xfs_guard.specs.Nonce.{EndsNonce, live_in};
 ghost use Rattle.xfs_guard.specs.Refusals.{bound_token, bound_number};
 ghost use Rattle.xfs_guard.specs.Presented.{presented_in};
-ghost use Rattle.xfs_guard.specs.LedgerBooting.{FailsAt, HasAtMost, IsAppended, IsBootedNow, IsFailedNow, IsMissingNow, IsOldOrReread, IsSmall, IsUnreadNow, IsUnwritten};
-ghost use Rattle.xfs_guard.specs.LedgerView.{IsOpen, IsWriteFault, Wrote, IsSame, IsPresentedBound, write_refusal};
-ghost use Rattle.xfs_guard.specs.Balance.{no_notes, with_notes};
-ghost use Rattle.xfs_guard.specs.Booting.{AddsAtMost, HadRoom, HadRoomThen, IsBooted, IsFound, LacksRoom, LeavesEither, SparesAll, SparesUnlisted, TellsAs, base_then};
+ghost use Rattle.xfs_guard.specs.LedgerBooting.{BootsLedger, IsBootedNow, StaysSmall, LeavesReread, RefusesLedger, RefusesReread, WritesLedger};
+ghost use Rattle.xfs_guard.specs.LedgerView.{IsOpenLedger, IsWriteFault, IsSame, IsPresentedBound, write_refusal};
+ghost use Rattle.xfs_guard.specs.Balance.{with_notes};
+ghost use Rattle.xfs_guard.specs.Booting.{AddsAtMost, HadRoomThen, IsFoundBooted, base_then};
 ghost use Rattle.xfs_guard.specs.Ledger.{IsLive, IsDoubted};
-ghost use Rattle.xfs_guard.specs.CrashOutcomes.{IsOldOrBooted, Leaves};
-ghost use Rattle.xfs_guard.specs.Crashed.{IsCrashOutcome, StandsReread};
-ghost use Rattle.xfs_guard.specs.Stored.{IsStored, LeavesPossible, MayLeave, WasLeft};
-ghost use Rattle.xfs_guard.specs.Pays.{Fits, Pays, IsSumOf};
+ghost use Rattle.xfs_guard.specs.Stored.{LeavesPossible};
+ghost use Rattle.xfs_guard.specs.Pays.{FitsSums, GrowBy, GrowsSums, IsSumOf, StayWithin};
 ghost use Rattle.xfs_guard.specs.Segment.{IsTellable};
 
 use crate::bound::{Bound, Live};
@@ -99,27 +92,8 @@ impl<D: Disk> Ledger<D> {
         units: UnitTable,
         places: Survey,
     ) -> Result<Ledger<D>, RefusedLedger<D>>
-        ensures records { IfOk result (λ l. IsFound (D.held disk) (λ records. l.records ≡ with_boot records places)) }
-        ensures based { IfOk result (λ l. l.base ≡ base_of l.records) }
-        ensures fits { IfOk result (λ l. HadRoom (D.held disk) limits places l.records) }
-        ensures opened { IfOk result (λ l. (l.shut ≡ false) × (l.in_doubt ≡ None) × (l.bound ≡ None) × (l.boot_missing ≡ false)) }
-        ensures same { IfOk result (λ l. (l.limits ≡ limits) × (l.units ≡ units)) }
-        ensures unloaded { IfOk result (λ l. (l.booted ≡ places) × (l.loaded ≡ no_notes)) }
-        ensures kept { IfOk result (λ l. Leaves D.Disk l.disk l.records) }
-        ensures carried { IfOk result (λ l. IsCarriedOver (D.held l.disk)) }
-        ensures told { MatchResult result (λ l. TellsAs D.Disk disk l.disk) (λ f. TellsAs D.Disk disk f.disk) }
-        ensures not_journal { IfErr result (λ f. (at : ℕ) → f.why ≡ NotJournal at → IsNoJournal (D.held disk) at) }
-        ensures refused { IfErr result (λ f. (at : ℕ) → f.why ≡ NotJournal at → IsQuiet D.Disk disk f.disk) }
-        ensures full { IfErr result (λ f. f.why ≡ BootFull → LacksRoom (D.held disk) limits places) }
-        ensures disk { IfErr result (λ f. f.why ≡ BootDisk → Rose (D.faults disk) (D.faults f.disk)) }
-        ensures left { IfErr result (λ f. (records : List Rec) → MayLeave D.Disk f.disk records → WasLeft D.Disk disk places records) }
-        ensures either { IfErr result (λ f. LeavesEither D.Disk disk f.disk places) }
-        ensures unlisted { IfErr result (λ f. SparesUnlisted D.Disk disk f.disk) }
-        ensures unwritten { IfErr result (λ f. f.why ≢ BootDisk → SparesAll D.Disk disk f.disk) }
-        ensures any_moment { IfTold (D.held disk) (λ all. MatchResult result
-            (λ l. LeavesOnly D.Disk disk l.disk (IsOldOrBooted (D.images disk) all places))
-            (λ f. LeavesOnly D.Disk disk f.disk (IsOldOrBooted (D.images disk) all places))) }
-        ensures faults { MatchResult result (λ l. D.faults disk ≤ D.faults l.disk) (λ f. D.faults disk ≤ D.faults f.disk) }
+        ensures ok { IfOk result (BootsLedger D.Disk limits units places disk) }
+        ensures err { IfErr result (λ f. RefusesLedger D.Disk limits places disk f.why f.disk) }
     {
         let mut journal = match mount(alloc, disk, limits) {
             Ok(journal) => journal,
@@ -177,7 +151,7 @@ impl<D: Disk> Ledger<D> {
     /// The journal's disk.
     pub fn end(self) -> D
         ensures disk { result ≡ self.disk }
-        ensures stored { IsStored D.Disk result self.records self.in_doubt }
+        ensures stored { LeavesOneOf D.Disk result self.records self.in_doubt }
     {
         let Ledger {
             journal,
@@ -197,7 +171,7 @@ impl<D: Disk> Ledger<D> {
     /// Whether the disk failed and the journal wasn't read again since.
     pub fn shut(&self) -> bool
         ensures shut { result ≡ self.now.shut }
-        ensures possible { IsStored D.Disk self.now.disk self.now.records self.now.in_doubt }
+        ensures possible { LeavesOneOf D.Disk self.now.disk self.now.records self.now.in_doubt }
     {
         self.journal.shut()
     }
@@ -218,7 +192,7 @@ impl<D: Disk> Ledger<D> {
 
     /// The number of the last mark.
     pub fn mark(&self) -> u64
-        requires { IsOpen self.now }
+        requires { IsOpenLedger self.now }
         ensures { result ≡ last_mark self.now.records }
     {
         self.mark
@@ -226,7 +200,7 @@ impl<D: Disk> Ledger<D> {
 
     /// The number of the next issue.
     pub fn next_issue(&self) -> u64
-        requires { IsOpen self.now }
+        requires { IsOpenLedger self.now }
         ensures { result ≡ next_issue self.now.records }
     {
         prove!(self.issues < self.newest());
@@ -248,7 +222,7 @@ impl<D: Disk> Ledger<D> {
 
     /// The token that is bound to the live nonce.
     pub fn token(&self) -> Option<&Text>
-        requires { IsOpen self.now }
+        requires { IsOpenLedger self.now }
         ensures { option_copied result ≡ bound_token self.now.records }
     {
         match &self.bound {
@@ -262,7 +236,7 @@ impl<D: Disk> Ledger<D> {
 
     /// The number of that token's Bind.
     pub fn bind_number(&self) -> Option<u64>
-        requires { IsOpen self.now }
+        requires { IsOpenLedger self.now }
         ensures { result ≡ bound_number self.now.records }
     {
         match &self.bound {
@@ -282,8 +256,8 @@ impl<D: Disk> Ledger<D> {
     }
 
     /// What was presented since the last mark in a currency, in thousandths.
-    pub fn presented(&self, currency: Currency) -> u64
-        requires open_still { IsOpen self.now }
+    pub fn worth_presented(&self, currency: Currency) -> u64
+        requires open_still { IsOpenLedger self.now }
         requires told { IsPresentedBound self.now }
         ensures { result ≡ presented_in self.now.units self.now.records currency }
     {
@@ -332,13 +306,7 @@ impl<D: Disk> Ledger<D> {
         requires fits { write_refusal self.old (Issue nonce.number word) ≡ None }
         requires next { nonce.number ≡ next_issue self.old.records }
         requires text { nonce.text ≡ nonce_text nonce.number word }
-        ensures wrote { Wrote result self.old self.new (Issue nonce.number word) None }
-        ensures err { IfErr result IsWriteFault }
-        ensures cause { result ≡ Err Deny.Disk → Rose (D.faults self.old.disk) (D.faults self.new.disk) }
-        ensures faults { D.faults self.old.disk ≤ D.faults self.new.disk }
-        ensures told { is_some (D.held self.new.disk) ≡ is_some (D.held self.old.disk) }
-        ensures any_moment { AddsAtMost D.Disk self.old.disk self.new.disk self.old.records (Issue nonce.number word) }
-        ensures kept { OnOk result (Leaves D.Disk self.new.disk self.new.records) }
+        ensures writes { WritesLedger D.Disk (Issue nonce.number word) None result self.old self.new }
     {
         let issue = Rec::Issue {
             number: nonce.number,
@@ -363,14 +331,8 @@ impl<D: Disk> Ledger<D> {
     /// The live nonce ends, by this record.
     pub fn end_nonce(&mut self, rec: Rec) -> Result<(), Deny>
         requires fits { write_refusal self.old rec ≡ None }
-        requires ends { Ends rec }
-        ensures wrote { Wrote result self.old self.new rec None }
-        ensures err { IfErr result IsWriteFault }
-        ensures cause { result ≡ Err Deny.Disk → Rose (D.faults self.old.disk) (D.faults self.new.disk) }
-        ensures faults { D.faults self.old.disk ≤ D.faults self.new.disk }
-        ensures told { is_some (D.held self.new.disk) ≡ is_some (D.held self.old.disk) }
-        ensures any_moment { AddsAtMost D.Disk self.old.disk self.new.disk self.old.records rec }
-        ensures kept { OnOk result (Leaves D.Disk self.new.disk self.new.records) }
+        requires ends { EndsNonce rec }
+        ensures writes { WritesLedger D.Disk rec None result self.old self.new }
     {
         self.mark = append(&mut self.journal, rec)?;
         self.live = None;
@@ -384,13 +346,7 @@ impl<D: Disk> Ledger<D> {
         requires live { (p : ℕ) × (live_of self.old.records ≡ Some p) }
         requires free { bound_token self.old.records ≡ None }
         requires fresh { (currency : List ℕ) → presented_in self.old.units self.old.records currency ≡ 0 }
-        ensures wrote { Wrote result self.old self.new (Bind token) (Some amounts) }
-        ensures err { IfErr result IsWriteFault }
-        ensures cause { result ≡ Err Deny.Disk → Rose (D.faults self.old.disk) (D.faults self.new.disk) }
-        ensures faults { D.faults self.old.disk ≤ D.faults self.new.disk }
-        ensures told { is_some (D.held self.new.disk) ≡ is_some (D.held self.old.disk) }
-        ensures any_moment { AddsAtMost D.Disk self.old.disk self.new.disk self.old.records (Bind token) }
-        ensures kept { OnOk result (Leaves D.Disk self.new.disk self.new.records) }
+        ensures writes { WritesLedger D.Disk (Bind token) (Some amounts) result self.old self.new }
     {
         let number = append(&mut self.journal, Rec::Bind { token })?;
         self.bound = Some(Bound {
@@ -405,13 +361,7 @@ impl<D: Disk> Ledger<D> {
     pub fn load(&mut self, unit: u8, count: u32) -> Result<(), Deny>
         requires unit { HasUnit (Load unit count) }
         requires fits { write_refusal self.old (Load unit count) ≡ None }
-        ensures wrote { Wrote result self.old self.new (Load unit count) self.old.bound }
-        ensures err { IfErr result IsWriteFault }
-        ensures cause { result ≡ Err Deny.Disk → Rose (D.faults self.old.disk) (D.faults self.new.disk) }
-        ensures faults { D.faults self.old.disk ≤ D.faults self.new.disk }
-        ensures told { is_some (D.held self.new.disk) ≡ is_some (D.held self.old.disk) }
-        ensures any_moment { AddsAtMost D.Disk self.old.disk self.new.disk self.old.records (Load unit count) }
-        ensures kept { OnOk result (Leaves D.Disk self.new.disk self.new.records) }
+        ensures writes { WritesLedger D.Disk (Load unit count) self.old.bound result self.old self.new }
     {
         append(&mut self.journal, Rec::Load { unit, count })?;
         Ok(())
@@ -429,14 +379,9 @@ impl<D: Disk> Ledger<D> {
     pub fn order(&mut self, kind: Kind, counts: Counts) -> Result<(), Deny>
         requires fits { write_refusal self.old (Order kind counts) ≡ None }
         requires room { 0 < self.old.room }
-        ensures wrote { Wrote result self.old self.new (Order kind counts) self.old.bound }
+        ensures writes { WritesLedger D.Disk (Order kind counts) self.old.bound result self.old self.new }
         ensures err { IfErr result (λ e. e ≡ Deny.Disk) }
         ensures room { self.old.room ≤ self.new.room + 1 }
-        ensures cause { result ≡ Err Deny.Disk → Rose (D.faults self.old.disk) (D.faults self.new.disk) }
-        ensures faults { D.faults self.old.disk ≤ D.faults self.new.disk }
-        ensures told { is_some (D.held self.new.disk) ≡ is_some (D.held self.old.disk) }
-        ensures any_moment { AddsAtMost D.Disk self.old.disk self.new.disk self.old.records (Order kind counts) }
-        ensures kept { OnOk result (Leaves D.Disk self.new.disk self.new.records) }
     {
         append(&mut self.journal, Rec::Order { kind, counts })?;
         Ok(())
@@ -447,17 +392,12 @@ impl<D: Disk> Ledger<D> {
         requires fits { write_refusal self.old (Done moved diverted) ≡ None }
         requires room { 0 < self.old.room }
         requires ordered { (counts : Counts) × (record_at self.old.records (length self.old.records) ≡ Some (Order kind counts)) }
-        requires small { IsSmall self.old.units self.old.records kind moved }
-        ensures wrote { Wrote result self.old self.new (Done moved diverted) self.old.bound }
+        requires small { StaysSmall self.old.units self.old.records kind moved }
+        ensures writes { WritesLedger D.Disk (Done moved diverted) self.old.bound result self.old self.new }
         ensures err { IfErr result (λ e. e ≡ Deny.Disk) }
-        ensures cause { result ≡ Err Deny.Disk → Rose (D.faults self.old.disk) (D.faults self.new.disk) }
-        ensures faults { D.faults self.old.disk ≤ D.faults self.new.disk }
-        ensures told { is_some (D.held self.new.disk) ≡ is_some (D.held self.old.disk) }
-        ensures any_moment { AddsAtMost D.Disk self.old.disk self.new.disk self.old.records (Done moved diverted) }
-        ensures kept { OnOk result (Leaves D.Disk self.new.disk self.new.records) }
     {
         append(&mut self.journal, Rec::Done { moved, diverted })?;
-        self.bound = paid(self.bound.take(), kind, &moved, &self.units);
+        self.bound = bound_after(self.bound.take(), kind, &moved, &self.units);
         Ok(())
     }
 
@@ -465,25 +405,18 @@ impl<D: Disk> Ledger<D> {
     pub fn restore(&mut self, places: Survey, rebases: bool) -> Result<(), BootFault>
         ensures ok { OnOk result (IsBootedNow rebases self.old self.new places) }
         ensures fits { OnOk result (HadRoomThen rebases self.old.base (D.held self.old.disk) self.old.limits places self.new.records) }
-        ensures stands { OnOk result (IsBooted (D.held self.old.disk) places self.new.records) }
-        ensures memory { result ≡ Err BootMemory → self.new ≡ record self.old { disk = self.new.disk } }
-        ensures full { result ≡ Err BootFull → IsMissingNow rebases self.old self.new places }
-        ensures found { result ≡ Err BootFull → IfTold (D.held self.old.disk) (λ all. StandsFor all self.new.records) }
-        ensures disk { result ≡ Err BootDisk → IsUnreadNow self.old self.new ⊎ IsFailedNow rebases self.old self.new places }
-        ensures not_journal { IfErr result (λ f. (at : ℕ) → f ≡ NotJournal at → (D.held self.old.disk ≡ None) × IsUnreadNow self.old self.new) }
-        ensures cause { result ≡ Err BootDisk → Rose (D.faults self.old.disk) (D.faults self.new.disk) }
-        ensures faults { D.faults self.old.disk ≤ D.faults self.new.disk }
-        ensures told { is_some (D.held self.new.disk) ≡ is_some (D.held self.old.disk) }
+        ensures stands { OnOk result (IsFoundBooted (D.held self.old.disk) places self.new.records) }
+        ensures refuses { RefusesReread D.Disk rebases places result self.old self.new }
+        ensures goes_on { DiskGoesOn D.Disk self.old.disk self.new.disk }
         ensures left { LeavesPossible D.Disk self.new.disk self.new.records self.new.in_doubt }
-        ensures any_moment { IfTold (D.held self.old.disk) (λ _.
-            LeavesOnly D.Disk self.old.disk self.new.disk (IsOldOrReread D.Disk self.old self.new places)) }
+        ensures any_moment { LeavesReread D.Disk self.old self.new places }
     {
         let before = self.newest();
         if let Err(why) = self.journal.remount() {
             return Err(BootFault::from(why));
         }
         self.bound = None;
-        self.live = live_found(self.live, self.doubted, &self.journal, before);
+        self.live = live_after(self.live, self.doubted, &self.journal, before);
         let issues = issues_of(&self.journal);
         let booted = *places.places();
         match append_boot(&mut self.journal, issues, places, rebases) {
@@ -528,7 +461,7 @@ fn issues_of<D: Disk>(journal: &Journal<D>) -> u64
 
 // The live issue, once a journal was read again that had so many records: it has one more where that in doubt was
 // found.
-fn live_found<D: Disk>(
+fn live_after<D: Disk>(
     live: Option<Live>,
     doubted: Option<Nonce>,
     journal: &Journal<D>,
@@ -569,26 +502,20 @@ fn append_boot<D: Disk>(
 ) -> Result<u64, BootFault>
     requires open { journal.old.shut ≡ false }
     requires issues { issues ≡ issues_in journal.old.records }
-    ensures number { IfOk result (λ n. n ≡ length journal.old.records + 1) }
-    ensures ok { OnOk result (IsAppended journal.old journal.new (boot_of journal.old.records places)) }
+    ensures ok { IfOk result (IsAppended D.Disk journal.old journal.new (boot_of journal.old.records places)) }
+    ensures based { OnOk result (journal.new.base ≡ base_then rebases journal.old.base journal.new.records) }
     ensures fits { OnOk result (exceeds journal.old.limits (base_then rebases journal.old.base journal.old.records) journal.new.records ≡ false) }
-    ensures full { result ≡ Err BootFull → exceeds journal.old.limits (base_then rebases journal.old.base journal.old.records) (with_boot journal.old.records places) ≡ true }
-    ensures disk { result ≡ Err BootDisk → Rose (D.faults journal.old.disk) (D.faults journal.new.disk) }
-    ensures kept { OnOk result (Leaves D.Disk journal.new.disk journal.new.records) }
-    ensures carried { OnOk result (IsCarriedOver (D.held journal.old.disk) → IsCarriedOver (D.held journal.new.disk)) }
-    ensures images { HasAtMost D.Disk journal.old.disk journal.new.disk journal.old.records (boot_of journal.old.records places) }
-    ensures any_moment { AddsAtMost D.Disk journal.old.disk journal.new.disk journal.old.records (boot_of journal.old.records places) }
-    ensures told { is_some (D.held journal.new.disk) ≡ is_some (D.held journal.old.disk) }
+    ensures same { OnErr result (journal.new.records ≡ journal.old.records) }
+    ensures base { OnErr result (journal.new.base ≡ base_then rebases journal.old.base journal.old.records) }
+    ensures full { result ≡ Err BootFull → exceeds journal.old.limits journal.new.base (with_boot journal.old.records places) ≡ true }
+    ensures mounted { result ≡ Err BootFull → (journal.new.shut ≡ false) × (journal.new.in_doubt ≡ journal.old.in_doubt) }
+    ensures disk { result ≡ Err BootDisk → FailsAt D.Disk journal.old journal.new (boot_of journal.old.records places) }
     ensures unwritten { IfErr result (λ f. f ≢ BootDisk → journal.new.disk ≡ journal.old.disk) }
     ensures not_mounted { IfErr result (λ f. (at : ℕ) → f ≢ NotJournal at) }
     ensures reserved { 1 ≤ journal.old.room → result ≢ Err BootMemory }
-    ensures same { OnErr result (journal.new.records ≡ journal.old.records) }
-    ensures mounted { result ≡ Err BootFull → (journal.new.shut ≡ false) × (journal.new.in_doubt ≡ journal.old.in_doubt) }
-    ensures in_doubt { result ≡ Err BootDisk → (journal.new.shut ≡ true) × (journal.new.in_doubt ≡ Some (boot_of journal.old.records places)) }
-    ensures based { OnOk result (journal.new.base ≡ base_then rebases journal.old.base journal.new.records) }
-    ensures base { OnErr result (journal.new.base ≡ base_then rebases journal.old.base journal.old.records) }
     ensures limits { journal.new.limits ≡ journal.old.limits }
-    ensures faults { D.faults journal.old.disk ≤ D.faults journal.new.disk }
+    ensures goes_on { DiskGoesOn D.Disk journal.old.disk journal.new.disk }
+    ensures crashes { WritesAtMost D.Disk journal.old.disk journal.new.disk journal.old.records (boot_of journal.old.records places) }
 {
     rebase_where(rebases, journal);
     match journal.append(Rec::Start { issues, places }) {
@@ -607,20 +534,15 @@ fn append_boot<D: Disk>(
 fn append<D: Disk>(journal: &mut Journal<D>, rec: Rec) -> Result<u64, Deny>
     requires unit { HasUnit rec }
     requires fits { refusal journal.old rec ≡ None }
-    ensures number { IfOk result (λ n. n ≡ length journal.old.records + 1) }
-    ensures ok { OnOk result (IsAppended journal.old journal.new rec) }
+    ensures ok { IfOk result (IsAppended D.Disk journal.old journal.new rec) }
     ensures err { IfErr result IsWriteFault }
     ensures same { OnErr result (journal.new.records ≡ journal.old.records) }
     ensures memory { result ≡ Err Deny.Memory → IsUnwritten journal.old journal.new }
     ensures disk { result ≡ Err Deny.Disk → FailsAt D.Disk journal.old journal.new rec }
     ensures reserved { 1 ≤ journal.old.room → IfErr result (λ e. e ≡ Deny.Disk) }
-    ensures base { journal.new.base ≡ journal.old.base }
-    ensures limits { journal.new.limits ≡ journal.old.limits }
     ensures room { journal.old.room ≤ journal.new.room + 1 }
-    ensures faults { D.faults journal.old.disk ≤ D.faults journal.new.disk }
-    ensures told { is_some (D.held journal.new.disk) ≡ is_some (D.held journal.old.disk) }
+    ensures keeps { KeepsJournal D.Disk journal.old journal.new }
     ensures any_moment { AddsAtMost D.Disk journal.old.disk journal.new.disk journal.old.records rec }
-    ensures kept { OnOk result (Leaves D.Disk journal.new.disk journal.new.records) }
 {
     match journal.append(rec) {
         Ok(number) => Ok(number),
@@ -643,21 +565,21 @@ fn sum_of(amounts: &Amounts, sums: &[u64; 9], currency: Currency) -> u64
 }
 
 // The bind once an order of this kind has moved these notes.
-fn paid(bound: Option<Bound>, kind: Kind, moved: &Counts, units: &UnitTable) -> Option<Bound>
-    requires { Fits units.now kind moved.now bound }
-    ensures { Pays units.now kind moved.now bound result }
+fn bound_after(bound: Option<Bound>, kind: Kind, moved: &Counts, units: &UnitTable) -> Option<Bound>
+    requires { FitsSums units.now kind moved.now bound }
+    ensures { GrowsSums units.now kind moved.now bound result }
 {
     let mut bound = bound?;
     if kind == Kind::Present {
-        bound.presented = added(&bound.presented, &bound.amounts, moved, units);
+        bound.presented = sums_with(&bound.presented, &bound.amounts, moved, units);
     }
     Some(bound)
 }
 
 // What was presented of each amount's currency, with these notes on top.
-fn added(presented: &[u64; 9], amounts: &Amounts, moved: &Counts, units: &UnitTable) -> [u64; 9]
-    requires { (i : ℕ) (a : List ℕ × ℕ) → slice_get amounts.now i ≡ Some a → slice_index presented.now i + value units.now moved.now a.0 < 2 ^ 64 }
-    ensures { (i : ℕ) (a : List ℕ × ℕ) → slice_get amounts.now i ≡ Some a → slice_index result i ≡ slice_index presented.now i + value units.now moved.now a.0 }
+fn sums_with(presented: &[u64; 9], amounts: &Amounts, moved: &Counts, units: &UnitTable) -> [u64; 9]
+    requires { StayWithin units.now moved.now amounts.now presented.now }
+    ensures { GrowBy units.now moved.now amounts.now presented.now result }
 {
     let mut sums = *presented;
     for i in 0..amounts.len() {

@@ -3,7 +3,7 @@
 ghost use Rattle.std.specs.Prelude.{◌≡◌, ◌+◌, ◌-◌, ◌<◌, ◌≤◌, ◌^◌, List, ◌++◌, length, IfOk, OnOk};
 ghost use Rattle.xfs_mech.specs.declared.motion.Motion.{Motion};
 ghost use Rattle.xfs_guard.specs.Agrees.{Agrees};
-ghost use Rattle.xfs_guard.specs.Replayed.{AgreesFrom, CanReplay, left_of, outlet_done, done_motions, taken_of, nothing_replayed, renumbered, replay_after, replayed};
+ghost use Rattle.xfs_guard.specs.Replayed.{AgreesFrom, CanReplay, left_of, taken_of, nothing_replayed, renumbered, replay_after, replay_done, replayed};
 
 use std::alloc::Global;
 use std::marker::Model;
@@ -88,10 +88,7 @@ impl Replay {
 
     // The order that was read last is done. Notes are presented only once those before were taken.
     fn done(&mut self, moved: &Counts, diverted: &Counts) -> Result<(), Memory>
-        ensures ok { OnOk result (self.new ≡ record self.old {
-          outlet = outlet_done self.old.ordered self.old.outlet moved.now;
-          motions = self.old.motions ++ done_motions self.old.count self.old.ordered self.old.outlet moved.now diverted.now;
-        }) }
+        ensures ok { OnOk result (self.new ≡ replay_done self.old moved.now diverted.now) }
     {
         let Some(kind) = self.ordered else {
             return Ok(());

@@ -1,7 +1,6 @@
 //! What customers and operators do with notes: the guard's reports of it, and the record of a loading.
 
-ghost use Rattle.std.specs.Prelude.{◌≡◌, ◌≢◌, ◌↔◌, ◌≤◌, true, [], ◌∷◌, ◌++◌, length, Some, Err, OnOk, OnErr, IfOk, IfErr, IsTrue};
-ghost use Rattle.xfs_base.specs.Causes.{Rose};
+ghost use Rattle.std.specs.Prelude.{◌≡◌, ◌≢◌, ◌↔◌, ◌≤◌, length, Some, OnOk, OnErr, IfOk, IsTrue};
 ghost use Rattle.xfs_base.specs.Counts.{LiesIn};
 ghost use Rattle.xfs_base.specs.declared.counts.Kind.TheVariants.{Retract};
 ghost use Rattle.xfs_mech.specs.Mechanism.{CanLoad, Loads};
@@ -9,12 +8,12 @@ ghost use Rattle.xfs_mech.specs.declared.motion.Motion.TheVariants.{Taken, Loade
 ghost use Rattle.xfs_journal.specs.declared.record.Rec.TheVariants.{Load};
 ghost use Rattle.xfs_guard.specs.declared.open.Open.TheVariants.{No};
 ghost use Rattle.xfs_guard.specs.Orders.{kind_unacted};
-ghost use Rattle.xfs_guard.specs.View.{shut_at};
 ghost use Rattle.xfs_guard.specs.Fits.{unfit};
+ghost use Rattle.xfs_guard.specs.View.{with_record};
 ghost use Rattle.xfs_guard.specs.Refusals.{Answers};
 ghost use Rattle.xfs_guard.specs.Reports.{HasReported};
-ghost use Rattle.xfs_guard.specs.Keeps.{Keeps, NoEntry};
-ghost use Rattle.xfs_guard.specs.CrashOutcomes.{Leaves, MayTake};
+ghost use Rattle.xfs_guard.specs.Calls.{UsesMechanism, WritesRecord, is_failed};
+ghost use Rattle.xfs_guard.specs.CrashOutcomes.{MayTake};
 
 use crate::{Deny, Guard};
 use xfs_base::Memory;
@@ -36,10 +35,8 @@ impl<M: Mechanism, D: Disk> Guard<M, D> {
         requires no_retract { kind_unacted self.old.state.open_order ≢ Some Retract }
         ensures lie { IfOk result (λ o. LiesIn o.moved self.old.state.places.outlet) }
         ensures ok { IfOk result (λ o. HasReported self.old.state self.new.state (Taken o.moved) o.moved o.diverted o.failed) }
-        ensures cause { IfOk result (λ o. o.failed ≡ true → Rose self.old.state.faults self.new.state.faults) }
         ensures err { OnErr result (self.new.state ≡ self.old.state) }
-        ensures same { self.new.disk ≡ self.old.disk }
-        ensures keeps { Keeps D.Disk (MayTake self.old.state) self.old self.new }
+        ensures uses { UsesMechanism D.Disk (MayTake self.old.state) (is_failed result) self.old self.new }
     {
         self.mech.ready()?;
         Ok(self.mech.taken())
@@ -52,10 +49,8 @@ impl<M: Mechanism, D: Disk> Guard<M, D> {
         requires fits { CanLoad self.old.state.units self.old.state.places unit count }
         ensures loaded { IfOk result (λ o. Loads unit count o.moved o.failed) }
         ensures ok { IfOk result (λ o. HasReported self.old.state self.new.state (Loaded unit count) o.moved o.diverted o.failed) }
-        ensures cause { IfOk result (λ o. o.failed ≡ true → Rose self.old.state.faults self.new.state.faults) }
         ensures err { OnErr result (self.new.state ≡ self.old.state) }
-        ensures same { self.new.disk ≡ self.old.disk }
-        ensures keeps { Keeps D.Disk (λ entry. entry ≡ Loaded unit count) self.old self.new }
+        ensures uses { UsesMechanism D.Disk (λ entry. entry ≡ Loaded unit count) (is_failed result) self.old self.new }
     {
         self.mech.ready()?;
         let outcome = self.mech.load(unit, count);
@@ -73,12 +68,8 @@ impl<M: Mechanism, D: Disk> Guard<M, D> {
         requires low { 1 ≤ unit }
         requires high { unit ≤ length self.old.state.units }
         ensures refused { Answers result (unfit self.old.state) }
-        ensures ok { OnOk result (self.new.state ≡ record self.old.state { records = self.old.state.records ++ Load unit count ∷ [] }) }
-        ensures disk { result ≡ Err Deny.Disk → self.new.state ≡ shut_at (Load unit count) self.old.state }
-        ensures cause { result ≡ Err Deny.Disk → Rose (D.faults self.old.disk) (D.faults self.new.disk) }
-        ensures same { IfErr result (λ e. e ≢ Deny.Disk → self.new ≡ self.old) }
-        ensures keeps { Keeps D.Disk NoEntry self.old self.new }
-        ensures kept { OnOk result (Leaves D.Disk self.new.disk self.new.state.records) }
+        ensures ok { OnOk result (self.new.state ≡ with_record (Load unit count) self.old.state) }
+        ensures writes { WritesRecord D.Disk (Load unit count) result self.old self.new }
     {
         if let Some(deny) = self.unfit() {
             return Err(deny);

@@ -1,15 +1,11 @@
 //! Reading the journal again: after the disk failed, and where the machine starts anew.
 
-ghost use Rattle.std.specs.Prelude.{◌≡◌, ◌≤◌, ◌⊎◌, ◌+◌, ℕ, true, false, List, [], ◌∷◌, ◌++◌, length, Some, None, Err, OnOk, IfErr};
-ghost use Rattle.xfs_base.specs.Causes.{IfTold, Rose};
-ghost use Rattle.xfs_journal.specs.Image.{StandsFor};
-ghost use Rattle.xfs_journal.specs.JournalView.{IsPossible, exceeds};
-ghost use Rattle.xfs_journal.specs.declared.record.Rec.{Rec};
-ghost use Rattle.xfs_guard.specs.declared.fail.BootFault.TheVariants.{NotJournal, Disk as BootDisk, Full as BootFull, Memory as BootMemory};
-ghost use Rattle.xfs_guard.specs.Booting.{HadRoom, HadRoomThen, IsBooted, IsRebooted, IsRestored, IsRestoredThen, IsUnbooted, IsUnbootedThen, IsUnread, IsUnrebooted, IsUnrestored, IsUnrestoredThen, IsUnstarted, IsUntold};
+ghost use Rattle.std.specs.Prelude.{◌≡◌, ◌+◌, true, false, length, OnOk};
+ghost use Rattle.xfs_journal.specs.JournalView.{exceeds};
+ghost use Rattle.xfs_guard.specs.Booting.{HadRoom, HadRoomAgain, IsFoundBooted, IsRereadBooted};
 ghost use Rattle.xfs_guard.specs.Keeps.{Keeps, NoEntry};
+ghost use Rattle.xfs_guard.specs.Outcomes.{RefusesRestore};
 ghost use Rattle.xfs_guard.specs.Reach.{BeginsBehind};
-ghost use Rattle.xfs_guard.specs.View.{reread, rebooted, restarted, unbooted, unread};
 
 use crate::{BootFault, Guard, Open};
 use xfs_disk::Disk;
@@ -24,16 +20,10 @@ impl<M: Mechanism, D: Disk> Guard<M, D> {
     /// lives, and nothing is written, until a later restore appends one. A disk that tells its bytes is never refused
     /// as `NotJournal`.
     pub fn restore(&mut self) -> Result<(), BootFault>
-        ensures ok { OnOk result (IsRestored self.old.state self.new.state) }
+        ensures ok { OnOk result (IsRereadBooted false self.old.state self.new.state) }
         ensures fits { OnOk result (exceeds self.old.state.limits self.old.state.base self.new.state.records ≡ false) }
-        ensures stands { OnOk result (IsBooted (D.held self.old.disk) self.old.state.places self.new.state.records) }
-        ensures memory { result ≡ Err BootMemory → self.new.state ≡ self.old.state }
-        ensures full { result ≡ Err BootFull → IsUnrestored self.old.state self.new.state }
-        ensures found { result ≡ Err BootFull → IfTold (D.held self.old.disk) (λ all. StandsFor all self.new.state.records) }
-        ensures disk { result ≡ Err BootDisk → IsUnread self.old.state self.new.state ⊎ IsUnbooted self.old.state self.new.state }
-        ensures not_journal { IfErr result (λ f. (at : ℕ) → f ≡ NotJournal at → IsUntold D.Disk self.old.disk × IsUnread self.old.state self.new.state) }
-        ensures untold { IfErr result (λ f. (at : ℕ) → f ≡ NotJournal at → self.old.state.disk_told ≡ false) }
-        ensures cause { result ≡ Err BootDisk → Rose (D.faults self.old.disk) (D.faults self.new.disk) }
+        ensures stands { OnOk result (IsFoundBooted (D.held self.old.disk) self.old.state.places self.new.state.records) }
+        ensures refuses { RefusesRestore D.Disk false result self.old self.new }
         ensures keeps { Keeps D.Disk NoEntry self.old self.new }
     {
         self.read_again(false)
@@ -44,18 +34,12 @@ impl<M: Mechanism, D: Disk> Guard<M, D> {
     /// as their limit allows. After `Full`, and after a `Disk` that came behind the reading, memory has the records from
     /// the last boot record on; for the rest each answer tells what a restore's does.
     pub fn reboot(&mut self) -> Result<(), BootFault>
-        ensures ok { OnOk result (IsRebooted self.old.state self.new.state) }
+        ensures ok { OnOk result (IsRereadBooted true self.old.state self.new.state) }
         ensures alone { OnOk result (self.new.state.base + 1 ≡ length self.new.state.records) }
         ensures behind { OnOk result (BeginsBehind self.new.state) }
         ensures fits { OnOk result (HadRoom (D.held self.old.disk) self.old.state.limits self.old.state.places self.new.state.records) }
-        ensures stands { OnOk result (IsBooted (D.held self.old.disk) self.old.state.places self.new.state.records) }
-        ensures memory { result ≡ Err BootMemory → self.new.state ≡ self.old.state }
-        ensures full { result ≡ Err BootFull → IsUnrebooted self.old.state self.new.state }
-        ensures found { result ≡ Err BootFull → IfTold (D.held self.old.disk) (λ all. StandsFor all self.new.state.records) }
-        ensures disk { result ≡ Err BootDisk → IsUnread self.old.state self.new.state ⊎ IsUnstarted self.old.state self.new.state }
-        ensures not_journal { IfErr result (λ f. (at : ℕ) → f ≡ NotJournal at → IsUntold D.Disk self.old.disk × IsUnread self.old.state self.new.state) }
-        ensures untold { IfErr result (λ f. (at : ℕ) → f ≡ NotJournal at → self.old.state.disk_told ≡ false) }
-        ensures cause { result ≡ Err BootDisk → Rose (D.faults self.old.disk) (D.faults self.new.disk) }
+        ensures stands { OnOk result (IsFoundBooted (D.held self.old.disk) self.old.state.places self.new.state.records) }
+        ensures refuses { RefusesRestore D.Disk true result self.old self.new }
         ensures keeps { Keeps D.Disk NoEntry self.old self.new }
     {
         self.read_again(true)
@@ -63,16 +47,10 @@ impl<M: Mechanism, D: Disk> Guard<M, D> {
 
     // A restore, and a reboot where it rebases.
     fn read_again(&mut self, rebases: bool) -> Result<(), BootFault>
-        ensures ok { OnOk result (IsRestoredThen rebases self.old.state self.new.state) }
-        ensures fits { OnOk result (HadRoomThen rebases self.old.state.base (D.held self.old.disk) self.old.state.limits self.old.state.places self.new.state.records) }
-        ensures stands { OnOk result (IsBooted (D.held self.old.disk) self.old.state.places self.new.state.records) }
-        ensures memory { result ≡ Err BootMemory → self.new.state ≡ self.old.state }
-        ensures full { result ≡ Err BootFull → IsUnrestoredThen rebases self.old.state self.new.state }
-        ensures found { result ≡ Err BootFull → IfTold (D.held self.old.disk) (λ all. StandsFor all self.new.state.records) }
-        ensures disk { result ≡ Err BootDisk → IsUnread self.old.state self.new.state ⊎ IsUnbootedThen rebases self.old.state self.new.state }
-        ensures not_journal { IfErr result (λ f. (at : ℕ) → f ≡ NotJournal at → IsUntold D.Disk self.old.disk × IsUnread self.old.state self.new.state) }
-        ensures untold { IfErr result (λ f. (at : ℕ) → f ≡ NotJournal at → self.old.state.disk_told ≡ false) }
-        ensures cause { result ≡ Err BootDisk → Rose (D.faults self.old.disk) (D.faults self.new.disk) }
+        ensures ok { OnOk result (IsRereadBooted rebases self.old.state self.new.state) }
+        ensures fits { OnOk result (HadRoomAgain rebases (D.held self.old.disk) self.old.state self.new.state.records) }
+        ensures stands { OnOk result (IsFoundBooted (D.held self.old.disk) self.old.state.places self.new.state.records) }
+        ensures refuses { RefusesRestore D.Disk rebases result self.old self.new }
         ensures keeps { Keeps D.Disk NoEntry self.old self.new }
     {
         let places = self.mech.survey();

@@ -12,9 +12,10 @@ use Rattle.xfs_disk.specs.Disk.{Only}
 use Rattle.xfs_disk.specs.Moments.{LeavesOnly}
 use Rattle.xfs_disk.specs.declared.disk.Disk.{Ghosts}
 use Rattle.xfs_journal.proofs.Moments.{started}
-use Rattle.xfs_journal.specs.Gate.{IsClosed, IsOpened, IsEither, IsEitherOf}
+use Rattle.xfs_journal.specs.Gate.{HasOpened, IsClosed, IsOpened, IsEither, IsEitherOf}
 use Rattle.xfs_journal.specs.Image.{IsImage, IsRecord, StandsFor, contents, end_of, blocks, framed, magic}
-use Rattle.xfs_journal.specs.JournalView.{IsButForEighth, HasVersion, IsAtRest, IsKept, IsInDoubt, HasPossible, StandsForEither, exceeds}
+use Rattle.xfs_journal.specs.JournalView.{IsButForEighth, HasVersion, IsAtRest, IsKept, IsInDoubt, HasPossible, LeavesWithOrWithout, StandsForEither, exceeds}
+use Rattle.xfs_journal.specs.Outcomes.{WritesAtMost}
 use Rattle.xfs_journal.specs.declared.record.Rec.{Rec}
 use Rattle.xfs_journal.proofs.Told.{on_told, from_told, both_told}
 
@@ -135,7 +136,7 @@ module _ (h h2 : Option (List ℕ)) (images images2 : List ℕ → Type 0) (J : 
   }
 
   pub kept_after : (next : ℕ) → end_of J + length bytes + 1 < 2 ^ 64 → (end + length bytes + 1 < 2 ^ 64 → next ≡ end + length bytes) → next + 1 < 2 ^ 64
-      → IfTold h (λ old. IfTold h2 (λ all. IsOpened (take end old) bytes all × Only all images2)) → IsKept h2 images2 (J ++ r ∷ []) false next
+      → HasOpened h h2 images2 end bytes → IsKept h2 images2 (J ++ r ∷ []) false next
   kept_after next fits next_is small opened = record {
     place = on_told h2 (λ _. next ≡ end_of (J ++ r ∷ [])) (λ c now.
         let was = both_told h h2 told c now in
@@ -156,7 +157,7 @@ module _ (h h2 : Option (List ℕ)) (images images2 : List ℕ → Type 0) (J : 
           record { image = image; durable = only_spares (J ++ r ∷ []) c image images2 o.1 }
 
   -- the eighth byte stands in front of what is written
-  pub version_after : IfTold h (λ old. IfTold h2 (λ all. IsOpened (take end old) bytes all × Only all images2)) → (v : Option ℕ) → HasVersion h v → HasVersion h2 v
+  pub version_after : HasOpened h h2 images2 end bytes → (v : Option ℕ) → HasVersion h v → HasVersion h2 v
   version_after opened v has = on_told h2 (λ all. IfSome v (λ n. slice_get all 7 ≡ Some n)) (λ c now.
       let told_before = both_told h h2 told c now in
       let b = told_before.0 in
@@ -170,6 +171,9 @@ pub stands_at_rest : (h : Option (List ℕ)) (images : List ℕ → Type 0) (J :
 stands_at_rest h images J end kept = on_told h (λ _. (c : List ℕ) → images c → StandsFor c J) (λ b known.
     let rest = from_told h (IsAtRest images J) (kept.at_rest refl) b known in
     (λ c left. inl (spared J b rest.image c (rest.durable c left))))
+
+pub told_image : (h : Option (List ℕ)) (J : List Rec) → IfTold h (λ all. IsImage all J) → IfTold h (λ all. StandsFor all J)
+told_image h J image = on_told h (λ all. StandsFor all J) (λ b known. inl (from_told h (λ all. IsImage all J) image b known))
 
 -- a disk that was read and synced
 pub kept_synced : (h : Option (List ℕ)) (images : List ℕ → Type 0) (J : List Rec) (end : ℕ) → end ≡ end_of J → end + 1 < 2 ^ 64 → AllByRecursion IsRecord J
@@ -190,11 +194,17 @@ passes_is limits base J r end bytes based place are =
     (ap (λ (m : ℕ). m + 1) (sym (front-longer J r end place) ∙ ap (λ (l : List ℕ). end + length l) (sym are)))
 
 -- a journal whose disk was not called
-pub still : {D : Type 0} (g : Ghosts D) (d : D) (h : Option (List ℕ)) (images : List ℕ → Type 0) (J : List Rec) (r : Rec) (shut : Bool) (end : ℕ)
-    → ((c : List ℕ) → g.images_since d (g.moment d) c → images c) → IsKept h images J shut end → shut ≡ false → IfTold h (λ _. LeavesOnly g d d (StandsForEither J r))
-still g d h images J r shut end now kept is_open = on_told h (λ _. LeavesOnly g d d (StandsForEither J r)) (λ b known.
-    let at_rest = stands_at_rest h images J end (subst (λ (s : Bool). IsKept h images J s end) is_open kept) in
-    started g d (StandsForEither J r) (λ c left. inl (from_told h (λ _. (f : List ℕ) → images f → StandsFor f J) at_rest b known c (now c left))))
+pub still : {D : Type 0} (g : Ghosts D) (d : D) (J : List Rec) (r : Rec) (shut : Bool) (end : ℕ)
+    → ((c : List ℕ) → g.images_since d (g.moment d) c → g.images d c) → IsKept (g.held d) (g.images d) J shut end → shut ≡ false → WritesAtMost g d d J r
+still g d J r shut end now kept is_open =
+    let at_rest = stands_at_rest (g.held d) (g.images d) J end (subst (λ (s : Bool). IsKept (g.held d) (g.images d) J s end) is_open kept) in
+    let left : LeavesWithOrWithout g d d J r = on_told (g.held d) (λ _. (c : List ℕ) → g.images d c → StandsForEither J r c) (λ b known c was.
+    inl (from_told (g.held d) (λ _. (f : List ℕ) → g.images d f → StandsFor f J) at_rest b known c was)) in
+    record {
+      any_moment = on_told (g.held d) (λ _. LeavesOnly g d d (StandsForEither J r)) (λ b known.
+          started g d (StandsForEither J r) (λ c was. from_told (g.held d) (λ _. (f : List ℕ) → g.images d f → StandsForEither J r f) left b known c (now c was)));
+      images = left;
+    }
 
 -- a journal whose disk failed
 pub kept_failed : (h h2 : Option (List ℕ)) (images images2 : List ℕ → Type 0) (J : List Rec) (shut : Bool) (end : ℕ) → is_some h2 ≡ is_some h → IsKept h images J shut end → IsKept h2 images2 J true end

@@ -6,7 +6,7 @@ use Rattle.std.specs.Prelude.{Bool, IfSome, slice_get}
 use Rattle.std.specs.declared.option.Option.{Option}
 use Rattle.xfs_base.specs.Causes.{IfTold}
 use Rattle.xfs_journal.specs.Image.{IsImage, IsRecord, end_of}
-use Rattle.xfs_journal.specs.Holding.{joined}
+use Rattle.xfs_journal.specs.Holding.{with_front}
 use Rattle.xfs_journal.specs.Journal.{base_of}
 use Rattle.xfs_journal.specs.JournalView.{HasVersion, IsAtRest, IsKept, IsInDoubt, IsMeasured, IsPossible, HasPossible}
 use Rattle.xfs_disk.specs.declared.disk.Disk.{Ghosts}
@@ -99,7 +99,7 @@ some_list h h2 J d same possible = on_told h2 (λ all. (K : List Rec) × IsImage
 
 -- the front of the kept list, and behind the base what was read
 module _ (kept : List Rec) (d : Option Rec) (base : ℕ) (le : base ≤ length kept) where
-  pub joined_possible : (found : List Rec) → IsPossible (drop base kept) d (drop base found) → IsPossible kept d (joined base kept found)
+  pub joined_possible : (found : List Rec) → IsPossible (drop base kept) d (drop base found) → IsPossible kept d (with_front base kept found)
   joined_possible found (inl is) = inl (ap (λ (l : List Rec). take base kept ++ l) is ∙ take-append-drop base kept)
   joined_possible found (inr (r, told, is)) = inr (
     r,
@@ -108,7 +108,7 @@ module _ (kept : List Rec) (d : Option Rec) (base : ℕ) (le : base ≤ length k
   )
 
   -- where a possible list was read, that is it
-  pub joined_same : (found : List Rec) → IsPossible kept d found → joined base kept found ≡ found
+  pub joined_same : (found : List Rec) → IsPossible kept d found → with_front base kept found ≡ found
   joined_same found (inl is) = ap (λ (l : List Rec). take base l ++ drop base found) (sym is) ∙ take-append-drop base found
   joined_same found (inr (r, told, is)) =
       ap (λ (l : List Rec). l ++ drop base found) (sym (ap (λ (l : List Rec). take base l) is ∙ take-append-le base kept (r ∷ []) le)) ∙ take-append-drop base found
@@ -130,27 +130,27 @@ module _ (h h2 : Option (List ℕ)) (images : List ℕ → Type 0) (kept found :
       let has = from_told h (λ all. HasPossible kept d all) possible all known in
       subst (λ (L : List Rec). IsPossible kept d L) (at_most_one all has.0 found has.2 (from_told h (λ all. IsImage all found) image all known)) has.1
 
-  pub told_joined : (all : List ℕ) → h ≡ Some all → joined base kept found ≡ found
+  pub told_joined : (all : List ℕ) → h ≡ Some all → with_front base kept found ≡ found
   told_joined all known = joined_same kept d base le found (told_possible all known)
 
-  pub image_joined : IfTold h (λ all. IsImage all (joined base kept found))
-  image_joined = on_told h (λ all. IsImage all (joined base kept found)) (λ all known.
+  pub image_joined : IfTold h (λ all. IsImage all (with_front base kept found))
+  image_joined = on_told h (λ all. IsImage all (with_front base kept found)) (λ all known.
       subst (λ (l : List Rec). IsImage all l) (sym (told_joined all known)) (from_told h (λ all. IsImage all found) image all known))
 
-  pub kept_joined : (end : ℕ) → is_some h2 ≡ is_some h → AllByRecursion IsRecord (joined base kept found) → IsKept h2 images found false end → IsKept h2 images (joined base kept found) false end
+  pub kept_joined : (end : ℕ) → is_some h2 ≡ is_some h → AllByRecursion IsRecord (with_front base kept found) → IsKept h2 images found false end → IsKept h2 images (with_front base kept found) false end
   kept_joined end told all is = record {
-    place = on_told h2 (λ _. end ≡ end_of (joined base kept found)) (λ b now.
+    place = on_told h2 (λ _. end ≡ end_of (with_front base kept found)) (λ b now.
         let was = both_told h h2 told b now in
         from_told h2 (λ _. end ≡ end_of found) is.place b now ∙ ap end_of (sym (told_joined was.0 was.1)));
     small = is.small;
     of_table = all;
-    at_rest = λ s. on_told h2 (IsAtRest images (joined base kept found)) (λ b now.
+    at_rest = λ s. on_told h2 (IsAtRest images (with_front base kept found)) (λ b now.
         let was = both_told h h2 told b now in
         subst (λ (l : List Rec). IsAtRest images l b) (sym (told_joined was.0 was.1)) (from_told h2 (IsAtRest images found) (is.at_rest s) b now));
   }
 
 -- how long the list is then
-pub joined_long : (kept found : List Rec) (base : ℕ) → base ≤ length kept → base ≤ length found → length (joined base kept found) ≡ length found
+pub joined_long : (kept found : List Rec) (base : ℕ) → base ≤ length kept → base ≤ length found → length (with_front base kept found) ≡ length found
 joined_long kept found base le long = omega (arith, length-append (take base kept) (drop base found), length-take-le base kept le, length-drop base found, long)
 
 -- where it ends then

@@ -8,7 +8,7 @@ use Rattle.xfs_base.specs.declared.counts.Places.{Places}
 use Rattle.xfs_journal.specs.declared.record.Rec.{Rec}
 use Rattle.xfs_journal.specs.declared.record.Rec.TheVariants.{Issue, Clear, Expire, Boot, Start, Bind, Order, Done, Load}
 
--- so many numbers of 4 bytes
+-- this many numbers of 4 bytes
 abbrev pub numbers : ℕ → List ℕ → List ℕ
 numbers zero bs = []
 numbers (suc n) bs = from_be_bytes w32 bs ∷ numbers n (drop 4 bs)

@@ -1,6 +1,8 @@
 -- A gate byte behind a prefix of a file, and what is written behind it before it is opened.
 use Rattle.std.specs.Prelude.{◌≡◌, ◌≢◌, ◌⊎◌, ℕ, List, ◌∷◌, ◌++◌, take}
-use Rattle.xfs_disk.specs.Disk.{Torn}
+use Rattle.std.specs.declared.option.Option.{Option}
+use Rattle.xfs_base.specs.Causes.{IfTold}
+use Rattle.xfs_disk.specs.Disk.{Only, Torn}
 
 -- a prefix, a gate byte that isn't open, and anything
 abbrev pub IsClosed : List ℕ → List ℕ → Type 0
@@ -9,6 +11,10 @@ IsClosed prefix c = (gate : ℕ) × (rest : List ℕ) × (gate ≢ 1) × (c ≡ 
 -- a prefix, an open gate byte, these bytes, and anything
 abbrev pub IsOpened : List ℕ → List ℕ → List ℕ → Type 0
 IsOpened prefix bytes c = (rest : List ℕ) × (c ≡ prefix ++ 1 ∷ (bytes ++ rest))
+
+-- a disk that told and tells has these bytes behind its gate, which is open, and a crash leaves that
+abbrev pub HasOpened : Option (List ℕ) → Option (List ℕ) → (List ℕ → Type 0) → ℕ → List ℕ → Type 0
+HasOpened before now images gate bytes = IfTold before (λ old. IfTold now (λ all. IsOpened (take gate old) bytes all × Only all images))
 
 -- the bytes stand behind the gate, or don't
 abbrev pub IsEither : List ℕ → List ℕ → List ℕ → Type 0

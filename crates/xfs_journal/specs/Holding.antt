@@ -12,5 +12,5 @@ IsHeld SinceBoot r = r.base ≡ base_of r.all
 IsHeld (Behind count) r = r.base ≡ min count (length r.all)
 
 -- the front of one list, and behind it what another has there
-abbrev pub joined : ℕ → List Rec → List Rec → List Rec
-joined base kept found = take base kept ++ drop base found
+abbrev pub with_front : ℕ → List Rec → List Rec → List Rec
+with_front base kept found = take base kept ++ drop base found

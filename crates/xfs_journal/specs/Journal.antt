@@ -122,7 +122,7 @@ binding_of records p = (fold (finding_after p) (record { read = nothing_read; bi
 abbrev pub token_of : List Rec → ℕ → Option (List ℕ)
 token_of records p = option_map (λ (b : Binding). b.token) (binding_of records p)
 
--- the number of the record that bound it
+-- the number of the first Bind while the issue at p lived
 abbrev pub bind_of : List Rec → ℕ → Option ℕ
 bind_of records p = option_map (λ (b : Binding). b.number) (binding_of records p)
 

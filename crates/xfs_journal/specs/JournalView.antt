@@ -68,7 +68,11 @@ StandsForEither records r bytes = StandsFor bytes records ⊎ StandsFor bytes (r
 abbrev pub IsPossible : List Rec → Option Rec → List Rec → Type 0
 IsPossible kept in_doubt records = (records ≡ kept) ⊎ ((r : Rec) × (in_doubt ≡ Some r) × (records ≡ kept ++ r ∷ []))
 
--- the bytes are those of such a list
+-- behind the base, a list is one that the disk may have
+abbrev pub IsPossibleBehind : ℕ → List Rec → Option Rec → List Rec → Type 0
+IsPossibleBehind base kept in_doubt found = IsPossible (drop base kept) in_doubt (drop base found)
+
+-- the bytes are the image of a possible list
 abbrev pub HasPossible : List Rec → Option Rec → List ℕ → Type 0
 HasPossible kept in_doubt bytes = (records : List Rec) × IsPossible kept in_doubt records × IsImage bytes records
 
@@ -115,7 +119,7 @@ DiffersAt base kept in_doubt records at = (n : ℕ) × PartsAt (drop base kept) 
 -- behind the base some list that was found is none of the possible ones and parts from them there, or some bytes cease to be a journal there
 abbrev pub MayPartAt : ℕ → List Rec → Option Rec → ℕ → Type 0
 MayPartAt base kept in_doubt at =
-    ((found : List Rec) × ¬ IsPossible (drop base kept) in_doubt (drop base found) × DiffersAt base kept in_doubt found at) ⊎ MayCease at
+    ((found : List Rec) × ¬ IsPossibleBehind base kept in_doubt found × DiffersAt base kept in_doubt found at) ⊎ MayCease at
 
 -- Where the list ends, and where it would end with the record in doubt; its base is at most where its last boot record stands.
 pub record IsMeasured (records : List Rec) (base : ℕ) (in_doubt : Option Rec) (end far : ℕ) : Type 0 where

@@ -4,6 +4,7 @@ pub mod Holding
 pub mod Image
 pub mod Journal
 pub mod JournalView
+pub mod Outcomes
 pub mod Paging
 pub mod RecentView
 pub mod Recents

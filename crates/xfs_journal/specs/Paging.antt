@@ -59,11 +59,11 @@ IsShut bytes = (gate : ℕ) × (rest : List ℕ) × (gate ≢ 1) × (bytes ≡ g
 abbrev pub IsBroken : List ℕ → Type 0
 IsBroken bytes = (bytes ≡ []) ⊎ ((rest : List ℕ) × (bytes ≡ 1 ∷ rest) × ((r : Rec) → IsRecord r → (more : List ℕ) → rest ≢ framed r ++ more))
 
--- where it is no journal, it is none from this place on, from which the disk has something broken
+-- a refusal as no journal names this place, from which the disk has something broken
 abbrev pub BreaksAt : Option (List ℕ) → ℕ → MountFault → Type 0
 BreaksAt held gate fault = (at : ℕ) → fault ≡ NotJournal at → (at ≡ gate) × IfTold held (λ all. IsBroken (drop gate all))
 
--- where it is no journal, it is none from this place on, from which the disk has fewer bytes than so many
+-- a refusal as no journal names this place, from which the disk has fewer bytes than so many
 abbrev pub EndsAt : Option (List ℕ) → ℕ → ℕ → MountFault → Type 0
 EndsAt held gate count fault = (at : ℕ) → fault ≡ NotJournal at → (at ≡ gate) × IfTold held (λ all. length (drop gate all) < count)
 
@@ -87,3 +87,11 @@ MayCease at = (bytes : List ℕ) × CeasesAt bytes at
 -- one of the images before, or at most 9 bytes where the file had no more
 abbrev pub IsOldOrShort : (List ℕ → Type 0) → List ℕ → List ℕ → Type 0
 IsOldOrShort images all c = images c ⊎ ((length all ≤ 9) × (length c ≤ 9))
+
+-- at any moment a crash leaves an image of before, or at most 9 bytes where a disk that told had no more
+abbrev pub LeavesOldOrShort : {D : Type 0} → Ghosts D → D → D → Type 0
+LeavesOldOrShort g old new = IfTold (g.held old) (λ all. LeavesOnly g old new (IsOldOrShort (g.images old) all))
+
+-- a disk that tells has more than 9 bytes, and they cease to be a journal there
+abbrev pub CeasesLongAt : Option (List ℕ) → ℕ → Type 0
+CeasesLongAt held at = IfTold held (λ all. (9 < length all) × CeasesAt all at)

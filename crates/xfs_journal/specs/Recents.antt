@@ -10,7 +10,7 @@ abbrev pub front_of : ℕ → Past → List Rec
 front_of base Nothing = []
 front_of base (Was s) = take base s.value.all
 
--- the list was another then, with a lower base
+-- what the list was before has a lower base
 abbrev pub IsBefore : ℕ → Past → Type 0
 IsBefore base Nothing = ⊤
 IsBefore base (Was s) = s.value.base < base

@@ -1,10 +1,10 @@
 //! Reading what stands at a gate byte: a record behind it, or the end of the list.
-ghost use Rattle.std.specs.Prelude.{◌≡◌, ◌≢◌, ◌+◌, ◌<◌, ◌≤◌, ◌^◌, true, false, None, List, ℕ, [], ◌∷◌, ◌++◌, length, drop, slice_index, vec_capacity, IfOk, IfErr, OnOk, IfSome};
+ghost use Rattle.std.specs.Prelude.{◌≡◌, ◌+◌, ◌<◌, ◌≤◌, ◌^◌, true, false, None, ◌∷◌, length, drop, slice_index, vec_capacity, IfOk, IfErr, OnOk, IfSome};
 ghost use Rattle.xfs_base.specs.Causes.{IfTold, Rose};
 ghost use Rattle.xfs_journal.specs.declared.body.TheConstants.{MOST};
 ghost use Rattle.xfs_journal.specs.Image.{IsRecord, framed};
-ghost use Rattle.xfs_journal.specs.Paging.{Shows, Since, Took, IsQuiet, IsShut, BreaksAt, EndsAt, Passes, size_in};
-ghost use Rattle.xfs_journal.specs.declared.faults.MountFault.TheVariants.{NotJournal, Disk as DiskFault, Memory as NoMemory};
+ghost use Rattle.xfs_journal.specs.Paging.{Shows, Since, IsQuiet, IsShut, BreaksAt, EndsAt, Passes, size_in};
+ghost use Rattle.xfs_journal.specs.declared.faults.MountFault.TheVariants.{NotJournal, Disk as DiskFault};
 
 use crate::page::{Page, read_on};
 use crate::read::read_with;

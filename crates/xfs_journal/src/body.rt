@@ -1,6 +1,6 @@
 //! The bytes of one record. The buffer they are put into has its room, so no call here takes memory.
-ghost use Rattle.std.specs.Prelude.{◌≡◌, ◌<◌, ◌≤◌, ◌+◌, ◌^◌, ◌++◌, [], ◌∷◌, length, vec_len, vec_capacity};
-ghost use Rattle.std.specs.Int.{to_be_bytes, w16, w32, w64};
+ghost use Rattle.std.specs.Prelude.{◌≡◌, ◌<◌, ◌≤◌, ◌+◌, ◌^◌, ◌++◌, [], ◌∷◌, length, vec_capacity};
+ghost use Rattle.std.specs.Int.{to_be_bytes, w32, w64};
 ghost use Rattle.xfs_journal.specs.declared.body.TheConstants.{MOST};
 ghost use Rattle.xfs_journal.specs.Image.{body, counts_bytes, places_bytes, kind_byte, framed, AreCounts, IsRecord, HasUnit};
 

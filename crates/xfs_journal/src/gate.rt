@@ -5,8 +5,9 @@ ghost use Rattle.xfs_base.specs.Causes.{HasCause, IfTold};
 ghost use Rattle.xfs_disk.specs.Disk.{overlaid, Torn, ImagesFollow, Only};
 ghost use Rattle.xfs_disk.specs.Moments.{LeavesOnly};
 ghost use Rattle.xfs_journal.specs.Image.{IsRecord, end_of, framed};
-ghost use Rattle.xfs_journal.specs.JournalView.{HasVersion, IsKept, IsInDoubt, LeavesWithOrWithout, LeavesList, StandsForEither};
-ghost use Rattle.xfs_journal.specs.Gate.{IsClosed, IsOpened, IsEitherOf, MayBecome};
+ghost use Rattle.xfs_journal.specs.JournalView.{HasVersion, IsKept, IsInDoubt, LeavesList};
+ghost use Rattle.xfs_journal.specs.Outcomes.{WritesAtMost};
+ghost use Rattle.xfs_journal.specs.Gate.{HasOpened, IsClosed, IsEitherOf, MayBecome};
 
 use crate::Rec;
 use crate::recent::Recent;
@@ -32,8 +33,7 @@ pub(crate) fn write_behind<D: Disk>(disk: &mut D, gate: u64, bytes: &[u8]) -> Re
     requires small { gate + 1 < 2 ^ 64 }
     requires closed { IfTold (D.held disk.old) (λ all. (gate < length all) × IsClosed (take gate all) all) }
     requires images { IfTold (D.held disk.old) (λ _. (d : List ℕ) → D.images disk.old d → (gate < length d) × IsClosed (take gate d) d) }
-    ensures ok { OnOk result (IfTold (D.held disk.old) (λ old.
-        IfTold (D.held disk.new) (λ all. IsOpened (take gate old) bytes.now all × Only all (D.images disk.new)))) }
+    ensures ok { OnOk result (HasOpened (D.held disk.old) (D.held disk.new) (D.images disk.new) gate bytes.now) }
     ensures told { is_some (D.held disk.new) ≡ is_some (D.held disk.old) }
     ensures any_moment { IfTold (D.held disk.old) (λ _. LeavesOnly D.Disk disk.old disk.new (IsEitherOf (D.images disk.old) gate bytes.now)) }
     ensures images { IfTold (D.held disk.old) (λ _. (c : _) → D.images disk.new c → IsEitherOf (D.images disk.old) gate bytes.now c) }
@@ -71,8 +71,7 @@ pub(crate) fn write_record<D: Disk>(
     ensures ok { OnOk result (IsKept (D.held disk.new) (D.images disk.new) (recent.now.all ++ rec.now ∷ []) false next) }
     ensures version { OnOk result ((v : Option ℕ) → HasVersion (D.held disk.old) v → HasVersion (D.held disk.new) v) }
     ensures told { is_some (D.held disk.new) ≡ is_some (D.held disk.old) }
-    ensures any_moment { IfTold (D.held disk.old) (λ _. LeavesOnly D.Disk disk.old disk.new (StandsForEither recent.now.all rec.now)) }
-    ensures images { LeavesWithOrWithout D.Disk disk.old disk.new recent.now.all rec.now }
+    ensures crashes { WritesAtMost D.Disk disk.old disk.new recent.now.all rec.now }
     ensures in_doubt { IsInDoubt (D.held disk.new) (D.images disk.new) recent.now.all true (Some rec.now) }
     ensures none_in_doubt { OnOk result (IsInDoubt (D.held disk.new) (D.images disk.new) (recent.now.all ++ rec.now ∷ []) false None) }
     ensures acknowledged { OnOk result (LeavesList D.Disk disk.new (recent.now.all ++ rec.now ∷ [])) }

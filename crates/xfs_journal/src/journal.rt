@@ -1,13 +1,13 @@
 //! The journal on a disk: a list of records, each on the disk before it counts.
-ghost use Rattle.std.specs.Prelude.{MatchResult, ◌≡◌, ◌≢◌, ◌⊎◌, ◌↔◌, ℕ, List, ◌+◌, ◌-◌, ◌≤◌, ◌<◌, ◌||◌, nat_lt, [], ◌∷◌, ◌++◌, is_some, length, drop, take, ◌^◌, slice_get, true, false, Some, None, Err, IfOk, IfErr, OnOk, OnErr, IfSome, vec_capacity};
+ghost use Rattle.std.specs.Prelude.{MatchResult, ◌≡◌, ◌≢◌, ◌⊎◌, ◌↔◌, ℕ, ◌+◌, ◌-◌, ◌≤◌, ◌<◌, ◌||◌, nat_lt, [], ◌∷◌, ◌++◌, length, drop, take, ◌^◌, slice_get, true, false, Some, None, Err, IfOk, IfErr, OnOk, IfSome, vec_capacity};
 ghost use Rattle.xfs_base.specs.Causes.{IfTold, Rose};
-ghost use Rattle.xfs_disk.specs.Moments.{LeavesOnly};
 ghost use Rattle.xfs_journal.specs.declared.body.TheConstants.{MOST};
-ghost use Rattle.xfs_journal.specs.Image.{HasUnit, StandsFor, framed, end_of, size, IsRecord};
+ghost use Rattle.xfs_journal.specs.Image.{HasUnit, framed, end_of, size, IsRecord};
 ghost use Rattle.xfs_journal.specs.Journal.{base_of, issues_in};
-ghost use Rattle.xfs_journal.specs.JournalView.{exceeds, refusal, stops, IsCarriedOver, IsNoJournal, IsPossible, LeavesWithOrWithout, LeavesList, LeavesOneOf, StandsForEither, MayPartAt, IsButForEighth, IsRenewed, HasVersion};
+ghost use Rattle.xfs_journal.specs.JournalView.{exceeds, refusal, stops, IsNoJournal, LeavesOneOf, HasVersion};
+ghost use Rattle.xfs_journal.specs.Outcomes.{DiskGoesOn, IsAppended, IsLeftUnread, IsMigrated, IsMounted, IsNotAppended, IsReread, KeepsJournal, SparesList, WritesAtMost};
 ghost use Rattle.xfs_journal.specs.declared.faults.AppendFault.TheVariants.{Disk as DiskFault, Memory as NoMemory};
-ghost use Rattle.xfs_journal.specs.Paging.{CeasesAt, IsOldOrShort, IsQuiet};
+ghost use Rattle.xfs_journal.specs.Paging.{LeavesOldOrShort, IsQuiet};
 ghost use Rattle.xfs_journal.specs.declared.faults.MigrateFault.TheVariants.{Disk as MigrateDisk, Shut as IsShut};
 ghost use Rattle.xfs_journal.specs.declared.faults.MountFault.TheVariants.{NotJournal, Disk as MountDisk, Memory as MountMemory};
 ghost use Rattle.xfs_journal.specs.declared.record.Rec.{Rec};
@@ -76,29 +76,19 @@ impl<D: Disk> Journal<D> {
     /// Syncs the disk and reads its journal, of any version. At most 9 bytes that are no journal are made an empty one; a longer file
     /// is not written, and the disk is handed back with what hindered it.
     pub fn mount(alloc: Global, disk: D, limits: Limits) -> Result<Journal<D>, MountFail<D>>
-        ensures ok { IfOk result (λ j. IfTold (D.held disk) (λ all. StandsFor all j.records)) }
+        ensures ok { IfOk result (IsMounted D.Disk disk limits) }
         ensures not_journal { IfErr result (λ f. (at : ℕ) → f.why ≡ NotJournal at → IsNoJournal (D.held disk) at) }
         ensures disk { IfErr result (λ f. f.why ≡ MountDisk → Rose (D.faults disk) (D.faults f.disk)) }
-        ensures base { IfOk result (λ j. j.base ≡ base_of j.records) }
-        ensures shut { IfOk result (λ j. j.shut ≡ false) }
-        ensures limits { IfOk result (λ j. j.limits ≡ limits) }
-        ensures in_doubt { IfOk result (λ j. j.in_doubt ≡ None) }
         // But after a fault of the disk nothing was written.
         ensures unwritten { IfErr result (λ f. f.why ≢ MountDisk → IsQuiet D.Disk disk f.disk) }
         ensures long { IfTold (D.held disk) (λ all. 9 < length all → MatchResult result
             (λ j. IsQuiet D.Disk disk j.disk)
             (λ f. IsQuiet D.Disk disk f.disk)) }
-        ensures told { MatchResult result
-            (λ j. is_some (D.held j.disk) ≡ is_some (D.held disk))
-            (λ f. is_some (D.held f.disk) ≡ is_some (D.held disk)) }
-        ensures faults { MatchResult result (λ j. D.faults disk ≤ D.faults j.disk) (λ f. D.faults disk ≤ D.faults f.disk) }
+        ensures goes_on { MatchResult result (λ j. DiskGoesOn D.Disk disk j.disk) (λ f. DiskGoesOn D.Disk disk f.disk) }
 
         // A crash at any moment of the call leaves what it might have left before, or at most 9 bytes where the file
-        // had no more; after `Ok` it leaves the list.
-        ensures any_moment { IfTold (D.held disk) (λ all. MatchResult result
-            (λ j. LeavesOnly D.Disk disk j.disk (IsOldOrShort (D.images disk) all))
-            (λ f. LeavesOnly D.Disk disk f.disk (IsOldOrShort (D.images disk) all))) }
-        ensures acknowledged { IfOk result (λ j. LeavesList D.Disk j.disk j.records) }
+        // had no more.
+        ensures any_moment { MatchResult result (λ j. LeavesOldOrShort D.Disk disk j.disk) (λ f. LeavesOldOrShort D.Disk disk f.disk) }
     {
         let mut disk = disk;
         let Ok(mut buffer) = Vec::with_capacity(alloc, MOST) else {
@@ -210,26 +200,14 @@ impl<D: Disk> Journal<D> {
     /// whose append last answered `Disk`, and the next append doesn't want memory. After `Disk` and `NotJournal` the
     /// journal is shut.
     pub fn remount(&mut self) -> Result<(), MountFault>
-        ensures ok { OnOk result (IsPossible self.old.records self.old.in_doubt self.new.records) }
-        ensures opened { OnOk result ((self.new.shut ≡ false) × (self.new.in_doubt ≡ None)) }
-        ensures reserved { OnOk result (1 ≤ self.new.room) }
-        ensures err { OnErr result (self.new ≡ record self.old { disk = self.new.disk; shut = self.new.shut }) }
-        ensures memory { IfErr result (λ f. f ≡ MountMemory → self.new.shut ≡ self.old.shut) }
-        ensures shut { IfErr result (λ f. f ≢ MountMemory → self.new.shut ≡ true) }
-        ensures base { self.new.base ≡ self.old.base }
-        ensures limits { self.new.limits ≡ self.old.limits }
-        ensures disk { IfErr result (λ f. f ≡ MountDisk → Rose (D.faults self.old.disk) (D.faults self.new.disk)) }
-        ensures faults { D.faults self.old.disk ≤ D.faults self.new.disk }
-        ensures told { is_some (D.held self.new.disk) ≡ is_some (D.held self.old.disk) }
+        ensures ok { OnOk result (IsReread D.Disk self.old self.new) }
+        ensures err { IfErr result (IsLeftUnread D.Disk self.old self.new) }
+        ensures keeps { KeepsJournal D.Disk self.old self.new }
 
         // A disk that tells has one of the two lists, so it isn't refused as no journal, nor written: a crash at any
-        // moment of the call leaves what it might have left before, and after `Ok` the list.
+        // moment of the call leaves what it might have left before.
         ensures possible { LeavesOneOf D.Disk self.old.disk self.old.records self.old.in_doubt }
-        ensures stands { OnOk result (IfTold (D.held self.old.disk) (λ all. StandsFor all self.new.records)) }
-        ensures not_journal { IfErr result (λ f. (at : ℕ) → f ≡ NotJournal at → D.held self.old.disk ≡ None) }
-        ensures place { IfErr result (λ f. (at : ℕ) → f ≡ NotJournal at → MayPartAt self.old.base self.old.records self.old.in_doubt at) }
         ensures any_moment { IfTold (D.held self.old.disk) (λ _. IsQuiet D.Disk self.old.disk self.new.disk) }
-        ensures acknowledged { OnOk result (LeavesList D.Disk self.new.disk self.new.records) }
     {
         match reload(
             self.alloc,
@@ -267,20 +245,12 @@ impl<D: Disk> Journal<D> {
         ensures cause { IfErr result (λ f. f ≡ MigrateDisk → Rose (D.faults self.old.disk) (D.faults self.new.disk)) }
 
         // Over a disk that tells, by its eighth byte: a 1 becomes a 2 that a crash leaves; else nothing is written.
-        ensures renewed { OnOk result (IsRenewed D.Disk self.old.disk self.new.disk) }
+        ensures ok { OnOk result (IsMigrated D.Disk self.old self.new) }
         ensures quiet { IfTold (D.held self.old.disk) (λ all. slice_get all 7 ≢ Some 0x31 → IsQuiet D.Disk self.old.disk self.new.disk) }
         ensures untouched { self.old.shut ≡ true → self.new ≡ self.old }
         ensures same { self.new ≡ record self.old { disk = self.new.disk } }
-        ensures told { is_some (D.held self.new.disk) ≡ is_some (D.held self.old.disk) }
-        ensures faults { D.faults self.old.disk ≤ D.faults self.new.disk }
-
-        // A crash at any moment of the call leaves the bytes, but for the eighth, so it leaves the list.
-        ensures any_moment { self.old.shut ≡ false → IfTold (D.held self.old.disk) (λ _. LeavesOnly D.Disk self.old.disk self.new.disk
-            (λ c. StandsFor c self.old.records)) }
-        ensures spares { self.old.shut ≡ false → IfTold (D.held self.old.disk) (λ all. LeavesOnly D.Disk self.old.disk self.new.disk
-            (IsButForEighth all)) }
-        ensures acknowledged { OnOk result (LeavesList D.Disk self.new.disk self.new.records) }
-        ensures carried { OnOk result (IsCarriedOver (D.held self.new.disk)) }
+        ensures goes_on { DiskGoesOn D.Disk self.old.disk self.new.disk }
+        ensures crashes { self.old.shut ≡ false → SparesList D.Disk self.old.disk self.new.disk self.old.records }
     {
         if self.shut {
             return Err(MigrateFault::Shut);
@@ -305,29 +275,12 @@ impl<D: Disk> Journal<D> {
         // In this order: `Shut`, `Full`, `Memory`, `Disk`.
         ensures refused { IfSome (refusal self.old rec) (λ f. result ≡ Err f) }
         ensures only { IfErr result (λ f. (refusal self.old rec ≡ Some f) ⊎ ((f ≡ NoMemory) ⊎ (f ≡ DiskFault))) }
-        ensures disk { IfErr result (λ f. f ≡ DiskFault → (self.new.shut ≡ true) × Rose (D.faults self.old.disk) (D.faults self.new.disk)) }
-        ensures reserved { 1 ≤ self.old.room → IfErr result (λ f. f ≢ NoMemory) }
 
-        ensures number { IfOk result (λ n. n ≡ length self.old.records + 1) }
-        ensures ok { OnOk result ((self.new.records ≡ self.old.records ++ rec ∷ []) × (self.new.shut ≡ false)) }
-        ensures err { OnErr result (self.new.records ≡ self.old.records) }
-        ensures same { IfErr result (λ f. f ≢ DiskFault → (self.new.disk ≡ self.old.disk) × (self.new.shut ≡ self.old.shut)) }
-        ensures in_doubt { IfErr result (λ f. f ≡ DiskFault → self.new.in_doubt ≡ Some rec) }
-        ensures none_in_doubt { OnOk result (self.new.in_doubt ≡ None) }
-        ensures same_in_doubt { IfErr result (λ f. f ≢ DiskFault → self.new.in_doubt ≡ self.old.in_doubt) }
-        ensures base { self.new.base ≡ self.old.base }
-        ensures limits { self.new.limits ≡ self.old.limits }
+        ensures ok { IfOk result (IsAppended D.Disk self.old self.new rec) }
+        ensures err { IfErr result (IsNotAppended D.Disk self.old self.new rec) }
+        ensures keeps { KeepsJournal D.Disk self.old self.new }
         ensures room { self.old.room ≤ self.new.room + 1 }
-        ensures faults { D.faults self.old.disk ≤ D.faults self.new.disk }
-        ensures told { is_some (D.held self.new.disk) ≡ is_some (D.held self.old.disk) }
-
-        // A crash at any moment of the call leaves the list with the record or without it, and after `Ok` with it.
-        ensures any_moment { self.old.shut ≡ false → IfTold (D.held self.old.disk) (λ _. LeavesOnly D.Disk self.old.disk self.new.disk
-            (StandsForEither self.old.records rec)) }
-        ensures images { self.old.shut ≡ false → LeavesWithOrWithout D.Disk self.old.disk self.new.disk self.old.records rec }
-        ensures acknowledged { OnOk result (LeavesList D.Disk self.new.disk self.new.records) }
-        ensures version { OnOk result ((v : ℕ) → HasVersion (D.held self.old.disk) (Some v) → HasVersion (D.held self.new.disk) (Some v)) }
-        ensures carried { OnOk result (IsCarriedOver (D.held self.old.disk) → IsCarriedOver (D.held self.new.disk)) }
+        ensures crashes { self.old.shut ≡ false → WritesAtMost D.Disk self.old.disk self.new.disk self.old.records rec }
     {
         prepare(
             self.shut,

@@ -1,10 +1,9 @@
 //! Carrying a file of version 1 over to version 2, by its eighth byte.
-ghost use Rattle.std.specs.Prelude.{◌≡◌, ◌≢◌, ◌<◌, ◌≤◌, List, [], ◌∷◌, false, None, Some, is_some, option_map, length, slice_get, IfOk, OnOk};
+ghost use Rattle.std.specs.Prelude.{◌≡◌, ◌≢◌, ◌<◌, [], ◌∷◌, false, None, Some, is_some, option_map, length, slice_get, IfOk, OnOk};
 ghost use Rattle.xfs_base.specs.Causes.{HasCause, IfTold};
 ghost use Rattle.xfs_disk.specs.Disk.{overlaid, Only};
-ghost use Rattle.xfs_disk.specs.Moments.{LeavesOnly};
-ghost use Rattle.xfs_journal.specs.Image.{StandsFor};
-ghost use Rattle.xfs_journal.specs.JournalView.{HasVersion, IsButForEighth, IsKept, IsInDoubt, IsRenewed, LeavesList};
+ghost use Rattle.xfs_journal.specs.JournalView.{HasVersion, IsKept, IsInDoubt, IsRenewed, LeavesList};
+ghost use Rattle.xfs_journal.specs.Outcomes.{SparesList};
 ghost use Rattle.xfs_journal.specs.Paging.{IsQuiet};
 
 use crate::gate::write_synced;
@@ -41,8 +40,7 @@ fn renew<D: Disk>(disk: &mut D, recent: &Recent, gate: u64) -> Result<(), Failed
     ensures durable { OnOk result (IfTold (D.held disk.new) (λ all. Only all (D.images disk.new))) }
     ensures version { OnOk result (HasVersion (D.held disk.new) (Some 0x32)) }
     ensures told { is_some (D.held disk.new) ≡ is_some (D.held disk.old) }
-    ensures any_moment { IfTold (D.held disk.old) (λ _. LeavesOnly D.Disk disk.old disk.new (λ c. StandsFor c recent.now.all)) }
-    ensures spares { IfTold (D.held disk.old) (λ all. LeavesOnly D.Disk disk.old disk.new (IsButForEighth all)) }
+    ensures crashes { SparesList D.Disk disk.old disk.new recent.now.all }
     ensures list { LeavesList D.Disk disk.new recent.now.all }
     ensures cause { HasCause (D.faults disk.old) (D.faults disk.new) result }
 {
@@ -65,8 +63,7 @@ pub(crate) fn carry_over<D: Disk>(
     ensures renewed { OnOk result (IsRenewed D.Disk disk.old disk.new) }
     ensures quiet { IfTold (D.held disk.old) (λ all. slice_get all 7 ≢ Some 0x31 → IsQuiet D.Disk disk.old disk.new) }
     ensures told { is_some (D.held disk.new) ≡ is_some (D.held disk.old) }
-    ensures any_moment { IfTold (D.held disk.old) (λ _. LeavesOnly D.Disk disk.old disk.new (λ c. StandsFor c recent.now.all)) }
-    ensures spares { IfTold (D.held disk.old) (λ all. LeavesOnly D.Disk disk.old disk.new (IsButForEighth all)) }
+    ensures crashes { SparesList D.Disk disk.old disk.new recent.now.all }
     ensures list { LeavesList D.Disk disk.new recent.now.all }
     ensures cause { HasCause (D.faults disk.old) (D.faults disk.new) result }
 {

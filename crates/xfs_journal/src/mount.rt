@@ -1,5 +1,5 @@
 //! Reading a disk as a journal, and making an empty one.
-ghost use Rattle.std.specs.Prelude.{◌⊎◌, ◌∷◌, ◌++◌, ◌≡◌, ◌≢◌, ◌<◌, ◌≤◌, ◌+◌, ◌^◌, List, ℕ, [], length, false, is_some, vec_capacity, Some, IfOk, IfErr, OnOk, OnErr};
+ghost use Rattle.std.specs.Prelude.{◌≡◌, ◌≢◌, ◌<◌, ◌≤◌, ◌+◌, ◌^◌, ℕ, [], length, false, is_some, vec_capacity, Some, IfOk, IfErr, OnOk};
 ghost use Rattle.std.specs.List.{AllByRecursion};
 ghost use Rattle.xfs_base.specs.Causes.{IfTold, Rose};
 ghost use Rattle.xfs_disk.specs.Disk.{Only};
@@ -9,8 +9,8 @@ ghost use Rattle.xfs_journal.specs.Holding.{IsHeld};
 ghost use Rattle.xfs_journal.specs.declared.keep.Keep.TheVariants.{SinceBoot};
 ghost use Rattle.xfs_journal.specs.Image.{IsImage, IsRecord, StandsFor, end_of};
 ghost use Rattle.xfs_journal.specs.JournalView.{HasVersion, IsKept};
-ghost use Rattle.xfs_journal.specs.Paging.{IsQuiet, IsOldOrShort, CeasesAt, MayCease};
-ghost use Rattle.xfs_journal.specs.declared.faults.MountFault.TheVariants.{NotJournal, Disk as DiskFault, Memory as NoMemory};
+ghost use Rattle.xfs_journal.specs.Paging.{IsQuiet, LeavesOldOrShort, CeasesAt, CeasesLongAt, MayCease};
+ghost use Rattle.xfs_journal.specs.declared.faults.MountFault.TheVariants.{NotJournal, Disk as DiskFault};
 
 use crate::MountFault;
 use crate::gate::write_synced;
@@ -113,11 +113,11 @@ fn read_or_empty<D: Disk>(
     ensures end { IfOk result (λ l. l.end ≡ end_of l.recent.all) }
     ensures version { IfOk result (λ l. HasVersion (D.held disk.new) (Some l.version)) }
     ensures stands { IfOk result (λ l. IfTold (D.held disk.old) (λ all. StandsFor all l.recent.all)) }
-    ensures refused { IfErr result (λ f. (at : ℕ) → f ≡ NotJournal at → IfTold (D.held disk.old) (λ all. (9 < length all) × CeasesAt all at)) }
+    ensures refused { IfErr result (λ f. (at : ℕ) → f ≡ NotJournal at → CeasesLongAt (D.held disk.old) at) }
     ensures unwritten { IfErr result (λ f. f ≢ DiskFault → IsQuiet D.Disk disk.old disk.new) }
     ensures long { IfTold (D.held disk.old) (λ all. 9 < length all → IsQuiet D.Disk disk.old disk.new) }
     ensures disk { IfErr result (λ f. f ≡ DiskFault → Rose (D.faults disk.old) (D.faults disk.new)) }
-    ensures any_moment { IfTold (D.held disk.old) (λ all. LeavesOnly D.Disk disk.old disk.new (IsOldOrShort (D.images disk.old) all)) }
+    ensures any_moment { LeavesOldOrShort D.Disk disk.old disk.new }
     ensures told { is_some (D.held disk.new) ≡ is_some (D.held disk.old) }
     ensures faults { D.faults disk.old ≤ D.faults disk.new }
     ensures capacity { MOST ≤ vec_capacity block.new }
@@ -140,11 +140,11 @@ pub(crate) fn load<D: Disk>(
     ensures end { IfOk result (λ l. l.end ≡ end_of l.recent.all) }
     ensures version { IfOk result (λ l. HasVersion (D.held disk.new) (Some l.version)) }
     ensures stands { IfOk result (λ l. IfTold (D.held disk.old) (λ all. StandsFor all l.recent.all)) }
-    ensures refused { IfErr result (λ f. (at : ℕ) → f ≡ NotJournal at → IfTold (D.held disk.old) (λ all. (9 < length all) × CeasesAt all at)) }
+    ensures refused { IfErr result (λ f. (at : ℕ) → f ≡ NotJournal at → CeasesLongAt (D.held disk.old) at) }
     ensures unwritten { IfErr result (λ f. f ≢ DiskFault → IsQuiet D.Disk disk.old disk.new) }
     ensures long { IfTold (D.held disk.old) (λ all. 9 < length all → IsQuiet D.Disk disk.old disk.new) }
     ensures disk { IfErr result (λ f. f ≡ DiskFault → Rose (D.faults disk.old) (D.faults disk.new)) }
-    ensures any_moment { IfTold (D.held disk.old) (λ all. LeavesOnly D.Disk disk.old disk.new (IsOldOrShort (D.images disk.old) all)) }
+    ensures any_moment { LeavesOldOrShort D.Disk disk.old disk.new }
     ensures told { is_some (D.held disk.new) ≡ is_some (D.held disk.old) }
     ensures faults { D.faults disk.old ≤ D.faults disk.new }
     ensures capacity { MOST ≤ vec_capacity block.new }

@@ -1,5 +1,5 @@
 //! Reading a disk's bytes in their order, through one page.
-ghost use Rattle.std.specs.Prelude.{◌≡◌, ◌+◌, ◌<◌, ◌≤◌, min, true, false, List, ℕ, [], ◌++◌, length, take, drop, vec_capacity, IfOk, OnOk};
+ghost use Rattle.std.specs.Prelude.{◌≡◌, ◌+◌, ◌<◌, ◌≤◌, min, true, false, [], ◌++◌, length, take, drop, vec_capacity, IfOk, OnOk};
 ghost use Rattle.xfs_base.specs.Causes.{HasCause, IfTold};
 ghost use Rattle.xfs_journal.specs.Paging.{Shows, Took, IsQuiet};
 
@@ -96,13 +96,13 @@ impl Page {
         }
         let count = disk.read(self.at, &mut self.bytes)?;
         self.from = 0;
-        self.to = fitting(count, self.len - self.at);
+        self.to = at_most(count, self.len - self.at);
         Ok(())
     }
 }
 
 // So many, but no more than are left.
-fn fitting(count: usize, left: u64) -> usize
+fn at_most(count: usize, left: u64) -> usize
     ensures { result ≡ min count left }
 {
     if (count as u64) < left {

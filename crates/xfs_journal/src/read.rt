@@ -166,7 +166,7 @@ fn bind(alloc: Global, token: &[u8]) -> Result<Rec, BodyFault>
 }
 
 // What stands behind the letter, if it is a body.
-fn decoded(alloc: Global, letter: u8, rest: &[u8]) -> Result<Rec, BodyFault>
+fn decode_rest(alloc: Global, letter: u8, rest: &[u8]) -> Result<Rec, BodyFault>
     requires size { has_size letter (length rest.now) ≡ true }
     ensures ok { IfOk result (λ r. r ≡ record_in letter rest.now) }
     ensures err { IfErr result (λ f. f ≡ Memory) }
@@ -185,7 +185,7 @@ fn decoded(alloc: Global, letter: u8, rest: &[u8]) -> Result<Rec, BodyFault>
 }
 
 // Decodes a body of its letter's size; a Load's unit is looked at.
-fn sized(alloc: Global, bytes: &[u8]) -> Result<Rec, BodyFault>
+fn decode(alloc: Global, bytes: &[u8]) -> Result<Rec, BodyFault>
     ensures ok { IfOk result (λ r. (r ≡ record_of bytes.now) × HasUnit r) }
     ensures form { IfErr result (λ f. f ≡ Form → (r : Rec) → IsRecord r → body r ≢ bytes.now) }
 {
@@ -195,7 +195,7 @@ fn sized(alloc: Global, bytes: &[u8]) -> Result<Rec, BodyFault>
     if !fits(*letter, rest.len()) {
         return Err(BodyFault::Form);
     }
-    let rec = decoded(alloc, *letter, rest)?;
+    let rec = decode_rest(alloc, *letter, rest)?;
     if has_unit(&rec) {
         Ok(rec)
     } else {
@@ -220,7 +220,7 @@ pub(crate) fn read_with(alloc: Global, bytes: &[u8], buffer: &mut Vec<u8>) -> Re
     ensures form { IfErr result (λ f. f ≡ Form → (r : Rec) → IsRecord r → body r ≢ bytes.now) }
     ensures capacity { vec_capacity buffer.old ≤ vec_capacity buffer.new }
 {
-    let rec = sized(alloc, bytes)?;
+    let rec = decode(alloc, bytes)?;
     buffer.clear();
     put_body(buffer, &rec);
     if buffer.as_slice() == bytes {

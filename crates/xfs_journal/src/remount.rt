@@ -1,14 +1,14 @@
 //! Reading a disk's journal again, and comparing it with the list that was kept.
-ghost use Rattle.std.specs.Prelude.{◌≡◌, ◌≢◌, ◌≤◌, ◌<◌, ◌+◌, ◌^◌, ◌∷◌, ◌++◌, [], List, ℕ, false, None, length, take, drop, min, is_some, vec_len, vec_capacity, Some, IfOk, IfErr, IfSome, OnOk, OnErr};
+ghost use Rattle.std.specs.Prelude.{◌≡◌, ◌≢◌, ◌≤◌, ◌<◌, ◌^◌, List, ℕ, false, None, length, is_some, vec_capacity, Some, IfOk, IfErr, IfSome};
 ghost use Rattle.std.specs.List.{AllByRecursion};
 ghost use Rattle.xfs_base.specs.Causes.{IfTold, Rose};
 ghost use Rattle.xfs_disk.specs.Disk.{Only};
-ghost use Rattle.xfs_journal.specs.Holding.{IsHeld, joined};
+ghost use Rattle.xfs_journal.specs.Holding.{IsHeld, with_front};
 ghost use Rattle.xfs_journal.specs.Journal.{base_of};
 ghost use Rattle.xfs_journal.specs.declared.body.TheConstants.{MOST};
 ghost use Rattle.xfs_journal.specs.declared.keep.Keep.TheVariants.{Behind};
 ghost use Rattle.xfs_journal.specs.Image.{IsImage, IsRecord, end_of};
-ghost use Rattle.xfs_journal.specs.JournalView.{DiffersAt, HasVersion, IsKept, IsPossible, LeavesOneOf, MayPartAt};
+ghost use Rattle.xfs_journal.specs.JournalView.{DiffersAt, HasVersion, IsKept, IsPossible, IsPossibleBehind, LeavesOneOf, MayPartAt};
 ghost use Rattle.xfs_journal.specs.Paging.{IsQuiet, MayCease};
 ghost use Rattle.xfs_journal.specs.declared.faults.MountFault.TheVariants.{NotJournal, Disk as DiskFault};
 ghost use Rattle.xfs_journal.specs.declared.record.Rec.{Rec};
@@ -74,8 +74,8 @@ fn differs_at(
     requires led { kept.now.base ≤ base_of kept.now.all }
     ensures base { result ≡ None → listed.now.recent.base ≡ kept.now.base }
     ensures long { result ≡ None → kept.now.base ≤ length listed.now.recent.all }
-    ensures possible { result ≡ None → IsPossible (drop kept.now.base kept.now.all) in_doubt.now (drop kept.now.base listed.now.recent.all) }
-    ensures other { IfSome result (λ _. ¬ IsPossible (drop kept.now.base kept.now.all) in_doubt.now (drop kept.now.base listed.now.recent.all)) }
+    ensures possible { result ≡ None → IsPossibleBehind kept.now.base kept.now.all in_doubt.now listed.now.recent.all }
+    ensures other { IfSome result (λ _. ¬ IsPossibleBehind kept.now.base kept.now.all in_doubt.now listed.now.recent.all) }
     ensures differs { IfSome result (DiffersAt kept.now.base kept.now.all in_doubt.now listed.now.recent.all) }
     ensures capacity { MOST ≤ vec_capacity first.new }
 {
@@ -106,9 +106,9 @@ fn possible(
     ensures same { IfOk result (λ l. (l.recent.all ≡ listed.recent.all) × (l.end ≡ listed.end) × (l.version ≡ listed.version)) }
     ensures base { IfOk result (λ l. l.recent.base ≡ kept.now.base) }
     ensures long { IfOk result (λ l. kept.now.base ≤ length l.recent.all) }
-    ensures possible { IfOk result (λ l. IsPossible (drop kept.now.base kept.now.all) in_doubt.now (drop kept.now.base l.recent.all)) }
+    ensures possible { IfOk result (λ l. IsPossibleBehind kept.now.base kept.now.all in_doubt.now l.recent.all) }
     ensures reserved { IfOk result (λ l. 1 ≤ l.recent.room) }
-    ensures other { IfErr result (λ f. (at : ℕ) → f ≡ NotJournal at → ¬ IsPossible (drop kept.now.base kept.now.all) in_doubt.now (drop kept.now.base listed.recent.all)) }
+    ensures other { IfErr result (λ f. (at : ℕ) → f ≡ NotJournal at → ¬ IsPossibleBehind kept.now.base kept.now.all in_doubt.now listed.recent.all) }
     ensures differs { IfErr result (λ f. (at : ℕ) → f ≡ NotJournal at → DiffersAt kept.now.base kept.now.all in_doubt.now listed.recent.all at) }
     ensures not_disk { IfErr result (λ f. f ≢ DiskFault) }
     ensures capacity { MOST ≤ vec_capacity block.new }
@@ -140,12 +140,12 @@ pub(crate) fn reload<D: Disk>(
     requires led { kept.now.base ≤ base_of kept.now.all }
     requires possible { LeavesOneOf D.Disk disk.old kept.now.all in_doubt.now }
     ensures base { IfOk result (λ l. l.recent.base ≡ kept.now.base) }
-    ensures kept { IfOk result (λ l. IsKept (D.held disk.new) (D.images disk.new) (joined kept.now.base kept.now.all l.recent.all) false l.end) }
+    ensures kept { IfOk result (λ l. IsKept (D.held disk.new) (D.images disk.new) (with_front kept.now.base kept.now.all l.recent.all) false l.end) }
     ensures version { IfOk result (λ l. HasVersion (D.held disk.new) (Some l.version)) }
-    ensures possible { IfOk result (λ l. IsPossible kept.now.all in_doubt.now (joined kept.now.base kept.now.all l.recent.all)) }
-    ensures long { IfOk result (λ l. length l.recent.all ≡ length (joined kept.now.base kept.now.all l.recent.all)) }
+    ensures possible { IfOk result (λ l. IsPossible kept.now.all in_doubt.now (with_front kept.now.base kept.now.all l.recent.all)) }
+    ensures long { IfOk result (λ l. length l.recent.all ≡ length (with_front kept.now.base kept.now.all l.recent.all)) }
     ensures reserved { IfOk result (λ l. 1 ≤ l.recent.room) }
-    ensures image { IfOk result (λ l. IfTold (D.held disk.old) (λ all. IsImage all (joined kept.now.base kept.now.all l.recent.all))) }
+    ensures image { IfOk result (λ l. IfTold (D.held disk.old) (λ all. IsImage all (with_front kept.now.base kept.now.all l.recent.all))) }
     ensures silent { IfErr result (λ f. (at : ℕ) → f ≡ NotJournal at → D.held disk.old ≡ None) }
     ensures place { IfErr result (λ f. (at : ℕ) → f ≡ NotJournal at → MayPartAt kept.now.base kept.now.all in_doubt.now at) }
     ensures quiet { IfTold (D.held disk.old) (λ _. IsQuiet D.Disk disk.old disk.new) }

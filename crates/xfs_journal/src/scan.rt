@@ -1,5 +1,5 @@
 //! Reading a file of records from its start to the closing gate byte.
-ghost use Rattle.std.specs.Prelude.{◌≡◌, ◌≢◌, ◌+◌, ◌<◌, ◌≤◌, List, ℕ, [], ◌∷◌, ◌++◌, length, take, drop, vec_capacity, Some, IfOk, IfErr, OnOk};
+ghost use Rattle.std.specs.Prelude.{◌≡◌, ◌+◌, ◌<◌, ◌≤◌, ℕ, ◌∷◌, ◌++◌, drop, vec_capacity, Some, IfOk, IfErr, OnOk};
 ghost use Rattle.std.specs.List.{AllByRecursion};
 ghost use Rattle.xfs_base.specs.Causes.{IfTold, Rose};
 ghost use Rattle.xfs_journal.specs.declared.body.TheConstants.{MOST};
@@ -7,7 +7,7 @@ ghost use Rattle.xfs_journal.specs.Holding.{IsHeld};
 ghost use Rattle.xfs_journal.specs.Image.{IsImage, IsRecord, end_of, magic};
 ghost use Rattle.xfs_journal.specs.JournalView.{HasVersion};
 ghost use Rattle.xfs_journal.specs.Paging.{Shows, IsQuiet, CeasesAt, MayCease};
-ghost use Rattle.xfs_journal.specs.declared.faults.MountFault.TheVariants.{NotJournal, Disk as DiskFault, Memory as NoMemory};
+ghost use Rattle.xfs_journal.specs.declared.faults.MountFault.TheVariants.{NotJournal, Disk as DiskFault};
 
 use crate::MountFault;
 use crate::block::{need, read_block};

@@ -1,6 +1,6 @@
 use Rattle.std.proofs.Common.{take, arith}
 use Rattle.std.proofs.lemmas.List.{take_all}
-use Rattle.xfs_evidence.specs.Sums.{IsNext}
+use Rattle.xfs_evidence.specs.Sums.{IsNextCurrency}
 use Rattle.xfs_evidence.proofs.Summing.{next-step}
 use Rattle.xfs_evidence.proofs.currencies.next_currency.Goals as goal
 
@@ -10,5 +10,5 @@ loop-i-preserved c = rw c.nearer-first.ensures (next-step c.kinds-kinds.result.n
 pub returns : goal.returns
 returns c =
     let all = take_all c.loop-i.i c.kinds-kinds.result.now (omega (arith, c.loop-i-test.false)) in
-    let last : IsNext (take c.loop-i.i c.kinds-kinds.result.now) c.args.after.now c.loop-i.first = c.loop-i.invariant in
+    let last : IsNextCurrency (take c.loop-i.i c.kinds-kinds.result.now) c.args.after.now c.loop-i.first = c.loop-i.invariant in
     rw (← c.kinds-kinds.ensures.now) (rw all at last)

@@ -37,7 +37,7 @@ pub returns-in-Some-clause-refused : goal.returns-in-Some-clause-refused
 returns-in-Some-clause-refused c =
     let records = c.args.records.now in
     let some = has-some records (λ e. c.if-place-eq0.false (c.last_issue-place.ensures.place ∙ e)) in
-    let seg = segment-is records c.split_at.result.1.now c.unmarked-segment.result.now c.last_issue-place.result some c.last_issue-place.ensures.place c.split_at.ensures.back c.unmarked-segment.ensures.front in
+    let seg = segment-is records c.split_at.result.1.now c.unmarked_part-segment.result.now c.last_issue-place.result some c.last_issue-place.ensures.place c.split_at.ensures.back c.unmarked_part-segment.ensures.front in
     let number : c.args.base + c.last_issue-place.result + 1 ≡ c.args.base + last_issue records + 1 = ap (λ n. c.args.base + n + 1) c.last_issue-place.ensures.place in
     let found : open_order c.args.base records ≡ Some (c.args.base + c.last_issue-place.result + 1 + c.in-Some.open) =
     sym (c.in-Some.ensures.first (c.args.base + c.last_issue-place.result + 1) ∙ ap₂ first_open number seg) in
@@ -50,11 +50,11 @@ number_of-requires c =
     let some = has-some records (λ e. c.if-place-eq0.false (c.last_issue-place.ensures.place ∙ e)) in
     ap is_issue (here records c.split_at.result.0.now c.last_issue-place.result c.index-front-place.result c.index-front-place.is c.split_at.ensures.front c.last_issue-place.ensures.place) ∙ issue-there records c.index-front-place.result some
 
-pub presented-requires-clause-small : goal.presented-requires-clause-small
-presented-requires-clause-small c =
+pub amounts_presented-requires-clause-small : goal.amounts_presented-requires-clause-small
+amounts_presented-requires-clause-small c =
     let records = c.args.records.now in
     let some = has-some records (λ e. c.if-place-eq0.false (c.last_issue-place.ensures.place ∙ e)) in
-    let seg = segment-is records c.split_at.result.1.now c.unmarked-segment.result.now c.last_issue-place.result some c.last_issue-place.ensures.place c.split_at.ensures.back c.unmarked-segment.ensures.front in
+    let seg = segment-is records c.split_at.result.1.now c.unmarked_part-segment.result.now c.last_issue-place.result some c.last_issue-place.ensures.place c.split_at.ensures.back c.unmarked_part-segment.ensures.front in
     λ currency. rw seg (c.requires.tellable.small currency)
 
 pub spell-requires-clause-issue : goal.spell-requires-clause-issue
@@ -68,7 +68,7 @@ pub returns-in-Err-clause-refused : goal.returns-in-Err-clause-refused
 returns-in-Err-clause-refused c =
     let records = c.args.records.now in
     let some = has-some records (λ e. c.if-place-eq0.false (c.last_issue-place.ensures.place ∙ e)) in
-    let seg = segment-is records c.split_at.result.1.now c.unmarked-segment.result.now c.last_issue-place.result some c.last_issue-place.ensures.place c.split_at.ensures.back c.unmarked-segment.ensures.front in
+    let seg = segment-is records c.split_at.result.1.now c.unmarked_part-segment.result.now c.last_issue-place.result some c.last_issue-place.ensures.place c.split_at.ensures.back c.unmarked_part-segment.ensures.front in
     let none : open_order c.args.base records ≡ None = sym (c.in_default.ensures.first (c.args.base + last_issue records + 1) ∙ ap (first_open (c.args.base + last_issue records + 1)) seg) in
     rw (refusal-is c.args.base records None some none) refl
 
@@ -76,7 +76,7 @@ pub returns-in-Ok-clause-refused : goal.returns-in-Ok-clause-refused
 returns-in-Ok-clause-refused c =
     let records = c.args.records.now in
     let some = has-some records (λ e. c.if-place-eq0.false (c.last_issue-place.ensures.place ∙ e)) in
-    let seg = segment-is records c.split_at.result.1.now c.unmarked-segment.result.now c.last_issue-place.result some c.last_issue-place.ensures.place c.split_at.ensures.back c.unmarked-segment.ensures.front in
+    let seg = segment-is records c.split_at.result.1.now c.unmarked_part-segment.result.now c.last_issue-place.result some c.last_issue-place.ensures.place c.split_at.ensures.back c.unmarked_part-segment.ensures.front in
     let none : open_order c.args.base records ≡ None = sym (c.in_default.ensures.first (c.args.base + last_issue records + 1) ∙ ap (first_open (c.args.base + last_issue records + 1)) seg) in
     rw (refusal-is c.args.base records None some none) tt
 
@@ -84,28 +84,28 @@ pub returns-in-Ok-clause-ok : goal.returns-in-Ok-clause-ok
 returns-in-Ok-clause-ok c =
     let records = c.args.records.now in
     let some = has-some records (λ e. c.if-place-eq0.false (c.last_issue-place.ensures.place ∙ e)) in
-    let seg = segment-is records c.split_at.result.1.now c.unmarked-segment.result.now c.last_issue-place.result some c.last_issue-place.ensures.place c.split_at.ensures.back c.unmarked-segment.ensures.front in
+    let seg = segment-is records c.split_at.result.1.now c.unmarked_part-segment.result.now c.last_issue-place.result some c.last_issue-place.ensures.place c.split_at.ensures.back c.unmarked_part-segment.ensures.front in
     let at = here records c.split_at.result.0.now c.last_issue-place.result c.index-front-place.result c.index-front-place.is c.split_at.ensures.front c.last_issue-place.ensures.place in
     let issue = issue-carries records c.index-front-place.result c.number_of.result some (sym (ap (λ (r : Rec). carried (Some r)) at) ∙ c.number_of.ensures) in record {
-      shown = record { issue = c.number_of.result; amounts = c.presented.result };
+      shown = record { issue = c.number_of.result; amounts = c.amounts_presented.result };
       told = c.in-Ok.ensures;
-      is = record { issue = issue; presented = λ currency. c.presented.ensures.right currency ∙ ap (λ l. presented_in c.args.units.now l currency) seg };
+      is = record { issue = issue; presented = λ currency. c.amounts_presented.ensures.right currency ∙ ap (λ l. presented_in c.args.units.now l currency) seg };
     }
 
 pub returns-in-Ok-clause-put_out : goal.returns-in-Ok-clause-put_out
 returns-in-Ok-clause-put_out c = λ front motions size agrees.
     (let records = c.args.records.now in
     let some = has-some records (λ e. c.if-place-eq0.false (c.last_issue-place.ensures.place ∙ e)) in
-    let seg = segment-is records c.split_at.result.1.now c.unmarked-segment.result.now c.last_issue-place.result some c.last_issue-place.ensures.place c.split_at.ensures.back c.unmarked-segment.ensures.front in
+    let seg = segment-is records c.split_at.result.1.now c.unmarked_part-segment.result.now c.last_issue-place.result some c.last_issue-place.ensures.place c.split_at.ensures.back c.unmarked_part-segment.ensures.front in
     let at = here records c.split_at.result.0.now c.last_issue-place.result c.index-front-place.result c.index-front-place.is c.split_at.ensures.front c.last_issue-place.ensures.place in
     let issue = issue-carries records c.index-front-place.result c.number_of.result some (sym (ap (λ (r : Rec). carried (Some r)) at) ∙ c.number_of.ensures) in
     let whole : has_issue (front ++ records) ≡ true = has_issue-append front records ∙ rw some (or-true (has_issue front)) in
     let same : segment (front ++ records) ≡ segment records = ap (before_first is_mark) (behind_issue-append front records some) in
     let none : first_open 0 (segment (front ++ records)) ≡ None = sym (c.in_default.ensures.first 0 ∙ ap (first_open 0) (seg ∙ sym same)) in record {
-      shown = record { issue = c.number_of.result; amounts = c.presented.result };
+      shown = record { issue = c.number_of.result; amounts = c.amounts_presented.result };
       told = c.in-Ok.ensures;
       is = record {
         issue = issue_of-append front records some ∙ issue;
-        put_out = λ currency. c.presented.ensures.right currency ∙ ap (λ l. presented_in c.args.units.now l currency) (seg ∙ sym same) ∙ sym (shown-is c.args.units.now (front ++ records) motions currency 0 agrees whole none);
+        put_out = λ currency. c.amounts_presented.ensures.right currency ∙ ap (λ l. presented_in c.args.units.now l currency) (seg ∙ sym same) ∙ sym (shown-is c.args.units.now (front ++ records) motions currency 0 agrees whole none);
       };
     })

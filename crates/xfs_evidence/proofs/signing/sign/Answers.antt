@@ -10,9 +10,9 @@ pub overflow_cast-total : goal.overflow_cast-total
 overflow_cast-total c = let within = nonce_within c.args.nonce.now c.requires.nonce in omega (arith, within, c.requires.short)
 
 pub returns : goal.returns
-returns c t kept follow text =
+returns c t written =
     let within = nonce_within c.args.nonce.now c.requires.nonce in
-    let front = c.in_ok-text.ensures t.pairs text in
-    let long = ap length text in
-    signed c.args.key.now c.args.nonce.now c.mac-code.result _ t (length c.args.nonce.now + length c.args.pairs.now + 113) kept c.requires.nonce follow c.push_mac.ensures.mac (omega (arith, long)) (omega (arith, within, c.requires.short))
+    let front = c.in_ok-text.ensures t.pairs written.text in
+    let long = ap length written.text in
+    signed c.args.key.now c.args.nonce.now c.mac-code.result _ t (length c.args.nonce.now + length c.args.pairs.now + 113) written.nonce_is c.requires.nonce written.follow c.push_mac.ensures.mac (omega (arith, long)) (omega (arith, within, c.requires.short))
     (c.mac-code.ensures ∙ ap (hmac c.args.key.now) (c.deref.ensures.value ∙ front)) (c.in_ok-push_mac.ensures.items ∙ ap (λ (l : List ℕ). l ++ codes ",HMACSHA256=" ++ encode_upper c.mac-code.result) front)

@@ -10,7 +10,7 @@ returns c =
     let amounts = unwrap_or c.args.shown.now.amounts [] in
     let pairs = c.in_ok-pairs.ensures in
     let t : Parts = record { nonce = c.args.nonce.now; pairs = told_pairs c.args.shown.now.issue amounts; mac = [] } in
-    let s = c.in_ok-text.ensures t refl pairs.follow (c.deref.ensures.value ∙ pairs.text) in record {
+    let s = c.in_ok-text.ensures t (record { nonce_is = refl; follow = pairs.follow; text = c.deref.ensures.value ∙ pairs.text }) in record {
       token = s.token;
       genuine = s.genuine;
       carried = s.carried;

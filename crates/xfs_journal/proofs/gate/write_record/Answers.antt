@@ -22,16 +22,13 @@ pub returns-clause-ok : goal.returns-clause-ok
 returns-clause-ok g c =
     on_ok c.write_behind.result _ _ (kept_after _ _ _ _ c.args.recent.now.all c.args.rec.now c.args.gate c.args.bytes.now c.requires.kept c.requires.of_table c.requires.bytes c.write_behind.ensures.told c.args.next c.requires.fits c.requires.next c.requires.small) c.write_behind.ensures.ok
 
-pub returns-clause-any_moment : goal.returns-clause-any_moment
-returns-clause-any_moment g c = on_told _ _ (λ b known.
-    weaken g.D.Disk _ _ _ (StandsForEither c.args.recent.now.all c.args.rec.now)
-    (stands_after _ _ _ (g.D.Disk.images c.args.disk.now) c.args.recent.now.all c.args.rec.now c.args.gate c.args.bytes.now c.requires.kept c.requires.of_table c.requires.bytes c.write_behind.ensures.told b known)
-    (from_told _ _ c.write_behind.ensures.any_moment b known))
-
-pub returns-clause-images : goal.returns-clause-images
-returns-clause-images g c = on_told _ _ (λ b known.
-    goes _ _ (StandsForEither c.args.recent.now.all c.args.rec.now) (from_told _ _ c.write_behind.ensures.images b known)
-    (stands_after _ _ _ (g.D.Disk.images c.args.disk.now) c.args.recent.now.all c.args.rec.now c.args.gate c.args.bytes.now c.requires.kept c.requires.of_table c.requires.bytes c.write_behind.ensures.told b known))
+pub returns-clause-crashes : goal.returns-clause-crashes
+returns-clause-crashes g c =
+    let stands = stands_after _ _ _ (g.D.Disk.images c.args.disk.now) c.args.recent.now.all c.args.rec.now c.args.gate c.args.bytes.now c.requires.kept c.requires.of_table c.requires.bytes c.write_behind.ensures.told in
+    record {
+      any_moment = on_told _ _ (λ b known. weaken g.D.Disk _ _ _ (StandsForEither c.args.recent.now.all c.args.rec.now) (stands b known) (from_told _ _ c.write_behind.ensures.any_moment b known));
+      images = on_told _ _ (λ b known. goes _ _ (StandsForEither c.args.recent.now.all c.args.rec.now) (from_told _ _ c.write_behind.ensures.images b known) (stands b known));
+    }
 
 pub returns-clause-acknowledged : goal.returns-clause-acknowledged
 returns-clause-acknowledged g c =

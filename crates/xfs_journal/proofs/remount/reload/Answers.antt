@@ -3,7 +3,7 @@ use Rattle.std.specs.declared.option.Option.{Option}
 use Rattle.xfs_base.specs.Causes.{IfTold}
 use Rattle.xfs_journal.specs.Image.{IsImage}
 use Rattle.xfs_journal.specs.JournalView.{HasPossible, IsPossible}
-use Rattle.xfs_journal.specs.Holding.{joined}
+use Rattle.xfs_journal.specs.Holding.{with_front}
 use Rattle.xfs_journal.proofs.BaseLaws.{base_of-le}
 use Rattle.xfs_journal.proofs.Doubt.{imaged, some_list, behind_silent, joined_possible, joined_long, image_joined, kept_joined, possible_of_table}
 use Rattle.xfs_journal.proofs.Told.{if_ok, if_ok_both, if_err, if_err_both}
@@ -34,7 +34,7 @@ returns-clause-kept g c =
     let told : is_some h2 ≡ is_some h = c.read_again.ensures.told ∙ ap is_some c.sync_len.ensures.quiet.same in
     if_ok_both c.possible.result _ _ _ (λ l same p.
     let q : IsPossible (drop b K) d (drop b L) = rw (← same.0) p in
-    let all = possible_of_table K d (joined b K L) c.requires.of_table.0 c.requires.of_table.1 (joined_possible K d b le L q) in
+    let all = possible_of_table K d (with_front b K L) c.requires.of_table.0 c.requires.of_table.1 (joined_possible K d b le L q) in
     rw (same.0, same.1) (kept_joined h h2 (g.D.Disk.images c.read_again.new.disk) K L d b le has image c.in_ok-listed.listed.end told all c.in_ok-listed.ensures.kept))
     c.possible.ensures.same c.possible.ensures.possible
 

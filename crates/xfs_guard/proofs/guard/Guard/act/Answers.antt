@@ -1,8 +1,8 @@
-use Rattle.std.proofs.Common.{refl, ◌≡◌, ◌∙◌, length, arith}
+use Rattle.std.proofs.Common.{refl, ◌≡◌, ◌∙◌, length, arith, rules}
 use Rattle.xfs_guard.proofs.ContinueLaws.{Continues-act}
 use Rattle.xfs_guard.proofs.KeptLaws.{IsKept-acted, still-open}
 use Rattle.xfs_guard.specs.CrashOutcomes.{MayMove}
-use Rattle.xfs_guard.proofs.KeepsLaws.{Keeps-moved}
+use Rattle.xfs_guard.proofs.KeepsLaws.{Keeps-moved, uses-keeping}
 use Rattle.xfs_guard.proofs.LeftLaws.{left-through, one-possible, recorded-moved}
 use Rattle.xfs_guard.proofs.StandLaws.{stands-act}
 use Rattle.xfs_guard.proofs.guard.Guard.act.Goals as goal
@@ -21,9 +21,8 @@ invariant_of-self g c = (
   c.self.invariant.1,
 )
 
-pub returns-clause-keeps : goal.returns-clause-keeps
-returns-clause-keeps g c =
-    Keeps-moved g.D.Disk _ _ _ g.met.D.Disk.only_now (rw (← c.self.view_is) refl)
+pub returns-clause-uses : goal.returns-clause-uses
+returns-clause-uses g c = uses-keeping (Keeps-moved g.D.Disk _ _ _ g.met.D.Disk.only_now (rw (← c.self.view_is) refl)
     (let number = c.newest-number.ensures.number in
     let e = rw (c.new.ensures.number, c.new.ensures.kind, c.new.ensures.counts) at c.execute-outcome.ensures in
     let motions = rw number at e.motions in
@@ -41,4 +40,4 @@ returns-clause-keeps g c =
     let none = c.self.invariant.0.clean still in
     rw (← c.self.view_is) (left-through g.D.Disk c.self.inside.ledger.disk _ (MayMove _) (g.met.D.Disk.only_now c.self.inside.ledger.disk) c.self.invariant.1
     c.self.invariant.0.recorded
-    (λ told records p entry now may grows. rw (one-possible _ _ records none p) (recorded-moved _ entry now (c.self.invariant.0.sound still booted) told may grows))))
+    (λ told records p entry now may grows. rw (one-possible _ _ records none p) (recorded-moved _ entry now (c.self.invariant.0.sound still booted) told may grows))))) (λ keeps. search rules)

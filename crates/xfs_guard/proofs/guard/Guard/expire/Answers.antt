@@ -1,5 +1,6 @@
-use Rattle.xfs_guard.proofs.KeepsLaws.{Keeps-same}
+use Rattle.std.proofs.Common.{rules}
+use Rattle.xfs_guard.proofs.KeepsLaws.{Keeps-same, writes-keeping}
 use Rattle.xfs_guard.proofs.guard.Guard.expire.Goals as goal
 
-pub returns-in-Some-clause-keeps : goal.returns-in-Some-clause-keeps
-returns-in-Some-clause-keeps g c = Keeps-same g.D.Disk _ g.met.D.Disk.only_now c.unfit.ensures.upheld
+pub returns-in-Some-clause-writes : goal.returns-in-Some-clause-writes
+returns-in-Some-clause-writes g c = writes-keeping (Keeps-same g.D.Disk _ g.met.D.Disk.only_now c.unfit.ensures.upheld) (λ keeps. search rules)

@@ -1,10 +1,10 @@
-use Rattle.std.proofs.Common.{◌≡◌, ◌∙◌, refl, arith}
+use Rattle.std.proofs.Common.{◌≡◌, ◌∙◌, refl, arith, rules}
 use Rattle.xfs_mech.specs.declared.motion.Motion.TheVariants.{Loaded}
 use Rattle.xfs_guard.specs.Balance.{with_notes}
 use Rattle.xfs_guard.proofs.BalanceLaws.{balanced-failed, balanced-loaded}
 use Rattle.xfs_guard.proofs.ReportLaws.{IsSound-report, IsRecorded-entry, IsRecorded-report, HasRoom-report, HasLimits-report, Continues-report, loaded-leaves}
 use Rattle.xfs_guard.proofs.ContinueLaws.{Continues-same}
-use Rattle.xfs_guard.proofs.KeepsLaws.{Keeps-moved}
+use Rattle.xfs_guard.proofs.KeepsLaws.{Keeps-moved, uses-keeping}
 use Rattle.xfs_guard.proofs.LeftLaws.{left-through}
 use Rattle.xfs_guard.proofs.guard.Guard.load.Goals as goal
 
@@ -54,18 +54,16 @@ returns-clause-ok g c =
     let reported = rw (c.ready.ensures.motions, c.ready.ensures.places) at c.load-outcome.ensures.reported in
     rw (← c.self.view_is, c.count_load.ensures.counted) (record { spare = g.M.Mechanism.room c.ready.new.self; left = g.M.Mechanism.room c.load-outcome.new.self; reported = reported; same = rw c.if-outcome.false refl })
 
-pub returns-in_err-ready-clause-keeps : goal.returns-in_err-ready-clause-keeps
-returns-in_err-ready-clause-keeps g c =
-    Keeps-moved g.D.Disk _ _ _ g.met.D.Disk.only_now (rw (← c.self.view_is) refl)
+pub returns-in_err-ready-clause-uses : goal.returns-in_err-ready-clause-uses
+returns-in_err-ready-clause-uses g c = uses-keeping (Keeps-moved g.D.Disk _ _ _ g.met.D.Disk.only_now (rw (← c.self.view_is) refl)
     (rw (← c.self.view_is, c.ready.ensures.motions, c.ready.ensures.places, c.ready.ensures.faults) (Continues-same _))
     (rw (← c.self.view_is, c.ready.ensures.faults) (omega arith))
     (rw (← c.self.view_is) (left-through g.D.Disk c.self.inside.ledger.disk _ (λ entry. entry ≡ Loaded c.args.unit c.args.count) (g.met.D.Disk.only_now c.self.inside.ledger.disk) c.self.invariant.1
     c.self.invariant.0.recorded
-    (λ told records p entry now may grows. IsRecorded-entry _ _ records (Loaded c.args.unit c.args.count) _ now tt (rw may at grows) (c.self.invariant.0.recorded told records p))))
+    (λ told records p entry now may grows. IsRecorded-entry _ _ records (Loaded c.args.unit c.args.count) _ now tt (rw may at grows) (c.self.invariant.0.recorded told records p))))) (λ keeps. search rules)
 
-pub returns-then-outcome-clause-keeps : goal.returns-then-outcome-clause-keeps
-returns-then-outcome-clause-keeps g c =
-    let reported = rw (c.ready.ensures.motions, c.ready.ensures.places) at c.load-outcome.ensures.reported in
+pub returns-then-outcome-clause-uses : goal.returns-then-outcome-clause-uses
+returns-then-outcome-clause-uses g c = uses-keeping (let reported = rw (c.ready.ensures.motions, c.ready.ensures.places) at c.load-outcome.ensures.reported in
     Keeps-moved g.D.Disk _ _ _ g.met.D.Disk.only_now (rw (← c.self.view_is) refl)
     (rw (← c.self.view_is) (Continues-report _ (Loaded c.args.unit c.args.count) c.load-outcome.result.moved c.load-outcome.result.diverted c.load-outcome.result.failed
     (g.M.Mechanism.motions c.load-outcome.new.self) (g.M.Mechanism.places c.load-outcome.new.self) (g.M.Mechanism.faults c.load-outcome.new.self) c.self.inside.ledger.loaded
@@ -73,11 +71,10 @@ returns-then-outcome-clause-keeps g c =
     (rw (← c.self.view_is) (rw c.ready.ensures.faults at c.load-outcome.ensures.later))
     (rw (← c.self.view_is) (left-through g.D.Disk c.self.inside.ledger.disk _ (λ entry. entry ≡ Loaded c.args.unit c.args.count) (g.met.D.Disk.only_now c.self.inside.ledger.disk) c.self.invariant.1
     c.self.invariant.0.recorded
-    (λ told records p entry now may grows. IsRecorded-entry _ _ records (Loaded c.args.unit c.args.count) _ now tt (rw may at grows) (c.self.invariant.0.recorded told records p))))
+    (λ told records p entry now may grows. IsRecorded-entry _ _ records (Loaded c.args.unit c.args.count) _ now tt (rw may at grows) (c.self.invariant.0.recorded told records p))))) (λ keeps. search rules)
 
-pub returns-clause-keeps : goal.returns-clause-keeps
-returns-clause-keeps g c =
-    let reported = rw (c.ready.ensures.motions, c.ready.ensures.places) at c.load-outcome.ensures.reported in
+pub returns-clause-uses : goal.returns-clause-uses
+returns-clause-uses g c = uses-keeping (let reported = rw (c.ready.ensures.motions, c.ready.ensures.places) at c.load-outcome.ensures.reported in
     rw c.count_load.ensures.counted (Keeps-moved g.D.Disk _ _ _ g.met.D.Disk.only_now (rw (← c.self.view_is) refl)
     (rw (← c.self.view_is) (Continues-report _ (Loaded c.args.unit c.args.count) c.load-outcome.result.moved c.load-outcome.result.diverted c.load-outcome.result.failed
     (g.M.Mechanism.motions c.load-outcome.new.self) (g.M.Mechanism.places c.load-outcome.new.self) (g.M.Mechanism.faults c.load-outcome.new.self) (with_notes c.self.inside.ledger.loaded c.args.unit c.args.count)
@@ -85,4 +82,4 @@ returns-clause-keeps g c =
     (rw (← c.self.view_is) (rw c.ready.ensures.faults at c.load-outcome.ensures.later))
     (rw (← c.self.view_is) (left-through g.D.Disk c.self.inside.ledger.disk _ (λ entry. entry ≡ Loaded c.args.unit c.args.count) (g.met.D.Disk.only_now c.self.inside.ledger.disk) c.self.invariant.1
     c.self.invariant.0.recorded
-    (λ told records p entry now may grows. IsRecorded-entry _ _ records (Loaded c.args.unit c.args.count) _ now tt (rw may at grows) (c.self.invariant.0.recorded told records p)))))
+    (λ told records p entry now may grows. IsRecorded-entry _ _ records (Loaded c.args.unit c.args.count) _ now tt (rw may at grows) (c.self.invariant.0.recorded told records p)))))) (λ keeps. search rules)

@@ -1,10 +1,10 @@
-use Rattle.std.proofs.Common.{◌∙◌, refl, arith}
+use Rattle.std.proofs.Common.{◌∙◌, refl, arith, rules}
 use Rattle.xfs_mech.specs.declared.motion.Motion.TheVariants.{Taken}
 use Rattle.xfs_guard.proofs.BalanceLaws.{balanced-taking}
 use Rattle.xfs_guard.proofs.ReportLaws.{IsSound-report, IsRecorded-entry, IsRecorded-report, HasRoom-report, HasLimits-report, Continues-report, taken-leaves}
 use Rattle.xfs_guard.proofs.ContinueLaws.{Continues-same}
 use Rattle.xfs_guard.specs.CrashOutcomes.{MayTake}
-use Rattle.xfs_guard.proofs.KeepsLaws.{Keeps-moved}
+use Rattle.xfs_guard.proofs.KeepsLaws.{Keeps-moved, uses-keeping}
 use Rattle.xfs_guard.proofs.LeftLaws.{left-through}
 use Rattle.xfs_guard.proofs.guard.Guard.taken.Goals as goal
 
@@ -34,18 +34,16 @@ returns-clause-ok g c =
     let reported = rw (c.ready.ensures.motions, c.ready.ensures.places) at c.taken.ensures.reported in
     rw (← c.self.view_is) (record { spare = g.M.Mechanism.room c.ready.new.self; left = g.M.Mechanism.room c.taken.new.self; reported = reported; same = refl })
 
-pub returns-in_err-ready-clause-keeps : goal.returns-in_err-ready-clause-keeps
-returns-in_err-ready-clause-keeps g c =
-    Keeps-moved g.D.Disk _ _ _ g.met.D.Disk.only_now (rw (← c.self.view_is) refl)
+pub returns-in_err-ready-clause-uses : goal.returns-in_err-ready-clause-uses
+returns-in_err-ready-clause-uses g c = uses-keeping (Keeps-moved g.D.Disk _ _ _ g.met.D.Disk.only_now (rw (← c.self.view_is) refl)
     (rw (← c.self.view_is, c.ready.ensures.motions, c.ready.ensures.places, c.ready.ensures.faults) (Continues-same _))
     (rw (← c.self.view_is, c.ready.ensures.faults) (omega arith))
     (rw (← c.self.view_is) (left-through g.D.Disk c.self.inside.ledger.disk _ (MayTake _) (g.met.D.Disk.only_now c.self.inside.ledger.disk) c.self.invariant.1
     c.self.invariant.0.recorded
-    (λ told records p entry now may grows. IsRecorded-entry _ _ records (Taken may.counts) _ now tt (rw may.entry_is at grows) (c.self.invariant.0.recorded told records p))))
+    (λ told records p entry now may grows. IsRecorded-entry _ _ records (Taken may.counts) _ now tt (rw may.entry_is at grows) (c.self.invariant.0.recorded told records p))))) (λ keeps. search rules)
 
-pub returns-clause-keeps : goal.returns-clause-keeps
-returns-clause-keeps g c =
-    Keeps-moved g.D.Disk _ _ _ g.met.D.Disk.only_now (rw (← c.self.view_is) refl)
+pub returns-clause-uses : goal.returns-clause-uses
+returns-clause-uses g c = uses-keeping (Keeps-moved g.D.Disk _ _ _ g.met.D.Disk.only_now (rw (← c.self.view_is) refl)
     (let reported = rw (c.ready.ensures.motions, c.ready.ensures.places) at c.taken.ensures.reported in
     rw (← c.self.view_is) (Continues-report _ (Taken c.taken.result.moved) c.taken.result.moved c.taken.result.diverted c.taken.result.failed
     (g.M.Mechanism.motions c.taken.new.self) (g.M.Mechanism.places c.taken.new.self) (g.M.Mechanism.faults c.taken.new.self) c.self.inside.ledger.loaded
@@ -53,4 +51,4 @@ returns-clause-keeps g c =
     (rw (← c.self.view_is) (rw c.ready.ensures.faults at c.taken.ensures.later))
     (rw (← c.self.view_is) (left-through g.D.Disk c.self.inside.ledger.disk _ (MayTake _) (g.met.D.Disk.only_now c.self.inside.ledger.disk) c.self.invariant.1
     c.self.invariant.0.recorded
-    (λ told records p entry now may grows. IsRecorded-entry _ _ records (Taken may.counts) _ now tt (rw may.entry_is at grows) (c.self.invariant.0.recorded told records p))))
+    (λ told records p entry now may grows. IsRecorded-entry _ _ records (Taken may.counts) _ now tt (rw may.entry_is at grows) (c.self.invariant.0.recorded told records p))))) (λ keeps. search rules)

@@ -12,7 +12,7 @@ invariant_of-self g c = (
       let was = write-open _ _ _ c.self.view_is c.requires.fits in
       let next = rw (← c.self.view_is) at c.requires.next in
       let one : CarriesOne (Issue c.args.nonce.number c.args.word) = (let e = (c.self.invariant.0.read was.0 was.1).issued in omega (arith, next, e)) in
-      rw (w.same, w.base) (tells-refused c.in-Err.deny _ _ _ (Issue c.args.nonce.number c.args.word) _ _ c.self.invariant.1 one w.err (λ is. (w.memory (ap Err is)).2) (λ is. (w.disk (ap Err is)).1))),
+      rw (w.same, w.keeps.base) (tells-refused c.in-Err.deny _ _ _ (Issue c.args.nonce.number c.args.word) _ _ c.self.invariant.1 one w.err (λ is. (w.memory (ap Err is)).in_doubt) (λ is. (w.disk (ap Err is)).in_doubt))),
 )
 
 pub invariant_of-self-2 : goal.invariant_of-self-2
@@ -20,7 +20,7 @@ invariant_of-self-2 g c =
     let was = write-open _ _ _ c.self.view_is c.requires.fits in
     let w = c.in-Ok.ensures in
     let next = rw (← c.self.view_is) at c.requires.next in
-    rw (w.ok.0, w.number, w.base) (
-      KeepsLedger-read _ _ _ _ _ _ _ _ _ _ (IsRead-issue _ _ _ _ _ _ c.args.nonce.number c.args.word c.args.nonce (c.self.invariant.0.read was.0 was.1) next c.requires.text refl) w.ok.2,
-      tells-written _ _ _ (Issue c.args.nonce.number c.args.word) _ _ c.self.invariant.1 (let e = (c.self.invariant.0.read was.0 was.1).issued in omega (arith, next, e)) w.ok.2,
+    rw (w.ok.records, w.ok.number, w.keeps.base) (
+      KeepsLedger-read _ _ _ _ _ _ _ _ _ _ (IsRead-issue _ _ _ _ _ _ c.args.nonce.number c.args.word c.args.nonce (c.self.invariant.0.read was.0 was.1) next c.requires.text refl) w.ok.opened.in_doubt,
+      tells-written _ _ _ (Issue c.args.nonce.number c.args.word) _ _ c.self.invariant.1 (let e = (c.self.invariant.0.read was.0 was.1).issued in omega (arith, next, e)) w.ok.opened.in_doubt,
     )

@@ -6,17 +6,16 @@ use Rattle.xfs_journal.specs.declared.body.TheConstants.{MOST}
 use Rattle.xfs_journal.proofs.BaseLaws.{base_of-grows}
 use Rattle.xfs_journal.proofs.Listing.{records-few}
 use Rattle.xfs_journal.proofs.Migrating.{unknown}
-use Rattle.xfs_base.specs.Causes.{IfTold}
-use Rattle.xfs_disk.specs.Moments.{LeavesOnly}
-use Rattle.xfs_journal.specs.JournalView.{JournalView, HasVersion, IsInDoubt, IsKept, IsMeasured, StandsForEither}
+use Rattle.xfs_journal.specs.JournalView.{JournalView, HasVersion, IsInDoubt, IsKept, IsMeasured}
+use Rattle.xfs_journal.specs.Outcomes.{WritesAtMost}
 use Rattle.xfs_journal.proofs.Appended.{still, kept_failed, front-longer}
 use Rattle.xfs_journal.proofs.journal.Journal.append.Goals as goal
 
-pub returns-in_err-prepare-clause-any_moment : goal.returns-in_err-prepare-clause-any_moment
-returns-in_err-prepare-clause-any_moment g c =
+pub returns-in_err-prepare-clause-crashes : goal.returns-in_err-prepare-clause-crashes
+returns-in_err-prepare-clause-crashes g c =
     let j = c.self.inside in
-    subst (λ (v : JournalView g.row.D.Denot). v.shut ≡ false → IfTold (g.D.Disk.held v.disk) (λ _. LeavesOnly g.D.Disk v.disk j.disk (StandsForEither v.records c.args.rec))) c.self.view_is
-    (still g.D.Disk j.disk (g.D.Disk.held j.disk) (g.D.Disk.images j.disk) j.recent.all c.args.rec j.shut j.gate (g.met.D.Disk.only_now j.disk) c.self.invariant.0)
+    subst (λ (v : JournalView g.row.D.Denot). v.shut ≡ false → WritesAtMost g.D.Disk v.disk j.disk v.records c.args.rec) c.self.view_is
+    (still g.D.Disk j.disk j.recent.all c.args.rec j.shut j.gate (g.met.D.Disk.only_now j.disk) c.self.invariant.0)
 
 pub invariant_of-self-then-is_err : goal.invariant_of-self-then-is_err
 invariant_of-self-then-is_err g c =

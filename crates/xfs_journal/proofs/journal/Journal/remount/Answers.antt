@@ -1,12 +1,31 @@
-use Rattle.std.proofs.Common.{◌≡◌, ◌≤◌, length, vec_capacity, rules, arith, false, None, Some}
-use Rattle.xfs_journal.specs.Holding.{joined}
-use Rattle.xfs_journal.specs.JournalView.{HasVersion, IsInDoubt, IsKept, IsMeasured}
+use Rattle.std.proofs.Common.{◌≡◌, ◌≤◌, length, vec_capacity, rules, arith, false, None, Some, refl}
+use Rattle.xfs_base.specs.Causes.{IfTold}
+use Rattle.xfs_journal.specs.Holding.{with_front}
+use Rattle.xfs_journal.specs.Image.{StandsFor}
+use Rattle.xfs_journal.specs.JournalView.{HasVersion, IsInDoubt, IsKept, IsMeasured, LeavesList}
 use Rattle.xfs_journal.specs.declared.body.TheConstants.{MOST}
+use Rattle.xfs_journal.proofs.Appended.{stands_at_rest, told_image}
 use Rattle.xfs_journal.proofs.Doubt.{measured_again, no_doubt, kept_by, doubt_by, shut_cases, version_still}
 use Rattle.xfs_journal.proofs.journal.Journal.remount.Goals as goal
 
-pub returns-in-Err-clause-place : goal.returns-in-Err-clause-place
-returns-in-Err-clause-place g c = rw (← c.self.view_is) c.in-Err.ensures.place
+pub returns-in-Err-clause-err : goal.returns-in-Err-clause-err
+returns-in-Err-clause-err g c =
+    let shut = c.is_shut_by-self-inside.ensures in
+    let read = c.in-Err.ensures in
+    rw (← c.self.view_is) (record { same = refl; memory = shut.memory; shut = shut.other; disk = read.disk; not_journal = read.silent; place = read.place })
+
+pub returns-in-Ok-clause-ok : goal.returns-in-Ok-clause-ok
+returns-in-Ok-clause-ok g c =
+    let j = c.self.inside in
+    let read = c.in-Ok.ensures in
+    let image : IfTold (g.D.Disk.held j.disk) (λ all. StandsFor all (with_front j.recent.base j.recent.all c.in-Ok.field-0.recent.all)) = told_image _ _ read.image in
+    let list : LeavesList g.D.Disk c.reload.new.disk (with_front j.recent.base j.recent.all c.in-Ok.field-0.recent.all) = stands_at_rest _ _ _ _ read.kept in
+    rw (← c.self.view_is) (record {
+      records = rw c.take_from.ensures.all read.possible;
+      opened = record { shut = refl; in_doubt = refl; acknowledged = rw c.take_from.ensures.all list };
+      reserved = search rules;
+      stands = rw c.take_from.ensures.all image;
+    })
 
 pub returns-in-Ok-clause-possible : goal.returns-in-Ok-clause-possible
 returns-in-Ok-clause-possible g c = rw (← c.self.view_is) c.self.invariant.1.possible
@@ -30,7 +49,7 @@ invariant_of-self g c =
     let j = c.self.inside in
     let d = c.reload.new.disk in
     let l = c.in-Ok.field-0 in
-    let M = joined j.recent.base j.recent.all l.recent.all in
+    let M = with_front j.recent.base j.recent.all l.recent.all in
     let kept : IsKept (g.D.Disk.held d) (g.D.Disk.images d) M false l.end = c.in-Ok.ensures.kept in
     let doubt : IsInDoubt (g.D.Disk.held d) (g.D.Disk.images d) M false None = no_doubt _ _ _ _ kept in
     let room : MOST ≤ vec_capacity c.reload.new.block = search rules in

@@ -10,6 +10,6 @@ returns-clause-shows g c = on_told _ _ (λ all known.
     let at = c.self.inside.at in
     let n = c.in_ok-count.count in
     let into = c.read.new.into in
-    shown all into c.args.self.now at c.self.inside.len n c.fitting-self-inside.result (from_told _ _ c.requires.shows all known)
+    shown all into c.args.self.now at c.self.inside.len n c.at_most-self-inside.result (from_told _ _ c.requires.shows all known)
     (ap (λ (v : PageView). v.at) c.self.view_is) (ap (λ (v : PageView). v.len) c.self.view_is)
-    (from_told _ (λ b. Gives b at n into) c.in_ok-count.ensures.bytes all known) c.in_ok-count.ensures.bound.0 c.fitting-self-inside.ensures)
+    (from_told _ (λ b. Gives b at n into) c.in_ok-count.ensures.bytes all known) c.in_ok-count.ensures.bound.0 c.at_most-self-inside.ensures)

@@ -6,7 +6,7 @@ use Rattle.xfs_guard.specs.View.{over}
 use Rattle.xfs_guard.proofs.LedgerLaws.{nonce-open}
 use Rattle.xfs_guard.proofs.OrderLaws.{live-number, short-refused, told-live}
 use Rattle.xfs_guard.proofs.SizeLaws.{fit-at}
-use Rattle.xfs_guard.proofs.guard.Guard.stacked.Goals as goal
+use Rattle.xfs_guard.proofs.guard.Guard.stack_order.Goals as goal
 
 pub over_budget-requires : goal.over_budget-requires
 over_budget-requires g c =

@@ -1,7 +1,7 @@
 use Rattle.std.proofs.Common.{◌≡◌, ℕ, List, ◌+◌, ◌<◌, ◌≤◌, length, Some}
 use Rattle.std.specs.Prelude.{slice_get, slice_index}
 use Rattle.xfs_base.specs.Money.{value}
-use Rattle.xfs_guard.proofs.ledger.added.Given as goal
+use Rattle.xfs_guard.proofs.ledger.sums_with.Given as goal
 
 -- the sums before i have the notes on top, and the others are as they were
 abbrev pub invariant-loop-i : goal.invariant-loop-i

@@ -3,23 +3,23 @@ use Rattle.std.proofs.lemmas.List.{take_all}
 use Rattle.xfs_token.proofs.AmountReading.{is_currency_to}
 use Rattle.xfs_guard.specs.Presented.{presented_in}
 use Rattle.xfs_evidence.proofs.Valued.{step-worth, step-last, within-all}
-use Rattle.xfs_evidence.proofs.sums.presented_in.Goals as goal
+use Rattle.xfs_evidence.proofs.sums.worth_presented.Goals as goal
 
 pub overflow_cast-worth : goal.overflow_cast-worth
 overflow_cast-worth c =
-    let next = step-worth c.args.units.now c.args.currency c.args.segment.now c.loop-i.i c.index-segment-i.result _ _ _ c.loop-i-test.true c.requires.unmarked c.index-segment-i.is c.loop-i.invariant.worth c.loop-i.invariant.last c.added.ensures.worth in
+    let next = step-worth c.args.units.now c.args.currency c.args.segment.now c.loop-i.i c.index-segment-i.result _ _ _ c.loop-i-test.true c.requires.unmarked c.index-segment-i.is c.loop-i.invariant.worth c.loop-i.invariant.last c.worth_added.ensures.worth in
     let all = within-all c.args.units.now c.args.currency c.args.segment.now (c.loop-i.i + 1) c.requires.unmarked in
     omega (arith, next, all, c.requires.small)
 
 pub overflow_add-worth : goal.overflow_add-worth
 overflow_add-worth c =
-    let next = step-worth c.args.units.now c.args.currency c.args.segment.now c.loop-i.i c.index-segment-i.result _ _ _ c.loop-i-test.true c.requires.unmarked c.index-segment-i.is c.loop-i.invariant.worth c.loop-i.invariant.last c.added.ensures.worth in
+    let next = step-worth c.args.units.now c.args.currency c.args.segment.now c.loop-i.i c.index-segment-i.result _ _ _ c.loop-i-test.true c.requires.unmarked c.index-segment-i.is c.loop-i.invariant.worth c.loop-i.invariant.last c.worth_added.ensures.worth in
     let all = within-all c.args.units.now c.args.currency c.args.segment.now (c.loop-i.i + 1) c.requires.unmarked in
     omega (arith, next, all, c.requires.small)
 
 pub loop-i-preserved : goal.loop-i-preserved
 loop-i-preserved c = record {
-  worth = step-worth c.args.units.now c.args.currency c.args.segment.now c.loop-i.i c.index-segment-i.result _ _ _ c.loop-i-test.true c.requires.unmarked c.index-segment-i.is c.loop-i.invariant.worth c.loop-i.invariant.last c.added.ensures.worth;
+  worth = step-worth c.args.units.now c.args.currency c.args.segment.now c.loop-i.i c.index-segment-i.result _ _ _ c.loop-i-test.true c.requires.unmarked c.index-segment-i.is c.loop-i.invariant.worth c.loop-i.invariant.last c.worth_added.ensures.worth;
   last = c.is_present-ordered.ensures ∙ step-last c.args.units.now c.args.currency c.args.segment.now c.loop-i.i c.index-segment-i.result c.loop-i-test.true c.index-segment-i.is;
 }
 

@@ -1,6 +1,6 @@
 use Rattle.std.proofs.Common.{◌≢◌, ◌∙◌, rules}
 use Rattle.xfs_journal.proofs.Reading.{load_in}
-use Rattle.xfs_journal.proofs.read.decoded.Goals as goal
+use Rattle.xfs_journal.proofs.read.decode_rest.Goals as goal
 
 pub returns-in-66-clause-ok : goal.returns-in-66-clause-ok
 returns-in-66-clause-ok c = rw c.in-66.is c.boot.ensures.ok

@@ -1,6 +1,6 @@
 use Rattle.std.proofs.Common.{arith}
 use Rattle.xfs_guard.proofs.LedgerLaws.{found-at, found-issue, found-plain, kept-issue}
-use Rattle.xfs_guard.proofs.ledger.live_found.Goals as goal
+use Rattle.xfs_guard.proofs.ledger.live_after.Goals as goal
 
 pub returns-in-Some : goal.returns-in-Some
 returns-in-Some g c = λ lives.

@@ -1,7 +1,7 @@
 use Rattle.std.proofs.Common.{[]}
 use Rattle.std.specs.Prelude.{unwrap_or}
 use Rattle.xfs_evidence.specs.Sums.{AreSumsTo, left_behind}
-use Rattle.xfs_evidence.proofs.sums.presented.Given as goal
+use Rattle.xfs_evidence.proofs.sums.amounts_presented.Given as goal
 
 -- all currencies up to the last one are told
 abbrev pub invariant-currencies : goal.invariant-currencies

@@ -4,7 +4,7 @@ use Rattle.std.proofs.lemmas.Bool.{cases_eq}
 use Rattle.std.proofs.lemmas.Option.{slice_get_within}
 use Rattle.std.proofs.lemmas.List.{length-set, get_or-set_other}
 use Rattle.std.proofs.lemmas.Grind.{get_or-set_at}
-use Rattle.xfs_guard.proofs.ledger.added.Goals as goal
+use Rattle.xfs_guard.proofs.ledger.sums_with.Goals as goal
 
 pub overflow_cast-sums : goal.overflow_cast-sums
 overflow_cast-sums c =

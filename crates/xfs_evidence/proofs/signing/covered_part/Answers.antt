@@ -1,5 +1,5 @@
 use Rattle.xfs_token.proofs.Written.{covered-chain}
-use Rattle.xfs_evidence.proofs.signing.covered.Goals as goal
+use Rattle.xfs_evidence.proofs.signing.covered_part.Goals as goal
 
 pub returns : goal.returns
 returns c ps e =

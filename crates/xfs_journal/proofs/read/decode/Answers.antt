@@ -1,6 +1,6 @@
 use Rattle.std.proofs.Common.{refl, sym}
 use Rattle.xfs_journal.proofs.Reading.{none_unfit, none_unit, decoded_of}
-use Rattle.xfs_journal.proofs.read.sized.Goals as goal
+use Rattle.xfs_journal.proofs.read.decode.Goals as goal
 
 pub returns-then-not-fits-clause-form : goal.returns-then-not-fits-clause-form
 returns-then-not-fits-clause-form c = λ _. none_unfit c.args.bytes.now c.in-Some.rest.now c.in-Some.letter.now c.in-Some.ensures.cases.0 (sym c.if-not-fits.ensures)

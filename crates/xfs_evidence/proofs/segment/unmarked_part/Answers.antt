@@ -4,7 +4,7 @@ use Rattle.xfs_journal.specs.declared.record.Rec.{Rec}
 use Rattle.std.specs.List.{before_first}
 use Rattle.xfs_journal.specs.Journal.{is_mark}
 use Rattle.xfs_evidence.proofs.Places.{before-any}
-use Rattle.xfs_evidence.proofs.segment.unmarked.Goals as goal
+use Rattle.xfs_evidence.proofs.segment.unmarked_part.Goals as goal
 
 pub split_at-requires : goal.split_at-requires
 split_at-requires c = let le = prefix_len-le-length (λ (r : Rec). not (is_mark r)) c.args.records.now in omega (arith, le, c.first_mark.ensures)

@@ -1,6 +1,6 @@
 use Rattle.std.proofs.Common.{◌≡◌, take}
 use Rattle.xfs_evidence.proofs.Valued.{paid_to, present_last}
-use Rattle.xfs_evidence.proofs.sums.presented_in.Given as goal
+use Rattle.xfs_evidence.proofs.sums.worth_presented.Given as goal
 
 -- what the records so far tell
 abbrev pub invariant-loop-i : goal.invariant-loop-i
