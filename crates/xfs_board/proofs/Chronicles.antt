@@ -2,6 +2,8 @@
 use Rattle.std.proofs.Common.{◌≡◌, ◌≢◌, ◌-◌, ◌∙◌, ◌++◌, ◌∷◌, [], ℕ, zero, suc, Bool, List, drop, length, map, ap, refl, sym, subst, arith}
 use mathlib.Core.List.{IsPrefix}
 use Rattle.std.proofs.lemmas.List.{map-append}
+use Rattle.xfs_disk.specs.declared.disk.Disk.{Ghosts}
+use Rattle.xfs_guard.specs.Keeps.{Proceeds}
 use Rattle.xfs_guard.specs.View.{GuardView}
 use Rattle.xfs_base.specs.declared.moment.Service.{Service}
 use Rattle.xfs_machine.specs.Laws.{IsLawful}
@@ -10,8 +12,8 @@ use Rattle.xfs_model.specs.Events.{Event, Answer, restart}
 use Rattle.xfs_model.specs.Step.{Step}
 use Rattle.xfs_model.specs.Told.{AllTell}
 use Rattle.xfs_turn.proofs.Prefixes.{begins_longer}
-use Rattle.xfs_machine.specs.MachineView.{MachineView}
-use Rattle.xfs_board.specs.Chronicles.{HasBase, Shared, chronicle}
+use Rattle.xfs_machine.specs.MachineView.{MachineView, guard_of}
+use Rattle.xfs_board.specs.Chronicles.{ComesBack, HasBase, Shared, at_opening, chronicle}
 use Rattle.xfs_board.specs.Turns.{HandsTold, IsLook, IsTurn}
 use Rattle.xfs_board.specs.declared.shared.Entry.{Entry}
 use Rattle.xfs_board.specs.declared.shared.Entry.TheVariants.{Written}
@@ -69,3 +71,13 @@ module _ {M D : Type 0} where
   pub looks : (seen taken after : List (Entry M D)) (service : Service) (wanted : Bool) (there found : Shared D) → taken ≡ seen → IsPrefix taken (chronicle there) → found ≡ there
       → wanted ≡ wants found.machine.state service → after ≡ chronicle found → IsLook seen after service wanted
   looks seen taken after service wanted there found same begun found_is answer is = record { found = found; begins = begins_found seen taken there found same begun found_is; answer = answer; after_is = is }
+
+-- a chronicle that begins with another has the same first entry: the guard as it was when the lock was opened
+same_start : {M D : Type 0} (s t : Shared D) → IsPrefix (chronicle {M = M} s) (chronicle t) → t.start ≡ s.start
+same_start s t p = cc p.1
+
+-- a machine that comes back of the lock, whose seat had seen the chronicle at its opening, went on from the one that was put there
+pub went_on : {M D : Type 0} (g : Ghosts D) (machine last : MachineView D) (seen : List (Entry M D)) → IsPrefix (chronicle {M = M} (at_opening machine)) seen → ComesBack g seen last → Proceeds g (guard_of machine) (guard_of last)
+went_on g machine last seen opened_ back =
+    let found : Shared _ = record { start = back.start; machine = last } in
+    subst (λ v. Proceeds g v (guard_of last)) (same_start (at_opening machine) found (begins_longer (chronicle (at_opening machine)) seen (chronicle found) opened_ back.begins)) back.proceeds

@@ -9,6 +9,7 @@ use Rattle.std.proofs.marker.PhantomData.TheSendSync as phantom
 use Rattle.std.proofs.option.Option.TheSendSync as optional
 use Rattle.xfs_base.proofs.moment.Service.TheSendSync as service
 use Rattle.xfs_base.specs.declared.moment.Clock as Clock
+use Rattle.xfs_board.specs.contracts.backend.MachineBackend as backend
 use Rattle.xfs_board.specs.contracts.caller.Caller as caller
 use Rattle.xfs_board.specs.contracts.caller.Caller.TheInside as in_caller
 use Rattle.xfs_board.specs.contracts.client.ClientBoard as client
@@ -69,3 +70,10 @@ module _ (a : NamedLft) (N M D R : RattleType) (n : LockName.Ghosts N.Denot) (m 
         view_send (in_device.the_row a N M D R C n m d k) _ _ _ _
         (recorded_send (in_device.the_field a N M D R C n m d k).row _ _ fields.to_one
         (struct_send (shape fields) (caller_send, (service.the_field_send, (shr_send _ _ _ yc, ((search (owned.crosses, sendable) depth 20), (plain_send _ _ _ _ _, tt)))))))
+
+module _ (a : NamedLft) (N M D R C : RattleType) (n : LockName.Ghosts N.Denot) (m : Mechanism.Ghosts M.Denot) (d : Disk.Ghosts D.Denot) where
+  pub backend_send : IsSend M → IsSend D → IsSync R → IsSync C → IsSend (backend.the_row a N M D R C n m d)
+  backend_send sm sd yr yc =
+      let fields = backend.the_type a N M D R C n m d in
+      recorded_send (backend.the_field a N M D R C n m d).row _ _ fields.to_one
+      (struct_send (shape fields) (heap.the_field_send, (caller_send a N M D R n m d sm sd yr, (shr_send _ _ _ yc, ((search (owned.crosses, sendable) depth 20), tt)))))

@@ -1,10 +1,11 @@
 -- What the machine's boards tell: the counts of the caller's tally, and nothing of content.
-use Rattle.std.specs.Prelude.{Bool, None}
+use Rattle.std.specs.Prelude.{Bool, List, false, None}
 use Rattle.xfs_base.specs.declared.moment.Service.{Service}
 use Rattle.xfs_model.specs.State.{Pass}
 use Rattle.xfs_server.specs.Boards.{BoardLog}
 use Rattle.xfs_server.specs.Tendeds.{TendedLog}
-use Rattle.xfs_board.specs.Callers.{CallerView}
+use Rattle.xfs_board.specs.Callers.{CallerView, fresh}
+use Rattle.xfs_board.specs.declared.shared.Entry.{Entry}
 
 -- the board of the connection with this pass, and the clock whose moments its turns have
 pub record ClientView (M D C : Type 0) : Type 0 where
@@ -18,6 +19,10 @@ pub record DeviceView (M D C : Type 0) : Type 0 where
   pub service : Service
   pub clock : C
   pub closing : Bool
+
+-- the object of the worker of a service at its begin: it has made no calls, and hasn't told that it is closing
+abbrev pub fresh_device : {M D C : Type 0} → List (Entry M D) → Service → C → DeviceView M D C
+fresh_device seen service clock = record { caller = fresh seen; service = service; clock = clock; closing = false }
 
 abbrev pub client_log : {M D C : Type 0} → ClientView M D C → BoardLog
 client_log b = record { texts = None; handed = None; latest = None; posts = b.caller.tally.posts; turns = b.caller.tally.works; fetches = b.caller.tally.outboxes }

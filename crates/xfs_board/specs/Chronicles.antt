@@ -13,8 +13,8 @@ pub record Shared (D : Type 0) : Type 0 where
   pub machine : MachineView D
 
 -- a machine at the opening of the lock
-abbrev pub opened : {D : Type 0} → MachineView D → Shared D
-opened machine = record { start = guard_of machine; machine = machine }
+abbrev pub at_opening : {D : Type 0} → MachineView D → Shared D
+at_opening machine = record { start = guard_of machine; machine = machine }
 
 abbrev pub chronicle : {M D : Type 0} → Shared D → List (Entry M D)
 chronicle s = Began s.start ∷ map Written (drop s.start.state.base s.machine.state.seen.guard.records)
@@ -23,7 +23,7 @@ chronicle s = Began s.start ∷ map Written (drop s.start.state.base s.machine.s
 abbrev pub HasBase : {D : Type 0} → GuardView D → MachineView D → Type 0
 HasBase start m = m.state.seen.guard.base ≡ start.state.base
 
--- this machine comes back of the lock: it went on from a guard that was put behind it, and what was seen begins its chronicle
+-- a machine comes back of the lock: it went on from a guard that was put behind it, and what was seen begins its chronicle
 pub record ComesBack {M D : Type 0} (g : Ghosts D) (seen : List (Entry M D)) (last : MachineView D) : Type 0 where
   pub start : GuardView D
   pub begins : IsPrefix seen (chronicle (record { start = start; machine = last }))

@@ -18,12 +18,12 @@ abbrev pub IsTouched : {M D : Type 0} → List (Entry M D) → List (Entry M D) 
 IsTouched seen after touch (Ok done) = (answer : Touched) × IsTurn seen after (event.touch touch) (touched_as (Ok answer))
 IsTouched seen after touch (Err memory) = IsTurn seen after (event.touch touch) event.memory
 
--- such a turn, which the tally counts
+-- one turn in which the machine takes this touch, which the tally counts
 pub record CountsTouch {M D : Type 0} (old new : CallerView M D) (touch : Touch) (result : Result Unit Memory) : Type 0 where
   pub turn : IsTouched old.seen new.seen touch result
   pub tally : new.tally ≡ record old.tally { touches = next_count old.tally.touches }
 
--- a fault of the card slot or of the key pad is such a touch, and one of another service's watch nothing
+-- a fault of the card slot or of the key pad is a touch that is counted, and one of another service's watch nothing
 abbrev pub TakesFault : {M D : Type 0} → Service → CallerView M D → CallerView M D → Result Unit Memory → Type 0
 TakesFault Card old new result = CountsTouch old new CardFault result
 TakesFault Keys old new result = CountsTouch old new KeyFault result

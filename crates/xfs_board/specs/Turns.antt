@@ -21,13 +21,13 @@ pub record IsTurn {M D : Type 0} (seen after : List (Entry M D)) (event : Event)
   pub after_is : after ≡ chronicle left
   pub grown : IsPrefix seen after
 
--- such a turn with a moment that a clock tells
+-- one turn in which the machine takes one lawful step at a moment that a clock tells
 pub record IsTurnBy {M D : Type 0} (tells : Moment → Type 0) (seen after : List (Entry M D)) (event_at : Moment → Event) (answer : Answer) : Type 0 where
   pub now : Moment
   pub told : tells now
   pub turn : IsTurn seen after (event_at now) answer
 
--- such a turn, in which these frames are handed over: what they tell of the journal stands in the chronicle that the seat has seen
+-- one turn in which the machine takes one lawful step and hands over these frames: what they tell of the journal stands in the chronicle that the seat has seen
 pub record HandsTold {M D : Type 0} (seen after : List (Entry M D)) (event : Event) (answer : Answer) (frames : List (List ℕ)) : Type 0 where
   pub turn : IsTurn seen after event answer
   pub told : AllTell turn.left.machine.state frames

@@ -4,7 +4,7 @@ ghost use Rattle.std.specs.Prelude.{◌≡◌, ◌≤◌, IfOk, IfErr};
 ghost use mathlib.Core.List.{IsPrefix};
 ghost use Rattle.xfs_base.specs.Causes.{next_count};
 ghost use Rattle.xfs_base.specs.declared.moment.TheConstants.{LAST_MOMENT};
-ghost use Rattle.xfs_board.specs.Chronicles.{ComesBack, chronicle, opened};
+ghost use Rattle.xfs_board.specs.Chronicles.{ComesBack, chronicle, at_opening};
 ghost use Rattle.xfs_guard.specs.Keeps.{Proceeds};
 ghost use Rattle.xfs_machine.specs.Answers.{joined_as, posted, touched_as, worked};
 ghost use Rattle.xfs_machine.specs.Laws.{IsLawful};
@@ -77,7 +77,7 @@ impl<M: Mechanism, D: Disk> Chronicle for SharedMachine<M, D> {
 impl<M: Mechanism, D: Disk> SharedMachine<M, D> {
     // Where memory ran out the machine comes back.
     fn open(alloc: Global, machine: Machine<M, D>) -> Result<SharedMachine<M, D>, Machine<M, D>>
-        ensures ok { IfOk result (λ shared. shared ≡ opened machine) }
+        ensures ok { IfOk result (λ shared. shared ≡ at_opening machine) }
         ensures memory { IfErr result (λ refused. refused ≡ machine) }
     {
         let start = Snapshot::of(&machine);
@@ -174,7 +174,7 @@ pub fn open<M: Mechanism, D: Disk>(
     alloc: Global,
     machine: Machine<M, D>,
 ) -> Result<(Turn<SharedMachine<M, D>>, Seat<SharedMachine<M, D>>), (Machine<M, D>, Memory)>
-    ensures seat { IfOk result (λ t. t.1 ≡ record { lock = t.0; seen = chronicle (opened machine) }) }
+    ensures seat { IfOk result (λ t. t.1 ≡ record { lock = t.0; seen = chronicle (at_opening machine) }) }
     ensures memory { IfErr result (λ e. e.0 ≡ machine) }
 {
     let shared = match SharedMachine::open(alloc, machine) {

@@ -18,13 +18,13 @@ use Rattle.xfs_guard.specs.View.{View}
 use Rattle.xfs_guard.specs.Refusals.{Binds, bound_token, over_budget}
 use Rattle.xfs_guard.specs.declared.deny.Deny.{Deny as Denial}
 use Rattle.xfs_guard.specs.declared.open.Open.TheVariants.{No}
-use Rattle.xfs_dispenser.specs.Answers.{Answer, told, planned}
+use Rattle.xfs_dispenser.specs.Answers.{CashAnswer, told, planned}
 use Rattle.xfs_dispenser.specs.Begins.{IsDispensed, IsStorageSet, IsTold, RoomChecks, StartsWith, StorageChecks, added_refusal, are_few, unit_refusal}
-use Rattle.xfs_dispenser.specs.Checks.{Grant, Permits, TokenChecks, active_refusal, inactive_refusal, unfit_refusal, granted_unless, within_budget}
+use Rattle.xfs_dispenser.specs.Checks.{Passed, Permits, TokenChecks, active_refusal, inactive_refusal, unfit_refusal, passed_unless, within_budget}
 use Rattle.xfs_dispenser.specs.Denominations.{FirstOf, MixGiven, NotesGiven, count_refusal, currency_refusal, given_unless, members_refusal}
 use Rattle.xfs_dispenser.specs.Plans.{AreEight, CanBeginAll, IsPlanned, dispense_plan, storage_plan}
 use Rattle.xfs_dispenser.specs.Seen.{Seen}
-use Rattle.xfs_dispenser.specs.declared.leave.Leave.{Leave}
+use Rattle.xfs_dispenser.specs.declared.grant.Grant.{Grant}
 use Rattle.xfs_dispenser.specs.declared.named.Named.{Named}
 use Rattle.xfs_dispenser.specs.declared.named.Named.TheVariants.{These, OtherName}
 use Rattle.xfs_dispenser.specs.declared.notes.Notes.{Notes}
@@ -156,37 +156,37 @@ ok-err {T} x r a e f = (let g : ◌≡◌ {A = Result T Refusal} (Ok x) (Err r) 
 told-plan : (refusal : Refusal) (plan : Plan) → IsTold refusal (planned plan) → ⊥
 told-plan refusal plan t = (let e = t.is in cc)
 
-answer-plan : (answer : Answer) (plan : Plan) → planned plan ≡ told answer → ⊥
+answer-plan : (answer : CashAnswer) (plan : Plan) → planned plan ≡ told answer → ⊥
 answer-plan answer plan e = cc
 
 same-plan : (a b : Plan) → planned a ≡ planned b → a ≡ b
 same-plan a b e = cc
 
-granted-one : (g grant : Grant) (o : Option Denial) → ◌≡◌ {A = Result Grant Refusal} (Ok grant) (granted_unless g o) → grant ≡ g
-granted-one g grant None e = ok-same grant g (Ok grant) refl e
-granted-one g grant (Some d) e = absurd (ok-err grant _ (Ok grant) refl e)
+granted-one : (g passed : Passed) (o : Option Denial) → ◌≡◌ {A = Result Passed Refusal} (Ok passed) (passed_unless g o) → passed ≡ g
+granted-one g passed None e = ok-same passed g (Ok passed) refl e
+granted-one g passed (Some d) e = absurd (ok-err passed _ (Ok passed) refl e)
 
 -- what was granted is what was given
-granted-given : (v : View) (token : List ℕ) (amounts : List (List ℕ × ℕ)) (given : Result Counts Refusal) (grant : Grant) → Ok grant ≡ within_budget v token amounts given → given ≡ Ok grant.counts
-granted-given v token amounts (Err r) grant e = absurd (ok-err grant r (Ok grant) refl e)
-granted-given v token amounts (Ok counts) grant e =
-    let same : grant ≡ record { token = token; amounts = amounts; counts = counts } = granted-one (record { token = token; amounts = amounts; counts = counts }) grant (over_budget v amounts counts) e in
-    ap (λ (g : Grant). Ok g.counts) (sym same)
+granted-given : (v : View) (token : List ℕ) (amounts : List (List ℕ × ℕ)) (given : Result Counts Refusal) (passed : Passed) → Ok passed ≡ within_budget v token amounts given → given ≡ Ok passed.counts
+granted-given v token amounts (Err r) passed e = absurd (ok-err passed r (Ok passed) refl e)
+granted-given v token amounts (Ok counts) passed e =
+    let same : passed ≡ record { token = token; amounts = amounts; counts = counts } = granted-one (record { token = token; amounts = amounts; counts = counts }) passed (over_budget v amounts counts) e in
+    ap (λ (g : Passed). Ok g.counts) (sym same)
 
 -- the notes of a granted dispense are those of its denomination
-pub granted-notes : (v : View) (exchange : Bool) (notes : Notes) (token : Option (List ℕ)) (grant : Grant)
-    → FirstOf (members_refusal notes) (FirstOf (active_refusal exchange) (FirstOf (unfit_refusal v) (TokenChecks v notes token))) (Ok grant)
-    → (members_refusal notes ≡ None) × NotesGiven v.units v.places.units notes (Ok grant.counts)
-granted-notes v exchange notes token grant checks =
-    let a = none-first (members_refusal notes) (FirstOf (active_refusal exchange) (FirstOf (unfit_refusal v) (TokenChecks v notes token))) grant checks in
-    let b = none-first (active_refusal exchange) (FirstOf (unfit_refusal v) (TokenChecks v notes token)) grant a.1 in
-    let c = none-first (unfit_refusal v) (TokenChecks v notes token) grant b.1 in
+pub granted-notes : (v : View) (exchange : Bool) (notes : Notes) (token : Option (List ℕ)) (passed : Passed)
+    → FirstOf (members_refusal notes) (FirstOf (active_refusal exchange) (FirstOf (unfit_refusal v) (TokenChecks v notes token))) (Ok passed)
+    → (members_refusal notes ≡ None) × NotesGiven v.units v.places.units notes (Ok passed.counts)
+granted-notes v exchange notes token passed checks =
+    let a = none-first (members_refusal notes) (FirstOf (active_refusal exchange) (FirstOf (unfit_refusal v) (TokenChecks v notes token))) passed checks in
+    let b = none-first (active_refusal exchange) (FirstOf (unfit_refusal v) (TokenChecks v notes token)) passed a.1 in
+    let c = none-first (unfit_refusal v) (TokenChecks v notes token) passed b.1 in
     (a.0, go token c.1)
   where
-    go : (t : Option (List ℕ)) → TokenChecks v notes t (Ok grant) → NotesGiven v.units v.places.units notes (Ok grant.counts)
-    go None e = absurd (ok-err grant _ (Ok grant) refl e)
-    go (Some bytes) (inl r) = absurd (ok-err grant _ (Ok grant) refl r.is)
-    go (Some bytes) (inr p) = rw (granted-given v bytes p.amounts p.given grant p.is) at p.gives
+    go : (t : Option (List ℕ)) → TokenChecks v notes t (Ok passed) → NotesGiven v.units v.places.units notes (Ok passed.counts)
+    go None e = absurd (ok-err passed _ (Ok passed) refl e)
+    go (Some bytes) (inl r) = absurd (ok-err passed _ (Ok passed) refl r.is)
+    go (Some bytes) (inr p) = rw (granted-given v bytes p.amounts p.given passed p.is) at p.gives
 
 -- a plan with no order open, whose parts can be begun
 planned-parts : (v : View) (plan : Plan) (parts : List Part) → v.open_order ≡ No → plan.failed ≡ false → plan.parts.items ≡ parts → parts ≢ [] → CanBeginAll v parts → AreEight plan.notes → IsPlanned v plan
@@ -194,22 +194,22 @@ planned-parts v plan parts none fine are some can eight = record { some_left = �
 
 pub dispense-planned : (s : Seen) (exchange : Bool) (notes : Notes) (token : Option (List ℕ)) (next : Seen) (plan : Plan) → s.guard.open_order ≡ No
     → IsDispensed s exchange notes token next (planned plan) → IsPlanned next.guard plan
-dispense-planned s exchange notes token next plan none d = leave d.leave refl d.starts
+dispense-planned s exchange notes token next plan none d = grant d.grant refl d.starts
   where
-    checked : (c : Result Grant Refusal) (l : Leave) → d.checked ≡ c → Permits s c (Ok l) next → length l.counts.0 ≡ 8 → IsPlanned next.guard (dispense_plan l.issue l.counts)
+    checked : (c : Result Passed Refusal) (l : Grant) → d.checked ≡ c → Permits s c (Ok l) next → length l.counts.0 ≡ 8 → IsPlanned next.guard (dispense_plan l.issue l.counts)
     checked (Err r) l e p eight = absurd (ok-err l r (Ok l) refl p.0)
-    checked (Ok grant) l e (inr u) eight = absurd (ok-err l _ (Ok l) refl u.is)
-    checked (Ok grant) l e (inl p) eight =
-        let same = bound-same s.guard next.guard grant.token grant.amounts p.binds in
-        let notes_of = granted-notes s.guard exchange notes token grant (rw e at d.checks) in
-        let counts : l.counts ≡ grant.counts = ap (λ (x : Leave). x.counts) (ok-same l _ (Ok l) refl p.is) in
+    checked (Ok passed) l e (inr u) eight = absurd (ok-err l _ (Ok l) refl u.is)
+    checked (Ok passed) l e (inl p) eight =
+        let same = bound-same s.guard next.guard passed.token passed.amounts p.binds in
+        let notes_of = granted-notes s.guard exchange notes token passed (rw e at d.checks) in
+        let counts : l.counts ≡ passed.counts = ap (λ (x : Grant). x.counts) (ok-same l _ (Ok l) refl p.is) in
         planned-parts next.guard (dispense_plan l.issue l.counts) (stacks_from l.issue 1 l.counts.0) (same.2 ∙ none) refl (stacks-all l.issue l.counts.0)
-        (rw counts (stacks-left l.issue 1 grant.counts.0 (given-some s.guard.units s.guard.places.units notes grant.counts notes_of.0 notes_of.1)))
-        (rw counts (stacks-begin next.guard l.issue 0 grant.counts.0 (λ w high. let h = rw same.0 at high in given-past s.guard.units s.guard.places.units notes grant.counts notes_of.1 w (omega (arith, h))))) eight
+        (rw counts (stacks-left l.issue 1 passed.counts.0 (given-some s.guard.units s.guard.places.units notes passed.counts notes_of.0 notes_of.1)))
+        (rw counts (stacks-begin next.guard l.issue 0 passed.counts.0 (λ w high. let h = rw same.0 at high in given-past s.guard.units s.guard.places.units notes passed.counts notes_of.1 w (omega (arith, h))))) eight
 
-    leave : (r : Result Leave Refusal) → d.leave ≡ r → StartsWith r (λ (l : Leave). planned (dispense_plan l.issue l.counts)) (planned plan) → IsPlanned next.guard plan
-    leave (Err r) e t = absurd (told-plan r plan t)
-    leave (Ok l) e t = rw (same-plan plan (dispense_plan l.issue l.counts) t) (checked d.checked l refl (rw e at d.permits) (rw e at d.eight))
+    grant : (r : Result Grant Refusal) → d.grant ≡ r → StartsWith r (λ (l : Grant). planned (dispense_plan l.issue l.counts)) (planned plan) → IsPlanned next.guard plan
+    grant (Err r) e t = absurd (told-plan r plan t)
+    grant (Ok l) e t = rw (same-plan plan (dispense_plan l.issue l.counts) t) (checked d.checked l refl (rw e at d.permits) (rw e at d.eight))
 
 pub storage-planned : (v : View) (exchange : Bool) (added : Named) (plan : Plan) → v.open_order ≡ No → IsStorageSet v exchange added (planned plan) → IsPlanned v plan
 storage-planned v exchange added plan none d = go d.checked d.checks d.starts

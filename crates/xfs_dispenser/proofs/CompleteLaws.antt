@@ -36,16 +36,16 @@ use Rattle.xfs_guard.proofs.CoveredLaws.{IsAhead, IsOpenFor, budget-none, can-fi
 use Rattle.xfs_guard.proofs.PresentedLaws.{presented_in-push}
 use Rattle.xfs_guard.proofs.RecordLaws.{length-pushed}
 use Rattle.xfs_guard.proofs.SizeLaws.{size-longer}
-use Rattle.xfs_dispenser.specs.Answers.{Answer, Start, Went, denial, done, planned}
+use Rattle.xfs_dispenser.specs.Answers.{CashAnswer, Start, Went, denial, done, planned}
 use Rattle.xfs_dispenser.specs.Begins.{IsDispensed, IsTold, StartsWith}
-use Rattle.xfs_dispenser.specs.Checks.{Grant, DispenseChecks, IsPermitted, IsTokenPassed, IsUnbound, Permits, TokenChecks, active_refusal, granted_unless, unfit_refusal, within_budget}
+use Rattle.xfs_dispenser.specs.Checks.{Passed, DispenseChecks, IsPermitted, IsTokenPassed, IsUnbound, Permits, TokenChecks, active_refusal, passed_unless, unfit_refusal, within_budget}
 use Rattle.xfs_dispenser.specs.Complete.{AreAsked, CanGive, IsBegunInFull, IsCalm, IsComplete, IsGiven, IsPresented, Turns}
 use Rattle.xfs_dispenser.specs.Plans.{dispense_plan, order_plan, stacks}
 use Rattle.xfs_dispenser.specs.Seen.{Seen}
-use Rattle.xfs_dispenser.specs.declared.leave.Leave.{Leave}
+use Rattle.xfs_dispenser.specs.declared.grant.Grant.{Grant}
 use Rattle.xfs_dispenser.specs.declared.part.Part.{Part}
 use Rattle.xfs_dispenser.specs.declared.plan.Plan.{Plan}
-use Rattle.xfs_dispenser.specs.Denominations.{FirstOf, MixGiven, NotesGiven, currency_refusal, denominated, given_unless, has_currency, members_refusal}
+use Rattle.xfs_dispenser.specs.Denominations.{FirstOf, MixGiven, NotesGiven, currency_refusal, denomination_answer, given_unless, has_currency, members_refusal}
 use Rattle.xfs_dispenser.specs.declared.notes.Notes.{Notes}
 use Rattle.xfs_dispenser.specs.declared.notes.Notes.TheVariants.{Least, Individual}
 use Rattle.xfs_dispenser.specs.declared.refusal.Refusal.{Refusal}
@@ -56,12 +56,12 @@ use Rattle.xfs_dispenser.proofs.StackLaws.{TurnsOf, present-places, stacks-full}
 use Rattle.xfs_dispenser.proofs.TurnLaws.{carried-full}
 
 -- a list of counts is 0 everywhere where its sum is, and then alone
-all-zero : (xs : List ℕ) → ((w : ℕ) → get_or xs w 0 ≡ 0) → is_none xs ≡ true
+pub all-zero : (xs : List ℕ) → ((w : ℕ) → get_or xs w 0 ≡ 0) → is_none xs ≡ true
 all-zero [] none = refl
 all-zero (zero ∷ xs) none = all-zero xs (λ w. none (suc w))
 all-zero (suc n ∷ xs) none = (let e = none zero in absurd (omega (arith, e)))
 
-some-notes : (xs : List ℕ) → 1 ≤ sum xs → is_none xs ≡ false
+pub some-notes : (xs : List ℕ) → 1 ≤ sum xs → is_none xs ≡ false
 some-notes xs low = sym (sum_by-zero (λ x. x) xs) ∙ ne_eqb (sum xs) 0 (λ e. omega (arith, e, low))
 
 pub some-sum : (xs : List ℕ) → is_none xs ≡ false → 1 ≤ sum xs
@@ -88,7 +88,7 @@ all-held (h ∷ hs) [] lie = refl
 all-held (h ∷ hs) (c ∷ cs) lie = let first : nat_lt h c ≡ false = le-ltb h c (lie 0) in let rest = all-held hs cs (λ w. lie (suc w)) in rw (first, rest) (omega arith)
 
 -- counts that are covered are no fault
-fault-none : (v : View) (amounts : List (List ℕ × ℕ)) (counts : CountsOf) → IsCoveredBy v amounts counts → count_fault v.units v.places.units counts ≡ None
+pub fault-none : (v : View) (amounts : List (List ℕ × ℕ)) (counts : CountsOf) → IsCoveredBy v amounts counts → count_fault v.units v.places.units counts ≡ None
 fault-none v amounts counts c =
     go (is_none counts.0) (is_none (drop (length v.units) counts.0)) (nat_lt 60 (sum counts.0)) (nat_lt (prefix_len test pairs) (length pairs)) (prefix_len test pairs)
     (some-notes counts.0 c.low)
@@ -226,7 +226,7 @@ asked-given v (Least currency amount) amounts n given (low, high, mix) covered g
     let has : currency_refusal v.units currency ≡ None = rw (mix-currency v.units v.places.units currency amount n low mix) refl in
     mix-given v amounts currency amount n given low mix covered (subst (λ r. FirstOf r (MixGiven v.units v.places.units currency amount) given) has gives)
 
-token-unrefused : (v : View) (token : List ℕ) (amounts : List (List ℕ × ℕ)) (deny : Deny) (answer : Answer) → unfit v ≡ None → IsGood v token amounts → IsBindable v token → denial deny ≡ Some answer
+token-unrefused : (v : View) (token : List ℕ) (amounts : List (List ℕ × ℕ)) (deny : Deny) (answer : CashAnswer) → unfit v ≡ None → IsGood v token amounts → IsBindable v token → denial deny ≡ Some answer
     → TokenRefused v token deny → ⊥
 token-unrefused v token amounts deny answer fit g b due (inl e) = (let f : None ≡ Some deny = sym fit ∙ e in cc)
 token-unrefused v token amounts deny answer fit g b due (inr (e, inl m)) =
@@ -239,13 +239,13 @@ token-unrefused v token amounts deny answer fit g b due (inr (e, inr r)) =
     cc
 
 -- a dispense is granted
-pub record IsGranted (v : View) (notes : Notes) (token : List ℕ) (amounts : List (List ℕ × ℕ)) (result : Result Grant Refusal) : Type 0 where
+pub record IsGranted (v : View) (notes : Notes) (token : List ℕ) (amounts : List (List ℕ × ℕ)) (result : Result Passed Refusal) : Type 0 where
   pub counts : CountsOf
   pub given : NotesGiven v.units v.places.units notes (Ok counts)
   pub covered : IsCoveredBy v amounts counts
   pub is : result ≡ Ok (record { token = token; amounts = amounts; counts = counts })
 
-passed-granted : (v : View) (notes : Notes) (token : List ℕ) (c : CanGive v notes token) (result : Result Grant Refusal) → IsTokenPassed v notes token result → IsGranted v notes token c.can.amounts result
+passed-granted : (v : View) (notes : Notes) (token : List ℕ) (c : CanGive v notes token) (result : Result Passed Refusal) → IsTokenPassed v notes token result → IsGranted v notes token c.can.amounts result
 passed-granted v notes token c result p =
     let g = asked-given v notes c.can.amounts c.counts p.given c.asked c.can.covered p.gives in
     let amounts = same-amounts v token c.can.amounts p.amounts c.can.good p.passes in
@@ -254,19 +254,19 @@ passed-granted v notes token c result p =
       counts = g.counts;
       given = subst (λ r. NotesGiven v.units v.places.units notes r) g.is p.gives;
       covered = g.covered;
-      is = p.is ∙ (ap (λ a. within_budget v token a p.given) amounts ∙ (ap (within_budget v token c.can.amounts) g.is ∙ ap (granted_unless (record { token = token; amounts = c.can.amounts; counts = g.counts })) free));
+      is = p.is ∙ (ap (λ a. within_budget v token a p.given) amounts ∙ (ap (within_budget v token c.can.amounts) g.is ∙ ap (passed_unless (record { token = token; amounts = c.can.amounts; counts = g.counts })) free));
     }
 
 -- every check of a dispense against which nothing stands is passed, unless its answer is none
-checked-granted : (v : View) (notes : Notes) (token : List ℕ) (c : CanGive v notes token) (result : Result Grant Refusal) → DispenseChecks v false notes (Some token) result
-    → IsGranted v notes token c.can.amounts result ⊎ ((deny : Deny) × (result ≡ Err (Refused deny)) × ((answer : Answer) → denial deny ≡ Some answer → ⊥))
+checked-granted : (v : View) (notes : Notes) (token : List ℕ) (c : CanGive v notes token) (result : Result Passed Refusal) → DispenseChecks v false notes (Some token) result
+    → IsGranted v notes token c.can.amounts result ⊎ ((deny : Deny) × (result ≡ Err (Refused deny)) × ((answer : CashAnswer) → denial deny ≡ Some answer → ⊥))
 checked-granted v notes token c result checks =
     let a = subst (λ r. FirstOf r (FirstOf (active_refusal false) (FirstOf (unfit_refusal v) (TokenChecks v notes (Some token)))) result) (asked-members v notes c.counts c.asked) checks in
     let fit = can-fit v token c.counts c.can in
     let free : unfit_refusal v ≡ None = ap (option_map (λ d. Refused d)) fit in
     go fit (subst (λ r. FirstOf r (TokenChecks v notes (Some token)) result) free a)
   where
-    go : unfit v ≡ None → TokenChecks v notes (Some token) result → IsGranted v notes token c.can.amounts result ⊎ ((deny : Deny) × (result ≡ Err (Refused deny)) × ((answer : Answer) → denial deny ≡ Some answer → ⊥))
+    go : unfit v ≡ None → TokenChecks v notes (Some token) result → IsGranted v notes token c.can.amounts result ⊎ ((deny : Deny) × (result ≡ Err (Refused deny)) × ((answer : CashAnswer) → denial deny ≡ Some answer → ⊥))
     go fit (inl r) = inr (r.deny, r.is, λ answer due. token-unrefused v token c.can.amounts r.deny answer fit c.can.good c.can.binding due r.refused)
     go fit (inr p) = inl (passed-granted v notes token c result p)
 
@@ -276,36 +276,36 @@ ok-is x y e = cc
 ok-not : {T : Type 0} (x : T) (r : Refusal) → ◌≡◌ {A = Result T Refusal} (Ok x) (Err r) → ⊥
 ok-not x r e = cc
 
--- a dispense has leave, for the notes that were granted
+-- a dispense has a grant, for the notes that passed
 pub record IsLeft (s : Seen) (notes : Notes) (token : List ℕ) (amounts : List (List ℕ × ℕ)) (bound : Seen) (start : Start) : Type 0 where
   pub issue : ℕ
-  pub grant : Grant
-  pub given : NotesGiven s.guard.units s.guard.places.units notes (Ok grant.counts)
-  pub covered : IsCoveredBy s.guard amounts grant.counts
-  pub token_is : grant.token ≡ token
-  pub amounts_are : grant.amounts ≡ amounts
+  pub passed : Passed
+  pub given : NotesGiven s.guard.units s.guard.places.units notes (Ok passed.counts)
+  pub covered : IsCoveredBy s.guard amounts passed.counts
+  pub token_is : passed.token ≡ token
+  pub amounts_are : passed.amounts ≡ amounts
   pub lives : option_map (λ (n : Nonce). n.number) (live_nonce s.guard.records) ≡ Some issue
-  pub binds : Binds s.guard bound.guard grant.token grant.amounts
+  pub binds : Binds s.guard bound.guard passed.token passed.amounts
   pub later : s.disk_faults ≤ bound.disk_faults
-  pub eight : length grant.counts.0 ≡ 8
-  pub is : start ≡ planned (dispense_plan issue grant.counts)
+  pub eight : length passed.counts.0 ≡ 8
+  pub is : start ≡ planned (dispense_plan issue passed.counts)
 
 dispense-left : (s bound : Seen) (notes : Notes) (token : List ℕ) (start : Start) (c : CanGive s.guard notes token) → IsCalm s bound → IsDispensed s false notes (Some token) bound start
     → IsLeft s notes token c.can.amounts bound start
 dispense-left s bound notes token start c calm d = elim (checked-granted s.guard notes token c d.checked d.checks) [
-  | inl g ↦ permits (record { token = token; amounts = c.can.amounts; counts = g.counts }) refl refl g.given g.covered (subst (λ r. Permits s r d.leave bound) g.is d.permits)
-  | inr (deny, is, none) ↦ absurd (refused deny none (subst (λ r. Permits s r d.leave bound) is d.permits))
+  | inl g ↦ permits (record { token = token; amounts = c.can.amounts; counts = g.counts }) refl refl g.given g.covered (subst (λ r. Permits s r d.grant bound) g.is d.permits)
+  | inr (deny, is, none) ↦ absurd (refused deny none (subst (λ r. Permits s r d.grant bound) is d.permits))
 ]
   where
-    refused : (deny : Deny) → ((answer : Answer) → denial deny ≡ Some answer → ⊥) → (d.leave ≡ Err (Refused deny)) × (bound ≡ s) → ⊥
-    refused deny none (is, same) = (let t : IsTold (Refused deny) start = subst (λ r. StartsWith r (λ (l : Leave). planned (dispense_plan l.issue l.counts)) start) is d.starts in none t.answer t.due)
+    refused : (deny : Deny) → ((answer : CashAnswer) → denial deny ≡ Some answer → ⊥) → (d.grant ≡ Err (Refused deny)) × (bound ≡ s) → ⊥
+    refused deny none (is, same) = (let t : IsTold (Refused deny) start = subst (λ r. StartsWith r (λ (l : Grant). planned (dispense_plan l.issue l.counts)) start) is d.starts in none t.answer t.due)
 
-    permits : (grant : Grant) → grant.token ≡ token → grant.amounts ≡ c.can.amounts → NotesGiven s.guard.units s.guard.places.units notes (Ok grant.counts) → IsCoveredBy s.guard c.can.amounts grant.counts
-        → IsPermitted s grant d.leave bound ⊎ IsUnbound s grant d.leave bound → IsLeft s notes token c.can.amounts bound start
-    permits grant t a given covered (inr u) = absurd (calm.disk u.fails.cause)
-    permits grant t a given covered (inl p) = record {
+    permits : (passed : Passed) → passed.token ≡ token → passed.amounts ≡ c.can.amounts → NotesGiven s.guard.units s.guard.places.units notes (Ok passed.counts) → IsCoveredBy s.guard c.can.amounts passed.counts
+        → IsPermitted s passed d.grant bound ⊎ IsUnbound s passed d.grant bound → IsLeft s notes token c.can.amounts bound start
+    permits passed t a given covered (inr u) = absurd (calm.disk u.fails.cause)
+    permits passed t a given covered (inl p) = record {
       issue = p.issue;
-      grant = grant;
+      passed = passed;
       given = given;
       covered = covered;
       token_is = t;
@@ -313,19 +313,19 @@ dispense-left s bound notes token start c calm d = elim (checked-granted s.guard
       lives = p.lives;
       binds = p.binds;
       later = p.later;
-      eight = subst (λ r. IfOk r (λ (l : Leave). length l.counts.0 ≡ 8)) p.is d.eight;
-      is = subst (λ r. StartsWith r (λ (l : Leave). planned (dispense_plan l.issue l.counts)) start) p.is d.starts;
+      eight = subst (λ r. IfOk r (λ (l : Grant). length l.counts.0 ≡ 8)) p.is d.eight;
+      is = subst (λ r. StartsWith r (λ (l : Grant). planned (dispense_plan l.issue l.counts)) start) p.is d.starts;
     }
 
 -- the guard whose token is bound takes all of the orders
 bound-open : (s bound : Seen) (notes : Notes) (token : List ℕ) (start : Start) (c : CanGive s.guard notes token) (l : IsLeft s notes token c.can.amounts bound start)
-    → IsOpenFor bound.guard l.issue c.can.amounts 8 × IsAhead bound.guard c.can.amounts l.grant.counts.0 × (bound.guard.places ≡ s.guard.places) × (bound.guard.units ≡ s.guard.units) × (bound.guard.open_order ≡ s.guard.open_order)
+    → IsOpenFor bound.guard l.issue c.can.amounts 8 × IsAhead bound.guard c.can.amounts l.passed.counts.0 × (bound.guard.places ≡ s.guard.places) × (bound.guard.units ≡ s.guard.units) × (bound.guard.open_order ≡ s.guard.open_order)
 bound-open s bound notes token start c l = go c.can.binding
   where
-    short : length l.grant.token ≤ 1024
+    short : length l.passed.token ≤ 1024
     short = (let e = c.can.good.genuine.spelled.short in rw (← l.token_is) at e)
 
-    go : IsBindable s.guard token → IsOpenFor bound.guard l.issue c.can.amounts 8 × IsAhead bound.guard c.can.amounts l.grant.counts.0 × (bound.guard.places ≡ s.guard.places) × (bound.guard.units ≡ s.guard.units) × (bound.guard.open_order ≡ s.guard.open_order)
+    go : IsBindable s.guard token → IsOpenFor bound.guard l.issue c.can.amounts 8 × IsAhead bound.guard c.can.amounts l.passed.counts.0 × (bound.guard.places ≡ s.guard.places) × (bound.guard.units ≡ s.guard.units) × (bound.guard.open_order ≡ s.guard.open_order)
     go (inl b) =
         let now : bound.guard ≡ s.guard = l.binds.again (λ none. let e : Some token ≡ None = sym b ∙ none in cc) in
         rw now (
@@ -343,18 +343,18 @@ bound-open s bound notes token start c l = go c.can.binding
           refl,
         )
     go (inr f) =
-        let now : bound.guard ≡ record s.guard { records = s.guard.records ++ Bind l.grant.token ∷ []; bound = Some l.grant.amounts } = l.binds.first f.none in
-        let live = nonce-push s.guard.records (Bind l.grant.token) (λ count live. refl) in
+        let now : bound.guard ≡ record s.guard { records = s.guard.records ++ Bind l.passed.token ∷ []; bound = Some l.passed.amounts } = l.binds.first f.none in
+        let live = nonce-push s.guard.records (Bind l.passed.token) (λ count live. refl) in
         rw now (
           record {
             open_still = c.can.room.open_still;
             booted = c.can.room.booted;
-            records = (let e = c.can.room.records in let k = length-pushed s.guard.records (Bind l.grant.token) in omega (arith, e, k));
-            bytes = (let e = c.can.room.bytes in let k = size-longer s.guard.records (Bind l.grant.token) in let h = short in omega (arith, e, k, h));
+            records = (let e = c.can.room.records in let k = length-pushed s.guard.records (Bind l.passed.token) in omega (arith, e, k));
+            bytes = (let e = c.can.room.bytes in let k = size-longer s.guard.records (Bind l.passed.token) in let h = short in omega (arith, e, k, h));
             lives = ap (λ l. option_map (λ (n : Nonce). n.number) l) live ∙ l.lives;
             bound = ap (λ a. Some a) l.amounts_are;
           },
-          record { lie = l.covered.lie; enough = λ k. let e = l.covered.enough k in let q : presented_in s.guard.units (s.guard.records ++ Bind l.grant.token ∷ []) k ≡ presented_in s.guard.units s.guard.records k = presented_in-push s.guard.units s.guard.records (Bind l.grant.token) k in omega (arith, e, q) },
+          record { lie = l.covered.lie; enough = λ k. let e = l.covered.enough k in let q : presented_in s.guard.units (s.guard.records ++ Bind l.passed.token ∷ []) k ≡ presented_in s.guard.units s.guard.records k = presented_in-push s.guard.units s.guard.records (Bind l.passed.token) k in omega (arith, e, q) },
           refl,
           refl,
           refl,
@@ -368,23 +368,23 @@ turns-of : (parts : List Part) (s : Seen) (plan : Plan) (notes : Option CountsOf
 turns-of [] s plan notes next went some t = absurd (some refl)
 turns-of (part ∷ parts) s plan notes next went some t = t
 
-some-nonce : (l : Option Nonce) (issue : ℕ) → option_map (λ (n : Nonce). n.number) l ≡ Some issue → (n : Nonce) × (l ≡ Some n)
+pub some-nonce : (l : Option Nonce) (issue : ℕ) → option_map (λ (n : Nonce). n.number) l ≡ Some issue → (n : Nonce) × (l ≡ Some n)
 some-nonce None issue e = cc
 some-nonce (Some n) issue e = (n, refl)
 
 given-full : (s bound : Seen) (notes : Notes) (token : List ℕ) (start : Start) (c : CanGive s.guard notes token) (l : IsLeft s notes token c.can.amounts bound start) (next : Seen) (went : Went) → s.guard.open_order ≡ No
-    → length l.grant.counts.0 ≡ 8 → IsCalm bound next → Turns (3 * length (stacks l.issue l.grant.counts.0)) bound (dispense_plan l.issue l.grant.counts) next went → IsGiven s l.grant.counts next went
+    → length l.passed.counts.0 ≡ 8 → IsCalm bound next → Turns (3 * length (stacks l.issue l.passed.counts.0)) bound (dispense_plan l.issue l.passed.counts) next went → IsGiven s l.passed.counts next went
 given-full s bound notes token start c l next went none eight calm turns =
     let ready = bound-open s bound notes token start c l in
-    let some = stacks-left l.issue 1 l.grant.counts.0 (some-notes l.grant.counts.0 l.covered.low) in
-    let all = stacks-full l.issue c.can.amounts (Some l.grant.counts) l.grant.counts.0 0 bound (dispense_plan l.issue l.grant.counts) next went (omega (arith, eight)) (ready.4 ∙ none) refl (stacks-all l.issue l.grant.counts.0)
-    (less-room bound.guard l.issue 8 (length l.grant.counts.0) c.can.amounts (omega (arith, eight)) ready.0) ready.1 calm
-    (turns-of (stacks_from l.issue 1 l.grant.counts.0) bound (dispense_plan l.issue l.grant.counts) (Some l.grant.counts) next went some
-    (subst (λ parts. Turns (3 * length parts) bound (dispense_plan l.issue l.grant.counts) next went) (stacks-all l.issue l.grant.counts.0) turns)) in
+    let some = stacks-left l.issue 1 l.passed.counts.0 (some-notes l.passed.counts.0 l.covered.low) in
+    let all = stacks-full l.issue c.can.amounts (Some l.passed.counts) l.passed.counts.0 0 bound (dispense_plan l.issue l.passed.counts) next went (omega (arith, eight)) (ready.4 ∙ none) refl (stacks-all l.issue l.passed.counts.0)
+    (less-room bound.guard l.issue 8 (length l.passed.counts.0) c.can.amounts (omega (arith, eight)) ready.0) ready.1 calm
+    (turns-of (stacks_from l.issue 1 l.passed.counts.0) bound (dispense_plan l.issue l.passed.counts) (Some l.passed.counts) next went some
+    (subst (λ parts. Turns (3 * length parts) bound (dispense_plan l.issue l.passed.counts) next went) (stacks-all l.issue l.passed.counts.0) turns)) in
     let lives = some-nonce (live_nonce next.guard.records) l.issue all.open_for.lives in
-    let gained : (u : ℕ) → at next.guard.places.transport u ≡ at s.guard.places.transport u + at l.grant.counts u = (λ u. rw ready.2 at (all.transport u)) in
+    let gained : (u : ℕ) → at next.guard.places.transport u ≡ at s.guard.places.transport u + at l.passed.counts u = (λ u. rw ready.2 at (all.transport u)) in
     record {
-      is = all.is ∙ ap (λ units. done (denominated units l.grant.counts)) ready.3;
+      is = all.is ∙ ap (λ units. done (denomination_answer units l.passed.counts)) ready.3;
       gained = gained;
       given = λ u. rw ready.2 at (all.units u);
       outlet = λ u. rw ready.2 at (all.outlet u);
@@ -394,7 +394,7 @@ given-full s bound notes token start c l next went none eight calm turns =
         lives = lives.1;
         amounts = c.can.amounts;
         kept = all.open_for.bound;
-        low = some-gained s.guard.places.transport next.guard.places.transport l.grant.counts l.covered.low gained;
+        low = some-gained s.guard.places.transport next.guard.places.transport l.passed.counts l.covered.low gained;
         empty = empty;
       };
     }
@@ -404,7 +404,7 @@ dispense-full s bound notes token start none c calm d =
     let l = dispense-left s bound notes token start c calm d in
     record {
       issue = l.issue;
-      counts = l.grant.counts;
+      counts = l.passed.counts;
       given = l.given;
       plan = l.is;
       done = λ next went still turns. given-full s bound notes token start c l next went none l.eight still turns;

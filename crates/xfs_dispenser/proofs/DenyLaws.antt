@@ -11,7 +11,7 @@ use Rattle.xfs_guard.specs.Refusals.{Answers}
 use Rattle.xfs_guard.specs.View.{GuardView, shut_at}
 use Rattle.xfs_guard.specs.declared.deny.Deny.{Deny}
 use Rattle.xfs_guard.specs.declared.deny.Deny.TheVariants.{Disk, Memory}
-use Rattle.xfs_dispenser.specs.Answers.{IsDenial, Answer, Went, denial, done, plain}
+use Rattle.xfs_dispenser.specs.Answers.{IsDenial, CashAnswer, Went, denial, done, plain_answer}
 use Rattle.xfs_dispenser.specs.Seen.{seen}
 use Rattle.xfs_dispenser.specs.Steps.{IsDenied, IsUnwritten}
 
@@ -32,11 +32,11 @@ due-disk T Disk refusal answers is = answers
 due-disk T Memory refusal answers is = answers
 due-disk T deny refusal answers is = cc
 
-told-some : (deny : Deny) (answer : Answer) → denial deny ≡ Some answer → deny ≢ Memory
+told-some : (deny : Deny) (answer : CashAnswer) → denial deny ≡ Some answer → deny ≢ Memory
 told-some deny answer due is = (let e : None ≡ Some answer = sym (ap denial is) ∙ due in cc)
 
-told-disk : (deny : Deny) (answer : Answer) → denial deny ≡ Some answer → deny ≡ Disk → answer ≡ plain DeviceNotReady
-told-disk deny answer due is = (let e : Some (plain DeviceNotReady) ≡ Some answer = sym (ap denial is) ∙ due in cc)
+told-disk : (deny : Deny) (answer : CashAnswer) → denial deny ≡ Some answer → deny ≡ Disk → answer ≡ plain_answer DeviceNotReady
+told-disk deny answer due is = (let e : Some (plain_answer DeviceNotReady) ≡ Some answer = sym (ap denial is) ∙ due in cc)
 
 -- a record is refused, or the disk fails at it
 pub refused-or-unwritten : (T : Type 0) {D : Type 0} (g : Ghosts D) (old new : GuardView D) (refusal : Option Deny) (r : Rec) (deny : Deny) (went : Went)
@@ -62,7 +62,3 @@ refused-or-unwritten T g old new refusal r deny went answers disk later cause sa
 pub on-err : {T E : Type 0} {P Q : Type 0} (r : Result T E) → (P → Q) → OnErr r P → OnErr r Q
 on-err (Ok x) f h = tt
 on-err (Err e) f h = f h
-
-pub always-err : {T E : Type 0} {P : Type 0} (r : Result T E) → P → OnErr r P
-always-err (Ok x) h = tt
-always-err (Err e) h = h

@@ -1,14 +1,14 @@
 pub mod BeginLaws
 mod CarryLaws
 mod CommandLaws
-mod CompleteLaws
+pub mod CompleteLaws
 mod CurrencyLaws
 mod DenyLaws
-mod LeaveLaws
+mod GrantLaws
 mod PayloadLaws
 mod PlanLaws
 mod SendLaws
-mod StackLaws
+pub mod StackLaws
 pub mod StepLaws
 mod StorageLaws
 pub mod TurnLaws

@@ -18,7 +18,7 @@ use Rattle.xfs_guard.specs.declared.deny.Deny.{Deny}
 use Rattle.xfs_guard.specs.declared.deny.Deny.TheVariants.{Shut, Full, TooLong, KeyNoValue, Format, NoNonce, WrongNonce, WrongMac, NoAmounts, OtherBound, NotEmpty, OverBudget, Unbound, Nothing, OutletFull, Short, Disk, Memory}
 use Rattle.xfs_guard.specs.declared.open.Open.{Open}
 use Rattle.xfs_guard.specs.declared.open.Open.TheVariants.{No, Written, Acted}
-use Rattle.xfs_dispenser.specs.Answers.{Answer, Start, Went, done, denial, answer_of, start_payload, went_payload}
+use Rattle.xfs_dispenser.specs.Answers.{CashAnswer, Start, Went, done, denial, answer_of, start_payload, went_payload}
 use Rattle.xfs_dispenser.specs.Begins.{Begins, IsTold, StartsUnless, StartsWith}
 use Rattle.xfs_dispenser.specs.Checks.{active_refusal, inactive_refusal}
 use Rattle.xfs_dispenser.specs.Denominations.{currencies_of, denomination_payload, values_of, with_count, with_currency}
@@ -93,10 +93,10 @@ text-IsPayload text = (refl, refl, omega arith)
 number-IsPayload : (n : ℕ) → IsPayload (record_payload n)
 number-IsPayload n = (refl, refl, omega arith)
 
-due : (a answer : Answer) → IsPayload a.payload → Some a ≡ Some answer → IsPayload answer.payload
-due a answer is e = let same : a ≡ answer = cc in subst (λ (x : Answer). IsPayload x.payload) same is
+due : (a answer : CashAnswer) → IsPayload a.payload → Some a ≡ Some answer → IsPayload answer.payload
+due a answer is e = let same : a ≡ answer = cc in subst (λ (x : CashAnswer). IsPayload x.payload) same is
 
-denial-IsPayload : (deny : Deny) (answer : Answer) → denial deny ≡ Some answer → IsPayload answer.payload
+denial-IsPayload : (deny : Deny) (answer : CashAnswer) → denial deny ≡ Some answer → IsPayload answer.payload
 denial-IsPayload Shut answer e = due _ answer empty-IsPayload e
 denial-IsPayload Full answer e = due _ answer empty-IsPayload e
 denial-IsPayload Disk answer e = due _ answer empty-IsPayload e
@@ -116,7 +116,7 @@ denial-IsPayload (OutletFull notes) answer e = due _ answer empty-IsPayload e
 denial-IsPayload (Short unit) answer e = due _ answer (text-IsPayload (error_text NotDispensable)) e
 denial-IsPayload Memory answer e = absurd (let f : None ≡ Some answer = e in cc)
 
-refusal-IsPayload : (r : Refusal) (answer : Answer) → answer_of r ≡ Some answer → IsPayload answer.payload
+refusal-IsPayload : (r : Refusal) (answer : CashAnswer) → answer_of r ≡ Some answer → IsPayload answer.payload
 refusal-IsPayload refusal.InvalidData answer e = due _ answer empty-IsPayload e
 refusal-IsPayload refusal.NoToken answer e = due _ answer empty-IsPayload e
 refusal-IsPayload (refusal.Error fault) answer e = due _ answer (text-IsPayload (error_text fault)) e
@@ -142,7 +142,7 @@ with-start (Err r) begun start can is = told-start r start is
 -- what a command begins with can be sent
 pub begins-sent : (s : Seen) (exchange : Bool) (ask : CashAsk) (next : Seen) (after : Bool) (start : Start) → Begins s exchange ask next after start → IfSome (start_payload start) IsPayload
 begins-sent s exchange (Denominate notes) next after start b = with-start b.2.given _ start (λ counts. denomination-IsPayload s.guard.units counts) b.2.starts
-begins-sent s exchange (Dispense notes token) next after start b = with-start b.1.leave _ start (λ _. tt) b.1.starts
+begins-sent s exchange (Dispense notes token) next after start b = with-start b.1.grant _ start (λ _. tt) b.1.starts
 begins-sent s exchange Present next after start b = unless-start (active_refusal exchange) _ start tt b.2
 begins-sent s exchange Reject next after start b = unless-start (active_refusal exchange) _ start tt b.2
 begins-sent s exchange Retract next after start b = unless-start (active_refusal exchange) _ start tt b.2
@@ -170,7 +170,7 @@ settled-sent units plan false = onward-sent units plan.notes plan.parts.items
 denied-sent : (s : Seen) (why : Option Deny) (next : Seen) (went : Went) → IsDenied s why next went → CanGo went
 denied-sent s why next went d = subst CanGo (sym d.is) (denial-IsPayload d.deny d.answer d.due)
 
-loaded-sent : (units : List NoteKind) (notes : Option Counts) (rest : List Part) (answer : Answer) (failed : Bool) → IsPayload answer.payload → CanGo (if failed then done answer else onward units notes rest)
+loaded-sent : (units : List NoteKind) (notes : Option Counts) (rest : List Part) (answer : CashAnswer) (failed : Bool) → IsPayload answer.payload → CanGo (if failed then done answer else onward units notes rest)
 loaded-sent units notes rest answer true can = can
 loaded-sent units notes rest answer false can = onward-sent units notes rest
 

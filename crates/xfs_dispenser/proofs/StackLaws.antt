@@ -48,7 +48,7 @@ present-places p q n d h w =
     (omega (arith, c), omega (arith, b))
 
 -- behind an order that was carried out in full
-open-after : (s middle : Seen) (issue u n : ℕ) (amounts : List (List ℕ × ℕ)) (orders : ℕ)
+pub open-after : (s middle : Seen) (issue u n : ℕ) (amounts : List (List ℕ × ℕ)) (orders : ℕ)
     → IsFull s (AskStack issue (u + 1) n) middle → IsOpenFor s.guard issue amounts (suc orders) → IsOpenFor middle.guard issue amounts orders
 open-after s middle issue u n amounts orders f o =
     let notes = notes_of (u + 1) n in
@@ -67,7 +67,7 @@ open-after s middle issue u n amounts orders f o =
       bound = f.bound ∙ o.bound;
     }
 
-ahead-after : (s middle : Seen) (issue u n : ℕ) (amounts : List (List ℕ × ℕ)) (rest : List ℕ) → u < 8
+pub ahead-after : (s middle : Seen) (issue u n : ℕ) (amounts : List (List ℕ × ℕ)) (rest : List ℕ) → u < 8
     → IsFull s (AskStack issue (u + 1) n) middle → IsAhead s.guard amounts (ahead u (n ∷ rest)) → IsAhead middle.guard amounts (ahead (suc u) rest)
 ahead-after s middle issue u n amounts rest low f h = record {
   lie = λ w. let p = (stack-places s.guard.places middle.guard.places f.number notes f.diverted f.places f.none w).0 in let e = ahead-split u n w rest low in let l = h.lie w in omega (arith, p, e, l);
@@ -90,7 +90,7 @@ pub record IsStacked (s : Seen) (issue : ℕ) (amounts : List (List ℕ × ℕ))
   pub outlet : (w : ℕ) → at next.guard.places.outlet w ≡ at s.guard.places.outlet w
   pub open_for : IsOpenFor next.guard issue amounts 0
 
-more-room : (v : View) (issue orders : ℕ) (amounts : List (List ℕ × ℕ)) → IsOpenFor v issue amounts (suc orders) → IsOpenFor v issue amounts orders
+pub more-room : (v : View) (issue orders : ℕ) (amounts : List (List ℕ × ℕ)) → IsOpenFor v issue amounts (suc orders) → IsOpenFor v issue amounts orders
 more-room v issue orders amounts o = record { open_still = o.open_still; booted = o.booted; records = omega (arith, o.records); bytes = omega (arith, o.bytes); lives = o.lives; bound = o.bound }
 
 -- a unit of which nothing is asked

@@ -1,12 +1,14 @@
 -- What a step of a plan keeps: the parts behind it can still be begun, and it adds no other entry than the one that it may.
-use Rattle.std.proofs.Common.{◌≡◌, ◌≢◌, ◌≤◌, ◌+◌, ◌-◌, ◌==◌, ℕ, List, [], ◌∷◌, inl, inr, refl, sym, subst, ◌∙◌, arith}
-use Rattle.std.specs.Prelude.{⊤, if◌then◌else◌}
+use Rattle.std.proofs.Common.{◌≡◌, ◌≢◌, ◌≤◌, ◌+◌, ◌-◌, ◌==◌, ℕ, List, [], ◌∷◌, Ok, Err, inl, inr, refl, sym, subst, ◌∙◌, arith}
+use Rattle.std.specs.Prelude.{⊤, IsErrAnd, if◌then◌else◌}
 use Rattle.std.specs.List.{AllByRecursion}
+use Rattle.std.specs.declared.result.Result.{Result}
 use Rattle.std.proofs.lemmas.Bool.{ne_eqb}
 use Rattle.xfs_base.specs.Counts.{at, all_notes}
 use Rattle.xfs_base.specs.declared.counts.Counts.{Counts}
 use Rattle.xfs_base.specs.declared.counts.Kind.{Kind}
 use Rattle.xfs_base.specs.declared.counts.Places.{Places}
+use Rattle.xfs_base.specs.declared.faults.Memory.{Memory}
 use Rattle.xfs_base.specs.declared.money.NoteKind.{NoteKind}
 use Rattle.xfs_disk.specs.Moments.{LeavesOnly}
 use Rattle.xfs_disk.specs.declared.disk.Disk.{Ghosts}
@@ -21,11 +23,12 @@ use Rattle.xfs_guard.specs.CrashOutcomes.{MayMove, StandsThrough}
 use Rattle.xfs_guard.specs.Keeps.{Keeps, NoEntry}
 use Rattle.xfs_guard.specs.Orders.{IsActed}
 use Rattle.xfs_guard.specs.View.{View, GuardView}
+use Rattle.xfs_guard.proofs.KeepsLaws.{Keeps-same, Proceeds-same}
 use Rattle.xfs_guard.specs.declared.ask.Ask.TheVariants as Ask
 use Rattle.xfs_guard.specs.declared.open.Open.{Open}
 use Rattle.xfs_guard.specs.declared.open.Open.TheVariants.{No, Written, Acted}
 use Rattle.xfs_dispenser.specs.Plans.{CanBegin, CanBeginAll, IsNoLoadOf, IsPlanned, KeepsOutcome}
-use Rattle.xfs_dispenser.specs.Steps.{LoadsEntry, MayWork}
+use Rattle.xfs_dispenser.specs.Steps.{KeepsStep, LoadsEntry, MayWork}
 use Rattle.xfs_dispenser.specs.declared.part.Part.{Part}
 use Rattle.xfs_dispenser.specs.declared.part.Part.TheVariants.{Order, Restore, Load, Note}
 use Rattle.xfs_dispenser.specs.declared.plan.Plan.{Plan}
@@ -41,6 +44,22 @@ Keeps-fewer g More Fewer old new fewer k = record {
   where
     through : (bytes : List ℕ) → StandsThrough old.state More bytes → StandsThrough old.state Fewer bytes
     through bytes s = record { records = s.records; stands = s.stands; before = s.before; after = λ entry now may grows. s.after entry now (fewer entry may) grows }
+
+-- a step that was done
+pub KeepsStep-done : {T D : Type 0} (g : Ghosts D) (MayAdd : Motion → Type 0) (done : T) (old new : GuardView D) → Keeps g MayAdd old new → KeepsStep {T = T} g MayAdd (Ok done) old new
+KeepsStep-done g MayAdd done old new k = record { proceeds = k.proceeds; keeps = k; still = λ upheld. tt }
+
+-- a step that wanted memory, and has done nothing
+pub KeepsStep-same : {T D : Type 0} (g : Ghosts D) (MayAdd : Motion → Type 0) (P : Memory → Type 0) (result : Result T Memory) (x : GuardView D) → IsErrAnd result P
+    → ((d : D) (c : List ℕ) → g.images_since d (g.moment d) c → g.images d c) → KeepsStep g MayAdd result x x
+KeepsStep-same g MayAdd P (Ok done) x err only_now = absurd err
+KeepsStep-same g MayAdd P (Err e) x err only_now = record { proceeds = Proceeds-same g x only_now; keeps = tt; still = λ upheld. Keeps-same g x only_now upheld }
+
+-- a step that wanted memory in a call that keeps more
+pub KeepsStep-err : {T D : Type 0} (g : Ghosts D) (MayAdd More : Motion → Type 0) (P : Memory → Type 0) (result : Result T Memory) (old new : GuardView D) → IsErrAnd result P
+    → Keeps g More old new → KeepsStep g MayAdd result old new
+KeepsStep-err g MayAdd More P (Ok done) old new err k = absurd err
+KeepsStep-err g MayAdd More P (Err e) old new err k = record { proceeds = k.proceeds; keeps = tt; still = λ upheld. Keeps-fewer g More NoEntry old new (λ entry none. absurd none) k }
 
 not-written : (o : Open) (kind : Kind) (counts : Counts) → IsActed o → o ≡ Written kind counts → ⊥
 not-written (Acted k m d f) kind counts acted e = cc

@@ -142,7 +142,7 @@ pub record IsCarried (s : Seen) (plan : Plan) (ask : Ask) (rest : List Part) (n 
   pub parts : after.parts.items ≡ rest
   pub later : FollowsTurn (Turns n) middle after (onward s.guard.units plan.notes rest) next went
 
-written-kind : (k j : Kind) (a b : Counts) → Written k a ≡ Written j b → (j ≡ k) × (b ≡ a)
+pub written-kind : (k j : Kind) (a b : Counts) → Written k a ≡ Written j b → (j ≡ k) × (b ≡ a)
 written-kind k j a b e = (cc, cc)
 
 acted-moved : (k j : Kind) (m n d e : Counts) (f g : Bool) → Acted k m d f ≡ Acted j n e g → (n ≡ m) × (e ≡ d) × (g ≡ f)
@@ -151,12 +151,12 @@ acted-moved k j m n d e f g h = (cc, cc, cc)
 places-at : (n : ℕ) (k j : Kind) (m c d : Counts) (p q r t : Places) → p ≡ q → k ≡ j → m ≡ c → r ≡ t → PlacesOf p (Moved n k m d ∷ []) t → PlacesOf q (Moved n j c d ∷ []) r
 places-at n k j m c d p q r t a b e f h = rw (← a, ← b, ← e, f) h
 
-sound : (b : Bool) → (b ≡ true → ⊥) → b ≡ false
+pub sound : (b : Bool) → (b ≡ true → ⊥) → b ≡ false
 sound true never = absurd (never refl)
 sound false never = refl
 
 -- written, acted with all of its notes, and settled
-full-of : (s : Seen) (ask : Ask) (written acted next : Seen) (moved diverted : Counts) (failed : Bool) → written.guard ≡ ordered s.guard ask → failed ≡ false
+pub full-of : (s : Seen) (ask : Ask) (written acted next : Seen) (moved diverted : Counts) (failed : Bool) → written.guard ≡ ordered s.guard ask → failed ≡ false
     → Acts written.guard acted.guard moved diverted failed → Settles acted.guard next.guard → IsFull s ask next
 full-of s ask written acted next moved diverted failed w fine a t =
     let asked = written-kind (asked_kind ask) a.kind (asked_counts s.guard ask) a.counts (sym (ap (λ (v : View). v.open_order) w) ∙ a.written) in

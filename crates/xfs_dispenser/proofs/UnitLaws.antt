@@ -8,6 +8,7 @@ use Rattle.std.proofs.lemmas.Bool.{and_parts, and_from}
 use Rattle.std.proofs.lemmas.Slice.Eq.{bytes_eq-Decides}
 use Rattle.serde_json.specs.Data.{Members, no_members, member}
 use Rattle.xfs_base.specs.Counts.{at}
+use Rattle.xfs_guard.proofs.ReplayLaws.{eight as units_of}
 use Rattle.xfs_units.specs.Payloads.{unit_name, added_of, AllAdded, IsUnitName, AreUnits}
 use Rattle.xfs_dispenser.specs.Named.{all_units, is_unit, are_units, are_all}
 
@@ -77,22 +78,4 @@ are_all-to (member name d ms) all =
 
 -- eight counts that are each told by their unit
 pub eight : (f : ℕ → ℕ) (xs : List ℕ) → length xs ≡ 8 → ((u : ℕ) → u < 8 → at record { 0 = xs } u ≡ f (u + 1)) → xs ≡ map f all_units
-eight f [] long is = absurd (omega (arith, long))
-eight f (a ∷ []) long is = absurd (omega (arith, long))
-eight f (a ∷ b ∷ []) long is = absurd (omega (arith, long))
-eight f (a ∷ b ∷ c ∷ []) long is = absurd (omega (arith, long))
-eight f (a ∷ b ∷ c ∷ d ∷ []) long is = absurd (omega (arith, long))
-eight f (a ∷ b ∷ c ∷ d ∷ e ∷ []) long is = absurd (omega (arith, long))
-eight f (a ∷ b ∷ c ∷ d ∷ e ∷ g ∷ []) long is = absurd (omega (arith, long))
-eight f (a ∷ b ∷ c ∷ d ∷ e ∷ g ∷ h ∷ []) long is = absurd (omega (arith, long))
-eight f (a ∷ b ∷ c ∷ d ∷ e ∷ g ∷ h ∷ i ∷ j ∷ js) long is = absurd (omega (arith, long))
-eight f (a ∷ b ∷ c ∷ d ∷ e ∷ g ∷ h ∷ i ∷ []) long is =
-    let a' : a ≡ f 1 = is 0 (omega arith) in
-    let b' : b ≡ f 2 = is 1 (omega arith) in
-    let c' : c ≡ f 3 = is 2 (omega arith) in
-    let d' : d ≡ f 4 = is 3 (omega arith) in
-    let e' : e ≡ f 5 = is 4 (omega arith) in
-    let g' : g ≡ f 6 = is 5 (omega arith) in
-    let h' : h ≡ f 7 = is 6 (omega arith) in
-    let i' : i ≡ f 8 = is 7 (omega arith) in
-    cc
+eight f xs long is = units_of (λ u. f (u + 1)) xs long is

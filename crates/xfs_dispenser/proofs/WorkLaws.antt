@@ -15,7 +15,7 @@ use Rattle.xfs_guard.specs.declared.ask.Ask.{Ask}
 use Rattle.xfs_guard.specs.declared.ask.Ask.TheVariants.{Reject, Retract}
 use Rattle.xfs_guard.specs.declared.open.Open.{Open}
 use Rattle.xfs_guard.specs.declared.open.Open.TheVariants.{No, Written, Acted}
-use Rattle.xfs_dispenser.specs.Answers.{Answer, Went, more, done, went_of}
+use Rattle.xfs_dispenser.specs.Answers.{CashAnswer, Went, more, done, went_of}
 use Rattle.xfs_dispenser.specs.Plans.{AreEight, CanBeginAll, IsPlanned, KeepsOutcome, emptying, order_of_all, with_parts}
 use Rattle.xfs_dispenser.specs.Seen.{Seen}
 use Rattle.xfs_dispenser.specs.Steps.{DoesFirst, DoesPart, IsActed, IsSettled, Loads, Notes, Orders, Restores, Works, WorksOn, onward, settled}
@@ -25,7 +25,7 @@ use Rattle.xfs_dispenser.specs.declared.plan.Plan.{Plan}
 use Rattle.xfs_dispenser.specs.declared.progress.Progress.{Progress}
 use Rattle.xfs_dispenser.proofs.StepLaws.{begin-loaded, begin-still, moved-room, same-room}
 
-never : (answer : Answer) → more ≡ done answer → ⊥
+never : (answer : CashAnswer) → more ≡ done answer → ⊥
 never answer e = cc
 
 goes-on : (units : List NoteKind) (notes : Option Counts) (parts : List Part) → more ≡ onward units notes parts → parts ≢ []
@@ -36,7 +36,7 @@ settled-on : (units : List NoteKind) (plan : Plan) (failed : Bool) → more ≡ 
 settled-on units plan true e = absurd (never _ e)
 settled-on units plan false e = goes-on units plan.notes plan.parts.items e
 
-loaded-on : (units : List NoteKind) (notes : Option Counts) (parts : List Part) (answer : Answer) (failed : Bool) → more ≡ (if failed then done answer else onward units notes parts) → (failed ≡ false) × (parts ≢ [])
+loaded-on : (units : List NoteKind) (notes : Option Counts) (parts : List Part) (answer : CashAnswer) (failed : Bool) → more ≡ (if failed then done answer else onward units notes parts) → (failed ≡ false) × (parts ≢ [])
 loaded-on units notes parts answer true e = absurd (never answer e)
 loaded-on units notes parts answer false e = (refl, goes-on units notes parts e)
 
@@ -154,7 +154,7 @@ restores-over s plan next after went (inr (kept, told, inl f)) = ap (λ (v : Vie
 restores-over s plan next after went (inr (kept, told, inr (inl u))) = ap (λ (v : View). v.open_order) u.fails.becomes.guard_is ∙ unread-closed s.guard u.now u.is
 restores-over s plan next after went (inr (kept, told, inr (inr u))) = ap (λ (v : View). v.open_order) u.becomes.guard_is
 
-part-over : (part : Part) (rest : List Part) (s : Seen) (plan : Plan) (next : Seen) (after : Plan) (answer : Answer) → s.guard.open_order ≡ No → DoesPart part rest s plan next after (done answer) → next.guard.open_order ≡ No
+part-over : (part : Part) (rest : List Part) (s : Seen) (plan : Plan) (next : Seen) (after : Plan) (answer : CashAnswer) → s.guard.open_order ≡ No → DoesPart part rest s plan next after (done answer) → next.guard.open_order ≡ No
 part-over (Order ask) rest s plan next after answer none (inl (w, left, is)) = absurd (never answer (sym is))
 part-over (Order ask) rest s plan next after answer none (inr (kept, inl d)) = ap (λ (x : Seen). x.guard.open_order) d.same ∙ none
 part-over (Order ask) rest s plan next after answer none (inr (kept, inr u)) = ap (λ (v : View). v.open_order) u.fails.becomes.guard_is ∙ none
@@ -165,7 +165,7 @@ part-over (Note unit count) rest s plan next after answer none (inr (kept, inl d
 part-over (Note unit count) rest s plan next after answer none (inr (kept, inr u)) = ap (λ (v : View). v.open_order) u.fails.becomes.guard_is ∙ none
 
 -- a step that gives the answer
-pub work-over : (s : Seen) (plan : Plan) (next : Seen) (after : Plan) (answer : Answer) → Works s plan next after (done answer) → next.guard.open_order ≡ No
+pub work-over : (s : Seen) (plan : Plan) (next : Seen) (after : Plan) (answer : CashAnswer) → Works s plan next after (done answer) → next.guard.open_order ≡ No
 work-over s plan next after answer w = go s.guard.open_order refl w
   where
     first : (parts : List Part) → s.guard.open_order ≡ No → DoesFirst parts s plan next after (done answer) → next.guard.open_order ≡ No
@@ -178,7 +178,7 @@ work-over s plan next after answer w = go s.guard.open_order refl w
     go (Acted kind moved diverted failed) e (kept, inr u) = ap (λ (v : View). v.open_order) u.unsettles.same
     go No e d = first plan.parts.items e d
 
-pub at-answer : (P : Type 0) (Q : Went → Type 0) (r : Result Progress Memory) → ((answer : Answer) → Q (done answer) → P) → IfOk r (λ p. Q (went_of p)) → IfOk r (λ p. p ≢ Progress.More → P)
+pub at-answer : (P : Type 0) (Q : Went → Type 0) (r : Result Progress Memory) → ((answer : CashAnswer) → Q (done answer) → P) → IfOk r (λ p. Q (went_of p)) → IfOk r (λ p. p ≢ Progress.More → P)
 at-answer P Q (Ok Progress.More) f h = λ other. absurd (other refl)
 at-answer P Q (Ok (Progress.Result code payload)) f h = λ other. f _ h
 at-answer P Q (Err m) f h = tt

@@ -20,58 +20,58 @@ use Rattle.xfs_dispenser.specs.declared.refusal.Refusal.{Refusal}
 use Rattle.xfs_dispenser.specs.declared.refusal.Refusal.TheVariants as refusal
 
 -- a completion code, and the payload
-pub record Answer : Type 0 where
+pub record CashAnswer : Type 0 where
   pub code : Code
   pub payload : Data
 
 -- a code with a payload as it was made
-abbrev pub answered : Code → Value → Answer
+abbrev pub answered : Code → Value → CashAnswer
 answered code payload = record { code = code; payload = view payload }
 
--- with the payload {}
-abbrev pub plain : Code → Answer
-plain code = record { code = code; payload = nothing }
+-- an answer with the payload {}
+abbrev pub plain_answer : Code → CashAnswer
+plain_answer code = record { code = code; payload = nothing }
 
--- an error of the command
-abbrev pub error : ErrorCode → Answer
-error fault = record { code = Code.CommandErrorCode; payload = error_payload (error_text fault) }
+-- the answer that tells an error of the command
+abbrev pub error_answer : ErrorCode → CashAnswer
+error_answer fault = record { code = Code.CommandErrorCode; payload = error_payload (error_text fault) }
 
--- with the number of the record that explains it
-abbrev pub noted : Code → ℕ → Answer
-noted code since = record { code = code; payload = record_payload since }
+-- an answer with the number of the record that explains it
+abbrev pub record_answer : Code → ℕ → CashAnswer
+record_answer code since = record { code = code; payload = record_payload since }
 
 -- what a refusal of the guard is answered; want of memory is no answer
-abbrev pub denial : Deny → Option Answer
-denial Shut = Some (plain Code.DeviceNotReady)
-denial Full = Some (plain Code.DeviceNotReady)
-denial Disk = Some (plain Code.DeviceNotReady)
-denial TooLong = Some (plain Code.NotEnoughSpace)
-denial (KeyNoValue at) = Some (plain Code.InvalidTokenKeyNoValue)
-denial (Format at) = Some (plain Code.InvalidTokenFormat)
-denial (NoNonce since) = Some (noted Code.NoCommandNonce since)
-denial (WrongNonce since) = Some (noted Code.InvalidTokenNonce since)
-denial (WrongMac due) = Some (plain Code.InvalidTokenHmac)
-denial NoAmounts = Some (plain Code.InvalidTokenFormat)
-denial (OtherBound since) = Some (plain Code.InvalidToken)
-denial (NotEmpty notes) = Some (plain Code.SequenceError)
-denial (OverBudget currency left) = Some (plain Code.InvalidToken)
-denial (Unbound since) = Some (plain Code.AuthorisationRequired)
-denial Nothing = Some (error NoItems)
-denial (OutletFull notes) = Some (plain Code.SequenceError)
-denial (Short unit) = Some (error NotDispensable)
+abbrev pub denial : Deny → Option CashAnswer
+denial Shut = Some (plain_answer Code.DeviceNotReady)
+denial Full = Some (plain_answer Code.DeviceNotReady)
+denial Disk = Some (plain_answer Code.DeviceNotReady)
+denial TooLong = Some (plain_answer Code.NotEnoughSpace)
+denial (KeyNoValue at) = Some (plain_answer Code.InvalidTokenKeyNoValue)
+denial (Format at) = Some (plain_answer Code.InvalidTokenFormat)
+denial (NoNonce since) = Some (record_answer Code.NoCommandNonce since)
+denial (WrongNonce since) = Some (record_answer Code.InvalidTokenNonce since)
+denial (WrongMac due) = Some (plain_answer Code.InvalidTokenHmac)
+denial NoAmounts = Some (plain_answer Code.InvalidTokenFormat)
+denial (OtherBound since) = Some (plain_answer Code.InvalidToken)
+denial (NotEmpty notes) = Some (plain_answer Code.SequenceError)
+denial (OverBudget currency left) = Some (plain_answer Code.InvalidToken)
+denial (Unbound since) = Some (plain_answer Code.AuthorisationRequired)
+denial Nothing = Some (error_answer NoItems)
+denial (OutletFull notes) = Some (plain_answer Code.SequenceError)
+denial (Short unit) = Some (error_answer NotDispensable)
 denial Memory = None
 
 -- what a refusal is answered
-abbrev pub answer_of : Refusal → Option Answer
-answer_of refusal.InvalidData = Some (plain Code.InvalidData)
-answer_of refusal.NoToken = Some (plain Code.AuthorisationRequired)
-answer_of (refusal.Error fault) = Some (error fault)
+abbrev pub answer_of : Refusal → Option CashAnswer
+answer_of refusal.InvalidData = Some (plain_answer Code.InvalidData)
+answer_of refusal.NoToken = Some (plain_answer Code.AuthorisationRequired)
+answer_of (refusal.Error fault) = Some (error_answer fault)
 answer_of (refusal.Deny deny) = denial deny
 answer_of refusal.Memory = None
 
 -- what a command has begun with, its payload seen as its value: its answer, or its plan
 pub data Start : Type 0 where
-  told : Answer → Start
+  told : CashAnswer → Start
   planned : Plan → Start
 
 abbrev pub start_of : Begun → Start
@@ -86,7 +86,7 @@ start_payload (planned plan) = None
 -- what a step has come to: there is more to do, or the answer
 pub data Went : Type 0 where
   more : Went
-  done : Answer → Went
+  done : CashAnswer → Went
 
 abbrev pub went_of : Progress → Went
 went_of progress.More = more
@@ -99,6 +99,6 @@ went_payload (done answer) = Some answer.payload
 
 -- the answer is that of a refusal of the guard
 pub record IsDenial (deny : Deny) (went : Went) : Type 0 where
-  pub answer : Answer
+  pub answer : CashAnswer
   pub due : denial deny ≡ Some answer
   pub is : went ≡ done answer

@@ -13,15 +13,15 @@ use Rattle.xfs_dispenser.specs.Named.{storage_in}
 use Rattle.xfs_dispenser.specs.Notes.{notes_in}
 
 -- the token's text: Some None where it is absent or null, None where it is no text
-abbrev pub token_of : Data → Option (Option (List ℕ))
-token_of payload = result_ok (member_as as_str (member_of (codes "token") payload))
+abbrev pub token_in : Data → Option (Option (List ℕ))
+token_in payload = result_ok (member_as as_str (member_of (codes "token") payload))
 
 -- the token isn't looked at
 abbrev pub denominate_of : Data → Result CashAsk CashFail
 denominate_of payload = ok_or (option_map ask.Denominate (notes_in payload)) Shape
 
 abbrev pub dispense_of : Data → Result CashAsk CashFail
-dispense_of payload = ok_or (option_and_then (λ notes. option_map (ask.Dispense notes) (token_of payload)) (notes_in payload)) Shape
+dispense_of payload = ok_or (option_and_then (λ notes. option_map (ask.Dispense notes) (token_in payload)) (notes_in payload)) Shape
 
 abbrev pub set_storage_of : Data → Result CashAsk CashFail
 set_storage_of payload = ok_or (option_map ask.SetStorage (storage_in payload)) Shape

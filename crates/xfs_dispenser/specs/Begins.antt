@@ -13,14 +13,14 @@ use Rattle.xfs_mix.specs.Asked.{is_none}
 use Rattle.xfs_guard.specs.View.{View}
 use Rattle.xfs_guard.specs.declared.ask.Ask.{Ask as Asked}
 use Rattle.xfs_guard.specs.declared.ask.Ask.TheVariants as Ask
-use Rattle.xfs_dispenser.specs.Answers.{Answer, Start, told, planned, plain, answer_of}
-use Rattle.xfs_dispenser.specs.Checks.{Grant, DispenseChecks, Permits, active_refusal, inactive_refusal, unfit_refusal}
-use Rattle.xfs_dispenser.specs.Denominations.{Denominates, FirstOf, denominated}
+use Rattle.xfs_dispenser.specs.Answers.{CashAnswer, Start, told, planned, plain_answer, answer_of}
+use Rattle.xfs_dispenser.specs.Checks.{Passed, DispenseChecks, Permits, active_refusal, inactive_refusal, unfit_refusal}
+use Rattle.xfs_dispenser.specs.Denominations.{Denominates, FirstOf, denomination_answer}
 use Rattle.xfs_dispenser.specs.Plans.{dispense_plan, order_plan, reset_plan, storage_plan}
 use Rattle.xfs_dispenser.specs.Seen.{Seen}
 use Rattle.xfs_dispenser.specs.declared.ask.CashAsk.{CashAsk}
 use Rattle.xfs_dispenser.specs.declared.ask.CashAsk.TheVariants.{Denominate, Dispense, Present, Reject, Reset, Retract, StartExchange, SetStorage, EndExchange}
-use Rattle.xfs_dispenser.specs.declared.leave.Leave.{Leave}
+use Rattle.xfs_dispenser.specs.declared.grant.Grant.{Grant}
 use Rattle.xfs_dispenser.specs.declared.named.Named.{Named}
 use Rattle.xfs_dispenser.specs.declared.named.Named.TheVariants.{These, OtherName}
 use Rattle.xfs_dispenser.specs.declared.notes.Notes.{Notes}
@@ -29,16 +29,16 @@ use Rattle.xfs_dispenser.specs.declared.refusal.Refusal.TheVariants.{InvalidData
 
 -- the answer is the refusal's
 pub record IsTold (refusal : Refusal) (start : Start) : Type 0 where
-  pub answer : Answer
+  pub answer : CashAnswer
   pub due : answer_of refusal ≡ Some answer
   pub is : start ≡ told answer
 
--- a refusal is told; else the command starts so
+-- a refusal is told; where there is none, the command starts as it would otherwise
 abbrev pub StartsUnless : Option Refusal → Start → Start → Type 0
 StartsUnless (Some refusal) otherwise start = IsTold refusal start
 StartsUnless None otherwise start = start ≡ otherwise
 
--- the same of checks that come to a value
+-- the checks end in a refusal, which is told, or in a value, with which the command starts
 abbrev pub StartsWith : {T : Type 0} → Result T Refusal → (T → Start) → Start → Type 0
 StartsWith (Err refusal) begun start = IsTold refusal start
 StartsWith (Ok value) begun start = start ≡ begun value
@@ -47,16 +47,16 @@ StartsWith (Ok value) begun start = start ≡ begun value
 pub record IsDenominated (v : View) (notes : Notes) (start : Start) : Type 0 where
   pub given : Result Counts Refusal
   pub checks : Denominates v notes given
-  pub starts : StartsWith given (λ counts. told (denominated v.units counts)) start
+  pub starts : StartsWith given (λ counts. told (denomination_answer v.units counts)) start
 
 -- Dispense: the token is bound, and the orders of the units are planned, for a count of each of eight units
 pub record IsDispensed (s : Seen) (exchange : Bool) (notes : Notes) (token : Option (List ℕ)) (next : Seen) (start : Start) : Type 0 where
-  pub checked : Result Grant Refusal
+  pub checked : Result Passed Refusal
   pub checks : DispenseChecks s.guard exchange notes token checked
-  pub leave : Result Leave Refusal
-  pub permits : Permits s checked leave next
-  pub eight : IfOk leave (λ (l : Leave). length l.counts.0 ≡ 8)
-  pub starts : StartsWith leave (λ (l : Leave). planned (dispense_plan l.issue l.counts)) start
+  pub grant : Result Grant Refusal
+  pub permits : Permits s checked grant next
+  pub eight : IfOk grant (λ (l : Grant). length l.counts.0 ≡ 8)
+  pub starts : StartsWith grant (λ (l : Grant). planned (dispense_plan l.issue l.counts)) start
 
 -- each count is at most 10,000
 abbrev pub are_few : List ℕ → Bool
@@ -76,17 +76,17 @@ unit_refusal units OtherName = Some (Error InvalidUnit)
 unit_refusal units (These added) = if is_none (drop (length units) added.0) then None else Some (Error InvalidUnit)
 
 -- a unit takes so many notes, where there are some
-abbrev pub Takes : View → ℕ → ℕ → Type 0
-Takes v unit count = 0 < count → CanLoad v.units v.places unit count
+abbrev pub UnitTakes : View → ℕ → ℕ → Type 0
+UnitTakes v unit count = 0 < count → CanLoad v.units v.places unit count
 
 -- each unit takes what is added to it
-abbrev pub HasRoom : View → Counts → Type 0
-HasRoom v added = (u : ℕ) → Takes v (u + 1) (at added u)
+abbrev pub UnitsHaveRoom : View → Counts → Type 0
+UnitsHaveRoom v added = (u : ℕ) → UnitTakes v (u + 1) (at added u)
 
--- the limits hold; or one would be passed
+-- the room of the units: what is added passes no limit; or it would pass one
 abbrev pub RoomChecks : View → Named → Result Counts Refusal → Type 0
-RoomChecks v (These added) (Ok counts) = (counts ≡ added) × HasRoom v added
-RoomChecks v (These added) (Err refusal) = (refusal ≡ Error StorageFull) × ¬ HasRoom v added
+RoomChecks v (These added) (Ok counts) = (counts ≡ added) × UnitsHaveRoom v added
+RoomChecks v (These added) (Err refusal) = (refusal ≡ Error StorageFull) × ¬ UnitsHaveRoom v added
 RoomChecks v OtherName result = ⊥
 
 -- the checks of SetStorage, in their order
@@ -104,13 +104,13 @@ pub record IsStorageSet (v : View) (exchange : Bool) (added : Named) (start : St
 abbrev pub StartsOrder : Asked → Bool → Start → Type 0
 StartsOrder ask exchange start = StartsUnless (active_refusal exchange) (planned (order_plan ask)) start
 
--- StartExchange: it is active then
+-- StartExchange: an exchange is active then
 abbrev pub StartsExchange : Bool → Bool → Start → Type 0
-StartsExchange exchange after start = (after ≡ true) × StartsUnless (active_refusal exchange) (told (plain Code.Success)) start
+StartsExchange exchange after start = (after ≡ true) × StartsUnless (active_refusal exchange) (told (plain_answer Code.Success)) start
 
--- EndExchange: none is
+-- EndExchange: no exchange is active then
 abbrev pub EndsExchange : Bool → Bool → Start → Type 0
-EndsExchange exchange after start = (after ≡ false) × StartsUnless (inactive_refusal exchange) (told (plain Code.Success)) start
+EndsExchange exchange after start = (after ≡ false) × StartsUnless (inactive_refusal exchange) (told (plain_answer Code.Success)) start
 
 -- what begins of what is asked, by command: what is seen of the guard and whether an exchange is active, before and after
 abbrev pub Begins : Seen → Bool → CashAsk → Seen → Bool → Start → Type 0

@@ -21,14 +21,14 @@ pub record IsOrderActed (s : Seen) (ask : Ask) (outcome : Outcome) (acted : Seen
   pub acts : Acts written.guard acted.guard outcome.moved outcome.diverted outcome.failed
   pub called : MechCalled written outcome.failed acted
 
--- and its Done is kept
+-- an order was written, acted and settled: its Done is kept
 pub record IsOrderSettled (s : Seen) (ask : Ask) (outcome : Outcome) (next : Seen) : Type 0 where
   pub acted : Seen
   pub first : IsOrderActed s ask outcome acted
   pub settles : Settles acted.guard next.guard
   pub later : acted.disk_faults ≤ next.disk_faults
 
--- and the disk failed at its Done
+-- an order was written and acted, and the disk failed at its Done
 pub record IsOrderUnsettled (s : Seen) (ask : Ask) (next : Seen) : Type 0 where
   pub outcome : Outcome
   pub acted : Seen
@@ -75,13 +75,13 @@ pub record StacksUnit (Onward : Outcome → Seen → Result Outcome Deny → See
   pub carried : CarriesOut s ask one middle
   pub onward : FollowsUnit Onward all u one middle result next
 
--- these counts are stacked from the unit u on, which counts from 0, unit by unit, behind all that was stacked before
+-- counts are stacked from the unit u on, which counts from 0, unit by unit, behind all that was stacked before
 abbrev pub Stacks : ℕ → List ℕ → ℕ → Outcome → Seen → Result Outcome Deny → Seen → Type 0
 Stacks issue [] u all s result next = (result ≡ Ok all) × (next ≡ s)
 Stacks issue (zero ∷ counts) u all s result next = Stacks issue counts (u + 1) all s result next
 Stacks issue (suc n ∷ counts) u all s result next = StacksUnit (Stacks issue counts (u + 1)) s (Stack issue (u + 1) (suc n)) all u result next
 
--- all these counts are stacked
+-- the counts of all units are stacked
 abbrev pub StacksAll : ℕ → Counts → Seen → Result Outcome Deny → Seen → Type 0
 StacksAll issue counts s result next = Stacks issue counts.0 0 nothing_stacked s result next
 

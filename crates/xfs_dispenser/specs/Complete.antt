@@ -9,9 +9,9 @@ use Rattle.xfs_guard.specs.View.{View}
 use Rattle.xfs_guard.specs.declared.ask.Ask.TheVariants as Ask
 use Rattle.xfs_guard.specs.declared.open.Open.TheVariants.{No}
 use Rattle.xfs_mix.specs.Mix.{IsMix}
-use Rattle.xfs_dispenser.specs.Answers.{Start, Went, planned, more, done, plain}
+use Rattle.xfs_dispenser.specs.Answers.{Start, Went, planned, more, done, plain_answer}
 use Rattle.xfs_dispenser.specs.Begins.{Begins}
-use Rattle.xfs_dispenser.specs.Denominations.{NotesGiven, denominated}
+use Rattle.xfs_dispenser.specs.Denominations.{NotesGiven, denomination_answer}
 use Rattle.xfs_dispenser.specs.Plans.{dispense_plan, order_plan}
 use Rattle.xfs_dispenser.specs.Seen.{Seen}
 use Rattle.xfs_dispenser.specs.Steps.{Works}
@@ -26,7 +26,7 @@ pub record IsCalm (s next : Seen) : Type 0 where
   pub mech : ¬ (Rose s.guard.faults next.guard.faults)
   pub disk : ¬ (Rose s.disk_faults next.disk_faults)
 
--- these counts are asked for by unit, or are a mix for the amount
+-- counts are asked for by unit, or are a mix for the amount that is asked for
 abbrev pub AreAsked : View → Notes → CountsOf → Type 0
 AreAsked v (Individual named) counts = named ≡ These counts
 AreAsked v (Least currency amount) counts = (1 ≤ amount) × (amount ≤ 1000000) × IsMix v.units v.places.units currency amount counts
@@ -57,7 +57,7 @@ Turns (suc n) s plan next went = Turn (Turns n) s plan next went
 
 -- all notes of a dispense went from the units to the transport, the answer tells them, and where the outlet is empty nothing stands against a present
 pub record IsGiven (s : Seen) (counts : CountsOf) (next : Seen) (went : Went) : Type 0 where
-  pub is : went ≡ done (denominated s.guard.units counts)
+  pub is : went ≡ done (denomination_answer s.guard.units counts)
   pub gained : (u : ℕ) → at next.guard.places.transport u ≡ at s.guard.places.transport u + at counts u
   pub given : (u : ℕ) → at next.guard.places.units u + at counts u ≡ at s.guard.places.units u
   pub outlet : (u : ℕ) → at next.guard.places.outlet u ≡ at s.guard.places.outlet u
@@ -65,7 +65,7 @@ pub record IsGiven (s : Seen) (counts : CountsOf) (next : Seen) (went : Went) : 
 
 -- the whole transport went into the outlet
 pub record IsPresented (s next : Seen) (went : Went) : Type 0 where
-  pub is : went ≡ done (plain Success)
+  pub is : went ≡ done (plain_answer Success)
   pub gained : (u : ℕ) → at next.guard.places.outlet u ≡ at s.guard.places.outlet u + at s.guard.places.transport u
   pub left : IsZero next.guard.places.transport
 

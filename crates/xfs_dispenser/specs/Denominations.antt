@@ -17,7 +17,7 @@ use Rattle.xfs_mix.specs.Mix.{IsMix, IsLeast}
 use Rattle.xfs_mix.specs.declared.asked.CountFault.{CountFault}
 use Rattle.xfs_mix.specs.declared.asked.CountFault.TheVariants as count
 use Rattle.xfs_units.specs.Payloads.{unit_name}
-use Rattle.xfs_dispenser.specs.Answers.{Answer}
+use Rattle.xfs_dispenser.specs.Answers.{CashAnswer}
 use Rattle.xfs_dispenser.specs.Units.{kinds_with, units_with}
 use Rattle.xfs_dispenser.specs.declared.named.Named.TheVariants.{These, OtherName}
 use Rattle.xfs_dispenser.specs.declared.notes.Notes.{Notes}
@@ -73,7 +73,7 @@ Denominates v notes = FirstOf (members_refusal notes) (NotesGiven v.units v.plac
 abbrev pub with_currency : List NoteKind → Counts → Members → NoteKind → Members
 with_currency units counts ms kind = with_member kind.currency (number (unsigned (value units counts kind.currency / 1000))) ms
 
--- the same of each unit with notes
+-- each currency of a unit with notes, with the whole amount of all the notes in it
 abbrev pub currencies_of : List NoteKind → Counts → Members
 currencies_of units counts = fold (with_currency units counts) no_members (kinds_with units counts.0)
 
@@ -81,7 +81,7 @@ currencies_of units counts = fold (with_currency units counts) no_members (kinds
 abbrev pub with_count : Members → ℕ × ℕ → Members
 with_count ms u = with_member (unit_name u.0) (number (unsigned u.1)) ms
 
--- the same of each unit with notes
+-- each unit with notes, and how many
 abbrev pub values_of : List ℕ → Members
 values_of counts = fold with_count no_members (units_with counts)
 
@@ -92,6 +92,6 @@ denomination_payload units counts =
     (member (codes "currencies") (object (currencies_of units counts))
     (member (codes "values") (object (values_of counts.0)) no_members)))
 
--- the answer that tells them
-abbrev pub denominated : List NoteKind → Counts → Answer
-denominated units counts = record { code = Code.Success; payload = denomination_payload units counts }
+-- the answer that tells the notes of a denomination
+abbrev pub denomination_answer : List NoteKind → Counts → CashAnswer
+denomination_answer units counts = record { code = Code.Success; payload = denomination_payload units counts }

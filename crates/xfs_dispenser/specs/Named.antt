@@ -40,7 +40,7 @@ counts_by count = record { 0 = map count all_units }
 abbrev pub named_in : (Data → Option ℕ) → Data → Members → Named
 named_in count d ms = if are_units ms then These (counts_by (λ unit. count_in count unit d)) else OtherName
 
--- the same, where every value has a count
+-- the counts in an object of members whose values all have a count, or that a name isn't a unit's
 abbrev pub counted_in : (Data → Option ℕ) → Data → Members → Option Named
 counted_in count d ms = if are_all count ms then Some (named_in count d ms) else None
 
@@ -48,24 +48,24 @@ counted_in count d ms = if are_all count ms then Some (named_in count d ms) else
 abbrev pub count_of : Data → Option ℕ
 count_of d = whole_in 0 1000000 d
 
--- every value is such a count
+-- every value is a count of `values`
 abbrev pub are_counts : Members → Bool
 are_counts ms = are_all count_of ms
 
--- the counts in an object, where it is one of such counts
-abbrev pub counts_of : Data → Option Named
-counts_of d = option_and_then (counted_in count_of d) (as_object d)
+-- the counts by name that an object of `values` has
+abbrev pub named_counts : Data → Option Named
+named_counts d = option_and_then (counted_in count_of d) (as_object d)
 
--- no notes where there are no values
-abbrev pub values_of : Option Data → Option Named
-values_of None = Some (These (counts_by (λ unit. 0)))
-values_of (Some d) = counts_of d
+-- the counts in `values`, where there are any, and else no notes
+abbrev pub counts_or_none : Option Data → Option Named
+counts_or_none None = Some (These (counts_by (λ unit. 0)))
+counts_or_none (Some d) = named_counts d
 
--- the counts in `values` of a denomination, which may be absent or null
+-- the counts of a denomination, whose `values` may be absent or null
 abbrev pub values_in : Data → Option Named
-values_in denomination = values_of (member_of (codes "values") denomination)
+values_in denomination = counts_or_none (member_of (codes "values") denomination)
 
--- there is a member
+-- an object has a member
 abbrev pub has_members : Members → Bool
 has_members no_members = false
 has_members (member name d ms) = true

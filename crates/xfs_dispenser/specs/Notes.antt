@@ -14,13 +14,13 @@ abbrev pub currency_of : List ℕ → Option (List ℕ)
 currency_of letters = if is_currency letters then Some letters else None
 
 -- a currency with its amount, a whole number from 1 to 1,000,000
-abbrev pub amount_of : List ℕ → Data → Option Notes
-amount_of letters d = option_and_then (λ currency. option_map (Least currency) (whole_in 1 1000000 d)) (currency_of letters)
+abbrev pub least_of : List ℕ → Data → Option Notes
+least_of letters d = option_and_then (λ currency. option_map (Least currency) (whole_in 1 1000000 d)) (currency_of letters)
 
 -- the only member is a currency with its amount
 abbrev pub only_amount : Members → Option Notes
 only_amount no_members = None
-only_amount (member letters d no_members) = amount_of letters d
+only_amount (member letters d no_members) = least_of letters d
 only_amount (member letters d (member other e ms)) = None
 
 -- the mix `minimum`: one currency with its amount
@@ -31,7 +31,7 @@ least_in denomination = option_and_then only_amount (option_and_then as_object (
 abbrev pub individual_in : Data → Option Notes
 individual_in denomination = option_map Individual (values_in denomination)
 
--- by the mix's name
+-- the notes of a denomination, by the name of the mix
 abbrev pub notes_by : List ℕ → Data → Option Notes
 notes_by mix denomination =
     if bytes_eq mix (codes "minimum") then least_in denomination

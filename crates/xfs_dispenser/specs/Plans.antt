@@ -36,7 +36,7 @@ emptying places = order_of_all Reject places.transport ++ order_of_all Retract p
 abbrev pub plan_of : Option Counts → List Part → Plan
 plan_of notes parts = record { notes = notes; parts = record { items = parts }; failed = false }
 
--- the same plan, with these parts left
+-- a plan with other parts left
 abbrev pub with_parts : Plan → List Part → Plan
 with_parts plan parts = record plan { parts = record { items = parts } }
 

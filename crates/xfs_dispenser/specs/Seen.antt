@@ -9,16 +9,16 @@ pub record Seen : Type 0 where
   pub guard : View
   pub disk_faults : ℕ
 
--- the same of a guard with its disk
+-- what is seen of a guard with its disk
 abbrev pub seen : {D : Type 0} → Ghosts D → GuardView D → Seen
 seen g now = record { guard = now.state; disk_faults = g.faults now.disk }
 
--- this is the guard then; the disk may have been called
+-- the guard is this one then; its disk may have been called
 pub record Becomes (old : Seen) (now : View) (new : Seen) : Type 0 where
   pub guard_is : new.guard ≡ now
   pub later : old.disk_faults ≤ new.disk_faults
 
--- the disk failed, and this is the guard then
+-- the disk failed, and the guard is this one then
 pub record Fails (old : Seen) (now : View) (new : Seen) : Type 0 where
   pub becomes : Becomes old now new
   pub cause : Rose old.disk_faults new.disk_faults

@@ -1,6 +1,6 @@
 ghost use Rattle.std.specs.Prelude.{◌≡◌, ◌≢◌, codes, Ok, Err, Some, None, IfOk};
 ghost use Rattle.serde_json.specs.View.{view};
-ghost use Rattle.xfs_dispenser.specs.Asks.{ask_of, denominate_of, dispense_of, set_storage_of, token_of};
+ghost use Rattle.xfs_dispenser.specs.Asks.{ask_of, denominate_of, dispense_of, set_storage_of, token_in};
 ghost use Rattle.xfs_dispenser.specs.declared.ask.CashFail.TheVariants as CashFail;
 
 use crate::named::{Named, read_storage};
@@ -14,7 +14,7 @@ use xfs_json::{Value, words};
 pub enum CashAsk {
     /// Which notes a Dispense of this denomination would give.
     Denominate { notes: Notes },
-    /// Notes are moved from the units to the transport, with the leave of a token. The token's
+    /// Notes are moved from the units to the transport, with the grant of a token. The token's
     /// text is kept as it came; None where there was none.
     Dispense { notes: Notes, token: Option<Bytes> },
     /// The notes on the transport are moved to the outlet.
@@ -99,8 +99,8 @@ fn read_dispense(alloc: Global, payload: &Value) -> Result<CashAsk, CashFail>
 }
 
 fn read_token(alloc: Global, payload: &Value) -> Result<Option<Bytes>, CashFail>
-    ensures ok { IfOk result (λ token. token_of (view payload.now) ≡ Some token) }
-    ensures shape { result ≡ Err CashFail.Shape → token_of (view payload.now) ≡ None }
+    ensures ok { IfOk result (λ token. token_in (view payload.now) ≡ Some token) }
+    ensures shape { result ≡ Err CashFail.Shape → token_in (view payload.now) ≡ None }
     ensures known { result ≢ Err CashFail.Unknown }
 {
     match words(payload, "token") {

@@ -9,8 +9,8 @@ ghost use Rattle.xfs_guard.specs.declared.open.Open.TheVariants.{No};
 ghost use Rattle.xfs_envelope.specs.Messages.{IsPayload};
 ghost use Rattle.xfs_envelope.specs.declared.code.Code.TheVariants as Code;
 ghost use Rattle.xfs_mix.specs.Asked.{is_none};
-ghost use Rattle.xfs_dispenser.specs.Answers.{plain as plain_answer, start_of, start_payload, told};
-ghost use Rattle.xfs_dispenser.specs.Begins.{Begins, EndsExchange, HasRoom, IsDenominated, IsDispensed, IsStorageSet, IsTold, RoomChecks, StartsExchange, StartsOrder, StartsUnless, StorageChecks, Takes, added_refusal, are_added, are_few, unit_refusal};
+ghost use Rattle.xfs_dispenser.specs.Answers.{plain_answer, start_of, start_payload, told};
+ghost use Rattle.xfs_dispenser.specs.Begins.{Begins, EndsExchange, UnitsHaveRoom, IsDenominated, IsDispensed, IsStorageSet, IsTold, RoomChecks, StartsExchange, StartsOrder, StartsUnless, StorageChecks, UnitTakes, added_refusal, are_added, are_few, unit_refusal};
 ghost use Rattle.xfs_dispenser.specs.Checks.{active_refusal, inactive_refusal};
 ghost use Rattle.xfs_dispenser.specs.Denominations.{Denominates};
 ghost use Rattle.xfs_dispenser.specs.Plans.{IsPlanned};
@@ -22,12 +22,12 @@ ghost use Rattle.xfs_dispenser.specs.declared.refusal.Refusal.TheVariants as Ref
 use crate::ask::CashAsk;
 use crate::begun::Begun;
 use crate::denominate::{members_refusal, notes_given};
-use crate::leave::leave_to_stack;
+use crate::grant::grant_to_stack;
 use crate::named::Named;
 use crate::notes::Notes;
-use crate::payload::denominated;
+use crate::payload::denomination_answer;
 use crate::plan::Plan;
-use crate::refusal::{Refusal, plain};
+use crate::refusal::{Refusal, plain_answer};
 use std::alloc::Global;
 use xfs_base::{Bytes, Counts, Memory, UnitTable};
 use xfs_common::ErrorCode;
@@ -57,10 +57,14 @@ pub fn begin<M: Mechanism, D: Disk>(
     match ask {
         CashAsk::Denominate { notes } => denominate(alloc, guard, notes),
         CashAsk::Dispense { notes, token } => dispense(alloc, guard, *exchange, notes, token),
-        CashAsk::Present => ordered(alloc, *exchange, Ask::Present),
-        CashAsk::Reject => ordered(alloc, *exchange, Ask::Reject),
-        CashAsk::Retract => ordered(alloc, *exchange, Ask::Retract),
-        CashAsk::Reset => started(alloc, active_refusal(*exchange), Begun::Plan(Plan::reset())),
+        CashAsk::Present => begin_order(alloc, *exchange, Ask::Present),
+        CashAsk::Reject => begin_order(alloc, *exchange, Ask::Reject),
+        CashAsk::Retract => begin_order(alloc, *exchange, Ask::Retract),
+        CashAsk::Reset => begin_unless(
+            alloc,
+            active_refusal(*exchange),
+            Begun::Plan(Plan::reset()),
+        ),
         CashAsk::SetStorage { added } => set_storage(alloc, guard, *exchange, added),
         CashAsk::StartExchange => start_exchange(alloc, exchange),
         CashAsk::EndExchange => end_exchange(alloc, exchange),
@@ -88,7 +92,7 @@ fn inactive_refusal(exchange: bool) -> Option<Refusal>
 }
 
 // A refusal that applies is told.
-fn refused(alloc: Global, refusal: &Refusal) -> Result<Begun, Memory>
+fn tell_refusal(alloc: Global, refusal: &Refusal) -> Result<Begun, Memory>
     ensures told { IfOk result (λ b. IsTold refusal.now (start_of b)) }
     ensures disk { OnErr result (refusal.now ≢ Refusal.Deny Disk) }
 {
@@ -97,19 +101,19 @@ fn refused(alloc: Global, refusal: &Refusal) -> Result<Begun, Memory>
 }
 
 // A refusal that applies is told; else the command starts so.
-fn started(alloc: Global, refusal: Option<Refusal>, otherwise: Begun) -> Result<Begun, Memory>
+fn begin_unless(alloc: Global, refusal: Option<Refusal>, otherwise: Begun) -> Result<Begun, Memory>
     ensures { IfOk result (λ b. StartsUnless refusal (start_of otherwise) (start_of b)) }
 {
     match refusal {
-        Some(refusal) => refused(alloc, &refusal),
+        Some(refusal) => tell_refusal(alloc, &refusal),
         None => Ok(otherwise),
     }
 }
 
-fn ordered(alloc: Global, exchange: bool, ask: Ask) -> Result<Begun, Memory>
+fn begin_order(alloc: Global, exchange: bool, ask: Ask) -> Result<Begun, Memory>
     ensures { IfOk result (λ b. StartsOrder ask exchange (start_of b)) }
 {
-    started(
+    begin_unless(
         alloc,
         active_refusal(exchange),
         Begun::Plan(Plan::order(ask)),
@@ -121,10 +125,10 @@ fn start_exchange(alloc: Global, exchange: &mut bool) -> Result<Begun, Memory>
     ensures memory { OnErr result (exchange.new ≡ exchange.old) }
 {
     if *exchange {
-        return refused(alloc, &Refusal::Error(ErrorCode::ExchangeActive));
+        return tell_refusal(alloc, &Refusal::Error(ErrorCode::ExchangeActive));
     }
     *exchange = true;
-    Ok(succeeded(alloc))
+    Ok(success(alloc))
 }
 
 fn end_exchange(alloc: Global, exchange: &mut bool) -> Result<Begun, Memory>
@@ -132,16 +136,16 @@ fn end_exchange(alloc: Global, exchange: &mut bool) -> Result<Begun, Memory>
     ensures memory { OnErr result (exchange.new ≡ exchange.old) }
 {
     if !*exchange {
-        return refused(alloc, &Refusal::Error(ErrorCode::NoExchangeActive));
+        return tell_refusal(alloc, &Refusal::Error(ErrorCode::NoExchangeActive));
     }
     *exchange = false;
-    Ok(succeeded(alloc))
+    Ok(success(alloc))
 }
 
-fn succeeded(alloc: Global) -> Begun
+fn success(alloc: Global) -> Begun
     ensures { start_of result ≡ told (plain_answer Code.Success) }
 {
-    let (code, payload) = plain(alloc, Code::Success);
+    let (code, payload) = plain_answer(alloc, Code::Success);
     Begun::Result(code, payload)
 }
 
@@ -154,10 +158,10 @@ fn denominate<M: Mechanism, D: Disk>(
 {
     match denomination(alloc, guard, notes) {
         Ok(counts) => {
-            let (code, payload) = denominated(alloc, guard.units(), &counts)?;
+            let (code, payload) = denomination_answer(alloc, guard.units(), &counts)?;
             Ok(Begun::Result(code, payload))
         }
-        Err(refusal) => refused(alloc, &refusal),
+        Err(refusal) => tell_refusal(alloc, &refusal),
     }
 }
 
@@ -190,18 +194,18 @@ fn dispense<M: Mechanism, D: Disk>(
     ensures keeps { IsUpheld D.Disk guard.old → Keeps D.Disk NoEntry guard.old guard.new }
 {
     if let Some(refusal) = members_refusal(notes) {
-        return refused(alloc, &refusal);
+        return tell_refusal(alloc, &refusal);
     }
     if let Some(refusal) = active_refusal(exchange) {
-        return refused(alloc, &refusal);
+        return tell_refusal(alloc, &refusal);
     }
-    match leave_to_stack(alloc, guard, notes, text_of(token)) {
-        Ok(leave) => Ok(Begun::Plan(Plan::dispense(leave.issue, &leave.counts))),
-        Err(refusal) => refused(alloc, &refusal),
+    match grant_to_stack(alloc, guard, notes, token_text(token)) {
+        Ok(grant) => Ok(Begun::Plan(Plan::dispense(grant.issue, &grant.counts))),
+        Err(refusal) => tell_refusal(alloc, &refusal),
     }
 }
 
-fn text_of(token: &Option<Bytes>) -> Option<&[u8]>
+fn token_text(token: &Option<Bytes>) -> Option<&[u8]>
     ensures { option_map (λ t. t.now) result ≡ token.now }
 {
     match token {
@@ -220,7 +224,7 @@ fn set_storage<M: Mechanism, D: Disk>(
 {
     match storage_added(guard, exchange, added) {
         Ok(counts) => Ok(Begun::Plan(Plan::storage(&counts))),
-        Err(refusal) => refused(alloc, &refusal),
+        Err(refusal) => tell_refusal(alloc, &refusal),
     }
 }
 
@@ -244,7 +248,7 @@ fn storage_added<M: Mechanism, D: Disk>(
     if let Some(refusal) = unit_refusal(guard.units(), added) {
         return Err(refusal);
     }
-    room_checked(guard, added)
+    check_room(guard, added)
 }
 
 fn added_refusal(added: &Named) -> Option<Refusal>
@@ -277,10 +281,7 @@ fn unit_refusal(units: &UnitTable, added: &Named) -> Option<Refusal>
     }
 }
 
-fn room_checked<M: Mechanism, D: Disk>(
-    guard: &Guard<M, D>,
-    added: &Named,
-) -> Result<Counts, Refusal>
+fn check_room<M: Mechanism, D: Disk>(guard: &Guard<M, D>, added: &Named) -> Result<Counts, Refusal>
     requires { unit_refusal guard.now.state.units added.now ≡ None }
     ensures { RoomChecks guard.now.state added.now result }
 {
@@ -298,7 +299,7 @@ fn is_none(counts: &[u32]) -> bool
 }
 
 fn has_room<M: Mechanism, D: Disk>(guard: &Guard<M, D>, added: &Counts) -> bool
-    ensures { IsTrue result ↔ HasRoom guard.now.state added.now }
+    ensures { IsTrue result ↔ UnitsHaveRoom guard.now.state added.now }
 {
     for at in 0..8u8 {
         if !takes(guard, at + 1, added.0[usize::from(at)]) {
@@ -309,7 +310,7 @@ fn has_room<M: Mechanism, D: Disk>(guard: &Guard<M, D>, added: &Counts) -> bool
 }
 
 fn takes<M: Mechanism, D: Disk>(guard: &Guard<M, D>, unit: u8, count: u32) -> bool
-    ensures { IsTrue result ↔ Takes guard.now.state unit count }
+    ensures { IsTrue result ↔ UnitTakes guard.now.state unit count }
 {
     count == 0 || guard.room(unit, count)
 }

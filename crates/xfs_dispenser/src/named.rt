@@ -1,6 +1,6 @@
 ghost use Rattle.std.specs.Prelude.{◌≡◌, ◌≤◌};
 ghost use Rattle.serde_json.specs.View.{view, members_view};
-ghost use Rattle.xfs_dispenser.specs.Named.{are_counts, are_units, count_in, count_of, counts_by, counts_of, is_unit, storage_in, values_in};
+ghost use Rattle.xfs_dispenser.specs.Named.{are_counts, are_units, count_in, count_of, counts_by, named_counts, is_unit, storage_in, values_in};
 
 use serde_json::Value;
 use xfs_base::Counts;
@@ -28,7 +28,7 @@ pub(crate) fn read_values(denomination: &Value) -> Option<Named>
 }
 
 fn read_counts(values: &Value) -> Option<Named>
-    ensures { result ≡ counts_of (view values.now) }
+    ensures { result ≡ named_counts (view values.now) }
 {
     let members = values.as_object()?;
     if !are_counts(members) {

@@ -1,6 +1,6 @@
 ghost use Rattle.std.specs.Prelude.{◌≡◌};
 ghost use Rattle.serde_json.specs.View.{view, members_view};
-ghost use Rattle.xfs_dispenser.specs.Notes.{amount_of, currency_of, least_in, individual_in, notes_by, notes_in, only_amount};
+ghost use Rattle.xfs_dispenser.specs.Notes.{least_of, currency_of, least_in, individual_in, notes_by, notes_in, only_amount};
 
 use crate::named::{Named, read_values};
 use serde_json::Value;
@@ -68,7 +68,7 @@ fn read_only(currencies: &Map) -> Option<Notes>
 }
 
 fn read_amount(letters: &str, amount: &Value) -> Option<Notes>
-    ensures { result ≡ amount_of letters.now (view amount.now) }
+    ensures { result ≡ least_of letters.now (view amount.now) }
 {
     let currency = read_currency(letters)?;
     match amount.as_u64() {

@@ -10,7 +10,7 @@ pub enum Part {
     Restore,
     /// So many notes, which the operator added, are loaded into a unit, which counts from 1.
     Load { unit: u8, count: u32 },
-    /// And this is written down.
+    /// A loading of so many notes into a unit is written down.
     Note { unit: u8, count: u32 },
 }
 

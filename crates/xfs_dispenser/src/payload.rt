@@ -3,7 +3,7 @@
 ghost use Rattle.std.specs.Prelude.{◌≡◌, ◌≢◌, ◌≤◌, IfOk, OnOk};
 ghost use Rattle.serde_json.specs.View.{view, members_view};
 ghost use Rattle.xfs_dispenser.specs.Answers.{answered};
-ghost use Rattle.xfs_dispenser.specs.Denominations.{currencies_of, denominated, denomination_payload, values_of, with_count, with_currency};
+ghost use Rattle.xfs_dispenser.specs.Denominations.{currencies_of, denomination_answer, denomination_payload, values_of, with_count, with_currency};
 
 use serde_json::{Value, put};
 use std::alloc::Global;
@@ -13,12 +13,12 @@ use xfs_json::Map;
 use xfs_units::{name_of, text_of};
 
 /// The answer of a dispense of these notes: the amount in each currency, and the count of each unit.
-pub(crate) fn denominated(
+pub(crate) fn denomination_answer(
     alloc: Global,
     units: &UnitTable,
     counts: &Counts,
 ) -> Result<(Code, Value), Memory>
-    ensures { IfOk result (λ r. answered r.0 r.1 ≡ denominated units.now counts.now) }
+    ensures { IfOk result (λ r. answered r.0 r.1 ≡ denomination_answer units.now counts.now) }
 {
     let payload = denomination(alloc, units, counts)?;
     Ok((Code::Success, payload))
@@ -58,7 +58,8 @@ fn put_currency(
     count: u32,
 ) -> Result<(), Memory>
     ensures none { OnOk result (count ≡ 0 → members_view members.new.entries ≡ members_view members.old.entries) }
-    ensures some { OnOk result (count ≢ 0 → members_view members.new.entries ≡ with_currency units.now counts.now (members_view members.old.entries) kind.now) }
+    ensures some { OnOk result (count ≢ 0 → members_view members.new.entries
+        ≡ with_currency units.now counts.now (members_view members.old.entries) kind.now) }
 {
     if count != 0 {
         let amount = counts.value(units, kind.currency) / 1000;

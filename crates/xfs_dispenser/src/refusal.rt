@@ -1,7 +1,7 @@
 ghost use Rattle.std.specs.Prelude.{◌≡◌, ◌≢◌, Some, IfOk, OnErr};
 ghost use Rattle.xfs_guard.specs.declared.deny.Deny.TheVariants.{Disk};
 ghost use Rattle.xfs_dispenser.specs.declared.refusal.Refusal.TheVariants.{Deny as Denied};
-ghost use Rattle.xfs_dispenser.specs.Answers.{answer_of, answered, denial, error as error_told, noted, plain};
+ghost use Rattle.xfs_dispenser.specs.Answers.{answer_of, answered, denial, error_answer, record_answer, plain_answer};
 
 use serde_json::Value;
 use std::alloc::Global;
@@ -45,9 +45,9 @@ impl Refusal {
         ensures disk { OnErr result (self.now ≢ Denied Disk) }
     {
         match self {
-            Refusal::InvalidData => Ok(plain(alloc, Code::InvalidData)),
-            Refusal::NoToken => Ok(plain(alloc, Code::AuthorisationRequired)),
-            Refusal::Error(fault) => error(alloc, *fault),
+            Refusal::InvalidData => Ok(plain_answer(alloc, Code::InvalidData)),
+            Refusal::NoToken => Ok(plain_answer(alloc, Code::AuthorisationRequired)),
+            Refusal::Error(fault) => error_answer(alloc, *fault),
             Refusal::Deny(deny) => denial(alloc, *deny),
             Refusal::Memory => Err(Memory),
         }
@@ -60,38 +60,44 @@ pub(crate) fn denial(alloc: Global, deny: Deny) -> Result<(Code, Value), Memory>
     ensures disk { OnErr result (deny ≢ Disk) }
 {
     match deny {
-        Deny::Shut | Deny::Full | Deny::Disk => Ok(plain(alloc, Code::DeviceNotReady)),
-        Deny::TooLong => Ok(plain(alloc, Code::NotEnoughSpace)),
-        Deny::KeyNoValue { .. } => Ok(plain(alloc, Code::InvalidTokenKeyNoValue)),
-        Deny::Format { .. } | Deny::NoAmounts => Ok(plain(alloc, Code::InvalidTokenFormat)),
-        Deny::WrongMac { .. } => Ok(plain(alloc, Code::InvalidTokenHmac)),
-        Deny::OtherBound { .. } | Deny::OverBudget { .. } => Ok(plain(alloc, Code::InvalidToken)),
-        Deny::NotEmpty { .. } | Deny::OutletFull { .. } => Ok(plain(alloc, Code::SequenceError)),
-        Deny::Unbound { .. } => Ok(plain(alloc, Code::AuthorisationRequired)),
-        Deny::NoNonce { since } => noted(alloc, Code::NoCommandNonce, since),
-        Deny::WrongNonce { since } => noted(alloc, Code::InvalidTokenNonce, since),
-        Deny::Nothing => error(alloc, ErrorCode::NoItems),
-        Deny::Short { .. } => error(alloc, ErrorCode::NotDispensable),
+        Deny::Shut | Deny::Full | Deny::Disk => Ok(plain_answer(alloc, Code::DeviceNotReady)),
+        Deny::TooLong => Ok(plain_answer(alloc, Code::NotEnoughSpace)),
+        Deny::KeyNoValue { .. } => Ok(plain_answer(alloc, Code::InvalidTokenKeyNoValue)),
+        Deny::Format { .. } | Deny::NoAmounts => Ok(plain_answer(alloc, Code::InvalidTokenFormat)),
+        Deny::WrongMac { .. } => Ok(plain_answer(alloc, Code::InvalidTokenHmac)),
+        Deny::OtherBound { .. } | Deny::OverBudget { .. } => Ok(plain_answer(
+            alloc,
+            Code::InvalidToken,
+        )),
+        Deny::NotEmpty { .. } | Deny::OutletFull { .. } => Ok(plain_answer(
+            alloc,
+            Code::SequenceError,
+        )),
+        Deny::Unbound { .. } => Ok(plain_answer(alloc, Code::AuthorisationRequired)),
+        Deny::NoNonce { since } => record_answer(alloc, Code::NoCommandNonce, since),
+        Deny::WrongNonce { since } => record_answer(alloc, Code::InvalidTokenNonce, since),
+        Deny::Nothing => error_answer(alloc, ErrorCode::NoItems),
+        Deny::Short { .. } => error_answer(alloc, ErrorCode::NotDispensable),
         Deny::Memory => Err(Memory),
     }
 }
 
 // A completion code with the payload `{}`.
-pub(crate) fn plain(alloc: Global, code: Code) -> (Code, Value)
-    ensures { answered result.0 result.1 ≡ plain code }
+pub(crate) fn plain_answer(alloc: Global, code: Code) -> (Code, Value)
+    ensures { answered result.0 result.1 ≡ plain_answer code }
 {
     (code, nothing(alloc))
 }
 
-fn error(alloc: Global, fault: ErrorCode) -> Result<(Code, Value), Memory>
-    ensures { IfOk result (λ r. answered r.0 r.1 ≡ error_told fault) }
+fn error_answer(alloc: Global, fault: ErrorCode) -> Result<(Code, Value), Memory>
+    ensures { IfOk result (λ r. answered r.0 r.1 ≡ error_answer fault) }
 {
     let payload = error_code(alloc, fault.text())?;
     Ok((Code::CommandErrorCode, payload))
 }
 
-fn noted(alloc: Global, code: Code, since: u64) -> Result<(Code, Value), Memory>
-    ensures { IfOk result (λ r. answered r.0 r.1 ≡ noted code since) }
+fn record_answer(alloc: Global, code: Code, since: u64) -> Result<(Code, Value), Memory>
+    ensures { IfOk result (λ r. answered r.0 r.1 ≡ record_answer code since) }
 {
     let payload = record_note(alloc, since)?;
     Ok((code, payload))

@@ -1,30 +1,29 @@
 //! How plans are worked on, one call of the guard a step.
 
-ghost use Rattle.std.specs.Prelude.{◌≡◌, ◌≢◌, ◌<◌, ◌≤◌, ◌⊎◌, List, [], ◌∷◌, length, IfOk, IfSome, OnErr, OnOk, Ok};
+ghost use Rattle.std.specs.Prelude.{◌≡◌, ◌≢◌, ◌<◌, ◌≤◌, ◌⊎◌, List, [], ◌∷◌, length, IfOk, IfSome, OnErr, Ok};
 ghost use Rattle.arrayvec.specs.ArrayVec.{array_vec_len};
 ghost use Rattle.xfs_envelope.specs.Messages.{IsPayload};
 ghost use Rattle.xfs_guard.specs.CrashOutcomes.{MayMove};
-ghost use Rattle.xfs_guard.specs.Keeps.{Keeps, NoEntry, Proceeds};
+ghost use Rattle.xfs_guard.specs.Keeps.{Keeps, NoEntry};
 ghost use Rattle.xfs_guard.specs.Orders.{IsActed as IsActedOrder, IsWritten as IsWrittenOrder};
 ghost use Rattle.xfs_guard.specs.Refusals.{IsAsk};
-ghost use Rattle.xfs_guard.specs.Upheld.{IsUpheld};
 ghost use Rattle.xfs_guard.specs.declared.deny.Deny.TheVariants.{Disk};
 ghost use Rattle.xfs_guard.specs.declared.open.Open.TheVariants.{No};
 ghost use Rattle.xfs_mech.specs.Mechanism.{CanLoad};
 ghost use Rattle.xfs_mech.specs.declared.motion.Motion.TheVariants.{Loaded};
-ghost use Rattle.xfs_dispenser.specs.Answers.{IsDenial, done, plain, went_of, went_payload};
+ghost use Rattle.xfs_dispenser.specs.Answers.{IsDenial, done, plain_answer, went_of, went_payload};
 ghost use Rattle.xfs_dispenser.specs.Plans.{IsPlanned};
 ghost use Rattle.xfs_dispenser.specs.Seen.{seen};
-ghost use Rattle.xfs_dispenser.specs.Steps.{DoesAs, IsActed, MayWork, Restores, SettlesOrder, Works, onward, settled};
+ghost use Rattle.xfs_dispenser.specs.Steps.{DoesAs, IsActed, KeepsStep, MayWork, Restores, SettlesOrder, Works, onward, settled};
 ghost use Rattle.xfs_dispenser.specs.declared.part.Part.{Part};
 ghost use Rattle.xfs_dispenser.specs.declared.part.Part.TheVariants as Part;
 ghost use Rattle.xfs_dispenser.specs.declared.progress.Progress.TheVariants as Progress;
 
 use crate::part::Part;
-use crate::payload::denominated;
+use crate::payload::denomination_answer;
 use crate::plan::{Plan, emptying};
 use crate::progress::Progress;
-use crate::refusal::{denial, plain};
+use crate::refusal::{denial, plain_answer};
 use std::alloc::Global;
 use xfs_base::{Counts, Memory, UnitTable};
 use xfs_disk::Disk;
@@ -46,9 +45,7 @@ pub fn work<M: Mechanism, D: Disk>(
     ensures over { IfOk result (λ p. p ≢ Progress.More → guard.new.state.open_order ≡ No) }
     ensures payload { IfOk result (λ p. IfSome (went_payload (went_of p)) IsPayload) }
     ensures memory { OnErr result ((guard.new.state ≡ guard.old.state) × (plan.new ≡ plan.old)) }
-    ensures proceeds { Proceeds D.Disk guard.old guard.new }
-    ensures keeps { OnOk result (Keeps D.Disk (MayWork guard.old.state plan.old) guard.old guard.new) }
-    ensures still { IsUpheld D.Disk guard.old → OnErr result (Keeps D.Disk NoEntry guard.old guard.new) }
+    ensures guard { KeepsStep D.Disk (MayWork guard.old.state plan.old) result guard.old guard.new }
 {
     step(alloc, guard, plan)
 }
@@ -61,9 +58,7 @@ fn step<M: Mechanism, D: Disk>(
     requires { IsPlanned guard.old.state plan.old }
     ensures works { IfOk result (λ p. Works (seen D.Disk guard.old) plan.old (seen D.Disk guard.new) plan.new (went_of p)) }
     ensures memory { OnErr result ((guard.new.state ≡ guard.old.state) × (plan.new ≡ plan.old)) }
-    ensures proceeds { Proceeds D.Disk guard.old guard.new }
-    ensures keeps { OnOk result (Keeps D.Disk (MayWork guard.old.state plan.old) guard.old guard.new) }
-    ensures still { IsUpheld D.Disk guard.old → OnErr result (Keeps D.Disk NoEntry guard.old guard.new) }
+    ensures guard { KeepsStep D.Disk (MayWork guard.old.state plan.old) result guard.old guard.new }
 {
     if guard.unacted().is_some() {
         return Ok(act(guard, plan));
@@ -100,11 +95,9 @@ fn settle<M: Mechanism, D: Disk>(
     requires { IsActedOrder guard.old.state.open_order }
     ensures settles { IfOk result (λ p. SettlesOrder (seen D.Disk guard.old) plan.now plan.now.failed (seen D.Disk guard.new) (went_of p)) }
     ensures memory { OnErr result (guard.new ≡ guard.old) }
-    ensures proceeds { Proceeds D.Disk guard.old guard.new }
-    ensures keeps { OnOk result (Keeps D.Disk NoEntry guard.old guard.new) }
-    ensures still { IsUpheld D.Disk guard.old → OnErr result (Keeps D.Disk NoEntry guard.old guard.new) }
+    ensures guard { KeepsStep D.Disk NoEntry result guard.old guard.new }
 {
-    let progress = settled(alloc, guard.units(), plan)?;
+    let progress = progress_after(alloc, guard.units(), plan)?;
     match guard.settle() {
         Ok(()) => Ok(progress),
         Err(_) => Ok(over(alloc, Code::DeviceNotReady)),
@@ -112,7 +105,7 @@ fn settle<M: Mechanism, D: Disk>(
 }
 
 // What a plan comes to once its order is settled.
-fn settled(alloc: Global, units: &UnitTable, plan: &Plan) -> Result<Progress, Memory>
+fn progress_after(alloc: Global, units: &UnitTable, plan: &Plan) -> Result<Progress, Memory>
     ensures { IfOk result (λ p. went_of p ≡ settled units.now plan.now plan.now.failed) }
 {
     if plan.failed {
@@ -135,7 +128,7 @@ fn onward(
     }
     match notes {
         Some(counts) => {
-            let (code, payload) = denominated(alloc, units, counts)?;
+            let (code, payload) = denomination_answer(alloc, units, counts)?;
             Ok(Progress::Result(code, payload))
         }
         None => Ok(over(alloc, Code::Success)),
@@ -143,14 +136,14 @@ fn onward(
 }
 
 fn over(alloc: Global, code: Code) -> Progress
-    ensures { went_of result ≡ done (plain code) }
+    ensures { went_of result ≡ done (plain_answer code) }
 {
-    let (code, payload) = plain(alloc, code);
+    let (code, payload) = plain_answer(alloc, code);
     Progress::Result(code, payload)
 }
 
 // A refusal of the guard is told.
-fn denied(alloc: Global, deny: Deny) -> Result<Progress, Memory>
+fn tell_denial(alloc: Global, deny: Deny) -> Result<Progress, Memory>
     ensures told { IfOk result (λ p. IsDenial deny (went_of p)) }
     ensures disk { OnErr result (deny ≢ Disk) }
 {
@@ -177,7 +170,7 @@ fn order<M: Mechanism, D: Disk>(
             plan.parts.remove(0);
             Ok(Progress::More)
         }
-        Err(deny) => denied(alloc, deny),
+        Err(deny) => tell_denial(alloc, deny),
     }
 }
 
@@ -189,9 +182,7 @@ fn restore<M: Mechanism, D: Disk>(
 ) -> Result<Progress, Memory>
     ensures restores { IfOk result (λ p. Restores (seen D.Disk guard.old) plan.old (seen D.Disk guard.new) plan.new (went_of p)) }
     ensures memory { OnErr result ((guard.new.state ≡ guard.old.state) × (plan.new ≡ plan.old)) }
-    ensures proceeds { Proceeds D.Disk guard.old guard.new }
-    ensures keeps { OnOk result (Keeps D.Disk NoEntry guard.old guard.new) }
-    ensures still { IsUpheld D.Disk guard.old → OnErr result (Keeps D.Disk NoEntry guard.old guard.new) }
+    ensures guard { KeepsStep D.Disk NoEntry result guard.old guard.new }
 {
     let parts = emptying(&guard.places());
     let progress = onward(alloc, guard.units(), &plan.notes, parts.len())?;
@@ -217,9 +208,7 @@ fn load<M: Mechanism, D: Disk>(
     requires left { 0 < array_vec_len plan.old.parts }
     ensures loads { IfOk result (λ p. DoesAs (Part.Load unit count) (seen D.Disk guard.old) plan.old (seen D.Disk guard.new) plan.new p) }
     ensures memory { OnErr result ((guard.new.state ≡ guard.old.state) × (plan.new ≡ plan.old)) }
-    ensures proceeds { Proceeds D.Disk guard.old guard.new }
-    ensures keeps { OnOk result (Keeps D.Disk (λ entry. entry ≡ Loaded unit count) guard.old guard.new) }
-    ensures still { IsUpheld D.Disk guard.old → OnErr result (Keeps D.Disk NoEntry guard.old guard.new) }
+    ensures guard { KeepsStep D.Disk (λ entry. entry ≡ Loaded unit count) result guard.old guard.new }
 {
     let progress = onward(alloc, guard.units(), &plan.notes, plan.parts.len() - 1)?;
     let outcome = guard.load(unit, count)?;
@@ -244,9 +233,7 @@ fn note<M: Mechanism, D: Disk>(
     requires left { 0 < array_vec_len plan.old.parts }
     ensures notes { IfOk result (λ p. DoesAs (Part.Note unit count) (seen D.Disk guard.old) plan.old (seen D.Disk guard.new) plan.new p) }
     ensures memory { OnErr result ((guard.new ≡ guard.old) × (plan.new ≡ plan.old)) }
-    ensures proceeds { Proceeds D.Disk guard.old guard.new }
-    ensures keeps { OnOk result (Keeps D.Disk NoEntry guard.old guard.new) }
-    ensures still { IsUpheld D.Disk guard.old → OnErr result (Keeps D.Disk NoEntry guard.old guard.new) }
+    ensures guard { KeepsStep D.Disk NoEntry result guard.old guard.new }
 {
     let progress = onward(alloc, guard.units(), &plan.notes, plan.parts.len() - 1)?;
     match guard.note_load(unit, count) {
@@ -254,6 +241,6 @@ fn note<M: Mechanism, D: Disk>(
             plan.parts.remove(0);
             Ok(progress)
         }
-        Err(deny) => denied(alloc, deny),
+        Err(deny) => tell_denial(alloc, deny),
     }
 }

@@ -1,8 +1,13 @@
--- A boot whose second machine is refused.
-use Rattle.std.proofs.Common.{Ok, Err, IfErr}
+-- What two facts of a result give together.
+use Rattle.std.proofs.Common.{Ok, Err, IfErr, IfOk}
 use Rattle.std.specs.declared.result.Result.{Result}
 
--- a fact of an error gives another
-pub IfErr-map : {A E : Type 0} (P Q : E → Type 0) (result : Result A E) → ((e : E) → P e → Q e) → IfErr result P → IfErr result Q
-IfErr-map P Q (Ok a) follows is = tt
-IfErr-map P Q (Err e) follows is = follows e is
+-- two facts of an error give a third
+pub IfErr-both : {A E : Type 0} (P Q S : E → Type 0) (result : Result A E) → ((e : E) → P e → Q e → S e) → IfErr result P → IfErr result Q → IfErr result S
+IfErr-both P Q S (Ok a) follows one other = tt
+IfErr-both P Q S (Err e) follows one other = follows e one other
+
+-- two facts of a value give a third
+pub IfOk-both : {A E : Type 0} (P Q S : A → Type 0) (result : Result A E) → ((a : A) → P a → Q a → S a) → IfOk result P → IfOk result Q → IfOk result S
+IfOk-both P Q S (Ok a) follows one other = follows a one other
+IfOk-both P Q S (Err e) follows one other = tt

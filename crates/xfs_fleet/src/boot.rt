@@ -2,7 +2,7 @@
 
 ghost use Rattle.std.specs.Prelude.{◌≡◌, IfOk, IfErr};
 ghost use Rattle.xfs_guard.specs.Booting.{LeavesRecorded};
-ghost use Rattle.xfs_fleet.specs.Boots.{BootsAndEnds, IsBooted, IsRefusedBoot, IsUntouched};
+ghost use Rattle.xfs_fleet.specs.Boots.{BootsBoth, IsBooted, IsRefusedBoot, RefusesFirst, RefusesSecond};
 ghost use Rattle.xfs_fleet.specs.Endings.{Ends};
 ghost use Rattle.xfs_fleet.specs.declared.side.Side.TheVariants.{A, B};
 
@@ -23,12 +23,9 @@ impl<M: Mechanism, D: Disk> Fleet<M, D> {
         requires a_recorded { LeavesRecorded D.Disk a.disk a.key a.units (M.motions a.mech) }
         requires b_units { M.units b.mech ≡ b.units }
         requires b_recorded { LeavesRecorded D.Disk b.disk b.key b.units (M.motions b.mech) }
-        ensures a { IfOk result (λ f. IsBooted M.Mechanism D.Disk a f.a) }
-        ensures b { IfOk result (λ f. IsBooted M.Mechanism D.Disk b f.b) }
-        ensures a_refused { IfErr result (λ f. f.side ≡ A → IsRefusedBoot M.Mechanism D.Disk a f.why f.a.mech f.a.disk) }
-        ensures b_untouched { IfErr result (λ f. f.side ≡ A → IsUntouched b f.b.mech f.b.disk) }
-        ensures a_ended { IfErr result (λ f. f.side ≡ B → BootsAndEnds M.Mechanism D.Disk a f.a.mech f.a.disk) }
-        ensures b_refused { IfErr result (λ f. f.side ≡ B → IsRefusedBoot M.Mechanism D.Disk b f.why f.b.mech f.b.disk) }
+        ensures both { IfOk result (BootsBoth M.Mechanism D.Disk a b) }
+        ensures first { IfErr result (λ f. f.side ≡ A → RefusesFirst M.Mechanism D.Disk a b f) }
+        ensures second { IfErr result (λ f. f.side ≡ B → RefusesSecond M.Mechanism D.Disk a b f) }
     {
         match boot_one(alloc, a) {
             Ok(a) => boot_second(alloc, a, b),

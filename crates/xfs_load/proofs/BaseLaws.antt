@@ -10,7 +10,7 @@ use Rattle.xfs_model.specs.State.{State}
 use Rattle.xfs_model.specs.Step.{Step}
 use Rattle.xfs_model.proofs.Advancing.{advances}
 use Rattle.xfs_load.specs.Generator.{Client, Deed, count, say, take}
-use Rattle.xfs_load.specs.Plays.{Does, Plays}
+use Rattle.xfs_load.specs.Plays.{DoesDeed, Plays}
 use Rattle.xfs_load.specs.Rests.{Rests, ends, goes, Turns, over, enough, idled, worked}
 
 -- the base of a machine's journal
@@ -31,7 +31,7 @@ rests-base : (now : Moment) (most n : ℕ) (s new : State) → Rests now most s 
 rests-base now most n s new (ends turns) = turns-base now _ _ _ s new turns
 rests-base now most n s new (goes {between = between} turns rest) = rests-base now _ _ between new rest ∙ turns-base now _ _ _ s between turns
 
-does-base : (deed : Deed) (c : Client) (s : State) (after : Client) (new : State) → Does deed c s after new → base new ≡ base s
+does-base : (deed : Deed) (c : Client) (s : State) (after : Client) (new : State) → DoesDeed deed c s after new → base new ≡ base s
 does-base (say ask) c s after new does =
     let says = does.says in
     step-base says.rested _ _ new says.hands (λ e. cc) ∙ (rests-base _ _ says.many says.posted says.rested says.rests ∙ step-base s _ _ says.posted says.post (λ e. cc))

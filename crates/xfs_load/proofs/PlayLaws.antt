@@ -8,10 +8,10 @@ use Rattle.xfs_guard.specs.View.{GuardView}
 use Rattle.xfs_guard.proofs.KeepsLaws.{Proceeds-same}
 use Rattle.xfs_model.specs.State.{State}
 use Rattle.xfs_load.specs.Generator.{Client, Deed, plan, refill, refill_behind, round_of}
-use Rattle.xfs_load.specs.Plays.{Does, DoesInPart, Plays, PlaysInPart}
+use Rattle.xfs_load.specs.Plays.{DoesDeed, DoesInPart, Plays, PlaysInPart}
 
 -- one deed is a list of one
-pub plays-one : (deed : Deed) (c : Client) (s : State) (after : Client) (new : State) → Does deed c s after new → Plays (deed ∷ []) c s after new
+pub plays-one : (deed : Deed) (c : Client) (s : State) (after : Client) (new : State) → DoesDeed deed c s after new → Plays (deed ∷ []) c s after new
 plays-one deed c s after new does = record { client = after; between = new; does = does; rest = (refl, refl) }
 
 -- deeds are done, and then others
@@ -58,11 +58,11 @@ part-before first more c s new p = record {
 }
 
 -- one deed is done, and then others
-pub plays-next : (deed : Deed) (more : List Deed) (c : Client) (s : State) (client : Client) (between : State) (after : Client) (new : State) → Does deed c s client between → Plays more client between after new → Plays (deed ∷ more) c s after new
+pub plays-next : (deed : Deed) (more : List Deed) (c : Client) (s : State) (client : Client) (between : State) (after : Client) (new : State) → DoesDeed deed c s client between → Plays more client between after new → Plays (deed ∷ more) c s after new
 plays-next deed more c s client between after new does q = record { client = client; between = between; does = does; rest = q }
 
 -- one deed is done, and then the first of others
-pub part-next : (deed : Deed) (more : List Deed) (c : Client) (s : State) (client : Client) (between new : State) → Does deed c s client between → PlaysInPart more client between new → PlaysInPart (deed ∷ more) c s new
+pub part-next : (deed : Deed) (more : List Deed) (c : Client) (s : State) (client : Client) (between new : State) → DoesDeed deed c s client between → PlaysInPart more client between new → PlaysInPart (deed ∷ more) c s new
 part-next deed more c s client between new does q = part-behind (deed ∷ []) more c s client between new (plays-one deed c s client between does) q
 
 -- a guard that stays has proceeded

@@ -12,7 +12,7 @@ use Rattle.xfs_model.specs.State.{Pass}
 use Rattle.xfs_load.specs.declared.ask.Ask.{Ask}
 use Rattle.xfs_load.specs.declared.ask.Ask.TheVariants.{Nonce, Dispense, Present, StartExchange, Refill, EndExchange}
 
--- one thing that is done: the client asks something, and then the machine rests; the customer takes the notes; or the round is counted
+-- one thing that is done: the client asks something, and then the machine rests; the customer takes the notes; or the round is after_round
 pub data Deed : Type 0 where
   say : Ask → Deed
   take : Deed
@@ -26,7 +26,7 @@ amount_of i = 10 * (1 + 7 * i % 8)
 abbrev pub withdrawal_of : ℕ → List Deed
 withdrawal_of amount = say Nonce ∷ say (Dispense amount) ∷ say Present ∷ take ∷ count ∷ []
 
--- those of a round
+-- the deeds of a round
 abbrev pub round_of : ℕ → List Deed
 round_of i = withdrawal_of (amount_of i)
 
@@ -34,7 +34,7 @@ round_of i = withdrawal_of (amount_of i)
 abbrev pub refill : List Deed
 refill = say StartExchange ∷ say Refill ∷ say EndExchange ∷ []
 
--- so it is behind every eighth round
+-- the deeds behind a round: behind every eighth the units get back what was paid out
 abbrev pub refill_behind : ℕ → List Deed
 refill_behind i = if (i + 1) % 8 == 0 then refill else []
 
@@ -63,7 +63,7 @@ abbrev pub is_for_nonce : Ask → Bool
 is_for_nonce Nonce = true
 is_for_nonce ask = false
 
--- it asks once more; with the ask for a nonce a round begins: the nonce of before is none any more, and nothing failed yet
+-- the client asks once more; with the ask for a nonce a round begins: the nonce of before is none any more, and nothing failed yet
 abbrev pub asking : Ask → Client → Client
 asking ask c = if is_for_nonce ask then record c { asked = c.asked + 1; nonce = None; failed = false } else record c { asked = c.asked + 1 }
 
@@ -77,14 +77,14 @@ abbrev pub hears_reply : Ask → Client → Option Reply → Client
 hears_reply ask c (Some (completion id name code payload)) = completed ask id code payload c
 hears_reply ask c reply = c
 
--- it hears a frame
+-- the client hears a frame
 abbrev pub hears : Ask → Client → List ℕ → Client
 hears ask c frame = hears_reply ask c (reply_in frame)
 
--- and each of them
+-- the client hears frames, one after another
 abbrev pub hears_all : Ask → Client → List (List ℕ) → Client
 hears_all ask c frames = fold (hears ask) c frames
 
 -- the round is over: it is refused where one of its completions was no success
-abbrev pub counted : Client → Client
-counted c = if c.failed then record c { refused = c.refused + 1 } else c
+abbrev pub after_round : Client → Client
+after_round c = if c.failed then record c { refused = c.refused + 1 } else c

@@ -7,7 +7,7 @@ use Rattle.xfs_model.specs.Events.{Answer, join, post, touch, outbox, joined, do
 use Rattle.xfs_model.specs.State.{Pass, State}
 use Rattle.xfs_model.specs.Step.{Step}
 use Rattle.xfs_load.specs.declared.ask.Ask.{Ask}
-use Rattle.xfs_load.specs.Generator.{Client, Deed, asking, count, counted, hears_all, newcomer, plan, say, take}
+use Rattle.xfs_load.specs.Generator.{Client, Deed, asking, count, after_round, hears_all, newcomer, plan, say, take}
 use Rattle.xfs_load.specs.Rests.{Rests}
 use Rattle.xfs_load.specs.Steps.{RestsInPart}
 use Rattle.xfs_load.specs.Texts.{IsText}
@@ -40,16 +40,16 @@ pub record IsTaken (c : Client) (s : State) (after : Client) (new : State) : Typ
   pub step : Step s (touch NotesTaken) answer new
   pub same : after ≡ c
 
-abbrev pub Does : Deed → Client → State → Client → State → Type 0
-Does (say ask) c s after new = Asks ask c s after new
-Does take c s after new = IsTaken c s after new
-Does count c s after new = (after ≡ counted c) × (new ≡ s)
+abbrev pub DoesDeed : Deed → Client → State → Client → State → Type 0
+DoesDeed (say ask) c s after new = Asks ask c s after new
+DoesDeed take c s after new = IsTaken c s after new
+DoesDeed count c s after new = (after ≡ after_round c) × (new ≡ s)
 
 -- one deed is done, and then what Rest says
 pub record DoesThen (Rest : Client → State → Type 0) (deed : Deed) (c : Client) (s : State) : Type 0 where
   pub client : Client
   pub between : State
-  pub does : Does deed c s client between
+  pub does : DoesDeed deed c s client between
   pub rest : Rest client between
 
 -- deeds are done one after another
@@ -92,7 +92,7 @@ pub record PlaysRounds (key : List ℕ) (many : ℕ) (s : State) (after : Client
   pub joins : Step s (join Cash) (joined pass) between
   pub plays : Plays (plan many) (newcomer key pass) between after new
 
--- it joined, and the first of the deeds were done, and of the next the first calls
+-- a client joined, and the first of the deeds were done, and of the next the first calls
 pub record IsBrokenOff (key : List ℕ) (many : ℕ) (s new : State) : Type 0 where
   pub pass : Pass
   pub between : State

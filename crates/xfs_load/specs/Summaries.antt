@@ -18,12 +18,12 @@ presented_after units p (Done moved diverted) = record { ordered = false; worth 
 presented_after units p r = record { ordered = false; worth = p.worth }
 
 -- what the Done records behind orders to present say was put out in EUR, in thousandths
-abbrev pub presented_in : List NoteKind → List Rec → ℕ
-presented_in units records = (fold (presented_after units) (record { ordered = false; worth = 0 }) records).worth
+abbrev pub presented_euros : List NoteKind → List Rec → ℕ
+presented_euros units records = (fold (presented_after units) (record { ordered = false; worth = 0 }) records).worth
 
 -- the records behind so many
 abbrev pub summary_of : ℕ → ℕ → List NoteKind → List Rec → Summary
-summary_of rounds refused units written = record { rounds = rounds; presented = presented_in units written / 1000; refused = refused; records = length written }
+summary_of rounds refused units written = record { rounds = rounds; presented = presented_euros units written / 1000; refused = refused; records = length written }
 
 -- so many rounds are played from a boot on, and summed up of what the client heard and of the records from the boot record on
 pub record IsSummary (key : List ℕ) (rounds : ℕ) (s new : State) (summary : Summary) : Type 0 where

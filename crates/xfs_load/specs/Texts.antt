@@ -11,7 +11,7 @@ use Rattle.xfs_load.specs.declared.ask.Ask.TheVariants.{Nonce, Dispense, Present
 abbrev pub headed_text : List ℕ → ℕ → List ℕ
 headed_text name id = codes "{\"header\":{\"name\":\"" ++ name ++ codes "\",\"requestId\":" ++ decimal id ++ codes ",\"type\":\"command\"},\"payload\":"
 
--- the whole of it
+-- the text of a command of this name and request id, with this payload
 abbrev pub command_text : List ℕ → ℕ → List ℕ → List ℕ
 command_text name id payload = headed_text name id ++ payload ++ codes "}"
 

@@ -5,8 +5,8 @@ ghost use Rattle.serde_json.specs.View.{view};
 ghost use Rattle.xfs_client.specs.Withdrawals.{is_success};
 ghost use Rattle.xfs_envelope.specs.Replies.{told};
 ghost use Rattle.xfs_guard.specs.Keeps.{Proceeds};
-ghost use Rattle.xfs_load.specs.Generator.{amount_of, asking, completed, counted, hears, hears_all, hears_reply, is_for_nonce, newcomer, nonce_told, refill, refill_behind, round_of, say, take, withdrawal_of};
-ghost use Rattle.xfs_load.specs.Plays.{Does, DoesInPart, Plays, PlaysInPart};
+ghost use Rattle.xfs_load.specs.Generator.{amount_of, asking, completed, after_round, hears, hears_all, hears_reply, is_for_nonce, newcomer, nonce_told, refill, refill_behind, round_of, say, take, withdrawal_of};
+ghost use Rattle.xfs_load.specs.Plays.{DoesDeed, DoesInPart, Plays, PlaysInPart};
 ghost use Rattle.xfs_load.specs.Texts.{GoesWith, IsText};
 ghost use Rattle.xfs_load.specs.declared.ask.Ask.TheVariants as asks;
 ghost use Rattle.xfs_machine.specs.MachineView.{guard_of};
@@ -73,7 +73,7 @@ impl Client {
     }
 
     /// How many rounds were refused.
-    pub fn refused(&self) -> u32
+    pub fn refusals(&self) -> u32
         ensures { result ≡ self.now.refused }
     {
         self.refused
@@ -146,7 +146,7 @@ impl Client {
     ) -> Result<(), Memory>
         requires amount { (amount : ℕ) → ask ≡ asks.Dispense amount → amount ≤ 80 }
         requires asked { self.old.asked < 2 ^ 50 }
-        ensures does { OnOk result (Does (say ask) self.old machine.old.state self.new machine.new.state) }
+        ensures does { OnOk result (DoesDeed (say ask) self.old machine.old.state self.new machine.new.state) }
         ensures memory { OnErr result (DoesInPart (say ask) self.old machine.old.state machine.new.state) }
         ensures asked { self.new.asked ≤ self.old.asked + 1 }
         ensures refused { self.new.refused ≡ self.old.refused }
@@ -239,14 +239,20 @@ impl Client {
                 code,
                 payload,
                 ..
-            } => self.completed(ask, id, code, &payload),
+            } => self.hear_completion(ask, id, code, &payload),
             Answer::Acknowledge { .. } => Ok(()),
             Answer::Event { .. } => Ok(()),
             Answer::Unsolicited { .. } => Ok(()),
         }
     }
 
-    fn completed(&mut self, ask: Ask, id: u64, code: Code, payload: &Value) -> Result<(), Memory>
+    fn hear_completion(
+        &mut self,
+        ask: Ask,
+        id: u64,
+        code: Code,
+        payload: &Value,
+    ) -> Result<(), Memory>
         ensures heard { OnOk result (self.new ≡ completed ask id code (view payload.now) self.old) }
         ensures asked { self.new.asked ≡ self.old.asked }
         ensures refused { self.new.refused ≡ self.old.refused }
@@ -261,7 +267,7 @@ impl Client {
 
     // The customer takes the notes.
     fn take<M: Mechanism, D: Disk>(&mut self, machine: &mut Machine<M, D>) -> Result<(), Memory>
-        ensures does { OnOk result (Does take self.old machine.old.state self.new machine.new.state) }
+        ensures does { OnOk result (DoesDeed take self.old machine.old.state self.new machine.new.state) }
         ensures memory { OnErr result (DoesInPart take self.old machine.old.state machine.new.state) }
         ensures same { self.new ≡ self.old }
         ensures proceeds { Proceeds D.Disk (guard_of machine.old) (guard_of machine.new) }
@@ -273,7 +279,7 @@ impl Client {
     // The round is counted.
     fn count(&mut self)
         requires { self.old.refused < 2 ^ 32 - 1 }
-        ensures { self.new ≡ counted self.old }
+        ensures { self.new ≡ after_round self.old }
     {
         if self.failed {
             self.refused += 1;

@@ -42,7 +42,7 @@ pub fn play<M: Mechanism, D: Disk>(
     }
     Ok(Summary::of(
         rounds,
-        client.refused(),
+        client.refusals(),
         machine.units(),
         behind(machine, before),
     ))

@@ -1,7 +1,7 @@
 //! What the Done records of a journal say was presented.
 
 ghost use Rattle.std.specs.Prelude.{◌≡◌, ◌≤◌, ◌+◌, ◌^◌, codes};
-ghost use Rattle.xfs_load.specs.Summaries.{presented_after, presented_in};
+ghost use Rattle.xfs_load.specs.Summaries.{presented_after, presented_euros};
 
 use xfs_base::{Currency, Kind, UnitTable};
 use xfs_journal::Rec;
@@ -14,8 +14,8 @@ pub struct Presented {
 }
 
 /// What the Done records behind orders to present say was put out in EUR, in thousandths.
-pub(crate) fn presented_in(units: &UnitTable, records: &[Rec]) -> u128
-    ensures { result ≡ presented_in units.now records.now }
+pub(crate) fn presented_euros(units: &UnitTable, records: &[Rec]) -> u128
+    ensures { result ≡ presented_euros units.now records.now }
 {
     let mut presented = Presented {
         ordered: false,

@@ -1,7 +1,7 @@
 ghost use Rattle.std.specs.Prelude.{◌≡◌, IfOk};
 ghost use Rattle.xfs_load.specs.Summaries.{summary_line, summary_of};
 
-use crate::presented::presented_in;
+use crate::presented::presented_euros;
 use itoa::Buffer;
 use std::alloc::{AllocError, Global};
 use xfs_base::UnitTable;
@@ -27,7 +27,7 @@ impl Summary {
     {
         Summary {
             rounds,
-            presented: presented_in(units, written) / 1000,
+            presented: presented_euros(units, written) / 1000,
             refused,
             records: written.len() as u64,
         }

@@ -21,20 +21,20 @@ pub(crate) fn text_of(
     ensures { IfOk result (λ text. text.items ≡ text_of ask id token.now) }
 {
     match ask {
-        Ask::Nonce => plain(alloc, b"Common.GetCommandNonce", id),
+        Ask::Nonce => plain_text(alloc, b"Common.GetCommandNonce", id),
         Ask::Dispense(amount) => dispense(alloc, id, amount, token),
-        Ask::Present => plain(alloc, b"CashDispenser.Present", id),
-        Ask::StartExchange => plain(alloc, b"Storage.StartExchange", id),
+        Ask::Present => plain_text(alloc, b"CashDispenser.Present", id),
+        Ask::StartExchange => plain_text(alloc, b"Storage.StartExchange", id),
         Ask::Refill => refill(alloc, id),
-        Ask::EndExchange => plain(alloc, b"Storage.EndExchange", id),
+        Ask::EndExchange => plain_text(alloc, b"Storage.EndExchange", id),
     }
 }
 
 // A command without members.
-fn plain(alloc: Global, name: &[u8], id: u64) -> Result<Vec<u8>, AllocError>
+fn plain_text(alloc: Global, name: &[u8], id: u64) -> Result<Vec<u8>, AllocError>
     ensures { IfOk result (λ text. text.items ≡ command_text name.now id (codes "{}")) }
 {
-    let mut text = headed(alloc, name, id)?;
+    let mut text = text_head(alloc, name, id)?;
     text.extend_from_slice(b"{}}")?;
     Ok(text)
 }
@@ -42,7 +42,7 @@ fn plain(alloc: Global, name: &[u8], id: u64) -> Result<Vec<u8>, AllocError>
 fn refill(alloc: Global, id: u64) -> Result<Vec<u8>, AllocError>
     ensures { IfOk result (λ text. text.items ≡ command_text (codes "Storage.SetStorage") id refill_payload) }
 {
-    let mut text = headed(alloc, b"Storage.SetStorage", id)?;
+    let mut text = text_head(alloc, b"Storage.SetStorage", id)?;
     text.extend_from_slice(
         b"{\"storage\":{\"unit1\":{\"added\":4},\"unit2\":{\"added\":6},\"unit3\":{\"added\":4}}}}",
     )?;
@@ -57,7 +57,7 @@ fn dispense(
 ) -> Result<Vec<u8>, AllocError>
     ensures { IfOk result (λ text. text.items ≡ command_text (codes "CashDispenser.Dispense") id (dispense_payload amount token.now)) }
 {
-    let mut text = headed(alloc, b"CashDispenser.Dispense", id)?;
+    let mut text = text_head(alloc, b"CashDispenser.Dispense", id)?;
     text.extend_from_slice(b"{\"denomination\":{\"currencies\":{\"EUR\":")?;
     text.extend_from_slice(Buffer::new().format(amount).as_bytes())?;
     text.extend_from_slice(b"}},\"mix\":\"minimum\"")?;
@@ -79,7 +79,7 @@ fn push_token(text: &mut Vec<u8>, token: &Option<Bytes>) -> Result<(), AllocErro
 }
 
 // The text of a command up to its payload.
-fn headed(alloc: Global, name: &[u8], id: u64) -> Result<Vec<u8>, AllocError>
+fn text_head(alloc: Global, name: &[u8], id: u64) -> Result<Vec<u8>, AllocError>
     ensures { IfOk result (λ text. text.items ≡ headed_text name.now id) }
 {
     let mut text = Vec::with_capacity(alloc, ROOM)?;

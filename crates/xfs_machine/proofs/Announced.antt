@@ -4,18 +4,18 @@ use Rattle.std.proofs.lemmas.Bool.{cases_Bool}
 use Rattle.std.proofs.lemmas.List.{append-nil, drop_all, length-map, length-take-le, take-append-drop, take_all}
 use Rattle.std.proofs.Math.Seq.{take-append_seam, drop-append_seam}
 use Rattle.xfs_base.specs.declared.moment.Service.{Service}
-use Rattle.xfs_machine.specs.Withdrawals.{front, taken_back}
+use Rattle.xfs_machine.specs.TakenBack.{all_but_last, taken_back}
 use Rattle.xfs_model.specs.Connections.{is_service, with_mail}
 use Rattle.xfs_model.specs.State.{Connection}
 
-front_push : (frames : List (List ℕ)) (frame : List ℕ) → front (frames ++ frame ∷ []) ≡ frames
-front_push frames frame =
+all_but_last_push : (frames : List (List ℕ)) (frame : List ℕ) → all_but_last (frames ++ frame ∷ []) ≡ frames
+all_but_last_push frames frame =
     let e : length (frames ++ frame ∷ []) - 1 ≡ length frames = omega (arith, length-append frames (frame ∷ [])) in
     rw e (take-append_seam frames (frame ∷ []))
 
 back : (service : Service) (frame : List ℕ) (k : Connection) → taken_back service (with_mail (is_service service k.service) (frame ∷ []) k) ≡ k
 back service frame k = elim (cases_Bool (is_service service k.service)) [
-  | inl y ↦ rw y (rw y (ap (λ w. record k { waiting = w }) (front_push k.waiting frame)))
+  | inl y ↦ rw y (rw y (ap (λ w. record k { waiting = w }) (all_but_last_push k.waiting frame)))
   | inr n ↦ rw n (rw n refl)
 ]
 

@@ -28,7 +28,7 @@ use Rattle.xfs_model.specs.Work.{is_overdue, is_stopped}
 use Rattle.xfs_model.proofs.Caused.{only_one}
 use Rattle.xfs_model.proofs.Changes.{same_some}
 use Rattle.xfs_machine.specs.Jobs.{changed_at}
-use Rattle.xfs_machine.specs.Parts.{mailed}
+use Rattle.xfs_machine.specs.Parts.{mailed_behind}
 use Rattle.xfs_machine.proofs.ChangeLaws.{found}
 use Rattle.xfs_machine.proofs.ChosenLaws.{any_at, any_running}
 
@@ -59,13 +59,13 @@ too_late s service t queues there is =
     }
 
 sent_on : (s : State) (service : Service) (a : Command Job) (before : Option (List ℕ)) (last : List ℕ) (q : List (Command Job))
-    → record s { connections = mailed service a.client before last s.connections; queues = with_queue s.queues service q } ≡ with_queue_at (sent (announced s service before) service a.client (last ∷ [])) service q
+    → record s { connections = mailed_behind service a.client before last s.connections; queues = with_queue s.queues service q } ≡ with_queue_at (sent (announced s service before) service a.client (last ∷ [])) service q
 sent_on s service a None last q = refl
 sent_on s service a (Some frame) last q = refl
 
 pub answered_with : (s : State) (service : Service) (a : Command Job) (r : Outcome) (before : Option (List ℕ)) (last : List ℕ) (ks : List Connection) (qs : Queues)
     → find (λ b. is_ready b.stage) (queue_at s service) ≡ Some a → a.job.outcome ≡ Some r → Announces r.ending before → IsCompletion a.id a.job.name r.code r.payload last
-    → ks ≡ mailed service a.client before last s.connections → qs ≡ with_queue s.queues service (without (queue_at s service) (ticket_of a)) → AnswersFirst s service (record s { connections = ks; queues = qs })
+    → ks ≡ mailed_behind service a.client before last s.connections → qs ≡ with_queue s.queues service (without (queue_at s service) (ticket_of a)) → AnswersFirst s service (record s { connections = ks; queues = qs })
 answered_with s service a r before last ks qs there has tells completes mail rest = record {
   command = a;
   first = there;
@@ -75,7 +75,7 @@ answered_with s service a r before last ks qs there has tells completes mail res
   announces = tells;
   last = last;
   completes = completes;
-  is = ap (λ l. record s { connections = l; queues = qs }) mail ∙ ap (λ l. record s { connections = mailed service a.client before last s.connections; queues = l }) rest ∙ sent_on s service a before last (without (queue_at s service) (ticket_of a));
+  is = ap (λ l. record s { connections = l; queues = qs }) mail ∙ ap (λ l. record s { connections = mailed_behind service a.client before last s.connections; queues = l }) rest ∙ sent_on s service a before last (without (queue_at s service) (ticket_of a));
 }
 
 -- the first of two tests finds it, and the other holds

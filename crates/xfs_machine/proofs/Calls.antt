@@ -12,10 +12,10 @@ use Rattle.xfs_base.specs.declared.moment.TheConstants.{LAST_MOMENT}
 use Rattle.xfs_envelope.specs.Commands.{command_in}
 use Rattle.xfs_machine.specs.Answers.{posted}
 use Rattle.xfs_machine.specs.MachineView.{IsWhole}
-use Rattle.xfs_machine.specs.Seats.{IsSeen, with_both}
+use Rattle.xfs_machine.specs.Senders.{IsSeen, with_both}
 use Rattle.xfs_model.specs.Connections.{connection_of, is_client, without_mail}
 use Rattle.xfs_model.specs.Events.{Answer, Event, join, post, outbox, leave, joined, full, done, handed, memory}
-use Rattle.xfs_model.specs.Posts.{Takes}
+use Rattle.xfs_model.specs.Posts.{TakesText}
 use Rattle.xfs_model.specs.State.{Connection, Pass, Queues, State, queue_of, with_queue}
 use Rattle.xfs_model.specs.Step.{IsFull, Step, happens, wanting}
 use Rattle.xfs_queue.specs.Queue.{without_client}
@@ -120,7 +120,7 @@ unseated s pass is = of (connection_of s pass) is
 pub leaves : (s : State) (pass : Pass) (service : Service) (ks : List Connection) (qs : Queues) → IsWhole s → Seated s pass service
     → ks ≡ filter (λ j. not (is_client pass.client j)) s.connections → qs ≡ with_queue s.queues service (without_client (queue_of s.queues service) pass.client)
     → Step s (leave pass) done (record s { connections = ks; queues = qs })
-leaves s pass service ks qs whole seat e f = happens (whole.there) (rw (seat.open_) (rw (seat.named, seat.at, e, f) refl))
+leaves s pass service ks qs whole sender e f = happens (whole.there) (rw (sender.open_) (rw (sender.named, sender.at, e, f) refl))
 
 pub posts_none : (s : State) (pass : Pass) (text : List ℕ) (now : Moment) → IsWhole s → connection_of s pass ≡ None → Step s (post pass text now) done s
 posts_none s pass text now whole none = happens (whole.there) (rw none refl)
@@ -128,11 +128,11 @@ posts_none s pass text now whole none = happens (whole.there) (rw none refl)
 pub posts : (s : State) (pass : Pass) (text : List ℕ) (now later : Moment) (service : Service) (ks : List Connection) (qs : Queues) → IsWhole s → Seated s pass service
     → later ≡ cond (nat_le s.now.0 now.0) now s.now
     → ((t : State) (k : Connection) → IsSeen later (record { client = pass.client; service = service }) t k → t.seen.guard ≡ s.seen.guard
-    → Takes (with_both t s.connections s.queues) k (command_in text) (with_both t ks qs))
+    → TakesText (with_both t s.connections s.queues) k (command_in text) (with_both t ks qs))
     → Step s (post pass text now) done (record s { now = later; connections = ks; queues = qs })
-posts s pass text now later service ks qs whole seat moment takes =
-    let at = takes (record s { now = later }) seat.connection (record { now_is = refl; client = seat.named; service = seat.at }) refl in
-    happens (whole.there) (rw (seat.open_) (rw (← moment) at))
+posts s pass text now later service ks qs whole sender moment takes =
+    let at = takes (record s { now = later }) sender.connection (record { now_is = refl; client = sender.named; service = sender.at }) refl in
+    happens (whole.there) (rw (sender.open_) (rw (← moment) at))
 
 -- the greater of two moments is one of them
 pub later_within : (a b m : Moment) → m ≡ cond (nat_le a.0 b.0) b a → a.0 ≤ LAST_MOMENT → b.0 ≤ LAST_MOMENT → m.0 ≤ LAST_MOMENT

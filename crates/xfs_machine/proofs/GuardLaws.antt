@@ -8,7 +8,7 @@ use Rattle.xfs_base.specs.declared.counts.Kind.{Kind}
 use Rattle.xfs_base.specs.Counts.{LiesIn}
 use Rattle.xfs_base.specs.declared.counts.Places.{Places}
 use Rattle.xfs_dispenser.specs.Seen.{Seen, MechCalled}
-use Rattle.xfs_guard.specs.Booting.{HadRoom, IsRebooted, IsUnread, IsUnrebooted, IsUnstarted, has_no_room_at_boot}
+use Rattle.xfs_guard.specs.Booting.{HadRoom, IsRereadBooted, IsNotReread, IsRereadFull, IsRereadFailed, has_no_room_at_boot}
 use Rattle.xfs_guard.specs.Reports.{HasReported}
 use Rattle.xfs_mech.specs.declared.motion.Motion.TheVariants.{Taken}
 use Rattle.xfs_guard.specs.Orders.{Settles, Unsettles, kind_unacted}
@@ -46,7 +46,7 @@ fits_read held limits places records now is (read, stands, room) =
     subst (λ (l : List Rec). has_no_room_at_boot limits l places ≡ false) (same_read read records places (sym room.0 ∙ is)) room.1
 
 -- the journal was read again, and has its boot record, which alone is in memory
-pub reboots : (held : Option (List ℕ)) (r : Result Unit BootFault) (old new : Seen) → OnOk r (IsRebooted old.guard new.guard)
+pub reboots : (held : Option (List ℕ)) (r : Result Unit BootFault) (old new : Seen) → OnOk r (IsRereadBooted true old.guard new.guard)
     → OnOk r (HadRoom held old.guard.limits old.guard.places new.guard.records) → old.disk_faults ≤ new.disk_faults → OnOk r (Reboots old new)
 reboots held (Ok done) old new is fits later = record {
   records = is.0;
@@ -57,8 +57,8 @@ reboots held (Ok done) old new is fits later = record {
 reboots held (Err why) old new is fits later = tt
 
 -- the reboot was refused, by the fault
-pub refuses_as : (Untold : Type 0) (r : Result Unit BootFault) (old new : Seen) → (r ≡ Err Memory → new.guard ≡ old.guard) → (r ≡ Err Full → IsUnrebooted old.guard new.guard)
-    → (r ≡ Err Disk → IsUnread old.guard new.guard ⊎ IsUnstarted old.guard new.guard)
+pub refuses_as : (Untold : Type 0) (r : Result Unit BootFault) (old new : Seen) → (r ≡ Err Memory → new.guard ≡ old.guard) → (r ≡ Err Full → IsRereadFull true old.guard new.guard)
+    → (r ≡ Err Disk → IsNotReread old.guard new.guard ⊎ IsRereadFailed true old.guard new.guard)
     → IfErr r (λ f. (at : ℕ) → f ≡ NotJournal at → Untold × (new.guard ≡ unread old.guard)) → IfErr r (λ f. (at : ℕ) → f ≡ NotJournal at → old.guard.disk_told ≡ false)
     → (r ≡ Err Disk → Rose old.disk_faults new.disk_faults) → old.disk_faults ≤ new.disk_faults → IfErr r (λ f. RefusesAs f old new)
 refuses_as Untold (Ok done) old new memory full disk other untold cause later = tt

@@ -140,7 +140,7 @@ inserted_effects card (awaited asked) e next is = inr (tracks_payload asked card
 inserted_effects card (inside before) e next is = inl (sym (ap effect_of is))
 inserted_effects card at_exit e next is = inl (sym (ap effect_of is))
 
-pub nothing_else : (effect : CardEffect) → InsertedEffects (card_reader.seen effect) → effect ≢ reader.Nothing → ((value : Value) → effect ≢ reader.Inserted value) → ⊥
+pub nothing_else : (effect : CardEffect) → InsertedEffects (card_reader.effect_of effect) → effect ≢ reader.Nothing → ((value : Value) → effect ≢ reader.Inserted value) → ⊥
 nothing_else reader.Nothing says none some = none refl
 nothing_else reader.AskInsert (inl e) none some = let f : card_reader.ask_insert ≡ card_reader.nothing = e in cc
 nothing_else reader.AskInsert (inr w) none some = let f : card_reader.ask_insert ≡ card_reader.inserted w.0 = w.1 in cc
@@ -241,20 +241,20 @@ read_effects asked (inside card) e next is = inr (Success, tracks_payload asked 
 read_effects asked at_exit e next is = inr (SequenceError, empty_payload, sym (ap effect_of is))
 
 -- an effect that is a result
-pub ended_else : (effect : CardEffect) → IsDone (card_reader.seen effect) → ((code : Code) (value : Value) → effect ≢ reader.Done code value) → ⊥
+pub ended_else : (effect : CardEffect) → IsDone (card_reader.effect_of effect) → ((code : Code) (value : Value) → effect ≢ reader.Done code value) → ⊥
 ended_else reader.Nothing w other = let f : card_reader.nothing ≡ card_reader.done w.0 w.1 = w.2 in cc
 ended_else reader.AskInsert w other = let f : card_reader.ask_insert ≡ card_reader.done w.0 w.1 = w.2 in cc
 ended_else (reader.Inserted value) w other = let f : card_reader.inserted (view value) ≡ card_reader.done w.0 w.1 = w.2 in cc
 ended_else (reader.Done code value) w other = other code value refl
 ended_else reader.Removed w other = let f : card_reader.removed ≡ card_reader.done w.0 w.1 = w.2 in cc
 
-asks_insert : (effect : CardEffect) → card_reader.seen effect ≡ card_reader.ask_insert → effect ≡ reader.AskInsert
+asks_insert : (effect : CardEffect) → card_reader.effect_of effect ≡ card_reader.ask_insert → effect ≡ reader.AskInsert
 asks_insert reader.Nothing e = let f : card_reader.nothing ≡ card_reader.ask_insert = e in cc
 asks_insert reader.AskInsert e = refl
 asks_insert (reader.Inserted value) e = let f : card_reader.inserted (view value) ≡ card_reader.ask_insert = e in cc
 asks_insert (reader.Done code value) e = let f : card_reader.done code (view value) ≡ card_reader.ask_insert = e in cc
 asks_insert reader.Removed e = let f : card_reader.removed ≡ card_reader.ask_insert = e in cc
 
-pub read_else : (effect : CardEffect) → ReadEffects (card_reader.seen effect) → effect ≢ reader.AskInsert → ((code : Code) (value : Value) → effect ≢ reader.Done code value) → ⊥
+pub read_else : (effect : CardEffect) → ReadEffects (card_reader.effect_of effect) → effect ≢ reader.AskInsert → ((code : Code) (value : Value) → effect ≢ reader.Done code value) → ⊥
 read_else effect (inl e) asks other = asks (asks_insert effect e)
 read_else effect (inr w) asks other = ended_else effect w other

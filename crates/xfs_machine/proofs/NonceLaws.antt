@@ -20,7 +20,7 @@ use Rattle.xfs_base.specs.declared.moment.Service.TheVariants.{Cash}
 use Rattle.xfs_model.specs.Cases.{EndsLife}
 use Rattle.xfs_model.specs.Connections.{is_service, with_mail}
 use Rattle.xfs_model.specs.Frames.{Announces}
-use Rattle.xfs_model.specs.Guards.{NonceCommand, cleared_, ended, unended, is_live, issued, next_number, next_word, none_to_clear, refused, uncleared, unissued, with_mark}
+use Rattle.xfs_model.specs.Guards.{NonceCommand, cleared_, ended, unended, is_live, issued, number_to_issue, word_to_issue, none_to_clear, refused, uncleared, unissued, with_mark}
 use Rattle.xfs_model.specs.Results.{plain, success}
 use Rattle.xfs_model.specs.State.{Ask, Connection, State, clear, cleared, expired, issue}
 
@@ -52,12 +52,12 @@ unfit_refused s ask d is = refused ask (ap is_none is)
 fit_is : (v : View) → unfit v ≡ None → is_none (unfit v) ≡ true
 fit_is v e = ap is_none e
 
-pub issue_done : (s : State) (next : Seen) (payload : Data) (text : List ℕ) → unfit s.seen.guard ≡ None → payload ≡ nonce_payload text → text ≡ nonce_text (next_number s.seen) (next_word s.seen)
-    → next.guard ≡ with_mark (Issue (next_number s.seen) (next_word s.seen)) s.seen.guard → s.seen.disk_faults ≤ next.disk_faults → NonceCommand s issue (success payload) next s.now
+pub issue_done : (s : State) (next : Seen) (payload : Data) (text : List ℕ) → unfit s.seen.guard ≡ None → payload ≡ nonce_payload text → text ≡ nonce_text (number_to_issue s.seen) (word_to_issue s.seen)
+    → next.guard ≡ with_mark (Issue (number_to_issue s.seen) (word_to_issue s.seen)) s.seen.guard → s.seen.disk_faults ≤ next.disk_faults → NonceCommand s issue (success payload) next s.now
 issue_done s next payload text fit is spelled marked later =
     rw (is, spelled) (issued next (fit_is s.seen.guard fit) (record { guard_is = marked; later = later }))
 
-pub issue_failed : (s : State) (next : Seen) → unfit s.seen.guard ≡ None → next.guard ≡ shut_at (Issue (next_number s.seen) (next_word s.seen)) s.seen.guard → s.seen.disk_faults ≤ next.disk_faults → Rose s.seen.disk_faults next.disk_faults
+pub issue_failed : (s : State) (next : Seen) → unfit s.seen.guard ≡ None → next.guard ≡ shut_at (Issue (number_to_issue s.seen) (word_to_issue s.seen)) s.seen.guard → s.seen.disk_faults ≤ next.disk_faults → Rose s.seen.disk_faults next.disk_faults
     → NonceCommand s issue (plain DeviceNotReady) next s.issued
 issue_failed s next fit shut later cause = unissued next (fit_is s.seen.guard fit) (record { becomes = record { guard_is = shut; later = later }; cause = cause })
 

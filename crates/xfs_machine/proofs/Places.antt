@@ -11,7 +11,7 @@ use Rattle.xfs_base.specs.declared.moment.ClientId.{ClientId}
 use Rattle.xfs_base.specs.declared.moment.Service.{Service}
 use Rattle.xfs_model.specs.Connections.{is_at, is_client, is_service, with_mail, without_mail}
 use Rattle.xfs_base.specs.declared.faults.Memory.{Memory}
-use Rattle.xfs_machine.specs.Withdrawals.{front, taken_back}
+use Rattle.xfs_machine.specs.TakenBack.{all_but_last, taken_back}
 use Rattle.xfs_model.specs.State.{Connection}
 use Rattle.xfs_model.proofs.Changes.{AllPairs-map}
 use Rattle.xfs_model.proofs.Talks.{client_with_mail}
@@ -143,6 +143,6 @@ rising_either service frame ks new (Err memory) ok err rising = rw err rising
 pub rising_back : (service : Service) (ks : List Connection) → AllPairs (λ a b. a.client.0 < b.client.0) ks → AllPairs (λ a b. a.client.0 < b.client.0) (map (taken_back service) ks)
 rising_back service ks rising = rising_map (taken_back service) (λ k. kept (is_service service k.service) k) ks rising
   where
-    kept : (b : Bool) (k : Connection) → (cond b (record k { waiting = front k.waiting }) k).client ≡ k.client
+    kept : (b : Bool) (k : Connection) → (cond b (record k { waiting = all_but_last k.waiting }) k).client ≡ k.client
     kept true k = refl
     kept false k = refl

@@ -14,8 +14,8 @@ use Rattle.xfs_envelope.specs.declared.code.Status.{Status}
 use Rattle.xfs_envelope.specs.declared.code.Status.TheVariants.{InvalidMessage, InvalidRequestId, TooManyRequests}
 use Rattle.xfs_envelope.specs.declared.command.Refuse.{Refuse}
 use Rattle.xfs_json.specs.declared.members.Shape.{Shape}
-use Rattle.xfs_machine.specs.Seats.{IsCompleted, IsRefused, with_both}
-use Rattle.xfs_machine.specs.declared.post.Seat.{Seat}
+use Rattle.xfs_machine.specs.Senders.{IsCompleted, IsTurnedAway, with_both}
+use Rattle.xfs_machine.specs.declared.post.Sender.{Sender}
 use Rattle.xfs_model.specs.Commands.{Asks, line_of}
 use Rattle.xfs_model.specs.Frames.{IsAcknowledge}
 use Rattle.xfs_model.specs.Immediate.{AtOnce, ComesTo, canceling, done_at_once, ids_of, stopped, told_of}
@@ -23,12 +23,12 @@ use Rattle.xfs_model.specs.Connections.{is_service}
 use Rattle.xfs_model.specs.PresentStatus.{TellsPresented, is_present_status, nonce_in}
 use Rattle.xfs_base.specs.declared.moment.Service.TheVariants.{Cash}
 use Rattle.xfs_model.specs.Pendings.{pending_in}
-use Rattle.xfs_model.specs.Posts.{Accepts, DoesAtOnce, Refuses, Takes, is_crowded, job_of}
+use Rattle.xfs_model.specs.Posts.{Accepts, DoesAtOnce, Refuses, TakesText, is_crowded, job_of}
 use Rattle.xfs_model.specs.Results.{error, plain, success}
 use Rattle.xfs_model.specs.State.{Ask, Connection, Job, Outcome, Queues, State, queue_of, with_queue}
 use Rattle.xfs_queue.specs.declared.command.Line.{Line}
 use Rattle.xfs_queue.specs.Queue.{is_named, offer_fault, offered}
-use Rattle.xfs_machine.specs.Seats.{mailed}
+use Rattle.xfs_machine.specs.Senders.{mailed}
 use Rattle.xfs_queue.specs.declared.command.Command.{Command}
 use Rattle.xfs_queue.specs.Commands.{is_at as is_at_ticket, is_of}
 use Rattle.xfs_base.specs.declared.moment.ClientId.{ClientId}
@@ -40,8 +40,8 @@ and_false : (b : Bool) → (b && false) ≡ false
 and_false true = refl
 and_false false = refl
 
-module _ (s : State) (k : Connection) (seat : Seat) (client : k.client ≡ seat.client) (service : k.service ≡ seat.service) where
-  pub refuses : (id : Option ℕ) (name : Option (List ℕ)) (why : Status) (ks ks' : List Connection) (qs : Queues) → IsRefused seat id name why ks ks'
+module _ (s : State) (k : Connection) (sender : Sender) (client : k.client ≡ sender.client) (service : k.service ≡ sender.service) where
+  pub refuses : (id : Option ℕ) (name : Option (List ℕ)) (why : Status) (ks ks' : List Connection) (qs : Queues) → IsTurnedAway sender id name why ks ks'
       → Refuses (with_both s ks qs) k id name why (with_both s ks' qs)
   refuses id name why ks ks' qs is = record {
     reply = is.reply;
@@ -49,33 +49,33 @@ module _ (s : State) (k : Connection) (seat : Seat) (client : k.client ≡ seat.
     is = rw (client, service) (ap (λ l. with_both s l qs) is.is);
   }
 
-  pub misread : (refuse : Refuse) (ks ks' : List Connection) (qs : Queues) → IsRefused seat refuse.id None InvalidMessage ks ks'
-      → Takes (with_both s ks qs) k (Err refuse) (with_both s ks' qs)
+  pub misread : (refuse : Refuse) (ks ks' : List Connection) (qs : Queues) → IsTurnedAway sender refuse.id None InvalidMessage ks ks'
+      → TakesText (with_both s ks qs) k (Err refuse) (with_both s ks' qs)
   misread refuse ks ks' qs is = refuses refuse.id None InvalidMessage ks ks' qs is
 
-  pub misnumbered : (c : envelope.Command) (ks ks' : List Connection) (qs : Queues) → is_wrong_id (pending_in seat.client (queue_of qs seat.service)) c.id ≡ true
-      → IsRefused seat (Some c.id) (Some c.name) InvalidRequestId ks ks' → Takes (with_both s ks qs) k (Ok c) (with_both s ks' qs)
+  pub misnumbered : (c : envelope.Command) (ks ks' : List Connection) (qs : Queues) → is_wrong_id (pending_in sender.client (queue_of qs sender.service)) c.id ≡ true
+      → IsTurnedAway sender (Some c.id) (Some c.name) InvalidRequestId ks ks' → TakesText (with_both s ks qs) k (Ok c) (with_both s ks' qs)
   misnumbered c ks ks' qs wrong is = (let here : is_wrong_id (pending_in k.client (queue_of qs k.service)) c.id ≡ true = rw (client, service) wrong in rw here (refuses (Some c.id) (Some c.name) InvalidRequestId ks ks' qs is))
 
-  pub at_once : (c : envelope.Command) (ks ks' : List Connection) (qs qs' : Queues) → is_wrong_id (pending_in seat.client (queue_of qs seat.service)) c.id ≡ false
-      → line_of seat.service c.name ≡ None → DoesAtOnce (with_both s ks qs) k c (with_both s ks' qs') → Takes (with_both s ks qs) k (Ok c) (with_both s ks' qs')
+  pub at_once : (c : envelope.Command) (ks ks' : List Connection) (qs qs' : Queues) → is_wrong_id (pending_in sender.client (queue_of qs sender.service)) c.id ≡ false
+      → line_of sender.service c.name ≡ None → DoesAtOnce (with_both s ks qs) k c (with_both s ks' qs') → TakesText (with_both s ks qs) k (Ok c) (with_both s ks' qs')
   at_once c ks ks' qs qs' right none does =
       let fine : is_wrong_id (pending_in k.client (queue_of qs k.service)) c.id ≡ false = rw (client, service) right in
       let line : line_of k.service c.name ≡ None = rw service none in
       rw fine (rw line does)
 
-  pub crowded : (c : envelope.Command) (line : Line) (ks ks' : List Connection) (qs : Queues) → is_wrong_id (pending_in seat.client (queue_of qs seat.service)) c.id ≡ false
-      → line_of seat.service c.name ≡ Some line → is_crowded (queue_of qs seat.service) seat.client ≡ true
-      → IsRefused seat (Some c.id) (Some c.name) TooManyRequests ks ks' → Takes (with_both s ks qs) k (Ok c) (with_both s ks' qs)
+  pub crowded : (c : envelope.Command) (line : Line) (ks ks' : List Connection) (qs : Queues) → is_wrong_id (pending_in sender.client (queue_of qs sender.service)) c.id ≡ false
+      → line_of sender.service c.name ≡ Some line → is_crowded (queue_of qs sender.service) sender.client ≡ true
+      → IsTurnedAway sender (Some c.id) (Some c.name) TooManyRequests ks ks' → TakesText (with_both s ks qs) k (Ok c) (with_both s ks' qs)
   crowded c line ks ks' qs right named many is =
       let fine : is_wrong_id (pending_in k.client (queue_of qs k.service)) c.id ≡ false = rw (client, service) right in
       let on : line_of k.service c.name ≡ Some line = rw service named in
       let full : is_crowded (queue_of qs k.service) k.client ≡ true = rw (client, service) many in
       rw fine (rw on (rw full (refuses (Some c.id) (Some c.name) TooManyRequests ks ks' qs is)))
 
-  pub accepted : (c : envelope.Command) (line : Line) (ks ks' : List Connection) (qs qs' : Queues) → is_wrong_id (pending_in seat.client (queue_of qs seat.service)) c.id ≡ false
-      → line_of seat.service c.name ≡ Some line → is_crowded (queue_of qs seat.service) seat.client ≡ false
-      → Accepts (with_both s ks qs) k line c (with_both s ks' qs') → Takes (with_both s ks qs) k (Ok c) (with_both s ks' qs')
+  pub accepted : (c : envelope.Command) (line : Line) (ks ks' : List Connection) (qs qs' : Queues) → is_wrong_id (pending_in sender.client (queue_of qs sender.service)) c.id ≡ false
+      → line_of sender.service c.name ≡ Some line → is_crowded (queue_of qs sender.service) sender.client ≡ false
+      → Accepts (with_both s ks qs) k line c (with_both s ks' qs') → TakesText (with_both s ks qs) k (Ok c) (with_both s ks' qs')
   accepted c line ks ks' qs qs' right named few is =
       let fine : is_wrong_id (pending_in k.client (queue_of qs k.service)) c.id ≡ false = rw (client, service) right in
       let on : line_of k.service c.name ≡ Some line = rw service named in
@@ -83,7 +83,7 @@ module _ (s : State) (k : Connection) (seat : Seat) (client : k.client ≡ seat.
       rw fine (rw on (rw room is))
 
   pub accepts : (now : Moment) → s.now ≡ now → (c : envelope.Command) (line : Line) (ask : Ask) (reply : List ℕ) (ks ks' : List Connection) (qs qs' : Queues) → IsAcknowledge (Some c.id) (Some c.name) None reply → Asks c.name c.payload ask
-      → ks' ≡ mailed seat (reply ∷ []) ks → qs' ≡ with_queue qs seat.service (queue_of qs seat.service ++ offered seat.client c.id line c.timeout now (job_of c.name ask) ∷ [])
+      → ks' ≡ mailed sender (reply ∷ []) ks → qs' ≡ with_queue qs sender.service (queue_of qs sender.service ++ offered sender.client c.id line c.timeout now (job_of c.name ask) ∷ [])
       → Accepts (with_both s ks qs) k line c (with_both s ks' qs')
   accepts now at c line ask reply ks ks' qs qs' acknowledges asks e f = record {
     reply = reply;
@@ -91,12 +91,12 @@ module _ (s : State) (k : Connection) (seat : Seat) (client : k.client ≡ seat.
     acknowledges = acknowledges;
     asks = asks;
     is = rw (client, service) (ap (λ l. with_both s l qs') e
-        ∙ ap (λ q. with_both s (mailed seat (reply ∷ []) ks) q) (f ∙ ap (λ m. with_queue qs seat.service (queue_of qs seat.service ++ offered seat.client c.id line c.timeout m (job_of c.name ask) ∷ [])) (sym at)));
+        ∙ ap (λ q. with_both s (mailed sender (reply ∷ []) ks) q) (f ∙ ap (λ m. with_queue qs sender.service (queue_of qs sender.service ++ offered sender.client c.id line c.timeout m (job_of c.name ask) ∷ [])) (sym at)));
   }
 
   -- the result, whatever it rests on, and the pending commands then
   comes_ : (c : envelope.Command) (did : AtOnce) (result : Outcome) (ks ks' : List Connection) (qs qs' : Queues) → done_at_once (with_both s ks qs) k c ≡ did → ComesTo (with_both s ks qs) k c result
-      → IsCompleted seat c result ks ks' → qs' ≡ with_queue qs seat.service did.queue → DoesAtOnce (with_both s ks qs) k c (with_both s ks' qs')
+      → IsCompleted sender c result ks ks' → qs' ≡ with_queue qs sender.service did.queue → DoesAtOnce (with_both s ks qs) k c (with_both s ks' qs')
   comes_ c did result ks ks' qs qs' does comes is f = record {
     reply = is.reply;
     last = is.last;
@@ -104,51 +104,51 @@ module _ (s : State) (k : Connection) (seat : Seat) (client : k.client ≡ seat.
     comes = comes;
     acknowledges = is.acknowledges;
     completes = is.completes;
-    is = rw (does, client, service) (ap (λ l. with_both s l qs') is.is ∙ ap (λ q. with_both s (mailed seat (is.reply ∷ is.last ∷ []) ks) q) f);
+    is = rw (does, client, service) (ap (λ l. with_both s l qs') is.is ∙ ap (λ q. with_both s (mailed sender (is.reply ∷ is.last ∷ []) ks) q) f);
   }
 
-  pub does : (c : envelope.Command) (did : AtOnce) (ks ks' : List Connection) (qs qs' : Queues) → is_present_status seat.service c.name ≡ false → done_at_once (with_both s ks qs) k c ≡ did
-      → IsCompleted seat c did.result ks ks' → qs' ≡ with_queue qs seat.service did.queue → DoesAtOnce (with_both s ks qs) k c (with_both s ks' qs')
+  pub does : (c : envelope.Command) (did : AtOnce) (ks ks' : List Connection) (qs qs' : Queues) → is_present_status sender.service c.name ≡ false → done_at_once (with_both s ks qs) k c ≡ did
+      → IsCompleted sender c did.result ks ks' → qs' ≡ with_queue qs sender.service did.queue → DoesAtOnce (with_both s ks qs) k c (with_both s ks' qs')
   does c did ks ks' qs qs' other comes is f =
       let here : is_present_status k.service c.name ≡ false = rw service other in
       comes_ c did did.result ks ks' qs qs' comes (rw here (rw comes refl)) is f
 
-  pub tells : (c : envelope.Command) (result : Outcome) (ks ks' : List Connection) (qs : Queues) → is_present_status seat.service c.name ≡ false → bytes_eq c.name (codes "Common.Cancel") ≡ false → result ≡ told_of (with_both s ks qs) seat.service c.name
-      → IsCompleted seat c result ks ks' → DoesAtOnce (with_both s ks qs) k c (with_both s ks' qs)
+  pub tells : (c : envelope.Command) (result : Outcome) (ks ks' : List Connection) (qs : Queues) → is_present_status sender.service c.name ≡ false → bytes_eq c.name (codes "Common.Cancel") ≡ false → result ≡ told_of (with_both s ks qs) sender.service c.name
+      → IsCompleted sender c result ks ks' → DoesAtOnce (with_both s ks qs) k c (with_both s ks' qs)
   tells c result ks ks' qs elsewhere other told is =
-      does c (record { result = result; queue = queue_of qs seat.service }) ks ks' qs qs elsewhere (rw (other, told, service) refl) is (sym (with_same_queue qs seat.service))
+      does c (record { result = result; queue = queue_of qs sender.service }) ks ks' qs qs elsewhere (rw (other, told, service) refl) is (sym (with_same_queue qs sender.service))
 
-  pub tells_presents : (c : envelope.Command) (result : Outcome) (ks ks' : List Connection) (qs : Queues) → is_present_status seat.service c.name ≡ true → bytes_eq c.name (codes "Common.Cancel") ≡ false
-      → TellsPresented s.seen.guard (nonce_in c.payload) result → IsCompleted seat c result ks ks' → DoesAtOnce (with_both s ks qs) k c (with_both s ks' qs)
+  pub tells_presents : (c : envelope.Command) (result : Outcome) (ks ks' : List Connection) (qs : Queues) → is_present_status sender.service c.name ≡ true → bytes_eq c.name (codes "Common.Cancel") ≡ false
+      → TellsPresented s.seen.guard (nonce_in c.payload) result → IsCompleted sender c result ks ks' → DoesAtOnce (with_both s ks qs) k c (with_both s ks' qs)
   tells_presents c result ks ks' qs named other tells is =
       let here : is_present_status k.service c.name ≡ true = rw service named in
-      comes_ c (record { result = told_of (with_both s ks qs) seat.service c.name; queue = queue_of qs seat.service }) result ks ks' qs qs (rw (other, service) refl) (rw here tells) is (sym (with_same_queue qs seat.service))
+      comes_ c (record { result = told_of (with_both s ks qs) sender.service c.name; queue = queue_of qs sender.service }) result ks ks' qs qs (rw (other, service) refl) (rw here tells) is (sym (with_same_queue qs sender.service))
 
   -- a Cancel asks for no status of presents
-  elsewhere : (c : envelope.Command) → c.name ≡ codes "Common.Cancel" → is_present_status seat.service c.name ≡ false
-  elsewhere c name = rw name (and_false (is_service Cash seat.service))
+  elsewhere : (c : envelope.Command) → c.name ≡ codes "Common.Cancel" → is_present_status sender.service c.name ≡ false
+  elsewhere c name = rw name (and_false (is_service Cash sender.service))
 
   cancels : (c : envelope.Command) (ids : Result (Option (List ℕ)) Shape) (did : AtOnce) (ks ks' : List Connection) (qs qs' : Queues) → c.name ≡ codes "Common.Cancel" → request_ids c.payload ≡ ids
-      → canceling (queue_of qs seat.service) seat.client ids ≡ did
-      → IsCompleted seat c did.result ks ks' → qs' ≡ with_queue qs seat.service did.queue → DoesAtOnce (with_both s ks qs) k c (with_both s ks' qs')
+      → canceling (queue_of qs sender.service) sender.client ids ≡ did
+      → IsCompleted sender c did.result ks ks' → qs' ≡ with_queue qs sender.service did.queue → DoesAtOnce (with_both s ks qs) k c (with_both s ks' qs')
   cancels c ids did ks ks' qs qs' name asks comes is f = does c did ks ks' qs qs' (elsewhere c name) (rw (name, asks, client, service) comes) is f
 
   pub cancels_badly : (c : envelope.Command) (shape : Shape) (ks ks' : List Connection) (qs : Queues) → c.name ≡ codes "Common.Cancel" → request_ids c.payload ≡ Err shape
-      → IsCompleted seat c (plain InvalidData) ks ks' → DoesAtOnce (with_both s ks qs) k c (with_both s ks' qs)
+      → IsCompleted sender c (plain InvalidData) ks ks' → DoesAtOnce (with_both s ks qs) k c (with_both s ks' qs)
   cancels_badly c shape ks ks' qs name asks is =
-      cancels c (Err shape) (record { result = plain InvalidData; queue = queue_of qs seat.service }) ks ks' qs qs name asks refl is (sym (with_same_queue qs seat.service))
+      cancels c (Err shape) (record { result = plain InvalidData; queue = queue_of qs sender.service }) ks ks' qs qs name asks refl is (sym (with_same_queue qs sender.service))
 
   pub cancels_none : (c : envelope.Command) (ids : Option (List ℕ)) (ks ks' : List Connection) (qs : Queues) → c.name ≡ codes "Common.Cancel" → request_ids c.payload ≡ Ok ids
-      → list_any (is_named seat.client (ids_of ids)) (queue_of qs seat.service) ≡ false
-      → IsCompleted seat c (error NoMatchingRequestIds) ks ks' → DoesAtOnce (with_both s ks qs) k c (with_both s ks' qs)
+      → list_any (is_named sender.client (ids_of ids)) (queue_of qs sender.service) ≡ false
+      → IsCompleted sender c (error NoMatchingRequestIds) ks ks' → DoesAtOnce (with_both s ks qs) k c (with_both s ks' qs)
   cancels_none c ids ks ks' qs name asks none is =
-      cancels c (Ok ids) (record { result = error NoMatchingRequestIds; queue = queue_of qs seat.service }) ks ks' qs qs name asks (rw none refl) is (sym (with_same_queue qs seat.service))
+      cancels c (Ok ids) (record { result = error NoMatchingRequestIds; queue = queue_of qs sender.service }) ks ks' qs qs name asks (rw none refl) is (sym (with_same_queue qs sender.service))
 
   pub cancels_some : (c : envelope.Command) (ids : Option (List ℕ)) (ks ks' : List Connection) (qs qs' : Queues) → c.name ≡ codes "Common.Cancel" → request_ids c.payload ≡ Ok ids
-      → list_any (is_named seat.client (ids_of ids)) (queue_of qs seat.service) ≡ true
-      → IsCompleted seat c (success nothing) ks ks' → qs' ≡ with_queue qs seat.service (stopped (queue_of qs seat.service) seat.client (ids_of ids)) → DoesAtOnce (with_both s ks qs) k c (with_both s ks' qs')
+      → list_any (is_named sender.client (ids_of ids)) (queue_of qs sender.service) ≡ true
+      → IsCompleted sender c (success nothing) ks ks' → qs' ≡ with_queue qs sender.service (stopped (queue_of qs sender.service) sender.client (ids_of ids)) → DoesAtOnce (with_both s ks qs) k c (with_both s ks' qs')
   cancels_some c ids ks ks' qs qs' name asks some is f =
-      cancels c (Ok ids) (record { result = success nothing; queue = stopped (queue_of qs seat.service) seat.client (ids_of ids) }) ks ks' qs qs' name asks (rw some refl) is f
+      cancels c (Ok ids) (record { result = success nothing; queue = stopped (queue_of qs sender.service) sender.client (ids_of ids) }) ks ks' qs qs' name asks (rw some refl) is f
 
 -- a command that can be taken is not pending
 pub unheld : (q : List (Command Job)) (client : ClientId) (id : ℕ) → is_wrong_id (pending_in client q) id ≡ false → list_any (is_at_ticket record { client = client; id = id }) q ≡ false

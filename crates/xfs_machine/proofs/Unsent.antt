@@ -6,22 +6,22 @@ use Rattle.xfs_base.specs.declared.moment.ClientId.{ClientId}
 use Rattle.xfs_base.specs.declared.moment.Service.{Service}
 use Rattle.xfs_model.specs.Connections.{is_at, is_client, is_service, with_mail}
 use Rattle.xfs_model.specs.State.{Connection}
-use Rattle.xfs_machine.specs.Withdrawals.{front}
+use Rattle.xfs_machine.specs.TakenBack.{all_but_last}
 use Rattle.xfs_machine.proofs.Places.{NotBoth, not_there, written, none_from_find, map_none}
 
-front_push : (frames : List (List ℕ)) (frame : List ℕ) → front (frames ++ frame ∷ []) ≡ frames
-front_push frames frame =
+all_but_last_push : (frames : List (List ℕ)) (frame : List ℕ) → all_but_last (frames ++ frame ∷ []) ≡ frames
+all_but_last_push frames frame =
     let e : length (frames ++ frame ∷ []) - 1 ≡ length frames = omega (arith, length-append frames (frame ∷ [])) in
     rw e (take-append_seam frames (frame ∷ []))
 
 abbrev without_last : Connection → Connection
-without_last k = record k { waiting = front k.waiting }
+without_last k = record k { waiting = all_but_last k.waiting }
 
 taken_off : (service : Service) (client : ClientId) (frame : List ℕ) (ks : List Connection)
     → map (λ k. cond (is_at service client k) (without_last k) k) (map (λ k. with_mail (is_at service client k) (frame ∷ []) k) ks) ≡ ks
 taken_off service client frame [] = refl
 taken_off service client frame (k ∷ ks) = elim (cases_Bool (is_at service client k)) [
-  | inl y ↦ rw y (rw y (rw (front_push k.waiting frame) (ap (λ l. k ∷ l) (taken_off service client frame ks))))
+  | inl y ↦ rw y (rw y (rw (all_but_last_push k.waiting frame) (ap (λ l. k ∷ l) (taken_off service client frame ks))))
   | inr n ↦ rw n (rw n (ap (λ l. k ∷ l) (taken_off service client frame ks)))
 ]
 

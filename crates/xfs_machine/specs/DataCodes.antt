@@ -12,10 +12,10 @@ number_in gnil = 0
 number_in (gnum n) = n
 number_in (gcons a b) = 0
 
-abbrev pub first_in : Gv → Gv
-first_in gnil = gnil
-first_in (gnum n) = gnil
-first_in (gcons a b) = a
+abbrev pub head_in : Gv → Gv
+head_in gnil = gnil
+head_in (gnum n) = gnil
+head_in (gcons a b) = a
 
 abbrev pub rest_in : Gv → Gv
 rest_in gnil = gnil
@@ -38,8 +38,8 @@ abbrev pub whole_at : ℕ → ℕ → ℤ
 whole_at zero n = pos n
 whole_at (suc k) n = negsuc n
 
-abbrev pub whole_in : Gv → ℤ
-whole_in g = whole_at (number_in (first_in g)) (number_in (rest_in g))
+abbrev pub integer_in : Gv → ℤ
+integer_in g = whole_at (number_in (head_in g)) (number_in (rest_in g))
 
 abbrev pub of_float : Float → Gv
 of_float nan = gnil
@@ -49,7 +49,7 @@ of_float (fin s m e) = gcons (of_bool s) (gcons (gnum m) (of_whole e))
 abbrev pub float_in : Gv → Float
 float_in gnil = nan
 float_in (gnum n) = inf (bool_at n)
-float_in (gcons a b) = fin (bool_at (number_in a)) (number_in (first_in b)) (whole_in (rest_in b))
+float_in (gcons a b) = fin (bool_at (number_in a)) (number_in (head_in b)) (integer_in (rest_in b))
 
 abbrev pub of_num : Num → Gv
 of_num (unsigned n) = gcons (gnum 0) (gnum n)
@@ -58,7 +58,7 @@ of_num (float x) = gcons (gnum 2) (of_float x)
 
 abbrev pub num_at : ℕ → Gv → Num
 num_at zero g = unsigned (number_in g)
-num_at (suc zero) g = negative (whole_in g)
+num_at (suc zero) g = negative (integer_in g)
 num_at (suc (suc n)) g = float (float_in g)
 
 abbrev pub of_text : List ℕ → Gv
@@ -94,7 +94,7 @@ abbrev mutual
   data_in (gcons gnil b) = null
   data_in (gcons (gcons x y) b) = null
   data_in (gcons (gnum zero) b) = boolean (bool_at (number_in b))
-  data_in (gcons (gnum (suc zero)) b) = number (num_at (number_in (first_in b)) (rest_in b))
+  data_in (gcons (gnum (suc zero)) b) = number (num_at (number_in (head_in b)) (rest_in b))
   data_in (gcons (gnum (suc (suc zero))) b) = string (text_in b)
   data_in (gcons (gnum (suc (suc (suc zero)))) b) = array (items_in b)
   data_in (gcons (gnum (suc (suc (suc (suc n))))) b) = object (members_in b)
@@ -115,7 +115,7 @@ bool_back : (b : Bool) → bool_at (number_in (of_bool b)) ≡ b
 bool_back true = refl
 bool_back false = refl
 
-whole_back : (z : ℤ) → whole_in (of_whole z) ≡ z
+whole_back : (z : ℤ) → integer_in (of_whole z) ≡ z
 whole_back (pos n) = refl
 whole_back (negsuc n) = refl
 
@@ -123,9 +123,9 @@ float_back : (x : Float) → float_in (of_float x) ≡ x
 float_back nan = refl
 float_back (inf true) = refl
 float_back (inf false) = refl
-float_back (fin s m e) = ap (λ b. fin b m (whole_in (of_whole e))) (bool_back s) ∙ ap (fin s m) (whole_back e)
+float_back (fin s m e) = ap (λ b. fin b m (integer_in (of_whole e))) (bool_back s) ∙ ap (fin s m) (whole_back e)
 
-num_back : (n : Num) → num_at (number_in (first_in (of_num n))) (rest_in (of_num n)) ≡ n
+num_back : (n : Num) → num_at (number_in (head_in (of_num n))) (rest_in (of_num n)) ≡ n
 num_back (unsigned n) = refl
 num_back (negative z) = ap negative (whole_back z)
 num_back (float x) = ap float (float_back x)

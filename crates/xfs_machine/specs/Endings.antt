@@ -5,7 +5,6 @@ use Rattle.xfs_dispenser.specs.Seen.{Becomes, Seen, seen}
 use Rattle.xfs_dispenser.specs.Steps.{IsUnknown}
 use Rattle.xfs_guard.specs.CrashOutcomes.{MayMove}
 use Rattle.xfs_guard.specs.Keeps.{Keeps, NoEntry, Proceeds}
-use Rattle.xfs_guard.specs.Stored.{IsStored}
 use Rattle.xfs_guard.specs.View.{GuardView}
 use Rattle.xfs_guard.specs.declared.deny.Deny.{Deny}
 use Rattle.xfs_guard.specs.declared.fail.BootFault.{BootFault}
@@ -18,10 +17,11 @@ use Rattle.xfs_model.specs.Events.{finish, restart, unrestarted}
 use Rattle.xfs_model.specs.Guards.{FailsToBoot, FindsNoRoom}
 use Rattle.xfs_model.specs.State.{State}
 use Rattle.xfs_model.specs.Step.{Step, gone}
+use Rattle.xfs_journal.specs.JournalView.{LeavesOneOf}
 
 -- mechanism and disk are those of the guard as it was last seen
 pub record IsHandedBack {M D : Type 0} (m : Mechanisms M) (g : Ghosts D) (last : Seen) (mech : M) (disk : D) : Type 0 where
-  pub stored : IsStored g disk last.guard.records last.guard.in_doubt
+  pub stored : LeavesOneOf g disk last.guard.records last.guard.in_doubt
   pub told : is_some (g.held disk) ≡ last.guard.disk_told
   pub disk_faults : g.faults disk ≡ last.disk_faults
   pub motions : m.motions mech ≡ last.guard.motions

@@ -11,6 +11,6 @@ pub mod Parts
 pub mod Readings
 pub mod Tallies
 pub mod Wanted
-pub mod Withdrawals
+pub mod TakenBack
 pub mod Working
-pub mod Seats
+pub mod Senders

@@ -39,7 +39,7 @@ with_job_plan plan a = record a { job = record a.job { plan = plan } }
 abbrev pub with_plan_kept : Plan → Bool → Command Job → Command Job
 with_plan_kept plan ended a = record a { job = record a.job { plan = Some plan; ended_nonce = a.job.ended_nonce || ended } }
 
--- and goes on, or has its result
+-- the command with its plan behind a step: it goes on, or has its result
 abbrev pub with_step : Plan → Bool → Went → Command Job → Command Job
 with_step plan ended more a = with_plan_kept plan ended a
 with_step plan ended (done result) a = with_result (outcome result.code result.payload) (with_plan_kept plan ended a)
@@ -64,9 +64,9 @@ pub record HasResult (q : List (Command Job)) : Type 0 where
   pub has : command.job.outcome ≡ Some result
 
 -- connections with an announcement, if there is one, and then a frame for one of them
-abbrev pub mailed : Service → ClientId → Option (List ℕ) → List ℕ → List Connection → List Connection
-mailed service client None last ks = map (λ k. with_mail (is_at service client k) (last ∷ []) k) ks
-mailed service client (Some frame) last ks = map (λ k. with_mail (is_at service client k) (last ∷ []) k) (map (λ k. with_mail (is_service service k.service) (frame ∷ []) k) ks)
+abbrev pub mailed_behind : Service → ClientId → Option (List ℕ) → List ℕ → List Connection → List Connection
+mailed_behind service client None last ks = map (λ k. with_mail (is_at service client k) (last ∷ []) k) ks
+mailed_behind service client (Some frame) last ks = map (λ k. with_mail (is_at service client k) (last ∷ []) k) (map (λ k. with_mail (is_service service k.service) (frame ∷ []) k) ks)
 
 -- a command waits on the nonce line, and the first that does asks for a nonce, or that it ends
 pub record HasNonceAsk (q : List (Command Job)) : Type 0 where

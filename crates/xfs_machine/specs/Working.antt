@@ -60,6 +60,6 @@ MayAdd order v qs entry = MayStep v qs.cash entry
 MayAdd go_on v qs entry = MayStep v qs.cash entry
 MayAdd other v qs entry = ⊥
 
--- the same of the step of work that a service does
+-- an entry that the step of work of a service may add to the mechanism's list
 abbrev pub MayAddAt : State → Service → Motion → Type 0
 MayAddAt s service entry = MayAdd (case_of s service) s.seen.guard s.queues entry

@@ -2,7 +2,7 @@
 
 ghost use Rattle.std.specs.Prelude.{◌≡◌, OnErr, OnOk, IfOk, find, option_map};
 ghost use Rattle.xfs_machine.specs.Changes.{FirstIsAnswered};
-ghost use Rattle.xfs_machine.specs.Parts.{HasResult, mailed};
+ghost use Rattle.xfs_machine.specs.Parts.{HasResult, mailed_behind};
 ghost use Rattle.xfs_model.specs.Frames.{Announces, IsCompletion};
 ghost use Rattle.xfs_model.specs.State.{queue_of};
 ghost use Rattle.xfs_queue.specs.Commands.{is_ready};
@@ -76,7 +76,7 @@ fn mail(
     before: Option<Bytes>,
     last: Bytes,
 ) -> Result<(), Memory>
-    ensures ok { OnOk result (connections.new ≡ mailed service client before last connections.old) }
+    ensures ok { OnOk result (connections.new ≡ mailed_behind service client before last connections.old) }
     ensures err { OnErr result (connections.new ≡ connections.old) }
 {
     let Some(frame) = before else {

@@ -52,8 +52,12 @@ pub(crate) fn begin_first<M: Mechanism, D: Disk>(
     requires asks { HasDeviceAsk (queue_of queues.old service) }
     requires fitting { All (IsFitting service) (queue_of queues.old service) }
     requires idle { find (λ a. is_running a.stage) (queue_of queues.old service) ≡ None }
-    ensures begins { OnOk result ((s : State) → BeginsFirst (at_begin s (seen D.Disk guard.old) exchange.old slot.old keypad.old connections.old queues.old) service (at_begin s (seen D.Disk guard.new) exchange.new slot.new keypad.new connections.new queues.new)) }
-    ensures memory { OnErr result ((guard.new ≡ guard.old) × (exchange.new ≡ exchange.old) × (slot.new ≡ slot.old) × (keypad.new ≡ keypad.old) × (connections.new ≡ connections.old) × (queues.new ≡ queues.old)) }
+    ensures begins { OnOk result ((s : State) → BeginsFirst
+        (at_begin s (seen D.Disk guard.old) exchange.old slot.old keypad.old connections.old queues.old)
+        service
+        (at_begin s (seen D.Disk guard.new) exchange.new slot.new keypad.new connections.new queues.new)) }
+    ensures memory { OnErr result ((guard.new ≡ guard.old) × (exchange.new ≡ exchange.old) × (slot.new ≡ slot.old)
+        × (keypad.new ≡ keypad.old) × (connections.new ≡ connections.old) × (queues.new ≡ queues.old)) }
     ensures proceeds { Proceeds D.Disk guard.old guard.new }
     ensures keeps { IsUpheld D.Disk guard.old → Keeps D.Disk NoEntry guard.old guard.new }
 {
@@ -73,7 +77,7 @@ pub(crate) fn begin_first<M: Mechanism, D: Disk>(
             begin_card(alloc, slot, connections, queues, service, ticket, ask)
         }
         Ask::Entry(ask) => {
-            let ask = ask.copied();
+            let ask = ask.copy();
             begin_entry(alloc, keypad, queues, service, ticket, ask)
         }
         Ask::Bad => {
@@ -124,7 +128,7 @@ fn start_plan(queue: &mut Queue<Job>, ticket: Ticket, plan: RunningPlan)
     ensures { queue.new ≡ changed_at (with_plan plan false) ticket queue.old }
 {
     queue.start(ticket);
-    // Their clause tells that the ids differ.
+    // The clause of `commands` tells that the ids differ.
     let _ids = queue.commands();
     queue.job(ticket).go_on(plan, false);
 }
@@ -176,7 +180,8 @@ fn begin_read(
 ) -> Result<(), Memory>
     requires waiting { IsWaiting (queue_of queues.old service) ticket }
     requires idle { find (λ a. is_running a.stage) (queue_of queues.old service) ≡ None }
-    ensures begins { OnOk result (CardBegins (CardAsk.Read tracks) service ticket slot.old slot.new connections.old connections.new queues.old queues.new) }
+    ensures begins { OnOk result (CardBegins (CardAsk.Read tracks) service ticket slot.old slot.new
+        connections.old connections.new queues.old queues.new) }
     ensures memory { OnErr result ((slot.new ≡ slot.old) × (connections.new ≡ connections.old) × (queues.new ≡ queues.old)) }
 {
     let frame = insert_card(alloc, ticket.id)?;

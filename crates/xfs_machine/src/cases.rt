@@ -52,7 +52,8 @@ pub(crate) fn case_of<M: Mechanism, D: Disk>(
     service: Service,
 ) -> Case
     requires { now.0 ≤ LAST_MOMENT }
-    ensures case { (s : State) → case_seen result ≡ case_of (record s { seen = seen D.Disk guard.now; life = life; issued = issued; now = now; queues = queues.now }) service }
+    ensures case { (s : State) → case_seen result
+        ≡ case_of (record s { seen = seen D.Disk guard.now; life = life; issued = issued; now = now; queues = queues.now }) service }
     ensures upheld { IsUpheld D.Disk guard.now }
 {
     let is_cash = is_service(Service::Cash, service);
@@ -112,10 +113,10 @@ fn is_stopped(queue: &Queue<Job>, now: Moment) -> bool
     requires { now.0 ≤ LAST_MOMENT }
     ensures { result ≡ list_any (λ a. is_running a.stage && (a.marked || is_due now a)) queue.now }
 {
-    // Their clause tells that the ids differ, and that one runs at most.
+    // The clause of `commands` tells that the ids differ, and that one runs at most.
     let _kept = queue.commands();
     match queue.running() {
-        Some(ticket) => queue.marked(ticket) | queue.due(ticket, now),
+        Some(ticket) => queue.is_marked(ticket) | queue.due(ticket, now),
         None => false,
     }
 }

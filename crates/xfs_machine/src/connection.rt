@@ -1,5 +1,5 @@
 ghost use Rattle.std.specs.Prelude.{◌≡◌, ◌++◌, ◌∷◌, [], OnOk, OnErr};
-ghost use Rattle.xfs_machine.specs.Withdrawals.{front};
+ghost use Rattle.xfs_machine.specs.TakenBack.{all_but_last};
 
 use std::alloc::Global;
 use std::marker::Model;
@@ -63,7 +63,7 @@ impl Connection {
 
     // The last frame that waits is dropped.
     pub(crate) fn unmail(&mut self)
-        ensures { self.new ≡ record self.old { waiting = front self.old.waiting } }
+        ensures { self.new ≡ record self.old { waiting = all_but_last self.old.waiting } }
     {
         self.waiting.pop();
     }

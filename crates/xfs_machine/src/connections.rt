@@ -1,5 +1,5 @@
 ghost use Rattle.std.specs.Prelude.{◌≡◌, ◌<◌, ◌≤◌, ◌++◌, ◌∷◌, ℕ, [], All, List, length, take, drop, map, filter, find, position, not, option_map, OnOk, OnErr, MatchOption};
-ghost use Rattle.xfs_machine.specs.Withdrawals.{taken_back};
+ghost use Rattle.xfs_machine.specs.TakenBack.{mailed_all, mailed_one, taken_back};
 ghost use Rattle.xfs_model.specs.Connections.{is_at, is_client, is_service, number, with_mail, without_mail};
 ghost use Rattle.xfs_model.specs.State.{Connection as ConnectionView};
 
@@ -75,7 +75,7 @@ impl Connections {
         ensures handed { MatchOption (find (is_client client) self.old) (result.items ≡ []) (λ k. result.items ≡ k.waiting) }
         ensures rest { self.new ≡ map (without_mail client) self.old }
     {
-        match seat(&self.list, client) {
+        match index_of(&self.list, client) {
             Some(at) => self.list[at].fetch(alloc),
             None => Vec::new(alloc),
         }
@@ -119,7 +119,7 @@ impl Connections {
 
     /// Takes back the frame that was just sent to one connection.
     pub fn unsend(&mut self, service: Service, client: ClientId)
-        ensures { (before : List ConnectionView) (frame : List ℕ) → self.old ≡ map (λ k. with_mail (is_at service client k) (frame ∷ []) k) before → self.new ≡ before }
+        ensures { (before : List ConnectionView) (frame : List ℕ) → self.old ≡ mailed_one service client frame before → self.new ≡ before }
     {
         if let Some(at) = place(&self.list, service, client) {
             self.list[at].unmail();
@@ -128,7 +128,7 @@ impl Connections {
 
     /// Takes back the frame that was just announced.
     pub fn take_back(&mut self, service: Service)
-        ensures { (before : List ConnectionView) (frame : List ℕ) → self.old ≡ map (λ k. with_mail (is_service service k.service) (frame ∷ []) k) before → self.new ≡ before }
+        ensures { (before : List ConnectionView) (frame : List ℕ) → self.old ≡ mailed_all service frame before → self.new ≡ before }
     {
         let count = self.list.len();
         take_back(&mut self.list, service, count);
@@ -136,7 +136,7 @@ impl Connections {
 }
 
 // Where the client's connection stands.
-fn seat(connections: &[Connection], client: ClientId) -> Option<usize>
+fn index_of(connections: &[Connection], client: ClientId) -> Option<usize>
     ensures { result ≡ position (is_client client) connections.now }
 {
     connections
@@ -176,7 +176,7 @@ fn announce(
     service: Service,
     frame: &[u8],
 ) -> Result<(), Memory>
-    ensures ok { OnOk result (connections.new.items ≡ map (λ k. with_mail (is_service service k.service) (frame.now ∷ []) k) connections.old.items) }
+    ensures ok { OnOk result (connections.new.items ≡ mailed_all service frame.now connections.old.items) }
     ensures err { OnErr result (connections.new.items ≡ connections.old.items) }
 {
     for i in 0..connections.len() {

@@ -39,7 +39,7 @@ pub(crate) fn put_card(
     }
 }
 
-// The same where a command runs.
+// A card is put into the slot while a command runs.
 fn put_card_for(
     alloc: Global,
     slot: &mut CardState,
@@ -52,7 +52,7 @@ fn put_card_for(
     ensures touches { OnOk result (CardTakes (CardEvent.Inserted card) slot.old slot.new connections.old connections.new queues.old queues.new) }
     ensures memory { OnErr result ((slot.new ≡ slot.old) × (connections.new ≡ connections.old) × (queues.new ≡ queues.old)) }
 {
-    // Their clause tells that the ids differ.
+    // The clause of `commands` tells that the ids differ.
     let _kept = queues.at(Service::Card).commands();
     let frame = card_inserted(alloc, ticket.id)?;
     connections.send(Service::Card, ticket.client, frame)?;
@@ -84,7 +84,7 @@ pub(crate) fn take_card(
     ensures touches { OnOk result (CardTakes CardEvent.Removed slot.old slot.new connections.old connections.new queues.now queues.now) }
     ensures memory { OnErr result ((slot.new ≡ slot.old) × (connections.new ≡ connections.old)) }
 {
-    // Their clause tells that the ids differ.
+    // The clause of `commands` tells that the ids differ.
     let _kept = queues.at(Service::Card).commands();
     if !slot.at_exit() {
         xfs_card::step(alloc, slot, CardEvent::Removed)?;
@@ -110,7 +110,7 @@ pub(crate) fn fail_card(
     ensures touches { OnOk result (CardFails slot.old slot.new queues.old queues.new) }
     ensures memory { OnErr result ((slot.new ≡ slot.old) × (queues.new ≡ queues.old)) }
 {
-    // Their clause tells that the ids differ.
+    // The clause of `commands` tells that the ids differ.
     let _kept = queues.at(Service::Card).commands();
     match xfs_card::step(alloc, slot, CardEvent::Fault)? {
         CardEffect::Done(code, payload) => {
@@ -142,7 +142,7 @@ pub(crate) fn press_key(
     }
 }
 
-// The same where a command runs.
+// A key is pressed while a command runs.
 fn press_key_for(
     alloc: Global,
     keypad: &mut KeyState,
@@ -155,7 +155,7 @@ fn press_key_for(
     ensures touches { OnOk result (KeysTake (KeyEvent.Key key) keypad.old keypad.new connections.old connections.new queues.old queues.new) }
     ensures memory { OnErr result ((keypad.new ≡ keypad.old) × (connections.new ≡ connections.old) × (queues.new ≡ queues.old)) }
 {
-    // Their clause tells that the ids differ.
+    // The clause of `commands` tells that the ids differ.
     let _kept = queues.at(Service::Keys).commands();
     let frame = key_pressed(alloc, ticket.id, key)?;
     connections.send(Service::Keys, ticket.client, frame)?;
@@ -187,7 +187,7 @@ pub(crate) fn fail_keys(
     ensures touches { OnOk result (KeysFail keypad.old keypad.new queues.old queues.new) }
     ensures memory { OnErr result ((keypad.new ≡ keypad.old) × (queues.new ≡ queues.old)) }
 {
-    // Their clause tells that the ids differ.
+    // The clause of `commands` tells that the ids differ.
     let _kept = queues.at(Service::Keys).commands();
     match xfs_keyboard::step(alloc, keypad, KeyEvent::Fault)? {
         KeyEffect::Failed => {

@@ -27,7 +27,7 @@ use xfs_keyboard::KeyState;
 use xfs_mech::Mechanism;
 
 impl<M: Mechanism, D: Disk> Machine<M, D> {
-    /// boot records again in place, on the same mechanism and disk: every connection, command, card, entry and
+    /// Boots again in place, on the same mechanism and disk: every connection, command, card, entry and
     /// exchange is gone. So they are after a refusal, but for `Memory`, which leaves all as it was. The limit of records
     /// counts anew from the boot record, which has room where a boot's would have it.
     pub fn reboot(&mut self) -> Result<(), BootFault>
@@ -59,7 +59,7 @@ impl<M: Mechanism, D: Disk> Machine<M, D> {
         outcome
     }
 
-    /// The same, and where it is refused, mechanism and disk come back.
+    /// Boots again, as `reboot` does, and where it is refused, hands mechanism and disk back.
     pub fn restart(mut self) -> Result<Machine<M, D>, BootFail<M, D>>
         ensures step { IfOk result (λ m. Step self.state restart restarted m.state) }
         ensures laws { IfOk result (λ m. IsLawful self.state restart restarted m.state) }

@@ -8,7 +8,7 @@ ghost use Rattle.xfs_common.specs.declared.payloads.Fit2.TheVariants as fit;
 ghost use Rattle.xfs_envelope.specs.Commands.{said};
 ghost use Rattle.xfs_envelope.specs.Messages.{IsPayload};
 ghost use Rattle.xfs_guard.specs.Fits.{unfit};
-ghost use Rattle.xfs_machine.specs.Seats.{IsCompleted, IsSeen, with_both};
+ghost use Rattle.xfs_machine.specs.Senders.{IsCompleted, IsSeen, with_both};
 ghost use Rattle.xfs_model.specs.Frames.{IsAcknowledge, IsCompletion};
 ghost use Rattle.xfs_common.specs.Payloads.{capabilities_payload, status_payload};
 ghost use Rattle.xfs_common.specs.declared.error.ErrorCode.TheVariants.{NoMatchingRequestIds};
@@ -22,7 +22,7 @@ ghost use Rattle.xfs_queue.specs.Queue.{is_named};
 
 use crate::connections::{Connections, is_service};
 use crate::job::{Job, Outcome};
-use crate::post::{Seat, accepted};
+use crate::post::{Sender, acceptance_reply};
 use crate::present_status::{is_present_status, told_present_status};
 use crate::queues::Queues;
 use std::alloc::Global;
@@ -44,42 +44,43 @@ pub(crate) fn do_at_once<M: Mechanism, D: Disk>(
     guard: &Guard<M, D>,
     connections: &mut Connections,
     queues: &mut Queues,
-    seat: Seat,
+    sender: Sender,
     command: &Envelope,
 ) -> Result<(), Memory>
-    ensures ok { OnOk result ((s : State) (k : ConnectionView) → k.client ≡ seat.client → k.service ≡ seat.service → s.seen.guard ≡ guard.now.state
+    ensures ok { OnOk result ((s : State) (k : ConnectionView) → k.client ≡ sender.client → k.service ≡ sender.service
+        → s.seen.guard ≡ guard.now.state
         → DoesAtOnce (with_both s connections.old queues.old) k (said command.now) (with_both s connections.new queues.new)) }
     ensures connections { OnErr result (connections.new ≡ connections.old) }
     ensures queues { OnErr result (queues.new ≡ queues.old) }
 {
     if command.name.as_str() == "Common.Cancel" {
-        return cancel(alloc, connections, queues, seat, command);
+        return cancel(alloc, connections, queues, sender, command);
     }
-    if is_present_status(seat.service, command.name.as_str()) {
+    if is_present_status(sender.service, command.name.as_str()) {
         let outcome = told_present_status(alloc, guard, &command.payload)?;
-        return complete(alloc, connections, seat, command, &outcome);
+        return complete(alloc, connections, sender, command, &outcome);
     }
-    let outcome = told(alloc, guard, seat.service, command.name.as_str())?;
-    complete(alloc, connections, seat, command, &outcome)
+    let outcome = tell(alloc, guard, sender.service, command.name.as_str())?;
+    complete(alloc, connections, sender, command, &outcome)
 }
 
 // The acknowledge and the completion are sent, or neither.
 fn complete(
     alloc: Global,
     connections: &mut Connections,
-    seat: Seat,
+    sender: Sender,
     command: &Envelope,
     outcome: &Outcome,
 ) -> Result<(), Memory>
-    ensures ok { OnOk result (IsCompleted seat (said command.now) outcome.now connections.old connections.new) }
+    ensures ok { OnOk result (IsCompleted sender (said command.now) outcome.now connections.old connections.new) }
     ensures err { OnErr result (connections.new ≡ connections.old) }
 {
-    let reply = accepted(alloc, command)?;
-    let last = completed(alloc, command, outcome)?;
-    connections.send_two(seat.service, seat.client, reply, last)
+    let reply = acceptance_reply(alloc, command)?;
+    let last = completion_frame(alloc, command, outcome)?;
+    connections.send_two(sender.service, sender.client, reply, last)
 }
 
-fn completed(alloc: Global, command: &Envelope, outcome: &Outcome) -> Result<Bytes, Memory>
+fn completion_frame(alloc: Global, command: &Envelope, outcome: &Outcome) -> Result<Bytes, Memory>
     ensures { IfOk result (λ f. IsCompletion command.now.id command.now.name outcome.now.code outcome.now.payload f) }
 {
     let code = outcome.code();
@@ -87,7 +88,7 @@ fn completed(alloc: Global, command: &Envelope, outcome: &Outcome) -> Result<Byt
 }
 
 // What is told of the machine.
-fn told<M: Mechanism, D: Disk>(
+fn tell<M: Mechanism, D: Disk>(
     alloc: Global,
     guard: &Guard<M, D>,
     service: Service,
@@ -96,12 +97,12 @@ fn told<M: Mechanism, D: Disk>(
     ensures { IfOk result (λ o. (s : State) → s.seen.guard ≡ guard.now.state → o ≡ told_of s service name.now) }
 {
     match name {
-        "Common.Status" => told_health(alloc, service, health(guard)),
-        "Common.Capabilities" => told_capabilities(alloc, service),
+        "Common.Status" => tell_health(alloc, service, health(guard)),
+        "Common.Capabilities" => tell_capabilities(alloc, service),
         "ServicePublisher.GetServices" if is_service(Service::Publisher, service) => Ok(
             Outcome::new(Code::Success, services(alloc)?),
         ),
-        "Storage.GetStorage" if is_service(Service::Cash, service) => told_storage(alloc, guard),
+        "Storage.GetStorage" if is_service(Service::Cash, service) => tell_storage(alloc, guard),
         _ => Ok(Outcome::new(Code::InvalidCommand, nothing(alloc))),
     }
 }
@@ -116,19 +117,19 @@ fn health<M: Mechanism, D: Disk>(guard: &Guard<M, D>) -> Fit2
     }
 }
 
-fn told_health(alloc: Global, service: Service, health: Fit2) -> Result<Outcome, Memory>
+fn tell_health(alloc: Global, service: Service, health: Fit2) -> Result<Outcome, Memory>
     ensures { IfOk result (λ o. o ≡ success (status_payload service health)) }
 {
     Ok(Outcome::new(Code::Success, status(alloc, service, health)?))
 }
 
-fn told_capabilities(alloc: Global, service: Service) -> Result<Outcome, Memory>
+fn tell_capabilities(alloc: Global, service: Service) -> Result<Outcome, Memory>
     ensures { IfOk result (λ o. o ≡ success (capabilities_payload service)) }
 {
     Ok(Outcome::new(Code::Success, capabilities(alloc, service)?))
 }
 
-fn told_storage<M: Mechanism, D: Disk>(
+fn tell_storage<M: Mechanism, D: Disk>(
     alloc: Global,
     guard: &Guard<M, D>,
 ) -> Result<Outcome, Memory>
@@ -144,11 +145,11 @@ fn cancel(
     alloc: Global,
     connections: &mut Connections,
     queues: &mut Queues,
-    seat: Seat,
+    sender: Sender,
     command: &Envelope,
 ) -> Result<(), Memory>
     requires { command.now.name ≡ codes "Common.Cancel" }
-    ensures ok { OnOk result ((s : State) (k : ConnectionView) → k.client ≡ seat.client → k.service ≡ seat.service
+    ensures ok { OnOk result ((s : State) (k : ConnectionView) → k.client ≡ sender.client → k.service ≡ sender.service
         → DoesAtOnce (with_both s connections.old queues.old) k (said command.now) (with_both s connections.new queues.new)) }
     ensures connections { OnErr result (connections.new ≡ connections.old) }
     ensures queues { OnErr result (queues.new ≡ queues.old) }
@@ -157,17 +158,17 @@ fn cancel(
         Ok(what) => ids_of(what),
         Err(ReadFail::Shape) => {
             let outcome = Outcome::new(Code::InvalidData, nothing(alloc));
-            return complete(alloc, connections, seat, command, &outcome);
+            return complete(alloc, connections, sender, command, &outcome);
         }
         Err(ReadFail::Memory) => return Err(Memory),
     };
-    if !names_one(queues.at(seat.service), seat.client, &ids) {
+    if !names_one(queues.at(sender.service), sender.client, &ids) {
         let outcome = no_matching(alloc)?;
-        return complete(alloc, connections, seat, command, &outcome);
+        return complete(alloc, connections, sender, command, &outcome);
     }
     let outcome = Outcome::new(Code::Success, nothing(alloc));
-    complete(alloc, connections, seat, command, &outcome)?;
-    queues.stop(alloc, seat.service, seat.client, &ids);
+    complete(alloc, connections, sender, command, &outcome)?;
+    queues.stop(alloc, sender.service, sender.client, &ids);
     Ok(())
 }
 

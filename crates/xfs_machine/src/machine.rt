@@ -18,7 +18,7 @@ use crate::connections::Connections;
 use crate::frames::Frames;
 use crate::notes_taken::is_shutter_closed;
 use crate::pass::{JoinFault, Pass};
-use crate::post::{Seat, take};
+use crate::post::{Sender, take};
 use crate::queues::Queues;
 use crate::reading::Reading;
 use crate::tally::Tally;
@@ -129,7 +129,7 @@ impl<M: Mechanism, D: Disk> Machine<M, D> {
         let Some(service) = self.service_of(pass) else {
             return Ok(());
         };
-        let seat = Seat {
+        let sender = Sender {
             client: pass.client,
             service,
         };
@@ -139,7 +139,7 @@ impl<M: Mechanism, D: Disk> Machine<M, D> {
             &self.guard,
             &mut self.connections,
             &mut self.queues,
-            seat,
+            sender,
             reading,
             now,
         )?;
@@ -218,7 +218,7 @@ impl<M: Mechanism, D: Disk> Machine<M, D> {
     {
         match service {
             Service::Publisher => false,
-            Service::Card => self.slot.awaited() || self.slot.at_exit(),
+            Service::Card => self.slot.awaits_card() || self.slot.at_exit(),
             Service::Keys => self.keypad.active(),
             Service::Cash => self.places().outlet.notes() != 0 && !is_shutter_closed(&self.guard),
         }

@@ -51,7 +51,7 @@ pub(crate) fn take_first<M: Mechanism, D: Disk>(
     let outcome = if queues.at(Service::Cash).due(ticket, now) {
         Outcome::new(Code::TimeOut, nothing(alloc))
     } else {
-        done(alloc, guard, issued, now, &command.job.ask)?
+        do_ask(alloc, guard, issued, now, &command.job.ask)?
     };
     queues.set_result(Service::Cash, ticket, outcome);
     Ok(())
@@ -68,7 +68,7 @@ fn first_asking(queue: &Queue<Job>) -> Option<&Command<Job>>
     })
 }
 
-fn done<M: Mechanism, D: Disk>(
+fn do_ask<M: Mechanism, D: Disk>(
     alloc: Global,
     guard: &mut Guard<M, D>,
     issued: &mut Moment,
@@ -103,7 +103,7 @@ fn issue<M: Mechanism, D: Disk>(
     ensures keeps { Keeps D.Disk NoEntry guard.old guard.new }
 {
     if let Some(_deny) = guard.unfit() {
-        return Ok(refused(alloc));
+        return Ok(not_ready(alloc));
     }
     let next = guard.next_nonce()?;
     let payload = nonce(alloc, &next.text)?;
@@ -112,7 +112,7 @@ fn issue<M: Mechanism, D: Disk>(
             *issued = now;
             Ok(Outcome::new(Code::Success, payload))
         }
-        Err(deny) => failed(alloc, deny),
+        Err(deny) => failure(alloc, deny),
     }
 }
 
@@ -125,33 +125,33 @@ fn clear<M: Mechanism, D: Disk>(alloc: Global, guard: &mut Guard<M, D>) -> Resul
     ensures keeps { Keeps D.Disk NoEntry guard.old guard.new }
 {
     if let Some(_deny) = guard.unfit() {
-        return Ok(refused(alloc));
+        return Ok(not_ready(alloc));
     }
     match guard.clear() {
-        Ok(lived) => Ok(cleared(alloc, lived)),
-        Err(deny) => failed(alloc, deny),
+        Ok(lived) => Ok(clear_outcome(alloc, lived)),
+        Err(deny) => failure(alloc, deny),
     }
 }
 
 // The answer where the guard refused a call that nothing refuses before.
-fn failed(alloc: Global, deny: Deny) -> Result<Outcome, Memory>
+fn failure(alloc: Global, deny: Deny) -> Result<Outcome, Memory>
     ensures told { IfOk result (λ o. (o ≡ plain DeviceNotReady) × (deny ≢ Deny.Memory)) }
     ensures memory { OnErr result (deny ≡ Deny.Memory) }
 {
     if deny == Deny::Memory {
         return Err(Memory);
     }
-    Ok(refused(alloc))
+    Ok(not_ready(alloc))
 }
 
-fn refused(alloc: Global) -> Outcome
+fn not_ready(alloc: Global) -> Outcome
     ensures { result ≡ plain DeviceNotReady }
 {
     Outcome::new(Code::DeviceNotReady, nothing(alloc))
 }
 
 // The live nonce ended, where there was one.
-fn cleared(alloc: Global, lived: bool) -> Outcome
+fn clear_outcome(alloc: Global, lived: bool) -> Outcome
     ensures { result ≡ record (success nothing_said) { ending = if lived then Some ended else None } }
 {
     let ending = if lived { Some(Ending::Cleared) } else { None };

@@ -4,8 +4,7 @@ ghost use Rattle.std.specs.Prelude.{◌≡◌, ◌||◌, Some, None, IfSome, OnE
 ghost use Rattle.xfs_dispenser.specs.Answers.{went_of, went_payload};
 ghost use Rattle.xfs_envelope.specs.Messages.{IsPayload};
 ghost use Rattle.xfs_dispenser.specs.Seen.{seen};
-ghost use Rattle.xfs_guard.specs.Keeps.{Keeps, NoEntry, Proceeds};
-ghost use Rattle.xfs_guard.specs.Upheld.{IsUpheld};
+ghost use Rattle.xfs_dispenser.specs.Steps.{KeepsStep};
 ghost use Rattle.xfs_machine.specs.Changes.{PlanGoesOn};
 ghost use Rattle.xfs_machine.specs.Jobs.{changed_at};
 ghost use Rattle.xfs_machine.specs.Parts.{MayStep, HasPlan, with_job_plan, with_plan_kept, with_step};
@@ -15,7 +14,7 @@ ghost use Rattle.xfs_queue.specs.Queue.{IsPending, command_at};
 use crate::job::{Job, Outcome};
 use crate::queues::Queues;
 use crate::running_plan::RunningPlan;
-use crate::stopping::running;
+use crate::stopping::running_command;
 use std::alloc::Global;
 use xfs_base::{Memory, Service};
 use xfs_disk::Disk;
@@ -33,11 +32,9 @@ pub(crate) fn work_on_plan<M: Mechanism, D: Disk>(
     requires { HasPlan guard.old.state queues.old.cash }
     ensures works { OnOk result (PlanGoesOn (seen D.Disk guard.old) (seen D.Disk guard.new) queues.old queues.new) }
     ensures memory { OnErr result ((guard.new.state ≡ guard.old.state) × (queues.new ≡ queues.old)) }
-    ensures proceeds { Proceeds D.Disk guard.old guard.new }
-    ensures keeps { OnOk result (Keeps D.Disk (MayStep guard.old.state queues.old.cash) guard.old guard.new) }
-    ensures still { IsUpheld D.Disk guard.old → OnErr result (Keeps D.Disk NoEntry guard.old guard.new) }
+    ensures guard { KeepsStep D.Disk (MayStep guard.old.state queues.old.cash) result guard.old guard.new }
 {
-    let Some(command) = running(queues.at(Service::Cash)) else {
+    let Some(command) = running_command(queues.at(Service::Cash)) else {
         unreachable!()
     };
     let ticket = command.ticket();
@@ -110,7 +107,7 @@ fn take_plan(queue: &mut Queue<Job>, ticket: Ticket) -> Option<RunningPlan>
     ensures left { queue.new ≡ changed_at (with_job_plan None) ticket queue.old }
     ensures pending { IsPending queue.new ticket }
 {
-    // Their clause tells that the ids differ.
+    // The clause of `commands` tells that the ids differ.
     let _ids = queue.commands();
     queue.job(ticket).take_plan()
 }
@@ -119,7 +116,7 @@ fn put_plan(queue: &mut Queue<Job>, ticket: Ticket, plan: RunningPlan)
     requires { IsPending queue.old ticket }
     ensures { queue.new ≡ changed_at (with_job_plan (Some plan)) ticket queue.old }
 {
-    // Their clause tells that the ids differ.
+    // The clause of `commands` tells that the ids differ.
     let _ids = queue.commands();
     queue.job(ticket).put_plan(plan);
 }
@@ -129,7 +126,7 @@ fn go_on(queue: &mut Queue<Job>, ticket: Ticket, plan: RunningPlan, ended: bool)
     ensures goes_on { queue.new ≡ changed_at (with_plan_kept plan ended) ticket queue.old }
     ensures pending { IsPending queue.new ticket }
 {
-    // Their clause tells that the ids differ.
+    // The clause of `commands` tells that the ids differ.
     let _ids = queue.commands();
     queue.job(ticket).step_to(plan, ended);
 }

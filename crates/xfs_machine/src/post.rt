@@ -6,12 +6,12 @@ ghost use Rattle.xfs_base.specs.declared.moment.TheConstants.{LAST_MOMENT};
 ghost use Rattle.xfs_conversation.specs.Pending.{is_wrong_id};
 ghost use Rattle.xfs_envelope.specs.Commands.{command_in, said};
 ghost use Rattle.xfs_envelope.specs.declared.code.Status.TheVariants.{InvalidMessage, InvalidRequestId, TooManyRequests};
-ghost use Rattle.xfs_machine.specs.Seats.{IsRefused, IsSeen, with_both};
+ghost use Rattle.xfs_machine.specs.Senders.{IsTurnedAway, IsSeen, with_both};
 ghost use Rattle.xfs_model.specs.Commands.{line_of};
 ghost use Rattle.xfs_model.specs.Connections as connections;
 ghost use Rattle.xfs_model.specs.Frames.{IsAcknowledge};
 ghost use Rattle.xfs_model.specs.Pendings.{pending_in};
-ghost use Rattle.xfs_model.specs.Posts.{Accepts, Refuses, Takes, TakesOn, is_crowded};
+ghost use Rattle.xfs_model.specs.Posts.{Accepts, Refuses, TakesText, TakesOn, is_crowded};
 ghost use Rattle.xfs_model.specs.State.{Connection as ConnectionView, State, queue_of};
 ghost use Rattle.xfs_queue.specs.Commands.{is_of};
 
@@ -32,34 +32,34 @@ use xfs_queue::{Command, Line, Queue, Ticket};
 
 /// A client, and the service that it is connected to.
 #[derive(Clone, Copy)]
-pub(crate) struct Seat {
+pub(crate) struct Sender {
     pub(crate) client: ClientId,
     pub(crate) service: Service,
 }
 
-// Takes a text. Where memory runs out nothing has changed.
+// TakesText a text. Where memory runs out nothing has changed.
 pub(crate) fn take<M: Mechanism, D: Disk>(
     alloc: Global,
     guard: &Guard<M, D>,
     connections: &mut Connections,
     queues: &mut Queues,
-    seat: Seat,
+    sender: Sender,
     reading: Reading<'_>,
     now: Moment,
 ) -> Result<(), Memory>
     requires { now.0 ≤ LAST_MOMENT }
-    ensures ok { OnOk result ((s : State) (k : ConnectionView) → IsSeen now seat s k → s.seen.guard ≡ guard.now.state
-        → Takes (with_both s connections.old queues.old) k (command_in reading.entry) (with_both s connections.new queues.new)) }
+    ensures ok { OnOk result ((s : State) (k : ConnectionView) → IsSeen now sender s k → s.seen.guard ≡ guard.now.state
+        → TakesText (with_both s connections.old queues.old) k (command_in reading.entry) (with_both s connections.new queues.new)) }
     ensures connections { OnErr result (connections.new ≡ connections.old) }
     ensures queues { OnErr result (queues.new ≡ queues.old) }
 {
     match reading.outcome() {
-        Ok(command) => take_command(alloc, guard, connections, queues, seat, command, now),
+        Ok(command) => take_command(alloc, guard, connections, queues, sender, command, now),
         Err(refuse) => {
             if refuse.why == Why::Memory {
                 return Err(Memory);
             }
-            refuse_text(alloc, connections, seat, refuse)
+            refuse_text(alloc, connections, sender, refuse)
         }
     }
 }
@@ -67,24 +67,24 @@ pub(crate) fn take<M: Mechanism, D: Disk>(
 fn refuse_text(
     alloc: Global,
     connections: &mut Connections,
-    seat: Seat,
+    sender: Sender,
     refuse: Refuse,
 ) -> Result<(), Memory>
-    ensures ok { OnOk result (IsRefused seat refuse.id None InvalidMessage connections.old connections.new) }
+    ensures ok { OnOk result (IsTurnedAway sender refuse.id None InvalidMessage connections.old connections.new) }
     ensures err { OnErr result (connections.new ≡ connections.old) }
 {
-    let reply = misread(alloc, refuse)?;
-    connections.send(seat.service, seat.client, reply)
+    let reply = misread_reply(alloc, refuse)?;
+    connections.send(sender.service, sender.client, reply)
 }
 
-fn misread(alloc: Global, refuse: Refuse) -> Result<Bytes, Memory>
+fn misread_reply(alloc: Global, refuse: Refuse) -> Result<Bytes, Memory>
     ensures { IfOk result (λ f. IsAcknowledge refuse.id None (Some InvalidMessage) f) }
 {
-    let id = widened(refuse.id);
+    let id = widen(refuse.id);
     Ok(Bytes::new(acknowledge(alloc, None, id, Some(Status::InvalidMessage))?))
 }
 
-fn widened(id: Option<u32>) -> Option<u64>
+fn widen(id: Option<u32>) -> Option<u64>
     ensures { result ≡ id }
 {
     match id {
@@ -98,43 +98,55 @@ fn take_command<M: Mechanism, D: Disk>(
     guard: &Guard<M, D>,
     connections: &mut Connections,
     queues: &mut Queues,
-    seat: Seat,
+    sender: Sender,
     command: Envelope,
     now: Moment,
 ) -> Result<(), Memory>
     requires { now.0 ≤ LAST_MOMENT }
-    ensures ok { OnOk result ((s : State) (k : ConnectionView) → IsSeen now seat s k → s.seen.guard ≡ guard.now.state
-        → Takes (with_both s connections.old queues.old) k (Ok (said command)) (with_both s connections.new queues.new)) }
+    ensures ok { OnOk result ((s : State) (k : ConnectionView) → IsSeen now sender s k → s.seen.guard ≡ guard.now.state
+        → TakesText (with_both s connections.old queues.old) k (Ok (said command)) (with_both s connections.new queues.new)) }
     ensures connections { OnErr result (connections.new ≡ connections.old) }
     ensures queues { OnErr result (queues.new ≡ queues.old) }
 {
-    if is_wrong_id(queues.at(seat.service), seat.client, command.id) {
-        return refuse(alloc, connections, seat, &command, Status::InvalidRequestId);
+    if is_wrong_id(queues.at(sender.service), sender.client, command.id) {
+        return refuse(
+            alloc,
+            connections,
+            sender,
+            &command,
+            Status::InvalidRequestId,
+        );
     }
-    let Some(line) = line_of(seat.service, command.name.as_str()) else {
-        return do_at_once(alloc, guard, connections, queues, seat, &command);
+    let Some(line) = line_of(sender.service, command.name.as_str()) else {
+        return do_at_once(alloc, guard, connections, queues, sender, &command);
     };
-    if is_crowded(queues.at(seat.service), seat.client) {
-        return refuse(alloc, connections, seat, &command, Status::TooManyRequests);
+    if is_crowded(queues.at(sender.service), sender.client) {
+        return refuse(
+            alloc,
+            connections,
+            sender,
+            &command,
+            Status::TooManyRequests,
+        );
     }
-    accept(alloc, connections, queues, seat, line, command, now)
+    accept(alloc, connections, queues, sender, line, command, now)
 }
 
 fn refuse(
     alloc: Global,
     connections: &mut Connections,
-    seat: Seat,
+    sender: Sender,
     command: &Envelope,
     why: Status,
 ) -> Result<(), Memory>
-    ensures ok { OnOk result (IsRefused seat (Some command.now.id) (Some command.now.name) why connections.old connections.new) }
+    ensures ok { OnOk result (IsTurnedAway sender (Some command.now.id) (Some command.now.name) why connections.old connections.new) }
     ensures err { OnErr result (connections.new ≡ connections.old) }
 {
-    let reply = turned_away(alloc, command, why)?;
-    connections.send(seat.service, seat.client, reply)
+    let reply = refusal_reply(alloc, command, why)?;
+    connections.send(sender.service, sender.client, reply)
 }
 
-fn turned_away(alloc: Global, command: &Envelope, why: Status) -> Result<Bytes, Memory>
+fn refusal_reply(alloc: Global, command: &Envelope, why: Status) -> Result<Bytes, Memory>
     ensures { IfOk result (λ f. IsAcknowledge (Some command.now.id) (Some command.now.name) (Some why) f) }
 {
     Ok(Bytes::new(acknowledge(alloc, Some(&command.name), Some(command.id), Some(why))?))
@@ -163,7 +175,7 @@ fn count_of(commands: &[Command<Job>], client: ClientId) -> usize
         .count()
 }
 
-pub(crate) fn accepted(alloc: Global, command: &Envelope) -> Result<Bytes, Memory>
+pub(crate) fn acceptance_reply(alloc: Global, command: &Envelope) -> Result<Bytes, Memory>
     ensures { IfOk result (λ f. IsAcknowledge (Some command.now.id) (Some command.now.name) None f) }
 {
     Ok(Bytes::new(acknowledge(alloc, Some(&command.name), Some(command.id), None)?))
@@ -174,38 +186,38 @@ fn accept(
     alloc: Global,
     connections: &mut Connections,
     queues: &mut Queues,
-    seat: Seat,
+    sender: Sender,
     line: Line,
     command: Envelope,
     now: Moment,
 ) -> Result<(), Memory>
     requires moment { now.0 ≤ LAST_MOMENT }
-    requires line { line_of seat.service command.name ≡ Some line }
-    requires free { is_wrong_id (pending_in seat.client (queue_of queues.old seat.service)) command.id ≡ false }
-    requires roomy { is_crowded (queue_of queues.old seat.service) seat.client ≡ false }
-    ensures ok { OnOk result ((s : State) (k : ConnectionView) → IsSeen now seat s k
+    requires line { line_of sender.service command.name ≡ Some line }
+    requires free { is_wrong_id (pending_in sender.client (queue_of queues.old sender.service)) command.id ≡ false }
+    requires roomy { is_crowded (queue_of queues.old sender.service) sender.client ≡ false }
+    ensures ok { OnOk result ((s : State) (k : ConnectionView) → IsSeen now sender s k
         → Accepts (with_both s connections.old queues.old) k line (said command) (with_both s connections.new queues.new)) }
     ensures connections { OnErr result (connections.new ≡ connections.old) }
     ensures queues { OnErr result (queues.new ≡ queues.old) }
 {
-    let reply = accepted(alloc, &command)?;
+    let reply = acceptance_reply(alloc, &command)?;
     let ask = ask_of(
         alloc,
-        seat.service,
+        sender.service,
         line,
         command.name.as_str(),
         &command.payload,
     )?;
     let ticket = Ticket {
-        client: seat.client,
+        client: sender.client,
         id: command.id,
     };
     let job = Job::new(command.name, ask);
-    queues.offer(seat.service, ticket, line, command.timeout, now, job)?;
-    match connections.send(seat.service, seat.client, reply) {
+    queues.offer(sender.service, ticket, line, command.timeout, now, job)?;
+    match connections.send(sender.service, sender.client, reply) {
         Ok(()) => Ok(()),
         Err(Memory) => {
-            queues.remove(seat.service, ticket);
+            queues.remove(sender.service, ticket);
             Err(Memory)
         }
     }

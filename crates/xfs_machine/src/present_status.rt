@@ -36,7 +36,7 @@ pub(crate) fn told_present_status<M: Mechanism, D: Disk>(
     ensures { IfOk result (TellsPresented guard.now.state (presents.nonce_in (view payload.now))) }
 {
     match nonce_in(payload) {
-        Some(nonce) => told_with(alloc, guard, nonce),
+        Some(nonce) => tell_evidence(alloc, guard, nonce),
         None => Ok(Outcome::new(Code::InvalidData, nothing(alloc))),
     }
 }
@@ -51,7 +51,7 @@ fn nonce_in(payload: &Value) -> Option<&[u8]>
     }
 }
 
-fn told_with<M: Mechanism, D: Disk>(
+fn tell_evidence<M: Mechanism, D: Disk>(
     alloc: Global,
     guard: &Guard<M, D>,
     nonce: &[u8],
@@ -61,21 +61,21 @@ fn told_with<M: Mechanism, D: Disk>(
 {
     let (base, records) = (guard.base(), guard.records());
     match evidence_under(alloc, guard.signer(), guard.units(), base, records, nonce) {
-        Ok(token) => told_token(alloc, &token),
-        Err(EvidenceFault::NoIssue) => refused(alloc, ErrorCode::NoIssue),
-        Err(EvidenceFault::Unsettled { .. }) => refused(alloc, ErrorCode::Unsettled),
+        Ok(token) => tell_token(alloc, &token),
+        Err(EvidenceFault::NoIssue) => error_outcome(alloc, ErrorCode::NoIssue),
+        Err(EvidenceFault::Unsettled { .. }) => error_outcome(alloc, ErrorCode::Unsettled),
         Err(EvidenceFault::Memory) => Err(Memory),
     }
 }
 
-fn told_token(alloc: Global, token: &[u8]) -> Result<Outcome, Memory>
+fn tell_token(alloc: Global, token: &[u8]) -> Result<Outcome, Memory>
     requires { IsUtf8 token.now }
     ensures { IfOk result (λ o. o ≡ success (present_status_payload token.now)) }
 {
     Ok(Outcome::new(Code::Success, present_status(alloc, token)?))
 }
 
-fn refused(alloc: Global, code: ErrorCode) -> Result<Outcome, Memory>
+fn error_outcome(alloc: Global, code: ErrorCode) -> Result<Outcome, Memory>
     ensures { IfOk result (λ o. o ≡ error code) }
 {
     Ok(Outcome::new(Code::CommandErrorCode, error_code(alloc, code.text())?))

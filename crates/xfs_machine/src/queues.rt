@@ -62,7 +62,7 @@ impl Queues {
         }
     }
 
-    /// The same, for writing.
+    /// The pending commands of a service, for writing.
     pub fn at_mut(&mut self, service: Service) -> &mut Queue<Job>
         ensures* writes_back { sem 𝓛 (LendsQueue self.entry service result) }
         ensures now { result.now ≡ queue_of self.old service }
@@ -87,7 +87,8 @@ impl Queues {
     ) -> Result<(), Memory>
         requires moment { now.0 ≤ LAST_MOMENT }
         requires free { offer_fault (queue_of self.old service) ticket.client ticket.id ≡ None }
-        ensures ok { OnOk result (self.new ≡ with_queue self.old service (queue_of self.old service ++ offered ticket.client ticket.id line timeout now job ∷ [])) }
+        ensures ok { OnOk result (self.new ≡ with_queue self.old service
+            (queue_of self.old service ++ offered ticket.client ticket.id line timeout now job ∷ [])) }
         ensures err { OnErr result (self.new ≡ self.old) }
     {
         match self
@@ -135,7 +136,7 @@ fn set_result(queue: &mut Queue<Job>, ticket: Ticket, outcome: Outcome)
     requires { IsPending queue.old ticket }
     ensures { queue.new ≡ changed_at (with_result outcome) ticket queue.old }
 {
-    // Their clause tells that the ids differ.
+    // The clause of `commands` tells that the ids differ.
     let _ids = queue.commands().len();
     queue.job(ticket).finish(outcome);
     queue.finish(ticket);
@@ -146,7 +147,7 @@ fn stop(alloc: Global, queue: &mut Queue<Job>, client: ClientId, ids: &Ids)
 {
     queue.cancel(client, ids);
     while let Some(ticket) = queue.stopped() {
-        // Their clause tells that the ids differ.
+        // The clause of `commands` tells that the ids differ.
         let _ids = queue.commands().len();
         set_result(queue, ticket, Outcome::new(Code::Canceled, nothing(alloc)));
     }

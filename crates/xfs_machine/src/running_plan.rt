@@ -1,13 +1,11 @@
 //! The plan of a running command.
 
-ghost use Rattle.std.specs.Prelude.{◌≡◌, IfOk, IfSome, OnErr, OnOk};
+ghost use Rattle.std.specs.Prelude.{◌≡◌, IfOk, IfSome, OnErr};
 ghost use Rattle.xfs_dispenser.specs.Answers.{went_of, went_payload};
 ghost use Rattle.xfs_dispenser.specs.Plans.{IsPlanned};
 ghost use Rattle.xfs_dispenser.specs.Seen.{seen};
-ghost use Rattle.xfs_dispenser.specs.Steps.{MayWork, Works};
+ghost use Rattle.xfs_dispenser.specs.Steps.{KeepsStep, MayWork, Works};
 ghost use Rattle.xfs_envelope.specs.Messages.{IsPayload};
-ghost use Rattle.xfs_guard.specs.Keeps.{Keeps, NoEntry, Proceeds};
-ghost use Rattle.xfs_guard.specs.Upheld.{IsUpheld};
 
 use arrayvec::ArrayVec;
 use std::alloc::Global;
@@ -63,9 +61,7 @@ impl RunningPlan {
         ensures works { IfOk result (λ p. Works (seen D.Disk guard.old) self.old (seen D.Disk guard.new) self.new (went_of p)) }
         ensures payload { IfOk result (λ p. IfSome (went_payload (went_of p)) IsPayload) }
         ensures memory { OnErr result ((guard.new.state ≡ guard.old.state) × (self.new ≡ self.old)) }
-        ensures proceeds { Proceeds D.Disk guard.old guard.new }
-        ensures keeps { OnOk result (Keeps D.Disk (MayWork guard.old.state self.old) guard.old guard.new) }
-        ensures still { IsUpheld D.Disk guard.old → OnErr result (Keeps D.Disk NoEntry guard.old guard.new) }
+        ensures guard { KeepsStep D.Disk (MayWork guard.old.state self.old) result guard.old guard.new }
     {
         work(alloc, guard, &mut self.plan)
     }

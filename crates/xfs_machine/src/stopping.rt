@@ -44,7 +44,7 @@ pub(crate) fn stop_running(
     ensures stops { OnOk result (DeviceStops now service slot.old slot.new keypad.old keypad.new queues.old queues.new) }
     ensures memory { OnErr result ((slot.new ≡ slot.old) × (keypad.new ≡ keypad.old) × (queues.new ≡ queues.old)) }
 {
-    let Some(command) = running(queues.at(service)) else {
+    let Some(command) = running_command(queues.at(service)) else {
         unreachable!()
     };
     let ticket = command.ticket();
@@ -59,7 +59,7 @@ pub(crate) fn stop_running(
 }
 
 /// The one that runs.
-pub(crate) fn running(queue: &Queue<Job>) -> Option<&Command<Job>>
+pub(crate) fn running_command(queue: &Queue<Job>) -> Option<&Command<Job>>
     ensures first { option_map (λ a. a.now) result ≡ find (λ a. is_running a.stage) queue.now }
     ensures pending { IfSome result (λ a. IsPending queue.now (ticket_of a.now)) }
     ensures valid { IsQueue queue.now }

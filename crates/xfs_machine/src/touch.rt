@@ -35,7 +35,8 @@ impl<M: Mechanism, D: Disk> Machine<M, D> {
     pub fn touch(&mut self, touch: Touch, tally: &mut Tally) -> Result<Touched, Memory>
         ensures step { Step self.old.state (touches touch) (touched_as result) self.new.state }
         ensures laws { IsLawful self.old.state (touches touch) (touched_as result) self.new.state }
-        ensures keeps { IfOk result (λ t. touch ≡ Touch.NotesTaken → t ≢ Touched.Closed → Keeps D.Disk (MayTake self.old.state.seen.guard) (guard_of self.old) (guard_of self.new)) }
+        ensures keeps { IfOk result (λ t. touch ≡ Touch.NotesTaken → t ≢ Touched.Closed
+            → Keeps D.Disk (MayTake self.old.state.seen.guard) (guard_of self.old) (guard_of self.new)) }
         ensures closed { result ≡ Ok Touched.Closed → guard_of self.new ≡ guard_of self.old }
         ensures other { touch ≢ Touch.NotesTaken → guard_of self.new ≡ guard_of self.old }
         ensures memory { OnErr result (guard_of self.new ≡ guard_of self.old) }
@@ -68,8 +69,12 @@ fn touch_device(
     touch: Touch,
 ) -> Result<(), Memory>
     requires { touch ≢ Touch.NotesTaken }
-    ensures touches { OnOk result ((s : State) → Touches (at_devices s slot.old keypad.old connections.old queues.old) touch touched (at_devices s slot.new keypad.new connections.new queues.new)) }
-    ensures memory { OnErr result ((slot.new ≡ slot.old) × (keypad.new ≡ keypad.old) × (connections.new ≡ connections.old) × (queues.new ≡ queues.old)) }
+    ensures touches { OnOk result ((s : State) → Touches
+        (at_devices s slot.old keypad.old connections.old queues.old)
+        touch touched
+        (at_devices s slot.new keypad.new connections.new queues.new)) }
+    ensures memory { OnErr result ((slot.new ≡ slot.old) × (keypad.new ≡ keypad.old)
+        × (connections.new ≡ connections.old) × (queues.new ≡ queues.old)) }
 {
     match touch {
         Touch::CardIn(card) => put_card(alloc, slot, connections, queues, card),

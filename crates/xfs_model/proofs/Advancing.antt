@@ -3,17 +3,17 @@ use Rattle.std.proofs.Common.{◌≡◌, ℕ, ◌≤◌, ◌++◌, ◌⊎◌, Bo
 use Rattle.xfs_base.specs.declared.counts.Counts.{Counts}
 use Rattle.xfs_dispenser.specs.Answers.{Start, Went}
 use Rattle.xfs_dispenser.specs.Begins.{Begins}
-use Rattle.xfs_dispenser.specs.Checks.{Grant, Permits}
+use Rattle.xfs_dispenser.specs.Checks.{Passed, Permits}
 use Rattle.xfs_dispenser.specs.Seen.{Seen, Becomes, Fails, MechCalled}
 use Rattle.xfs_dispenser.specs.Steps.{DoesFirst, DoesPart, IsDenied, IsFull, IsUnknown, IsUnwritten, Restores, Works, WorksOn}
 use Rattle.xfs_dispenser.specs.declared.ask.CashAsk.{CashAsk}
 use Rattle.xfs_dispenser.specs.declared.ask.CashAsk.TheVariants.{Denominate, Dispense, Present, Reject, Reset, Retract, StartExchange, SetStorage, EndExchange}
-use Rattle.xfs_dispenser.specs.declared.leave.Leave.{Leave}
+use Rattle.xfs_dispenser.specs.declared.grant.Grant.{Grant}
 use Rattle.xfs_dispenser.specs.declared.part.Part.{Part}
 use Rattle.xfs_dispenser.specs.declared.part.Part.TheVariants.{Order, Restore, Load, Note}
 use Rattle.xfs_dispenser.specs.declared.plan.Plan.{Plan}
 use Rattle.xfs_dispenser.specs.declared.refusal.Refusal.{Refusal}
-use Rattle.xfs_guard.specs.Booting.{IsUnread as IsNotRead, IsUnstarted}
+use Rattle.xfs_guard.specs.Booting.{IsNotReread, IsRereadFailed}
 use Rattle.xfs_guard.specs.Refusals.{Binds, bound_token}
 use Rattle.xfs_guard.specs.View.{View, rebooted, reread, unbooted, unread}
 use Rattle.xfs_guard.specs.declared.deny.Deny.{Deny}
@@ -27,7 +27,7 @@ use Rattle.xfs_guard.specs.Lives.{BeginsWith}
 use Rattle.xfs_guard.proofs.LifeLaws.{begins-push, begins-same, begins-trans, possible-begins}
 use Rattle.xfs_model.specs.Events.{Answer, Event, join, post, touch, work, outbox, leave, restart, end_, finish, restarted, unrestarted, ended, unsettled}
 use Rattle.xfs_model.specs.GuardCalls.{AtMostOneCall, GuardCall, checked, marked, missed, read, took, worked}
-use Rattle.xfs_model.specs.Guards.{ActsOn, Closes, FindsNoRoom, IsUnbooted, IsUnrestored, Reboots, SettlesOn, Takes, unwritten, written}
+use Rattle.xfs_model.specs.Guards.{ActsOn, Closes, FindsNoRoom, IsUnbooted, IsUnrestored, Reboots, SettlesOn, CustomerTakes, unwritten, written}
 use Rattle.xfs_model.specs.State.{State}
 use Rattle.xfs_model.specs.Step.{Happens, Step, happens, wanting}
 use Rattle.xfs_model.proofs.Calls.{calls}
@@ -107,7 +107,7 @@ moved old new failed key seed units limits base records called = record {
   disk_faults = let e = called.disk_same in omega (arith, e);
 }
 
-took_ : (old new : Seen) (moved_ : Counts) (failed : Bool) → Takes old moved_ failed new → Goes old new
+took_ : (old new : Seen) (moved_ : Counts) (failed : Bool) → CustomerTakes old moved_ failed new → Goes old new
 took_ old new moved_ failed is =
     let e = is.reported.same in
     moved old new failed (ap (λ (v : View). v.key) e) (ap (λ (v : View). v.seed) e) (ap (λ (v : View). v.units) e) (ap (λ (v : View). v.limits) e) (ap (λ (v : View). v.base) e) (ap (λ (v : View). v.records) e) is.called
@@ -189,14 +189,14 @@ binds s next bytes amounts later is = go (bound_token s.guard.records) refl
     go None e = advance s next _ (stays_with s.guard _ refl refl refl refl refl refl (begins-push s.guard.records _)) (is.first e) later
     go (Some t) e = advance s next s.guard (stays_with s.guard s.guard refl refl refl refl refl refl (begins-same s.guard.records)) (is.again (λ f. let g : Some t ≡ None = sym e ∙ f in cc)) later
 
-permits : (s : Seen) (c : Result Grant Refusal) (leave_ : Result Leave Refusal) (next : Seen) → Permits s c leave_ next → Goes s next
-permits s (Err r) leave_ next is = same s next is.1
-permits s (Ok grant) leave_ next (inl p) = binds s next grant.token grant.amounts p.later p.binds
-permits s (Ok grant) leave_ next (inr u) = fails s next _ (stays_with s.guard _ refl refl refl refl refl refl (begins-same s.guard.records)) u.fails
+permits : (s : Seen) (c : Result Passed Refusal) (grant_ : Result Grant Refusal) (next : Seen) → Permits s c grant_ next → Goes s next
+permits s (Err r) grant_ next is = same s next is.1
+permits s (Ok passed) grant_ next (inl p) = binds s next passed.token passed.amounts p.later p.binds
+permits s (Ok passed) grant_ next (inr u) = fails s next _ (stays_with s.guard _ refl refl refl refl refl refl (begins-same s.guard.records)) u.fails
 
 begins : (s : Seen) (exchange : Bool) (ask : CashAsk) (next : Seen) (after : Bool) (start : Start) → Begins s exchange ask next after start → Goes s next
 begins s exchange (Denominate notes) next after start is = same s next is.0
-begins s exchange (Dispense notes token) next after start is = permits s is.1.checked is.1.leave next is.1.permits
+begins s exchange (Dispense notes token) next after start is = permits s is.1.checked is.1.grant next is.1.permits
 begins s exchange Present next after start is = same s next is.0
 begins s exchange Reject next after start is = same s next is.0
 begins s exchange Retract next after start is = same s next is.0
@@ -264,7 +264,7 @@ no_room old new is =
     let now = record (reread old.guard is.is.0) { base = base_of is.is.0 } in
     anew old new now (read_as old.guard now is.is.0 refl refl refl refl refl refl is.is.1) (subst (λ (v : View). Becomes old v new) is.is.3 is.becomes)
 
-fails_to_boot : (old new : Seen) (now : View) → IsNotRead old.guard now ⊎ IsUnstarted old.guard now → Fails old now new → Advances restart old new
+fails_to_boot : (old new : Seen) (now : View) → IsNotReread old.guard now ⊎ IsRereadFailed true old.guard now → Fails old now new → Advances restart old new
 fails_to_boot old new now (inl e) is = goes_on restart old new (unread_ old new now (inl e) is)
 fails_to_boot old new now (inr e) is =
     let then_ = record (unbooted old.guard e.0) { base = base_of e.0 } in

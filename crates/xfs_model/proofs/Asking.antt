@@ -57,7 +57,8 @@ card_named name payload ask is = go (bytes_eq name (codes "CardReader.ReadRawDat
     go false false true x y z h = refl
     go false false false x y z h = absurd (none-ok ask card_fail.Unknown h)
 
-cash_named : (name : List ℕ) (payload : Data) (ask : CashAsk) → dispenser.ask_of name payload ≡ Ok ask → is_one_of cash_names name ≡ true
+-- what asks something of the dispenser has one of its names
+pub cash_named : (name : List ℕ) (payload : Data) (ask : CashAsk) → dispenser.ask_of name payload ≡ Ok ask → is_one_of cash_names name ≡ true
 cash_named name payload ask is =
     go (bytes_eq name (codes "CashDispenser.Denominate")) (bytes_eq name (codes "CashDispenser.Dispense")) (bytes_eq name (codes "CashDispenser.Present")) (bytes_eq name (codes "CashDispenser.Reject"))
     (bytes_eq name (codes "CashManagement.Reset")) (bytes_eq name (codes "CashManagement.Retract"))

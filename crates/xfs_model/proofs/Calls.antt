@@ -29,10 +29,10 @@ use Rattle.xfs_model.specs.Events.{Answer, Event, join, post, touch, work, outbo
 use Rattle.xfs_model.specs.GuardCalls.{AtMostOneCall, IsPlain, checked, marked, missed, read, took as taken_, worked}
 use Rattle.xfs_model.specs.Guards.{Expires, NonceCommand, cleared_, ended as over, issued, none_to_clear, refused, uncleared, unended, unissued}
 use Rattle.xfs_model.specs.Pendings.{pending_in}
-use Rattle.xfs_model.specs.Posts.{Accepts, Refuses, Takes, TakesOn, is_crowded}
+use Rattle.xfs_model.specs.Posts.{Accepts, Refuses, TakesText, TakesOn, is_crowded}
 use Rattle.xfs_model.specs.Results.{plain}
 use Rattle.xfs_model.specs.State.{Ask, issue, clear, cash, card, entry, bad, Connection, Ending, Job, Outcome, Pass, State, queue_at}
-use Rattle.xfs_model.specs.Step.{Happens, Hands, Leaves, Posts, Step, at_moment, happens, wanting}
+use Rattle.xfs_model.specs.Step.{Happens, HandsOver, DropsClient, Posts, Step, at_moment, happens, wanting}
 use Rattle.xfs_model.specs.Touches.{CardSays, IsHeard, TakesNotes, Touches, TouchesCard, TouchesKeys, failed, running_at, shut, took}
 use Rattle.xfs_model.specs.Work as working
 use Rattle.xfs_model.specs.Work.{case_of}
@@ -104,7 +104,7 @@ module _ (s new : State) where
   card_says_ (card_reader.inserted payload) is = is_heard Card (running_at s Card) (card_says (card_reader.inserted payload)) is
   card_says_ (card_reader.done code payload) is = is_heard Card (running_at s Card) (card_says (card_reader.done code payload)) is
 
-  takes : (k : Connection) (says : Result envelope.Command Refuse) → Takes s k says new → new.seen ≡ s.seen
+  takes : (k : Connection) (says : Result envelope.Command Refuse) → TakesText s k says new → new.seen ≡ s.seen
   takes k (Err refuse) is = rw (is.is) refl
   takes k (Ok c) is = of_id (is_wrong_id (pending_in k.client (queue_at s k.service)) c.id) is
     where
@@ -142,18 +142,18 @@ touches s NotesTaken told_ new is = takes_notes s told_ new is
 posts : (old : State) (pass : Pass) (text : List ℕ) (now : Moment) (new : State) → Posts old pass text now new → new.seen ≡ old.seen
 posts old pass text now new is = go (connection_of old pass) is
   where
-    go : (o : Option Connection) → MatchOption o (new ≡ old) (λ k. Takes (at_moment old now) k (command_in text) new) → new.seen ≡ old.seen
+    go : (o : Option Connection) → MatchOption o (new ≡ old) (λ k. TakesText (at_moment old now) k (command_in text) new) → new.seen ≡ old.seen
     go None is = rw is refl
     go (Some k) is = takes (at_moment old now) new k (command_in text) is
 
-hands : (old : State) (pass : Pass) (frames : List (List ℕ)) (new : State) → Hands old pass frames new → new.seen ≡ old.seen
+hands : (old : State) (pass : Pass) (frames : List (List ℕ)) (new : State) → HandsOver old pass frames new → new.seen ≡ old.seen
 hands old pass frames new is = go (connection_of old pass) is
   where
     go : (o : Option Connection) → MatchOption o ((frames ≡ []) × (new ≡ old)) (λ k. (frames ≡ k.waiting) × (new ≡ record old { connections = map (without_mail k.client) old.connections })) → new.seen ≡ old.seen
     go None is = rw (is.1) refl
     go (Some k) is = rw (is.1) refl
 
-leaves : (old : State) (pass : Pass) (new : State) → Leaves old pass new → new.seen ≡ old.seen
+leaves : (old : State) (pass : Pass) (new : State) → DropsClient old pass new → new.seen ≡ old.seen
 leaves old pass new is = go (connection_of old pass) is
   where
     go : (o : Option Connection) → MatchOption o (new ≡ old) (λ k. new ≡ left old k) → new.seen ≡ old.seen

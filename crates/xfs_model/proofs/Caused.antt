@@ -49,10 +49,10 @@ use Rattle.xfs_model.specs.Guards.{NonceCommand, cleared_, issued, none_to_clear
 use Rattle.xfs_model.specs.Immediate.{AtOnce, canceling, done_at_once, ids_of, stop, stopped, told_of}
 use Rattle.xfs_model.specs.Kept.{IsMachine}
 use Rattle.xfs_model.specs.Pendings.{pending_in}
-use Rattle.xfs_model.specs.Posts.{Accepts, Refuses, Takes, TakesOn, is_crowded}
+use Rattle.xfs_model.specs.Posts.{Accepts, Refuses, TakesText, TakesOn, is_crowded}
 use Rattle.xfs_model.specs.Results.{changed, closing, error, plain, success, with_plan, with_result}
 use Rattle.xfs_model.specs.State.{Ask, issue, clear, cash, card, entry, bad, Connection, Job, Outcome, Pass, State, bare, queue_at}
-use Rattle.xfs_model.specs.Step.{Happens, Hands, Leaves, Posts, Step, at_moment, happens, wanting}
+use Rattle.xfs_model.specs.Step.{Happens, HandsOver, DropsClient, Posts, Step, at_moment, happens, wanting}
 use Rattle.xfs_model.specs.Touches.{CardSays, IsHeard, TakesNotes, Touches, TouchesCard, TouchesKeys, failed, running_at, shut, took}
 use Rattle.xfs_model.specs.Work as working
 use Rattle.xfs_model.specs.Work.{case_of, is_overdue, is_stopped}
@@ -310,7 +310,7 @@ module _ (s new : State) (machine : IsMachine s) (h : HasCauses s) where
       of_room true is = rw (is.is) h
       of_room false is = rw (is.is) (with_queue_ s k.service _ (All-push (IsCaused s.now) (queue_at s k.service) _ (h k.service) (record { ready = λ y. absurd (false≢true y); canceled = λ r has code. absurd (none_some r has); late = λ r has code. absurd (none_some r has) })) h)
 
-  takes : (k : Connection) (says : Result envelope.Command Refuse) → Takes s k says new → HasCauses new
+  takes : (k : Connection) (says : Result envelope.Command Refuse) → TakesText s k says new → HasCauses new
   takes k (Err refuse) is = rw (is.is) h
   takes k (Ok c) is = of_id (is_wrong_id (pending_in k.client (queue_at s k.service)) c.id) is
     where
@@ -348,11 +348,11 @@ touches s NotesTaken told_ new is machine h = takes_notes s told_ new is h
 posts : (old : State) (pass : Pass) (text : List ℕ) (now : Moment) (new : State) → Posts old pass text now new → IsMachine (at_moment old now) → HasCauses old → HasCauses new
 posts old pass text now new is machine h = go (connection_of old pass) is
   where
-    go : (o : Option Connection) → MatchOption o (new ≡ old) (λ k. Takes (at_moment old now) k (command_in text) new) → HasCauses new
+    go : (o : Option Connection) → MatchOption o (new ≡ old) (λ k. TakesText (at_moment old now) k (command_in text) new) → HasCauses new
     go None is = rw is h
     go (Some k) is = takes (at_moment old now) new machine (later_causes old now h) k (command_in text) is
 
-hands : (old : State) (pass : Pass) (frames : List (List ℕ)) (new : State) → Hands old pass frames new → HasCauses old → HasCauses new
+hands : (old : State) (pass : Pass) (frames : List (List ℕ)) (new : State) → HandsOver old pass frames new → HasCauses old → HasCauses new
 hands old pass frames new is h = go (connection_of old pass) is
   where
     go : (o : Option Connection) → MatchOption o ((frames ≡ []) × (new ≡ old)) (λ k. (frames ≡ k.waiting) × (new ≡ record old { connections = map (without_mail k.client) old.connections })) → HasCauses new
@@ -363,7 +363,7 @@ leaves_at : (old : State) (k : Connection) → HasCauses old → HasCauses (left
 leaves_at old k h = with_queue_ old k.service (without_client (queue_at old k.service) k.client)
     (marked_caused old.now (is_of k.client) _ (All-filter _ (IsCaused old.now) (queue_at old k.service) (h k.service))) h
 
-leaves : (old : State) (pass : Pass) (new : State) → Leaves old pass new → HasCauses old → HasCauses new
+leaves : (old : State) (pass : Pass) (new : State) → DropsClient old pass new → HasCauses old → HasCauses new
 leaves old pass new is h = go (connection_of old pass) is
   where
     go : (o : Option Connection) → MatchOption o (new ≡ old) (λ k. new ≡ left old k) → HasCauses new

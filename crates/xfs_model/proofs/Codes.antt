@@ -8,7 +8,7 @@ use Rattle.xfs_card.specs.Table as card_reader
 use Rattle.xfs_card.specs.declared.ask.CardAsk.TheVariants.{Read, Move, Reset as ResetCard}
 use Rattle.xfs_card.specs.declared.state.CardEvent.{CardEvent}
 use Rattle.xfs_card.specs.declared.state.CardEvent.TheVariants.{Begin, Inserted, Removed, Fault, Stop}
-use Rattle.xfs_dispenser.specs.Answers.{Answer, Start, told, planned, Went, more, done, denial, answer_of, plain}
+use Rattle.xfs_dispenser.specs.Answers.{CashAnswer, Start, told, planned, Went, more, done, denial, answer_of, plain_answer}
 use Rattle.xfs_dispenser.specs.Begins.{Begins, IsTold, StartsUnless, StartsWith}
 use Rattle.xfs_dispenser.specs.Seen.{Seen}
 use Rattle.xfs_dispenser.specs.Steps.{DoesFirst, DoesPart, IsDenied, Works, WorksOn, onward, settled}
@@ -36,10 +36,10 @@ is_stopping other = false
 abbrev pub IsOwn : Code → Type 0
 IsOwn code = is_stopping code ≡ false
 
-abbrev Answered : Option Answer → Type 0
-Answered o = IfSome o (λ (a : Answer). IsOwn a.code)
+abbrev Answered : Option CashAnswer → Type 0
+Answered o = IfSome o (λ (a : CashAnswer). IsOwn a.code)
 
-of_some : (o : Option Answer) (a : Answer) → o ≡ Some a → Answered o → IsOwn a.code
+of_some : (o : Option CashAnswer) (a : CashAnswer) → o ≡ Some a → Answered o → IsOwn a.code
 of_some o a e h = rw e at h
 
 denied : (deny : Deny) → Answered (denial deny)
@@ -93,7 +93,7 @@ went_is went other e h = subst WentOwn (sym e) h
 denied_own : (s : Seen) (first : Option Deny) (next : Seen) (went : Went) → IsDenied s first next went → WentOwn went
 denied_own s first next went is = went_is went (done is.answer) is.is (of_some (denial is.deny) is.answer is.due (denied is.deny))
 
-load_own : (units : List NoteKind) (notes : Option Counts) (parts : List Part) (failed : Bool) → WentOwn (cond {A = Went} failed (done (plain HardwareError)) (onward units notes parts))
+load_own : (units : List NoteKind) (notes : Option Counts) (parts : List Part) (failed : Bool) → WentOwn (cond {A = Went} failed (done (plain_answer HardwareError)) (onward units notes parts))
 load_own units notes parts true = refl
 load_own units notes parts false = onward_own units notes parts
 
@@ -143,7 +143,7 @@ with_own (Err r) begun start own is = told_own r start is
 
 pub begins_own : (s : Seen) (exchange : Bool) (ask : CashAsk) (next : Seen) (after : Bool) (start : Start) → Begins s exchange ask next after start → StartOwn start
 begins_own s exchange (Denominate notes) next after start is = with_own is.2.given _ start (λ counts. refl) is.2.starts
-begins_own s exchange (Dispense notes token) next after start is = with_own is.1.leave _ start (λ l. tt) is.1.starts
+begins_own s exchange (Dispense notes token) next after start is = with_own is.1.grant _ start (λ l. tt) is.1.starts
 begins_own s exchange Present next after start is = unless_own _ _ start tt is.2
 begins_own s exchange Reject next after start is = unless_own _ _ start tt is.2
 begins_own s exchange Retract next after start is = unless_own _ _ start tt is.2

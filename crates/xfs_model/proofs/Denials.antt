@@ -8,11 +8,11 @@ use Rattle.xfs_base.specs.Counts.{at}
 use Rattle.xfs_base.specs.declared.counts.Counts.{Counts}
 use Rattle.xfs_common.specs.declared.error.ErrorCode.{ErrorCode}
 use Rattle.xfs_dispenser.specs.Begins.{RoomChecks, StorageChecks, added_refusal, unit_refusal}
-use Rattle.xfs_dispenser.specs.Checks.{Grant, Permits, TokenChecks, active_refusal, granted_unless, inactive_refusal, unfit_refusal, within_budget}
+use Rattle.xfs_dispenser.specs.Checks.{Passed, Permits, TokenChecks, active_refusal, passed_unless, inactive_refusal, unfit_refusal, within_budget}
 use Rattle.xfs_dispenser.specs.Denominations.{FirstOf, MixGiven, NotesGiven, count_refusal, currency_refusal, given_unless, members_refusal}
 use Rattle.xfs_dispenser.specs.Seen.{Seen}
 use Rattle.xfs_dispenser.specs.Steps.{refusal_of}
-use Rattle.xfs_dispenser.specs.declared.leave.Leave.{Leave}
+use Rattle.xfs_dispenser.specs.declared.grant.Grant.{Grant}
 use Rattle.xfs_dispenser.specs.declared.named.Named.{Named}
 use Rattle.xfs_dispenser.specs.declared.named.Named.TheVariants.{These, OtherName}
 use Rattle.xfs_dispenser.specs.declared.notes.Notes.{Notes}
@@ -256,21 +256,21 @@ module _ (v : View) (G : Refusal → Type 0) (good : IsGood v G) where
       go (Some f) e = good_is r (count_refusal f) (err_same {T = Counts} r (count_refusal f) e) (count_good f)
 
   token_good : (notes : Notes) (token : Option (List ℕ)) (r : Refusal) → TokenChecks v notes token (Err r) → G r
-  token_good notes None r is = good_is r refusal.NoToken (err_same {T = Grant} r refusal.NoToken is) good.no_token
-  token_good notes (Some token) r (inl refused) = good_is r (refusal.Deny refused.deny) (err_same {T = Grant} r _ refused.is) (why refused.refused)
+  token_good notes None r is = good_is r refusal.NoToken (err_same {T = Passed} r refusal.NoToken is) good.no_token
+  token_good notes (Some token) r (inl refused) = good_is r (refusal.Deny refused.deny) (err_same {T = Passed} r _ refused.is) (why refused.refused)
     where
       why : TokenRefused v token refused.deny → G (refusal.Deny refused.deny)
       why (inl e) = good.barred refused.deny e
       why (inr (fit, other)) = good.own refused.deny (token_marked v token refused.deny other)
-  token_good notes (Some token) r (inr passed) = given passed.given passed.gives passed.is
+  token_good notes (Some token) r (inr token_passed) = given token_passed.given token_passed.gives token_passed.is
     where
-      granted : (grant : Grant) (o : Option Deny) → Marked v.records o → Err r ≡ granted_unless grant o → G r
-      granted grant None h e = absurd (err_ok {T = Grant} r grant e)
-      granted grant (Some deny) h e = good_is r (refusal.Deny deny) (err_same {T = Grant} r _ e) (good.own deny h)
+      granted : (passed : Passed) (o : Option Deny) → Marked v.records o → Err r ≡ passed_unless passed o → G r
+      granted passed None h e = absurd (err_ok {T = Passed} r passed e)
+      granted passed (Some deny) h e = good_is r (refusal.Deny deny) (err_same {T = Passed} r _ e) (good.own deny h)
 
-      given : (g : Result Counts Refusal) → NotesGiven v.units v.places.units notes g → Err r ≡ within_budget v token passed.amounts g → G r
-      given (Err q) gives e = good_is r q (err_same {T = Grant} r q e) (notes_good v.places.units notes q gives)
-      given (Ok counts) gives e = granted _ (over_budget v passed.amounts counts) (budget_marked v passed.amounts counts) e
+      given : (g : Result Counts Refusal) → NotesGiven v.units v.places.units notes g → Err r ≡ within_budget v token token_passed.amounts g → G r
+      given (Err q) gives e = good_is r q (err_same {T = Passed} r q e) (notes_good v.places.units notes q gives)
+      given (Ok counts) gives e = granted _ (over_budget v token_passed.amounts counts) (budget_marked v token_passed.amounts counts) e
 
   added_good : (added : Named) → IfSome (added_refusal added) G
   added_good OtherName = tt
@@ -298,14 +298,14 @@ module _ (v : View) (G : Refusal → Type 0) (good : IsGood v G) where
 
   dispense_good : (exchange : Bool) (notes : Notes) (token : Option (List ℕ)) (q : Refusal) → FirstOf (members_refusal notes) (FirstOf (active_refusal exchange) (FirstOf (unfit_refusal v) (TokenChecks v notes token))) (Err q) → G q
   dispense_good exchange notes token q checks =
-      first_good {T = Grant} (members_refusal notes) (FirstOf (active_refusal exchange) (FirstOf (unfit_refusal v) (TokenChecks v notes token))) q (members_good notes)
-      (first_good {T = Grant} (active_refusal exchange) (FirstOf (unfit_refusal v) (TokenChecks v notes token)) q (active_good exchange)
-      (first_good {T = Grant} (unfit_refusal v) (TokenChecks v notes token) q unfit_good (token_good notes token q))) checks
+      first_good {T = Passed} (members_refusal notes) (FirstOf (active_refusal exchange) (FirstOf (unfit_refusal v) (TokenChecks v notes token))) q (members_good notes)
+      (first_good {T = Passed} (active_refusal exchange) (FirstOf (unfit_refusal v) (TokenChecks v notes token)) q (active_good exchange)
+      (first_good {T = Passed} (unfit_refusal v) (TokenChecks v notes token) q unfit_good (token_good notes token q))) checks
 
--- what a leave to stack is refused for, or its disk failed
-pub leave_good : (s : Seen) (G : Refusal → Type 0) → IsGood s.guard G → (next : Seen) → (Rose s.disk_faults next.disk_faults → G (refusal.Deny Disk)) → (exchange : Bool) (notes : Notes) (token : Option (List ℕ)) (checked : Result Grant Refusal) (leave : Result Leave Refusal)
-    → FirstOf (members_refusal notes) (FirstOf (active_refusal exchange) (FirstOf (unfit_refusal s.guard) (TokenChecks s.guard notes token))) checked → Permits s checked leave next
-    → (r : Refusal) → leave ≡ Err r → G r
-leave_good s G good next disk exchange notes token (Err q) leave checks permits r e = good_is s.guard G good r q (err_same {T = Leave} r q (sym e ∙ permits.0)) (dispense_good s.guard G good exchange notes token q checks)
-leave_good s G good next disk exchange notes token (Ok grant) leave checks (inl p) r e = absurd (err_ok {T = Leave} r _ (sym e ∙ p.is))
-leave_good s G good next disk exchange notes token (Ok grant) leave checks (inr u) r e = good_is s.guard G good r (refusal.Deny Disk) (err_same {T = Leave} r _ (sym e ∙ u.is)) (disk u.fails.cause)
+-- what a grant to stack is refused for, or its disk failed
+pub grant_good : (s : Seen) (G : Refusal → Type 0) → IsGood s.guard G → (next : Seen) → (Rose s.disk_faults next.disk_faults → G (refusal.Deny Disk)) → (exchange : Bool) (notes : Notes) (token : Option (List ℕ)) (checked : Result Passed Refusal) (grant : Result Grant Refusal)
+    → FirstOf (members_refusal notes) (FirstOf (active_refusal exchange) (FirstOf (unfit_refusal s.guard) (TokenChecks s.guard notes token))) checked → Permits s checked grant next
+    → (r : Refusal) → grant ≡ Err r → G r
+grant_good s G good next disk exchange notes token (Err q) grant checks permits r e = good_is s.guard G good r q (err_same {T = Grant} r q (sym e ∙ permits.0)) (dispense_good s.guard G good exchange notes token q checks)
+grant_good s G good next disk exchange notes token (Ok passed) grant checks (inl p) r e = absurd (err_ok {T = Grant} r _ (sym e ∙ p.is))
+grant_good s G good next disk exchange notes token (Ok passed) grant checks (inr u) r e = good_is s.guard G good r (refusal.Deny Disk) (err_same {T = Grant} r _ (sym e ∙ u.is)) (disk u.fails.cause)

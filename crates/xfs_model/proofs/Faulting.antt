@@ -14,7 +14,7 @@ use Rattle.xfs_card.specs.Table as card_reader
 use Rattle.xfs_card.specs.declared.ask.CardAsk.TheVariants as card_ask
 use Rattle.xfs_card.specs.declared.state.CardEvent.{CardEvent}
 use Rattle.xfs_card.specs.declared.state.CardEvent.TheVariants as card_event
-use Rattle.xfs_dispenser.specs.Answers.{Answer, Start, told, planned, Went, more, done, answer_of, denial, plain}
+use Rattle.xfs_dispenser.specs.Answers.{CashAnswer, Start, told, planned, Went, more, done, answer_of, denial, plain_answer}
 use Rattle.xfs_dispenser.specs.Begins.{Begins, IsTold, StartsUnless, StartsWith}
 use Rattle.xfs_dispenser.specs.Plans.{KeepsOutcome}
 use Rattle.xfs_dispenser.specs.Seen.{Seen}
@@ -42,7 +42,7 @@ use Rattle.xfs_queue.specs.declared.command.Ticket.{Ticket}
 use Rattle.xfs_queue.specs.Commands.{is_at, is_running, ticket_of}
 use Rattle.xfs_model.specs.Cases.{with_start, with_went}
 use Rattle.xfs_model.specs.Devices.{Saying, card_says, keyboard_says, with_saying}
-use Rattle.xfs_model.specs.Events.{Answer as Answered, Event}
+use Rattle.xfs_model.specs.Events.{Answer, Event}
 use Rattle.xfs_model.specs.Faults.{FaultsHaveCauses, IsFaulted, before, card_fault, has_failed, is_faulted, is_hardware_error, key_fault, mechanism, ran, tells_fault, was_faulted}
 use Rattle.xfs_model.specs.Guards.{NonceCommand, cleared_, issued, none_to_clear, refused, uncleared, unissued}
 use Rattle.xfs_model.specs.Results.{with_result}
@@ -57,10 +57,10 @@ use Rattle.xfs_model.proofs.Turns.{Speaks, Turn, accepted, at_event, begun, card
 abbrev IsOther : Code → Type 0
 IsOther code = is_hardware_error code ≡ false
 
-abbrev Others : Option Answer → Type 0
-Others o = IfSome o (λ (a : Answer). IsOther a.code)
+abbrev Others : Option CashAnswer → Type 0
+Others o = IfSome o (λ (a : CashAnswer). IsOther a.code)
 
-of_some : (o : Option Answer) (a : Answer) → o ≡ Some a → Others o → IsOther a.code
+of_some : (o : Option CashAnswer) (a : CashAnswer) → o ≡ Some a → Others o → IsOther a.code
 of_some o a e h = rw e at h
 
 denied_other : (deny : Deny) → Others (denial deny)
@@ -111,7 +111,7 @@ with_other (Err r) begin start own is = told_other r start is
 
 begins_other : (s : Seen) (exchange : Bool) (ask : CashAsk) (next : Seen) (after : Bool) (start : Start) → Begins s exchange ask next after start → StartOther start
 begins_other s exchange (Denominate notes) next after start is = with_other is.2.given _ start (λ counts. refl) is.2.starts
-begins_other s exchange (Dispense notes token) next after start is = with_other is.1.leave _ start (λ l. refl) is.1.starts
+begins_other s exchange (Dispense notes token) next after start is = with_other is.1.grant _ start (λ l. refl) is.1.starts
 begins_other s exchange Present next after start is = unless_other _ _ start refl is.2
 begins_other s exchange Reject next after start is = unless_other _ _ start refl is.2
 begins_other s exchange Retract next after start is = unless_other _ _ start refl is.2
@@ -145,7 +145,7 @@ onward_none units notes (part ∷ parts) = refl
 denied_none : (s : Seen) (first : Option Deny) (next : Seen) (went : Went) → IsDenied s first next went → went_fails went ≡ false
 denied_none s first next went is = went_none went (done is.answer) is.is (of_some (denial is.deny) is.answer is.due (denied_other is.deny))
 
-load_fails : (units : List NoteKind) (notes : Option Counts) (parts : List Part) (failed : Bool) → went_fails (cond {A = Went} failed (done (plain HardwareError)) (onward units notes parts)) ≡ failed
+load_fails : (units : List NoteKind) (notes : Option Counts) (parts : List Part) (failed : Bool) → went_fails (cond {A = Went} failed (done (plain_answer HardwareError)) (onward units notes parts)) ≡ failed
 load_fails units notes parts true = refl
 load_fails units notes parts false = onward_none units notes parts
 
@@ -354,7 +354,7 @@ module _ (old : State) (event : Event) (new : State) (service : Service) where
       by_went left _ went a plan known_ at runs has (works_blamed old.seen plan new.seen left went planned_.outcome (subst (λ (x : Seen). Works x plan new.seen left went) same works)) fails
   turn_faulted s same b (heard a known_ elsewhere saying speaks) fails = by_saying s saying.result a known_ (speaks_fault s a saying speaks known_) fails
 
-pub faults_have_causes : (old new : State) (event : Event) (told_ : Answered) → IsSound old → Step old event told_ new → FaultsHaveCauses old event new
+pub faults_have_causes : (old new : State) (event : Event) (told_ : Answer) → IsSound old → Step old event told_ new → FaultsHaveCauses old event new
 faults_have_causes old new event told_ sound is = λ service.
     each (Turn (at_event old event) event new (IsKnown old service) service) (λ b. is_faulted b ≡ true → IsFaulted old event new service b)
     (λ b turn. turn_faulted old event new service (at_event old event) (seen_at old event) b turn) (queue_at new service)

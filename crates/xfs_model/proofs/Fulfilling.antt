@@ -5,15 +5,15 @@ use Rattle.std.specs.declared.result.Result.{Result}
 use Rattle.std.proofs.lemmas.Bool.{false≢true}
 use Rattle.xfs_base.specs.declared.moment.Service.{Service}
 use Rattle.xfs_base.specs.declared.moment.Service.TheVariants.{Publisher, Card, Keys, Cash}
-use Rattle.xfs_dispenser.specs.Answers.{Answer, Start, Went, done, more, planned, told}
+use Rattle.xfs_dispenser.specs.Answers.{CashAnswer, Start, Went, done, more, planned, told}
 use Rattle.xfs_dispenser.specs.Begins.{Begins, IsDispensed, StartsWith}
-use Rattle.xfs_dispenser.specs.Checks.{Grant, Permits}
+use Rattle.xfs_dispenser.specs.Checks.{Passed, Permits}
 use Rattle.xfs_dispenser.specs.Plans.{dispense_plan, order_plan}
 use Rattle.xfs_dispenser.specs.Seen.{Seen}
 use Rattle.xfs_dispenser.specs.Steps.{Works}
 use Rattle.xfs_dispenser.specs.declared.ask.CashAsk.{CashAsk}
 use Rattle.xfs_dispenser.specs.declared.ask.CashAsk.TheVariants.{Dispense, Present}
-use Rattle.xfs_dispenser.specs.declared.leave.Leave.{Leave}
+use Rattle.xfs_dispenser.specs.declared.grant.Grant.{Grant}
 use Rattle.xfs_dispenser.specs.declared.notes.Notes.{Notes}
 use Rattle.xfs_dispenser.specs.declared.plan.Plan.{Plan}
 use Rattle.xfs_dispenser.specs.declared.refusal.Refusal.{Refusal}
@@ -28,7 +28,7 @@ use Rattle.xfs_queue.specs.declared.command.Stage.{Stage}
 use Rattle.xfs_queue.specs.declared.command.Stage.TheVariants.{Waiting, Running, Ready}
 use Rattle.xfs_queue.specs.declared.command.Ticket.{Ticket}
 use Rattle.xfs_model.specs.Cases.{with_start, with_went}
-use Rattle.xfs_model.specs.Events.{Answer as Answered, Event}
+use Rattle.xfs_model.specs.Events.{Answer, Event}
 use Rattle.xfs_model.specs.Moved.{IsWaitingAt, MovesAll, RunsSince, IsFulfilled, SucceedsInFull, runs, waits}
 use Rattle.xfs_model.specs.Results.{closing, outcome, with_plan}
 use Rattle.xfs_model.specs.Sound.{IsFresh, IsSound}
@@ -56,7 +56,7 @@ under_rests base now later ask plan still u = tt
 
 -- a Dispense or a Present that begins
 dispense_under : (s : Seen) (exchange : Bool) (notes : Notes) (token : Option (List ℕ)) (next : Seen) (plan : Plan) → s.guard.open_order ≡ No → IsDispensed s exchange notes token next (planned plan) → Pays s.guard next.guard notes plan
-dispense_under s exchange notes token next plan none d = leave d.leave refl d.starts
+dispense_under s exchange notes token next plan none d = grant d.grant refl d.starts
   where
     no_err : {T : Type 0} (x : T) (r : Refusal) → ◌≡◌ {A = Result T Refusal} (Ok x) (Err r) → ⊥
     no_err x r e = cc
@@ -64,18 +64,18 @@ dispense_under s exchange notes token next plan none d = leave d.leave refl d.st
     ok_is : {T : Type 0} (x y : T) → ◌≡◌ {A = Result T Refusal} (Ok x) (Ok y) → x ≡ y
     ok_is x y e = cc
 
-    checked : (c : Result Grant Refusal) (l : Leave) → d.checked ≡ c → Permits s c (Ok l) next → length l.counts.0 ≡ 8 → Pays s.guard next.guard notes (dispense_plan l.issue l.counts)
+    checked : (c : Result Passed Refusal) (l : Grant) → d.checked ≡ c → Permits s c (Ok l) next → length l.counts.0 ≡ 8 → Pays s.guard next.guard notes (dispense_plan l.issue l.counts)
     checked (Err r) l e p eight = absurd (no_err l r p.0)
-    checked (Ok grant) l e (inr u) eight = absurd (no_err l _ u.is)
-    checked (Ok grant) l e (inl p) eight =
-        let same = bound-same s.guard next.guard grant.token grant.amounts p.binds in
-        let given = granted-notes s.guard exchange notes token grant (rw e at d.checks) in
-        let counts : l.counts ≡ grant.counts = ap (λ (x : Leave). x.counts) (ok_is l _ p.is) in
+    checked (Ok passed) l e (inr u) eight = absurd (no_err l _ u.is)
+    checked (Ok passed) l e (inl p) eight =
+        let same = bound-same s.guard next.guard passed.token passed.amounts p.binds in
+        let given = granted-notes s.guard exchange notes token passed (rw e at d.checks) in
+        let counts : l.counts ≡ passed.counts = ap (λ (x : Grant). x.counts) (ok_is l _ p.is) in
         begun_pays s.guard next.guard notes l.issue l.counts (rw counts given.1) same.0 same.1 (same.2 ∙ none) eight
 
-    leave : (r : Result Leave Refusal) → d.leave ≡ r → StartsWith r (λ (l : Leave). planned (dispense_plan l.issue l.counts)) (planned plan) → Pays s.guard next.guard notes plan
-    leave (Err r) e t = (let f = t.is in cc)
-    leave (Ok l) e t = rw (same_plan plan (dispense_plan l.issue l.counts) t) (checked d.checked l refl (rw e at d.permits) (rw e at d.eight))
+    grant : (r : Result Grant Refusal) → d.grant ≡ r → StartsWith r (λ (l : Grant). planned (dispense_plan l.issue l.counts)) (planned plan) → Pays s.guard next.guard notes plan
+    grant (Err r) e t = (let f = t.is in cc)
+    grant (Ok l) e t = rw (same_plan plan (dispense_plan l.issue l.counts) t) (checked d.checked l refl (rw e at d.permits) (rw e at d.eight))
 
 begun_under : (s : Seen) (exchange : Bool) (ask : CashAsk) (next : Seen) (after : Bool) (plan : Plan) → s.guard.open_order ≡ No → Begins s exchange ask next after (planned plan) → Under s.guard next.guard (cash ask) (Some plan)
 begun_under s exchange (Dispense notes token) next after plan none is = dispense_under s exchange notes token next plan none is.1
@@ -153,7 +153,7 @@ first_turn t old event s new same b (worked a (fresh, p) ran here plan left has 
 first_turn t old event s new same b (heard a p elsewhere saying speaks) at_ = absurd (elsewhere refl)
 
 -- the result of a plan that has come to its end
-abbrev ended : Plan → Bool → Answer → Command Job → Outcome
+abbrev ended : Plan → Bool → CashAnswer → Command Job → Outcome
 ended left e answer a = closing (with_plan left e a).job (outcome answer.code answer.payload)
 
 by_went : (base : View) (s next : Seen) (plan left : Plan) (e : Bool) (went : Went) (a : Command Job) (ask : Ask) → a.job.ask ≡ ask → a.job.outcome ≡ None → Under base s.guard ask (Some plan) → Works s plan next left went
@@ -212,7 +212,7 @@ at_cash s Q fresh all service = λ k d within. (fresh service k d within, λ at_
 abbrev IsOnItsWay : State → Ticket → State → Type 0
 IsOnItsWay start t s = ((s ≡ start) × IsWaitingAt start t) ⊎ All (λ a. is_at t a ≡ true → (is_running a.stage ≡ true) × Under start.seen.guard s.seen.guard a.job.ask a.job.plan) (queue_at s Cash)
 
-on_step : (start s new : State) (t : Ticket) (event : Event) (told_ : Answered) → IsSound s → IsOnItsWay start t s → Step s event told_ new → All (λ b. is_at t b ≡ true → Holds start.seen.guard new.seen.guard b) (queue_at new Cash)
+on_step : (start s new : State) (t : Ticket) (event : Event) (told_ : Answer) → IsSound s → IsOnItsWay start t s → Step s event told_ new → All (λ b. is_at t b ≡ true → Holds start.seen.guard new.seen.guard b) (queue_at new Cash)
 on_step start s new t event told_ sound (inl (same, waits_)) is =
     subst (λ (x : State). All (λ b. is_at t b ≡ true → Holds x.seen.guard new.seen.guard b) (queue_at new Cash)) same
     (each (Turn (at_event s event) event new (Waits t Cash) Cash) (λ b. is_at t b ≡ true → Holds s.seen.guard new.seen.guard b)
@@ -231,7 +231,7 @@ on_its_way start t new sound (runs {s = s} before event told_ new_ is ran) =
     let all = on_step start s new t event told_ b.0 b.1 is in
     (sound_kept s new event told_ b.0 is, inr (λ k d within at_. (ran k d within at_, (all k d within at_).under (ran k d within at_))))
 
-pub successes_move_all : (start s new : State) (t : Ticket) (event : Event) (told_ : Answered) → IsSound start → RunsSince start t s → Step s event told_ new → SucceedsInFull start new t
+pub successes_move_all : (start s new : State) (t : Ticket) (event : Event) (told_ : Answer) → IsSound start → RunsSince start t s → Step s event told_ new → SucceedsInFull start new t
 successes_move_all start s new t event told_ sound since is =
     let b = on_its_way start t s sound since in
     λ k d within at_. (on_step start s new t event told_ b.0 b.1 is k d within at_).full

@@ -26,9 +26,9 @@ use Rattle.xfs_model.specs.Events.{join, post, outbox, joined, done, handed}
 use Rattle.xfs_model.specs.Immediate.{done_at_once}
 use Rattle.xfs_model.specs.Kept.{IsMachine}
 use Rattle.xfs_model.specs.Pendings.{pending_in}
-use Rattle.xfs_model.specs.Posts.{Accepts, Takes, TakesOn, Refuses, DoesAtOnce, is_crowded, job_of}
+use Rattle.xfs_model.specs.Posts.{Accepts, TakesText, TakesOn, Refuses, DoesAtOnce, is_crowded, job_of}
 use Rattle.xfs_model.specs.State.{Connection, Job, Pass, State, queue_at}
-use Rattle.xfs_model.specs.Step.{Hands, Joins, Leaves, Posts, at_moment}
+use Rattle.xfs_model.specs.Step.{HandsOver, Joins, DropsClient, Posts, at_moment}
 use Rattle.xfs_model.proofs.Lists.{found_passes, find-filter, find-dropped, IfSome-same}
 use Rattle.xfs_model.proofs.Pendings.{pending_at_once, pending_push_mine, pending_push_other, pending_without_client}
 use Rattle.xfs_model.proofs.Queues.{itself, queue_here, queue_same, queue_there}
@@ -131,7 +131,7 @@ module _ (s : State) (pass : Pass) (text : List ℕ) (k : Connection) (found : c
       of_room true is = rw (is.is) (acknowledged is.reply (λ me same. rw (reads, is.acknowledges.reads_back) (crowded c (rw (pending_same me k.client q same) right))))
       of_room false is = accepts_ line c reads right new is
 
-  pub takes : (says : Result envelope.Command Refuse) → command_in text ≡ says → (new : State) → Takes s k says new → IsTalk new mine texts fs
+  pub takes : (says : Result envelope.Command Refuse) → command_in text ≡ says → (new : State) → TakesText s k says new → IsTalk new mine texts fs
   takes (Err refuse) reads new is = rw (is.is) (acknowledged is.reply (λ me same. rw (reads, is.acknowledges.reads_back) (misread refuse)))
   takes (Ok c) reads new is = of_id (is_wrong_id (pending_in k.client q) c.id) refl is
     where
@@ -157,7 +157,7 @@ unheard s pass mine ts fs ts' fs' none h = elim (cases_Bool (is_pass_of s mine p
 pub keeps_post : (old : State) (pass : Pass) (text : List ℕ) (now : Moment) (new : State) → Posts old pass text now new → Keeps old (post pass text now) done new
 keeps_post old pass text now new is mine ts fs h = go (connection_of old pass) refl is
   where
-    go : (o : Option Connection) → connection_of old pass ≡ o → MatchOption o (new ≡ old) (λ k. Takes (at_moment old now) k (command_in text) new)
+    go : (o : Option Connection) → connection_of old pass ≡ o → MatchOption o (new ≡ old) (λ k. TakesText (at_moment old now) k (command_in text) new)
         → IsTalk new mine (texts_after old ts (post pass text now) done mine) fs
     go None none is = rw is (elim (cases_Bool (is_pass_of old mine pass)) [
       | inl y ↦ rw (y, shut_pass old pass mine (old.boot == pass.boot) refl none y) tt
@@ -172,7 +172,7 @@ emptied : (client : ClientId) (b : Bool) (j : Connection) → (cond b (record j 
 emptied client true j = refl
 emptied client false j = refl
 
-pub keeps_outbox : (old : State) (pass : Pass) (frames : List (List ℕ)) (new : State) → Hands old pass frames new → Keeps old (outbox pass) (handed frames) new
+pub keeps_outbox : (old : State) (pass : Pass) (frames : List (List ℕ)) (new : State) → HandsOver old pass frames new → Keeps old (outbox pass) (handed frames) new
 keeps_outbox old pass frames new is mine ts fs h = go (connection_of old pass) refl is
   where
     go : (o : Option Connection) → connection_of old pass ≡ o
@@ -201,7 +201,7 @@ keeps_outbox old pass frames new is mine ts fs h = go (connection_of old pass) r
         ]) h)
 
 -- a client that leaves takes its commands along
-pub keeps_leave : (old : State) (pass : Pass) (new : State) → Leaves old pass new → (mine : ClientId) (ts fs : List (List ℕ)) → IsTalk old mine ts fs → IsTalk new mine ts fs
+pub keeps_leave : (old : State) (pass : Pass) (new : State) → DropsClient old pass new → (mine : ClientId) (ts fs : List (List ℕ)) → IsTalk old mine ts fs → IsTalk new mine ts fs
 keeps_leave old pass new is mine ts fs h = go (connection_of old pass) refl is
   where
     go : (o : Option Connection) → connection_of old pass ≡ o → MatchOption o (new ≡ old) (λ k. new ≡ left old k) → IsTalk new mine ts fs

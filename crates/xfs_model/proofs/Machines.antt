@@ -47,10 +47,10 @@ use Rattle.xfs_model.specs.Events.{Answer, Event, join, post, touch, work, outbo
 use Rattle.xfs_model.specs.Immediate.{AtOnce, canceling, done_at_once, ids_of, stop, stopped, told_of}
 use Rattle.xfs_model.specs.Kept.{IsMachine}
 use Rattle.xfs_model.specs.Pendings.{pending_in}
-use Rattle.xfs_model.specs.Posts.{Accepts, Refuses, Takes, TakesOn, is_crowded, job_of}
+use Rattle.xfs_model.specs.Posts.{Accepts, Refuses, TakesText, TakesOn, is_crowded, job_of}
 use Rattle.xfs_model.specs.Results.{changed, error, plain, success, with_result}
 use Rattle.xfs_model.specs.State.{Ask, issue, clear, cash, card, entry, bad, Connection, Job, Outcome, Pass, State, bare, queue_at}
-use Rattle.xfs_model.specs.Step.{Happens, Hands, Joins, Leaves, Posts, Step, at_moment, happens, wanting}
+use Rattle.xfs_model.specs.Step.{Happens, HandsOver, Joins, DropsClient, Posts, Step, at_moment, happens, wanting}
 use Rattle.xfs_model.specs.Touches.{CardSays, IsHeard, TakesNotes, Touches, TouchesCard, TouchesKeys, failed, running_at, shut, took}
 use Rattle.xfs_model.specs.Work as working
 use Rattle.xfs_model.specs.Work.{case_of}
@@ -311,7 +311,7 @@ module _ (s : State) (k : Connection) (within : k.client.0 ≤ s.given) (h : IsM
           (All-push (λ b. b.client.0 ≤ s.given) q a (h.commands k.service) within)
           (with_sent s k.service k.client (is.reply ∷ []) h))
 
-  takes : (says : Result envelope.Command Refuse) (new : State) → Takes s k says new → IsMachine new
+  takes : (says : Result envelope.Command Refuse) (new : State) → TakesText s k says new → IsMachine new
   takes (Err refuse) new is = rw (is.is) (with_sent s k.service k.client (is.reply ∷ []) h)
   takes (Ok c) new is = of_id (is_wrong_id (pending_in k.client q) c.id) refl is
     where
@@ -330,7 +330,7 @@ open_within s pass k false found h = absurd (none_some k found)
 posts : (old : State) (pass : Pass) (text : List ℕ) (now : Moment) (new : State) → Posts old pass text now new → IsMachine old → IsMachine new
 posts old pass text now new is h = go (connection_of old pass) refl is
   where
-    go : (o : Option Connection) → connection_of old pass ≡ o → MatchOption o (new ≡ old) (λ k. Takes (at_moment old now) k (command_in text) new) → IsMachine new
+    go : (o : Option Connection) → connection_of old pass ≡ o → MatchOption o (new ≡ old) (λ k. TakesText (at_moment old now) k (command_in text) new) → IsMachine new
     go None none is = rw is h
     go (Some k) found is = takes (at_moment old now) k (open_within old pass k (old.boot == pass.boot) found h) (aside old _ refl refl refl h) (command_in text) new is
 
@@ -338,7 +338,7 @@ emptied : (b : Bool) (k : Connection) → (cond b (record k { waiting = [] }) k)
 emptied true k = refl
 emptied false k = refl
 
-hands : (old : State) (pass : Pass) (frames : List (List ℕ)) (new : State) → Hands old pass frames new → IsMachine old → IsMachine new
+hands : (old : State) (pass : Pass) (frames : List (List ℕ)) (new : State) → HandsOver old pass frames new → IsMachine old → IsMachine new
 hands old pass frames new is h = go (connection_of old pass) is
   where
     go : (o : Option Connection) → MatchOption o ((frames ≡ []) × (new ≡ old)) (λ k. (frames ≡ k.waiting) × (new ≡ record old { connections = map (without_mail k.client) old.connections })) → IsMachine new
@@ -359,7 +359,7 @@ leaves_at old k h =
       commands = t.commands;
     }
 
-leaves : (old : State) (pass : Pass) (new : State) → Leaves old pass new → IsMachine old → IsMachine new
+leaves : (old : State) (pass : Pass) (new : State) → DropsClient old pass new → IsMachine old → IsMachine new
 leaves old pass new is h = go (connection_of old pass) is
   where
     go : (o : Option Connection) → MatchOption o (new ≡ old) (λ k. new ≡ left old k) → IsMachine new

@@ -40,10 +40,10 @@ use Rattle.xfs_model.specs.Devices.{Hears, Saying, card_says, device_stopped, ke
 use Rattle.xfs_model.specs.Events.{Answer, Event, join, post, touch, work, outbox, leave, restart, end_, finish, joined, full, done, handed, restarted, unrestarted, ended, unsettled}
 use Rattle.xfs_model.specs.Immediate.{AtOnce, canceling, done_at_once, ids_of, stop, stopped, told_of}
 use Rattle.xfs_model.specs.Pendings.{pending_in}
-use Rattle.xfs_model.specs.Posts.{Accepts, Refuses, Takes, TakesOn, is_crowded, job_of}
+use Rattle.xfs_model.specs.Posts.{Accepts, Refuses, TakesText, TakesOn, is_crowded, job_of}
 use Rattle.xfs_model.specs.Results.{changed, error, plain, success, with_result}
 use Rattle.xfs_model.specs.State.{Ask, issue, clear, cash, card, entry, bad, Connection, Job, Outcome, Pass, State, bare, queue_at}
-use Rattle.xfs_model.specs.Step.{Happens, Hands, Leaves, Posts, Step, at_moment, happens, wanting}
+use Rattle.xfs_model.specs.Step.{Happens, HandsOver, DropsClient, Posts, Step, at_moment, happens, wanting}
 use Rattle.xfs_model.specs.Touches.{CardSays, IsHeard, TakesNotes, Touches, TouchesCard, TouchesKeys, failed, running_at, shut, took}
 use Rattle.xfs_model.specs.Work as working
 use Rattle.xfs_model.specs.Work.{case_of}
@@ -307,7 +307,7 @@ module _ (old : State) (pass : Pass) (text : List ℕ) (now : Moment) (k : Conne
       by_name true is = of_ids (request_ids c.payload) refl ((bytes_eq-Decides c.name (codes "Common.Cancel")).0 is)
       by_name false is = stays
 
-  takes : (says : Result envelope.Command Refuse) → command_in text ≡ says → Takes s k says new → MarksHaveCauses old event new
+  takes : (says : Result envelope.Command Refuse) → command_in text ≡ says → TakesText s k says new → MarksHaveCauses old event new
   takes (Err refuse) reads is = unmarked (rw (is.is) (same_state old))
   takes (Ok c) reads is = of_id (is_wrong_id (pending_in k.client (queue_at s k.service)) c.id) is
     where
@@ -328,18 +328,18 @@ module _ (old : State) (pass : Pass) (text : List ℕ) (now : Moment) (k : Conne
 posts : (old : State) (pass : Pass) (text : List ℕ) (now : Moment) (new : State) → Posts old pass text now new → MarksHaveCauses old (post pass text now) new
 posts old pass text now new is = go (connection_of old pass) refl is
   where
-    go : (o : Option Connection) → connection_of old pass ≡ o → MatchOption o (new ≡ old) (λ k. Takes (at_moment old now) k (command_in text) new) → MarksHaveCauses old (post pass text now) new
+    go : (o : Option Connection) → connection_of old pass ≡ o → MatchOption o (new ≡ old) (λ k. TakesText (at_moment old now) k (command_in text) new) → MarksHaveCauses old (post pass text now) new
     go None none is = from_before old (post pass text now) new (rw is (same_state old))
     go (Some k) found is = takes old pass text now k found new (command_in text) refl is
 
-hands : (old : State) (pass : Pass) (frames : List (List ℕ)) (new : State) → Hands old pass frames new → Same old new
+hands : (old : State) (pass : Pass) (frames : List (List ℕ)) (new : State) → HandsOver old pass frames new → Same old new
 hands old pass frames new is = go (connection_of old pass) is
   where
     go : (o : Option Connection) → MatchOption o ((frames ≡ []) × (new ≡ old)) (λ k. (frames ≡ k.waiting) × (new ≡ record old { connections = map (without_mail k.client) old.connections })) → Same old new
     go None is = rw (is.1) (same_state old)
     go (Some k) is = rw (is.1) (same_state old)
 
-leaves : (old : State) (pass : Pass) (new : State) → Leaves old pass new → MarksHaveCauses old (leave pass) new
+leaves : (old : State) (pass : Pass) (new : State) → DropsClient old pass new → MarksHaveCauses old (leave pass) new
 leaves old pass new is = go (connection_of old pass) refl is
   where
     at_place : (k : Connection) → connection_of old pass ≡ Some k → All (λ b. b.marked ≡ true → IsMarked old (leave pass) k.service b) (without_client (queue_at old k.service) k.client)

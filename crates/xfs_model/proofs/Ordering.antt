@@ -3,12 +3,12 @@ use Rattle.std.proofs.Common.{◌≡◌, Bool, List, [], ◌∷◌, Result, Ok, 
 use Rattle.xfs_base.specs.declared.counts.Counts.{Counts}
 use Rattle.xfs_dispenser.specs.Answers.{Start, Went}
 use Rattle.xfs_dispenser.specs.Begins.{Begins}
-use Rattle.xfs_dispenser.specs.Checks.{Grant, Permits}
+use Rattle.xfs_dispenser.specs.Checks.{Passed, Permits}
 use Rattle.xfs_dispenser.specs.Seen.{Seen}
 use Rattle.xfs_dispenser.specs.Steps.{DoesFirst, DoesPart, Works, WorksOn}
 use Rattle.xfs_dispenser.specs.declared.ask.CashAsk.{CashAsk}
 use Rattle.xfs_dispenser.specs.declared.ask.CashAsk.TheVariants.{Denominate, Dispense, Present, Reject, Reset, Retract, StartExchange, SetStorage, EndExchange}
-use Rattle.xfs_dispenser.specs.declared.leave.Leave.{Leave}
+use Rattle.xfs_dispenser.specs.declared.grant.Grant.{Grant}
 use Rattle.xfs_dispenser.specs.declared.part.Part.{Part}
 use Rattle.xfs_dispenser.specs.declared.part.Part.TheVariants.{Order, Restore, Load, Note}
 use Rattle.xfs_dispenser.specs.declared.plan.Plan.{Plan}
@@ -79,14 +79,14 @@ works s plan next after went is = go s.guard.open_order refl is
     go (Acted kind moved diverted failed) at (kept_, inr u) = closed s.guard next.guard (ap (λ (v : View). v.open_order) u.unsettles.same)
     go No at is = first plan.parts.items at is
 
-permits : (s : Seen) (c : Result Grant Refusal) (leave_ : Result Leave Refusal) (next : Seen) → Permits s c leave_ next → OrderFollows next.guard.open_order s.guard
-permits s (Err r) leave_ next is = kept s.guard next.guard (ap (λ (x : Seen). x.guard.open_order) is.1)
-permits s (Ok grant) leave_ next (inl p) = kept s.guard next.guard ((bound-same s.guard next.guard grant.token grant.amounts p.binds).2)
-permits s (Ok grant) leave_ next (inr u) = kept s.guard next.guard (ap (λ (v : View). v.open_order) u.fails.becomes.guard_is)
+permits : (s : Seen) (c : Result Passed Refusal) (grant_ : Result Grant Refusal) (next : Seen) → Permits s c grant_ next → OrderFollows next.guard.open_order s.guard
+permits s (Err r) grant_ next is = kept s.guard next.guard (ap (λ (x : Seen). x.guard.open_order) is.1)
+permits s (Ok passed) grant_ next (inl p) = kept s.guard next.guard ((bound-same s.guard next.guard passed.token passed.amounts p.binds).2)
+permits s (Ok passed) grant_ next (inr u) = kept s.guard next.guard (ap (λ (v : View). v.open_order) u.fails.becomes.guard_is)
 
 begins : (s : Seen) (exchange : Bool) (ask : CashAsk) (next : Seen) (after : Bool) (start : Start) → Begins s exchange ask next after start → OrderFollows next.guard.open_order s.guard
 begins s exchange (Denominate notes) next after start is = kept s.guard next.guard (ap (λ (x : Seen). x.guard.open_order) is.0)
-begins s exchange (Dispense notes token) next after start is = permits s is.1.checked is.1.leave next is.1.permits
+begins s exchange (Dispense notes token) next after start is = permits s is.1.checked is.1.grant next is.1.permits
 begins s exchange Present next after start is = kept s.guard next.guard (ap (λ (x : Seen). x.guard.open_order) is.0)
 begins s exchange Reject next after start is = kept s.guard next.guard (ap (λ (x : Seen). x.guard.open_order) is.0)
 begins s exchange Retract next after start is = kept s.guard next.guard (ap (λ (x : Seen). x.guard.open_order) is.0)

@@ -13,7 +13,7 @@ use Rattle.xfs_card.specs.declared.ask.CardAsk.TheVariants as card_ask
 use Rattle.xfs_card.specs.declared.state.CardEvent.{CardEvent}
 use Rattle.xfs_card.specs.declared.state.CardEvent.TheVariants as card_event
 use Rattle.xfs_common.specs.Payloads.{error_payload, nothing, only}
-use Rattle.xfs_dispenser.specs.Answers.{Answer, Start, told, planned, Went, more, done, answer_of, denial, plain}
+use Rattle.xfs_dispenser.specs.Answers.{CashAnswer, Start, told, planned, Went, more, done, answer_of, denial, plain_answer}
 use Rattle.xfs_dispenser.specs.Begins.{Begins, IsTold, StartsUnless, StartsWith}
 use Rattle.xfs_dispenser.specs.Seen.{Seen}
 use Rattle.xfs_dispenser.specs.Steps.{DoesFirst, DoesPart, IsDenied, Works, WorksOn, onward, settled}
@@ -44,7 +44,7 @@ use Rattle.xfs_guard.specs.Lives.{BeginsWith}
 use Rattle.xfs_guard.proofs.MarkLaws.{mark-begun, still-begun}
 use Rattle.xfs_model.specs.Devices.{Saying, card_says, keyboard_says}
 use Rattle.xfs_model.specs.State.{Outcome}
-use Rattle.xfs_model.proofs.Denials.{IsGood, Since, SinceMark, active_good, denominate_good, inactive_good, leave_good, of_some, own_since, refusal_since, storage_good, unfit_since}
+use Rattle.xfs_model.proofs.Denials.{IsGood, Since, SinceMark, active_good, denominate_good, inactive_good, grant_good, of_some, own_since, refusal_since, storage_good, unfit_since}
 use Rattle.xfs_model.specs.Told.{IsIssueText, IsMarkNumber, Stands}
 
 -- a payload that tells nothing of the journal
@@ -79,8 +79,8 @@ longer_stands old new e payload s = record {
 }
 
 -- the answer of a refusal
-abbrev AnswerStands : List Rec → Option Answer → Type 0
-AnswerStands records o = IfSome o (λ (a : Answer). Stands records a.payload)
+abbrev AnswerStands : List Rec → Option CashAnswer → Type 0
+AnswerStands records o = IfSome o (λ (a : CashAnswer). Stands records a.payload)
 
 denial_stands : (records : List Rec) → IsMarkAt records (last_mark records) → (deny : Deny) → SinceMark records deny → AnswerStands records (denial deny)
 denial_stands records mark Shut h = nothing_stands records
@@ -137,9 +137,9 @@ went_is records went other e h = subst (WentStands records) (sym e) h
 denied_stands : (s : Seen) (first : Option Deny) (next : Seen) (went : Went) → IsMarkAt s.guard.records (last_mark s.guard.records) → Since s.guard.records first → IsDenied s first next went → WentStands s.guard.records went
 denied_stands s first next went mark since is =
     went_is s.guard.records went (done is.answer) is.is
-    (of_some (λ (a : Answer). Stands s.guard.records a.payload) (denial is.deny) is.answer is.due (denial_stands s.guard.records mark is.deny (of_some (SinceMark s.guard.records) first is.deny is.first since)))
+    (of_some (λ (a : CashAnswer). Stands s.guard.records a.payload) (denial is.deny) is.answer is.due (denial_stands s.guard.records mark is.deny (of_some (SinceMark s.guard.records) first is.deny is.first since)))
 
-load_stands : (records : List Rec) (units : List NoteKind) (notes : Option Counts) (parts : List Part) (failed : Bool) → WentStands records (cond {A = Went} failed (done (plain HardwareError)) (onward units notes parts))
+load_stands : (records : List Rec) (units : List NoteKind) (notes : Option Counts) (parts : List Part) (failed : Bool) → WentStands records (cond {A = Went} failed (done (plain_answer HardwareError)) (onward units notes parts))
 load_stands records units notes parts true = nothing_stands records
 load_stands records units notes parts false = onward_stands records units notes parts
 
@@ -181,7 +181,7 @@ start_is : (records : List Rec) (start other : Start) → start ≡ other → St
 start_is records start other e h = subst (StartStands records) (sym e) h
 
 told_stands : (records : List Rec) → IsMarkAt records (last_mark records) → (r : Refusal) (start : Start) → RefusalMark records r → IsTold r start → StartStands records start
-told_stands records mark r start h is = start_is records start (told is.answer) is.is (of_some (λ (a : Answer). Stands records a.payload) (answer_of r) is.answer is.due (refusal_stands records mark r h))
+told_stands records mark r start h is = start_is records start (told is.answer) is.is (of_some (λ (a : CashAnswer). Stands records a.payload) (answer_of r) is.answer is.due (refusal_stands records mark r h))
 
 unless_stands : (records : List Rec) → IsMarkAt records (last_mark records) → (o : Option Refusal) (otherwise start : Start) → IfSome o (RefusalMark records) → StartStands records otherwise → StartsUnless o otherwise start → StartStands records start
 unless_stands records mark None otherwise start h own is = start_is records start otherwise is own
@@ -196,7 +196,7 @@ pub begins_stands : (s : Seen) (exchange : Bool) (ask : CashAsk) (next : Seen) (
 begins_stands s exchange (Denominate notes) next after start mark is =
     with_stands s.guard.records mark is.2.given _ start (denominate_good s.guard (RefusalMark s.guard.records) (marks_good s.guard) notes is.2.given is.2.checks) (λ counts. silent s.guard.records _ refl refl) is.2.starts
 begins_stands s exchange (Dispense notes token) next after start mark is =
-    with_stands s.guard.records mark is.1.leave _ start (leave_good s (RefusalMark s.guard.records) (marks_good s.guard) next (λ rose. tt) exchange notes token is.1.checked is.1.leave is.1.checks is.1.permits) (λ l. tt) is.1.starts
+    with_stands s.guard.records mark is.1.grant _ start (grant_good s (RefusalMark s.guard.records) (marks_good s.guard) next (λ rose. tt) exchange notes token is.1.checked is.1.grant is.1.checks is.1.permits) (λ l. tt) is.1.starts
 begins_stands s exchange Present next after start mark is = unless_stands s.guard.records mark _ _ start (active_good s.guard (RefusalMark s.guard.records) (marks_good s.guard) exchange) tt is.2
 begins_stands s exchange Reject next after start mark is = unless_stands s.guard.records mark _ _ start (active_good s.guard (RefusalMark s.guard.records) (marks_good s.guard) exchange) tt is.2
 begins_stands s exchange Retract next after start mark is = unless_stands s.guard.records mark _ _ start (active_good s.guard (RefusalMark s.guard.records) (marks_good s.guard) exchange) tt is.2

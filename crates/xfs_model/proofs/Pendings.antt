@@ -20,7 +20,7 @@ use Rattle.xfs_envelope.specs.Commands as envelope
 use Rattle.xfs_envelope.specs.declared.code.Code.TheVariants.{Canceled}
 use Rattle.xfs_json.specs.declared.members.Shape.{Shape}
 use Rattle.xfs_model.specs.State.{Connection, Job, State, queue_at}
-use Rattle.xfs_model.specs.Pendings.{pending_of, known_to, pending_in}
+use Rattle.xfs_model.specs.Pendings.{job_pending, known_to, pending_in}
 use Rattle.xfs_model.specs.Results.{changed, error, plain, success, with_result}
 use Rattle.xfs_model.specs.Immediate.{AtOnce, canceling, done_at_once, ids_of, stop, stopped, told_of}
 
@@ -60,7 +60,7 @@ pending_at_once mine s k c = by_name (bytes_eq c.name (codes "Common.Cancel"))
     by_name false = refl
 
 -- a new command
-pub pending_push_mine : (mine : ClientId) (q : List (Command Job)) (a : Command Job) → is_of mine a ≡ true → pending_in mine (q ++ a ∷ []) ≡ pending_in mine q ++ pending_of a ∷ []
+pub pending_push_mine : (mine : ClientId) (q : List (Command Job)) (a : Command Job) → is_of mine a ≡ true → pending_in mine (q ++ a ∷ []) ≡ pending_in mine q ++ job_pending a ∷ []
 pending_push_mine mine q a y = rw (filter_map-append (known_to mine) q (a ∷ [])) (rw y refl)
 
 pub pending_push_other : (mine : ClientId) (q : List (Command Job)) (a : Command Job) → is_of mine a ≡ false → pending_in mine (q ++ a ∷ []) ≡ pending_in mine q
@@ -72,7 +72,7 @@ pending_without_mine mine t e [] = refl
 pending_without_mine mine t e (a ∷ q) = rw e (elim (cases_Bool (is_of mine a)) [
   | inl y ↦ rw y (elim (cases_Bool (a.id == t.id)) [
     | inl z ↦ rw (z) (pending_without_mine mine t e q)
-    | inr m ↦ rw (m) (rw y (ap (λ l. pending_of a ∷ l) (pending_without_mine mine t e q)))
+    | inr m ↦ rw (m) (rw y (ap (λ l. job_pending a ∷ l) (pending_without_mine mine t e q)))
   ])
   | inr n ↦ rw n (rw n (pending_without_mine mine t e q))
 ])
@@ -105,7 +105,7 @@ pending_without_client mine client other q = pending-map mine _ (λ a. refl) _ �
     ]
 
 -- a command that is found is known to its client
-pub pending_found : (mine : ClientId) (p : Command Job → Bool) (q : List (Command Job)) (a : Command Job) → find p q ≡ Some a → is_of mine a ≡ true → Contains (pending_in mine q) (pending_of a)
+pub pending_found : (mine : ClientId) (p : Command Job → Bool) (q : List (Command Job)) (a : Command Job) → find p q ≡ Some a → is_of mine a ≡ true → Contains (pending_in mine q) (job_pending a)
 pending_found mine p [] a found y = absurd (none-some a found)
 pending_found mine p (b ∷ q) a found y = elim (cases_Bool (p b)) [
   | inl here ↦
@@ -114,7 +114,7 @@ pending_found mine p (b ∷ q) a found y = elim (cases_Bool (p b)) [
   | inr there ↦
       let rest = pending_found mine p q a (rw there at found) y in
       elim (cases_Bool (is_of mine b)) [
-        | inl z ↦ rw z (Contains-append_right (pending_of b ∷ []) (pending_in mine q) (pending_of a) rest)
+        | inl z ↦ rw z (Contains-append_right (job_pending b ∷ []) (pending_in mine q) (job_pending a) rest)
         | inr m ↦ rw m rest
       ]
 ]

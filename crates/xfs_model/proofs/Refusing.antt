@@ -14,7 +14,7 @@ use Rattle.xfs_card.specs.Table as card_reader
 use Rattle.xfs_card.specs.declared.ask.CardAsk.TheVariants as card_ask
 use Rattle.xfs_card.specs.declared.state.CardEvent.{CardEvent}
 use Rattle.xfs_card.specs.declared.state.CardEvent.TheVariants as card_event
-use Rattle.xfs_dispenser.specs.Answers.{Answer, Start, told, planned, Went, more, done, answer_of, denial, plain}
+use Rattle.xfs_dispenser.specs.Answers.{CashAnswer, Start, told, planned, Went, more, done, answer_of, denial, plain_answer}
 use Rattle.xfs_dispenser.specs.Begins.{Begins, IsTold, StartsUnless, StartsWith}
 use Rattle.xfs_dispenser.specs.Seen.{Seen}
 use Rattle.xfs_dispenser.specs.Steps.{DoesFirst, DoesPart, IsDenied, Works, WorksOn, onward, settled}
@@ -39,7 +39,7 @@ use Rattle.xfs_queue.specs.declared.command.Command.{Command}
 use Rattle.xfs_queue.specs.Commands.{is_at, ticket_of}
 use Rattle.xfs_model.specs.Cases.{with_start, with_went}
 use Rattle.xfs_model.specs.Devices.{Saying, card_says, keyboard_says, with_saying}
-use Rattle.xfs_model.specs.Events.{Answer as Answered, Event}
+use Rattle.xfs_model.specs.Events.{Answer, Event}
 use Rattle.xfs_model.specs.Faults.{IsRefused, RefusalsHaveCauses, disk, is_not_ready, is_refused, so_before, unfit, unrestored, was_refused}
 use Rattle.xfs_model.specs.Guards.{IsUnrestored, NonceCommand, cleared_, is_fit, issued, none_to_clear, refused, uncleared, unissued}
 use Rattle.xfs_model.specs.Results.{with_result}
@@ -47,7 +47,7 @@ use Rattle.xfs_model.specs.Sound.{IsSound}
 use Rattle.xfs_model.specs.State.{Ask, Job, Outcome, State, queue_at}
 use Rattle.xfs_model.specs.Step.{Step}
 use Rattle.xfs_model.proofs.Changes.{at_itself, each}
-use Rattle.xfs_model.proofs.Denials.{IsGood, Marked, OwnDeny, active_good, denominate_good, inactive_good, leave_good, order_marked, storage_good}
+use Rattle.xfs_model.proofs.Denials.{IsGood, Marked, OwnDeny, active_good, denominate_good, inactive_good, grant_good, order_marked, storage_good}
 use Rattle.xfs_model.proofs.Turns.{Speaks, Turn, accepted, at_event, begun, card_begins, card_touched, heard, keys_begin, keys_touched, late, marks, misasked, nonce, seen_at, stays, stopped_running, stopped_waiting, turns, worked}
 
 -- why the guard gave that answer
@@ -55,7 +55,7 @@ abbrev pub IsBarred : Seen → Seen → Type 0
 IsBarred s next = (is_fit s ≡ false) ⊎ (Rose s.disk_faults next.disk_faults ⊎ IsUnrestored s next)
 
 -- a refusal of its own check is another answer
-own_ready : (records : List Rec) (deny : Deny) → OwnDeny records deny → IfSome (denial deny) (λ (a : Answer). is_not_ready a.code ≡ false)
+own_ready : (records : List Rec) (deny : Deny) → OwnDeny records deny → IfSome (denial deny) (λ (a : CashAnswer). is_not_ready a.code ≡ false)
 own_ready records Shut own = absurd own
 own_ready records Full own = absurd own
 own_ready records Disk own = absurd own
@@ -99,7 +99,7 @@ settled_bars : (s next : Seen) (plan : Plan) (failed : Bool) → WentBars s next
 settled_bars s next plan true = λ e. absurd (false≢true e)
 settled_bars s next plan false = onward_bars s next s.guard.units plan.notes plan.parts.items
 
-load_bars : (s next : Seen) (units : List NoteKind) (notes : Option Counts) (parts : List Part) (failed : Bool) → WentBars s next (cond {A = Went} failed (done (plain HardwareError)) (onward units notes parts))
+load_bars : (s next : Seen) (units : List NoteKind) (notes : Option Counts) (parts : List Part) (failed : Bool) → WentBars s next (cond {A = Went} failed (done (plain_answer HardwareError)) (onward units notes parts))
 load_bars s next units notes parts true = λ e. absurd (false≢true e)
 load_bars s next units notes parts false = onward_bars s next units notes parts
 
@@ -109,7 +109,7 @@ denied_bars s own next went marked is = went_is s next went (done is.answer) is.
   where
     go : (o : Option Deny) → unfit_for s.guard ≡ o → option_or o own ≡ Some is.deny → is_not_ready is.answer.code ≡ true → IsBarred s next
     go (Some deny) unfit_ first e = inl (unfit_is s.guard deny unfit_)
-    go None fit first e = absurd (false≢true (sym (of_some (λ (a : Answer). is_not_ready a.code ≡ false) (denial is.deny) is.answer is.due (own_ready s.guard.records is.deny (of_some (OwnDeny s.guard.records) own is.deny first marked))) ∙ e))
+    go None fit first e = absurd (false≢true (sym (of_some (λ (a : CashAnswer). is_not_ready a.code ≡ false) (denial is.deny) is.answer is.due (own_ready s.guard.records is.deny (of_some (OwnDeny s.guard.records) own is.deny first marked))) ∙ e))
 
 -- a refusal of the journal alone
 unfit_bars : (s next : Seen) (went : Went) → IsDenied s (unfit_for s.guard) next went → WentBars s next went
@@ -145,13 +145,13 @@ StartBars s next (told a) = is_not_ready a.code ≡ true → IsBarred s next
 StartBars s next (planned plan) = Unit {0}
 
 abbrev Bars : Seen → Seen → Refusal → Type 0
-Bars s next r = IfSome (answer_of r) (λ (a : Answer). is_not_ready a.code ≡ true → IsBarred s next)
+Bars s next r = IfSome (answer_of r) (λ (a : CashAnswer). is_not_ready a.code ≡ true → IsBarred s next)
 
-always : (s next : Seen) (o : Option Answer) → IsBarred s next → IfSome o (λ (a : Answer). is_not_ready a.code ≡ true → IsBarred s next)
+always : (s next : Seen) (o : Option CashAnswer) → IsBarred s next → IfSome o (λ (a : CashAnswer). is_not_ready a.code ≡ true → IsBarred s next)
 always s next None barred = tt
 always s next (Some a) barred = λ e. barred
 
-never : (s next : Seen) (o : Option Answer) → IfSome o (λ (a : Answer). is_not_ready a.code ≡ false) → IfSome o (λ (a : Answer). is_not_ready a.code ≡ true → IsBarred s next)
+never : (s next : Seen) (o : Option CashAnswer) → IfSome o (λ (a : CashAnswer). is_not_ready a.code ≡ false) → IfSome o (λ (a : CashAnswer). is_not_ready a.code ≡ true → IsBarred s next)
 never s next None h = tt
 never s next (Some a) h = λ e. absurd (false≢true (sym h ∙ e))
 
@@ -168,7 +168,7 @@ start_is : (s next : Seen) (start other : Start) → start ≡ other → StartBa
 start_is s next start other e h = subst (StartBars s next) (sym e) h
 
 told_bars : (s next : Seen) (r : Refusal) (start : Start) → Bars s next r → IsTold r start → StartBars s next start
-told_bars s next r start h is = start_is s next start (told is.answer) is.is (of_some (λ (a : Answer). is_not_ready a.code ≡ true → IsBarred s next) (answer_of r) is.answer is.due h)
+told_bars s next r start h is = start_is s next start (told is.answer) is.is (of_some (λ (a : CashAnswer). is_not_ready a.code ≡ true → IsBarred s next) (answer_of r) is.answer is.due h)
 
 unless_bars : (s next : Seen) (o : Option Refusal) (otherwise start : Start) → IfSome o (Bars s next) → StartBars s next otherwise → StartsUnless o otherwise start → StartBars s next start
 unless_bars s next None otherwise start h own is = start_is s next start otherwise is own
@@ -182,7 +182,7 @@ begins_bars : (s : Seen) (exchange : Bool) (ask : CashAsk) (next : Seen) (after 
 begins_bars s exchange (Denominate notes) next after start is =
     with_bars s next is.2.given _ start (denominate_good s.guard (Bars s next) (bars_good s next) notes is.2.given is.2.checks) (λ counts e. absurd (false≢true e)) is.2.starts
 begins_bars s exchange (Dispense notes token) next after start is =
-    with_bars s next is.1.leave _ start (leave_good s (Bars s next) (bars_good s next) next (λ rose e. inr (inl rose)) exchange notes token is.1.checked is.1.leave is.1.checks is.1.permits) (λ l. tt) is.1.starts
+    with_bars s next is.1.grant _ start (grant_good s (Bars s next) (bars_good s next) next (λ rose e. inr (inl rose)) exchange notes token is.1.checked is.1.grant is.1.checks is.1.permits) (λ l. tt) is.1.starts
 begins_bars s exchange Present next after start is = unless_bars s next _ _ start (active_good s.guard (Bars s next) (bars_good s next) exchange) tt is.2
 begins_bars s exchange Reject next after start is = unless_bars s next _ _ start (active_good s.guard (Bars s next) (bars_good s next) exchange) tt is.2
 begins_bars s exchange Retract next after start is = unless_bars s next _ _ start (active_good s.guard (Bars s next) (bars_good s next) exchange) tt is.2
@@ -289,7 +289,7 @@ module _ (old new : State) (service : Service) where
   turn_refused event s same b (worked a known_ runs at plan left has went works) e = by_went left _ went a known_ at (subst (λ (x : Seen). WentBars x new.seen went) same (works_bars s.seen plan new.seen left went works)) e
   turn_refused event s same b (heard a known_ elsewhere saying speaks) e = by_saying saying.result a known_ (speaks_ready s event service a saying speaks) e
 
-pub refusals_have_causes : (old new : State) (event : Event) (told_ : Answered) → IsSound old → Step old event told_ new → RefusalsHaveCauses old new
+pub refusals_have_causes : (old new : State) (event : Event) (told_ : Answer) → IsSound old → Step old event told_ new → RefusalsHaveCauses old new
 refusals_have_causes old new event told_ sound is = λ service.
     each (Turn (at_event old event) event new (IsKnown old service) service) (λ b. is_refused b.job.outcome ≡ true → IsRefused old new service b)
     (λ b turn. turn_refused old new service event (at_event old event) (seen_at old event) b turn) (queue_at new service)

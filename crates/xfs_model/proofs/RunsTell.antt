@@ -21,7 +21,7 @@ use Rattle.xfs_model.specs.State.{State, bare}
 use Rattle.xfs_model.specs.Step.{Happens, Step, at_moment, happens, wanting}
 use Rattle.xfs_model.specs.Touches.{TakesNotes, Touches, failed, shut, took}
 use Rattle.xfs_model.specs.Work.{Case, order, expire, answer, nonce, overdue, stop, go_on, begin, rest, case_of}
-use Rattle.xfs_model.specs.Told.{HasMark, IsTold, Tells}
+use Rattle.xfs_model.specs.Told.{HasMark, IsTold, TellsRecords}
 use Rattle.xfs_model.proofs.Advancing.{advances}
 use Rattle.xfs_model.proofs.Changes.{each}
 use Rattle.xfs_model.proofs.Sounds.{sound_bare, sound_kept}
@@ -37,16 +37,16 @@ mark_kept old new grown h = mark-there new.guard.records (marked-begun new.guard
 
 -- what a client has heard behind a step
 module _ (records : List Rec) (old : State) (mine : ClientId) where
-  heard_by : (event : Event) (told_ : Answer) (frames : List (List ℕ)) → All (Tells records) frames → ((pass_frames : List (List ℕ)) → told_ ≡ handed pass_frames → All (Tells records) pass_frames) → All (Tells records) (frames_after old frames event told_ mine)
+  heard_by : (event : Event) (told_ : Answer) (frames : List (List ℕ)) → All (TellsRecords records) frames → ((pass_frames : List (List ℕ)) → told_ ≡ handed pass_frames → All (TellsRecords records) pass_frames) → All (TellsRecords records) (frames_after old frames event told_ mine)
   heard_by (join service) (joined pass) frames kept more = go (is_pass_of old mine pass)
     where
-      go : (b : Bool) → All (Tells records) (cond b [] frames)
-      go true = All-nil (Tells records)
+      go : (b : Bool) → All (TellsRecords records) (cond b [] frames)
+      go true = All-nil (TellsRecords records)
       go false = kept
   heard_by (outbox pass) (handed given) frames kept more = go (is_pass_of old mine pass)
     where
-      go : (b : Bool) → All (Tells records) (cond b (frames ++ given) frames)
-      go true = All-append (Tells records) frames given kept (more given refl)
+      go : (b : Bool) → All (TellsRecords records) (cond b (frames ++ given) frames)
+      go true = All-append (TellsRecords records) frames given kept (more given refl)
       go false = kept
   heard_by event told_ frames kept more = kept
 
@@ -55,7 +55,7 @@ record IsHeard (s : State) (frames : List (List ℕ)) : Type 0 where
   sound : IsSound s
   mark : HasMark s.seen
   told : IsTold s
-  heard : All (Tells s.seen.guard.records) frames
+  heard : All (TellsRecords s.seen.guard.records) frames
 
 -- only an outbox hands frames over
 no_frames : (given : List (List ℕ)) (case : Case) → handed given ≡ told_by case → ⊥
@@ -80,7 +80,7 @@ no_notes s given answer_ new e (shut closed_) = cc
 no_notes s given answer_ new e (took moved next_ open_ takes) = cc
 no_notes s given answer_ new e (failed moved next_ open_ takes) = cc
 
-handed_only : (old new : State) (event : Event) (given : List (List ℕ)) → Step old event (handed given) new → IsTold old → All (Tells old.seen.guard.records) given
+handed_only : (old new : State) (event : Event) (given : List (List ℕ)) → Step old event (handed given) new → IsTold old → All (TellsRecords old.seen.guard.records) given
 handed_only old new event given (wanting is_memory wants) told = absurd (no_memory given is_memory)
 handed_only old new event given (happens up is) told = by_event event is
   where
@@ -92,21 +92,21 @@ handed_only old new event given (happens up is) told = by_event event is
     by_touch KeyFault is = no_touch given is.0
     by_touch NotesTaken is = no_notes old given (handed given) new refl is
 
-    by_event : (event_ : Event) → Happens old event_ (handed given) new → All (Tells old.seen.guard.records) given
+    by_event : (event_ : Event) → Happens old event_ (handed given) new → All (TellsRecords old.seen.guard.records) given
     by_event (outbox pass) is = handed_tell old new pass given (happens up is) told
     by_event (touch it) is = absurd (by_touch it is)
     by_event (work service now) is = absurd (no_frames given (case_of (at_moment old now) service) is.0)
     by_event other is = absurd is
 
-handed_now : (old new : State) (event : Event) (told_ : Answer) → Step old event told_ new → IsTold old → (given : List (List ℕ)) → told_ ≡ handed given → All (Tells old.seen.guard.records) given
+handed_now : (old new : State) (event : Event) (told_ : Answer) → Step old event told_ new → IsTold old → (given : List (List ℕ)) → told_ ≡ handed given → All (TellsRecords old.seen.guard.records) given
 handed_now old new event told_ is told given e = handed_only old new event given (subst (λ (a : Answer). Step old event a new) e is) told
 
 heard_runs : (seen : Seen) (life boot : ℕ) (mine : ClientId) → seen.guard.open_order ≡ No → HasMark seen → {s : State} {texts frames : List (List ℕ)} → Run (bare seen life boot) mine s texts frames → IsHeard s frames
-heard_runs seen life boot mine none mark begun = record { sound = sound_bare seen life boot (λ up. none); mark = mark; told = bare_told seen life boot; heard = All-nil (Tells seen.guard.records) }
+heard_runs seen life boot mine none mark begun = record { sound = sound_bare seen life boot (λ up. none); mark = mark; told = bare_told seen life boot; heard = All-nil (TellsRecords seen.guard.records) }
 heard_runs seen life boot mine none mark (next {s = s} {frames = frames} before event told_ new is) =
     let h = heard_runs seen life boot mine none mark before in
     let grown = (advances s new event told_ is).records in
-    let longer = λ (fs : List (List ℕ)) (tells : All (Tells s.seen.guard.records) fs). each (Tells s.seen.guard.records) (Tells new.seen.guard.records) (longer_tells s.seen.guard.records new.seen.guard.records grown) fs tells in
+    let longer = λ (fs : List (List ℕ)) (tells : All (TellsRecords s.seen.guard.records) fs). each (TellsRecords s.seen.guard.records) (TellsRecords new.seen.guard.records) (longer_tells s.seen.guard.records new.seen.guard.records grown) fs tells in
     record {
       sound = sound_kept s new event told_ h.sound is;
       mark = mark_kept s.seen new.seen grown h.mark;
@@ -114,5 +114,5 @@ heard_runs seen life boot mine none mark (next {s = s} {frames = frames} before 
       heard = heard_by new.seen.guard.records s mine event told_ frames (longer frames h.heard) (λ given e. longer given (handed_now s new event told_ is h.told given e));
     }
 
-pub told_in_runs : (seen : Seen) (life boot : ℕ) (mine : ClientId) → seen.guard.open_order ≡ No → HasMark seen → {s : State} {texts frames : List (List ℕ)} → Run (bare seen life boot) mine s texts frames → IsTold s × All (Tells s.seen.guard.records) frames
+pub told_in_runs : (seen : Seen) (life boot : ℕ) (mine : ClientId) → seen.guard.open_order ≡ No → HasMark seen → {s : State} {texts frames : List (List ℕ)} → Run (bare seen life boot) mine s texts frames → IsTold s × All (TellsRecords s.seen.guard.records) frames
 told_in_runs seen life boot mine none mark run = let h = heard_runs seen life boot mine none mark run in (h.told, h.heard)

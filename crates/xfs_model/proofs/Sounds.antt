@@ -13,7 +13,7 @@ use Rattle.xfs_dispenser.specs.Steps.{Works}
 use Rattle.xfs_dispenser.specs.declared.ask.CashAsk.{CashAsk}
 use Rattle.xfs_dispenser.specs.declared.plan.Plan.{Plan}
 use Rattle.xfs_dispenser.proofs.WorkLaws.{work-planned}
-use Rattle.xfs_guard.specs.Booting.{IsUnread as IsNotRead, IsUnstarted}
+use Rattle.xfs_guard.specs.Booting.{IsNotReread, IsRereadFailed}
 use Rattle.xfs_guard.specs.View.{View, unbooted, unread}
 use Rattle.xfs_journal.specs.JournalView.{IsPossible}
 use Rattle.xfs_journal.specs.declared.record.Rec.{Rec}
@@ -218,7 +218,7 @@ unrestored_closed old new (inl f) = ap (λ (v : View). v.open_order) f.becomes.g
 unrestored_closed old new (inr (inl u)) = ap (λ (v : View). v.open_order) u.fails.becomes.guard_is ∙ unread_closed old.guard u.now u.is
 unrestored_closed old new (inr (inr u)) = ap (λ (v : View). v.open_order) u.becomes.guard_is
 
-unstarted_closed : (v now : View) → IsNotRead v now ⊎ IsUnstarted v now → now.open_order ≡ No
+unstarted_closed : (v now : View) → IsNotReread v now ⊎ IsRereadFailed true v now → now.open_order ≡ No
 unstarted_closed v now (inl e) = ap (λ (w : View). w.open_order) e
 unstarted_closed v now (inr e) = ap (λ (w : View). w.open_order) e.2
 

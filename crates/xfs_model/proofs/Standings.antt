@@ -56,11 +56,11 @@ use Rattle.xfs_model.specs.Guards.{Expires, NonceCommand, cleared_, ended as ove
 use Rattle.xfs_model.specs.Immediate.{AtOnce, canceling, done_at_once, ids_of, stop, stopped, told_of}
 use Rattle.xfs_model.specs.Kept.{IsMachine}
 use Rattle.xfs_model.specs.Pendings.{pending_in}
-use Rattle.xfs_model.specs.Posts.{Accepts, Refuses, Takes, TakesOn, is_crowded}
+use Rattle.xfs_model.specs.Posts.{Accepts, Refuses, TakesText, TakesOn, is_crowded}
 use Rattle.xfs_model.specs.Results.{changed, error, plain, success, with_result}
 use Rattle.xfs_model.specs.Sound.{AreTied, IsFitting, MayAsk}
 use Rattle.xfs_model.specs.State.{Ask, issue, clear, cash, card, entry, bad, Connection, Ending, Job, Outcome, Pass, State, bare, queue_at, with_queue}
-use Rattle.xfs_model.specs.Step.{Happens, Hands, Leaves, Posts, Step, at_moment, happens, wanting}
+use Rattle.xfs_model.specs.Step.{Happens, HandsOver, DropsClient, Posts, Step, at_moment, happens, wanting}
 use Rattle.xfs_model.specs.Touches.{CardSays, IsHeard, TakesNotes, Touches, failed, running_at, shut, took}
 use Rattle.xfs_model.specs.Work as working
 use Rattle.xfs_model.specs.Work.{case_of, has_running, is_ordered, is_overdue, is_stopped}
@@ -536,7 +536,7 @@ module _ (s new : State) (machine : IsMachine s) (h : IsStanding s) where
       of_room true is = rw (is.is) (apart_from s _ refl refl refl refl h.issued refl h)
       of_room false is = rw (is.is) (beside s _ k.service _ refl refl refl refl h.issued refl (runs_push (queue_at s k.service) _ refl) h)
 
-  takes : (k : Connection) (says : Result envelope.Command Refuse) → Takes s k says new → IsStanding new
+  takes : (k : Connection) (says : Result envelope.Command Refuse) → TakesText s k says new → IsStanding new
   takes k (Err refuse) is = rw (is.is) (apart_from s _ refl refl refl refl h.issued refl h)
   takes k (Ok c) is = of_id (is_wrong_id (pending_in k.client (queue_at s k.service)) c.id) is
     where
@@ -559,11 +559,11 @@ later s now h = record {
 posts : (old : State) (pass : Pass) (text : List ℕ) (now : Moment) (new : State) → Posts old pass text now new → IsMachine old → IsStanding old → IsStanding new
 posts old pass text now new is machine h = go (connection_of old pass) is
   where
-    go : (o : Option Connection) → MatchOption o (new ≡ old) (λ k. Takes (at_moment old now) k (command_in text) new) → IsStanding new
+    go : (o : Option Connection) → MatchOption o (new ≡ old) (λ k. TakesText (at_moment old now) k (command_in text) new) → IsStanding new
     go None is = rw is h
     go (Some k) is = takes (at_moment old now) new (same_machine old (at_moment old now) refl refl refl machine) (later old now h) k (command_in text) is
 
-hands : (old : State) (pass : Pass) (frames : List (List ℕ)) (new : State) → Hands old pass frames new → IsStanding old → IsStanding new
+hands : (old : State) (pass : Pass) (frames : List (List ℕ)) (new : State) → HandsOver old pass frames new → IsStanding old → IsStanding new
 hands old pass frames new is h = go (connection_of old pass) is
   where
     go : (o : Option Connection) → MatchOption o ((frames ≡ []) × (new ≡ old)) (λ k. (frames ≡ k.waiting) × (new ≡ record old { connections = map (without_mail k.client) old.connections })) → IsStanding new
@@ -577,7 +577,7 @@ leaves_at old k h =
     beside old (left old k) k.service (without_client q k.client) refl refl refl refl h.issued refl
     (runs_map (λ a. mark (is_of k.client a) a) (filter keep q) (λ i d within. refl) ∙ runs_filter keep q (λ i d within runs_. or_right (not (is_of k.client (get_or q i d))) (is_running (get_or q i d).stage) runs_)) h
 
-leaves : (old : State) (pass : Pass) (new : State) → Leaves old pass new → IsStanding old → IsStanding new
+leaves : (old : State) (pass : Pass) (new : State) → DropsClient old pass new → IsStanding old → IsStanding new
 leaves old pass new is h = go (connection_of old pass) is
   where
     go : (o : Option Connection) → MatchOption o (new ≡ old) (λ k. new ≡ left old k) → IsStanding new

@@ -1,14 +1,14 @@
 -- A plan that runs can still be worked on behind the calls of the guard that are no step of it; and a command that begins has one.
 use Rattle.std.proofs.Common.{◌≡◌, Bool, true, false, [], ◌∷◌, Option, None, Some, Result, Ok, Err, refl, ap, sym, subst, ◌∙◌, inl, inr}
 use Rattle.xfs_base.specs.declared.counts.Counts.{Counts}
-use Rattle.xfs_dispenser.specs.Answers.{Answer, Start, told, planned}
+use Rattle.xfs_dispenser.specs.Answers.{CashAnswer, Start, told, planned}
 use Rattle.xfs_dispenser.specs.Begins.{Begins, StartsUnless, StartsWith}
-use Rattle.xfs_dispenser.specs.Checks.{Grant, Permits}
+use Rattle.xfs_dispenser.specs.Checks.{Passed, Permits}
 use Rattle.xfs_dispenser.specs.Plans.{AreEight, CanBeginAll, IsPlanned, order_plan, reset_plan}
 use Rattle.xfs_dispenser.specs.Seen.{Seen}
 use Rattle.xfs_dispenser.specs.declared.ask.CashAsk.{CashAsk}
 use Rattle.xfs_dispenser.specs.declared.ask.CashAsk.TheVariants.{Denominate, Dispense, Present, Reject, Reset, Retract, StartExchange, SetStorage, EndExchange}
-use Rattle.xfs_dispenser.specs.declared.leave.Leave.{Leave}
+use Rattle.xfs_dispenser.specs.declared.grant.Grant.{Grant}
 use Rattle.xfs_dispenser.specs.declared.part.Part.{Part}
 use Rattle.xfs_dispenser.specs.declared.part.Part.TheVariants.{Order, Restore}
 use Rattle.xfs_dispenser.specs.declared.plan.Plan.{Plan}
@@ -20,7 +20,7 @@ use Rattle.xfs_guard.specs.declared.ask.Ask.{Ask as Asked}
 use Rattle.xfs_guard.specs.declared.ask.Ask.TheVariants as asked
 use Rattle.xfs_guard.specs.declared.open.Open.TheVariants.{No}
 use Rattle.xfs_journal.specs.declared.record.Rec.{Rec}
-use Rattle.xfs_model.specs.Guards.{Marks, Misses, Takes}
+use Rattle.xfs_model.specs.Guards.{Marks, Misses, CustomerTakes}
 use Rattle.xfs_model.proofs.Resting.{Rests, rests_same, rests_taken}
 
 -- each plan that could be worked on still can; the open order and the units stay, and no notes go anywhere but to the customer
@@ -54,7 +54,7 @@ pub missed_still : (r : Rec) (old new : Seen) → Misses r old new → StillWork
 missed_still r old new is =
     kept_still old.guard new.guard (ap (λ (v : View). v.open_order) is.becomes.guard_is) (ap (λ (v : View). v.units) is.becomes.guard_is) (ap (λ (v : View). v.places) is.becomes.guard_is)
 
-pub taken_still : (old new : Seen) (moved : Counts) (failed : Bool) → Takes old moved failed new → StillWorks old.guard new.guard
+pub taken_still : (old new : Seen) (moved : Counts) (failed : Bool) → CustomerTakes old moved failed new → StillWorks old.guard new.guard
 taken_still old new moved true is =
     kept_still old.guard new.guard (ap (λ (v : View). v.open_order) is.reported.same) (ap (λ (v : View). v.units) is.reported.same) ((is.reported.reported.nothing refl).1)
 taken_still old new moved false is = record {
@@ -66,17 +66,17 @@ taken_still old new moved false is = record {
 }
 
 -- a plan is no answer
-answer_plan : (answer : Answer) (plan : Plan) → planned plan ≡ told answer → ⊥
+answer_plan : (answer : CashAnswer) (plan : Plan) → planned plan ≡ told answer → ⊥
 answer_plan answer plan e = cc
 
 pub same_plan : (a b : Plan) → planned a ≡ planned b → a ≡ b
 same_plan a b e = cc
 
-unless_told : (o : Option Refusal) (answer : Answer) (plan : Plan) → StartsUnless o (told answer) (planned plan) → ⊥
+unless_told : (o : Option Refusal) (answer : CashAnswer) (plan : Plan) → StartsUnless o (told answer) (planned plan) → ⊥
 unless_told None answer plan is = answer_plan answer plan is
 unless_told (Some r) answer plan is = answer_plan is.answer plan is.is
 
-with_told : {T : Type 0} (result : Result T Refusal) (answer : T → Answer) (plan : Plan) → StartsWith result (λ x. told (answer x)) (planned plan) → ⊥
+with_told : {T : Type 0} (result : Result T Refusal) (answer : T → CashAnswer) (plan : Plan) → StartsWith result (λ x. told (answer x)) (planned plan) → ⊥
 with_told (Ok x) answer plan is = answer_plan (answer x) plan is
 with_told (Err r) answer plan is = answer_plan is.answer plan is.is
 
@@ -106,15 +106,15 @@ begins_planned s exchange StartExchange next after plan none is = absurd (unless
 begins_planned s exchange EndExchange next after plan none is = absurd (unless_told _ _ plan is.1.1)
 begins_planned s exchange (SetStorage added) next after plan none is = rw (is.0) (storage-planned s.guard exchange added plan none is.2)
 
-permits_closed : (s : Seen) (checked : Result Grant Refusal) (leave : Result Leave Refusal) (next : Seen) → s.guard.open_order ≡ No → Permits s checked leave next → next.guard.open_order ≡ No
-permits_closed s (Err r) leave next none is = ap (λ (x : Seen). x.guard.open_order) is.1 ∙ none
-permits_closed s (Ok grant) leave next none (inl p) = (bound-same s.guard next.guard grant.token grant.amounts p.binds).2 ∙ none
-permits_closed s (Ok grant) leave next none (inr u) = ap (λ (v : View). v.open_order) u.fails.becomes.guard_is ∙ none
+permits_closed : (s : Seen) (checked : Result Passed Refusal) (grant : Result Grant Refusal) (next : Seen) → s.guard.open_order ≡ No → Permits s checked grant next → next.guard.open_order ≡ No
+permits_closed s (Err r) grant next none is = ap (λ (x : Seen). x.guard.open_order) is.1 ∙ none
+permits_closed s (Ok passed) grant next none (inl p) = (bound-same s.guard next.guard passed.token passed.amounts p.binds).2 ∙ none
+permits_closed s (Ok passed) grant next none (inr u) = ap (λ (v : View). v.open_order) u.fails.becomes.guard_is ∙ none
 
 -- no order is open behind a begin
 pub begins_closed : (s : Seen) (exchange : Bool) (ask : CashAsk) (next : Seen) (after : Bool) (start : Start) → s.guard.open_order ≡ No → Begins s exchange ask next after start → next.guard.open_order ≡ No
 begins_closed s exchange (Denominate notes) next after start none is = ap (λ (x : Seen). x.guard.open_order) is.0 ∙ none
-begins_closed s exchange (Dispense notes token) next after start none is = permits_closed s is.1.checked is.1.leave next none is.1.permits
+begins_closed s exchange (Dispense notes token) next after start none is = permits_closed s is.1.checked is.1.grant next none is.1.permits
 begins_closed s exchange Present next after start none is = ap (λ (x : Seen). x.guard.open_order) is.0 ∙ none
 begins_closed s exchange Reject next after start none is = ap (λ (x : Seen). x.guard.open_order) is.0 ∙ none
 begins_closed s exchange Retract next after start none is = ap (λ (x : Seen). x.guard.open_order) is.0 ∙ none

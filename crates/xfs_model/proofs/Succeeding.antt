@@ -7,7 +7,7 @@ use Rattle.xfs_base.specs.declared.counts.Counts.{Counts}
 use Rattle.xfs_base.specs.declared.money.NoteKind.{NoteKind}
 use Rattle.xfs_base.specs.declared.moment.Service.{Service}
 use Rattle.xfs_base.specs.declared.moment.Service.TheVariants.{Cash}
-use Rattle.xfs_dispenser.specs.Answers.{Answer, Start, told, planned, Went, more, done, answer_of, denial, plain}
+use Rattle.xfs_dispenser.specs.Answers.{CashAnswer, Start, told, planned, Went, more, done, answer_of, denial, plain_answer}
 use Rattle.xfs_dispenser.specs.Begins.{Begins, IsTold, StartsUnless, StartsWith}
 use Rattle.xfs_dispenser.specs.Checks.{active_refusal}
 use Rattle.xfs_dispenser.specs.Plans.{dispense_plan, order_plan, reset_plan, storage_plan}
@@ -31,7 +31,7 @@ use Rattle.xfs_guard.specs.declared.open.Open.TheVariants.{No, Written, Acted}
 use Rattle.xfs_queue.specs.declared.command.Command.{Command}
 use Rattle.xfs_queue.specs.Commands.{is_at, ticket_of}
 use Rattle.xfs_model.specs.Cases.{with_start, with_went}
-use Rattle.xfs_model.specs.Events.{Answer as Answered, Event}
+use Rattle.xfs_model.specs.Events.{Answer, Event}
 use Rattle.xfs_model.specs.Sound.{IsFresh, IsSound}
 use Rattle.xfs_model.specs.State.{Ask, cash, clear, issue, Job, Outcome, State, queue_at}
 use Rattle.xfs_model.specs.Step.{Step}
@@ -40,7 +40,7 @@ use Rattle.xfs_model.proofs.Changes.{at_itself, each}
 use Rattle.xfs_model.proofs.Turns.{Turn, accepted, at_event, begun, heard, late, marks, misasked, nonce, seen_at, stays, stopped_running, stopped_waiting, turns, worked}
 
 -- a refusal is no success
-pub denied_fails : (deny : Deny) → IfSome (denial deny) (λ (a : Answer). is_success a.code ≡ false)
+pub denied_fails : (deny : Deny) → IfSome (denial deny) (λ (a : CashAnswer). is_success a.code ≡ false)
 denied_fails Shut = refl
 denied_fails Full = refl
 denied_fails Disk = refl
@@ -60,14 +60,14 @@ denied_fails (OutletFull notes) = refl
 denied_fails (Short unit) = refl
 denied_fails Memory = tt
 
-refused_fails : (refusal : Refusal) → IfSome (answer_of refusal) (λ (a : Answer). is_success a.code ≡ false)
+refused_fails : (refusal : Refusal) → IfSome (answer_of refusal) (λ (a : CashAnswer). is_success a.code ≡ false)
 refused_fails refusals.InvalidData = refl
 refused_fails refusals.NoToken = refl
 refused_fails (refusals.Error fault) = refl
 refused_fails (refusals.Deny deny) = denied_fails deny
 refused_fails refusals.Memory = tt
 
-pub of_some : (o : Option Answer) (a : Answer) → o ≡ Some a → IfSome o (λ (b : Answer). is_success b.code ≡ false) → is_success a.code ≡ false
+pub of_some : (o : Option CashAnswer) (a : CashAnswer) → o ≡ Some a → IfSome o (λ (b : CashAnswer). is_success b.code ≡ false) → is_success a.code ≡ false
 of_some o a e h = rw e at h
 
 -- what is told as a command begins that has a plan otherwise is no success
@@ -89,7 +89,7 @@ with_no (Ok value) plan start is = subst IsNoSuccess (sym is) tt
 -- a command that has its success as it begins is one that is done at once
 pub begins_at_once : (s : Seen) (exchange : Bool) (ask : CashAsk) (next : Seen) (after : Bool) (start : Start) → Begins s exchange ask next after start → IsDoneAtOnce (cash ask) ⊎ IsNoSuccess start
 begins_at_once s exchange (Denominate notes) next after start is = inl tt
-begins_at_once s exchange (Dispense notes token) next after start (kept, is) = inr (with_no is.leave (λ l. dispense_plan l.issue l.counts) start is.starts)
+begins_at_once s exchange (Dispense notes token) next after start (kept, is) = inr (with_no is.grant (λ l. dispense_plan l.issue l.counts) start is.starts)
 begins_at_once s exchange Present next after start (same, kept, is) = inr (unless_no (active_refusal exchange) (order_plan asks.Present) start is)
 begins_at_once s exchange Reject next after start (same, kept, is) = inr (unless_no (active_refusal exchange) (order_plan asks.Reject) start is)
 begins_at_once s exchange Retract next after start (same, kept, is) = inr (unless_no (active_refusal exchange) (order_plan asks.Retract) start is)
@@ -127,7 +127,7 @@ onward_full s left units notes (part ∷ parts) is order = tt
 denied_full : (s : Seen) (first : Option Deny) (next : Seen) (left : Plan) (went : Went) → IsDenied s first next went → WentFull s left went
 denied_full s first next left went is = went_is s left went (done is.answer) is.is (λ e. absurd (false≢true (sym (of_some (denial is.deny) is.answer is.due (denied_fails is.deny)) ∙ e)))
 
-load_full : (s : Seen) (left : Plan) (units : List NoteKind) (notes : Option Counts) (parts : List Part) (broke : Bool) → left.parts.items ≡ parts → IsInFull s.guard.open_order → WentFull s left (cond {A = Went} broke (done (plain HardwareError)) (onward units notes parts))
+load_full : (s : Seen) (left : Plan) (units : List NoteKind) (notes : Option Counts) (parts : List Part) (broke : Bool) → left.parts.items ≡ parts → IsInFull s.guard.open_order → WentFull s left (cond {A = Went} broke (done (plain_answer HardwareError)) (onward units notes parts))
 load_full s left units notes parts true is order = λ e. absurd (false≢true e)
 load_full s left units notes parts false is order = onward_full s left units notes parts is order
 
@@ -200,7 +200,7 @@ module _ (old new : State) (service : Service) where
   turn_earned event s same b (worked a known_ runs at plan left has went works) e = by_went left _ went a known_ at (subst (λ (x : Seen). WentFull x left went) same (works_full s.seen plan new.seen left went works)) e
   turn_earned event s same b (heard a known_ elsewhere saying speaks) e = by_device elsewhere
 
-pub successes_have_causes : (old new : State) (event : Event) (told_ : Answered) → IsSound old → Step old event told_ new → SuccessesHaveCauses old new
+pub successes_have_causes : (old new : State) (event : Event) (told_ : Answer) → IsSound old → Step old event told_ new → SuccessesHaveCauses old new
 successes_have_causes old new event told_ sound is = λ service.
     each (Turn (at_event old event) event new (IsKnown old service) service) (λ b. has_succeeded b.job.outcome ≡ true → IsEarned old service b)
     (λ b turn. turn_earned old new service event (at_event old event) (seen_at old event) b turn) (queue_at new service)

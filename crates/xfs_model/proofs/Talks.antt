@@ -15,7 +15,7 @@ use Rattle.xfs_queue.specs.Queue.{without}
 use Rattle.xfs_model.specs.Connections.{is_service, is_client, is_at, with_mail, connection_at, with_queue_at, sent, announced}
 use Rattle.xfs_model.specs.Conversations.{Talks, IsTalk}
 use Rattle.xfs_model.specs.Frames.{AreEvents, IsCompletion, IsUnsolicited, Notice}
-use Rattle.xfs_model.specs.Pendings.{pending_of, pending_in}
+use Rattle.xfs_model.specs.Pendings.{job_pending, pending_in}
 use Rattle.xfs_model.specs.State.{Connection, Job, State, queue_at}
 use Rattle.xfs_model.proofs.Lists.{find-map, found_passes, IfSome-map, IfSome-same}
 use Rattle.xfs_model.proofs.Pendings.{pending_found, pending_without_mine, pending_without_other}
@@ -86,13 +86,13 @@ told_all p ts fs pending has (n ∷ notices) (e ∷ events) are h =
 
 pub heard_events : (mine : ClientId) (p : Command Job → Bool) (q : List (Command Job)) (a : Command Job) → find p q ≡ Some a → is_of mine a ≡ true
     → (notices : List Notice) (events : List (List ℕ)) → AreEvents a.id notices events → (ts fs : List (List ℕ)) → Conversation ts fs (pending_in mine q) → Conversation ts (fs ++ events) (pending_in mine q)
-heard_events mine p q a found y notices events are ts fs h = told_all (pending_of a) ts fs (pending_in mine q) (pending_found mine p q a found y) notices events are h
+heard_events mine p q a found y notices events are ts fs h = told_all (job_pending a) ts fs (pending_in mine q) (pending_found mine p q a found y) notices events are h
 
 pub heard_completion : (mine : ClientId) (p : Command Job → Bool) (q : List (Command Job)) (a : Command Job) → find p q ≡ Some a → is_of mine a ≡ true
     → (code : Code) (payload : Data) (frame : List ℕ) → IsCompletion a.id a.job.name code payload frame → (ts fs : List (List ℕ)) → Conversation ts fs (pending_in mine q)
     → Conversation ts (fs ++ frame ∷ []) (pending_in mine (without q (ticket_of a)))
 heard_completion mine p q a found y code payload frame is ts fs h =
-    let says : Says (pending_in mine q) (reply_in frame) (without_id a.id (pending_in mine q)) = rw is.reads_back (completed (pending_of a) code payload (pending_found mine p q a found y)) in
+    let says : Says (pending_in mine q) (reply_in frame) (without_id a.id (pending_in mine q)) = rw is.reads_back (completed (job_pending a) code payload (pending_found mine p q a found y)) in
     rw (pending_without_mine mine (ticket_of a) (eqb-true _ _ y) q) (heard h frame says)
 
 -- whether a command is of the connection that is written to

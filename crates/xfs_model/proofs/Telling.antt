@@ -57,11 +57,11 @@ use Rattle.xfs_evidence.specs.declared.faults.EvidenceFault.{EvidenceFault}
 use Rattle.xfs_evidence.specs.declared.faults.EvidenceFault.TheVariants.{NoIssue, Unsettled, Memory}
 use Rattle.xfs_model.specs.Kept.{IsMachine}
 use Rattle.xfs_model.specs.Pendings.{pending_in}
-use Rattle.xfs_model.specs.Posts.{Accepts, Refuses, Takes, TakesOn, is_crowded}
+use Rattle.xfs_model.specs.Posts.{Accepts, Refuses, TakesText, TakesOn, is_crowded}
 use Rattle.xfs_model.specs.Results.{error, plain, success}
 use Rattle.xfs_model.specs.State.{Ask, issue, clear, cash, card, entry, bad, Connection, Ending, Job, Outcome, Pass, State, bare, queue_at}
-use Rattle.xfs_model.specs.Step.{Happens, Hands, Leaves, Posts, Step, at_moment, happens, wanting}
-use Rattle.xfs_model.specs.Told.{HasMark, IsTold, ResultStands, Stands, Tells, payload_in}
+use Rattle.xfs_model.specs.Step.{Happens, HandsOver, DropsClient, Posts, Step, at_moment, happens, wanting}
+use Rattle.xfs_model.specs.Told.{HasMark, IsTold, ResultStands, Stands, TellsRecords, payload_in}
 use Rattle.xfs_model.specs.Touches.{CardSays, IsHeard, TakesNotes, Touches, failed, running_at, shut, took}
 use Rattle.xfs_model.specs.Work as working
 use Rattle.xfs_model.specs.Work.{case_of}
@@ -118,17 +118,17 @@ turn_tells s event new service b mark grown (heard a h elsewhere saying speaks) 
     saying_result new.seen.guard.records saying.result a (speaks_stands new.seen.guard.records s event service a saying speaks) h
 
 -- the frames
-reads_stands : (records : List Rec) (frame : List ℕ) (reply : Reply) → reply_in frame ≡ Some reply → IfSome (payload_in reply) (Stands records) → Tells records frame
+reads_stands : (records : List Rec) (frame : List ℕ) (reply : Reply) → reply_in frame ≡ Some reply → IfSome (payload_in reply) (Stands records) → TellsRecords records frame
 reads_stands records frame reply reads h = subst (λ (o : Option Reply). IfSome (option_and_then payload_in o) (Stands records)) (sym reads) h
 
 module _ (records : List Rec) where
-  acknowledge_tells : (id : Option ℕ) (name : Option (List ℕ)) (status : Option Status) (frame : List ℕ) → IsAcknowledge id name status frame → Tells records frame
+  acknowledge_tells : (id : Option ℕ) (name : Option (List ℕ)) (status : Option Status) (frame : List ℕ) → IsAcknowledge id name status frame → TellsRecords records frame
   acknowledge_tells id name status frame is = reads_stands records frame (acknowledge id name status) is.reads_back tt
 
-  completion_tells : (id : ℕ) (name : List ℕ) (code : Code) (payload : Data) (frame : List ℕ) → IsCompletion id name code payload frame → Stands records payload → Tells records frame
+  completion_tells : (id : ℕ) (name : List ℕ) (code : Code) (payload : Data) (frame : List ℕ) → IsCompletion id name code payload frame → Stands records payload → TellsRecords records frame
   completion_tells id name code payload frame is h = reads_stands records frame (completion id name code payload) is.reads_back h
 
-  unsolicited_tells : (name : List ℕ) (payload : Data) (frame : List ℕ) → IsUnsolicited name payload frame → Stands records payload → Tells records frame
+  unsolicited_tells : (name : List ℕ) (payload : Data) (frame : List ℕ) → IsUnsolicited name payload frame → Stands records payload → TellsRecords records frame
   unsolicited_tells name payload frame is h = reads_stands records frame (unsolicited name payload) is.reads_back h
 
   -- notices
@@ -136,12 +136,12 @@ module _ (records : List Rec) where
   NoticesStand [] = ⊤
   NoticesStand (notice ∷ notices) = Stands records notice.payload × NoticesStand notices
 
-  events_tell : (id : ℕ) (notices : List Notice) (frames : List (List ℕ)) → AreEvents id notices frames → NoticesStand notices → All (Tells records) frames
-  events_tell id [] [] are h = All-nil (Tells records)
+  events_tell : (id : ℕ) (notices : List Notice) (frames : List (List ℕ)) → AreEvents id notices frames → NoticesStand notices → All (TellsRecords records) frames
+  events_tell id [] [] are h = All-nil (TellsRecords records)
   events_tell id [] (frame ∷ frames) are h = absurd are
   events_tell id (notice ∷ notices) [] are h = absurd are
   events_tell id (notice ∷ notices) (frame ∷ frames) are h =
-      All-cons (Tells records) frame frames (reads_stands records frame (event_reply id notice.name notice.payload) (are.0).reads_back h.0) (events_tell id notices frames are.1 h.1)
+      All-cons (TellsRecords records) frame frames (reads_stands records frame (event_reply id notice.name notice.payload) (are.0).reads_back h.0) (events_tell id notices frames are.1 h.1)
 
   card_notices : (effect : card_reader.Effect) → NoticesStand (card_says effect).events
   card_notices card_reader.nothing = tt
@@ -212,20 +212,20 @@ module _ (records : List Rec) where
 
   -- all that waits tells what stands
   abbrev FramesTell : State → Type 0
-  FramesTell s = All (λ k. All (Tells records) k.waiting) s.connections
+  FramesTell s = All (λ k. All (TellsRecords records) k.waiting) s.connections
 
-  mailed : (gets : Bool) (frames : List (List ℕ)) (k : Connection) → All (Tells records) frames → All (Tells records) k.waiting → All (Tells records) (with_mail gets frames k).waiting
-  mailed true frames k h kept = All-append (Tells records) k.waiting frames kept h
+  mailed : (gets : Bool) (frames : List (List ℕ)) (k : Connection) → All (TellsRecords records) frames → All (TellsRecords records) k.waiting → All (TellsRecords records) (with_mail gets frames k).waiting
+  mailed true frames k h kept = All-append (TellsRecords records) k.waiting frames kept h
   mailed false frames k h kept = kept
 
-  sent_tell : (s : State) (service : Service) (client : ClientId) (frames : List (List ℕ)) → All (Tells records) frames → FramesTell s → FramesTell (sent s service client frames)
-  sent_tell s service client frames h kept = All-map (λ k. All (Tells records) k.waiting) (λ k. with_mail (is_at service client k) frames k) s.connections
-      (each (λ k. All (Tells records) k.waiting) (λ k. All (Tells records) (with_mail (is_at service client k) frames k).waiting) (λ k kept_one. mailed (is_at service client k) frames k h kept_one) s.connections kept)
+  sent_tell : (s : State) (service : Service) (client : ClientId) (frames : List (List ℕ)) → All (TellsRecords records) frames → FramesTell s → FramesTell (sent s service client frames)
+  sent_tell s service client frames h kept = All-map (λ k. All (TellsRecords records) k.waiting) (λ k. with_mail (is_at service client k) frames k) s.connections
+      (each (λ k. All (TellsRecords records) k.waiting) (λ k. All (TellsRecords records) (with_mail (is_at service client k) frames k).waiting) (λ k kept_one. mailed (is_at service client k) frames k h kept_one) s.connections kept)
 
-  announced_tell : (s : State) (service : Service) (frame : List ℕ) → Tells records frame → FramesTell s → FramesTell (announced s service (Some frame))
-  announced_tell s service frame h kept = All-map (λ k. All (Tells records) k.waiting) (λ k. with_mail (is_service service k.service) (frame ∷ []) k) s.connections
-      (each (λ k. All (Tells records) k.waiting) (λ k. All (Tells records) (with_mail (is_service service k.service) (frame ∷ []) k).waiting)
-      (λ k kept_one. mailed (is_service service k.service) (frame ∷ []) k (All-cons (Tells records) frame [] h (All-nil (Tells records))) kept_one) s.connections kept)
+  announced_tell : (s : State) (service : Service) (frame : List ℕ) → TellsRecords records frame → FramesTell s → FramesTell (announced s service (Some frame))
+  announced_tell s service frame h kept = All-map (λ k. All (TellsRecords records) k.waiting) (λ k. with_mail (is_service service k.service) (frame ∷ []) k) s.connections
+      (each (λ k. All (TellsRecords records) k.waiting) (λ k. All (TellsRecords records) (with_mail (is_service service k.service) (frame ∷ []) k).waiting)
+      (λ k kept_one. mailed (is_service service k.service) (frame ∷ []) k (All-cons (TellsRecords records) frame [] h (All-nil (TellsRecords records))) kept_one) s.connections kept)
 
   announces_tell : (s : State) (service : Service) (ending : Option Ending) (frame : Option (List ℕ)) → Announces ending frame → FramesTell s → FramesTell (announced s service frame)
   announces_tell s service None None is h = h
@@ -241,7 +241,7 @@ module _ (records : List Rec) (s new : State) (h : FramesTell records s) (result
   answers_tell service is =
       let stands_ : ResultStands records is.command = found_all (ResultStands records) (λ b. is_ready b.stage) (queue_at s service) is.command is.first (results service) in
       let last = completion_tells records is.command.id is.command.job.name is.result.code is.result.payload is.last is.completes (rw (is.has) at stands_) in
-      rw (is.is) (sent_tell records (announced s service is.before) service is.command.client (is.last ∷ []) (All-cons (Tells records) is.last [] last (All-nil (Tells records)))
+      rw (is.is) (sent_tell records (announced s service is.before) service is.command.client (is.last ∷ []) (All-cons (TellsRecords records) is.last [] last (All-nil (TellsRecords records)))
       (announces_tell records s service is.result.ending is.before is.announces h))
 
   takes_nonce : TakesNonce s new → FramesTell records new
@@ -290,8 +290,8 @@ module _ (records : List Rec) (s new : State) (h : FramesTell records s) (result
   card_says_ (card_reader.inserted payload) is = is_heard Card (running_at s Card) (card_says (card_reader.inserted payload)) (card_notices records (card_reader.inserted payload)) is
   card_says_ (card_reader.done code payload) is = is_heard Card (running_at s Card) (card_says (card_reader.done code payload)) (card_notices records (card_reader.done code payload)) is
 
-  one_frame : (frame : List ℕ) → Tells records frame → All (Tells records) (frame ∷ [])
-  one_frame frame tells = All-cons (Tells records) frame [] tells (All-nil (Tells records))
+  one_frame : (frame : List ℕ) → TellsRecords records frame → All (TellsRecords records) (frame ∷ [])
+  one_frame frame tells = All-cons (TellsRecords records) frame [] tells (All-nil (TellsRecords records))
 
   refuses : (k : Connection) (id : Option ℕ) (name : Option (List ℕ)) (why : Status) → Refuses s k id name why new → FramesTell records new
   refuses k id name why is = rw (is.is) (sent_tell records s k.service k.client (is.reply ∷ []) (one_frame is.reply (acknowledge_tells records id name (Some why) is.reply is.acknowledges)) h)
@@ -300,14 +300,14 @@ module _ (records : List Rec) (s new : State) (h : FramesTell records s) (result
   takes_on k c None is =
       let last = completion_tells records c.id c.name _ _ is.last is.completes (comes_stands records s k c is.result is.comes) in
       rw (is.is) (sent_tell records s k.service k.client (is.reply ∷ is.last ∷ [])
-      (All-cons (Tells records) is.reply (is.last ∷ []) (acknowledge_tells records _ _ _ is.reply is.acknowledges) (one_frame is.last last)) h)
+      (All-cons (TellsRecords records) is.reply (is.last ∷ []) (acknowledge_tells records _ _ _ is.reply is.acknowledges) (one_frame is.last last)) h)
   takes_on k c (Some line) is = of_room (is_crowded (queue_at s k.service) k.client) is
     where
       of_room : (b : Bool) → MatchBool b (Refuses s k (Some c.id) (Some c.name) TooManyRequests new) (Accepts s k line c new) → FramesTell records new
       of_room true is = refuses k _ _ _ is
       of_room false is = rw (is.is) (sent_tell records s k.service k.client (is.reply ∷ []) (one_frame is.reply (acknowledge_tells records _ _ _ is.reply is.acknowledges)) h)
 
-  takes : (k : Connection) (says : Result envelope.Command Refuse) → Takes s k says new → FramesTell records new
+  takes : (k : Connection) (says : Result envelope.Command Refuse) → TakesText s k says new → FramesTell records new
   takes k (Err refuse) is = refuses k _ _ _ is
   takes k (Ok c) is = of_id (is_wrong_id (pending_in k.client (queue_at s k.service)) c.id) is
     where
@@ -332,42 +332,42 @@ module _ (records : List Rec) (old new : State) (h : FramesTell records old) (re
   posts : (pass : Pass) (text : List ℕ) (now : Moment) → Posts old pass text now new → FramesTell records new
   posts pass text now is = go (connection_of old pass) is
     where
-      go : (o : Option Connection) → MatchOption o (new ≡ old) (λ k. Takes (at_moment old now) k (command_in text) new) → FramesTell records new
+      go : (o : Option Connection) → MatchOption o (new ≡ old) (λ k. TakesText (at_moment old now) k (command_in text) new) → FramesTell records new
       go None is = rw is h
       go (Some k) is = takes records (at_moment old now) new h results k (command_in text) is
 
-  emptied : (b : Bool) (k : Connection) → All (Tells records) k.waiting → All (Tells records) (cond b (record k { waiting = [] }) k).waiting
-  emptied true k kept = All-nil (Tells records)
+  emptied : (b : Bool) (k : Connection) → All (TellsRecords records) k.waiting → All (TellsRecords records) (cond b (record k { waiting = [] }) k).waiting
+  emptied true k kept = All-nil (TellsRecords records)
   emptied false k kept = kept
 
-  hands : (pass : Pass) (frames : List (List ℕ)) → Hands old pass frames new → FramesTell records new
+  hands : (pass : Pass) (frames : List (List ℕ)) → HandsOver old pass frames new → FramesTell records new
   hands pass frames is = go (connection_of old pass) is
     where
       go : (o : Option Connection) → MatchOption o ((frames ≡ []) × (new ≡ old)) (λ k. (frames ≡ k.waiting) × (new ≡ record old { connections = map (without_mail k.client) old.connections })) → FramesTell records new
       go None is = rw (is.1) h
-      go (Some k) is = rw (is.1) (All-map (λ j. All (Tells records) j.waiting) (without_mail k.client) old.connections
-          (each (λ j. All (Tells records) j.waiting) (λ j. All (Tells records) (without_mail k.client j).waiting) (λ j kept. emptied (is_client k.client j) j kept) old.connections h))
+      go (Some k) is = rw (is.1) (All-map (λ j. All (TellsRecords records) j.waiting) (without_mail k.client) old.connections
+          (each (λ j. All (TellsRecords records) j.waiting) (λ j. All (TellsRecords records) (without_mail k.client j).waiting) (λ j kept. emptied (is_client k.client j) j kept) old.connections h))
 
-  leaves : (pass : Pass) → Leaves old pass new → FramesTell records new
+  leaves : (pass : Pass) → DropsClient old pass new → FramesTell records new
   leaves pass is = go (connection_of old pass) is
     where
       go : (o : Option Connection) → MatchOption o (new ≡ old) (λ k. new ≡ left old k) → FramesTell records new
       go None is = rw is h
-      go (Some k) is = rw is (All-filter (λ j. not (is_client k.client j)) (λ j. All (Tells records) j.waiting) old.connections h)
+      go (Some k) is = rw is (All-filter (λ j. not (is_client k.client j)) (λ j. All (TellsRecords records) j.waiting) old.connections h)
 
   frames_by : (event : Event) (told_ : Answer) → Happens old event told_ new → FramesTell records new
-  frames_by (join service) (joined pass) is = rw (is.is) (All-push (λ j. All (Tells records) j.waiting) old.connections _ h (All-nil (Tells records)))
+  frames_by (join service) (joined pass) is = rw (is.is) (All-push (λ j. All (TellsRecords records) j.waiting) old.connections _ h (All-nil (TellsRecords records)))
   frames_by (join service) full is = rw (is.1) h
   frames_by (post pass text now) done is = posts pass text now is
   frames_by (touch it) told_ is = touches it told_ is
   frames_by (work service now) told_ is = does records (at_moment old now) new h results (case_of (at_moment old now) service) service is.1
   frames_by (outbox pass) (handed frames) is = hands pass frames is
   frames_by (leave pass) done is = leaves pass is
-  frames_by restart restarted is = rw (is.is) (All-nil (λ j. All (Tells records) j.waiting))
-  frames_by restart unrestarted is = rw (is.is) (All-nil (λ j. All (Tells records) j.waiting))
-  frames_by end_ ended is = rw is (All-nil (λ j. All (Tells records) j.waiting))
-  frames_by finish ended is = rw (is.is) (All-nil (λ j. All (Tells records) j.waiting))
-  frames_by finish unsettled is = rw (is.is) (All-nil (λ j. All (Tells records) j.waiting))
+  frames_by restart restarted is = rw (is.is) (All-nil (λ j. All (TellsRecords records) j.waiting))
+  frames_by restart unrestarted is = rw (is.is) (All-nil (λ j. All (TellsRecords records) j.waiting))
+  frames_by end_ ended is = rw is (All-nil (λ j. All (TellsRecords records) j.waiting))
+  frames_by finish ended is = rw (is.is) (All-nil (λ j. All (TellsRecords records) j.waiting))
+  frames_by finish unsettled is = rw (is.is) (All-nil (λ j. All (TellsRecords records) j.waiting))
   frames_by event told_ is = absurd is
 
   frames_after_step : (event : Event) (told_ : Answer) → Step old event told_ new → FramesTell records new
@@ -379,7 +379,7 @@ longer_payload : (old new : List Rec) → BeginsWith new old → (o : Option Dat
 longer_payload old new e None h = tt
 longer_payload old new e (Some payload) h = longer_stands old new e payload h
 
-pub longer_tells : (old new : List Rec) → BeginsWith new old → (frame : List ℕ) → Tells old frame → Tells new frame
+pub longer_tells : (old new : List Rec) → BeginsWith new old → (frame : List ℕ) → TellsRecords old frame → TellsRecords new frame
 longer_tells old new e frame h = longer_payload old new e (option_and_then payload_in (reply_in frame)) h
 
 longer_result : (old new : List Rec) → BeginsWith new old → (a : Command Job) → ResultStands old a → ResultStands new a
@@ -396,7 +396,7 @@ told_kept old new event told_ machine fit mark is h =
     let before = old.seen.guard.records in
     let after = new.seen.guard.records in
     let results = λ (service : Service). each (ResultStands before) (ResultStands after) (longer_result before after grown) (queue_at old service) (h.results service) in
-    let frames = each (λ (k : Connection). All (Tells before) k.waiting) (λ k. All (Tells after) k.waiting) (λ k told_one. each (Tells before) (Tells after) (longer_tells before after grown) k.waiting told_one) old.connections h.frames in
+    let frames = each (λ (k : Connection). All (TellsRecords before) k.waiting) (λ k. All (TellsRecords after) k.waiting) (λ k told_one. each (TellsRecords before) (TellsRecords after) (longer_tells before after grown) k.waiting told_one) old.connections h.frames in
     record {
       frames = frames_after_step after old new frames results event told_ is;
       results = λ service. each (Turn (at_event old event) event new (ResultStands after) service) (ResultStands after)
@@ -405,16 +405,16 @@ told_kept old new event told_ machine fit mark is h =
     }
 
 -- what holds of every connection holds of the one that is open for a pass
-open_all : (s : State) (pass : Pass) (k : Connection) (b : Bool) → cond b (connection_at s pass.client) None ≡ Some k → All (λ j. All (Tells s.seen.guard.records) j.waiting) s.connections → All (Tells s.seen.guard.records) k.waiting
-open_all s pass k true found h = found_all (λ j. All (Tells s.seen.guard.records) j.waiting) (is_client pass.client) s.connections k found h
+open_all : (s : State) (pass : Pass) (k : Connection) (b : Bool) → cond b (connection_at s pass.client) None ≡ Some k → All (λ j. All (TellsRecords s.seen.guard.records) j.waiting) s.connections → All (TellsRecords s.seen.guard.records) k.waiting
+open_all s pass k true found h = found_all (λ j. All (TellsRecords s.seen.guard.records) j.waiting) (is_client pass.client) s.connections k found h
 open_all s pass k false found h = absurd (none-some k found)
 
 -- what a client is handed tells what stands
-pub handed_tell : (old new : State) (pass : Pass) (frames : List (List ℕ)) → Step old (outbox pass) (handed frames) new → IsTold old → All (Tells old.seen.guard.records) frames
+pub handed_tell : (old new : State) (pass : Pass) (frames : List (List ℕ)) → Step old (outbox pass) (handed frames) new → IsTold old → All (TellsRecords old.seen.guard.records) frames
 handed_tell old new pass frames (happens up is) h = go (connection_of old pass) refl is
   where
-    go : (o : Option Connection) → connection_of old pass ≡ o → MatchOption o ((frames ≡ []) × (new ≡ old)) (λ k. (frames ≡ k.waiting) × (new ≡ record old { connections = map (without_mail k.client) old.connections })) → All (Tells old.seen.guard.records) frames
-    go None none is = rw (is.0) (All-nil (Tells old.seen.guard.records))
+    go : (o : Option Connection) → connection_of old pass ≡ o → MatchOption o ((frames ≡ []) × (new ≡ old)) (λ k. (frames ≡ k.waiting) × (new ≡ record old { connections = map (without_mail k.client) old.connections })) → All (TellsRecords old.seen.guard.records) frames
+    go None none is = rw (is.0) (All-nil (TellsRecords old.seen.guard.records))
     go (Some k) found is = rw (is.0) (open_all old pass k (old.boot == pass.boot) found h.frames)
 handed_tell old new pass frames (wanting is_memory wants) h = absurd wants
 

@@ -54,11 +54,11 @@ use Rattle.xfs_model.specs.Guards.{Expires, NonceCommand, cleared_, ended as ove
 use Rattle.xfs_model.specs.Immediate.{AtOnce, canceling, done_at_once, ids_of, stop, stopped, told_of}
 use Rattle.xfs_model.specs.Kept.{IsMachine}
 use Rattle.xfs_model.specs.Pendings.{pending_in}
-use Rattle.xfs_model.specs.Posts.{Accepts, Refuses, Takes, TakesOn, is_crowded, job_of}
+use Rattle.xfs_model.specs.Posts.{Accepts, Refuses, TakesText, TakesOn, is_crowded, job_of}
 use Rattle.xfs_model.specs.Results.{changed, error, plain, success, with_result}
 use Rattle.xfs_model.specs.Sound.{IsFitting, MayAsk}
 use Rattle.xfs_model.specs.State.{Ask, issue, clear, cash, card, entry, bad, Connection, Ending, Job, Outcome, Pass, Queues, State, bare, queue_at, queue_of, with_queue}
-use Rattle.xfs_model.specs.Step.{Happens, Hands, Leaves, Posts, Step, at_moment, happens, wanting}
+use Rattle.xfs_model.specs.Step.{Happens, HandsOver, DropsClient, Posts, Step, at_moment, happens, wanting}
 use Rattle.xfs_model.specs.Touches.{CardSays, IsHeard, TakesNotes, Touches, TouchesCard, TouchesKeys, failed, running_at, shut, took}
 use Rattle.xfs_model.specs.Work as working
 use Rattle.xfs_model.specs.Work.{case_of, is_overdue, is_stopped}
@@ -351,7 +351,7 @@ module _ (P : Service → Command Job → Type 0) (s : State) (event : Event) (n
           (All-push (Turn s event _ (P k.service) k.service) (queue_at s k.service) _ (stay_all P s event _ k.service (queue_at s k.service) (λ at. same_still _ _ refl) (h k.service))
           (accepted k.client c.id line c.timeout c.name c.payload is.ask has is.asks)) h)
 
-  takes : (k : Connection) (says : Result envelope.Command Refuse) → Takes s k says new → Turned P s event new
+  takes : (k : Connection) (says : Result envelope.Command Refuse) → TakesText s k says new → Turned P s event new
   takes k (Err refuse) is = rw (is.is) (unchanged P s event _ refl (same_still _ _ refl) h)
   takes k (Ok c) is = of_id (is_wrong_id (pending_in k.client (queue_at s k.service)) c.id) is
     where
@@ -399,11 +399,11 @@ module _ (P : Service → Command Job → Type 0) (old : State) (machine : IsMac
   posts : (pass : Pass) (text : List ℕ) (now : Moment) (new : State) → Posts old pass text now new → Turned P (at_moment old now) (post pass text now) new
   posts pass text now new is = go (connection_of old pass) is
     where
-      go : (o : Option Connection) → MatchOption o (new ≡ old) (λ k. Takes (at_moment old now) k (command_in text) new) → Turned P (at_moment old now) (post pass text now) new
+      go : (o : Option Connection) → MatchOption o (new ≡ old) (λ k. TakesText (at_moment old now) k (command_in text) new) → Turned P (at_moment old now) (post pass text now) new
       go None is = rw is (unchanged P (at_moment old now) (post pass text now) old refl (same_still _ _ refl) h)
       go (Some k) is = takes P (at_moment old now) (post pass text now) new (aside old _ refl refl refl machine) h k (command_in text) is
 
-  hands : (pass : Pass) (frames : List (List ℕ)) (new : State) → Hands old pass frames new → Turned P old (outbox pass) new
+  hands : (pass : Pass) (frames : List (List ℕ)) (new : State) → HandsOver old pass frames new → Turned P old (outbox pass) new
   hands pass frames new is = go (connection_of old pass) is
     where
       go : (o : Option Connection) → MatchOption o ((frames ≡ []) × (new ≡ old)) (λ k. (frames ≡ k.waiting) × (new ≡ record old { connections = map (without_mail k.client) old.connections })) → Turned P old (outbox pass) new
@@ -418,7 +418,7 @@ module _ (P : Service → Command Job → Type 0) (old : State) (machine : IsMac
       (All-filter keep (λ a. Turn old event (left old k) (P k.service) k.service (mark (is_of k.client a) a)) (queue_at old k.service)
       (each (P k.service) (λ a. Turn old event (left old k) (P k.service) k.service (mark (is_of k.client a) a)) (λ a p. marks a (is_of k.client a) p (λ at runs. same_still _ _ refl)) (queue_at old k.service) (h k.service)))) h
 
-  leaves : (pass : Pass) (new : State) → Leaves old pass new → Turned P old (leave pass) new
+  leaves : (pass : Pass) (new : State) → DropsClient old pass new → Turned P old (leave pass) new
   leaves pass new is = go (connection_of old pass) is
     where
       go : (o : Option Connection) → MatchOption o (new ≡ old) (λ k. new ≡ left old k) → Turned P old (leave pass) new

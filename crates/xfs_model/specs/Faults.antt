@@ -32,14 +32,15 @@ has_failed (Some plan) = plan.failed
 abbrev pub is_faulted : Command Job → Bool
 is_faulted a = tells_fault a.job.outcome || has_failed a.job.plan
 
--- so it was of the command of this ticket; and that it ran
+-- the command of this ticket was to have the result hardwareError before
 abbrev pub was_faulted : State → Service → Ticket → Bool
 was_faulted s service t = list_any (λ a. is_at t a && is_faulted a) (queue_at s service)
 
+-- the command of this ticket ran
 abbrev pub ran : State → Service → Ticket → Bool
 ran s service t = list_any (λ a. is_at t a && is_running a.stage) (queue_at s service)
 
--- why it is so behind a step
+-- why a command has, or will have, the result hardwareError behind a step
 pub data IsFaulted (old : State) (event : Event) (new : State) (service : Service) (a : Command Job) : Type 0 where
   before : was_faulted old service (ticket_of a) ≡ true → IsFaulted old event new service a
   mechanism : service ≡ Cash → ran old service (ticket_of a) ≡ true → Rose old.seen.guard.faults new.seen.guard.faults → IsFaulted old event new service a
@@ -61,7 +62,7 @@ is_refused (Some result) = is_not_ready result.code
 abbrev pub was_refused : State → Service → Ticket → Bool
 was_refused s service t = list_any (λ a. is_at t a && is_refused a.job.outcome) (queue_at s service)
 
--- why it is so behind a step: it was so before; the journal took no more records; its disk failed in this step; or the journal wasn't read again
+-- why a command has the result deviceNotReady behind a step: it had it before; the journal took no more records; its disk failed in this step; or the journal wasn't read again
 pub data IsRefused (old : State) (new : State) (service : Service) (a : Command Job) : Type 0 where
   so_before : was_refused old service (ticket_of a) ≡ true → IsRefused old new service a
   unfit : service ≡ Cash → is_fit old.seen ≡ false → IsRefused old new service a

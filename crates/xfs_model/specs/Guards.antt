@@ -10,7 +10,7 @@ use Rattle.xfs_common.specs.Payloads.{nothing, nonce_payload}
 use Rattle.xfs_dispenser.specs.Seen.{Seen, Becomes, Fails, MechCalled}
 use Rattle.xfs_dispenser.specs.Steps.{IsFull, IsUnread, IsUnknown}
 use Rattle.xfs_envelope.specs.declared.code.Code.TheVariants.{DeviceNotReady}
-use Rattle.xfs_guard.specs.Booting.{IsUnread as IsNotRead, IsUnrebooted, IsUnstarted, has_no_room_at_boot}
+use Rattle.xfs_guard.specs.Booting.{IsNotReread, IsRereadFull, IsRereadFailed, has_no_room_at_boot}
 use Rattle.xfs_guard.specs.Fits.{unfit}
 use Rattle.xfs_guard.specs.Nonce.{live_in}
 use Rattle.xfs_guard.specs.Orders.{Acts, Settles, Unsettles, kind_unacted}
@@ -36,11 +36,11 @@ abbrev pub is_live : Seen → Bool
 is_live s = is_some (live_in s.guard.boot_missing s.guard.records)
 
 -- the number of the Issue that comes next, and its word
-abbrev pub next_number : Seen → ℕ
-next_number s = next_issue s.guard.records
+abbrev pub number_to_issue : Seen → ℕ
+number_to_issue s = next_issue s.guard.records
 
-abbrev pub next_word : Seen → ℕ
-next_word s = issue_word s.guard.seed (next_number s)
+abbrev pub word_to_issue : Seen → ℕ
+word_to_issue s = issue_word s.guard.seed (number_to_issue s)
 
 -- the guard behind one more mark, which binds no token
 abbrev pub with_mark : Rec → View → View
@@ -56,9 +56,9 @@ Misses r old new = Fails old (shut_at r old.guard) new
 -- GetCommandNonce and ClearCommandNonce: the result, what is seen of the guard then, and the moment at which the live nonce was issued
 pub data NonceCommand (s : State) : Ask → Outcome → Seen → Moment → Type 0 where
   refused : (ask : Ask) → is_fit s.seen ≡ false → NonceCommand s ask (plain DeviceNotReady) s.seen s.issued
-  issued : (next : Seen) → is_fit s.seen ≡ true → Marks (Issue (next_number s.seen) (next_word s.seen)) s.seen next
-      → NonceCommand s issue (success (nonce_payload (nonce_text (next_number s.seen) (next_word s.seen)))) next s.now
-  unissued : (next : Seen) → is_fit s.seen ≡ true → Misses (Issue (next_number s.seen) (next_word s.seen)) s.seen next
+  issued : (next : Seen) → is_fit s.seen ≡ true → Marks (Issue (number_to_issue s.seen) (word_to_issue s.seen)) s.seen next
+      → NonceCommand s issue (success (nonce_payload (nonce_text (number_to_issue s.seen) (word_to_issue s.seen)))) next s.now
+  unissued : (next : Seen) → is_fit s.seen ≡ true → Misses (Issue (number_to_issue s.seen) (word_to_issue s.seen)) s.seen next
       → NonceCommand s issue (plain DeviceNotReady) next s.issued
   cleared_ : (next : Seen) → is_fit s.seen ≡ true → is_live s.seen ≡ true → Marks Clear s.seen next
       → NonceCommand s clear (record (success nothing) { ending = Some cleared }) next s.issued
@@ -81,7 +81,7 @@ abbrev pub is_shutter_closed : Seen → Bool
 is_shutter_closed s = is_retract (kind_unacted s.guard.open_order)
 
 -- the customer takes notes from the outlet; or the mechanism fails
-pub record Takes (old : Seen) (moved : Counts) (failed : Bool) (new : Seen) : Type 0 where
+pub record CustomerTakes (old : Seen) (moved : Counts) (failed : Bool) (new : Seen) : Type 0 where
   pub diverted : Counts
   pub lay : LiesIn moved old.guard.places.outlet
   pub reported : HasReported old.guard new.guard (Taken moved) moved diverted failed
@@ -94,19 +94,19 @@ pub record Reboots (old new : Seen) : Type 0 where
   pub fits : has_no_room_at_boot old.guard.limits records old.guard.places ≡ false
   pub becomes : Becomes old (rebooted old.guard records) new
 
--- its boot record passes a limit, where a boot's would
+-- a restart is refused, as its boot record passes a limit where a boot's would
 pub record FindsNoRoom (old new : Seen) : Type 0 where
   pub now : View
-  pub is : IsUnrebooted old.guard now
+  pub is : IsRereadFull true old.guard now
   pub becomes : Becomes old now new
 
--- the disk fails at it, before the list was read or at its boot record
+-- a restart is refused, as the disk fails, before the list was read or at the boot record
 pub record FailsToBoot (old new : Seen) : Type 0 where
   pub now : View
-  pub is : IsNotRead old.guard now ⊎ IsUnstarted old.guard now
+  pub is : IsNotReread old.guard now ⊎ IsRereadFailed true old.guard now
   pub fails : Fails old now new
 
--- it is refused: its boot record passes a limit, the disk fails, or a disk that tells nothing is no journal
+-- a restart is refused: its boot record passes a limit, the disk fails, or a disk that tells nothing is no journal
 abbrev pub IsUnbooted : Seen → Seen → Type 0
 IsUnbooted old new = FindsNoRoom old new ⊎ (FailsToBoot old new ⊎ IsUnknown old new)
 

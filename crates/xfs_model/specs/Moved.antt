@@ -20,7 +20,7 @@ use Rattle.xfs_model.specs.Successes.{is_success}
 abbrev pub put_out : Places → ℕ → ℕ
 put_out p u = at p.outlet u + at p.taken u
 
--- these notes went from the units to the transport, and no others anywhere, but that the customer may take from the outlet
+-- notes went from the units to the transport, and no others anywhere, but that the customer may take from the outlet
 pub record IsStackedInFull (before now : Places) (counts : Counts) : Type 0 where
   pub gained : (u : ℕ) → at now.transport u ≡ at before.transport u + at counts u
   pub given : (u : ℕ) → at now.units u + at counts u ≡ at before.units u
@@ -49,18 +49,19 @@ MovesAll before now (cash (Dispense notes token)) result = IsPaidInFull before n
 MovesAll before now (cash Present) result = IsPresentedInFull before.places now.places
 MovesAll before now ask result = ⊤
 
--- it has moved all where it has the result success
+-- a command has moved all that it was asked for, where it has the result success
 abbrev pub IsFulfilled : View → View → Command Job → Type 0
 IsFulfilled before now a = IfSome a.job.outcome (λ (result : Outcome). is_success result.code ≡ true → MovesAll before now a.job.ask result)
 
--- so has the command of this ticket at the dispenser
+-- the command of this ticket at the dispenser has moved all that it was asked for, where it has the result success
 abbrev pub SucceedsInFull : State → State → Ticket → Type 0
 SucceedsInFull before now t = All (λ a. is_at t a ≡ true → IsFulfilled before.seen.guard now.seen.guard a) (queue_at now Cash)
 
--- what has this ticket at the dispenser waits; it runs
+-- the command of this ticket at the dispenser waits
 abbrev pub IsWaitingAt : State → Ticket → Type 0
 IsWaitingAt s t = All (λ a. is_at t a ≡ true → is_waiting a.stage ≡ true) (queue_at s Cash)
 
+-- the command of this ticket at the dispenser runs
 abbrev pub IsRunningAt : State → Ticket → Type 0
 IsRunningAt s t = All (λ a. is_at t a ≡ true → is_running a.stage ≡ true) (queue_at s Cash)
 

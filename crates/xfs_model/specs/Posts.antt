@@ -59,8 +59,8 @@ TakesOn s k c (Some line) new = MatchBool (is_crowded (queue_at s k.service) k.c
     (Accepts s k line c new)
 
 -- the four cases of a text
-abbrev pub Takes : State → Connection → Result envelope.Command Refuse → State → Type 0
-Takes s k (Err refuse) new = Refuses s k refuse.id None InvalidMessage new
-Takes s k (Ok c) new = MatchBool (is_wrong_id (pending_in k.client (queue_at s k.service)) c.id)
+abbrev pub TakesText : State → Connection → Result envelope.Command Refuse → State → Type 0
+TakesText s k (Err refuse) new = Refuses s k refuse.id None InvalidMessage new
+TakesText s k (Ok c) new = MatchBool (is_wrong_id (pending_in k.client (queue_at s k.service)) c.id)
     (Refuses s k (Some c.id) (Some c.name) InvalidRequestId new)
     (TakesOn s k c (line_of k.service c.name) new)

@@ -25,7 +25,7 @@ success payload = outcome Success payload
 abbrev pub error : ErrorCode → Outcome
 error fault = outcome CommandErrorCode (error_payload (error_text fault))
 
--- the same result, and where the command's restore ended a live nonce, that is announced with it
+-- a command's result, and where its restore ended a live nonce, that is announced with it
 abbrev pub closing : Job → Outcome → Outcome
 closing job result = record result { ending = if job.ended_nonce then Some reset else result.ending }
 

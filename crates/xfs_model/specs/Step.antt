@@ -8,7 +8,7 @@ use Rattle.xfs_model.specs.Cases.{Does, told_by}
 use Rattle.xfs_model.specs.Connections.{connection_of, left, without_mail}
 use Rattle.xfs_model.specs.Events.{Event, join, post, touch, work, outbox, leave, restart, end_, finish, Answer, joined, full, done, handed, restarted, unrestarted, ended, unsettled, memory}
 use Rattle.xfs_model.specs.Guards.{Closes, IsUnbooted, Reboots}
-use Rattle.xfs_model.specs.Posts.{Takes}
+use Rattle.xfs_model.specs.Posts.{TakesText}
 use Rattle.xfs_model.specs.State.{Pass, State, bare}
 use Rattle.xfs_model.specs.Touches.{Touches}
 use Rattle.xfs_model.specs.Work.{case_of}
@@ -32,15 +32,15 @@ IsFull s = (64 ≤ length s.connections) ⊎ (4294967295 ≤ s.given)
 
 -- a pass that isn't open changes nothing
 abbrev pub Posts : State → Pass → List ℕ → Moment → State → Type 0
-Posts old pass text now new = MatchOption (connection_of old pass) (new ≡ old) (λ k. Takes (at_moment old now) k (command_in text) new)
+Posts old pass text now new = MatchOption (connection_of old pass) (new ≡ old) (λ k. TakesText (at_moment old now) k (command_in text) new)
 
-abbrev pub Hands : State → Pass → List (List ℕ) → State → Type 0
-Hands old pass frames new = MatchOption (connection_of old pass)
+abbrev pub HandsOver : State → Pass → List (List ℕ) → State → Type 0
+HandsOver old pass frames new = MatchOption (connection_of old pass)
     ((frames ≡ []) × (new ≡ old))
     (λ k. (frames ≡ k.waiting) × (new ≡ record old { connections = map (without_mail k.client) old.connections }))
 
-abbrev pub Leaves : State → Pass → State → Type 0
-Leaves old pass new = MatchOption (connection_of old pass) (new ≡ old) (λ k. new ≡ left old k)
+abbrev pub DropsClient : State → Pass → State → Type 0
+DropsClient old pass new = MatchOption (connection_of old pass) (new ≡ old) (λ k. new ≡ left old k)
 
 -- what is left of a machine that is gone
 abbrev pub gone : State → Seen → State
@@ -84,8 +84,8 @@ Happens old (join service) full new = IsFull old × (new ≡ old)
 Happens old (post pass text now) done new = Posts old pass text now new
 Happens old (touch it) answer new = Touches old it answer new
 Happens old (work service now) answer new = let s = at_moment old now in (answer ≡ told_by (case_of s service)) × Does (case_of s service) s service new
-Happens old (outbox pass) (handed frames) new = Hands old pass frames new
-Happens old (leave pass) done new = Leaves old pass new
+Happens old (outbox pass) (handed frames) new = HandsOver old pass frames new
+Happens old (leave pass) done new = DropsClient old pass new
 Happens old restart restarted new = Restarts old new
 Happens old restart unrestarted new = IsRefusedRestart old new
 Happens old end_ ended new = new ≡ gone old old.seen

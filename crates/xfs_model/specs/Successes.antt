@@ -37,7 +37,7 @@ IsInFull No = ⊤
 IsInFull (Written kind counts) = ⊥
 IsInFull (Acted kind moved diverted failed) = failed ≡ false
 
--- such a command has no plan: it is done at once. What moves notes has one
+-- a command that is done at once has no plan; one that moves notes has one
 abbrev pub IsDoneAtOnce : Ask → Type 0
 IsDoneAtOnce (cash (Dispense notes token)) = ⊥
 IsDoneAtOnce (cash Present) = ⊥
@@ -47,7 +47,7 @@ IsDoneAtOnce (cash Reset) = ⊥
 IsDoneAtOnce (cash (SetStorage added)) = ⊥
 IsDoneAtOnce ask = ⊤
 
--- why it is so behind a step: it was so before; it is one that is done at once, without a plan; its device has done it; or no part of its plan is left, and its last order was carried out in full
+-- why a command has the result success behind a step: it had it before; it is one that is done at once, without a plan; its device has done it; or no part of its plan is left, and its last order was carried out in full
 pub data IsEarned (old : State) (service : Service) (a : Command Job) : Type 0 where
   earned_before : had_succeeded old service (ticket_of a) ≡ true → IsEarned old service a
   at_once : IsDoneAtOnce a.job.ask → a.job.plan ≡ None → IsEarned old service a

@@ -39,12 +39,12 @@ payload_in (completion id name code payload) = Some payload
 payload_in (unsolicited name payload) = Some payload
 
 -- what a client reads in a frame stands in the list
-abbrev pub Tells : List Rec → List ℕ → Type 0
-Tells records frame = IfSome (option_and_then payload_in (reply_in frame)) (Stands records)
+abbrev pub TellsRecords : List Rec → List ℕ → Type 0
+TellsRecords records frame = IfSome (option_and_then payload_in (reply_in frame)) (Stands records)
 
--- so do these frames, of the journal's list
+-- what a client reads in these frames stands in the journal's list
 abbrev pub AllTell : State → List (List ℕ) → Type 0
-AllTell s frames = All (Tells s.seen.guard.records) frames
+AllTell s frames = All (TellsRecords s.seen.guard.records) frames
 
 -- the result of a command, where it is there, tells what stands
 abbrev pub ResultStands : List Rec → Command Job → Type 0

@@ -17,7 +17,7 @@ use Rattle.xfs_model.specs.Connections.{announced}
 use Rattle.xfs_model.specs.Devices.{Hears, Saying, card_says, keyboard_says, with_keypad, with_slot}
 use Rattle.xfs_model.specs.Events.{Answer, taken, fault, closed, touched}
 use Rattle.xfs_model.specs.Frames.{IsRemoval}
-use Rattle.xfs_model.specs.Guards.{Takes, is_shutter_closed}
+use Rattle.xfs_model.specs.Guards.{CustomerTakes, is_shutter_closed}
 use Rattle.xfs_model.specs.State.{Job, State, queue_at}
 use Rattle.xfs_base.specs.declared.moment.Service.{Service}
 
@@ -44,8 +44,8 @@ TouchesKeys s event new = let row = keyboard.row_of s.keypad event in IsHeard (w
 -- the customer takes notes, where the shutter is open
 pub data TakesNotes (s : State) : Answer → State → Type 0 where
   shut : is_shutter_closed s.seen ≡ true → TakesNotes s closed s
-  took : (moved : Counts) (next : Seen) → is_shutter_closed s.seen ≡ false → Takes s.seen moved false next → TakesNotes s (taken moved) (record s { seen = next })
-  failed : (moved : Counts) (next : Seen) → is_shutter_closed s.seen ≡ false → Takes s.seen moved true next → TakesNotes s fault (record s { seen = next })
+  took : (moved : Counts) (next : Seen) → is_shutter_closed s.seen ≡ false → CustomerTakes s.seen moved false next → TakesNotes s (taken moved) (record s { seen = next })
+  failed : (moved : Counts) (next : Seen) → is_shutter_closed s.seen ≡ false → CustomerTakes s.seen moved true next → TakesNotes s fault (record s { seen = next })
 
 abbrev pub Touches : State → Touch → Answer → State → Type 0
 Touches s (CardIn tracks) answer new = (answer ≡ touched) × TouchesCard s (card_event.Inserted tracks) new

@@ -1,8 +1,8 @@
 -- A Dispense that its token covers is completed, and a Present.
 use Rattle.std.proofs.Common.{◌≡◌, ◌≤◌, ◌+◌, ◌*◌, ℕ, false, List, [], ◌∷◌, ◌++◌, length, Some, ap, sym, subst, ◌∙◌, arith, append_assoc}
-use Rattle.xfs_dispenser.specs.Answers.{Answer, done, plain, planned}
+use Rattle.xfs_dispenser.specs.Answers.{CashAnswer, done, plain_answer, planned}
 use Rattle.xfs_dispenser.specs.Complete.{IsBegunInFull, IsComplete, IsGiven, IsPresented, Turns}
-use Rattle.xfs_dispenser.specs.Denominations.{denominated}
+use Rattle.xfs_dispenser.specs.Denominations.{denomination_answer}
 use Rattle.xfs_dispenser.specs.Plans.{dispense_plan, order_plan}
 use Rattle.xfs_dispenser.specs.Seen.{Seen}
 use Rattle.xfs_dispenser.specs.declared.ask.CashAsk.{CashAsk}
@@ -17,9 +17,9 @@ use Rattle.xfs_guard.specs.declared.ask.Ask.TheVariants as Ask
 use Rattle.xfs_model.specs.Cases.{with_start}
 use Rattle.xfs_model.specs.State.{Job, cash}
 use Rattle.xfs_queue.specs.declared.command.Command.{Command}
-use Rattle.xfs_withdrawals.specs.Posted.{IsTaken}
+use Rattle.xfs_withdrawals.specs.Posted.{IsAccepted}
 use Rattle.xfs_withdrawals.specs.Turning.{IsNext, Turning}
-use Rattle.xfs_withdrawals.specs.Withdrawals.{IsCompleted, IsDispensable, IsDispensed, IsPaidOut, IsPresentable, IsPutOut, IsShown, IsWholeWithdrawal, IsWithdrawn, Withdrawal}
+use Rattle.xfs_withdrawals.specs.Withdrawals.{IsCompleted, IsDispensable, IsDispensedInFull, IsPaidOut, IsPresentable, IsPutOut, IsShown, IsWholeWithdrawal, IsWithdrawn, Withdrawal}
 use Rattle.xfs_dispenser.specs.Units.{units_with}
 use Rattle.xfs_withdrawals.proofs.Lives.{AreOrders, stacks_are_orders, stacks_length}
 use Rattle.xfs_withdrawals.proofs.Posting.{taken}
@@ -63,7 +63,7 @@ module _ (complete : IsComplete) (t : Turning) where
   start_later ask b = subst (λ x. IsLater t.start.seen x) b.begun.seen b.later
 
   -- the command is completed where it was answered
-  completed_by : (ask : CashAsk) (b : IsBegun t.start a ask t.last t.turns t.waiting t.frames t.start) (answer : Answer) (next : Seen) → IsAnswered t.start a answer t.last b.waiting_then b.frames_then next → IsCompleted t answer
+  completed_by : (ask : CashAsk) (b : IsBegun t.start a ask t.last t.turns t.waiting t.frames t.start) (answer : CashAnswer) (next : Seen) → IsAnswered t.start a answer t.last b.waiting_then b.frames_then next → IsCompleted t answer
   completed_by ask b answer next o = record {
     over = record { empty = o.over.queue; at_rest = record { settled = ap (λ (x : Seen). x.guard.open_order) o.over.seen_is ∙ o.settled; inactive = o.over.inactive } };
     beside = o.over.beside;
@@ -84,7 +84,7 @@ module _ (complete : IsComplete) (t : Turning) where
       record { counts = full.counts; given = full.given; in_full = λ enough. whole b full enough }
     where
       whole : (b : IsBegun t.start a (Dispense notes (Some token)) t.last t.turns t.waiting t.frames t.start) (full : IsBegunInFull t.start.seen notes b.begun.bound b.begun.start) → 2 + 3 * length (units_with full.counts.0) ≤ t.turns
-          → IsDispensed t full.counts
+          → IsDispensedInFull t full.counts
       whole b full enough =
           let ask = Dispense notes (Some token) in
           let h = b.begun in
@@ -93,10 +93,10 @@ module _ (complete : IsComplete) (t : Turning) where
           let o = worked_through ask d.next b plan (3 * length plan.parts.items) full.plan h.begins.0 (stacks_are_orders full.issue full.counts.0) (omega (arith, many, enough)) in
           let calm = calm-first h.bound o.next t.last.seen o.later (calm-rest t.start.seen h.bound t.last.seen (start_later ask b) t.calm) in
           let given = full.done o.next o.went calm o.turns in
-          let answered = o.answers (denominated t.start.seen.guard.units full.counts) given.is in
+          let answered = o.answers (denomination_answer t.start.seen.guard.units full.counts) given.is in
           record {
-            completed = completed_by ask b (denominated t.start.seen.guard.units full.counts) o.next answered;
-            moved = subst (λ x. IsGiven t.start.seen full.counts x (done (denominated t.start.seen.guard.units full.counts))) (sym answered.over.seen_is) (subst (λ w. IsGiven t.start.seen full.counts o.next w) given.is given);
+            completed = completed_by ask b (denomination_answer t.start.seen.guard.units full.counts) o.next answered;
+            moved = subst (λ x. IsGiven t.start.seen full.counts x (done (denomination_answer t.start.seen.guard.units full.counts))) (sym answered.over.seen_is) (subst (λ w. IsGiven t.start.seen full.counts o.next w) given.is given);
           }
 
   pub put_out : IsPresentable t → 5 ≤ t.turns → IsPutOut t
@@ -108,11 +108,11 @@ module _ (complete : IsComplete) (t : Turning) where
       let turns : Turns 3 t.start.seen (order_plan Ask.Present) o.next o.went = subst (λ x. Turns 3 x (order_plan Ask.Present) o.next o.went) h.begins.0 o.turns in
       let full = complete.present t.start.seen h.bound o.next h.after h.start o.went d.next.at_rest.settled d.ready calm h.begins o.turns in
       let moved = full.2 in
-      let answered = o.answers (plain Success) moved.is in
+      let answered = o.answers (plain_answer Success) moved.is in
       record {
-        completed = completed_by Present b (plain Success) o.next answered;
+        completed = completed_by Present b (plain_answer Success) o.next answered;
         shown = subst (λ x. IsShown t.start.seen x) (sym answered.over.seen_is) (shown t.start.seen o.next o.went d.next.at_rest.settled (present-free t.start.seen.guard d.ready) calm turns);
-        moved = subst (λ x. IsPresented t.start.seen x (done (plain Success))) (sym answered.over.seen_is) (subst (λ w. IsPresented t.start.seen o.next w) moved.is moved);
+        moved = subst (λ x. IsPresented t.start.seen x (done (plain_answer Success))) (sym answered.over.seen_is) (subst (λ w. IsPresented t.start.seen o.next w) moved.is moved);
       }
 
 same_head : (a b : Command Job) → a ∷ [] ≡ b ∷ [] → a ≡ b
@@ -124,7 +124,7 @@ none_there counts empty u = none-at counts.0 u (sym (sum_by-zero (λ x. x) count
 
 module _ (complete : IsComplete) (w : Withdrawal) where
   -- the posted Present is the one that is turned, and nothing stands against it
-  presentable : (counts : Counts) → IsDispensed w.dispense counts → (taken_ : IsTaken Present w.dispense.last w.present.start w.posted) → taken_.command ≡ w.present.command → IsPresentable w.present
+  presentable : (counts : Counts) → IsDispensedInFull w.dispense counts → (taken_ : IsAccepted Present w.dispense.last w.present.start w.posted) → taken_.command ≡ w.present.command → IsPresentable w.present
   presentable counts d taken_ it = record {
     next = record {
       alone = w.pending;
@@ -135,7 +135,7 @@ module _ (complete : IsComplete) (w : Withdrawal) where
     ready = subst (λ (x : Seen). CanPresent x.guard) (sym taken_.same) (d.moved.ready (subst (λ (x : Seen). sum x.guard.places.outlet.0 ≡ 0) taken_.same w.empty));
   }
 
-  withdrawn : (counts : Counts) → IsDispensed w.dispense counts → IsWithdrawn w counts
+  withdrawn : (counts : Counts) → IsDispensedInFull w.dispense counts → IsWithdrawn w counts
   withdrawn counts d =
       let taken_ = taken Present w.dispense.last w.present.start d.completed.over w.posted in
       let it : taken_.command ≡ w.present.command = same_head taken_.command w.present.command (sym taken_.next.alone ∙ w.pending) in

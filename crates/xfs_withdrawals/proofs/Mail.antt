@@ -8,7 +8,7 @@ use Rattle.xfs_model.specs.Connections.{connection_at, connection_of, is_at, is_
 use Rattle.xfs_model.specs.Conversations.{frames_after, is_pass_of}
 use Rattle.xfs_model.specs.Events.{handed, outbox}
 use Rattle.xfs_model.specs.State.{Connection, Pass, State}
-use Rattle.xfs_model.specs.Step.{Hands}
+use Rattle.xfs_model.specs.Step.{HandsOver}
 use Rattle.xfs_model.proofs.Keeping.{IsOpen, is_open, same_client}
 use Rattle.xfs_model.proofs.Lists.{find-map, found_passes}
 use Rattle.xfs_model.proofs.Talks.{client_with_mail}
@@ -63,7 +63,7 @@ nothing_more : (b : Bool) (w : List (List ℕ)) → (cond {A = List (List ℕ)} 
 nothing_more true w = refl
 nothing_more false w = refl
 
-pub handed_on : (s : State) (pass : Pass) (more : List (List ℕ)) (new : State) (mine : ClientId) (waiting : List (List ℕ)) → Hands s pass more new → IsConnected s mine waiting → IsHanded s pass more new mine waiting
+pub handed_on : (s : State) (pass : Pass) (more : List (List ℕ)) (new : State) (mine : ClientId) (waiting : List (List ℕ)) → HandsOver s pass more new → IsConnected s mine waiting → IsHanded s pass more new mine waiting
 handed_on s pass more new mine waiting hands h = go (connection_of s pass) refl hands
   where
     j : Connection

@@ -17,44 +17,20 @@ use Rattle.xfs_model.specs.Commands.{Asks, cash_names, is_one_of, line_of, nonce
 use Rattle.xfs_model.specs.Connections.{sent, with_queue_at}
 use Rattle.xfs_model.specs.Events.{done, memory, post}
 use Rattle.xfs_model.specs.Pendings.{pending_in}
-use Rattle.xfs_model.specs.Posts.{Accepts, Refuses, Takes, TakesOn, is_crowded, job_of}
+use Rattle.xfs_model.specs.Posts.{Accepts, Refuses, TakesText, TakesOn, is_crowded, job_of}
 use Rattle.xfs_model.specs.Sound.{MayAsk}
 use Rattle.xfs_model.specs.State.{Ask, Connection, Job, State, bad, card, cash, clear, entry, issue, queue_at}
 use Rattle.xfs_model.specs.Step.{Posts, Step, at_moment, happens, wanting}
-use Rattle.xfs_model.proofs.Asking.{may_ask}
+use Rattle.xfs_model.proofs.Asking.{cash_named, may_ask}
 use Rattle.xfs_model.proofs.Keeping.{IsOpen, is_open, same_client}
 use Rattle.xfs_queue.specs.Queue.{offered}
 use Rattle.xfs_queue.specs.declared.command.Command.{Command}
 use Rattle.xfs_queue.specs.declared.command.Line.TheVariants.{Device, Nonce}
-use Rattle.xfs_withdrawals.specs.Posted.{IsPosted, IsTaken}
+use Rattle.xfs_withdrawals.specs.Posted.{IsPosted, IsAccepted}
 use Rattle.xfs_withdrawals.specs.Turning.{IsConnected, IsIdle}
 use Rattle.xfs_withdrawals.proofs.Mail.{connected_sent}
 
-none_ok : {X E : Type 0} (x : X) (e : E) → ◌≡◌ {A = Result X E} (Err e) (Ok x) → ⊥
-none_ok x e h = cc
-
--- what asks something of the dispenser has one of its names
-cash_named : (name : List ℕ) (payload : Data) (ask : CashAsk) → ask_of name payload ≡ Ok ask → is_one_of cash_names name ≡ true
-cash_named name payload ask is =
-    go (bytes_eq name (codes "CashDispenser.Denominate")) (bytes_eq name (codes "CashDispenser.Dispense")) (bytes_eq name (codes "CashDispenser.Present")) (bytes_eq name (codes "CashDispenser.Reject"))
-    (bytes_eq name (codes "CashManagement.Reset")) (bytes_eq name (codes "CashManagement.Retract"))
-    (bytes_eq name (codes "Storage.StartExchange")) (bytes_eq name (codes "Storage.SetStorage")) (bytes_eq name (codes "Storage.EndExchange")) _ _ _ _ _ _ _ _ _ is
-  where
-    go : (a b c d e f g h i : Bool) (r s t u v w x y z : Result CashAsk CashFail)
-        → (if a then r else if b then s else if c then t else if d then u else if e then v else if f then w else if g then x else if h then y else if i then z else Err Unknown) ≡ Ok ask
-        → (a || (b || (c || (d || (e || (f || (g || (h || (i || false))))))))) ≡ true
-    go true b c d e f g h i r s t u v w x y z is = refl
-    go false true c d e f g h i r s t u v w x y z is = refl
-    go false false true d e f g h i r s t u v w x y z is = refl
-    go false false false true e f g h i r s t u v w x y z is = refl
-    go false false false false true f g h i r s t u v w x y z is = refl
-    go false false false false false true g h i r s t u v w x y z is = refl
-    go false false false false false false true h i r s t u v w x y z is = refl
-    go false false false false false false false true i r s t u v w x y z is = refl
-    go false false false false false false false false true r s t u v w x y z is = refl
-    go false false false false false false false false false r s t u v w x y z is = absurd (none_ok ask Unknown is)
-
--- and waits on the device line
+-- a command that asks something of the dispenser waits on the device line
 cash_line : (name : List ℕ) (payload : Data) (ask : CashAsk) → ask_of name payload ≡ Ok ask → line_of Cash name ≡ Some Device
 cash_line name payload ask is = go (is_one_of nonce_names name) refl
   where
@@ -78,7 +54,7 @@ never_memory : done ≡ memory → ⊥
 never_memory e = cc
 
 -- where none is pending, a command with a fit id is accepted
-accepted : (s : State) (k : Connection) (c : envelope.Command) (new : State) → k.service ≡ Cash → queue_at s Cash ≡ [] → is_request_id c.id ≡ true → line_of Cash c.name ≡ Some Device → Takes s k (Ok c) new → Accepts s k Device c new
+accepted : (s : State) (k : Connection) (c : envelope.Command) (new : State) → k.service ≡ Cash → queue_at s Cash ≡ [] → is_request_id c.id ≡ true → line_of Cash c.name ≡ Some Device → TakesText s k (Ok c) new → Accepts s k Device c new
 accepted s k c new service idle id line takes =
     let fit : is_wrong_id (pending_in k.client (queue_at s k.service)) c.id ≡ false = rw (service, idle, id) refl in
     let few : is_crowded (queue_at s k.service) k.client ≡ false = rw (service, idle) refl in
@@ -109,10 +85,10 @@ module _ (ask : CashAsk) (s new : State) (idle : IsIdle s) (posted : IsPosted as
 
   accepts : Posts s posted.pass posted.text posted.now new → Accepts (at_moment s posted.now) k Device c new
   accepts posts =
-      let on : Takes (at_moment s posted.now) k (command_in posted.text) new = subst (λ o. MatchOption o (new ≡ s) (λ j. Takes (at_moment s posted.now) j (command_in posted.text) new)) posted.open_now posts in
-      accepted (at_moment s posted.now) k c new posted.service idle.empty posted.id (cash_line c.name c.payload ask posted.asks) (subst (λ r. Takes (at_moment s posted.now) k r new) posted.reads on)
+      let on : TakesText (at_moment s posted.now) k (command_in posted.text) new = subst (λ o. MatchOption o (new ≡ s) (λ j. TakesText (at_moment s posted.now) j (command_in posted.text) new)) posted.open_now posts in
+      accepted (at_moment s posted.now) k c new posted.service idle.empty posted.id (cash_line c.name c.payload ask posted.asks) (subst (λ r. TakesText (at_moment s posted.now) k r new) posted.reads on)
 
-  taken_as : Accepts (at_moment s posted.now) k Device c new → IsTaken ask s new posted
+  taken_as : Accepts (at_moment s posted.now) k Device c new → IsAccepted ask s new posted
   taken_as a = record {
     command = command;
     id = refl;
@@ -135,9 +111,9 @@ module _ (ask : CashAsk) (s new : State) (idle : IsIdle s) (posted : IsPosted as
       is : new ≡ with_queue_at (sent (at_moment s posted.now) Cash k.client (a.reply ∷ [])) Cash (queue_at (at_moment s posted.now) Cash ++ command ∷ [])
       is = subst (λ y. new ≡ behind a.reply Cash y) it (subst (λ x. new ≡ behind a.reply x a.ask) posted.service a.is)
 
-  pub taken : IsTaken ask s new posted
+  pub taken : IsAccepted ask s new posted
   taken = go posted.step
     where
-      go : Step s (post posted.pass posted.text posted.now) done new → IsTaken ask s new posted
+      go : Step s (post posted.pass posted.text posted.now) done new → IsAccepted ask s new posted
       go (happens up is) = taken_as (accepts is)
       go (wanting told wants) = absurd (never_memory told)

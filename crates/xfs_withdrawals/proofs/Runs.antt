@@ -2,7 +2,7 @@
 use Rattle.std.proofs.Common.{◌≡◌, ◌≤◌, ℕ, zero, suc, ◌&&◌, not, Bool, true, false, List, [], ◌∷◌, ◌++◌, refl, ap, sym, subst, ◌∙◌, arith, append_assoc}
 use Rattle.xfs_base.specs.declared.moment.ClientId.{ClientId}
 use Rattle.xfs_base.specs.declared.moment.Service.TheVariants.{Cash}
-use Rattle.xfs_dispenser.specs.Answers.{Answer, Went, done, more}
+use Rattle.xfs_dispenser.specs.Answers.{CashAnswer, Went, done, more}
 use Rattle.xfs_dispenser.specs.Complete.{Turns}
 use Rattle.xfs_dispenser.specs.Begins.{Begins}
 use Rattle.xfs_dispenser.specs.Seen.{Seen}
@@ -68,13 +68,13 @@ module _ (base : State) where
       record { queue = o.queue; inactive = o.inactive; left = o.left; connected = o.connected; came = o.came; seen_is = o.seen_is ∙ ap (λ (n : State). n.seen) same; beside = o.beside }
 
   -- the command is answered with this, and no longer pending in the end
-  pub record IsAnswered (a : Command Job) (answer : Answer) (last : State) (waiting frames : List (List ℕ)) (seen : Seen) : Type 0 where
+  pub record IsAnswered (a : Command Job) (answer : CashAnswer) (last : State) (waiting frames : List (List ℕ)) (seen : Seen) : Type 0 where
     pub completion : List ℕ
     pub completes : IsCompletion a.id a.job.name answer.code answer.payload completion
     pub over : IsOver last a.client frames (waiting ++ completion ∷ []) seen
     pub settled : seen.guard.open_order ≡ No
 
-  answered_heard : (a : Command Job) (answer : Answer) (last : State) (before frames later waiting : List (List ℕ)) (seen next : Seen) → before ++ later ≡ waiting → next ≡ seen → IsAnswered a answer last later frames next
+  answered_heard : (a : Command Job) (answer : CashAnswer) (last : State) (before frames later waiting : List (List ℕ)) (seen next : Seen) → before ++ later ≡ waiting → next ≡ seen → IsAnswered a answer last later frames next
       → IsAnswered a answer last waiting (before ++ frames) seen
   answered_heard a answer last before frames later waiting seen next joined same o = record {
     completion = o.completion;
@@ -84,7 +84,7 @@ module _ (base : State) where
   }
 
   -- a command that has its result is answered by the next turn
-  answered : (a : Command Job) (plan left : Plan) (answer : Answer) (last : State) (waiting : List (List ℕ)) {turns : ℕ} {s : State} {frames : List (List ℕ)} → Steady a last turns s frames → 1 ≤ turns
+  answered : (a : Command Job) (plan left : Plan) (answer : CashAnswer) (last : State) (waiting : List (List ℕ)) {turns : ℕ} {s : State} {frames : List (List ℕ)} → Steady a last turns s frames → 1 ≤ turns
       → Stands base s (with_went left false (done answer) (with_plan plan false a) ∷ []) a.client waiting → s.seen.guard.open_order ≡ No → IsAnswered a answer last waiting frames s.seen
   answered a plan left answer last waiting ended some h none = absurd (omega (arith, some))
   answered a plan left answer last waiting (hears {s = s} {middle = middle} {frames = frames} pass given step run) some h none =
@@ -110,12 +110,12 @@ module _ (base : State) where
     pub went : Went
     pub turns : Turns m s plan next went
     pub later : IsLater next last.seen
-    pub answers : (answer : Answer) → went ≡ done answer → IsAnswered a answer last waiting frames next
+    pub answers : (answer : CashAnswer) → went ≡ done answer → IsAnswered a answer last waiting frames next
 
-  not_done : (answer : Answer) → more ≡ done answer → ⊥
+  not_done : (answer : CashAnswer) → more ≡ done answer → ⊥
   not_done answer e = cc
 
-  same_answer : (a b : Answer) → done a ≡ done b → b ≡ a
+  same_answer : (a b : CashAnswer) → done a ≡ done b → b ≡ a
   same_answer a b e = cc
 
   unworked : (s : Seen) (plan : Plan) (a : Command Job) (last : State) (waiting frames : List (List ℕ)) → IsLater s last.seen → IsWorkedOn zero s plan a last waiting frames
@@ -142,7 +142,7 @@ module _ (base : State) where
   }
 
   -- the turn that gives the answer
-  answers_now : (m : ℕ) (s middle : Seen) (plan left : Plan) (a : Command Job) (answer : Answer) (last : State) (waiting frames : List (List ℕ)) → Works s plan middle left (done answer) → IsLater middle last.seen
+  answers_now : (m : ℕ) (s middle : Seen) (plan left : Plan) (a : Command Job) (answer : CashAnswer) (last : State) (waiting frames : List (List ℕ)) → Works s plan middle left (done answer) → IsLater middle last.seen
       → IsAnswered a answer last waiting frames middle → IsWorkedOn (suc m) s plan a last waiting frames
   answers_now m s middle plan left a answer last waiting frames does later o = record {
     next = middle;

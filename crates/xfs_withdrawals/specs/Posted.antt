@@ -29,8 +29,8 @@ pub record IsPosted (ask : CashAsk) (s new : State) : Type 0 where
   pub id : is_request_id command.id ≡ true
   pub asks : ask_of command.name command.payload ≡ Ok ask
 
--- it is accepted, and is next: its acknowledge waits behind what waited before, and what is seen of the guard stays
-pub record IsTaken (ask : CashAsk) (s new : State) (posted : IsPosted ask s new) : Type 0 where
+-- a command that was posted is accepted, and is next: its acknowledge waits behind what waited before, and what is seen of the guard stays
+pub record IsAccepted (ask : CashAsk) (s new : State) (posted : IsPosted ask s new) : Type 0 where
   pub command : Command Job
   pub id : command.id ≡ posted.command.id
   pub name : command.job.name ≡ posted.command.name

@@ -30,7 +30,7 @@ pub record IsAtRest (s : State) : Type 0 where
   pub settled : s.seen.guard.open_order ≡ No
   pub inactive : s.exchange ≡ false
 
--- nor is a command of the dispenser pending
+-- no order is open, no exchange active, and no command of the dispenser pending
 pub record IsIdle (s : State) : Type 0 where
   pub empty : queue_at s Cash ≡ []
   pub at_rest : IsAtRest s

@@ -4,9 +4,9 @@ use Rattle.xfs_base.specs.Counts.{at, IsZero}
 use Rattle.xfs_base.specs.declared.counts.Counts.{Counts}
 use Rattle.xfs_base.specs.declared.counts.Kind.TheVariants as Kind
 use Rattle.xfs_base.specs.declared.moment.Service.TheVariants.{Cash}
-use Rattle.xfs_dispenser.specs.Answers.{Answer, done, plain}
+use Rattle.xfs_dispenser.specs.Answers.{CashAnswer, done, plain_answer}
 use Rattle.xfs_dispenser.specs.Complete.{CanGive, IsGiven, IsPresented}
-use Rattle.xfs_dispenser.specs.Denominations.{NotesGiven, denominated}
+use Rattle.xfs_dispenser.specs.Denominations.{NotesGiven, denomination_answer}
 use Rattle.xfs_dispenser.specs.Seen.{Seen}
 use Rattle.xfs_dispenser.specs.Units.{units_with}
 use Rattle.xfs_dispenser.specs.declared.ask.CashAsk.TheVariants.{Dispense, Present}
@@ -42,7 +42,7 @@ pub record IsBeside (s last : State) : Type 0 where
   pub queues : with_queue last.queues Cash [] ≡ with_queue s.queues Cash []
 
 -- the command is no longer pending; one completion came, with this answer, and nothing else, beside what waited before: its client was handed it, or it waits
-pub record IsCompleted (t : Turning) (answer : Answer) : Type 0 where
+pub record IsCompleted (t : Turning) (answer : CashAnswer) : Type 0 where
   pub over : IsIdle t.last
   pub beside : IsBeside t.start t.last
   pub completion : List ℕ
@@ -52,15 +52,15 @@ pub record IsCompleted (t : Turning) (answer : Answer) : Type 0 where
   pub all : t.frames ++ left ≡ t.waiting ++ completion ∷ []
 
 -- a Dispense is completed with success, and these notes went from the units to the transport
-pub record IsDispensed (t : Turning) (counts : Counts) : Type 0 where
-  pub completed : IsCompleted t (denominated t.start.seen.guard.units counts)
-  pub moved : IsGiven t.start.seen counts t.last.seen (done (denominated t.start.seen.guard.units counts))
+pub record IsDispensedInFull (t : Turning) (counts : Counts) : Type 0 where
+  pub completed : IsCompleted t (denomination_answer t.start.seen.guard.units counts)
+  pub moved : IsGiven t.start.seen counts t.last.seen (done (denomination_answer t.start.seen.guard.units counts))
 
 -- a Dispense gives some notes that were asked for; it is done in two turns, and three for each unit that gives some
 pub record IsPaidOut (t : Turning) (notes : Notes) : Type 0 where
   pub counts : Counts
   pub given : NotesGiven t.start.seen.guard.units t.start.seen.guard.places.units notes (Ok counts)
-  pub in_full : 2 + 3 * length (units_with counts.0) ≤ t.turns → IsDispensed t counts
+  pub in_full : 2 + 3 * length (units_with counts.0) ≤ t.turns → IsDispensedInFull t counts
 
 -- the mechanism's list, where it tells one, gains one entry: that a Present, by the number of its record, moved all that lay on the transport
 pub record IsShown (s next : Seen) : Type 0 where
@@ -71,8 +71,8 @@ pub record IsShown (s next : Seen) : Type 0 where
 -- a Present is completed with success, and the whole transport went into the outlet
 pub record IsPutOut (t : Turning) : Type 0 where
   pub shown : IsShown t.start.seen t.last.seen
-  pub completed : IsCompleted t (plain Success)
-  pub moved : IsPresented t.start.seen t.last.seen (done (plain Success))
+  pub completed : IsCompleted t (plain_answer Success)
+  pub moved : IsPresented t.start.seen t.last.seen (done (plain_answer Success))
 
 -- a Dispense is turned; then a Present is posted while the outlet is empty, and is turned at least five times
 pub record Withdrawal : Type 0 where
@@ -84,15 +84,15 @@ pub record Withdrawal : Type 0 where
   pub empty : sum present.start.seen.guard.places.outlet.0 ≡ 0
   pub enough : 5 ≤ present.turns
 
--- both are completed with success, and in the outlet lie these notes, with what lay on the transport before
+-- Dispense and Present are completed with success, and in the outlet lie these notes, with what lay on the transport before
 pub record IsWithdrawn (w : Withdrawal) (counts : Counts) : Type 0 where
-  pub dispensed : IsDispensed w.dispense counts
+  pub dispensed : IsDispensedInFull w.dispense counts
   pub put_out : IsPutOut w.present
   pub id : w.present.command.id ≡ w.posted.command.id
   pub name : w.present.command.job.name ≡ w.posted.command.name
   pub out : (u : ℕ) → at w.present.last.seen.guard.places.outlet u ≡ at w.dispense.start.seen.guard.places.transport u + at counts u
 
--- so it is with some notes that were asked for, where the Dispense has its turns
+-- some notes that were asked for are withdrawn, where the Dispense has its turns
 pub record IsWholeWithdrawal (w : Withdrawal) (notes : Notes) : Type 0 where
   pub paid : IsPaidOut w.dispense notes
   pub in_full : 2 + 3 * length (units_with paid.counts.0) ≤ w.dispense.turns → IsWithdrawn w paid.counts

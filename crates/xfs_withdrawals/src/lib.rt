@@ -5,7 +5,7 @@ ghost use Rattle.std.specs.Prelude.{◌≤◌, ℕ, List};
 ghost use Rattle.xfs_dispenser.specs.declared.ask.CashAsk.{CashAsk};
 ghost use Rattle.xfs_dispenser.specs.declared.notes.Notes.{Notes};
 ghost use Rattle.xfs_model.specs.State.{State};
-ghost use Rattle.xfs_withdrawals.specs.Posted.{IsPosted, IsTaken};
+ghost use Rattle.xfs_withdrawals.specs.Posted.{IsPosted, IsAccepted};
 ghost use Rattle.xfs_withdrawals.specs.Turning.{IsIdle, Turning};
 ghost use Rattle.xfs_withdrawals.specs.Withdrawals.{IsDispensable, IsPaidOut, IsPresentable, IsPutOut, IsWholeWithdrawal, Withdrawal};
 
@@ -26,5 +26,5 @@ pub fn withdrawals_are_complete()
 /// A command that a client posts to an idle dispenser is accepted, and is next: so the laws of a
 /// withdrawal are of every Dispense and Present that is posted so.
 pub fn commands_to_an_idle_dispenser_are_next()
-    ensures { (ask : CashAsk) (s new : State) → IsIdle s → (posted : IsPosted ask s new) → IsTaken ask s new posted }
+    ensures { (ask : CashAsk) (s new : State) → IsIdle s → (posted : IsPosted ask s new) → IsAccepted ask s new posted }
 {}

@@ -8,7 +8,7 @@ pub returns-in_err-order-clause-carried : goal.returns-in_err-order-clause-carri
 returns-in_err-order-clause-carried g c = λ some.
     let e = c.in_err-order.ensures in
     carried-err _ _ c.from_residual.result c.in_err-order.field-0.0 _ c.from_residual.ensures.1 some
-    (stopped-order g.D.Disk c.args.guard.now c.order.new.self c.args.ask c.in_err-order.field-0.0 e.refused e.disk e.keeps.proceeds.disk_faults e.cause e.same)
+    (stopped-order g.D.Disk c.args.guard.now c.order.new.self c.args.ask c.in_err-order.field-0.0 e.refused e.writes.disk e.writes.keeps.proceeds.disk_faults e.writes.cause e.writes.same)
 
 pub returns-in_err-settle-clause-carried : goal.returns-in_err-settle-clause-carried
 returns-in_err-settle-clause-carried g c = λ some.
@@ -23,9 +23,9 @@ returns-in_err-settle-clause-carried g c = λ some.
         acted = seen g.D.Disk c.act-outcome.new.self;
         first = record {
           written = seen g.D.Disk c.order.new.self;
-          order = record { guard_is = e.ok; later = e.keeps.proceeds.disk_faults };
+          order = record { guard_is = e.ok; later = e.writes.keeps.proceeds.disk_faults };
           acts = a.acted;
-          called = record { later = a.keeps.proceeds.mech_faults; cause = a.cause; disk_same = ap g.D.Disk.faults a.same };
+          called = record { later = a.uses.keeps.proceeds.mech_faults; cause = a.uses.cause; disk_same = ap g.D.Disk.faults a.uses.same };
         };
         unsettles = s.disk;
         later = s.keeps.proceeds.disk_faults;
@@ -35,7 +35,7 @@ returns-in_err-settle-clause-carried g c = λ some.
 
 pub returns-in_err-settle-clause-proceeds : goal.returns-in_err-settle-clause-proceeds
 returns-in_err-settle-clause-proceeds g c =
-    Proceeds-trans g.D.Disk _ _ _ g.met.D.Disk.counts_now c.in_ok-order.ensures.keeps.proceeds (Proceeds-trans g.D.Disk _ _ _ g.met.D.Disk.counts_now c.act-outcome.ensures.keeps.proceeds c.in_err-settle.ensures.keeps.proceeds)
+    Proceeds-trans g.D.Disk _ _ _ g.met.D.Disk.counts_now c.in_ok-order.ensures.writes.keeps.proceeds (Proceeds-trans g.D.Disk _ _ _ g.met.D.Disk.counts_now c.act-outcome.ensures.uses.keeps.proceeds c.in_err-settle.ensures.keeps.proceeds)
 
 pub returns-clause-carried : goal.returns-clause-carried
 returns-clause-carried g c = λ some.
@@ -47,9 +47,9 @@ returns-clause-carried g c = λ some.
         acted = seen g.D.Disk c.act-outcome.new.self;
         first = record {
           written = seen g.D.Disk c.order.new.self;
-          order = record { guard_is = e.ok; later = e.keeps.proceeds.disk_faults };
+          order = record { guard_is = e.ok; later = e.writes.keeps.proceeds.disk_faults };
           acts = a.acted;
-          called = record { later = a.keeps.proceeds.mech_faults; cause = a.cause; disk_same = ap g.D.Disk.faults a.same };
+          called = record { later = a.uses.keeps.proceeds.mech_faults; cause = a.uses.cause; disk_same = ap g.D.Disk.faults a.uses.same };
         };
         settles = s.settled;
         later = s.keeps.proceeds.disk_faults;
@@ -58,4 +58,4 @@ returns-clause-carried g c = λ some.
 
 pub returns-clause-proceeds : goal.returns-clause-proceeds
 returns-clause-proceeds g c =
-    Proceeds-trans g.D.Disk _ _ _ g.met.D.Disk.counts_now c.in_ok-order.ensures.keeps.proceeds (Proceeds-trans g.D.Disk _ _ _ g.met.D.Disk.counts_now c.act-outcome.ensures.keeps.proceeds c.in_ok-settle.ensures.keeps.proceeds)
+    Proceeds-trans g.D.Disk _ _ _ g.met.D.Disk.counts_now c.in_ok-order.ensures.writes.keeps.proceeds (Proceeds-trans g.D.Disk _ _ _ g.met.D.Disk.counts_now c.act-outcome.ensures.uses.keeps.proceeds c.in_ok-settle.ensures.keeps.proceeds)

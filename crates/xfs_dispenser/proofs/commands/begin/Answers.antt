@@ -85,21 +85,21 @@ returns-in-Dispense-clause-payload g c =
 pub returns-in-Present-clause-payload : goal.returns-in-Present-clause-payload
 returns-in-Present-clause-payload g c =
     let s = seen g.D.Disk c.args.guard.now in
-    IfOk-weaker c.ordered.result _ _ (λ b is. begins-sent s c.args.exchange.now CashAsk.Present s c.args.exchange.now (start_of b) (refl, refl, is)) c.ordered.ensures
+    IfOk-weaker c.begin_order.result _ _ (λ b is. begins-sent s c.args.exchange.now CashAsk.Present s c.args.exchange.now (start_of b) (refl, refl, is)) c.begin_order.ensures
 
 pub returns-in-Reject-clause-payload : goal.returns-in-Reject-clause-payload
 returns-in-Reject-clause-payload g c =
     let s = seen g.D.Disk c.args.guard.now in
-    IfOk-weaker c.ordered-in-Reject.result _ _ (λ b is. begins-sent s c.args.exchange.now CashAsk.Reject s c.args.exchange.now (start_of b) (refl, refl, is)) c.ordered-in-Reject.ensures
+    IfOk-weaker c.begin_order-in-Reject.result _ _ (λ b is. begins-sent s c.args.exchange.now CashAsk.Reject s c.args.exchange.now (start_of b) (refl, refl, is)) c.begin_order-in-Reject.ensures
 
 pub returns-in-Retract-clause-payload : goal.returns-in-Retract-clause-payload
 returns-in-Retract-clause-payload g c =
     let s = seen g.D.Disk c.args.guard.now in
-    IfOk-weaker c.ordered-in-Retract.result _ _ (λ b is. begins-sent s c.args.exchange.now CashAsk.Retract s c.args.exchange.now (start_of b) (refl, refl, is)) c.ordered-in-Retract.ensures
+    IfOk-weaker c.begin_order-in-Retract.result _ _ (λ b is. begins-sent s c.args.exchange.now CashAsk.Retract s c.args.exchange.now (start_of b) (refl, refl, is)) c.begin_order-in-Retract.ensures
 
 pub returns-in-Reset-clause-payload : goal.returns-in-Reset-clause-payload
 returns-in-Reset-clause-payload g c =
-    IfOk-weaker c.started.result _ _ (λ b is. unless-start c.active_refusal.result _ (start_of b) tt is) c.started.ensures
+    IfOk-weaker c.begin_unless.result _ _ (λ b is. unless-start c.active_refusal.result _ (start_of b) tt is) c.begin_unless.ensures
 
 pub returns-in-SetStorage-clause-payload : goal.returns-in-SetStorage-clause-payload
 returns-in-SetStorage-clause-payload g c =

@@ -5,7 +5,7 @@ use Rattle.xfs_dispenser.proofs.CommandLaws.{dispense-active, dispense-invalid, 
 use Rattle.xfs_dispenser.proofs.commands.dispense.Goals as goal
 
 pub returns-in-Some-clause-dispensed : goal.returns-in-Some-clause-dispensed
-returns-in-Some-clause-dispensed g c = IfOk-weaker c.refused.result _ _ (λ b told. dispense-invalid _ c.args.exchange c.args.notes.now c.args.token.now c.in-Some.refusal _ (sym c.members_refusal.ensures ∙ c.in-Some.is) told) c.refused.ensures.told
+returns-in-Some-clause-dispensed g c = IfOk-weaker c.tell_refusal.result _ _ (λ b told. dispense-invalid _ c.args.exchange c.args.notes.now c.args.token.now c.in-Some.refusal _ (sym c.members_refusal.ensures ∙ c.in-Some.is) told) c.tell_refusal.ensures.told
 
 pub returns-in-Some-clause-proceeds : goal.returns-in-Some-clause-proceeds
 returns-in-Some-clause-proceeds g c = Proceeds-same g.D.Disk _ g.met.D.Disk.only_now
@@ -14,8 +14,8 @@ pub returns-in-Some-clause-keeps : goal.returns-in-Some-clause-keeps
 returns-in-Some-clause-keeps g c = λ upheld. Keeps-same g.D.Disk _ g.met.D.Disk.only_now upheld
 
 pub returns-in-Some-active_refusal-clause-dispensed : goal.returns-in-Some-active_refusal-clause-dispensed
-returns-in-Some-active_refusal-clause-dispensed g c = IfOk-weaker c.refused-in-Some-active_refusal.result _ _
-    (λ b told. dispense-active _ c.args.exchange c.args.notes.now c.args.token.now c.in-Some-active_refusal.refusal _ (sym c.members_refusal.ensures ∙ c.in_default.is) (sym c.active_refusal.ensures ∙ c.in-Some-active_refusal.is) told) c.refused-in-Some-active_refusal.ensures.told
+returns-in-Some-active_refusal-clause-dispensed g c = IfOk-weaker c.tell_refusal-in-Some-active_refusal.result _ _
+    (λ b told. dispense-active _ c.args.exchange c.args.notes.now c.args.token.now c.in-Some-active_refusal.refusal _ (sym c.members_refusal.ensures ∙ c.in_default.is) (sym c.active_refusal.ensures ∙ c.in-Some-active_refusal.is) told) c.tell_refusal-in-Some-active_refusal.ensures.told
 
 pub returns-in-Some-active_refusal-clause-proceeds : goal.returns-in-Some-active_refusal-clause-proceeds
 returns-in-Some-active_refusal-clause-proceeds g c = Proceeds-same g.D.Disk _ g.met.D.Disk.only_now
@@ -24,5 +24,5 @@ pub returns-in-Some-active_refusal-clause-keeps : goal.returns-in-Some-active_re
 returns-in-Some-active_refusal-clause-keeps g c = λ upheld. Keeps-same g.D.Disk _ g.met.D.Disk.only_now upheld
 
 pub returns-in-Err-clause-dispensed : goal.returns-in-Err-clause-dispensed
-returns-in-Err-clause-dispensed g c = IfOk-weaker c.refused-in-Err.result _ _
-    (λ b told. dispense-refused _ c.args.exchange c.args.notes.now c.args.token.now _ _ c.in-Err.refusal _ (sym c.members_refusal.ensures ∙ c.in_default.is) (sym c.active_refusal.ensures ∙ c.in_default-active_refusal.is) c.text_of.ensures c.in-Err.ensures.leave told) c.refused-in-Err.ensures.told
+returns-in-Err-clause-dispensed g c = IfOk-weaker c.tell_refusal-in-Err.result _ _
+    (λ b told. dispense-refused _ c.args.exchange c.args.notes.now c.args.token.now _ _ c.in-Err.refusal _ (sym c.members_refusal.ensures ∙ c.in_default.is) (sym c.active_refusal.ensures ∙ c.in_default-active_refusal.is) c.token_text.ensures c.in-Err.ensures.grant told) c.tell_refusal-in-Err.ensures.told

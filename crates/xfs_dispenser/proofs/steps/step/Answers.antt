@@ -1,14 +1,14 @@
 use Rattle.std.proofs.Common.{drop}
 use Rattle.xfs_dispenser.specs.declared.part.Part.TheVariants.{Load}
 use Rattle.std.proofs.lemmas.Result.{IfOk-weaker}
-use Rattle.xfs_dispenser.proofs.StepLaws.{Keeps-fewer, act-adds}
+use Rattle.xfs_dispenser.proofs.StepLaws.{Keeps-fewer, KeepsStep-done, act-adds}
 use Rattle.xfs_dispenser.proofs.WorkLaws.{first-is, none-open, works-part}
 use Rattle.xfs_dispenser.proofs.steps.step.Goals as goal
 
-pub returns-then-is_some-clause-keeps : goal.returns-then-is_some-clause-keeps
-returns-then-is_some-clause-keeps g c =
+pub returns-then-is_some-clause-guard : goal.returns-then-is_some-clause-guard
+returns-then-is_some-clause-guard g c =
     let a = c.act.ensures.acted.acts in
-    Keeps-fewer g.D.Disk _ _ c.args.guard.now c.act.new.guard (λ e may. act-adds _ c.args.plan.now a.kind a.counts a.written e may) c.act.ensures.keeps
+    KeepsStep-done g.D.Disk _ c.act.result c.args.guard.now c.act.new.guard (Keeps-fewer g.D.Disk _ _ c.args.guard.now c.act.new.guard (λ e may. act-adds _ c.args.plan.now a.kind a.counts a.written e may) c.act.ensures.keeps)
 
 pub returns-in-Load-clause-works : goal.returns-in-Load-clause-works
 returns-in-Load-clause-works g c =

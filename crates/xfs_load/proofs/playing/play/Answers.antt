@@ -54,7 +54,7 @@ returns-in_err-round-clause-memory g c =
 pub returns-clause-plays : goal.returns-clause-plays
 returns-clause-plays g c =
     let end : c.loop-i.i ≡ c.args.rounds = omega (arith, c.loop-i-test.false, c.loop-i.auto.i-end) in
-    let told : c.of.result ≡ summary_of c.args.rounds c.refused.result c.units.result.now c.behind.result.now = c.of.ensures in
+    let told : c.of.result ≡ summary_of c.args.rounds c.refusals.result c.units.result.now c.behind.result.now = c.of.ensures in
     let units = c.loop-i.invariant.proceeds.continues.units ∙ ap (λ (v : GuardView g.row.D.Denot). v.state.units) c.join.ensures.guard in
     record {
       client = c.loop-i.client;
@@ -64,7 +64,7 @@ returns-clause-plays g c =
         joins = rw c.in-Ok.is at c.join.ensures.step;
         plays = rw (end, c.new-client.ensures) at c.loop-i.invariant.plays;
       };
-      is = rw (c.refused.ensures, c.units.ensures, units, c.behind.ensures, c.older-before.ensures.count) at told;
+      is = rw (c.refusals.ensures, c.units.ensures, units, c.behind.ensures, c.older-before.ensures.count) at told;
     }
 
 pub behind-requires-clause-kept : goal.behind-requires-clause-kept

@@ -69,8 +69,8 @@ returns-in-Card-clause-keeps g c = λ upheld. Keeps-same g.D.Disk _ g.met.D.Disk
 pub returns-in-Entry-clause-begins : goal.returns-in-Entry-clause-begins
 returns-in-Entry-clause-begins g c = on_ok_weaker c.begin_entry.result (λ begins s.
     let before = at_begin s (seen g.D.Disk c.args.guard.now) c.args.exchange.now c.args.slot.now c.args.keypad.now c.args.connections.now c.args.queues.now in
-    begun before (at_begin s (seen g.D.Disk c.args.guard.now) c.args.exchange.now c.args.slot.now c.begin_entry.new.keypad c.args.connections.now c.begin_entry.new.queues) c.args.service c.in-Some.command.now (entry c.copied-ask.result)
-    (rw c.at.ensures at (sym c.in-Some.ensures.first)) c.requires.idle (rw (← c.command.view_is) (ap ask_seen c.in-Entry.is ∙ ap entry (sym c.copied-ask.ensures)))
+    begun before (at_begin s (seen g.D.Disk c.args.guard.now) c.args.exchange.now c.args.slot.now c.begin_entry.new.keypad c.args.connections.now c.begin_entry.new.queues) c.args.service c.in-Some.command.now (entry c.copy-ask.result)
+    (rw c.at.ensures at (sym c.in-Some.ensures.first)) c.requires.idle (rw (← c.command.view_is) (ap ask_seen c.in-Entry.is ∙ ap entry (sym c.copy-ask.ensures)))
     (begins before c.in-Some.command.now c.ticket-ticket.ensures)) c.begin_entry.ensures.begins
 
 pub returns-in-Entry-clause-proceeds : goal.returns-in-Entry-clause-proceeds

@@ -1,6 +1,6 @@
 use Rattle.std.proofs.Common.{◌≡◌, [], ◌∷◌, refl}
 use Rattle.serde_json.specs.View.{view}
-use Rattle.xfs_card.specs.Table.{ask_insert, seen}
+use Rattle.xfs_card.specs.Table.{ask_insert, effect_of}
 use Rattle.xfs_card.specs.declared.ask.CardAsk.TheVariants.{Read}
 use Rattle.xfs_queue.specs.Commands.{is_waiting}
 use Rattle.xfs_model.specs.State.{queue_of}
@@ -17,7 +17,7 @@ set_result-requires c = waits_there (λ b. is_waiting b.stage) c.args.ticket (qu
 
 pub unreachable-requires : goal.unreachable-requires
 unreachable-requires c =
-    read_else c.in-Ok.effect (read_effects c.args.tracks c.args.slot.now (seen c.in-Ok.effect) c.step.new.state c.in-Ok.ensures.row) c.in_default-effect.not-AskInsert c.in_default-effect.not-Done
+    read_else c.in-Ok.effect (read_effects c.args.tracks c.args.slot.now (effect_of c.in-Ok.effect) c.step.new.state c.in-Ok.ensures.row) c.in_default-effect.not-AskInsert c.in_default-effect.not-Done
 
 pub returns-in-AskInsert-clause-begins : goal.returns-in-AskInsert-clause-begins
 returns-in-AskInsert-clause-begins c = λ s a same.

@@ -1,6 +1,6 @@
 use Rattle.std.proofs.Common.{◌<◌, length, length-set, arith, ◌∙◌}
 use Rattle.std.proofs.lemmas.List.Edits.{map_over_more}
-use Rattle.xfs_machine.specs.Withdrawals.{taken_back}
+use Rattle.xfs_machine.specs.TakenBack.{taken_back}
 use Rattle.xfs_machine.proofs.connections.take_back.Goals as goal
 
 pub loop-i-preserved : goal.loop-i-preserved

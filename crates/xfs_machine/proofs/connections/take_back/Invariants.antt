@@ -1,5 +1,5 @@
 use Rattle.std.proofs.Common.{◌≡◌, ◌++◌, map, take, drop, length}
-use Rattle.xfs_machine.specs.Withdrawals.{taken_back}
+use Rattle.xfs_machine.specs.TakenBack.{taken_back}
 use Rattle.xfs_machine.proofs.connections.take_back.Given as goal
 
 abbrev pub invariant-loop-i : goal.invariant-loop-i

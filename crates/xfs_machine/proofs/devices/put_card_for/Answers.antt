@@ -1,7 +1,7 @@
 use Rattle.std.proofs.Common.{◌≡◌, [], ◌∷◌, refl}
 use Rattle.serde_json.specs.View.{view}
 use Rattle.xfs_base.specs.declared.moment.Service.TheVariants.{Card}
-use Rattle.xfs_card.specs.Table.{inserted, nothing, seen}
+use Rattle.xfs_card.specs.Table.{inserted, nothing, effect_of}
 use Rattle.xfs_card.specs.declared.state.CardEvent.TheVariants.{Inserted}
 use Rattle.xfs_model.specs.Devices.{card_says, with_slot}
 use Rattle.xfs_machine.specs.Parts.{at_card}
@@ -30,4 +30,4 @@ pub returns-in_default-clause-memory : goal.returns-in_default-clause-memory
 returns-in_default-clause-memory c = (c.in_default.ensures.memory, c.unsend.ensures c.args.connections.now c.in_ok-frame.frame c.in_ok-send.ensures.ok, refl)
 
 pub unreachable-requires : goal.unreachable-requires
-unreachable-requires c = nothing_else c.in-Ok.effect (inserted_effects c.args.card c.args.slot.now (seen c.in-Ok.effect) c.step.new.state c.in-Ok.ensures.row) c.in_default-effect.not-Nothing c.in_default-effect.not-Inserted
+unreachable-requires c = nothing_else c.in-Ok.effect (inserted_effects c.args.card c.args.slot.now (effect_of c.in-Ok.effect) c.step.new.state c.in-Ok.ensures.row) c.in_default-effect.not-Nothing c.in_default-effect.not-Inserted

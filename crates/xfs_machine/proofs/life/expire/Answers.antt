@@ -20,15 +20,15 @@ returns-in_err-announce-clause-proceeds g c = Proceeds-same g.D.Disk _ g.met.D.D
 pub returns-in-Ok-clause-ends : goal.returns-in-Ok-clause-ends
 returns-in-Ok-clause-ends g c = λ s.
     life_ended (record s { seen = seen g.D.Disk c.args.guard.now; connections = c.args.connections.now }) (seen g.D.Disk c.expire.new.self) c.in_ok-frame.frame c.announce.new.self c.in_ok-frame.ensures
-    c.in-Ok.ensures.expired c.expire.ensures.keeps.proceeds.disk_faults (rw c.list.ensures at c.in_ok-announce.ensures.ok)
+    c.in-Ok.ensures.expired c.expire.ensures.writes.keeps.proceeds.disk_faults (rw c.list.ensures at c.in_ok-announce.ensures.ok)
 
 pub returns-then-eq-clause-memory : goal.returns-then-eq-clause-memory
 returns-then-eq-clause-memory g c =
-    (c.in-Err.ensures.same (λ f. false≢true (sym (rw f at c.eq.ensures) ∙ c.if-eq.true)), c.take_back.ensures c.args.connections.now c.in_ok-frame.frame (rw c.list.ensures at c.in_ok-announce.ensures.ok))
+    (c.in-Err.ensures.writes.same (λ f. false≢true (sym (rw f at c.eq.ensures) ∙ c.if-eq.true)), c.take_back.ensures c.args.connections.now c.in_ok-frame.frame (rw c.list.ensures at c.in_ok-announce.ensures.ok))
 
 pub returns-clause-ends : goal.returns-clause-ends
 returns-clause-ends g c = λ s.
     let e = write_fault Unit c.in-Err.deny _ c.requires.fit c.in-Err.ensures.refused (λ m. false≢true (sym c.if-eq.false ∙ (rw m at c.eq.ensures))) in
     let back : c.take_back.new.self ≡ c.args.connections.now = c.take_back.ensures c.args.connections.now c.in_ok-frame.frame (rw c.list.ensures at c.in_ok-announce.ensures.ok) in
     rw back (life_unended (record s { seen = seen g.D.Disk c.args.guard.now; connections = c.args.connections.now }) (seen g.D.Disk c.expire.new.self)
-    (c.expire.ensures.disk (c.in-Err.is ∙ ap Err e)) c.expire.ensures.keeps.proceeds.disk_faults (c.expire.ensures.cause (c.in-Err.is ∙ ap Err e)))
+    (c.expire.ensures.writes.disk (c.in-Err.is ∙ ap Err e)) c.expire.ensures.writes.keeps.proceeds.disk_faults (c.expire.ensures.writes.cause (c.in-Err.is ∙ ap Err e)))

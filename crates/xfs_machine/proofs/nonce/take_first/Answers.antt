@@ -25,18 +25,18 @@ returns-clause-takes g c = λ s.
           let is : c.if-due.outcome ≡ plain TimeOut = w.outcome-is ∙ (rw (w.nothing.ensures) at w.new-outcome.ensures) in
           rw (w.guard-is, w.issued-is) (nonce_late before a c.due.result c.set_result.new.self first valid is_due w.if-due.true (rw (c.ticket-ticket.ensures, is) at c.set_result.ensures))
       | else-due+in_ok-outcome w ↦
-          rw (w.guard-is, w.issued-is) (nonce_done before a c.due.result c.if-due.outcome (seen g.D.Disk w.done.new.guard) w.done.new.issued c.set_result.new.self first valid is_due w.if-due.false
+          rw (w.guard-is, w.issued-is) (nonce_done before a c.due.result c.if-due.outcome (seen g.D.Disk w.do_ask.new.guard) w.do_ask.new.issued c.set_result.new.self first valid is_due w.if-due.false
           (rw (← c.command.view_is, w.outcome-is) (w.in_ok-outcome.ensures.done before)) (rw c.ticket-ticket.ensures at c.set_result.ensures))
     ]
 
 pub returns-clause-proceeds : goal.returns-clause-proceeds
 returns-clause-proceeds g c = elim c.if-due.branch [
   | then-due w ↦ rw (w.guard-is) (Proceeds-same g.D.Disk _ g.met.D.Disk.only_now)
-  | else-due+in_ok-outcome w ↦ rw (w.guard-is) w.done.ensures.proceeds
+  | else-due+in_ok-outcome w ↦ rw (w.guard-is) w.do_ask.ensures.proceeds
 ]
 
 pub returns-clause-keeps : goal.returns-clause-keeps
 returns-clause-keeps g c = λ upheld. elim c.if-due.branch [
   | then-due w ↦ rw (w.guard-is) (Keeps-same g.D.Disk _ g.met.D.Disk.only_now upheld)
-  | else-due+in_ok-outcome w ↦ rw (w.guard-is) w.done.ensures.keeps
+  | else-due+in_ok-outcome w ↦ rw (w.guard-is) w.do_ask.ensures.keeps
 ]

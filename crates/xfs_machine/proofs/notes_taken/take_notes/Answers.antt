@@ -16,11 +16,11 @@ returns-then-outcome-clause-takes g c =
     let o = c.in_ok-outcome in
     λ s. notes_failed (record s { seen = seen g.D.Disk c.args.guard.now }) (seen g.D.Disk c.taken.new.self) o.outcome.moved o.outcome.diverted o.outcome.failed
     (sym c.is_shutter_closed.ensures ∙ c.if-is_shutter_closed.false) c.if-outcome.true o.ensures.lie o.ensures.ok
-    (record { later = c.taken.ensures.keeps.proceeds.mech_faults; cause = o.ensures.cause; disk_same = ap g.D.Disk.faults c.taken.ensures.same })
+    (record { later = c.taken.ensures.uses.keeps.proceeds.mech_faults; cause = o.ensures.uses.cause; disk_same = ap g.D.Disk.faults c.taken.ensures.uses.same })
 
 pub returns-clause-takes : goal.returns-clause-takes
 returns-clause-takes g c =
     let o = c.in_ok-outcome in
     λ s. notes_took (record s { seen = seen g.D.Disk c.args.guard.now }) (seen g.D.Disk c.taken.new.self) o.outcome.moved o.outcome.diverted o.outcome.failed
     (sym c.is_shutter_closed.ensures ∙ c.if-is_shutter_closed.false) c.if-outcome.false o.ensures.lie o.ensures.ok
-    (record { later = c.taken.ensures.keeps.proceeds.mech_faults; cause = o.ensures.cause; disk_same = ap g.D.Disk.faults c.taken.ensures.same })
+    (record { later = c.taken.ensures.uses.keeps.proceeds.mech_faults; cause = o.ensures.uses.cause; disk_same = ap g.D.Disk.faults c.taken.ensures.uses.same })

@@ -48,14 +48,18 @@ returns-in-Ok-clause-works g c = λ s.
     (record c.args.queues.now { cash = c.take_plan.new.queue }) c.step_on.new.queues runs_ (taken ∙ c.in-Some-take_plan.is) valid c.in-Ok.ensures.works (rw (c.is_live-lived.ensures, c.is_live.ensures) refl) first
     (rw c.ticket-ticket.ensures at c.step_on.ensures)
 
-pub returns-in-Ok-clause-keeps : goal.returns-in-Ok-clause-keeps
-returns-in-Ok-clause-keeps g c =
+pub returns-in-Ok-clause-guard : goal.returns-in-Ok-clause-guard
+returns-in-Ok-clause-guard g c =
     let a = c.in-Some.command.now in
     let runs_ : find (λ b. is_running b.stage) c.args.queues.now.cash ≡ Some a = rw c.at.ensures at (sym c.in-Some.ensures.first) in
     let valid : IsQueue c.args.queues.now.cash = rw c.at.ensures at c.in-Some.ensures.valid in
     let had : option_map (λ (b : Command Job). b.job.plan) (find (is_at (ticket_of a)) c.args.queues.now.cash) ≡ Some c.take_plan.result = rw (c.at_mut.ensures.now, c.ticket-ticket.ensures) at c.take_plan.ensures.had in
     let taken : a.job.plan ≡ c.take_plan.result = plan_taken c.args.queues.now.cash a c.take_plan.result runs_ valid had in
-    Keeps-fewer g.D.Disk _ _ _ _ (step_adds c.args.guard.now.state c.args.queues.now.cash a c.in-Some-take_plan.plan runs_ (taken ∙ c.in-Some-take_plan.is)) c.in-Ok.ensures.keeps
+    record {
+      proceeds = c.in-Ok.ensures.guard.proceeds;
+      keeps = Keeps-fewer g.D.Disk _ _ _ _ (step_adds c.args.guard.now.state c.args.queues.now.cash a c.in-Some-take_plan.plan runs_ (taken ∙ c.in-Some-take_plan.is)) c.in-Ok.ensures.guard.keeps;
+      still = λ upheld. tt;
+    }
 
 pub returns-in-Err-clause-memory : goal.returns-in-Err-clause-memory
 returns-in-Err-clause-memory g c =

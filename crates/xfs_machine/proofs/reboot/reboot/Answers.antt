@@ -11,4 +11,4 @@ returns-clause-ok g c =
 pub returns-clause-cause : goal.returns-clause-cause
 returns-clause-cause g c =
     let r = c.reboot.ensures in
-    refuses_as (g.D.Disk.held c.args.guard.now.disk ≡ None) c.reboot.result (seen g.D.Disk c.args.guard.now) (seen g.D.Disk c.reboot.new.self) r.memory r.full r.disk r.not_journal r.untold r.cause r.keeps.proceeds.disk_faults
+    refuses_as (g.D.Disk.held c.args.guard.now.disk ≡ None) c.reboot.result (seen g.D.Disk c.args.guard.now) (seen g.D.Disk c.reboot.new.self) r.refuses.memory r.refuses.full r.refuses.disk r.refuses.not_journal r.refuses.untold r.refuses.cause r.keeps.proceeds.disk_faults

@@ -11,7 +11,7 @@ use Rattle.xfs_machine.proofs.stopping.stop_running.Goals.{then-command, else-co
 
 pub unreachable-requires : goal.unreachable-requires
 unreachable-requires c =
-    false≢true (sym (none_runs (λ a. a.marked || is_due c.args.now a) (queue_of c.args.queues.now c.args.service) (sym (rw (c.in_default.is, c.at.ensures) at c.running.ensures.first))) ∙ c.requires)
+    false≢true (sym (none_runs (λ a. a.marked || is_due c.args.now a) (queue_of c.args.queues.now c.args.service) (sym (rw (c.in_default.is, c.at.ensures) at c.running_command.ensures.first))) ∙ c.requires)
 
 pub returns-clause-stops : goal.returns-clause-stops
 returns-clause-stops c = λ s.

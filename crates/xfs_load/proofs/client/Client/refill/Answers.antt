@@ -2,7 +2,7 @@ use Rattle.std.proofs.Common.{[], ◌∷◌, refl}
 use Rattle.std.proofs.lemmas.Result.{on_err_weaker, on_ok_weaker}
 use Rattle.xfs_guard.proofs.KeepsLaws.{Proceeds-trans}
 use Rattle.xfs_load.specs.Generator.{refill, say}
-use Rattle.xfs_load.specs.Plays.{Does, DoesInPart, Plays, PlaysInPart}
+use Rattle.xfs_load.specs.Plays.{DoesDeed, DoesInPart, Plays, PlaysInPart}
 use Rattle.xfs_load.specs.declared.ask.Ask.TheVariants.{StartExchange, Refill, EndExchange}
 use Rattle.xfs_load.proofs.RestLaws.{on-err}
 use Rattle.xfs_load.proofs.PlayLaws.{part-first, part-next}
@@ -19,7 +19,7 @@ returns-in_err-say-2-clause-proceeds g c = Proceeds-trans g.D.Disk _ _ _ g.met.D
 
 pub returns-clause-plays : goal.returns-clause-plays
 returns-clause-plays g c =
-    let plays : Does (say EndExchange) c.say-2.new.self c.say-2.new.machine.state c.say-3.new.self c.say-3.new.machine.state → Plays refill c.args.self.now c.args.machine.now.state c.say-3.new.self c.say-3.new.machine.state
+    let plays : DoesDeed (say EndExchange) c.say-2.new.self c.say-2.new.machine.state c.say-3.new.self c.say-3.new.machine.state → Plays refill c.args.self.now c.args.machine.now.state c.say-3.new.self c.say-3.new.machine.state
     = λ does. record {
       client = c.say.new.self;
       between = c.say.new.machine.state;

@@ -1,5 +1,5 @@
 use Rattle.std.proofs.Common.{◌≡◌, length, map, ap, arith, ◌∙◌}
-use Rattle.xfs_machine.specs.Withdrawals.{taken_back}
+use Rattle.xfs_machine.specs.TakenBack.{taken_back}
 use Rattle.xfs_machine.proofs.Announced.{back_all, map_back}
 use Rattle.xfs_machine.proofs.Places.{rising_back}
 use Rattle.xfs_machine.proofs.connections.Connections.take_back.Goals as goal

@@ -1,3 +1,0 @@
-pub mod Chronicles
-pub mod Sent
-pub mod Unserved
