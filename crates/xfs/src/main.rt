@@ -25,10 +25,10 @@ use xfs_simulated::{
 };
 use xfs_sockets::{OpenFault, Origins, PORTS, Ports, TcpDoors};
 use xfs_start::{Folder, StartFault, server_bench};
-use xfs_words::{Command, spelled};
+use xfs_words::{Command, name_command};
 
 fn main(rt: HostRuntime) -> ExitCode {
-    let status = match started(&rt, &rt) {
+    let status = match start(&rt, &rt) {
         Ok(status) => status,
         Err(fault) => tell_fault(&rt, fault),
     };
@@ -36,12 +36,12 @@ fn main(rt: HostRuntime) -> ExitCode {
 }
 
 // Threads and waiting are had from `rt`; files, sockets and streams from `host`.
-fn started<R: Threads + Wait + Sync>(rt: &R, host: &HostRuntime) -> Result<u8, StartFault> {
+fn start<R: Threads + Wait + Sync>(rt: &R, host: &HostRuntime) -> Result<u8, StartFault> {
     let folder = Folder::new(host, ".");
     let secrets = folder.secrets()?;
     let setup = folder.setup()?;
     let words = read_words(host)?;
-    match spelled(&words) {
+    match name_command(&words) {
         Some(Command::Serve(connections)) => {
             serve(rt, host, &words, connections, secrets, setup)
         }
@@ -116,7 +116,7 @@ fn other<R: Threads + Wait + Sync>(
     let second = second_core(alloc).ok_or(StartFault::Memory)?;
     let bench = quiet_bench(alloc, core, second);
     let (status, link) = run_over(rt, host, words, bench, &clock, &mut doors);
-    if let Some((port, why)) = doors.unreached() {
+    if let Some((port, why)) = doors.last_unreached() {
         tell_unreached(host, port, why);
     }
     if let Some(link) = link {

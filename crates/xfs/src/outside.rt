@@ -22,14 +22,14 @@ const BAD_FILE: u8 = 2;
 /// The words of the command line behind the program's name. A word that is no text is of no table: no words have the
 /// same status.
 pub fn read_words(rt: &HostRuntime) -> Result<Vec<String>, StartFault> {
-    match listed(rt) {
+    match list_words(rt) {
         Ok(words) => Ok(words),
         Err(error) if error.kind() == ErrorKind::OutOfMemory => Err(StartFault::Memory),
         Err(_) => Ok(Vec::new(rt.alloc())),
     }
 }
 
-fn listed(rt: &HostRuntime) -> io::Result<Vec<String>> {
+fn list_words(rt: &HostRuntime) -> io::Result<Vec<String>> {
     let mut words = Vec::new(rt.alloc());
     for word in env::args(rt)?.skip(1) {
         words.push(word)?;

@@ -13,9 +13,10 @@ use Rattle.xfs_script.specs.declared.answerer.Ending.TheVariants.{AtEnd, Read, Q
 use Rattle.xfs_script.proofs.AnswerLaws.{Appends-both, Appends-none}
 use Rattle.xfs_cli.specs.AuditRuns.{Audits, Concludes, IsAudited, Judges}
 use Rattle.xfs_cli.specs.AuditVerbs.{Handed, HandsIn, audit_lines, nothing}
-use Rattle.xfs_cli.specs.Served.{WritesLast, last_line, status_of}
-use Rattle.xfs_cli.specs.Streams.{Streams}
-use Rattle.xfs_cli.proofs.LastLaws.{last-later, prefix-behind}
+use Rattle.xfs_cli.specs.InputEnds.{ending_line, ending_status}
+use Rattle.xfs_script.specs.Streams.{Streams, Output, output_of}
+use Rattle.xfs_script.proofs.LastLaws.{last-later, prefix-behind}
+use Rattle.xfs_script.specs.LastLines.{WritesLast}
 
 -- no line answers lines that hand something in
 silent : (h end : Handed) (lines output : List (List ℕ)) → AnswersEach HandsIn h lines output end → output ≡ []
@@ -56,9 +57,9 @@ still ending end left before after text a = record {
 
 -- ---- what is written behind nothing
 
-pub last-behind : (lines : List (List ℕ)) (faults now : ℕ) (before middle after : Option (List ℕ)) → Appends before middle [] → WritesLast lines faults now middle after → WritesLast lines faults now before after
-last-behind lines faults now before middle after none (inl whole) = inl (Appends-both before middle after [] (lines_text lines) none whole)
-last-behind lines faults now before middle after none (inr broken) = inr (broken.0, prefix-behind before middle after [] (lines_text lines) none broken.1)
+pub last-behind : (lines : List (List ℕ)) (before : Option (List ℕ)) (o : Output) → Appends before o.held [] → WritesLast lines o → WritesLast lines (record o { held = before })
+last-behind lines before o none (inl whole) = inl (Appends-both before o.held o.held_now [] (lines_text lines) none whole)
+last-behind lines before o none (inr broken) = inr (broken.0, prefix-behind before o.held o.held_now [] (lines_text lines) none broken.1)
 
 pub judges-behind : (key : List ℕ) (units : List NoteKind) (h : Handed) (status : ℕ) (before middle after : Option (List ℕ)) → Appends before middle [] → Judges key units h status middle after → Judges key units h status before after
 judges-behind key units h status before middle after none (inl whole) =
@@ -115,15 +116,15 @@ audits-end key units status io start h ending middle text none is answers judges
 
 -- otherwise
 pub audits-other : (key : List ℕ) (units : List NoteKind) (status : ℕ) (io : Streams) (start h : Handed) (ending : Ending BootFault) (faults : ℕ) (middle : Option (List ℕ)) (text : List ℕ)
-    → start ≡ nothing → (ending ≡ AtEnd → ⊥) → AnswersInput audit_lines ending start h io.left io.output middle text → io.write_faults ≤ faults → status ≡ status_of ending
-    → WritesLast (last_line ending) faults io.write_faults_now middle io.output_now → Audits key units status io text
+    → start ≡ nothing → (ending ≡ AtEnd → ⊥) → AnswersInput audit_lines ending start h io.left io.output middle text → io.write_faults ≤ faults → status ≡ ending_status ending
+    → WritesLast (ending_line ending) (record (output_of io) { faults = faults; held = middle }) → Audits key units status io text
 audits-other key units status io start h ending faults middle text none not answers later is last =
     let lines : AnswersInput audit_lines ending nothing h io.left io.output middle text = rw none at answers in
-    let whole = last-behind (last_line ending) io.write_faults io.write_faults_now io.output middle io.output_now (unwritten ending h io.left io.output middle text lines)
-    (last-later (last_line ending) io.write_faults faults io.write_faults_now middle io.output_now later last) in
+    let whole = last-behind (ending_line ending) io.output (record (output_of io) { held = middle }) (unwritten ending h io.left io.output middle text lines)
+    (last-later (ending_line ending) io.write_faults (record (output_of io) { faults = faults; held = middle }) later last) in
     record { handed = h; ending = ending; lines = still ending h io.left io.output middle text lines; concludes = concludes ending not (is, whole) }
   where
-    concludes : (ending : Ending BootFault) → (ending ≡ AtEnd → ⊥) → (status ≡ status_of ending) × WritesLast (last_line ending) io.write_faults io.write_faults_now io.output io.output_now
+    concludes : (ending : Ending BootFault) → (ending ≡ AtEnd → ⊥) → (status ≡ ending_status ending) × WritesLast (ending_line ending) (output_of io)
         → Concludes key units h ending status io
     concludes AtEnd not last = absurd (not refl)
     concludes Read not last = last

@@ -19,15 +19,15 @@ use Rattle.xfs_script.specs.Guard.{IsGuardLine}
 use Rattle.xfs_script.specs.declared.guard_line.GuardLine.{GuardLine}
 use Rattle.xfs_script.specs.declared.guard_line.GuardLine.TheVariants.{Skip, Issue, Mint, Dispense, Fill, Present, Reject, Retract, Take, Restart, Show}
 use Rattle.xfs_script.specs.declared.guard_line.GuardLine.TheVariants as Verb
-use Rattle.xfs_script.specs.Answered.{lines_text, Tells}
+use Rattle.xfs_script.specs.Answered.{lines_text, IsAnswerText}
 use Rattle.xfs_cli.specs.Begun.{AllOrNothing, IsBegun, IsPartDispensed, IsPartFilled, LeavesOfVerb}
 use Rattle.xfs_cli.specs.Dispenses.{Dispenses, IsAllowed}
 use Rattle.xfs_cli.specs.Moves.{MechCalled}
 use Rattle.xfs_cli.specs.Refused.{refusal_text}
 use Rattle.xfs_cli.specs.GuardStates.{GuardState, guard_of, guard_state}
-use Rattle.xfs_cli.specs.GuardVerbs.{AreAnswer, Clears, Fills, IsAnswer, IsLoaded, Mints}
+use Rattle.xfs_cli.specs.GuardVerbs.{AreGuardAnswer, Clears, Fills, IsGuardAnswer, IsLoaded, Mints}
 use Rattle.xfs_dispenser.specs.Carried.{StacksAll, StacksFirst}
-use Rattle.xfs_dispenser.specs.declared.leave.Leave.{Leave}
+use Rattle.xfs_dispenser.specs.declared.grant.Grant.{Grant}
 use Rattle.xfs_dispenser.specs.declared.refusal.Refusal.{Refusal}
 use Rattle.xfs_dispenser.specs.declared.refusal.Refusal.TheVariants.{Deny as Denied}
 use Rattle.xfs_cli.proofs.GuardStateLaws.{err-same, seen-same, told-some, wrote-kept}
@@ -76,7 +76,7 @@ pub verb-leaves : (s end : GuardState) (verb given : GuardLine) → given ≡ ve
 verb-leaves s end verb given is leaves = rw is leaves
 
 -- a line that answers a verb is all of its answer
-one-line : (s next : GuardState) (verb : GuardLine) (line : List ℕ) → IsAnswer s verb line next → AreAnswer s verb (line ∷ []) next
+one-line : (s next : GuardState) (verb : GuardLine) (line : List ℕ) → IsGuardAnswer s verb line next → AreGuardAnswer s verb (line ∷ []) next
 one-line s next Skip line is = absurd is
 one-line s next Issue line is = record { line = line; is = is; only = refl }
 one-line s next Verb.Clear line is = record { line = line; is = is; only = refl }
@@ -91,7 +91,7 @@ one-line s next Restart line is = record { line = line; is = is; only = refl }
 one-line s next Show line is = absurd is
 
 -- its bytes, where it is ended by a line feed
-pub tells-line : (s next : GuardState) (verb given : GuardLine) (line bytes : List ℕ) → given ≡ verb → IsAnswer s verb line next → bytes ≡ lines_text (line ∷ []) → Tells (AreAnswer s given) bytes next
+pub tells-line : (s next : GuardState) (verb given : GuardLine) (line bytes : List ℕ) → given ≡ verb → IsGuardAnswer s verb line next → bytes ≡ lines_text (line ∷ []) → IsAnswerText (AreGuardAnswer s given) bytes next
 tells-line s next verb given line bytes is answer text = rw is (record { output = line ∷ []; answer = one-line s next verb line answer; text = text })
 
 -- what is left of a verb is left of the line that reads as it
@@ -140,16 +140,16 @@ pub seen-both : {D : Type 0} (faults : D → ℕ) (old new : GuardView D) (last 
 seen-both {D} faults old new last last' same token = ap (λ (g : GuardView D). guard_state faults g last') same ∙ ap (λ t. guard_state faults old t) token
 
 -- the orders of a dispense end in a refusal, which may be want of memory
-pub ordered-or-part : (s bound next : GuardState) (token : Option (List ℕ)) (counts : CountsOf) (leave : Leave) (deny : Deny) → IsAllowed s token counts (Ok leave) bound → next.last ≡ bound.last
-    → (◌≡◌ {A = Result Outcome Deny} (Err deny) (Err Memory) → StacksFirst leave.issue leave.counts.0 (guard_of bound) (guard_of next))
-    → (◌≢◌ {A = Result Outcome Deny} (Err deny) (Err Memory) → StacksAll leave.issue leave.counts (guard_of bound) (Err deny) (guard_of next))
+pub ordered-or-part : (s bound next : GuardState) (token : Option (List ℕ)) (counts : CountsOf) (grant : Grant) (deny : Deny) → IsAllowed s token counts (Ok grant) bound → next.last ≡ bound.last
+    → (◌≡◌ {A = Result Outcome Deny} (Err deny) (Err Memory) → StacksFirst grant.issue grant.counts.0 (guard_of bound) (guard_of next))
+    → (◌≢◌ {A = Result Outcome Deny} (Err deny) (Err Memory) → StacksAll grant.issue grant.counts (guard_of bound) (Err deny) (guard_of next))
     → AllOrNothing (Dispenses s token counts) s next ⊎ IsPartDispensed s token counts next
-ordered-or-part s bound next token counts leave deny allowed last part stacked = elim (denied-text deny) [
-  | inl is ↦ inr (record { leave = leave; bound = bound; allowed = allowed; first = part (ap (λ d. Err d) is); last_is = last })
+ordered-or-part s bound next token counts grant deny allowed last part stacked = elim (denied-text deny) [
+  | inl is ↦ inr (record { grant = grant; bound = bound; allowed = allowed; first = part (ap (λ d. Err d) is); last_is = last })
   | inr text ↦ inl (inr (
     text.0,
     inr (record {
-      leave = leave;
+      grant = grant;
       bound = bound;
       allowed = allowed;
       result = Err deny;

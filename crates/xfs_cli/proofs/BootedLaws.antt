@@ -19,12 +19,12 @@ use Rattle.xfs_cli.specs.Restarts.{EndsRestart, HasNoRoom, IsFull, RestartCause}
 use Rattle.xfs_guard.specs.Entries.{AtEntry, opened}
 use Rattle.xfs_cli.specs.GuardStarts.{IsStart}
 use Rattle.xfs_cli.specs.Runs.{IsEnd, IsFullAtEnd, IsStillAt}
-use Rattle.xfs_cli.specs.Streams.{Streams}
+use Rattle.xfs_script.specs.Streams.{Streams}
 use Rattle.xfs_cli.specs.Returns.{Return}
 use Rattle.xfs_disk.specs.declared.disk.Disk.{Ghosts as Disks}
 use Rattle.xfs_mech.specs.declared.mechanism.Mechanism.{Ghosts as Mechanisms}
 use Rattle.xfs_script.specs.Commands.{Command}
-use Rattle.xfs_cli.specs.Served.{EndsUnbooted, Serves, status_of}
+use Rattle.xfs_cli.specs.InputEnds.{EndsUnbooted, EndsInput, ending_status}
 use Rattle.xfs_script.specs.Endings.{AnswersInput}
 use Rattle.xfs_script.specs.declared.answerer.Ending.TheVariants.{Ended}
 use Rattle.xfs_cli.proofs.EndingLaws.{is-boot}
@@ -148,15 +148,15 @@ ends-full BootMemory limits places held io status is written full twelve = absur
 -- under status 12 a restart found no room for its boot record
 pub full-line : {S : Type 0} (c : Command S BootFault) (see : S → GuardState) → EndsAtRestarts c see → (IsStartOf : S → Type 0) (Still : GuardState → Type 0) (start end : S) (status : ℕ) (io : Streams) → IsStartOf start
     → ((s : GuardState) → IsStill (see end).guard.motions (see end).guard.places (see end).guard.faults (see end).disk_faults s → Still s)
-    → IfTold io.input (Serves c start end status io) → status ≡ 12 → IfTold io.input (HasFullRestart (codes "restart") c see IsStartOf Still)
+    → IfTold io.input (EndsInput c start end status io) → status ≡ 12 → IfTold io.input (HasFullRestart (codes "restart") c see IsStartOf Still)
 full-line c see restarts IsStartOf Still start end status io begins more h twelve = told-more io.input _ _ (λ text h. go text h) h
   where
-    go : (text : List ℕ) → Serves c start end status io text → HasFullRestart (codes "restart") c see IsStartOf Still text
+    go : (text : List ℕ) → EndsInput c start end status io text → HasFullRestart (codes "restart") c see IsStartOf Still text
     go text h =
         let e = is-boot h.ending (inr (inr (sym h.status_is ∙ twelve))) in
         let a : AnswersInput c (Ended e.0) start end io.left io.output h.answered text = rw e.1 at h.answers in
         let r = restarts a.last (first_line (behind a.many text)) e.0 end a.ends.0 in
-        let full = full-then status e.0 (see a.last) (see end) (h.status_is ∙ ap status_of e.1) r.fails.cause twelve in
+        let full = full-then status e.0 (see a.last) (see end) (h.status_is ∙ ap ending_status e.1) r.fails.cause twelve in
         record {
           start = start;
           begins = begins;

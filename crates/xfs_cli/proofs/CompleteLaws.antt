@@ -34,78 +34,27 @@ use Rattle.xfs_script.specs.declared.guard_line.Given.{Given}
 use Rattle.xfs_script.specs.declared.guard_line.GuardLine.TheVariants.{Dispense, Present}
 use Rattle.xfs_cli.specs.Refused.{refusal_text}
 use Rattle.xfs_cli.specs.GuardStates.{GuardState, guard_of}
-use Rattle.xfs_cli.specs.Moves.{Moves, Tells}
+use Rattle.xfs_cli.specs.Moves.{Moves, IsOrderLine}
 use Rattle.xfs_cli.specs.Dispenses.{Dispenses, IsAllowed, IsOrdered, named}
 use Rattle.xfs_cli.specs.GuardTexts.{outcome_text}
-use Rattle.xfs_cli.specs.GuardVerbs.{AnswersGuard, AreAnswer}
+use Rattle.xfs_cli.specs.GuardVerbs.{AnswersGuard, AreGuardAnswer}
 use Rattle.xfs_cli.specs.Complete.{AnswersInFull, CanDispense, CanPresent, IsBindable, IsCalm, IsCoveredBy, IsDispensed, IsGood, IsPresented, moved_line}
 use Rattle.xfs_dispenser.specs.Carried.{nothing_stacked}
-use Rattle.xfs_dispenser.specs.Checks.{Grant, LeaveChecks, Permits, TokenChecks, granted_unless, within_budget}
+use Rattle.xfs_dispenser.specs.Checks.{Passed, GrantChecks, Permits, TokenChecks, passed_unless, within_budget}
 use Rattle.xfs_dispenser.specs.Denominations.{FirstOf, given_unless}
-use Rattle.xfs_dispenser.specs.declared.leave.Leave.{Leave}
+use Rattle.xfs_dispenser.specs.declared.grant.Grant.{Grant}
 use Rattle.xfs_dispenser.specs.declared.named.Named.TheVariants.{These}
 use Rattle.xfs_dispenser.specs.declared.notes.Notes.TheVariants.{Individual}
 use Rattle.xfs_dispenser.specs.declared.refusal.Refusal.{Refusal}
 use Rattle.xfs_dispenser.specs.declared.refusal.Refusal.TheVariants.{Deny as Denied}
 use Rattle.xfs_cli.proofs.DispenseLaws.{IsLet, is-let}
 use Rattle.xfs_cli.proofs.GuardStateLaws.{told-some}
-use Rattle.xfs_cli.proofs.CompleteOrders.{carries-full, present-places, calm-rest, IsGrown}
+use Rattle.xfs_dispenser.proofs.CompleteLaws.{fault-none, some-gained, some-nonce}
+use Rattle.xfs_dispenser.proofs.StackLaws.{present-places}
+use Rattle.xfs_dispenser.proofs.TurnLaws.{IsLater, calm-rest}
+use Rattle.xfs_cli.proofs.CompleteOrders.{carries-full}
 use Rattle.xfs_cli.proofs.CompleteStacks.{stacks-full}
 use Rattle.xfs_guard.proofs.CoveredLaws.{IsAhead, IsOpenFor, budget-none, nonce-push, claim-none, same-amounts, can-fit, present-free}
-
--- a list of counts is 0 everywhere where its sum is, and then alone
-zero-at : (xs : List ℕ) (w : ℕ) → is_none xs ≡ true → get_or xs w 0 ≡ 0
-zero-at [] w none = refl
-zero-at (zero ∷ xs) zero none = refl
-zero-at (zero ∷ xs) (suc w) none = zero-at xs w none
-zero-at (suc n ∷ xs) w none = absurd (never (suc n == 0) (is_none xs) (ne_eqb (suc n) 0 (λ e. omega (arith, e))) none)
-  where
-    never : (a b : Bool) → a ≡ false → (a && b) ≡ true → ⊥
-    never a b e f = (let g = rw e at f in cc)
-
-all-zero : (xs : List ℕ) → ((w : ℕ) → get_or xs w 0 ≡ 0) → is_none xs ≡ true
-all-zero [] none = refl
-all-zero (zero ∷ xs) none = all-zero xs (λ w. none (suc w))
-all-zero (suc n ∷ xs) none = (let e = none zero in absurd (omega (arith, e)))
-
-some-notes : (xs : List ℕ) → 1 ≤ sum xs → is_none xs ≡ false
-some-notes xs low = sym (sum_by-zero (λ x. x) xs) ∙ ne_eqb (sum xs) 0 (λ e. omega (arith, e, low))
-
--- notes that came to a place are some of those that lie there
-some-gained : (before now : CountsOf) (counts : CountsOf) → 1 ≤ sum counts.0 → ((w : ℕ) → at now w ≡ at before w + at counts w) → 1 ≤ sum now.0
-some-gained before now counts low gained = go (sum now.0) refl
-  where
-    go : (n : ℕ) → sum now.0 ≡ n → 1 ≤ sum now.0
-    go (suc n) e = omega (arith, e)
-    go zero e =
-        let none : is_none now.0 ≡ true = sym (sum_by-zero (λ x. x) now.0) ∙ ap (λ n. n == 0) e in
-        let all = all-zero counts.0 (λ w. let g = gained w in let z = zero-at now.0 w none in omega (arith, g, z)) in
-        let some = some-notes counts.0 low in
-        absurd (true≢false (sym all ∙ some))
-
-all-held : (have counts : List ℕ) → ((w : ℕ) → get_or counts w 0 ≤ get_or have w 0) → prefix_len (λ (p : ℕ × ℕ). not (nat_lt p.0 p.1)) (zip have counts) ≡ length (zip have counts)
-all-held [] counts lie = refl
-all-held (h ∷ hs) [] lie = refl
-all-held (h ∷ hs) (c ∷ cs) lie = let first : nat_lt h c ≡ false = le-ltb h c (lie 0) in let rest = all-held hs cs (λ w. lie (suc w)) in rw (first, rest) (omega arith)
-
--- counts that are covered are no fault
-fault-none : (v : View) (amounts : List (List ℕ × ℕ)) (counts : CountsOf) → IsCoveredBy v amounts counts → count_fault v.units v.places.units counts ≡ None
-fault-none v amounts counts c =
-    go (is_none counts.0) (is_none (drop (length v.units) counts.0)) (nat_lt 60 (sum counts.0)) (nat_lt (prefix_len test pairs) (length pairs)) (prefix_len test pairs)
-    (some-notes counts.0 c.low)
-    (all-zero (drop (length v.units) counts.0) (λ w. get_or-drop (length v.units) counts.0 w 0 ∙ c.table (length v.units + w) (omega arith)))
-    (le-ltb 60 (sum counts.0) c.high)
-    (le-ltb (prefix_len test pairs) (length pairs) (let e = all-held v.places.units.0 counts.0 c.lie in omega (arith, e)))
-  where
-    test : ℕ × ℕ → Bool
-    test p = not (nat_lt p.0 p.1)
-
-    pairs : List (ℕ × ℕ)
-    pairs = zip v.places.units.0 counts.0
-
-    go : (a b c d : Bool) (n : ℕ) → a ≡ false → b ≡ true → c ≡ false → d ≡ false
-        → (if a then Some Empty else if not b then Some Empty else if c then Some TooMany else option_map (λ at. ShortCount (at + 1)) (if d then Some n else None)) ≡ None
-    go a b c d n e f g h = rw (e, f, g, h) refl
 
 token-unrefused : (v : View) (bytes : List ℕ) (amounts : List (List ℕ × ℕ)) (deny : Deny) (line : List ℕ) → unfit v ≡ None → IsGood v bytes amounts → IsBindable v bytes
     → refusal_text (Denied deny) ≡ Some line → TokenRefused v bytes deny → ⊥
@@ -123,14 +72,14 @@ named-same token a b e f = (let g : Some a ≡ Some b = sym e ∙ f in cc)
 
 -- no check stands against it
 checks-passed : (v : View) (token : Option (List ℕ)) (bytes line : List ℕ) (counts : CountsOf) (refusal : Refusal) → token ≡ Some bytes → CanDispense v bytes counts → refusal_text refusal ≡ Some line
-    → LeaveChecks v (Individual (These counts)) token (Err refusal) → ⊥
+    → GrantChecks v (Individual (These counts)) token (Err refusal) → ⊥
 checks-passed v token bytes line counts refusal is c told checks =
     by-token (subst (λ t. TokenChecks v (Individual (These counts)) t (Err refusal)) is (subst (λ o. FirstOf (option_map (λ d. Denied d) o) (TokenChecks v (Individual (These counts)) token) (Err refusal)) fit checks))
   where
     fit : unfit v ≡ None
     fit = can-fit v bytes counts c
 
-    same-err : {a b : Refusal} → ◌≡◌ {A = Result Grant Refusal} (Err a) (Err b) → a ≡ b
+    same-err : {a b : Refusal} → ◌≡◌ {A = Result Passed Refusal} (Err a) (Err b) → a ≡ b
     same-err e = cc
 
     by-token : TokenChecks v (Individual (These counts)) (Some bytes) (Err refusal) → ⊥
@@ -139,23 +88,23 @@ checks-passed v token bytes line counts refusal is c told checks =
         let amounts = same-amounts v bytes c.amounts p.amounts c.good p.passes in
         let given : p.given ≡ Ok counts = p.gives ∙ ap (given_unless counts) (fault-none v c.amounts counts c.covered) in
         let over : over_budget v p.amounts counts ≡ None = ap (λ a. over_budget v a counts) amounts ∙ budget-none v c.amounts counts c.covered.enough in
-        let all = p.is ∙ (ap (within_budget v bytes p.amounts) given ∙ ap (granted_unless (record { token = bytes; amounts = p.amounts; counts = counts })) over) in
+        let all = p.is ∙ (ap (within_budget v bytes p.amounts) given ∙ ap (passed_unless (record { token = bytes; amounts = p.amounts; counts = counts })) over) in
         cc
 
 -- nor does a disk that doesn't fail
 allowed-no : (s : GuardState) (token : Option (List ℕ)) (bytes line : List ℕ) (counts : CountsOf) (refusal : Refusal) (next : GuardState) → token ≡ Some bytes → CanDispense s.guard bytes counts → IsCalm s next
     → refusal_text refusal ≡ Some line → IsAllowed s token counts (Err refusal) next → ⊥
-allowed-no s token bytes line counts refusal next is c calm told a = go a.leave.checked a.leave.checks a.leave.permits
+allowed-no s token bytes line counts refusal next is c calm told a = go a.grant.checked a.grant.checks a.grant.permits
   where
-    go : (r : Result Grant Refusal) → LeaveChecks s.guard (Individual (These counts)) token r → Permits (guard_of s) r (Err refusal) (guard_of next) → ⊥
-    go (Err r) checks (e, same) = (let f : refusal ≡ r = cc in checks-passed s.guard token bytes line counts refusal is c told (subst (λ x. LeaveChecks s.guard (Individual (These counts)) token (Err x)) (sym f) checks))
-    go (Ok grant) checks (inl p) = (let e : ◌≡◌ {A = Result Leave Refusal} (Err refusal) (Ok (record { issue = p.issue; counts = grant.counts })) = p.is in cc)
-    go (Ok grant) checks (inr u) = calm.disk u.fails.cause
+    go : (r : Result Passed Refusal) → GrantChecks s.guard (Individual (These counts)) token r → Permits (guard_of s) r (Err refusal) (guard_of next) → ⊥
+    go (Err r) checks (e, same) = (let f : refusal ≡ r = cc in checks-passed s.guard token bytes line counts refusal is c told (subst (λ x. GrantChecks s.guard (Individual (These counts)) token (Err x)) (sym f) checks))
+    go (Ok passed) checks (inl p) = (let e : ◌≡◌ {A = Result Grant Refusal} (Err refusal) (Ok (record { issue = p.issue; counts = passed.counts })) = p.is in cc)
+    go (Ok passed) checks (inr u) = calm.disk u.fails.cause
 
 -- the state whose token is bound
-allowed-open : (s : GuardState) (token : Option (List ℕ)) (bytes : List ℕ) (counts : CountsOf) (leave : Leave) (bound : GuardState) (c : CanDispense s.guard bytes counts) → token ≡ Some bytes → IsLet s token counts leave bound
-    → IsOpenFor bound.guard leave.issue c.amounts 8 × IsAhead bound.guard c.amounts counts.0 × (bound.guard.places ≡ s.guard.places)
-allowed-open s token bytes counts leave bound c is p = go c.binding
+allowed-open : (s : GuardState) (token : Option (List ℕ)) (bytes : List ℕ) (counts : CountsOf) (grant : Grant) (bound : GuardState) (c : CanDispense s.guard bytes counts) → token ≡ Some bytes → IsLet s token counts grant bound
+    → IsOpenFor bound.guard grant.issue c.amounts 8 × IsAhead bound.guard c.amounts counts.0 × (bound.guard.places ≡ s.guard.places)
+allowed-open s token bytes counts grant bound c is p = go c.binding
   where
     same : p.bytes ≡ bytes
     same = named-same token bytes p.bytes is p.is_named
@@ -166,7 +115,7 @@ allowed-open s token bytes counts leave bound c is p = go c.binding
     short : length bytes ≤ 1024
     short = c.good.genuine.spelled.short
 
-    go : IsBindable s.guard bytes → IsOpenFor bound.guard leave.issue c.amounts 8 × IsAhead bound.guard c.amounts counts.0 × (bound.guard.places ≡ s.guard.places)
+    go : IsBindable s.guard bytes → IsOpenFor bound.guard grant.issue c.amounts 8 × IsAhead bound.guard c.amounts counts.0 × (bound.guard.places ≡ s.guard.places)
     go (inl b) =
         let now : bound.guard ≡ s.guard = p.binds.again (λ none. let e : Some bytes ≡ None = sym b ∙ none in cc) in
         rw now (
@@ -198,24 +147,19 @@ allowed-open s token bytes counts leave bound c is p = go c.binding
           refl,
         )
 
--- a state in which the nonce of an issue lives has a live nonce
-some-nonce : (l : Option Nonce) (issue : ℕ) → option_map (λ (n : Nonce). n.number) l ≡ Some issue → (n : Nonce) × (l ≡ Some n)
-some-nonce None issue e = cc
-some-nonce (Some n) issue e = (n, refl)
-
 told-all : (outcome : Outcome) (counts : CountsOf) → outcome.failed ≡ false → outcome.moved.0 ≡ counts.0 → outcome_text (codes "moved") outcome ≡ moved_line counts
 told-all outcome counts fine moved = rw (fine, moved) refl
 
 ordered-full : (s next : GuardState) (token : Option (List ℕ)) (bytes line : List ℕ) (counts : CountsOf) → length counts.0 ≡ 8 → token ≡ Some bytes → CanDispense s.guard bytes counts → IsCalm s next
     → IsOrdered s token counts line next → IsDispensed s counts (line ∷ []) next
 ordered-full s next token bytes line counts eight is c calm o =
-    let ready = allowed-open s token bytes counts o.leave o.bound c is l in
-    let calm-on = calm-rest (guard_of s) (guard_of o.bound) (guard_of next) (bound-grown c.binding) calm in
+    let ready = allowed-open s token bytes counts o.grant o.bound c is l in
+    let calm-on = calm-rest (guard_of s) (guard_of o.bound) (guard_of next) (bound-later c.binding) calm in
     let stacked = rw l.counts_are at o.stacked in
-    let all = stacks-full o.leave.issue c.amounts counts.0 0 [] nothing_stacked (guard_of o.bound) o.result (guard_of next) refl (omega (arith, eight)) refl (rw eight refl)
+    let all = stacks-full o.grant.issue c.amounts counts.0 0 [] nothing_stacked (guard_of o.bound) o.result (guard_of next) refl (omega (arith, eight)) refl (rw eight refl)
     (rw eight ready.0) ready.1 calm-on stacked in
-    let told : Tells (codes "moved") (Ok all.outcome) line = rw all.is at o.told in
-    let lives = some-nonce (live_nonce next.guard.records) o.leave.issue all.open_for.lives in
+    let told : IsOrderLine (codes "moved") (Ok all.outcome) line = rw all.is at o.told in
+    let lives = some-nonce (live_nonce next.guard.records) o.grant.issue all.open_for.lives in
     let gained : (u : ℕ) → at next.guard.places.transport u ≡ at s.guard.places.transport u + at counts u = (λ u. rw ready.2 at (all.transport u)) in
     record {
       text = ap (λ l. l ∷ []) (told ∙ told-all all.outcome counts all.fine all.moved);
@@ -233,18 +177,18 @@ ordered-full s next token bytes line counts eight is c calm o =
       };
     }
   where
-    l : IsLet s token counts o.leave o.bound
-    l = is-let s token counts o.leave o.bound o.allowed
+    l : IsLet s token counts o.grant o.bound
+    l = is-let s token counts o.grant o.bound o.allowed
 
-    bound-grown : IsBindable s.guard bytes → IsGrown (guard_of s) (guard_of o.bound)
-    bound-grown (inl b) =
+    bound-later : IsBindable s.guard bytes → IsLater (guard_of s) (guard_of o.bound)
+    bound-later (inl b) =
         let now : o.bound.guard ≡ s.guard = l.binds.again (λ none. let e : Some bytes ≡ None = sym b ∙ none in cc) in
         let faults : o.bound.guard.faults ≡ s.guard.faults = ap (λ (v : View). v.faults) now in
-        record { mech = omega (arith, faults); disk = l.later; more = []; grown = ap (λ (v : View). v.records) now ∙ sym (append-nil s.guard.records) }
-    bound-grown (inr f) =
+        record { mech = omega (arith, faults); disk = l.later }
+    bound-later (inr f) =
         let now = l.binds.first f.none in
         let faults : o.bound.guard.faults ≡ s.guard.faults = ap (λ (v : View). v.faults) now in
-        record { mech = omega (arith, faults); disk = l.later; more = Bind l.bytes ∷ []; grown = ap (λ (v : View). v.records) now }
+        record { mech = omega (arith, faults); disk = l.later }
 
 dispenses-full : (s next : GuardState) (token : Option (List ℕ)) (bytes line : List ℕ) (counts : CountsOf) → length counts.0 ≡ 8 → token ≡ Some bytes → CanDispense s.guard bytes counts → IsCalm s next
     → Dispenses s token counts line next → IsDispensed s counts (line ∷ []) next
@@ -254,18 +198,18 @@ dispenses-full s next token bytes line counts eight is c calm (inl r) = absurd (
 presents-full : (s next : GuardState) (line : List ℕ) → CanPresent s.guard → IsCalm s next → Moves s AskPresent line next → IsPresented s (line ∷ []) next
 presents-full s next line c calm m =
     let f = carries-full (guard_of s) AskPresent m.result (guard_of next) (present-free s.guard c) calm m.carried in
-    let told : Tells (codes "moved") (Ok f.outcome) line = rw f.is at m.told in
+    let told : IsOrderLine (codes "moved") (Ok f.outcome) line = rw f.is at m.told in
     record {
       text = ap (λ l. l ∷ []) (told ∙ told-all f.outcome s.guard.places.transport f.fine (ap (λ (k : CountsOf). k.0) f.moved));
-      gained = λ u. (present-places s.guard.places next.guard.places f.number f.outcome.diverted f.places u).0;
-      left = λ u. (present-places s.guard.places next.guard.places f.number f.outcome.diverted f.places u).1;
+      gained = λ u. (present-places s.guard.places next.guard.places f.full.number f.full.diverted f.full.places u).0;
+      left = λ u. (present-places s.guard.places next.guard.places f.full.number f.full.diverted f.full.places u).1;
     }
 
-dispense-answer : (s next : GuardState) (output : List (List ℕ)) (given : Given) (counts : CountsOf) (bytes : List ℕ) → length counts.0 ≡ 8 → AreAnswer s (Dispense given counts) output next
+dispense-answer : (s next : GuardState) (output : List (List ℕ)) (given : Given) (counts : CountsOf) (bytes : List ℕ) → length counts.0 ≡ 8 → AreGuardAnswer s (Dispense given counts) output next
     → named s.last given ≡ Some bytes → CanDispense s.guard bytes counts → IsCalm s next → IsDispensed s counts output next
 dispense-answer s next output given counts bytes eight a is c calm = rw a.only (dispenses-full s next (named s.last given) bytes a.line counts eight is c calm a.is)
 
-present-answer : (s next : GuardState) (output : List (List ℕ)) → AreAnswer s Present output next → CanPresent s.guard → IsCalm s next → IsPresented s output next
+present-answer : (s next : GuardState) (output : List (List ℕ)) → AreGuardAnswer s Present output next → CanPresent s.guard → IsCalm s next → IsPresented s output next
 present-answer s next output a c calm = rw a.only (presents-full s next a.line c calm a.is)
 
 -- a line tells eight counts

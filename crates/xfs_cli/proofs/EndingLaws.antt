@@ -5,7 +5,7 @@ use Rattle.xfs_script.specs.declared.answerer.Ending.TheVariants.{AtEnd, Read, Q
 use Rattle.xfs_guard.specs.declared.fail.BootFault.{BootFault}
 use Rattle.xfs_guard.specs.declared.fail.BootFault.TheVariants.{NotJournal, Disk, Full, Memory as BootMemory}
 use Rattle.xfs_cli.specs.BootLines.{boot_status, IsOfBoot}
-use Rattle.xfs_cli.specs.Served.{status_of}
+use Rattle.xfs_cli.specs.InputEnds.{ending_status}
 use Rattle.xfs_cli.specs.Statuses.{IsStatus}
 
 -- the statuses of the endings and of a refused boot are of the table
@@ -15,7 +15,7 @@ status-boot Disk = inr (inr (inr (inr (inr (inl refl)))))
 status-boot Full = inr (inr (inr (inr (inr (inr (inr (inr (inr (inl refl)))))))))
 status-boot BootMemory = inr (inr (inr (inr (inr (inr (inr (inl refl)))))))
 
-pub status-ending : (ending : Ending BootFault) → IsStatus (status_of ending)
+pub status-ending : (ending : Ending BootFault) → IsStatus (ending_status ending)
 status-ending AtEnd = inl refl
 status-ending Read = inr (inr (inl refl))
 status-ending Quota = inr (inr (inr (inr (inr (inr (inr (inr (inl refl))))))))
@@ -31,7 +31,7 @@ boot-least Disk = (omega arith, λ e. omega (arith, e))
 boot-least Full = (omega arith, λ e. omega (arith, e))
 boot-least BootMemory = (omega arith, λ e. omega (arith, e))
 
-pub no-usage : (ending : Ending BootFault) → status_of ending ≢ 2
+pub no-usage : (ending : Ending BootFault) → ending_status ending ≢ 2
 no-usage AtEnd is = omega (arith, is)
 no-usage Read is = omega (arith, is)
 no-usage Quota is = omega (arith, is)
@@ -40,7 +40,7 @@ no-usage Write is = omega (arith, is)
 no-usage Memory is = omega (arith, is)
 no-usage (Ended why) is = let low = (boot-least why).0 in omega (arith, low, is)
 
-pub is-end : (ending : Ending BootFault) → status_of ending ≡ 0 → ending ≡ AtEnd
+pub is-end : (ending : Ending BootFault) → ending_status ending ≡ 0 → ending ≡ AtEnd
 is-end AtEnd is = refl
 is-end Read is = absurd (omega (arith, is))
 is-end Quota is = absurd (omega (arith, is))
@@ -49,7 +49,7 @@ is-end Write is = absurd (omega (arith, is))
 is-end Memory is = absurd (omega (arith, is))
 is-end (Ended why) is = let low = (boot-least why).0 in absurd (omega (arith, low, is))
 
-pub is-read : (ending : Ending BootFault) → status_of ending ≡ 3 → ending ≡ Read
+pub is-read : (ending : Ending BootFault) → ending_status ending ≡ 3 → ending ≡ Read
 is-read AtEnd is = absurd (omega (arith, is))
 is-read Read is = refl
 is-read Quota is = absurd (omega (arith, is))
@@ -58,7 +58,7 @@ is-read Write is = absurd (omega (arith, is))
 is-read Memory is = absurd (omega (arith, is))
 is-read (Ended why) is = let low = (boot-least why).0 in absurd (omega (arith, low, is))
 
-pub is-no_line : (ending : Ending BootFault) → status_of ending ≡ 4 → (number : ℕ) × (ending ≡ NotALine number)
+pub is-no_line : (ending : Ending BootFault) → ending_status ending ≡ 4 → (number : ℕ) × (ending ≡ NotALine number)
 is-no_line AtEnd is = absurd (omega (arith, is))
 is-no_line Read is = absurd (omega (arith, is))
 is-no_line Quota is = absurd (omega (arith, is))
@@ -67,7 +67,7 @@ is-no_line Write is = absurd (omega (arith, is))
 is-no_line Memory is = absurd (omega (arith, is))
 is-no_line (Ended why) is = let low = (boot-least why).0 in absurd (omega (arith, low, is))
 
-pub is-write : (ending : Ending BootFault) → status_of ending ≡ 5 → ending ≡ Write
+pub is-write : (ending : Ending BootFault) → ending_status ending ≡ 5 → ending ≡ Write
 is-write AtEnd is = absurd (omega (arith, is))
 is-write Read is = absurd (omega (arith, is))
 is-write Quota is = absurd (omega (arith, is))
@@ -76,7 +76,7 @@ is-write Write is = refl
 is-write Memory is = absurd (omega (arith, is))
 is-write (Ended why) is = let low = (boot-least why).0 in absurd (omega (arith, low, is))
 
-pub is-quota : (ending : Ending BootFault) → status_of ending ≡ 10 → ending ≡ Quota
+pub is-quota : (ending : Ending BootFault) → ending_status ending ≡ 10 → ending ≡ Quota
 is-quota AtEnd is = absurd (omega (arith, is))
 is-quota Read is = absurd (omega (arith, is))
 is-quota Quota is = refl
@@ -92,7 +92,7 @@ no-boot status other (inr (inl e)) = other.1 e
 no-boot status other (inr (inr e)) = other.2 e
 
 -- under a status of a boot with a last line the command ended by itself
-pub is-boot : (ending : Ending BootFault) → IsOfBoot (status_of ending) → (why : BootFault) × (ending ≡ Ended why)
+pub is-boot : (ending : Ending BootFault) → IsOfBoot (ending_status ending) → (why : BootFault) × (ending ≡ Ended why)
 is-boot (Ended why) boot = (why, refl)
 is-boot AtEnd boot = absurd (no-boot 0 (λ e. omega (arith, e), λ e. omega (arith, e), λ e. omega (arith, e)) boot)
 is-boot Read boot = absurd (no-boot 3 (λ e. omega (arith, e), λ e. omega (arith, e), λ e. omega (arith, e)) boot)

@@ -19,7 +19,7 @@ use Rattle.xfs_fleet.specs.declared.side.Side.TheVariants as which
 use Rattle.xfs_script.proofs.AnswerLaws.{Appends-both}
 use Rattle.xfs_script.specs.Answered.{AnswersEach, lines_text}
 use Rattle.xfs_script.specs.Endings.{AnswersInput}
-use Rattle.xfs_script.specs.FleetLines.{IsOf, front, letter_a, letter_b}
+use Rattle.xfs_script.specs.FleetLines.{IsOf, letter_mark, letter_a, letter_b}
 use Rattle.xfs_script.specs.Lines.{behind, first_line, first_lines}
 use Rattle.xfs_script.specs.declared.answerer.Ending.TheVariants.{AtEnd, Ended}
 use Rattle.xfs_sides.proofs.SideLaws.{are-alone, empty-line}
@@ -30,34 +30,35 @@ use Rattle.xfs_cli.specs.ReplayCommand.{Progresses, replay_lines}
 use Rattle.xfs_cli.specs.ReplayRuns.{Begins}
 use Rattle.xfs_cli.specs.ReplayStates.{Played, begun, guard_state_of}
 use Rattle.xfs_cli.specs.Restarts.{EndsRestart, IsFull}
-use Rattle.xfs_cli.specs.Returns.{Return}
+use Rattle.xfs_cli.specs.Returns.{Return, ComesBack}
 use Rattle.xfs_cli.specs.Runs.{AtEntryList, IsEnd, IsFullAtEnd, IsStillAt, NothingFailed}
-use Rattle.xfs_cli.specs.Served.{Serves, WritesLast, status_of}
+use Rattle.xfs_cli.specs.InputEnds.{EndsInput, ending_status, IsAnswered}
 use Rattle.xfs_cli.specs.Statuses.{HasFullRestart, IsFinished}
-use Rattle.xfs_cli.specs.Streams.{Streams}
-use Rattle.xfs_cli.specs.TokenRuns.{IsKept}
+use Rattle.xfs_script.specs.Streams.{Streams, output_of}
 use Rattle.xfs_cli.specs.Headlines.{HasHeadline}
 use Rattle.xfs_cli.proofs.BootedLaws.{ends-at, ends-failed, ends-full, failed-then, full-end, full-then, none-told, still-at, told-any, told-more, untold-then}
 use Rattle.xfs_cli.proofs.EndingLaws.{boot-least, is-boot, is-end}
 use Rattle.xfs_cli.proofs.FleetEndLaws.{HasCausesOf, at-list, causes-unbooted, finishes-of}
-use Rattle.xfs_cli.proofs.LastLaws.{last-taken}
+use Rattle.xfs_script.proofs.LastLaws.{last-taken}
 use Rattle.xfs_cli.proofs.RunLaws.{due-full, due-unread, ends-unread, fits-run, journal-run}
-use Rattle.xfs_cli.proofs.RunsLaws.{HasBooted, HasEnded, IsServed}
+use Rattle.xfs_cli.proofs.EndsLaws.{HasEnded, machine-ended}
+use Rattle.xfs_script.specs.LastLines.{WritesLast}
+use Rattle.xfs_guard.specs.Outcomes.{BootsGuard}
 
--- ---- one machine of a run whose lines were served
+-- ---- one machine of a run whose lines were answered
 
 -- the machine was booted, and came to its end by what is kept from line to line; `pick` is its part of what answers the lines
 pub record IsPlayed {M D A : Type 0} (m : Mechanisms M) (d : Disks D) (Keeps : A → A → Type 0) (see : A → Played) (guard : A → GuardView D) (core : Core M D) (r : Return M D) (start end : A) : Type 0 where
   pub is : (x : A) → (see x).machine.seen.guard ≡ (guard x).state
   pub keeps : (x y : A) → Keeps x y → Proceeds d (guard x) (guard y)
   pub later : (x y : A) → Keeps x y → (see x).machine.seen.disk_faults ≤ (see y).machine.seen.disk_faults
-  pub booted : HasBooted m d core (guard start)
+  pub booted : BootsGuard d (at_entry m d core) core.disk (guard start)
   pub low : d.faults core.disk ≤ (see start).machine.seen.disk_faults
   pub high : (see end).machine.seen.disk_faults ≡ d.faults r.disk
   pub ended : HasEnded m d (guard end) r
   pub kept : Keeps start end
 
--- so of a machine that is booted, and ends
+-- a machine that is booted and ends is played
 pub is-played : {M D A : Type 0} (m : Mechanisms M) (d : Disks D) (Keeps : A → A → Type 0) (see : A → Played) (machine : A → MachineView D) (core : Core M D) (r : Return M D) (start end : A)
     → ((x : A) → (see x).machine ≡ (machine x).state) → ((x y : A) → Keeps x y → Progresses d (machine x) (machine y)) → IsBooted m d core (machine start) → Ends m d (machine end) r.mech r.disk → Keeps start end
     → IsPlayed m d Keeps see (λ x. guard_of (machine x)) core r start end
@@ -65,10 +66,10 @@ is-played m d Keeps see machine core r start end is progresses booted ends kept 
   is = λ x. ap (λ (s : State). s.seen.guard) (is x);
   keeps = λ x y k. (progresses x y k).proceeds;
   later = λ x y k. rw (is x, is y) (progresses x y k).later;
-  booted = record { records = booted.begins.0; stands = booted.begins.1; guard_is = booted.begins.2; later = booted.leaves.faults; fits = booted.fits };
-  low = rw (is start) (let tied = booted.tied in let low = booted.leaves.faults in omega (arith, tied, low));
+  booted = booted.boots;
+  low = rw (is start) (let tied = booted.tied in let low = booted.boots.leaves.faults in omega (arith, tied, low));
   high = ap (λ (s : State). s.seen.disk_faults) (is end) ∙ sym ends.back.disk_faults;
-  ended = record { motions = ends.back.motions; places = ends.back.places; faults = ends.back.faults; disk = ends.disk_is; stored = ends.back.stored };
+  ended = machine-ended m d (machine end) r ends.back ends.recorded ends.disk_is;
   kept = kept;
 }
 
@@ -90,11 +91,11 @@ module _ {M D A : Type 0} (m : Mechanisms M) (d : Disks D) (Keeps : A → A → 
     played-untold seven =
         let quiet = untold-then status why (guard_state_of (see before)) (guard_state_of (see end)) is at.fails.cause seven in
         let told = ap (λ (v : View). v.disk_told) (p.is before) in
-        none-told (d.held core.disk) (sym (ap (λ (v : View). v.disk_told) p.booted.guard_is) ∙ (sym (p.keeps start before kept).continues.disk_told ∙ (sym told ∙ quiet)))
+        none-told (d.held core.disk) (sym (ap (λ (v : View). v.disk_told) p.booted.begins.2) ∙ (sym (p.keeps start before kept).continues.disk_told ∙ (sym told ∙ quiet)))
 
     played-full : ((disk : D) (all : List ℕ) → d.held disk ≡ Some all → d.images disk all) → status ≡ 12 → IsFullAtEnd core.limits (m.places r.mech) (d.held r.disk)
     played-full as_read twelve =
-        let limits = (p.keeps start end p.kept).continues.limits ∙ ap (λ (v : View). v.limits) p.booted.guard_is in
+        let limits = (p.keeps start end p.kept).continues.limits ∙ ap (λ (v : View). v.limits) p.booted.begins.2 in
         let full : IsFull (guard end).state = rw (p.is end) at ((full-then status why (guard_state_of (see before)) (guard_state_of (see end)) is at.fails.cause twelve).1) in
         full-end (guard end).state _ _ _ _ limits p.ended.places (as_read r.disk) p.ended.stored full
 
@@ -110,23 +111,23 @@ full-line-of m d pick letter r IsStartOf start end text many output last why sta
   output = output;
   last = last;
   each = each;
-  line = at.text_is ∙ ap (λ t. front letter ++ t) at.is.restart;
+  line = at.text_is ∙ ap (λ t. letter_mark letter ++ t) at.is.restart;
   full = (full-then status why (guard_state_of (pick last)) (guard_state_of (pick end)) is at.is.fails.cause twelve).0;
   ends = still-at m d r (guard_state_of (pick end)) (guard_state_of (pick last)) ends at.is.fails.still;
 }
 
 -- where the input was read to its end
-alone-served : (start end : Sides Played) (status : ℕ) (io : Streams) (text : List ℕ) → Serves fleet_lines start end status io text → status ≡ 0 → AreAlone replay_lines start end io.output io.output_now text
+alone-served : (start end : Sides Played) (status : ℕ) (io : Streams) (text : List ℕ) → EndsInput fleet_lines start end status io text → status ≡ 0 → AreAlone replay_lines start end io.output io.output_now text
 alone-served start end status io text h zero =
     let e = is-end h.ending (sym h.status_is ∙ zero) in
     let x : AnswersInput fleet_lines AtEnd start end io.left io.output h.answered text = rw e at h.answers in
-    let taken : WritesLast [] io.write_faults io.write_faults_now h.answered io.output_now = rw e at h.last in
+    let taken : WritesLast [] (record (output_of io) { held = h.answered }) = rw e at h.last in
     let alone = are-alone replay_lines start end io.left io.output h.answered text x in
     record {
       many = alone.many;
       whole = alone.whole;
       output = alone.output;
-      written = rw (append-nil (lines_text alone.output)) at (Appends-both io.output h.answered io.output_now (lines_text alone.output) [] alone.written (last-taken _ _ h.answered io.output_now taken));
+      written = rw (append-nil (lines_text alone.output)) at (Appends-both io.output h.answered io.output_now (lines_text alone.output) [] alone.written (last-taken (record (output_of io) { held = h.answered }) taken));
       at_a = alone.at_a;
       at_b = alone.at_b;
     }
@@ -140,10 +141,10 @@ by-side which.B first second = second refl
 pub begins-of : {M D : Type 0} (m : Mechanisms M) (d : Disks D) (core : Core M D) (machine : MachineView D) → IsBooted m d core machine → Begins (at_entry m d core) core.life (begun machine.state)
 begins-of m d core machine booted = record {
   boots = record {
-    records = booted.begins.0;
-    stands = booted.begins.1;
-    guard_is = booted.begins.2;
-    later = let tied = booted.tied in let low = booted.leaves.faults in omega (arith, tied, low);
+    records = booted.boots.begins.0;
+    stands = booted.boots.begins.1;
+    guard_is = booted.boots.begins.2;
+    later = let tied = booted.tied in let low = booted.boots.leaves.faults in omega (arith, tied, low);
     none = refl;
   };
   machine = booted.bare;
@@ -176,23 +177,23 @@ module _ {M D : Type 0} (m : Mechanisms M) (d : Disks D) (core second : Core M D
       (finishes-of fleet_lines.IsLine NoRoom (empty-line replay_lines) a.status io.input io.left _ _ _ _ causes none.source none.sink (⊎_elim none.disk unfailed))
 
   -- the boot of the first was refused
-  pub first-unbooted : (why : BootFault) → IsRefusedBoot m d core why a.mech a.disk → IsKept second b → a.status ≡ boot_status why → WritesBoot why io → io.left ≡ io.input
+  pub first-unbooted : (why : BootFault) → IsRefusedBoot m d core why a.mech a.disk → ComesBack second b → a.status ≡ boot_status why → WritesBoot why io → io.left ≡ io.input
       → HasHeadline m d core a → HasHeadline m d second b → RunsFleet m d core second a b io
   first-unbooted why f kept status written unread first other = record {
     first = first;
     other = other;
-    serves = told-any io.input _ (λ text. inl here);
+    answers = told-any io.input _ (λ text. inl here);
     alone = λ zero. absurd (omega (arith, low, status, zero));
     lines = λ zero. absurd (omega (arith, low, status, zero));
     not_a_line = λ four. absurd (omega (arith, low, status, four));
-    disk_fault = λ six. inl (inl (ends-failed _ _ _ _ _ status written f.failed six));
-    not_journal = λ seven. inl (inl (ends-unread _ _ _ _ status written f.not_journal seven));
-    full = λ twelve. inl (inl (ends-full _ _ _ _ _ _ status written f.full twelve));
-    unread = due-unread _ _ _ status f.full;
+    disk_fault = λ six. inl (inl (ends-failed _ _ _ _ _ status written f.refuses.disk six));
+    not_journal = λ seven. inl (inl (ends-unread _ _ _ _ status written f.refuses.not_journal seven));
+    full = λ twelve. inl (inl (ends-full _ _ _ _ _ _ status written f.refuses.full twelve));
+    unread = due-unread _ _ _ status f.refuses.full;
     second_unread = told-any (d.held second.disk) _ (λ bytes none. inl here);
-    overfull = due-full _ _ _ _ _ status f.not_journal;
+    overfull = due-full _ _ _ _ _ status f.refuses.not_journal;
     second_overfull = told-any (d.held second.disk) _ (λ bytes J stands over. inl here);
-    finishes = finishing (causes-unbooted _ _ why _ _ _ _ _ _ _ status (λ e. inl (f.failed e)) (λ at e. inl (told-more (d.held core.disk) _ _ (λ all none. none.1) (f.not_journal at e))) (λ e text. inl (inl (f.full e))));
+    finishes = finishing (causes-unbooted _ _ why _ _ _ _ _ _ _ status (λ e. inl (f.refuses.disk e)) (λ at e. inl (told-more (d.held core.disk) _ _ (λ all none. none.1) (f.refuses.not_journal at e))) (λ e text. inl (inl (f.refuses.full e))));
   }
     where
       low : 6 ≤ boot_status why
@@ -207,7 +208,7 @@ module _ {M D : Type 0} (m : Mechanisms M) (d : Disks D) (core second : Core M D
   second-unbooted why machine booted over f status same written unread first other = record {
     first = first;
     other = other;
-    serves = told-any io.input _ (λ text. inr (inl (
+    answers = told-any io.input _ (λ text. inr (inl (
       record { why = why; status_is = same; unread = unread; written = written; unmoved = f.mech_is },
       record {
         start = begun machine.state;
@@ -218,24 +219,24 @@ module _ {M D : Type 0} (m : Mechanisms M) (d : Disks D) (core second : Core M D
     alone = λ zero. absurd (omega (arith, low, status, zero));
     lines = λ zero. absurd (omega (arith, low, status, zero));
     not_a_line = λ four. absurd (omega (arith, low, status, four));
-    disk_fault = λ six. inl (inr (ends-failed _ _ _ _ _ status written f.failed six));
-    not_journal = λ seven. inl (inr (ends-unread _ _ _ _ status written f.not_journal seven));
-    full = λ twelve. inl (inr (ends-full _ _ _ _ _ _ status written f.full twelve));
-    unread = journal-run booted.begins.0 _ _ booted.begins.1;
-    second_unread = told-more (d.held second.disk) _ _ (λ bytes due none. inr (due none)) (due-unread _ _ _ status f.full);
-    overfull = fits-run _ _ machine.state.seen.guard _ _ booted.fits;
-    second_overfull = told-more (d.held second.disk) _ _ (λ bytes due J stands exceeds. inr (due J stands exceeds)) (due-full _ _ _ _ _ status f.not_journal);
-    finishes = finishing (causes-unbooted _ _ why _ _ _ _ _ _ _ status (λ e. inr (f.failed e)) (λ at e. inr (told-more (d.held second.disk) _ _ (λ all none. none.1) (f.not_journal at e))) (λ e text. inr (inl (f.full e))));
+    disk_fault = λ six. inl (inr (ends-failed _ _ _ _ _ status written f.refuses.disk six));
+    not_journal = λ seven. inl (inr (ends-unread _ _ _ _ status written f.refuses.not_journal seven));
+    full = λ twelve. inl (inr (ends-full _ _ _ _ _ _ status written f.refuses.full twelve));
+    unread = journal-run booted.boots.begins.0 _ _ booted.boots.begins.1;
+    second_unread = told-more (d.held second.disk) _ _ (λ bytes due none. inr (due none)) (due-unread _ _ _ status f.refuses.full);
+    overfull = fits-run _ _ machine.state.seen.guard _ _ booted.boots.fits;
+    second_overfull = told-more (d.held second.disk) _ _ (λ bytes due J stands exceeds. inr (due J stands exceeds)) (due-full _ _ _ _ _ status f.refuses.not_journal);
+    finishes = finishing (causes-unbooted _ _ why _ _ _ _ _ _ _ status (λ e. inr (f.refuses.disk e)) (λ at e. inr (told-more (d.held second.disk) _ _ (λ all none. none.1) (f.refuses.not_journal at e))) (λ e text. inr (inl (f.refuses.full e))));
   }
     where
       low : 6 ≤ boot_status why
       low = (boot-least why).0
 
--- the lines were served
+-- the lines were answered
 module _ {M D A : Type 0} (m : Mechanisms M) (d : Disks D) (core second : Core M D) (a b : Return M D) (io : Streams) (Keeps : A → A → Type 0) (state : A → Sides Played) (guard_a guard_b : A → GuardView D)
     (as_read : (disk : D) (all : List ℕ) → d.held disk ≡ Some all → d.images disk all) (start end : A)
     (p : IsPlayed m d Keeps (λ x. (state x).a) guard_a core a start end) (q : IsPlayed m d Keeps (λ x. (state x).b) guard_b second b start end)
-    (begins : BeginsBoth m d core second a b (state start)) (s : IsServed fleet_lines Keeps state start end a.status io) where
+    (begins : BeginsBoth m d core second a b (state start)) (s : IsAnswered Keeps state fleet_lines start end a.status io) where
   ends_a : IsEnd m d a (state_a (state end))
   ends_a = played-end m d Keeps (λ x. (state x).a) guard_a core a start end p
 
@@ -268,13 +269,13 @@ module _ {M D A : Type 0} (m : Mechanisms M) (d : Disks D) (core second : Core M
 
   -- under status 12 a restart of one of the two found no room
   full-line : a.status ≡ 12 → IfTold io.input (NoRoom m d core second a b io)
-  full-line twelve = told-more io.input _ _ (λ text h. go text h) s.serves
+  full-line twelve = told-more io.input _ _ (λ text h. go text h) s.answers
     where
-      go : (text : List ℕ) → Serves fleet_lines (state start) (state end) a.status io text → NoRoom m d core second a b io text
+      go : (text : List ℕ) → EndsInput fleet_lines (state start) (state end) a.status io text → NoRoom m d core second a b io text
       go text h =
           let e = is-boot h.ending (inr (inr (sym h.status_is ∙ twelve))) in
           let x : AnswersInput fleet_lines (Ended e.0) (state start) (state end) io.left io.output h.answered text = rw e.1 at h.answers in
-          let is = h.status_is ∙ ap status_of e.1 in
+          let is = h.status_is ∙ ap ending_status e.1 in
           elim x.ends.0 [
             | inl at ↦ inl (inr (full-line-of m d (λ t. t.a) letter_a a (BeginsBoth m d core second a b) (state start) (state end) text x.many x.output x.last e.0 a.status ends_a begins x.each at.0 is twelve))
             | inr at ↦ inr (inr (full-line-of m d (λ t. t.b) letter_b b (BeginsBoth m d core second a b) (state start) (state end) text x.many x.output x.last e.0 a.status ends_b begins x.each at.0 is twelve))
@@ -297,23 +298,23 @@ module _ {M D A : Type 0} (m : Mechanisms M) (d : Disks D) (core second : Core M
   fleet-played first other = record {
     first = first;
     other = other;
-    serves = told-more io.input _ _ (λ text serves. inr (inr (record {
+    answers = told-more io.input _ _ (λ text answers. inr (inr (record {
       start = state start;
       begins = begins;
-      writes = record { end = state end; ends = (ends_a, ends_b); serves = serves };
-    }))) s.serves;
-    alone = λ zero. told-more io.input _ _ (λ text serves. record {
+      writes = record { end = state end; ends = (ends_a, ends_b); answers = answers };
+    }))) s.answers;
+    alone = λ zero. told-more io.input _ _ (λ text answers. record {
       start = state start;
       begins = begins;
-      writes = record { end = state end; ends = (ends_a, ends_b); alone = alone-served (state start) (state end) a.status io text serves zero };
-    }) s.serves;
+      writes = record { end = state end; ends = (ends_a, ends_b); alone = alone-served (state start) (state end) a.status io text answers zero };
+    }) s.answers;
     lines = s.lines;
     not_a_line = s.not_a_line;
     disk_fault = λ six. inr (record { start = state start; begins = begins; writes = failed six });
     not_journal = λ seven. inr (record { start = state start; begins = begins; writes = untold seven });
     full = λ twelve. inr (record { start = state start; begins = begins; writes = overfull twelve });
-    unread = journal-run p.booted.records _ _ p.booted.stands;
-    second_unread = journal-run q.booted.records _ _ q.booted.stands;
+    unread = journal-run p.booted.begins.0 _ _ p.booted.begins.1;
+    second_unread = journal-run q.booted.begins.0 _ _ q.booted.begins.1;
     overfull = fits-run _ _ (guard_a start).state _ _ p.booted.fits;
     second_overfull = fits-run _ _ (guard_b start).state _ _ q.booted.fits;
     finishes = finishing m d core second a b io causes-played;

@@ -146,22 +146,18 @@ issue-done faults old new last n line fit number lives is later told =
     wrote-kept (guard_state faults old last) (guard_state faults new last) (unfit old.state) (next_record old.state)
     (record old.state { records = old.state.records ++ next_record old.state ∷ []; bound = None }) _ line fit (rw number at is) later refl (told ∙ ap (λ t. codes "nonce " ++ t) (rw number at text))
 
--- a call failed, and so it cleared nothing
-abbrev IsNoClear : Deny → Type 0
-IsNoClear deny = ◌≢◌ {A = Result Bool Deny} (Err deny) (Ok true)
-
 -- a clear that is refused, or at which the disk failed
 pub clear-err : {D : Type 0} (faults : D → ℕ) (old new : GuardView D) (last : Option (List ℕ)) (live : Option Nonce) (line : List ℕ) (deny : Deny)
     → Answers {T = Bool} (Err deny) (unfit old.state) → (IsDiskFault Bool deny → live ≢ None) → (IsDiskFault Bool deny → new.state ≡ shut_at Clear old.state)
     → faults old.disk ≤ faults new.disk → (IsDiskFault Bool deny → Rose (faults old.disk) (faults new.disk))
-    → (IsNoClear deny → (IsDiskFault Bool deny → ⊥) → new ≡ old) → refusal_text (Denied deny) ≡ Some line
+    → (deny ≢ Disk → new ≡ old) → refusal_text (Denied deny) ≡ Some line
     → Clears live (guard_state faults old last) line (guard_state faults new last)
 clear-err faults old new last (Some n) line deny answers lives disk later cause same told =
-    wrote-err Bool faults old new last _ _ _ _ line deny answers disk later cause (λ other. same (λ e. cc) (λ e. other (err-same e))) told
+    wrote-err Bool faults old new last _ _ _ _ line deny answers disk later cause same told
 clear-err faults old new last None line deny answers lives disk later cause same told =
     let other : deny ≢ Disk = λ is. lives (ap (λ e. Err e) is) refl in
     none-refused (guard_state faults old last) (guard_state faults new last) (unfit old.state) deny _ line (due Bool deny (unfit old.state) line answers other told)
-    (seen-same faults old new last (same (λ e. cc) (λ e. other (err-same e)))) told
+    (seen-same faults old new last (same other)) told
 
 -- counts that are no fault have none past the table
 pub none-past : (units : List NoteKind) (have counts : Counts) → count_fault units have counts ≡ None → IsTrue (is_none (drop (length units) counts.0))

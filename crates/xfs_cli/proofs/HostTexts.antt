@@ -14,12 +14,12 @@ use Rattle.xfs_host.specs.declared.account.Account.{Account as Open}
 use Rattle.xfs_host.specs.declared.faults.HostFault.{HostFault}
 use Rattle.xfs_host.specs.declared.faults.HostFault.TheVariants as asking
 use Rattle.xfs_host.specs.declared.reply.Reply.{Reply}
-use Rattle.xfs_script.specs.Answered.{lines_text, Tells}
+use Rattle.xfs_script.specs.Answered.{lines_text, IsAnswerText}
 use Rattle.xfs_script.specs.HostLines.{IsHostLine}
 use Rattle.xfs_script.specs.declared.host_line.HostLine.{HostLine}
 use Rattle.xfs_script.specs.declared.host_line.HostLine.TheVariants.{Skip, Account, Ask, Show}
 use Rattle.xfs_script.proofs.AnswerLaws.{lines_text-append}
-use Rattle.xfs_cli.specs.HostVerbs.{AreAnswer, IsAsked, IsOneLine, IsSmall, LeavesOfVerb, TellsLine, WholeOrNone, account_line, reply_text, show_lines, with_call}
+use Rattle.xfs_cli.specs.HostVerbs.{AreHostAnswer, IsAsked, IsOneLine, IsSmall, LeavesOfVerb, TellsLine, WholeOrNone, account_line, reply_text, show_lines, with_call}
 
 -- the balance of a line is at most 999,999,999,999 thousandths
 pub small-line : (text : List ℕ) (line : HostLine) → IsHostLine text line → IsSmall line
@@ -47,11 +47,11 @@ one_line : (Answer : List ℕ → State → Type 0) (line : List ℕ) (next : St
 one_line Answer line next answer = record { line = line; answer = answer; output_is = refl }
 
 module _ {E : Type 0} (r : Result (Vec ℕ Global) E) (s next : State) (verb given : HostLine) (Answer : List ℕ → State → Type 0) (is : given ≡ verb)
-    (one : (output : List (List ℕ)) → IsOneLine Answer output next → AreAnswer s verb output next) where
-  pub tells-verb : IfOk r (λ v. TellsLine Answer v.items next) → IfOk r (λ v. Tells (AreAnswer s given) v.items next)
+    (one : (output : List (List ℕ)) → IsOneLine Answer output next → AreHostAnswer s verb output next) where
+  pub tells-verb : IfOk r (λ v. TellsLine Answer v.items next) → IfOk r (λ v. IsAnswerText (AreHostAnswer s given) v.items next)
   tells-verb h = tells r h
     where
-      tells : (r : Result (Vec ℕ Global) E) → IfOk r (λ v. TellsLine Answer v.items next) → IfOk r (λ v. Tells (AreAnswer s given) v.items next)
+      tells : (r : Result (Vec ℕ Global) E) → IfOk r (λ v. TellsLine Answer v.items next) → IfOk r (λ v. IsAnswerText (AreHostAnswer s given) v.items next)
       tells (Ok v) h = rw is (record { output = h.line ∷ []; answer = one _ (one_line Answer h.line next h.answer); text = h.text })
       tells (Err e) h = tt
 

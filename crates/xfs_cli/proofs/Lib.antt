@@ -10,14 +10,13 @@ pub mod DispenseLaws
 pub mod DoorlessLaws
 pub mod EndLaws
 pub mod EndingLaws
-pub mod FilledLaws
+pub mod EndsLaws
 pub mod FleetEndLaws
 pub mod FleetRunsLaws
 pub mod GuardStateLaws
 pub mod HeadlineLaws
 pub mod HostTexts
 pub mod KeptLaws
-pub mod LastLaws
 pub mod LaterLaws
 pub mod LineEndLaws
 pub mod LinedLaws
@@ -32,4 +31,5 @@ pub mod ServeLaws
 pub mod TokenTexts
 pub mod UnreadLaws
 pub mod VerbLaws
+pub mod WithTokenLaws
 pub mod WordLaws

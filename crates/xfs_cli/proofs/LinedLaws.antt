@@ -3,11 +3,11 @@ use Rattle.std.proofs.Common.{◌≡◌, ◌≢◌, ℕ, List, Ok, Err, inl, inr
 use Rattle.std.specs.Prelude.{IfOk, OnErr}
 use Rattle.std.specs.declared.result.Result.{Result}
 use Rattle.xfs_guard.specs.declared.fail.BootFault.{BootFault}
-use Rattle.xfs_script.specs.Answered.{Tells}
+use Rattle.xfs_script.specs.Answered.{IsAnswerText}
 use Rattle.xfs_script.specs.declared.guard_line.GuardLine.{GuardLine}
 use Rattle.xfs_cli.specs.Begun.{LeavesOfVerb, WholeOrNone}
 use Rattle.xfs_cli.specs.GuardStates.{GuardState}
-use Rattle.xfs_cli.specs.GuardVerbs.{AreAnswer, IsAnswer}
+use Rattle.xfs_cli.specs.GuardVerbs.{AreGuardAnswer, IsGuardAnswer}
 use Rattle.xfs_cli.specs.Lined.{IsLined}
 use Rattle.xfs_cli.specs.Restarts.{IfUnbooted}
 use Rattle.xfs_cli.specs.declared.guard_player.NoAnswer.{NoAnswer}
@@ -16,7 +16,7 @@ use Rattle.xfs_cli.proofs.BegunLaws.{tells-line, verb-leaves}
 
 -- the line that was read stands for this verb, whose answer it is
 pub lined-answer : {A E : Type 0} (text : Result A E) (line : Result A NoAnswer) (items : A → List ℕ) (s next : GuardState) (verb given : GuardLine) → given ≡ verb
-    → IfOk text (λ t. IsAnswer s verb (items t) next) → IsLined text line items → IfOk line (λ l. Tells (AreAnswer s given) (items l) next)
+    → IfOk text (λ t. IsGuardAnswer s verb (items t) next) → IsLined text line items → IfOk line (λ l. IsAnswerText (AreGuardAnswer s given) (items l) next)
 lined-answer (Ok t) (Ok l) items s next verb given is answer lined = tells-line s next verb given (items t) (items l) is answer lined
 lined-answer (Ok t) (Err why) items s next verb given is answer lined = tt
 lined-answer (Err e) (Ok l) items s next verb given is answer lined = absurd lined
@@ -24,13 +24,13 @@ lined-answer (Err e) (Err why) items s next verb given is answer lined = tt
 
 -- without a line, what was done of the verb is left
 pub lined-leaves : {A E : Type 0} (text : Result A E) (items : A → List ℕ) (s next : GuardState) (verb given : GuardLine) → given ≡ verb
-    → IfOk text (λ t. IsAnswer s verb (items t) next) → OnErr text (LeavesOfVerb s verb next) → LeavesOfVerb s given next
+    → IfOk text (λ t. IsGuardAnswer s verb (items t) next) → OnErr text (LeavesOfVerb s verb next) → LeavesOfVerb s given next
 lined-leaves (Ok t) items s next verb given is answer leaves = verb-leaves s next verb given is (inl (inr (items t, answer)))
 lined-leaves (Err e) items s next verb given is answer leaves = verb-leaves s next verb given is leaves
 
 -- the same of a verb that is done whole or not at all
 pub lined-whole : {A E : Type 0} (text : Result A E) (items : A → List ℕ) (s next : GuardState) (verb given : GuardLine) → given ≡ verb
-    → IfOk text (λ t. IsAnswer s verb (items t) next) → OnErr text (WholeOrNone s verb next) → LeavesOfVerb s given next
+    → IfOk text (λ t. IsGuardAnswer s verb (items t) next) → OnErr text (WholeOrNone s verb next) → LeavesOfVerb s given next
 lined-whole (Ok t) items s next verb given is answer leaves = verb-leaves s next verb given is (inl (inr (items t, answer)))
 lined-whole (Err e) items s next verb given is answer leaves = verb-leaves s next verb given is (inl leaves)
 

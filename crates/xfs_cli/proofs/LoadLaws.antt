@@ -22,17 +22,18 @@ use Rattle.xfs_guard.specs.Entries.{at_entry, opened}
 use Rattle.xfs_load.specs.Summaries.{IsSummary, summary_line}
 use Rattle.xfs_load.specs.declared.summary.Summary.{Summary}
 use Rattle.xfs_script.specs.Answered.{lines_text}
-use Rattle.xfs_cli.specs.LoadEnds.{EndsLoad, Output, TellsOrNot}
-use Rattle.xfs_cli.specs.LoadRuns.{RunsLoad, output_of, guard_state_of}
+use Rattle.xfs_cli.specs.LoadEnds.{EndsLoad, Output, WritesTextOrNot}
+use Rattle.xfs_cli.specs.LoadRuns.{RunsLoad, guard_state_of}
 use Rattle.xfs_cli.specs.Statuses.{IsFinished, IsStatus}
-use Rattle.xfs_cli.specs.Streams.{Streams}
+use Rattle.xfs_script.specs.Streams.{Streams, output_of}
 use Rattle.xfs_cli.specs.Returns.{Return}
 use Rattle.xfs_cli.proofs.BootedLaws.{ends-at, ends-failed, told-any}
 use Rattle.xfs_cli.proofs.BootsOnceLaws.{boots-refused, boots-served}
 use Rattle.xfs_cli.proofs.EndingLaws.{boot-least}
 use Rattle.xfs_cli.proofs.NumberLaws.{newer-run, newer-same}
 use Rattle.xfs_cli.proofs.RunLaws.{Starts}
-use Rattle.xfs_cli.proofs.RunsLaws.{HasBooted, HasEnded, IsRefused}
+use Rattle.xfs_cli.proofs.EndsLaws.{HasEnded}
+use Rattle.xfs_guard.specs.Outcomes.{BootsGuard, RefusesBoot}
 
 -- a boot that nothing hinders is refused for want of memory alone
 pub refused-finishes : (why : BootFault) (held : Option (List ℕ)) (limits : Limits) (places : Places) (status faults now : ℕ) → status ≡ boot_status why
@@ -50,16 +51,16 @@ refused-finishes Memory (Some bytes) limits places status faults now is ceases f
 
 -- a load whose boot was refused
 pub loads-refused : {M D : Type 0} (m : Mechanisms M) (d : Disks D) (core : Core M D) (rounds : ℕ) (why : BootFault) (result : Return M D) (io : Streams)
-    → IsRefused m d core why result.mech result.disk → result.status ≡ boot_status why → WritesBoot why io → io.left ≡ io.input → RunsLoad m d core rounds result io
-loads-refused m d core rounds why result io f status written unread = record {
-  loads = inl (record { why = why; status_is = status; unread = unread; written = written; unmoved = f.mech_is });
+    → result.mech ≡ core.mech → RefusesBoot d (at_entry m d core) core.disk why result.disk → result.status ≡ boot_status why → WritesBoot why io → io.left ≡ io.input → RunsLoad m d core rounds result io
+loads-refused m d core rounds why result io same f status written unread = record {
+  loads = inl (record { why = why; status_is = status; unread = unread; written = written; unmoved = same });
   unread_input = unread;
   not_of_input = (λ three. absurd (omega (arith, low, status, three)), λ four. absurd (omega (arith, low, status, four)), λ ten. (boot-least why).1 (omega (arith, status, ten)));
   write = λ five. absurd (omega (arith, low, status, five));
-  disk_fault = λ six. ends-failed _ _ _ _ _ status written f.failed six;
-  boots_once = boots-refused m d core why result io f status written;
-  newer = rw f.mech_is (newer-same _ _);
-  finishes = λ sink disk. refused-finishes why _ _ _ _ _ _ status f.not_journal f.failed f.full disk;
+  disk_fault = λ six. ends-failed _ _ _ _ _ status written f.disk six;
+  boots_once = boots-refused m d core why result io same f status written;
+  newer = rw same (newer-same _ _);
+  finishes = λ sink disk. refused-finishes why _ _ _ _ _ _ status f.not_journal f.disk f.full disk;
 }
   where
     low : 6 ≤ boot_status why
@@ -72,14 +73,14 @@ ends-status key rounds s new status o (inr r) = inr (inr r.silent.status_is)
 
 -- where it was not refused
 pub loads-served : {M D : Type 0} (m : Mechanisms M) (d : Disks D) → ((disk : D) (all : List ℕ) → d.held disk ≡ Some all → d.images disk all) → (core : Core M D) (rounds : ℕ) (result : Return M D) (io : Streams) (start end : MachineView D)
-    → HasBooted m d core (guard_of start) → start.state.seen.disk_faults ≡ d.faults start.disk → start.state ≡ bare start.state.seen core.life (length start.state.seen.guard.records)
+    → BootsGuard d (at_entry m d core) core.disk (guard_of start) → start.state.seen.disk_faults ≡ d.faults start.disk → start.state ≡ bare start.state.seen core.life (length start.state.seen.guard.records)
     → Proceeds d (guard_of start) (guard_of end) → end.state.seen.disk_faults ≡ d.faults result.disk → EndsLoad core.key rounds start.state end.state result.status (output_of io) → HasEnded m d (guard_of end) result → io.left ≡ io.input
     → Starts (d.held core.disk) (d.images core.disk) core.key core.units (m.motions core.mech) → RunsLoad m d core rounds result io
 loads-served m d as_read core rounds result io start end b tied bare_is proceeds counted loads e unread starts = record {
   loads = inr (record {
     start = start.state;
     begins = record {
-      boots = record { records = b.records; stands = b.stands; guard_is = b.guard_is; later = let low = b.later in omega (arith, low, tied); none = refl };
+      boots = record { records = b.begins.0; stands = b.begins.1; guard_is = b.begins.2; later = let low = b.leaves.faults in omega (arith, low, tied); none = refl };
       machine = bare_is;
     };
     writes = record {
@@ -93,7 +94,7 @@ loads-served m d as_read core rounds result io start end b tied bare_is proceeds
   write = λ five. cause five;
   disk_fault = λ six. absurd (no 6 six (omega arith) (omega arith) (omega arith));
   boots_once = boots-served m d core (guard_of start) result io b (λ seven. no 7 seven (omega arith) (omega arith) (omega arith)) (λ twelve. no 12 twelve (omega arith) (omega arith) (omega arith));
-  newer = newer-run (opened (at_entry m d core) (with_boot b.records (m.places core.mech))) (guard_of end).state b.records _ _ _ refl refl b.stands starts (as_read core.disk) (rw b.guard_is at proceeds.continues) e.motions;
+  newer = newer-run (opened (at_entry m d core) (with_boot b.begins.0 (m.places core.mech))) (guard_of end).state b.begins.0 _ _ _ refl refl b.begins.1 starts (as_read core.disk) (rw b.begins.2 at proceeds.continues) e.motions;
   finishes = λ sink disk. told-any (d.held core.disk) _ (λ bytes J stands fits. done sink);
 }
   where
@@ -130,6 +131,6 @@ ends-one key rounds s new status o loads = elim (ends-status key rounds s new st
 ]
 
 -- a load that was played whole ends as its line is told
-pub told-ends : (key : List ℕ) (rounds : ℕ) (s new : State) (status : ℕ) (o : Output) (summary : Summary) → IsSummary key rounds s new summary → TellsOrNot (lines_text (summary_line summary ∷ [])) status o → EndsLoad key rounds s new status o
+pub told-ends : (key : List ℕ) (rounds : ℕ) (s new : State) (status : ℕ) (o : Output) (summary : Summary) → IsSummary key rounds s new summary → WritesTextOrNot (lines_text (summary_line summary ∷ [])) status o → EndsLoad key rounds s new status o
 told-ends key rounds s new status o summary sums (inl tells) = inl (record { summary = summary; sums = sums; tells = tells })
-told-ends key rounds s new status o summary sums (inr silent) = inr (record { silent = silent; front = inr (record { summary = summary; sums = sums }) })
+told-ends key rounds s new status o summary sums (inr silent) = inr (record { silent = silent; played = inr (record { summary = summary; sums = sums }) })

@@ -10,7 +10,7 @@ use Rattle.xfs_disk.specs.Disk.{Only}
 use Rattle.xfs_disk.specs.Moments.{LeavesOnly}
 use Rattle.xfs_mech.specs.declared.motion.Motion.{Motion}
 use Rattle.xfs_journal.specs.Image.{StandsFor}
-use Rattle.xfs_journal.specs.JournalView.{IsPossible, StandsForEither}
+use Rattle.xfs_journal.specs.JournalView.{IsPossible, StandsForEither, LeavesOneOf}
 use Rattle.xfs_journal.specs.declared.record.Rec.{Rec}
 use Rattle.xfs_journal.specs.Journal.{boot_of, with_boot}
 use Rattle.xfs_journal.proofs.Moments.{started, weaken, joins}
@@ -20,12 +20,12 @@ use Rattle.xfs_guard.specs.Continues.{Continues}
 use Rattle.xfs_guard.specs.Crashed.{IsCrashOutcome, IsCrashOutcomeAt, StandsLeft, LeavesBehind}
 use Rattle.xfs_guard.specs.CrashOutcomes.{IsOldOrBooted}
 use Rattle.xfs_guard.specs.Recorded.{IsRecorded}
-use Rattle.xfs_guard.specs.Stored.{IsStored, MayLeave}
+use Rattle.xfs_guard.specs.Stored.{MayLeave}
 use Rattle.xfs_guard.specs.View.{GuardView}
 use Rattle.xfs_guard.proofs.BootLaws.{IsRecorded-boot}
 use Rattle.xfs_guard.proofs.CrashedLaws.{begins-same, begins-trans, begins-push, left-front, IsTorn-in_doubt}
 use Rattle.xfs_guard.proofs.StoredLaws.{MayLeave-held, left-possible, tells}
-use Rattle.xfs_cli.specs.Moments.{IsFront, WasOnTheWay}
+use Rattle.xfs_cli.specs.Moments.{IsPrefixOrLost, WasOnTheWay}
 use Rattle.xfs_cli.proofs.RunLaws.{Starts, AtRest}
 
 -- what each moment of a run leaves, from the disk at entry to that at the end
@@ -43,7 +43,7 @@ module _ {D : Type 0} (g : Ghosts D)
         list = J;
         stands = here;
         begins = begins-same J;
-        front = on_told (g.held old) (λ now. (R : List Rec) → StandsFor now R → IsFront R motions J) (λ now is R reads. inl (rw (stands_for_one now R J reads (rw (same_bytes now bytes is told) stands)) (begins-same J)));
+        prefix = on_told (g.held old) (λ now. (R : List Rec) → StandsFor now R → IsPrefixOrLost R motions J) (λ now is R reads. inl (rw (stands_for_one now R J reads (rw (same_bytes now bytes is told) stands)) (begins-same J)));
       })))
     where
       same_bytes : (now bytes : List ℕ) → g.held old ≡ Some now → g.held old ≡ Some bytes → now ≡ bytes
@@ -79,25 +79,25 @@ module _ {D : Type 0} (g : Ghosts D)
           some_same : (a b : Rec) → Some a ≡ Some b → a ≡ b
           some_same a b e = cc
 
-      front : (J X : List Rec) → IsRecorded key units J motions → ((c : List ℕ) → g.images new c → StandsForEither J (boot_of J p) c) → IsCrashOutcome J (Some (boot_of J p)) true X
-          → IfTold (g.held new) (λ now. (R : List Rec) → StandsFor now R → IsFront R motions X)
-      front J X recorded each left = on_told (g.held new) (λ now. (R : List Rec) → StandsFor now R → IsFront R motions X) (λ now is R reads.
+      prefix : (J X : List Rec) → IsRecorded key units J motions → ((c : List ℕ) → g.images new c → StandsForEither J (boot_of J p) c) → IsCrashOutcome J (Some (boot_of J p)) true X
+          → IfTold (g.held new) (λ now. (R : List Rec) → StandsFor now R → IsPrefixOrLost R motions X)
+      prefix J X recorded each left = on_told (g.held new) (λ now. (R : List Rec) → StandsFor now R → IsPrefixOrLost R motions X) (λ now is R reads.
           let one = possible J R now (each now (as_read new now is)) reads in left-front J (Some (boot_of J p)) true X R motions left one (agreed J R recorded one).agrees)
 
       on_the_way : (J : List Rec) (c : List ℕ) → IsRecorded key units J motions → ((d : List ℕ) → g.images new d → StandsForEither J (boot_of J p) d) → StandsForEither J (boot_of J p) c → WasOnTheWay J (g.held new) motions c
-      on_the_way J c recorded each (inl is) = record { list = J; stands = is; begins = begins-same J; front = front J J recorded each (inl (begins-same J)) }
+      on_the_way J c recorded each (inl is) = record { list = J; stands = is; begins = begins-same J; prefix = prefix J J recorded each (inl (begins-same J)) }
       on_the_way J c recorded each (inr is) = record {
         list = with_boot J p;
         stands = is;
         begins = begins-push J J (boot_of J p) (begins-same J);
-        front = front J (with_boot J p) recorded each (inr (IsTorn-in_doubt J (boot_of J p)));
+        prefix = prefix J (with_boot J p) recorded each (inr (IsTorn-in_doubt J (boot_of J p)));
       }
 
   -- the guard was booted, and lines were answered
   pub moments-run : (old : D) (first last : GuardView D) (J0 : List Rec) (p : Places) (motions : Option (List Motion)) → ((d : D) (t : ℕ) (c : List ℕ) → t ≤ g.moment d → g.images d c → g.images_since d t c)
       → AtRest (g.held old) (g.images old) → first.state.records ≡ with_boot J0 p → IfTold (g.held old) (λ bytes. StandsFor bytes J0) → is_some (g.held first.disk) ≡ is_some (g.held old)
       → IfTold (g.held old) (λ all. LeavesOnly g old first.disk (IsOldOrBooted (g.images old) all p))
-      → Continues first.state last.state → LeavesBehind g first last → IsStored g last.disk last.state.records last.state.in_doubt
+      → Continues first.state last.state → LeavesBehind g first last → LeavesOneOf g last.disk last.state.records last.state.in_doubt
       → ((J : List Rec) → MayLeave g last.disk J → IsRecorded last.state.key last.state.units J last.state.motions) → motions ≡ last.state.motions
       → WasOnTheWayAll g old last.disk motions
   moments-run old first last J0 p motions counts_now rest booted stood same leaves continues behind stored recorded is_motions =
@@ -112,20 +112,20 @@ module _ {D : Type 0} (g : Ghosts D)
       (λ then. ⊎_elim (λ here. early c (booted-either old bytes J0 p c only (rw one at stands) (boot.each c (counts_now first.disk (g.moment old) c boot.later here)))) (late c) then) e))
       (joins g old first.disk last.disk (IsOldOrBooted (g.images old) bytes p) (λ c. g.images first.disk c ⊎ StandsLeft first.state last.state c) boot later))
     where
-      front : (X : List Rec) → IsCrashOutcomeAt last.state X → IfTold (g.held last.disk) (λ now. (R : List Rec) → StandsFor now R → IsFront R motions X)
-      front X left = on_told (g.held last.disk) (λ now. (R : List Rec) → StandsFor now R → IsFront R motions X) (λ now is R reads.
+      prefix : (X : List Rec) → IsCrashOutcomeAt last.state X → IfTold (g.held last.disk) (λ now. (R : List Rec) → StandsFor now R → IsPrefixOrLost R motions X)
+      prefix X left = on_told (g.held last.disk) (λ now. (R : List Rec) → StandsFor now R → IsPrefixOrLost R motions X) (λ now is R reads.
           let may = MayLeave-held g last.disk R as_read (ap is_some is) (rw is reads) in
           rw is_motions (left-front last.state.records last.state.in_doubt _ X R last.state.motions left
           (left-possible g last.disk last.state.records last.state.in_doubt stored R may) (recorded R may).agrees))
 
-      -- what was left in the boot is a front of its records
+      -- what was left in the boot is a prefix of its records
       early : (c : List ℕ) → StandsForEither J0 (boot_of J0 p) c → WasOnTheWay J0 (g.held last.disk) motions c
-      early c (inl is) = record { list = J0; stands = is; begins = begins-same J0; front = front J0 (continues.left J0 (inl (rw booted (begins-push J0 J0 (boot_of J0 p) (begins-same J0))))) }
+      early c (inl is) = record { list = J0; stands = is; begins = begins-same J0; prefix = prefix J0 (continues.left J0 (inl (rw booted (begins-push J0 J0 (boot_of J0 p) (begins-same J0))))) }
       early c (inr is) = record {
         list = with_boot J0 p;
         stands = is;
         begins = begins-push J0 J0 (boot_of J0 p) (begins-same J0);
-        front = front (with_boot J0 p) (continues.left (with_boot J0 p) (inl (rw booted (begins-same (with_boot J0 p)))));
+        prefix = prefix (with_boot J0 p) (continues.left (with_boot J0 p) (inl (rw booted (begins-same (with_boot J0 p)))));
       }
 
       late : (c : List ℕ) → StandsLeft first.state last.state c → WasOnTheWay J0 (g.held last.disk) motions c
@@ -133,5 +133,5 @@ module _ {D : Type 0} (g : Ghosts D)
         list = s.list;
         stands = s.stands;
         begins = begins-trans J0 first.state.records s.list (rw booted (begins-push J0 J0 (boot_of J0 p) (begins-same J0))) s.begins;
-        front = front s.list s.left;
+        prefix = prefix s.list s.left;
       }

@@ -1,8 +1,8 @@
 -- A restart of the guard or of the machine, answered or refused, in the words of the two commands that have such a line.
-use Rattle.std.proofs.Common.{◌≡◌, ◌⊎◌, ℕ, List, Option, Result, Ok, Err, inl, inr, refl, ap, sym, subst, ◌∙◌}
+use Rattle.std.proofs.Common.{◌≡◌, ◌⊎◌, ℕ, true, List, Option, Result, Ok, Err, inl, inr, refl, ap, sym, subst, ◌∙◌}
 use Rattle.std.specs.Prelude.{IsErrAnd, codes}
 use Rattle.xfs_dispenser.specs.Seen as Of
-use Rattle.xfs_guard.specs.Booting.{IsUnread, IsUnstarted}
+use Rattle.xfs_guard.specs.Booting.{IsNotReread, IsRereadFailed}
 use Rattle.xfs_guard.specs.View.{View, reread, unbooted, unread}
 use Rattle.xfs_guard.specs.declared.fail.BootFault.{BootFault}
 use Rattle.xfs_guard.specs.declared.fail.BootFault.TheVariants.{NotJournal, Disk, Full, Memory}
@@ -34,7 +34,7 @@ refused_as old new last Disk is = record { still = of is.is; cause = is.fails.ca
     kept : (v : View) → is.now ≡ v → v.motions ≡ old.guard.motions → v.places ≡ old.guard.places → v.faults ≡ old.guard.faults → IsStill new.guard.motions new.guard.places new.guard.faults new.disk_faults (at old last)
     kept v same motions places faults = still old new v last (subst (λ (w : View). Of.Becomes old w new) same is.fails.becomes) motions places faults
 
-    of : IsUnread old.guard is.now ⊎ IsUnstarted old.guard is.now → IsStill new.guard.motions new.guard.places new.guard.faults new.disk_faults (at old last)
+    of : IsNotReread old.guard is.now ⊎ IsRereadFailed true old.guard is.now → IsStill new.guard.motions new.guard.places new.guard.faults new.disk_faults (at old last)
     of (inl u) = kept (unread old.guard) u refl refl refl
     of (inr w) = kept (record (unbooted old.guard w.0) { base = base_of w.0 }) w.2 refl refl refl
 refused_as old new last Full is =

@@ -28,7 +28,7 @@ use Rattle.xfs_guard.proofs.FollowsLaws.{Follows-same, Follows-record}
 use Rattle.xfs_guard.specs.declared.fail.BootFault.{BootFault}
 use Rattle.xfs_guard.specs.declared.fail.BootFault.TheVariants.{NotJournal, Disk, Full, Memory}
 use Rattle.xfs_cli.specs.Boots.{BootExceeds, EndsUnread, IsDue, IsNoJournal, WritesBoot, boot_status}
-use Rattle.xfs_cli.specs.Streams.{Streams}
+use Rattle.xfs_script.specs.Streams.{Streams}
 use Rattle.xfs_cli.specs.Upholds.{Upholds, FollowsWhereTold}
 
 follows-same : (J : List Rec) (L : Option (List Motion)) (P : Places) → FollowsWhereTold J L P J L P

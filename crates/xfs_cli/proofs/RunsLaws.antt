@@ -23,9 +23,9 @@ use Rattle.xfs_guard.specs.Entries.{at_entry, opened}
 use Rattle.xfs_cli.specs.Restarts.{IsFull}
 use Rattle.xfs_cli.specs.Runs.{IsEnd, IsFullAtEnd, Runs}
 use Rattle.xfs_cli.specs.GuardStates.{GuardState}
-use Rattle.xfs_cli.specs.Served.{EndsUnbooted, Serves}
+use Rattle.xfs_cli.specs.InputEnds.{EndsUnbooted, EndsInput, IsAnswered}
 use Rattle.xfs_cli.specs.Statuses.{IsCaused, IsStatus}
-use Rattle.xfs_cli.specs.Streams.{Streams}
+use Rattle.xfs_script.specs.Streams.{Streams}
 use Rattle.xfs_cli.specs.Returns.{Return}
 use Rattle.xfs_cli.proofs.BootedLaws.{EndsAtRestarts, failed-end, untold-end, left-full, ends-at, still-at, told-more, told-any, ends-failed, ends-full, none-told, full-end, full-line}
 use Rattle.xfs_cli.proofs.EndLaws.{finishes, causes-served, causes-refused}
@@ -33,33 +33,8 @@ use Rattle.xfs_cli.proofs.EndingLaws.{boot-least}
 use Rattle.xfs_cli.proofs.NumberLaws.{newer-run, newer-same}
 use Rattle.xfs_cli.proofs.RunLaws.{Starts, ends-unread, due-full, due-unread, journal-run, fits-run}
 use Rattle.xfs_cli.proofs.UnreadLaws.{unwritten-quiet}
-
--- a boot found this list and wrote its boot record behind it
-pub record HasBooted {M D : Type 0} (m : Mechanisms M) (d : Disks D) (core : Core M D) (g : GuardView D) : Type 0 where
-  pub records : List Rec
-  pub stands : IfTold (d.held core.disk) (λ bytes. StandsFor bytes records)
-  pub guard_is : g.state ≡ opened (at_entry m d core) (with_boot records (m.places core.mech))
-  pub later : d.faults core.disk ≤ d.faults g.disk
-  pub fits : HadRoom (d.held core.disk) core.limits (m.places core.mech) g.state.records
-
--- the mechanism and the disk of a guard that is over
-pub record HasEnded {M D : Type 0} (m : Mechanisms M) (d : Disks D) (g : GuardView D) (result : Return M D) : Type 0 where
-  pub motions : m.motions result.mech ≡ g.state.motions
-  pub places : m.places result.mech ≡ g.state.places
-  pub faults : m.faults result.mech ≡ g.state.faults
-  pub disk : result.disk ≡ g.disk
-  pub stored : IfTold (d.held result.disk) (λ _. (bytes : List ℕ) → d.images result.disk bytes → HasPossible g.state.records g.state.in_doubt bytes)
-
--- lines were served, with this status
-pub record IsServed {S A : Type 0} (c : Command S BootFault) (Keeps : A → A → Type 0) (state : A → S) (start end : A) (status : ℕ) (io : Streams) : Type 0 where
-  pub kept : Keeps start end
-  pub serves : IfTold io.input (Serves c (state start) (state end) status io)
-  pub unbooted : IsOfBoot status → EndsUnbooted Keeps state c start status (state end)
-  pub lines : status ≡ 0 → IfTold io.input (AllLines c.IsLine)
-  pub not_a_line : status ≡ 4 → IfTold io.input (StopsAtLine c.IsLine)
-  pub usage : status ≡ 2 → ⊥
-  pub statuses : IsStatus status
-  pub causes : IsCaused status io
+use Rattle.xfs_guard.specs.Outcomes.{BootsGuard, RefusesBoot}
+use Rattle.xfs_cli.proofs.EndsLaws.{HasEnded}
 
 module _ {M D S A : Type 0} (m : Mechanisms M) (d : Disks D) (c : Command S BootFault) (see : S → GuardState) (IsStartOf : S → Type 0) (Keeps : A → A → Type 0) (state : A → S) (guard : A → GuardView D)
     (as_read : (disk : D) (all : List ℕ) → d.held disk ≡ Some all → d.images disk all) (restarts : EndsAtRestarts c see) (empty : c.IsLine [])
@@ -72,35 +47,35 @@ module _ {M D S A : Type 0} (m : Mechanisms M) (d : Disks D) (c : Command S Boot
   still_told a b k = told_is b ∙ ((keeps a b k).continues.disk_told ∙ sym (told_is a))
 
   -- where the boot was not refused
-  pub runs-served : (core : Core M D) (result : Return M D) (io : Streams) (start end : A) → HasBooted m d core (guard start) → d.faults core.disk ≤ (see (state start)).disk_faults → (see (state end)).disk_faults ≡ d.faults result.disk → IsStartOf (state start) → IsServed c Keeps state start end result.status io → HasEnded m d (guard end) result
+  pub runs-served : (core : Core M D) (result : Return M D) (io : Streams) (start end : A) → BootsGuard d (at_entry m d core) core.disk (guard start) → d.faults core.disk ≤ (see (state start)).disk_faults → (see (state end)).disk_faults ≡ d.faults result.disk → IsStartOf (state start) → IsAnswered Keeps state c start end result.status io → HasEnded m d (guard end) result
       → Starts (d.held core.disk) (d.images core.disk) core.key core.units (m.motions core.mech) → Runs c see IsStartOf m d core result io
   runs-served core result io start end b low high begins s e starts = record {
-    serves = told-more io.input _ _ (λ text serves. inr (record {
+    answers = told-more io.input _ _ (λ text answers. inr (record {
       start = state start;
       begins = begins;
-      writes = record { end = state end; ends = ends; serves = serves };
-    })) s.serves;
+      writes = record { end = state end; ends = ends; answers = answers };
+    })) s.answers;
     lines = s.lines;
     not_a_line = s.not_a_line;
     disk_fault = λ six. inr (record { start = state start; begins = begins; writes = failed six });
     not_journal = λ seven. inr (record { start = state start; begins = begins; writes = untold seven });
     full = λ twelve. inr (record { start = state start; begins = begins; writes = overfull twelve });
-    unread = journal-run b.records _ _ b.stands;
-    unwritten = journal-run b.records _ _ b.stands;
-    unmoved = journal-run b.records _ _ b.stands;
+    unread = journal-run b.begins.0 _ _ b.begins.1;
+    unwritten = journal-run b.begins.0 _ _ b.begins.1;
+    unmoved = journal-run b.begins.0 _ _ b.begins.1;
     overfull = fits-run _ _ (guard start).state _ _ b.fits;
-    newer = newer-run (opened (at_entry m d core) (with_boot b.records (m.places core.mech))) (guard end).state b.records _ _ _ refl refl b.stands starts (as_read core.disk) (rw b.guard_is at continues) e.motions;
+    newer = newer-run (opened (at_entry m d core) (with_boot b.begins.0 (m.places core.mech))) (guard end).state b.begins.0 _ _ _ refl refl b.begins.1 starts (as_read core.disk) (rw b.begins.2 at continues) e.motions;
     finishes = λ none. finishes _ _ empty _ _ io.left _ _ _ _ _ _ (causes-served _ _ _ _ _ _ _ _ _ _ _ s.statuses s.usage failed untold
         (λ twelve. full-line c see restarts IsStartOf _ (state start) (state end) result.status io begins
         (λ x. still-at m d result (see (state end)) x ends)
-        s.serves twelve) s.causes.read s.not_a_line s.causes.write s.causes.quota) none.source none.sink none.disk;
+        s.answers twelve) s.causes.read s.not_a_line s.causes.write s.causes.quota) none.source none.sink none.disk;
   }
     where
       ends : IsEnd m d result (see (state end))
       ends = ends-at m d (guard end).state result e.motions e.places e.faults e.stored (see (state end)) (guard_is end) high
 
       continues : Continues (guard start).state (guard end).state
-      continues = (keeps start end s.kept).continues
+      continues = (keeps start end s.keeps).continues
 
       failed : result.status ≡ 6 → Rose (d.faults core.disk) (d.faults result.disk)
       failed six =
@@ -110,38 +85,30 @@ module _ {M D S A : Type 0} (m : Mechanisms M) (d : Disks D) (c : Command S Boot
       untold : result.status ≡ 7 → d.held core.disk ≡ None
       untold seven =
           let quiet = untold-end c see restarts Keeps state start result.status (state end) still_told (s.unbooted (inr (inl seven))) seven in
-          none-told (d.held core.disk) (sym (ap (λ (v : View). v.disk_told) b.guard_is) ∙ (sym (told_is start) ∙ quiet))
+          none-told (d.held core.disk) (sym (ap (λ (v : View). v.disk_told) b.begins.2) ∙ (sym (told_is start) ∙ quiet))
 
       overfull : result.status ≡ 12 → IsFullAtEnd core.limits (m.places result.mech) (d.held result.disk)
       overfull twelve =
-          let limits = continues.limits ∙ ap (λ (v : View). v.limits) b.guard_is in
+          let limits = continues.limits ∙ ap (λ (v : View). v.limits) b.begins.2 in
           let full : IsFull (guard end).state = rw (guard_is end) at (left-full c see restarts Keeps state start result.status (state end) (s.unbooted (inr (inr twelve))) twelve) in
           full-end (guard end).state _ _ _ _ limits e.places (as_read result.disk) e.stored full
 
--- what a refused boot leaves
-pub record IsRefused {M D : Type 0} (m : Mechanisms M) (d : Disks D) (core : Core M D) (why : BootFault) (mech : M) (disk : D) : Type 0 where
-  pub mech_is : mech ≡ core.mech
-  pub not_journal : (at : ℕ) → why ≡ NotJournal at → IfTold (d.held core.disk) (λ all. CeasesAt all at × ((records : List Rec) → ¬ StandsFor all records))
-  pub full : why ≡ Full → (records : List Rec) × IfTold (d.held core.disk) (λ all. StandsFor all records) × (has_no_room_at_boot core.limits records (m.places core.mech) ≡ true)
-  pub failed : why ≡ Disk → Rose (d.faults core.disk) (d.faults disk)
-  pub unlisted : IfTold (d.held core.disk) (λ all. ((records : List Rec) → ¬ StandsFor all records) → IsQuiet d core.disk disk)
-
 -- where it was refused
 pub runs-refused : {M D S : Type 0} (m : Mechanisms M) (d : Disks D) (c : Command S BootFault) (see : S → GuardState) (IsStartOf : S → Type 0) → c.IsLine [] → (core : Core M D) (why : BootFault) (result : Return M D) (io : Streams)
-    → IsRefused m d core why result.mech result.disk → result.status ≡ boot_status why → WritesBoot why io → io.left ≡ io.input → Runs c see IsStartOf m d core result io
-runs-refused m d c see IsStartOf empty core why result io f status written unread = record {
-  serves = told-any io.input _ (λ text. inl (record { why = why; status_is = status; unread = unread; written = written; unmoved = f.mech_is }));
+    → result.mech ≡ core.mech → RefusesBoot d (at_entry m d core) core.disk why result.disk → result.status ≡ boot_status why → WritesBoot why io → io.left ≡ io.input → Runs c see IsStartOf m d core result io
+runs-refused m d c see IsStartOf empty core why result io same f status written unread = record {
+  answers = told-any io.input _ (λ text. inl (record { why = why; status_is = status; unread = unread; written = written; unmoved = same }));
   lines = λ zero. absurd (omega (arith, low, status, zero));
   not_a_line = λ four. absurd (omega (arith, low, status, four));
-  disk_fault = λ six. inl (ends-failed _ _ _ _ _ status written f.failed six);
+  disk_fault = λ six. inl (ends-failed _ _ _ _ _ status written f.disk six);
   not_journal = λ seven. inl (ends-unread _ _ _ _ status written f.not_journal seven);
   full = λ twelve. inl (ends-full _ _ _ _ _ _ status written f.full twelve);
   unread = due-unread _ _ _ status f.full;
   unwritten = unwritten-quiet d core.disk result.disk f.unlisted;
-  unmoved = told-any (d.held core.disk) (λ bytes. IsNoJournal bytes → result.mech ≡ core.mech) (λ bytes none. f.mech_is);
+  unmoved = told-any (d.held core.disk) (λ bytes. IsNoJournal bytes → result.mech ≡ core.mech) (λ bytes none. same);
   overfull = due-full _ _ _ _ _ status f.not_journal;
-  newer = rw f.mech_is (newer-same _ _);
-  finishes = λ none. finishes _ _ empty _ _ io.left _ _ _ _ _ _ (causes-refused _ _ _ _ _ _ _ _ _ _ _ _ status f.not_journal f.failed f.full) none.source none.sink none.disk;
+  newer = rw same (newer-same _ _);
+  finishes = λ none. finishes _ _ empty _ _ io.left _ _ _ _ _ _ (causes-refused _ _ _ _ _ _ _ _ _ _ _ _ status f.not_journal f.disk f.full) none.source none.sink none.disk;
 }
   where
     low : 6 ≤ boot_status why

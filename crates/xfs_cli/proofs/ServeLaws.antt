@@ -8,7 +8,7 @@ use Rattle.xfs_mech.specs.declared.mechanism.Mechanism.{Ghosts as Mechanisms}
 use Rattle.xfs_journal.specs.JournalView.{HasPossible}
 use Rattle.xfs_journal.specs.declared.record.Rec.{Rec}
 use Rattle.xfs_guard.specs.Continues.{Continues}
-use Rattle.xfs_guard.specs.Entries.{AtEntry, opened}
+use Rattle.xfs_guard.specs.Entries.{AtEntry, opened, at_entry}
 use Rattle.xfs_guard.specs.Reach.{BeginsBehind, IsComparable, StandsBehind}
 use Rattle.xfs_guard.specs.View.{GuardView, View}
 use Rattle.xfs_guard.proofs.BegunLaws.{begun}
@@ -39,15 +39,15 @@ use Rattle.xfs_serving.specs.declared.ending.Ending.TheVariants as taking
 use Rattle.xfs_cli.specs.Boots.{WritesBoot, boot_status}
 use Rattle.xfs_cli.specs.Returns.{Return}
 use Rattle.xfs_cli.specs.ServeRuns.{ClosesBehind, RunsServe, StandsForMore, served_line, served_status}
-use Rattle.xfs_cli.specs.Served.{WritesLast}
 use Rattle.xfs_cli.specs.Statuses.{IsFinished, IsOneOf}
-use Rattle.xfs_cli.specs.Streams.{Output, unread_io}
+use Rattle.xfs_script.specs.Streams.{Output, unread_io}
 use Rattle.xfs_cli.specs.declared.status.TheConstants.{DISK_FAULT, JOURNAL_FULL, LINK_FAILED, NOT_A_JOURNAL, NO_MEMORY, READ_TO_END}
 use Rattle.xfs_cli.proofs.BootedLaws.{ends-failed, told-any}
 use Rattle.xfs_cli.proofs.BootsOnceLaws.{boots-refused, boots-served}
 use Rattle.xfs_cli.proofs.EndingLaws.{boot-least}
 use Rattle.xfs_cli.proofs.LoadLaws.{refused-finishes}
-use Rattle.xfs_cli.proofs.RunsLaws.{HasBooted, IsRefused}
+use Rattle.xfs_script.specs.LastLines.{WritesLast}
+use Rattle.xfs_guard.specs.Outcomes.{BootsGuard, RefusesBoot}
 
 -- ---- the records at the end begin with those of the boot
 
@@ -76,7 +76,7 @@ unfinished old new (happens there is) = subst (λ (s : State). Rose old.seen.dis
 unfinished old new (wanting memory wants) = absurd wants
 
 -- the line that says so
-wrote-failed : (settled : Result Unit Deny) (deny : Deny) (o : Output) → settled ≡ Err deny → WritesLast (served_line settled) o.faults o.faults_now o.held o.held_now → WritesBoot Disk (unread_io o)
+wrote-failed : (settled : Result Unit Deny) (deny : Deny) (o : Output) → settled ≡ Err deny → WritesLast (served_line settled) o → WritesBoot Disk (unread_io o)
 wrote-failed (Err e) deny o is line = line
 wrote-failed (Ok done) deny o is line = absurd (false≢true (sym (ap is_ok is)))
 
@@ -109,14 +109,14 @@ closes-behind m d e records start last mech disk is goes_on back = record {
 
 -- where the boot was not refused
 pub serves-booted : {M D : Type 0} (m : Mechanisms M) (d : Disks D) (core : Core M D) (connections : ℕ) (result : Return M D) (before now : DoorLog) (o : Output) (start : MachineView D) (last : State) (ending : Ending) (settled : Result Unit Deny)
-    → HasBooted m d core (guard_of start) → start.state ≡ bare start.state.seen core.life (length start.state.seen.guard.records)
+    → BootsGuard d (at_entry m d core) core.disk (guard_of start) → start.state ≡ bare start.state.seen core.life (length start.state.seen.guard.records)
     → start.state.seen.disk_faults ≡ d.faults start.disk → Takes connections ending before now → Continues start.state.seen.guard last.seen.guard → start.state.seen.disk_faults ≤ last.seen.disk_faults
     → Finishes m d last settled result.mech result.disk → ClosesBehind m d start.state.seen.guard result.mech result.disk → result.status ≡ served_status ending settled
-    → WritesLast (served_line settled) o.faults o.faults_now o.held o.held_now → RunsServe m d core connections result before now o
+    → WritesLast (served_line settled) o → RunsServe m d core connections result before now o
 serves-booted m d core connections result before now o start last ending settled b bare_is tied takes goes_on grown f closes status line = record {
   serves = inr (record {
     start = start.state;
-    begins = record { boots = record { records = b.records; stands = b.stands; guard_is = b.guard_is; later = low; none = refl }; machine = bare_is };
+    begins = record { boots = record { records = b.begins.0; stands = b.begins.1; guard_is = b.begins.2; later = low; none = refl }; machine = bare_is };
     writes = record {
       ending = ending;
       takes = takes;
@@ -149,7 +149,7 @@ serves-booted m d core connections result before now o start last ending settled
     one = served-one ending settled result.status status
 
     low : d.faults core.disk ≤ start.state.seen.disk_faults
-    low = let later = b.later in omega (arith, later, tied)
+    low = let later = b.leaves.faults in omega (arith, later, tied)
 
     disk_rose : (deny : Deny) → settled ≡ Err deny → Rose (d.faults core.disk) (d.faults result.disk)
     disk_rose deny is =
@@ -214,16 +214,16 @@ serves-booted m d core connections result before now o start last ending settled
 
 -- where it was refused
 pub serves-refused : {M D : Type 0} (m : Mechanisms M) (d : Disks D) (core : Core M D) (connections : ℕ) (why : BootFault) (result : Return M D) (before now : DoorLog) (o : Output)
-    → IsRefused m d core why result.mech result.disk → result.status ≡ boot_status why → WritesBoot why (unread_io o) → now ≡ before → RunsServe m d core connections result before now o
-serves-refused m d core connections why result before now o f status written same = record {
-  serves = inl (record { unbooted = record { why = why; status_is = status; unread = refl; written = written; unmoved = f.mech_is }; untaken = same });
+    → result.mech ≡ core.mech → RefusesBoot d (at_entry m d core) core.disk why result.disk → result.status ≡ boot_status why → WritesBoot why (unread_io o) → now ≡ before → RunsServe m d core connections result before now o
+serves-refused m d core connections why result before now o kept f status written same = record {
+  serves = inl (record { unbooted = record { why = why; status_is = status; unread = refl; written = written; unmoved = kept }; untaken = same });
   status_is = refused-one why result.status status;
   came = λ zero_is. absurd (omega (arith, low, status, zero_is));
   failed = λ nine. absurd (not-nine why (sym status ∙ nine));
   undialled = ap (λ (l : DoorLog). l.dials) same;
-  disk_fault = λ six. ends-failed _ _ _ _ _ status written f.failed six;
-  boots_once = boots-refused m d core why result (unread_io o) f status written;
-  finishes = λ doors disk. refused-finishes why _ _ _ _ _ _ status f.not_journal f.failed f.full disk;
+  disk_fault = λ six. ends-failed _ _ _ _ _ status written f.disk six;
+  boots_once = boots-refused m d core why result (unread_io o) kept f status written;
+  finishes = λ doors disk. refused-finishes why _ _ _ _ _ _ status f.not_journal f.disk f.full disk;
 }
   where
     low : 6 ≤ boot_status why

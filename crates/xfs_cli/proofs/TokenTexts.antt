@@ -3,11 +3,11 @@ use Rattle.std.proofs.Common.{◌≡◌, ℕ, ◌+◌, ◌<◌, ◌≤◌, List,
 use Rattle.std.specs.Prelude.{codes, slice_get}
 use Rattle.std.proofs.lemmas.List.{take_more, length-take-le}
 use Rattle.std.proofs.lemmas.Option.{slice_get_within, get_or_from_slice_get}
-use Rattle.xfs_script.specs.Answered.{lines_text, Tells}
+use Rattle.xfs_script.specs.Answered.{lines_text, IsAnswerText}
 use Rattle.xfs_script.specs.declared.token_line.TokenLine.{TokenLine}
-use Rattle.xfs_cli.specs.TokenVerbs.{AreAnswer, IsAnswer, thousandths_text, joined_amounts}
+use Rattle.xfs_cli.specs.TokenVerbs.{AreTokenAnswer, IsTokenAnswer, thousandths_text, joined_amounts}
 
--- a front with one more
+-- a prefix with one more
 take-push : {X : Type 0} (xs : List X) (i : ℕ) (x : X) → slice_get xs i ≡ Some x → take (i + 1) xs ≡ take i xs ++ x ∷ []
 take-push xs i x e = take_more xs i x (slice_get_within xs i x e) ∙ ap (λ y. take i xs ++ y ∷ []) (get_or_from_slice_get xs i x x e)
 
@@ -30,5 +30,5 @@ amounts-step amounts i a start text comma new low e text_is comma_is new_is =
     (append_assoc (start ++ joined_amounts (take i amounts)) (codes ",") (thousandths_text a) ∙ append_assoc start (joined_amounts (take i amounts)) (44 ∷ thousandths_text a))
 
 -- a line that answers, with its line feed
-pub tells-line : (key : List ℕ) (verb given : TokenLine) (line bytes : List ℕ) → given ≡ verb → IsAnswer key verb line → bytes ≡ lines_text (line ∷ []) → Tells (λ output next. AreAnswer key given output) bytes key
+pub tells-line : (key : List ℕ) (verb given : TokenLine) (line bytes : List ℕ) → given ≡ verb → IsTokenAnswer key verb line → bytes ≡ lines_text (line ∷ []) → IsAnswerText (λ output next. AreTokenAnswer key given output) bytes key
 tells-line key verb given line bytes is answer text = rw is (record { output = line ∷ []; answer = answer; text = text })

@@ -16,12 +16,12 @@ use Rattle.xfs_model.specs.State.{State}
 use Rattle.xfs_model.specs.Step.{Step}
 use Rattle.xfs_token.specs.Amounts.{IsMade}
 use Rattle.xfs_base.specs.declared.moment.Moment.{Moment}
-use Rattle.xfs_script.specs.Answered.{Tells, lines_text}
+use Rattle.xfs_script.specs.Answered.{IsAnswerText, lines_text}
 use Rattle.xfs_script.proofs.AnswerLaws.{lines_text-append}
 use Rattle.xfs_script.specs.ReplayLines.{IsReplayLine}
 use Rattle.xfs_script.specs.declared.replay_line.ReplayLine.{ReplayLine}
 use Rattle.xfs_script.specs.declared.replay_line.ReplayLine.TheVariants.{Skip, Join, Leave, Say, At, Work, Rest, CardIn, CardTaken, CardFault, Key, KeyFault, Take, Mint, Restart, Show}
-use Rattle.xfs_cli.specs.ReplayEvents.{AnswersEvent, AnswersReplay, AnswersVerb, HasMail, IsTouched, Mints, clients_after, event_of, told, told_to}
+use Rattle.xfs_cli.specs.ReplayEvents.{AnswersEvent, AnswersReplay, AnswersVerb, HasMail, IsTouched, Mints, clients_after, event_of, lines_of, lines_to}
 use Rattle.xfs_load.specs.Steps.{HappensInPart, rounds}
 use Rattle.xfs_cli.specs.ReplayCommand.{IsPartDone}
 use Rattle.xfs_cli.specs.ReplayStates.{Played, is_joined}
@@ -69,7 +69,7 @@ pub proceeds-kept : {D : Type 0} (d : Ghosts D) (old new : GuardView D) → ((di
 proceeds-kept {D} d old new only_now same = (let P : GuardView D → Type 0 = λ x. Proceeds d old x in subst P (sym same) (Proceeds-same d old only_now))
 
 -- a number that isn't joined
-pub tells-none : (s : Played) (verb : ReplayLine) (event : Option Event) (bytes : List ℕ) → event ≡ None → bytes ≡ lines_text (codes "no client" ∷ []) → Tells (AnswersEvent s verb event) bytes s
+pub tells-none : (s : Played) (verb : ReplayLine) (event : Option Event) (bytes : List ℕ) → event ≡ None → bytes ≡ lines_text (codes "no client" ∷ []) → IsAnswerText (AnswersEvent s verb event) bytes s
 tells-none s verb None bytes is text = record { output = codes "no client" ∷ []; answer = (refl, refl); text = text }
 tells-none s verb (Some event) bytes is text = cc
 
@@ -78,7 +78,7 @@ event-same a b e = cc
 
 -- an event that happened
 pub tells-event : (s next : Played) (verb : ReplayLine) (event : Option Event) (it : Event) (answer : Answer) (machine : State) (said : List (List ℕ)) (bytes : List ℕ) → event ≡ Some it → Step s.machine it answer machine
-    → told_to verb answer ≡ Some said → next ≡ record s { machine = machine; clients = clients_after s.clients verb answer } → bytes ≡ lines_text said → Tells (AnswersEvent s verb event) bytes next
+    → lines_to verb answer ≡ Some said → next ≡ record s { machine = machine; clients = clients_after s.clients verb answer } → bytes ≡ lines_text said → IsAnswerText (AnswersEvent s verb event) bytes next
 tells-event s next verb None it answer machine said bytes event step told is text = cc
 tells-event s next verb (Some e) it answer machine said bytes event step told is text =
     let P : Event → Type 0 = λ x. Step s.machine x answer machine in
@@ -102,12 +102,12 @@ pub join-some : (s : Played) (number : ℕ) (service : Service) → is_joined s.
 join-some s number service is = rw is refl
 
 -- a touch that happened
-pub tells-touch : (s : Played) (it : Touch) (answer : Answer) (machine : State) (said : List (List ℕ)) (bytes : List ℕ) → Step s.machine (touch it) answer machine → told answer ≡ Some said → bytes ≡ lines_text said
-    → Tells (IsTouched s it) bytes (record s { machine = machine })
+pub tells-touch : (s : Played) (it : Touch) (answer : Answer) (machine : State) (said : List (List ℕ)) (bytes : List ℕ) → Step s.machine (touch it) answer machine → lines_of answer ≡ Some said → bytes ≡ lines_text said
+    → IsAnswerText (IsTouched s it) bytes (record s { machine = machine })
 tells-touch s it answer machine said bytes step text written = record { output = said; answer = record { answer = answer; machine = machine; step = step; text = text; is = refl }; text = written }
 
 -- a mint for no nonce
-pub tells-no_token : (s : Played) (live : Option Nonce) (amounts : List (List ℕ × ℕ)) (bytes : List ℕ) → live ≡ None → bytes ≡ lines_text (codes "token none" ∷ []) → Tells (Mints live s amounts) bytes (record s { last = None })
+pub tells-no_token : (s : Played) (live : Option Nonce) (amounts : List (List ℕ × ℕ)) (bytes : List ℕ) → live ≡ None → bytes ≡ lines_text (codes "token none" ∷ []) → IsAnswerText (Mints live s amounts) bytes (record s { last = None })
 tells-no_token s None amounts bytes none text = record { output = codes "token none" ∷ []; answer = (refl, refl); text = text }
 tells-no_token s (Some nonce) amounts bytes none text = cc
 
@@ -116,7 +116,7 @@ nonce-same a b e = cc
 
 -- a mint for this nonce
 pub tells-token : (s : Played) (live : Option Nonce) (nonce : Nonce) (amounts : List (List ℕ × ℕ)) (key token last bytes : List ℕ) → live ≡ Some nonce → key ≡ s.machine.seen.guard.key → IsMade key nonce.text amounts token → last ≡ token
-    → bytes ≡ lines_text ((codes "token " ++ token) ∷ []) → Tells (Mints live s amounts) bytes (record s { last = Some last })
+    → bytes ≡ lines_text ((codes "token " ++ token) ∷ []) → IsAnswerText (Mints live s amounts) bytes (record s { last = Some last })
 tells-token s None nonce amounts key token last bytes is same made kept text = cc
 tells-token s (Some n) nonce amounts key token last bytes is same made kept text =
     let P : Nonce → Type 0 = λ x. IsMade s.machine.seen.guard.key x.text amounts token in
@@ -135,15 +135,15 @@ pub pass-some : {A B : Type 0} (f : A → B) (found : Option A) (pass : Option B
 pass-some f found pass x is some = sym is ∙ ap (option_map f) some
 
 -- what a verb is answered, the given verb is
-pub verb-tells : (s next : Played) (verb given : ReplayLine) (bytes : List ℕ) → given ≡ verb → Tells (AnswersVerb s verb) bytes next → Tells (AnswersVerb s given) bytes next
-verb-tells s next verb given bytes is tells = (let P : ReplayLine → Type 0 = λ v. Tells (AnswersVerb s v) bytes next in subst P (sym is) tells)
+pub verb-tells : (s next : Played) (verb given : ReplayLine) (bytes : List ℕ) → given ≡ verb → IsAnswerText (AnswersVerb s verb) bytes next → IsAnswerText (AnswersVerb s given) bytes next
+verb-tells s next verb given bytes is tells = (let P : ReplayLine → Type 0 = λ v. IsAnswerText (AnswersVerb s v) bytes next in subst P (sym is) tells)
 
 pub verb-part : (s next : Played) (verb given : ReplayLine) → given ≡ verb → IsPartDone s verb next → IsPartDone s given next
 verb-part s next verb given is part = (let P : ReplayLine → Type 0 = λ v. IsPartDone s v next in subst P (sym is) part)
 
 -- what a touch is answered, a line that stands for it is
-pub touch-tells : (s next : Played) (verb : ReplayLine) (it : Touch) (bytes : List ℕ) → ((answer : Answer) → told_to verb answer ≡ told answer) → ((answer : Answer) → clients_after s.clients verb answer ≡ s.clients)
-    → Tells (IsTouched s it) bytes next → Tells (AnswersEvent s verb (Some (touch it))) bytes next
+pub touch-tells : (s next : Played) (verb : ReplayLine) (it : Touch) (bytes : List ℕ) → ((answer : Answer) → lines_to verb answer ≡ lines_of answer) → ((answer : Answer) → clients_after s.clients verb answer ≡ s.clients)
+    → IsAnswerText (IsTouched s it) bytes next → IsAnswerText (AnswersEvent s verb (Some (touch it))) bytes next
 touch-tells s next verb it bytes same kept t =
     let a = t.answer in
     record {
@@ -166,8 +166,8 @@ pub restart-text : (text : List ℕ) (verb : ReplayLine) → IsReplayLine text v
 restart-text text verb reads is = (let P : ReplayLine → Type 0 = λ v. IsReplayLine text v in subst P is reads)
 
 -- a line is answered by its verb, and the frames behind that
-pub line-told : (s next between : Played) (text : List ℕ) (verb : ReplayLine) (bytes all : List ℕ) → IsReplayLine text verb → length text ≤ 70000 → Tells (AnswersVerb s verb) bytes between
-    → HasMail between.clients between.machine bytes all next.machine → next ≡ record between { machine = next.machine } → Tells (AnswersReplay s text) all next
+pub line-told : (s next between : Played) (text : List ℕ) (verb : ReplayLine) (bytes all : List ℕ) → IsReplayLine text verb → length text ≤ 70000 → IsAnswerText (AnswersVerb s verb) bytes between
+    → HasMail between.clients between.machine bytes all next.machine → next ≡ record between { machine = next.machine } → IsAnswerText (AnswersReplay s text) all next
 line-told s next between text verb bytes all reads short t m is = record {
   output = t.output ++ m.mail;
   answer = record {

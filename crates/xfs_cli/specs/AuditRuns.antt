@@ -14,14 +14,14 @@ use Rattle.xfs_script.specs.declared.answerer.Ending.{Ending}
 use Rattle.xfs_script.specs.declared.answerer.Ending.TheVariants.{AtEnd}
 use Rattle.xfs_script.specs.declared.feed.TheConstants.{QUOTA}
 use Rattle.xfs_cli.specs.AuditVerbs.{Handed, HandsIn, IsLineOfAudit, TellsVerdict, audit_lines, nothing}
-use Rattle.xfs_cli.specs.Returns.{Return, back}
+use Rattle.xfs_cli.specs.Returns.{Return, back, ComesBack}
 use Rattle.xfs_cli.specs.Run.{IsAudit}
-use Rattle.xfs_cli.specs.Served.{WritesLast, last_line, status_of}
+use Rattle.xfs_cli.specs.InputEnds.{ending_line, ending_status}
 use Rattle.xfs_cli.specs.Statuses.{IsFinished}
-use Rattle.xfs_cli.specs.Streams.{Streams}
-use Rattle.xfs_cli.specs.TokenRuns.{IsKept}
+use Rattle.xfs_script.specs.Streams.{Streams, output_of}
 use Rattle.xfs_cli.specs.declared.ended.Ended.{Ended}
 use Rattle.xfs_cli.specs.declared.status.TheConstants.{DISK_FAULT, JOURNAL_FULL, NOT_A_JOURNAL, NOT_A_LINE, NO_MEMORY, READ_TO_END, WRITE_FAULT}
+use Rattle.xfs_script.specs.LastLines.{WritesLast}
 
 -- the verdict of what was handed in is written, or the sink took a prefix of it; these bytes were to be written
 pub record WritesVerdict (key : List ℕ) (units : List NoteKind) (h : Handed) (Took : List ℕ → Type 0) : Type 0 where
@@ -39,7 +39,7 @@ Judges key units h status before after =
 -- where the lines ended in another way, that ending has its status and its last line, and there is no verdict
 abbrev pub Concludes : List ℕ → List NoteKind → Handed → Ending BootFault → ℕ → Streams → Type 0
 Concludes key units h AtEnd status io = Judges key units h status io.output io.output_now
-Concludes key units h ending status io = (status ≡ status_of ending) × WritesLast (last_line ending) io.write_faults io.write_faults_now io.output io.output_now
+Concludes key units h ending status io = (status ≡ ending_status ending) × WritesLast (ending_line ending) (output_of io)
 
 -- the first lines of the input hand something in, and nothing is written before they end
 pub record Audits (key : List ℕ) (units : List NoteKind) (status : ℕ) (io : Streams) (text : List ℕ) : Type 0 where
@@ -63,13 +63,13 @@ pub record RunsAudit {M D : Type 0} (core : Core M D) (result : Return M D) (io 
   pub verdict : result.status ≡ READ_TO_END → IfTold io.input (IsAudited core.key core.units io)
   pub lines : result.status ≡ READ_TO_END → IfTold io.input (AllLines IsLineOfAudit)
   pub not_a_line : result.status ≡ NOT_A_LINE → IfTold io.input (StopsAtLine IsLineOfAudit)
-  pub kept : IsKept core result
+  pub kept : ComesBack core result
   -- it boots nothing
   pub unbooted : (result.status ≢ DISK_FAULT) × (result.status ≢ NOT_A_JOURNAL) × (result.status ≢ JOURNAL_FULL)
   -- a run that nothing hinders ends with its input
   pub finishes : ¬ (Rose io.read_faults io.read_faults_now) → ¬ (Rose io.write_faults io.write_faults_now)
       → IfTold io.input (λ text. AllLines IsLineOfAudit text → length text < QUOTA → IsFinished result.status)
 
--- so where the words are `audit`
+-- the words `audit` have a run of `audit`
 abbrev pub RunsAuditOf : {M D L : Type 0} → List (String Global) → Core M D → Ended M D L → Streams → Type 0
 RunsAuditOf words core ended io = IsAudit words → RunsAudit core (back ended) io

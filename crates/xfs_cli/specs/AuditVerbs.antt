@@ -1,6 +1,5 @@
 -- The command `audit`: what its lines hand in, and the line that tells the verdict.
-use Rattle.std.specs.Prelude.{◌≡◌, ℕ, ◌≤◌, List, [], ◌∷◌, ◌++◌, length, codes, replicate}
-use Rattle.xfs_base.specs.declared.counts.Counts.{Counts}
+use Rattle.std.specs.Prelude.{◌≡◌, ℕ, ◌≤◌, List, [], ◌∷◌, ◌++◌, length, codes}
 use Rattle.xfs_base.specs.declared.counts.Places.{Places}
 use Rattle.xfs_base.specs.declared.money.NoteKind.{NoteKind}
 use Rattle.xfs_mech.specs.declared.motion.Motion.{Motion}
@@ -17,6 +16,7 @@ use Rattle.xfs_script.specs.declared.audit_line.AuditLine.TheVariants.{Skip, Bod
 use Rattle.xfs_script.specs.declared.feed.TheConstants.{LONGEST_LINE}
 use Rattle.xfs_cli.specs.declared.audit_answer.Auditor.{Auditor}
 use Rattle.xfs_guard.specs.declared.fail.BootFault.{BootFault}
+use Rattle.xfs_guard.specs.Balance.{no_notes}
 
 -- the records of a journal and the entries of a mechanism's list, the oldest first, and the places at the list's beginning and at its end
 pub record Handed : Type 0 where
@@ -24,9 +24,6 @@ pub record Handed : Type 0 where
   pub motions : List Motion
   pub from : Places
   pub to : Places
-
-abbrev pub no_notes : Counts
-no_notes = record { 0 = replicate 8 0 }
 
 abbrev pub nowhere : Places
 nowhere = record { units = no_notes; transport = no_notes; outlet = no_notes; taken = no_notes; retracted = no_notes; rejected = no_notes }

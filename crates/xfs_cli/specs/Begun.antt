@@ -9,14 +9,14 @@ use Rattle.xfs_guard.specs.Fits.{unfit}
 use Rattle.xfs_guard.specs.Reports.{HasReported}
 use Rattle.xfs_guard.specs.declared.ask.Ask.{Ask}
 use Rattle.xfs_dispenser.specs.Carried.{StacksFirst}
-use Rattle.xfs_dispenser.specs.declared.leave.Leave.{Leave}
+use Rattle.xfs_dispenser.specs.declared.grant.Grant.{Grant}
 use Rattle.xfs_script.specs.Guard.{IsGuardLine}
 use Rattle.xfs_script.specs.declared.guard_line.GuardLine.{GuardLine}
 use Rattle.xfs_script.specs.declared.guard_line.GuardLine.TheVariants.{Dispense, Fill, Restart}
 use Rattle.xfs_cli.specs.GuardStates.{GuardState, Becomes, guard_of}
 use Rattle.xfs_cli.specs.Moves.{MechCalled, Moves}
 use Rattle.xfs_cli.specs.Dispenses.{IsAllowed, named}
-use Rattle.xfs_cli.specs.GuardVerbs.{AnswersGuard, IsAnswer, IsLoaded}
+use Rattle.xfs_cli.specs.GuardVerbs.{AnswersGuard, IsGuardAnswer, IsLoaded}
 use Rattle.xfs_cli.specs.Restarts.{RestartFails}
 use Rattle.xfs_guard.specs.declared.fail.BootFault.{BootFault}
 use Rattle.xfs_script.specs.declared.feed.TheConstants.{LONGEST_LINE}
@@ -25,20 +25,20 @@ use Rattle.xfs_script.specs.declared.feed.TheConstants.{LONGEST_LINE}
 abbrev pub AllOrNothing : (List ℕ → GuardState → Type 0) → GuardState → GuardState → Type 0
 AllOrNothing Answer s end = (end ≡ s) ⊎ ((line : List ℕ) × Answer line end)
 
--- the same of an order of all the notes of a place
+-- nothing was done of an order of all the notes of a place; or all of it, and its line was not written
 abbrev pub MovesOrNot : GuardState → Ask → GuardState → Type 0
 MovesOrNot s ask end = AllOrNothing (Moves s ask) s end
 
--- and of a verb
+-- nothing was done of a verb of `guard`; or all of it, and its line was not written
 abbrev pub WholeOrNone : GuardState → GuardLine → GuardState → Type 0
-WholeOrNone s verb end = AllOrNothing (IsAnswer s verb) s end
+WholeOrNone s verb end = AllOrNothing (IsGuardAnswer s verb) s end
 
 -- a dispense was allowed, and the orders of its first units were carried out
 pub record IsPartDispensed (s : GuardState) (token : Option (List ℕ)) (counts : CountsOf) (end : GuardState) : Type 0 where
-  pub leave : Leave
+  pub grant : Grant
   pub bound : GuardState
-  pub allowed : IsAllowed s token counts (Ok leave) bound
-  pub first : StacksFirst leave.issue leave.counts.0 (guard_of bound) (guard_of end)
+  pub allowed : IsAllowed s token counts (Ok grant) bound
+  pub first : StacksFirst grant.issue grant.counts.0 (guard_of bound) (guard_of end)
   pub last_is : end.last ≡ bound.last
 
 -- the notes of a `fill` were loaded, and nothing was written down of it

@@ -11,7 +11,7 @@ boot_status Disk = DISK_FAULT
 boot_status Full = JOURNAL_FULL
 boot_status Memory = NO_MEMORY
 
--- its last line; want of memory has none
+-- the last line of a refused boot; want of memory has none
 abbrev pub boot_line : BootFault → List (List ℕ)
 boot_line (NotJournal at) = (codes "boot: not a journal at " ++ decimal at) ∷ []
 boot_line Disk = codes "boot: disk" ∷ []

@@ -11,14 +11,14 @@ use Rattle.xfs_journal.specs.declared.record.Rec.{Rec}
 use Rattle.xfs_guard.specs.Booting.{has_no_room_at_boot}
 use Rattle.xfs_guard.specs.declared.fail.BootFault.{BootFault}
 use Rattle.xfs_guard.specs.declared.fail.BootFault.TheVariants.{NotJournal, Disk, Full}
-use Rattle.xfs_cli.specs.Served.{WritesLast}
-use Rattle.xfs_cli.specs.Streams.{Streams}
+use Rattle.xfs_script.specs.Streams.{Streams, output_of}
 pub use Rattle.xfs_cli.specs.BootLines.{boot_status, boot_line}
 use Rattle.xfs_cli.specs.declared.status.TheConstants.{DISK_FAULT, NO_MEMORY}
+use Rattle.xfs_script.specs.LastLines.{WritesLast}
 
 -- the last line of a refused boot is written
 abbrev pub WritesBoot : BootFault → Streams → Type 0
-WritesBoot fault io = WritesLast (boot_line fault) io.write_faults io.write_faults_now io.output io.output_now
+WritesBoot fault io = WritesLast (boot_line fault) (output_of io)
 
 -- no list of records stands for the bytes
 abbrev pub IsNoJournal : List ℕ → Type 0

@@ -6,7 +6,7 @@ use Rattle.xfs_guard.specs.declared.machine_core.Core.{Core}
 use Rattle.xfs_cli.specs.Boots.{BootExceeds, EndsFull, EndsUnread, IsDue, IsUnwritten}
 use Rattle.xfs_cli.specs.Returns.{Return}
 use Rattle.xfs_cli.specs.Runs.{AtEntryList, WhereNoJournal}
-use Rattle.xfs_cli.specs.Streams.{Streams}
+use Rattle.xfs_script.specs.Streams.{Streams}
 use Rattle.xfs_cli.specs.declared.status.TheConstants.{JOURNAL_FULL, NOT_A_JOURNAL}
 
 pub record BootsOnce {M D : Type 0} (m : Mechanisms M) (d : Disks D) (core : Core M D) (result : Return M D) (io : Streams) : Type 0 where

@@ -5,18 +5,18 @@ use Rattle.xfs_client.specs.Withdrawals.{Terms}
 use Rattle.xfs_guard.specs.declared.machine_core.Core.{Core}
 use Rattle.xfs_server.specs.Doors.{DoorLog}
 use Rattle.xfs_server.specs.Links.{LinkLog}
-use Rattle.xfs_withdraw.specs.Doors.{HasDialled, HasFailed, is_closed, quiets_of}
-use Rattle.xfs_withdraw.specs.Endings.{WritesLast, last_line, status_of}
+use Rattle.xfs_withdraw.specs.Doors.{HasDialled, HasFailed, tells_closed, quiets_of}
+use Rattle.xfs_withdraw.specs.Endings.{withdrawal_line, withdrawal_status}
 use Rattle.xfs_withdraw.specs.Talks.{Withdraws, terms_of}
 use Rattle.xfs_withdraw.specs.declared.ending.Ending.{Ending}
 use Rattle.xfs_withdraw.specs.declared.ending.Ending.TheVariants.{Closed}
 use Rattle.xfs_withdraw.specs.declared.talk.TheConstants.{MOST_QUIETS}
-use Rattle.xfs_cli.specs.Returns.{back}
+use Rattle.xfs_cli.specs.Returns.{back, ComesBack}
 use Rattle.xfs_cli.specs.Run.{IsClientOf}
-use Rattle.xfs_cli.specs.Streams.{Output}
-use Rattle.xfs_cli.specs.TokenRuns.{IsKept}
+use Rattle.xfs_script.specs.Streams.{Output}
 use Rattle.xfs_cli.specs.declared.ended.Ended.{Ended}
 use Rattle.xfs_cli.specs.declared.status.TheConstants.{LINK_FAILED, STAYED_QUIET}
+use Rattle.xfs_script.specs.LastLines.{WritesLast}
 
 pub record RunsClient {M D L : Type 0} (log : L → LinkLog) (terms : Terms) (core : Core M D) (ended : Ended M D L) (before now : DoorLog) (o : Output) : Type 0 where
   pub ending : Ending
@@ -24,15 +24,15 @@ pub record RunsClient {M D L : Type 0} (log : L → LinkLog) (terms : Terms) (co
   pub withdraws : IfSome ended.link (λ link. Withdraws terms ending (log link))
   -- the cash dispenser was dialled once, and there is no link exactly where the doors refused it
   pub dialled : HasDialled ended.link ending before now
-  pub status_is : ended.status ≡ status_of ending
-  pub line : WritesLast (last_line ending) o.faults o.faults_now o.held o.held_now
+  pub status_is : ended.status ≡ withdrawal_status ending
+  pub line : WritesLast (withdrawal_line ending) o
   -- the causes of closed, quiet and failed
-  pub closed : (ending ≡ Closed) ↔ (is_closed (option_map log ended.link) ≡ true)
+  pub closed : (ending ≡ Closed) ↔ (tells_closed (option_map log ended.link) ≡ true)
   pub quiet : (ended.status ≡ STAYED_QUIET) ↔ (quiets_of (option_map log ended.link) ≡ MOST_QUIETS)
   pub failed : ended.status ≡ LINK_FAILED → HasFailed (option_map log ended.link) before now
-  pub kept : IsKept core (back ended)
+  pub kept : ComesBack core (back ended)
 
--- so where the words are `client`, a currency and an amount
+-- the words `client`, a currency and an amount have a run of `client` with these terms
 abbrev pub RunsClientOf : {M D L : Type 0} → List (String Global) → (L → LinkLog) → Core M D → Ended M D L → DoorLog → DoorLog → Output → Type 0
 RunsClientOf words log core ended before now o = (currency : List ℕ) (amount : ℕ) → IsClientOf currency amount words → RunsClient log (terms_of currency amount core.key) core ended before now o
 

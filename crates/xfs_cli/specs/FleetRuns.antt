@@ -9,7 +9,7 @@ use Rattle.xfs_guard.specs.Entries.{at_entry}
 use Rattle.xfs_guard.specs.declared.fail.BootFault.{BootFault}
 use Rattle.xfs_guard.specs.declared.machine_core.Core.{Core}
 use Rattle.xfs_script.specs.Commands.{Command}
-use Rattle.xfs_script.specs.FleetLines.{front, letter_a, letter_b}
+use Rattle.xfs_script.specs.FleetLines.{letter_mark, letter_a, letter_b}
 use Rattle.xfs_script.specs.Lines.{AllLines, StopsAtLine}
 use Rattle.xfs_script.specs.declared.feed.TheConstants.{QUOTA}
 use Rattle.xfs_sides.specs.Sides.{AreAlone, Sides, sides}
@@ -18,16 +18,16 @@ use Rattle.xfs_cli.specs.GuardStates.{GuardState}
 use Rattle.xfs_cli.specs.ReplayCommand.{replay_lines}
 use Rattle.xfs_cli.specs.ReplayRuns.{Begins}
 use Rattle.xfs_cli.specs.ReplayStates.{Played, guard_state_of}
-use Rattle.xfs_cli.specs.Returns.{Return, back, second_back}
+use Rattle.xfs_cli.specs.Returns.{Return, back, second_back, ComesBack}
 use Rattle.xfs_cli.specs.Run.{IsFleet}
 use Rattle.xfs_cli.specs.Runs.{AtEntryList, FromStart, IsEnd, IsFullAtEnd, IsStillAt, IsUnbooted, NothingFailed, WhereNoJournal}
-use Rattle.xfs_cli.specs.Served.{Serves}
+use Rattle.xfs_cli.specs.InputEnds.{EndsInput}
 use Rattle.xfs_cli.specs.Statuses.{HasFullRestart, IsFinished}
-use Rattle.xfs_cli.specs.Streams.{Streams}
-use Rattle.xfs_cli.specs.TokenRuns.{IsKept}
+use Rattle.xfs_script.specs.Streams.{Streams}
 use Rattle.xfs_cli.specs.Headlines.{HasHeadline}
 use Rattle.xfs_cli.specs.declared.ended.Ended.{Ended}
 use Rattle.xfs_cli.specs.declared.status.TheConstants.{DISK_FAULT, JOURNAL_FULL, NOT_A_JOURNAL, NOT_A_LINE, READ_TO_END}
+use Rattle.xfs_guard.specs.declared.bench.Bench.{Bench}
 
 -- the lines of `replay`, each at the machine of its letter
 abbrev pub fleet_lines : Command (Sides Played) BootFault
@@ -35,7 +35,7 @@ fleet_lines = sides replay_lines
 
 -- the line `restart` of a machine
 abbrev pub restart_of : ℕ → List ℕ
-restart_of letter = front letter ++ codes "restart"
+restart_of letter = letter_mark letter ++ codes "restart"
 
 -- what a run of `guard` would see of each machine
 abbrev pub state_a : Sides Played → GuardState
@@ -54,11 +54,11 @@ module _ {M D : Type 0} (m : Mechanisms M) (d : Disks D) (core second : Core M D
   abbrev pub AreEnds : Sides Played → Type 0
   AreEnds end = IsEnd m d a (state_a end) × IsEnd m d b (state_b end)
 
-  -- the lines are served from a state on, until that of what comes back
-  pub record ServesBoth (io : Streams) (text : List ℕ) (start : Sides Played) : Type 0 where
+  -- the lines are answered from a state on, until that of what comes back
+  pub record AnswersBoth (io : Streams) (text : List ℕ) (start : Sides Played) : Type 0 where
     pub end : Sides Played
     pub ends : AreEnds end
-    pub serves : Serves fleet_lines start end a.status io text
+    pub answers : EndsInput fleet_lines start end a.status io text
 
   -- each machine answers its lines as if it were alone, from a state on until that of what comes back
   pub record AnswersAlone (io : Streams) (text : List ℕ) (start : Sides Played) : Type 0 where
@@ -68,7 +68,7 @@ module _ {M D : Type 0} (m : Mechanisms M) (d : Disks D) (core second : Core M D
 
   -- the boot of the first was refused, and the second is as it was
   abbrev pub IsFirstUnbooted : Streams → Type 0
-  IsFirstUnbooted io = IsUnbooted core a io × IsKept second b
+  IsFirstUnbooted io = IsUnbooted core a io × ComesBack second b
 
   -- the boot of the second was refused, and the first, which was booted, ended
   abbrev pub IsSecondUnbooted : Streams → Type 0
@@ -95,7 +95,7 @@ module _ {M D : Type 0} (m : Mechanisms M) (d : Disks D) (core second : Core M D
     pub first : HasHeadline m d core a
     pub other : HasHeadline m d second b
     -- what is written: the answers of the lines from the boots on, and at most one last line
-    pub serves : IfTold io.input (λ text. IsFirstUnbooted io ⊎ (IsSecondUnbooted io ⊎ FromStart BeginsBoth (ServesBoth io text)))
+    pub answers : IfTold io.input (λ text. IsFirstUnbooted io ⊎ (IsSecondUnbooted io ⊎ FromStart BeginsBoth (AnswersBoth io text)))
     -- where the input was read to its end, each machine answered as it does alone
     pub alone : a.status ≡ READ_TO_END → IfTold io.input (λ text. FromStart BeginsBoth (AnswersAlone io text))
     pub lines : a.status ≡ READ_TO_END → IfTold io.input (AllLines fleet_lines.IsLine)
@@ -115,6 +115,6 @@ module _ {M D : Type 0} (m : Mechanisms M) (d : Disks D) (core second : Core M D
     pub finishes : NothingFailed io (d.faults core.disk) (d.faults a.disk) → ¬ (Rose (d.faults second.disk) (d.faults b.disk)) → IfTold io.input (λ text.
         AtEntryList d core.disk (λ records. AtEntryList d second.disk (λ others. AreUnhindered text records others → IsFinished a.status)))
 
--- so where the words are `fleet`
-abbrev pub RunsFleetOf : {M D L : Type 0} → List (String Global) → Mechanisms M → Disks D → Core M D → Core M D → Ended M D L → Streams → Type 0
-RunsFleetOf words m d core second ended io = IsFleet words → RunsFleet m d core second (back ended) (second_back ended) io
+-- the words `fleet` have a run of `fleet`
+abbrev pub RunsFleetOf : {M D P Q L : Type 0} → List (String Global) → Mechanisms M → Disks D → Bench M D P Q → Ended M D L → Streams → Type 0
+RunsFleetOf words m d bench ended io = IsFleet words → RunsFleet m d bench.core bench.second (back ended) (second_back ended) io

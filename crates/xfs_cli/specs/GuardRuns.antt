@@ -8,16 +8,16 @@ use Rattle.xfs_guard.specs.Entries.{at_entry}
 use Rattle.xfs_cli.specs.GuardStarts.{IsStart}
 use Rattle.xfs_cli.specs.Runs.{Runs}
 use Rattle.xfs_cli.specs.GuardStates.{GuardState}
-use Rattle.xfs_cli.specs.Streams.{Streams}
+use Rattle.xfs_script.specs.Streams.{Streams}
 use Rattle.xfs_cli.specs.Returns.{Return, back}
 use Rattle.std.specs.declared.alloc.Global.{Global}
 use Rattle.xfs_cli.specs.declared.ended.Ended.{Ended}
 use Rattle.xfs_cli.specs.Run.{IsGuard}
 
--- its lines are answered from the state that the boot begins, which is seen whole
+-- the lines of `guard` are answered from the state that the boot begins, which is seen whole
 abbrev pub RunsGuard : {M D : Type 0} → Mechanisms M → Disks D → Core M D → Return M D → Streams → Type 0
 RunsGuard m d core result io = Runs guard_lines (λ (s : GuardState). s) (IsStart (at_entry m d core)) m d core result io
 
--- so where the words are `guard`
+-- the words `guard` have a run of `guard`
 abbrev pub RunsGuardOf : {M D L : Type 0} → List (String Global) → Mechanisms M → Disks D → Core M D → Ended M D L → Streams → Type 0
 RunsGuardOf words m d core ended io = IsGuard words → RunsGuard m d core (back ended) io

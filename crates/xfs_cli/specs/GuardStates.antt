@@ -15,15 +15,15 @@ pub record GuardState : Type 0 where
   pub disk_faults : ℕ
   pub last : Option (List ℕ)
 
--- the same of a guard with its disk
+-- the state of a guard with its disk
 abbrev pub guard_state : {D : Type 0} → (D → ℕ) → GuardView D → Option (List ℕ) → GuardState
 guard_state faults g last = record { guard = g.state; disk_faults = faults g.disk; last = last }
 
--- the same of what plays the lines
+-- the state of what plays the lines of `guard`
 abbrev pub state_in : {M D : Type 0} → (D → ℕ) → GuardPlayer M D → GuardState
 state_in faults s = guard_state faults s.guard s.last
 
--- what a command of the dispenser sees of it
+-- what a command of the dispenser sees of a state
 abbrev pub guard_of : GuardState → Of.Seen
 guard_of s = record { guard = s.guard; disk_faults = s.disk_faults }
 
@@ -39,13 +39,13 @@ pub record IsStill (motions : Option (List Motion)) (places : Places) (mech_faul
   pub mech_is : s.guard.faults ≡ mech_faults
   pub later : s.disk_faults ≤ disk_faults
 
--- this is the guard then; the disk may have been called
+-- the guard becomes this one; the disk may have been called
 pub record Becomes (old : GuardState) (now : View) (new : GuardState) : Type 0 where
   pub guard_is : new.guard ≡ now
   pub later : old.disk_faults ≤ new.disk_faults
   pub last_is : new.last ≡ old.last
 
--- the disk failed, and this is the guard then
+-- the disk failed, and the guard becomes this one
 pub record Fails (old : GuardState) (now : View) (new : GuardState) : Type 0 where
   pub becomes : Becomes old now new
   pub cause : Rose old.disk_faults new.disk_faults

@@ -36,5 +36,5 @@ show_lines zero p = []
 show_lines (suc u) p = show_lines u p ++ unit_line p u ∷ []
 
 -- the answer to `show`
-abbrev pub shown : View → List ℕ
-shown v = lines_text (show_lines (length v.units) v.places)
+abbrev pub show_bytes : View → List ℕ
+show_bytes v = lines_text (show_lines (length v.units) v.places)

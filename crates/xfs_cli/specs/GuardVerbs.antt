@@ -53,7 +53,7 @@ Mints (Some nonce) s amounts line next = IsMinted s nonce amounts line next
 Mints None s amounts line next = (line ≡ codes "token none") × (next ≡ record s { last = None })
 
 -- `take`: what the customer took from the outlet
-pub record Takes (s : GuardState) (line : List ℕ) (next : GuardState) : Type 0 where
+pub record TakesNotes (s : GuardState) (line : List ℕ) (next : GuardState) : Type 0 where
   pub outcome : Outcome
   pub lie : LiesIn outcome.moved s.guard.places.outlet
   pub reported : HasReported s.guard next.guard (Taken outcome.moved) outcome.moved outcome.diverted outcome.failed
@@ -93,19 +93,19 @@ abbrev pub Fills : GuardState → ℕ → ℕ → List ℕ → GuardState → Ty
 Fills s unit count line next = IsUnfilled s unit count line next ⊎ IsLoaded s unit count line next
 
 -- the line that answers a verb; a skipped line has none, and `show` more than one
-abbrev pub IsAnswer : GuardState → GuardLine → List ℕ → GuardState → Type 0
-IsAnswer s Skip line next = ⊥
-IsAnswer s Issue line next = Issues s line next
-IsAnswer s Clear line next = Clears (live_nonce s.guard.records) s line next
-IsAnswer s (Mint amounts) line next = Mints (live_in s.guard.boot_missing s.guard.records) s amounts line next
-IsAnswer s (Dispense token counts) line next = DispensesFor s token counts line next
-IsAnswer s (Fill unit count) line next = Fills s unit count line next
-IsAnswer s Present line next = Moves s Ask.Present line next
-IsAnswer s Reject line next = Moves s Ask.Reject line next
-IsAnswer s Retract line next = Moves s Ask.Retract line next
-IsAnswer s Take line next = Takes s line next
-IsAnswer s Restart line next = Restarts s line next
-IsAnswer s Show line next = ⊥
+abbrev pub IsGuardAnswer : GuardState → GuardLine → List ℕ → GuardState → Type 0
+IsGuardAnswer s Skip line next = ⊥
+IsGuardAnswer s Issue line next = Issues s line next
+IsGuardAnswer s Clear line next = Clears (live_nonce s.guard.records) s line next
+IsGuardAnswer s (Mint amounts) line next = Mints (live_in s.guard.boot_missing s.guard.records) s amounts line next
+IsGuardAnswer s (Dispense token counts) line next = DispensesFor s token counts line next
+IsGuardAnswer s (Fill unit count) line next = Fills s unit count line next
+IsGuardAnswer s Present line next = Moves s Ask.Present line next
+IsGuardAnswer s Reject line next = Moves s Ask.Reject line next
+IsGuardAnswer s Retract line next = Moves s Ask.Retract line next
+IsGuardAnswer s Take line next = TakesNotes s line next
+IsGuardAnswer s Restart line next = Restarts s line next
+IsGuardAnswer s Show line next = ⊥
 
 -- one line, of which this is so
 pub record IsOneLine (IsText : List ℕ → Type 0) (output : List (List ℕ)) : Type 0 where
@@ -114,14 +114,14 @@ pub record IsOneLine (IsText : List ℕ → Type 0) (output : List (List ℕ)) :
   pub only : output ≡ line ∷ []
 
 -- the lines that answer a verb: none for a skipped line, a line a unit for `show`, and else one
-abbrev pub AreAnswer : GuardState → GuardLine → List (List ℕ) → GuardState → Type 0
-AreAnswer s Skip output next = (output ≡ []) × (next ≡ s)
-AreAnswer s Show output next = (output ≡ show_lines (length s.guard.units) s.guard.places) × (next ≡ s)
-AreAnswer s verb output next = IsOneLine (λ line. IsAnswer s verb line next) output
+abbrev pub AreGuardAnswer : GuardState → GuardLine → List (List ℕ) → GuardState → Type 0
+AreGuardAnswer s Skip output next = (output ≡ []) × (next ≡ s)
+AreGuardAnswer s Show output next = (output ≡ show_lines (length s.guard.units) s.guard.places) × (next ≡ s)
+AreGuardAnswer s verb output next = IsOneLine (λ line. IsGuardAnswer s verb line next) output
 
 -- a line of `guard`, what answers it, and the state then
 pub record AnswersGuard (s : GuardState) (text : List ℕ) (output : List (List ℕ)) (next : GuardState) : Type 0 where
   pub verb : GuardLine
   pub reads : IsGuardLine text verb
   pub short : length text ≤ LONGEST_LINE
-  pub answer : AreAnswer s verb output next
+  pub answer : AreGuardAnswer s verb output next

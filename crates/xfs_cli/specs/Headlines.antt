@@ -11,17 +11,20 @@ use Rattle.xfs_cli.specs.Runs.{AtEntryList, WhereNoJournal}
 use Rattle.xfs_cli.specs.Upholds.{Accounts, UpholdsAll}
 use Rattle.xfs_cli.specs.declared.ended.Ended.{Ended}
 
-pub record HasHeadline {M D : Type 0} (m : Mechanisms M) (d : Disks D) (core : Core M D) (result : Return M D) : Type 0 where
+-- what was put out is within the tokens at the end and at each moment of the run, and the notes add up
+pub record EndsWell {M D : Type 0} (m : Mechanisms M) (d : Disks D) (core : Core M D) (result : Return M D) : Type 0 where
   pub upholds : UpholdsAll m d core result
   pub any_moment : WasOnTheWayAll m d core result
   pub accounts : Accounts m d core result
-  pub units : m.units result.mech ≡ core.units
+
+pub record HasHeadline {M D : Type 0} (m : Mechanisms M) (d : Disks D) (core : Core M D) (result : Return M D) : Type 0 where
+  pub ends : EndsWell m d core result
   -- a disk that is no journal stays as it was, and its mechanism too
   pub unwritten : WhereNoJournal d core.disk (IsUnwritten (d.held core.disk) (d.held result.disk) (d.images core.disk) (d.images result.disk))
   pub unmoved : WhereNoJournal d core.disk (result.mech ≡ core.mech)
   -- the mechanism's new numbers lie behind the journal's
   pub newer : AtEntryList d core.disk (λ records. IsNewer (length records) (m.motions core.mech) (m.motions result.mech))
 
--- so of the machines of both cores
+-- the machine of each core has its headline
 abbrev pub HaveHeadlines : {M D L : Type 0} → Mechanisms M → Disks D → Core M D → Core M D → Ended M D L → Type 0
 HaveHeadlines m d core second ended = HasHeadline m d core (back ended) × HasHeadline m d second (second_back ended)

@@ -81,12 +81,12 @@ pub record IsOneLine (Answer : List ℕ → State → Type 0) (output : List (Li
   pub output_is : output ≡ line ∷ []
 
 -- the lines that answer a verb: none for a skipped line, one for each account for `show`, and one else
-abbrev pub AreAnswer : State → HostLine → List (List ℕ) → State → Type 0
-AreAnswer s Skip output next = (output ≡ []) × (next ≡ s)
-AreAnswer s (Account account currency balance) output next = IsOneLine (AnswersOpen s account currency balance.0) output next
-AreAnswer s (Ask tx account nonce currency amount) output next =
+abbrev pub AreHostAnswer : State → HostLine → List (List ℕ) → State → Type 0
+AreHostAnswer s Skip output next = (output ≡ []) × (next ≡ s)
+AreHostAnswer s (Account account currency balance) output next = IsOneLine (AnswersOpen s account currency balance.0) output next
+AreHostAnswer s (Ask tx account nonce currency amount) output next =
     IsOneLine (AnswersAsk s (record { tx = tx; account = account; nonce = nonce; currency = currency; amount = amount.0 })) output next
-AreAnswer s Show output next = (output ≡ show_lines s) × (next ≡ s)
+AreHostAnswer s Show output next = (output ≡ show_lines s) × (next ≡ s)
 
 -- a line of at most 70,000 bytes that writes a verb of `host`
 pub record IsLineOfHost (text : List ℕ) : Type 0 where
@@ -99,13 +99,13 @@ pub record AnswersHost (s : State) (text : List ℕ) (output : List (List ℕ)) 
   pub verb : HostLine
   pub reads : IsHostLine text verb
   pub short : length text ≤ LONGEST_LINE
-  pub answer : AreAnswer s verb output next
+  pub answer : AreHostAnswer s verb output next
 
 -- nothing was done of a verb; or all of it, and the line that answers it was not written
 abbrev pub LeavesOfVerb : State → HostLine → State → Type 0
-LeavesOfVerb s verb end = (end ≡ s) ⊎ ((output : List (List ℕ)) × AreAnswer s verb output end)
+LeavesOfVerb s verb end = (end ≡ s) ⊎ ((output : List (List ℕ)) × AreHostAnswer s verb output end)
 
--- the same of a line
+-- nothing was done of a line; or all of it, and the lines that answer it were not written
 abbrev pub LeavesHost : State → List ℕ → State → Type 0
 LeavesHost s text end = (end ≡ s) ⊎ ((output : List (List ℕ)) × AnswersHost s text output end)
 

@@ -7,6 +7,7 @@ pub mod BootsOnce
 pub mod ClientRuns
 pub mod Complete
 pub mod Dispenses
+pub mod Doorless
 pub mod FleetRuns
 pub mod GuardCommand
 pub mod GuardLines
@@ -18,6 +19,7 @@ pub mod GuardVerbs
 pub mod Headlines
 pub mod HostRuns
 pub mod HostVerbs
+pub mod InputEnds
 pub mod Lined
 pub mod LoadEnds
 pub mod LoadRuns
@@ -34,9 +36,8 @@ pub mod Returns
 pub mod Run
 pub mod Runs
 pub mod ServeRuns
-pub mod Served
 pub mod Statuses
-pub mod Streams
 pub mod TokenRuns
 pub mod TokenVerbs
 pub mod Upholds
+pub mod Usages

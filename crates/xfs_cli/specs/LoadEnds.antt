@@ -7,7 +7,7 @@ use Rattle.xfs_load.specs.Summaries.{IsSummary, summary_line}
 use Rattle.xfs_load.specs.declared.summary.Summary.{Summary}
 use Rattle.xfs_model.specs.State.{State}
 use Rattle.xfs_script.specs.Answered.{lines_text}
-pub use Rattle.xfs_cli.specs.Streams.{Output, output}
+pub use Rattle.xfs_script.specs.Streams.{Output, output}
 use Rattle.xfs_cli.specs.declared.status.TheConstants.{NO_MEMORY, READ_TO_END, WRITE_FAULT}
 
 -- the whole text was written, or the sink failed and took a prefix of it
@@ -20,32 +20,32 @@ pub record IsCutOff (text : List ℕ) (status : ℕ) (o : Output) : Type 0 where
   pub cause : Rose o.faults o.faults_now
   pub took : TookPrefix o.held o.held_now text
 
-abbrev pub Tells : List ℕ → ℕ → Output → Type 0
-Tells text status o = IsWritten text status o ⊎ IsCutOff text status o
+abbrev pub WritesText : List ℕ → ℕ → Output → Type 0
+WritesText text status o = IsWritten text status o ⊎ IsCutOff text status o
 
 -- memory ran out before, and nothing is written
 pub record IsSilent (status : ℕ) (o : Output) : Type 0 where
   pub status_is : status ≡ NO_MEMORY
   pub silent : o.held_now ≡ o.held
 
-abbrev pub TellsOrNot : List ℕ → ℕ → Output → Type 0
-TellsOrNot text status o = Tells text status o ⊎ IsSilent status o
+abbrev pub WritesTextOrNot : List ℕ → ℕ → Output → Type 0
+WritesTextOrNot text status o = WritesText text status o ⊎ IsSilent status o
 
 -- the rounds were played, and the line that tells their summary was written
 pub record IsPlayed (key : List ℕ) (rounds : ℕ) (s new : State) (status : ℕ) (o : Output) : Type 0 where
   pub summary : Summary
   pub sums : IsSummary key rounds s new summary
-  pub tells : Tells (lines_text (summary_line summary ∷ [])) status o
+  pub tells : WritesText (lines_text (summary_line summary ∷ [])) status o
 
 -- the rounds were played and nothing is told of them
 pub record IsUntold (key : List ℕ) (rounds : ℕ) (s new : State) : Type 0 where
   pub summary : Summary
   pub sums : IsSummary key rounds s new summary
 
--- memory ran out: a front of the rounds' calls was made, or all of them, and nothing is written
+-- memory ran out: the first of the rounds' calls were made, or all of them, and nothing is written
 pub record RunsOut (key : List ℕ) (rounds : ℕ) (s new : State) (status : ℕ) (o : Output) : Type 0 where
   pub silent : IsSilent status o
-  pub front : RoundsInPart key rounds s new ⊎ IsUntold key rounds s new
+  pub played : RoundsInPart key rounds s new ⊎ IsUntold key rounds s new
 
 abbrev pub EndsLoad : List ℕ → ℕ → State → State → ℕ → Output → Type 0
 EndsLoad key rounds s new status o = IsPlayed key rounds s new status o ⊎ RunsOut key rounds s new status o

@@ -16,7 +16,7 @@ use Rattle.xfs_cli.specs.Run.{IsLoadOf}
 use Rattle.xfs_cli.specs.Runs.{AtEntryList, FromStart, IsEnd, IsUnbooted}
 use Rattle.xfs_cli.specs.GuardStates.{GuardState}
 use Rattle.xfs_cli.specs.Statuses.{IsFinished}
-use Rattle.xfs_cli.specs.Streams.{Streams}
+use Rattle.xfs_script.specs.Streams.{Streams, output_of}
 use Rattle.xfs_cli.specs.Returns.{Return, back}
 use Rattle.xfs_cli.specs.declared.ended.Ended.{Ended}
 use Rattle.xfs_cli.specs.declared.status.TheConstants.{DISK_FAULT, INPUT_TOO_LONG, NOT_A_LINE, READ_FAULT, WRITE_FAULT}
@@ -29,9 +29,6 @@ guard_state_of s = record { guard = s.seen.guard; disk_faults = s.seen.disk_faul
 pub record Begins (e : AtEntry) (life : ℕ) (start : State) : Type 0 where
   pub boots : IsStart e (guard_state_of start)
   pub machine : start ≡ bare start.seen life (length start.seen.guard.records)
-
-abbrev pub output_of : Streams → Output
-output_of io = record { faults = io.write_faults; faults_now = io.write_faults_now; held = io.output; held_now = io.output_now }
 
 -- the rounds are played from a state on, until that of the mechanism and the disk that come back
 pub record LoadsUntil {M D : Type 0} (m : Mechanisms M) (d : Disks D) (core : Core M D) (rounds : ℕ) (result : Return M D) (io : Streams) (start : State) : Type 0 where
@@ -58,6 +55,6 @@ pub record RunsLoad {M D : Type 0} (m : Mechanisms M) (d : Disks D) (core : Core
   pub finishes : ¬ (Rose io.write_faults io.write_faults_now) → ¬ (Rose (d.faults core.disk) (d.faults result.disk))
       → AtEntryList d core.disk (λ records. ¬ (BootExceeds core.limits (m.places core.mech) records) → IsFinished result.status)
 
--- so of the rounds that the words say
+-- the words `load N` have a run of `load` with N rounds
 abbrev pub RunsLoadOf : {M D L : Type 0} → List (String Global) → Mechanisms M → Disks D → Core M D → Ended M D L → Streams → Type 0
 RunsLoadOf words m d core ended io = (rounds : ℕ) → IsLoadOf rounds words → RunsLoad m d core rounds (back ended) io

@@ -13,18 +13,18 @@ use Rattle.xfs_guard.specs.Lives.{BeginsWith}
 use Rattle.xfs_guard.specs.declared.machine_core.Core.{Core}
 use Rattle.xfs_cli.specs.Returns.{Return}
 
--- the list is a front of the records, or it is one without its last record, whose number no motion has
-abbrev pub IsFront : List Rec → Option (List Motion) → List Rec → Type 0
-IsFront records motions list = BeginsWith records list ⊎ IsLost records motions list
+-- the list is a prefix of the records, or a prefix without its last record, whose number no motion has
+abbrev pub IsPrefixOrLost : List Rec → Option (List Motion) → List Rec → Type 0
+IsPrefixOrLost records motions list = BeginsWith records list ⊎ IsLost records motions list
 
--- the bytes stand for a list that begins with the records at entry, and is such a front of those that the disk reads as at the end
+-- the bytes stand for a list that begins with the records at entry, and is such a prefix of those that the disk reads as at the end
 pub record WasOnTheWay (entry : List Rec) (held : Option (List ℕ)) (motions : Option (List Motion)) (bytes : List ℕ) : Type 0 where
   pub list : List Rec
   pub stands : StandsFor bytes list
   pub begins : BeginsWith list entry
-  pub front : IfTold held (λ now. (records : List Rec) → StandsFor now records → IsFront records motions list)
+  pub prefix : IfTold held (λ now. (records : List Rec) → StandsFor now records → IsPrefixOrLost records motions list)
 
--- so at each moment of a run, from the list of records that the disk's bytes stood for
+-- each image that a crash leaves in a run was on the way, from the list of records that the disk's bytes stood for
 abbrev pub WasOnTheWayAll : {M D : Type 0} → Mechanisms M → Disks D → Core M D → Return M D → Type 0
 WasOnTheWayAll m d core result = IfTold (d.held core.disk) (λ bytes. (records : List Rec) → StandsFor bytes records
     → LeavesOnly d core.disk result.disk (WasOnTheWay records (d.held result.disk) (m.motions result.mech)))

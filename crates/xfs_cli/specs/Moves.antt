@@ -17,13 +17,13 @@ pub record MechCalled (old : GuardState) (failed : Bool) (new : GuardState) : Ty
   pub last_is : new.last ≡ old.last
 
 -- the answer to an order that is carried out with this result, by this verb
-abbrev pub Tells : List ℕ → Result Outcome Deny → List ℕ → Type 0
-Tells verb (Ok outcome) line = line ≡ outcome_text verb outcome
-Tells verb (Err deny) line = refusal_text (Denied deny) ≡ Some line
+abbrev pub IsOrderLine : List ℕ → Result Outcome Deny → List ℕ → Type 0
+IsOrderLine verb (Ok outcome) line = line ≡ outcome_text verb outcome
+IsOrderLine verb (Err deny) line = refusal_text (Denied deny) ≡ Some line
 
 -- the line of an order of all the notes of a place
 pub record Moves (s : GuardState) (ask : Ask) (line : List ℕ) (next : GuardState) : Type 0 where
   pub result : Result Outcome Deny
   pub carried : CarriesOut (guard_of s) ask result (guard_of next)
   pub last_is : next.last ≡ s.last
-  pub told : Tells (codes "moved") result line
+  pub told : IsOrderLine (codes "moved") result line

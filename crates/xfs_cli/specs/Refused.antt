@@ -6,12 +6,12 @@ use Rattle.serde_json.specs.Find.{as_str}
 use Rattle.xfs_json.specs.Members.{member_of}
 use Rattle.xfs_envelope.specs.Codes.{code_text}
 use Rattle.xfs_guard.specs.declared.deny.Deny.TheVariants.{NoNonce, WrongNonce, OtherBound, OverBudget}
-use Rattle.xfs_dispenser.specs.Answers.{Answer, answer_of}
+use Rattle.xfs_dispenser.specs.Answers.{CashAnswer, answer_of}
 use Rattle.xfs_dispenser.specs.declared.refusal.Refusal.{Refusal}
 use Rattle.xfs_dispenser.specs.declared.refusal.Refusal.TheVariants.{Deny as Denied}
 
 -- the word for an answer: the error that its payload tells, where it tells one, or else its completion code
-abbrev pub answer_word : Answer → List ℕ
+abbrev pub answer_word : CashAnswer → List ℕ
 answer_word a = option_map_or (λ error. error) (option_and_then as_str (member_of (codes "errorCode") a.payload)) (code_text a.code)
 
 -- the number that tells the cause, with its name

@@ -48,7 +48,7 @@ pub record IsBegun (s : Played) (text : List ℕ) (end : Played) : Type 0 where
   pub done : IsPartDone s verb between
   pub mailed : IsPartMailed between.clients between.machine end.machine
 
--- want of memory leaves nothing of a line, or a front of it, and goes on from what stood before it
+-- want of memory leaves nothing of a line, or its first part, and goes on from what stood before it
 pub record LeavesReplay (s : Played) (text : List ℕ) (end : Played) : Type 0 where
   pub begun : (end ≡ s) ⊎ IsBegun s text end
   pub continues : Continues s.machine.seen.guard end.machine.seen.guard

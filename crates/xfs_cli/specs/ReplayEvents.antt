@@ -27,14 +27,14 @@ token_bytes None = []
 token_bytes (Some token) = token
 
 -- a message with a token in place of each `@`
-abbrev pub filled : List ℕ → List ℕ → List ℕ
-filled token message = flat_map (λ b. if b == 64 then token else b ∷ []) message
+abbrev pub with_token : List ℕ → List ℕ → List ℕ
+with_token token message = flat_map (λ b. if b == 64 then token else b ∷ []) message
 
 -- the event that a line of one event stands for, where its client is joined, or for `join` where it isn't
 abbrev pub event_of : Played → ReplayLine → Option Event
 event_of s (Join client service) = if is_joined s.clients client then None else Some (join service)
 event_of s (Leave client) = option_map leave (pass_of s.clients client)
-event_of s (Say client message) = option_map (λ pass. post pass (filled (token_bytes s.last) message) s.now) (pass_of s.clients client)
+event_of s (Say client message) = option_map (λ pass. post pass (with_token (token_bytes s.last) message) s.now) (pass_of s.clients client)
 event_of s (Work service) = Some (work service s.now)
 event_of s (CardIn tracks) = Some (touch (touches.CardIn tracks))
 event_of s CardTaken = Some (touch touches.CardTaken)
@@ -46,22 +46,22 @@ event_of s Restart = Some restart
 event_of s other = None
 
 -- the lines that tell an answer of the machine
-abbrev pub told : Answer → Option (List (List ℕ))
-told full = Some (codes "full" ∷ [])
-told done = Some []
-told did = Some (codes "did" ∷ [])
-told idle = Some (codes "idle" ∷ [])
-told touched = Some []
-told (taken counts) = Some ((codes "taken " ++ counts_text counts) ∷ [])
-told fault = Some (codes "fault taken none" ∷ [])
-told closed = Some (codes "shutter closed" ∷ [])
-told restarted = Some (codes "restarted" ∷ [])
-told other = None
+abbrev pub lines_of : Answer → Option (List (List ℕ))
+lines_of full = Some (codes "full" ∷ [])
+lines_of done = Some []
+lines_of did = Some (codes "did" ∷ [])
+lines_of idle = Some (codes "idle" ∷ [])
+lines_of touched = Some []
+lines_of (taken counts) = Some ((codes "taken " ++ counts_text counts) ∷ [])
+lines_of fault = Some (codes "fault taken none" ∷ [])
+lines_of closed = Some (codes "shutter closed" ∷ [])
+lines_of restarted = Some (codes "restarted" ∷ [])
+lines_of other = None
 
--- the same of the answer to a line; a join tells the number that the script gave its client
-abbrev pub told_to : ReplayLine → Answer → Option (List (List ℕ))
-told_to (Join client service) (joined pass) = Some ((codes "joined " ++ decimal client) ∷ [])
-told_to verb answer = told answer
+-- the lines that answer a line of the script; a join tells the number that the script gave its client
+abbrev pub lines_to : ReplayLine → Answer → Option (List (List ℕ))
+lines_to (Join client service) (joined pass) = Some ((codes "joined " ++ decimal client) ∷ [])
+lines_to verb answer = lines_of answer
 
 -- the script's clients behind a line: one more, one less, or none of those before a restart
 abbrev pub clients_after : List Client → ReplayLine → Answer → List Client
@@ -75,7 +75,7 @@ pub record Happens (s : Played) (verb : ReplayLine) (event : Event) (said : List
   pub answer : Answer
   pub machine : State
   pub step : Step s.machine event answer machine
-  pub text : told_to verb answer ≡ Some said
+  pub text : lines_to verb answer ≡ Some said
   pub is : next ≡ record s { machine = machine; clients = clients_after s.clients verb answer }
 
 -- a number that isn't joined, or for `join` one that is, has no event
@@ -88,7 +88,7 @@ pub record IsTouched (s : Played) (it : Touch) (said : List (List ℕ)) (next : 
   pub answer : Answer
   pub machine : State
   pub step : Step s.machine (touch it) answer machine
-  pub text : told answer ≡ Some said
+  pub text : lines_of answer ≡ Some said
   pub is : next ≡ record s { machine = machine }
 
 pub record IsRested (s : Played) (said : List (List ℕ)) (next : Played) : Type 0 where

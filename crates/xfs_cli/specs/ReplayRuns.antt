@@ -9,7 +9,7 @@ use Rattle.xfs_cli.specs.GuardStarts.{IsStart}
 use Rattle.xfs_cli.specs.ReplayCommand.{replay_lines}
 use Rattle.xfs_cli.specs.ReplayStates.{Played, guard_state_of}
 use Rattle.xfs_cli.specs.Runs.{Runs}
-use Rattle.xfs_cli.specs.Streams.{Streams}
+use Rattle.xfs_script.specs.Streams.{Streams}
 use Rattle.xfs_cli.specs.Returns.{Return, back}
 use Rattle.std.specs.declared.alloc.Global.{Global}
 use Rattle.xfs_cli.specs.declared.ended.Ended.{Ended}
@@ -22,10 +22,10 @@ pub record Begins (e : AtEntry) (life : ℕ) (start : Played) : Type 0 where
   pub clients : start.clients ≡ []
   pub now : start.now.0 ≡ 0
 
--- its lines are answered from there on
+-- the lines of `replay` are answered from the state that the boot begins
 abbrev pub RunsReplay : {M D : Type 0} → Mechanisms M → Disks D → Core M D → Return M D → Streams → Type 0
 RunsReplay m d core result io = Runs replay_lines guard_state_of (Begins (at_entry m d core) core.life) m d core result io
 
--- so where the words are `replay`
+-- the words `replay` have a run of `replay`
 abbrev pub RunsReplayOf : {M D L : Type 0} → List (String Global) → Mechanisms M → Disks D → Core M D → Ended M D L → Streams → Type 0
 RunsReplayOf words m d core ended io = IsReplay words → RunsReplay m d core (back ended) io

@@ -18,7 +18,7 @@ pub record Played : Type 0 where
   pub now : Moment
   pub last : Option (List ℕ)
 
--- the same of what answers the lines
+-- the state of what answers the lines of `replay`
 abbrev pub played : {M D : Type 0} {m : Mechanisms M} {d : Disks D} → Player M D m d → Played
 played p = record { machine = p.machine.state; clients = p.clients; now = p.now; last = p.last }
 
@@ -26,7 +26,7 @@ played p = record { machine = p.machine.state; clients = p.clients; now = p.now;
 abbrev pub begun : State → Played
 begun machine = record { machine = machine; clients = []; now = record { 0 = 0 }; last = None }
 
--- what a run of `guard` would see of it: the guard, how often its disk failed, and the last token
+-- what a run of `guard` would see of such a state: the guard, how often its disk failed, and the last token
 abbrev pub guard_state_of : Played → GuardState
 guard_state_of s = record { guard = s.machine.seen.guard; disk_faults = s.machine.seen.disk_faults; last = s.last }
 

@@ -53,6 +53,10 @@ IsFleet words = Names Fleet (texts words)
 abbrev pub IsCommand : List (String Global) → Type 0
 IsCommand words = (command : Command) × Names command (texts words)
 
+-- a command that boots nothing and answers lines
+abbrev pub IsBootless : List (String Global) → Type 0
+IsBootless words = IsToken words ⊎ (IsHost words ⊎ IsAudit words)
+
 -- a command that reads no input
 abbrev pub IsUnread : List (String Global) → Type 0
 IsUnread words = IsLoad words ⊎ (IsServe words ⊎ IsClient words)

@@ -16,9 +16,9 @@ use Rattle.xfs_script.specs.Commands.{Command}
 use Rattle.xfs_script.specs.Lines.{AllLines, StopsAtLine}
 use Rattle.xfs_cli.specs.Boots.{BootExceeds, EndsFailed, EndsFull, EndsUnread, IsDue, IsNoJournal, IsUnwritten, WritesBoot, boot_status}
 use Rattle.xfs_cli.specs.GuardStates.{IsStill, GuardState}
-use Rattle.xfs_cli.specs.Served.{Serves}
+use Rattle.xfs_cli.specs.InputEnds.{EndsInput}
 use Rattle.xfs_cli.specs.Statuses.{HasFullRestart, IsFinished, IsUnhindered}
-use Rattle.xfs_cli.specs.Streams.{Streams}
+use Rattle.xfs_script.specs.Streams.{Streams}
 use Rattle.xfs_cli.specs.Returns.{Return}
 use Rattle.xfs_cli.specs.declared.status.TheConstants.{DISK_FAULT, JOURNAL_FULL, NOT_A_JOURNAL, NOT_A_LINE, READ_TO_END}
 
@@ -37,11 +37,11 @@ pub record IsEnd {M D : Type 0} (m : Mechanisms M) (d : Disks D) (result : Retur
   -- each image of the disk is that of the last state's list, or of that list with its record in doubt
   pub stored : IfTold (d.held result.disk) (λ _. (bytes : List ℕ) → d.images result.disk bytes → HasPossible last.guard.records last.guard.in_doubt bytes)
 
--- the lines are served from a state on, until that of the mechanism and the disk that come back
-pub record ServesUntil {M D S : Type 0} (c : Command S BootFault) (see : S → GuardState) (m : Mechanisms M) (d : Disks D) (result : Return M D) (io : Streams) (text : List ℕ) (start : S) : Type 0 where
+-- the lines are answered from a state on, until that of the mechanism and the disk that come back
+pub record AnswersUntil {M D S : Type 0} (c : Command S BootFault) (see : S → GuardState) (m : Mechanisms M) (d : Disks D) (result : Return M D) (io : Streams) (text : List ℕ) (start : S) : Type 0 where
   pub end : S
   pub ends : IsEnd m d result (see end)
-  pub serves : Serves c start end result.status io text
+  pub answers : EndsInput c start end result.status io text
 
 -- the boot was refused: nothing was read of the input, the last line is the boot's, and the mechanism is as it was
 pub record IsUnbooted {M D : Type 0} (core : Core M D) (result : Return M D) (io : Streams) : Type 0 where
@@ -57,11 +57,11 @@ pub record IsFullAtEnd (limits : Limits) (places : Places) (held : Option (List 
   pub stands : IfTold held (λ bytes. StandsFor bytes records)
   pub exceeds_limit : BootExceeds limits places records
 
--- so of the list of records that the disk's bytes stand for at entry, where it tells them
+-- P holds of the list of records that the disk's bytes stand for at entry, where it tells them
 abbrev pub AtEntryList : {D : Type 0} → Disks D → D → (List Rec → Type 0) → Type 0
 AtEntryList d disk P = IfTold (d.held disk) (λ bytes. (records : List Rec) → StandsFor bytes records → P records)
 
--- so where the disk's bytes at entry are told and are no journal
+-- P holds where the disk's bytes at entry are told and are no journal
 abbrev pub WhereNoJournal : {D : Type 0} → Disks D → D → Type 0 → Type 0
 WhereNoJournal d disk P = IfTold (d.held disk) (λ bytes. IsNoJournal bytes → P)
 
@@ -77,7 +77,7 @@ IsStillAt m d result = IsStill (m.motions result.mech) (m.places result.mech) (m
 
 pub record Runs {M D S : Type 0} (c : Command S BootFault) (see : S → GuardState) (IsStartOf : S → Type 0) (m : Mechanisms M) (d : Disks D) (core : Core M D) (result : Return M D) (io : Streams) : Type 0 where
   -- what is written: the answers of the lines from the boot on, and at most one last line
-  pub serves : IfTold io.input (λ text. IsUnbooted core result io ⊎ FromStart IsStartOf (ServesUntil c see m d result io text))
+  pub answers : IfTold io.input (λ text. IsUnbooted core result io ⊎ FromStart IsStartOf (AnswersUntil c see m d result io text))
   pub lines : result.status ≡ READ_TO_END → IfTold io.input (AllLines c.IsLine)
   pub not_a_line : result.status ≡ NOT_A_LINE → IfTold io.input (StopsAtLine c.IsLine)
   -- the statuses of a boot are those of a refused one, or of a restart that found the same

@@ -28,11 +28,11 @@ use Rattle.xfs_cli.specs.LoadRuns.{Begins}
 use Rattle.xfs_cli.specs.Returns.{Return, back}
 use Rattle.xfs_cli.specs.Run.{IsServeOf}
 use Rattle.xfs_cli.specs.Runs.{AtEntryList, FromStart, IsUnbooted}
-use Rattle.xfs_cli.specs.Served.{WritesLast}
 use Rattle.xfs_cli.specs.Statuses.{IsFinished, IsOneOf}
-use Rattle.xfs_cli.specs.Streams.{Output, unread_io}
+use Rattle.xfs_script.specs.Streams.{Output, unread_io}
 use Rattle.xfs_cli.specs.declared.ended.Ended.{Ended}
 use Rattle.xfs_cli.specs.declared.status.TheConstants.{DISK_FAULT, JOURNAL_FULL, LINK_FAILED, NOT_A_JOURNAL, NO_MEMORY, READ_TO_END}
+use Rattle.xfs_script.specs.LastLines.{WritesLast}
 
 -- the status of a server whose taking ended so, unless the disk failed at the settling of an open order
 abbrev pub served_status : Ending → Result Unit Deny → ℕ
@@ -41,7 +41,7 @@ served_status Served (Ok done) = READ_TO_END
 served_status Failed (Ok done) = LINK_FAILED
 served_status Memory (Ok done) = NO_MEMORY
 
--- its last line, where it has one
+-- the last line of a server, where it has one
 abbrev pub served_line : Result Unit Deny → List (List ℕ)
 served_line (Err deny) = boot_line Disk
 served_line (Ok done) = []
@@ -60,7 +60,7 @@ pub record ClosesBehind {M D : Type 0} (m : Mechanisms M) (d : Disks D) (start :
   pub numbered : NumberedBehind start.base last.state.records
   pub recorded : IfTold start.motions (NoneInReach start.base) → IsRecordedBehind start.base start.key start.units last.state.records (m.motions mech)
 
--- so many connections are taken at the doors from a machine on, until one whose finish hands back the mechanism and the disk
+-- a number of connections are taken at the doors from a machine on, until one whose finish hands back the mechanism and the disk
 pub record ServesUntil {M D : Type 0} (m : Mechanisms M) (d : Disks D) (connections : ℕ) (result : Return M D) (before now : DoorLog) (o : Output) (start : State) : Type 0 where
   pub ending : Ending
   pub takes : Takes connections ending before now
@@ -71,7 +71,7 @@ pub record ServesUntil {M D : Type 0} (m : Mechanisms M) (d : Disks D) (connecti
   pub settled : Result Unit Deny
   pub finishes : Finishes m d last settled result.mech result.disk
   pub status_is : result.status ≡ served_status ending settled
-  pub line : WritesLast (served_line settled) o.faults o.faults_now o.held o.held_now
+  pub line : WritesLast (served_line settled) o
   pub closes : ClosesBehind m d start.seen.guard result.mech result.disk
   -- every image of the disk begins with the records of the boot
   pub begins : IfTold (d.held result.disk) (λ _. (image : List ℕ) → d.images result.disk image → StandsForMore start.seen.guard.records image)
@@ -96,6 +96,6 @@ pub record RunsServe {M D : Type 0} (m : Mechanisms M) (d : Disks D) (core : Cor
   pub finishes : ¬ (Rose before.faults now.faults) → ¬ (Rose (d.faults core.disk) (d.faults result.disk))
       → AtEntryList d core.disk (λ records. ¬ (BootExceeds core.limits (m.places core.mech) records) → IsFinished result.status)
 
--- so of the connections that the words say
+-- the words `serve N` have a run of `serve` with N connections
 abbrev pub RunsServeOf : {M D L : Type 0} → List (String Global) → Mechanisms M → Disks D → Core M D → Ended M D L → DoorLog → DoorLog → Output → Type 0
 RunsServeOf words m d core ended before now o = (connections : ℕ) → IsServeOf connections words → RunsServe m d core connections (back ended) before now o

@@ -15,7 +15,7 @@ use Rattle.xfs_guard.specs.declared.fail.BootFault.{BootFault}
 use Rattle.xfs_cli.specs.Restarts.{HasNoRoom}
 use Rattle.xfs_cli.specs.Run.{IsClient, IsServe}
 use Rattle.xfs_cli.specs.GuardStates.{GuardState}
-use Rattle.xfs_cli.specs.Streams.{Streams}
+use Rattle.xfs_script.specs.Streams.{Streams}
 use Rattle.xfs_cli.specs.declared.status.TheConstants.{DISK_FAULT, INPUT_TOO_LONG, JOURNAL_FULL, NOT_A_JOURNAL, NOT_A_LINE, NO_MEMORY, READ_FAULT, READ_TO_END, USAGE, WRITE_FAULT}
 use Rattle.xfs_script.specs.declared.feed.TheConstants.{QUOTA}
 
@@ -27,7 +27,7 @@ IsOneOf (x ∷ xs) n = (n ≡ x) ⊎ IsOneOf xs n
 abbrev pub IsStatus : ℕ → Type 0
 IsStatus status = IsOneOf (READ_TO_END ∷ USAGE ∷ READ_FAULT ∷ NOT_A_LINE ∷ WRITE_FAULT ∷ DISK_FAULT ∷ NOT_A_JOURNAL ∷ NO_MEMORY ∷ INPUT_TOO_LONG ∷ JOURNAL_FULL ∷ []) status
 
--- so of words that are neither `serve` nor `client`, whose runs have statuses of their own
+-- a status of words that are neither `serve` nor `client`, whose runs have statuses of their own
 abbrev pub IsStatusOf : List (String Global) → ℕ → Type 0
 IsStatusOf words status = ¬ (IsServe words) → ¬ (IsClient words) → IsStatus status
 

@@ -68,17 +68,17 @@ pub record TellsMade (key nonce : List ℕ) (amounts : List (List ℕ × ℕ)) (
   pub text : answer ≡ codes "token " ++ token
 
 -- the answer to a verb
-abbrev pub IsAnswer : List ℕ → TokenLine → List ℕ → Type 0
-IsAnswer key Skip answer = ⊥
-IsAnswer key (Read bytes) answer = TellsRead key bytes answer
-IsAnswer key (Make nonce amounts) answer = TellsMade key nonce amounts answer
-IsAnswer key (Mac first second) answer = answer ≡ codes "mac " ++ encode_lower (hmac first second)
+abbrev pub IsTokenAnswer : List ℕ → TokenLine → List ℕ → Type 0
+IsTokenAnswer key Skip answer = ⊥
+IsTokenAnswer key (Read bytes) answer = TellsRead key bytes answer
+IsTokenAnswer key (Make nonce amounts) answer = TellsMade key nonce amounts answer
+IsTokenAnswer key (Mac first second) answer = answer ≡ codes "mac " ++ encode_lower (hmac first second)
 
 -- the lines that answer a verb: one, and none for a skipped line
-abbrev pub AreAnswer : List ℕ → TokenLine → List (List ℕ) → Type 0
-AreAnswer key verb [] = verb ≡ Skip
-AreAnswer key verb (answer ∷ []) = IsAnswer key verb answer
-AreAnswer key verb (answer ∷ other ∷ more) = ⊥
+abbrev pub AreTokenAnswer : List ℕ → TokenLine → List (List ℕ) → Type 0
+AreTokenAnswer key verb [] = verb ≡ Skip
+AreTokenAnswer key verb (answer ∷ []) = IsTokenAnswer key verb answer
+AreTokenAnswer key verb (answer ∷ other ∷ more) = ⊥
 
 -- a line of at most 70,000 bytes that writes a verb of `token`
 pub record IsLineOfToken (text : List ℕ) : Type 0 where
@@ -91,7 +91,7 @@ pub record AnswersToken (key text : List ℕ) (output : List (List ℕ)) (next :
   pub verb : TokenLine
   pub reads : IsTokenLine text verb
   pub short : length text ≤ LONGEST_LINE
-  pub answer : AreAnswer key verb output
+  pub answer : AreTokenAnswer key verb output
   pub same : next ≡ key
 
 -- the command `token` over its lines: want of memory leaves nothing of one, and it ends at none

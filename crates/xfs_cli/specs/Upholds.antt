@@ -19,20 +19,21 @@ use Rattle.xfs_cli.specs.Returns.{Return}
 abbrev pub FollowsWhereTold : List Rec → Option (List Motion) → Places → List Rec → Option (List Motion) → Places → Type 0
 FollowsWhereTold records motions places records' motions' places' = IfTold motions (λ before. IfTold motions' (λ now. Follows records before places records' now places'))
 
--- these bytes stand for a list of records that is numbered, agrees with the mechanism's list, and puts out no more than its tokens cover; and it follows the list at entry
+-- bytes stand for a list of records that is numbered, agrees with the mechanism's list, and puts out no more than its tokens cover; and that list follows the list at entry
 pub record Upholds (key : List ℕ) (units : List NoteKind) (entry : List Rec) (motions : Option (List Motion)) (places : Places) (bytes : List ℕ) (motions' : Option (List Motion)) (places' : Places) : Type 0 where
   pub records : List Rec
   pub stands : StandsFor bytes records
   pub recorded : IsRecorded key units records motions'
   pub follows : FollowsWhereTold entry motions places records motions' places'
 
--- so of each image of the disk that comes back, from the list of records that the disk's bytes stood for
+-- each image of the disk that comes back upholds the tokens, from the list of records that the disk's bytes stood for
 abbrev pub UpholdsAll : {M D : Type 0} → Mechanisms M → Disks D → Core M D → Return M D → Type 0
 UpholdsAll m d core result = IfTold (d.held core.disk) (λ bytes. (records : List Rec) → StandsFor bytes records → IfTold (d.held result.disk) (λ _. (image : List ℕ) → d.images result.disk image
     → Upholds core.key core.units records (m.motions core.mech) (m.places core.mech) image (m.motions result.mech) (m.places result.mech)))
 
--- the mechanism's notes add up, and what told its list or its bytes still does
+-- the mechanism's notes add up, its table of units is the core's, and what told its list or its bytes still does
 pub record Accounts {M D : Type 0} (m : Mechanisms M) (d : Disks D) (core : Core M D) (result : Return M D) : Type 0 where
   pub adds : AddsUp (m.motions core.mech) (m.motions result.mech) (m.places core.mech) (m.places result.mech)
   pub told : is_some (m.motions result.mech) ≡ is_some (m.motions core.mech)
   pub told_disk : is_some (d.held result.disk) ≡ is_some (d.held core.disk)
+  pub units : m.units result.mech ≡ core.units

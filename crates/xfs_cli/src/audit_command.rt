@@ -1,18 +1,18 @@
 //! The command `audit`.
 
-ghost use Rattle.std.specs.Prelude.{◌≡◌, ◌≢◌, ◌↔◌};
+ghost use Rattle.std.specs.Prelude.{◌≡◌, ◌≢◌};
 ghost use Rattle.xfs_base.specs.Causes.{IfTold, Rose};
 ghost use Rattle.xfs_script.specs.Lines.{AllLines, StopsAtLine};
 ghost use Rattle.xfs_cli.specs.AuditRuns.{Audits, Judges, RunsAuditOf};
 ghost use Rattle.xfs_cli.specs.AuditVerbs.{IsLineOfAudit, handed_of};
-ghost use Rattle.xfs_cli.specs.Returns.{back, second_back};
+ghost use Rattle.xfs_cli.specs.Returns.{back, second_back, ComesBack};
 ghost use Rattle.xfs_cli.specs.Run.{IsAudit};
 ghost use Rattle.xfs_cli.specs.Statuses.{IsCaused, IsStatus};
-ghost use Rattle.xfs_cli.specs.Streams.{io_of};
-ghost use Rattle.xfs_cli.specs.TokenRuns.{IsKept, WritesUsage};
+ghost use Rattle.xfs_script.specs.Streams.{io_of};
+ghost use Rattle.xfs_cli.specs.Usages.{TellsUsage};
 
 use crate::audit_answer::Auditor;
-use crate::ended::{Ended, kept};
+use crate::ended::{Ended, pair_of};
 use crate::last_line::{finish, usage};
 use crate::status::{
     DISK_FAULT, JOURNAL_FULL, NO_MEMORY, NOT_A_JOURNAL, NOT_A_LINE, READ_TO_END, USAGE, WRITE_FAULT,
@@ -34,14 +34,12 @@ pub fn audit<S: Source, K: Sink, M: Mechanism, D: Disk, P: Watch, Q: Watch>(
     sink: &mut K,
     bench: Bench<M, D, P, Q>,
 ) -> Ended<M, D, ()>
-    ensures kept { IsKept bench.core (back result) }
+    ensures kept { ComesBack bench.core (back result) }
     ensures runs { RunsAuditOf words.now bench.core result (io_of S.Source K.Sink source.old source.new sink.old sink.new) }
-    ensures usage { (result.status ≡ USAGE) ↔ ¬ (IsAudit words.now) }
-    ensures usage_written { result.status ≡ USAGE → WritesUsage (io_of S.Source K.Sink source.old source.new sink.old sink.new) }
-    ensures unread { result.status ≡ USAGE → source.new ≡ source.old }
+    ensures usage { TellsUsage (IsAudit words.now) bench result source.old source.new (io_of S.Source K.Sink source.old source.new sink.old sink.new) }
     ensures statuses { IsStatus result.status }
     ensures causes { IsCaused result.status (io_of S.Source K.Sink source.old source.new sink.old sink.new) }
-    ensures second { IsKept bench.second (second_back result) }
+    ensures second { ComesBack bench.second (second_back result) }
 {
     let Bench {
         core,
@@ -49,7 +47,7 @@ pub fn audit<S: Source, K: Sink, M: Mechanism, D: Disk, P: Watch, Q: Watch>(
         keys,
         second,
     } = bench;
-    let second = kept(second);
+    let second = pair_of(second);
     drop(cards);
     drop(keys);
     let Core {

@@ -4,13 +4,12 @@ ghost use Rattle.std.specs.Prelude.{◌≡◌, ◌↔◌, None};
 ghost use Rattle.xfs_guard.specs.Starts.{Starts};
 ghost use Rattle.xfs_cli.specs.ClientRuns.{RunsClientOf};
 ghost use Rattle.xfs_cli.specs.Moments.{WasOnTheWayAll};
-ghost use Rattle.xfs_cli.specs.Returns.{back, second_back};
+ghost use Rattle.xfs_cli.specs.Returns.{back, second_back, ComesBack};
 ghost use Rattle.xfs_cli.specs.Run.{IsClient};
-ghost use Rattle.xfs_cli.specs.Streams.{output};
-ghost use Rattle.xfs_cli.specs.TokenRuns.{IsKept};
+ghost use Rattle.xfs_script.specs.Streams.{output};
 ghost use Rattle.xfs_cli.specs.Upholds.{UpholdsAll};
 
-use crate::ended::{Ended, kept};
+use crate::ended::{Ended, pair_of};
 use crate::last_line::usage;
 use crate::status::USAGE;
 use crate::words::withdrawal_of;
@@ -37,10 +36,10 @@ pub fn client<R: Wait, K: Sink, M: Mechanism, D: Disk, P: Watch, Q: Watch, C: Cl
     requires starts { Starts M.Mechanism D.Disk bench.core }
     ensures upholds { UpholdsAll M.Mechanism D.Disk bench.core (back result) }
     ensures any_moment { WasOnTheWayAll M.Mechanism D.Disk bench.core (back result) }
-    ensures kept { IsKept bench.core (back result) }
+    ensures kept { ComesBack bench.core (back result) }
     ensures runs { RunsClientOf words.now O.Link.log bench.core result (O.log doors.old) (O.log doors.new) (output K.Sink sink.old sink.new) }
     ensures usage { (result.status ≡ USAGE) ↔ ¬ (IsClient words.now) }
-    ensures second { IsKept bench.second (second_back result) }
+    ensures second { ComesBack bench.second (second_back result) }
 {
     let Bench {
         core,
@@ -48,7 +47,7 @@ pub fn client<R: Wait, K: Sink, M: Mechanism, D: Disk, P: Watch, Q: Watch, C: Cl
         keys,
         second,
     } = bench;
-    let second = kept(second);
+    let second = pair_of(second);
     drop(cards);
     drop(keys);
     let Some((currency, amount)) = withdrawal_of(alloc, words) else {

@@ -2,18 +2,20 @@
 
 ghost use Rattle.std.specs.Prelude.{◌≡◌, ◌≢◌, ◌↔◌, ◌⊎◌, IsTrue, None};
 ghost use Rattle.xfs_guard.specs.Starts.{Starts};
+ghost use Rattle.xfs_script.specs.Streams.{io_of};
 ghost use Rattle.xfs_cli.specs.AuditRuns.{RunsAuditOf};
+ghost use Rattle.xfs_cli.specs.Doorless.{RunsOf};
 ghost use Rattle.xfs_cli.specs.GuardRuns.{RunsGuardOf};
+ghost use Rattle.xfs_cli.specs.Headlines.{EndsWell};
 ghost use Rattle.xfs_cli.specs.HostRuns.{RunsHostOf};
 ghost use Rattle.xfs_cli.specs.LoadRuns.{RunsLoadOf};
-ghost use Rattle.xfs_cli.specs.Moments.{WasOnTheWayAll};
 ghost use Rattle.xfs_cli.specs.ReplayRuns.{RunsReplayOf};
-ghost use Rattle.xfs_cli.specs.Returns.{back, second_back};
-ghost use Rattle.xfs_cli.specs.Run.{IsAudit, IsClient, IsCommand, IsFleet, IsGuard, IsHost, IsLoad, IsReplay, IsServe, IsToken};
+ghost use Rattle.xfs_cli.specs.Returns.{ComesBack, back, second_back};
+ghost use Rattle.xfs_cli.specs.Run.{IsCommand, IsGuard, IsLoad, IsReplay, IsTask, IsBootless};
 ghost use Rattle.xfs_cli.specs.Statuses.{IsCaused, IsStatus};
-ghost use Rattle.xfs_cli.specs.Streams.{io_of};
-ghost use Rattle.xfs_cli.specs.TokenRuns.{IsKept, RunsTokenOf, WritesUsage};
-ghost use Rattle.xfs_cli.specs.Upholds.{Accounts, UpholdsAll};
+ghost use Rattle.xfs_cli.specs.TokenRuns.{RunsTokenOf};
+ghost use Rattle.xfs_cli.specs.Usages.{TellsUsage};
+ghost use Rattle.xfs_cli.specs.declared.words.Task.TheVariants as Task;
 
 use crate::audit_command::audit;
 use crate::ended::Ended;
@@ -32,7 +34,7 @@ use xfs_mech::{Mechanism, Watch};
 
 /// Runs the command that the words name, other than `serve`, `client` and `fleet`; words that name none are told those
 /// that there are. No link comes back, and the second machine is not touched.
-pub fn run_without_doors<S: Source, K: Sink, M: Mechanism, D: Disk, P: Watch, Q: Watch, L>(
+pub(crate) fn run_without_doors<S: Source, K: Sink, M: Mechanism, D: Disk, P: Watch, Q: Watch, L>(
     alloc: Global,
     words: &[String],
     source: &mut S,
@@ -40,28 +42,15 @@ pub fn run_without_doors<S: Source, K: Sink, M: Mechanism, D: Disk, P: Watch, Q:
     bench: Bench<M, D, P, Q>,
 ) -> Ended<M, D, L>
     requires starts { Starts M.Mechanism D.Disk bench.core }
-    requires serve { ¬ (IsServe words.now) }
-    requires client { ¬ (IsClient words.now) }
-    requires fleet { ¬ (IsFleet words.now) }
-    ensures upholds { UpholdsAll M.Mechanism D.Disk bench.core (back result) }
-    ensures any_moment { WasOnTheWayAll M.Mechanism D.Disk bench.core (back result) }
-    ensures guard { RunsGuardOf words.now M.Mechanism D.Disk bench.core result (io_of S.Source K.Sink source.old source.new sink.old sink.new) }
-    ensures replay { RunsReplayOf words.now M.Mechanism D.Disk bench.core result (io_of S.Source K.Sink source.old source.new sink.old sink.new) }
-    ensures load { RunsLoadOf words.now M.Mechanism D.Disk bench.core result (io_of S.Source K.Sink source.old source.new sink.old sink.new) }
-    ensures token { RunsTokenOf words.now bench.core result (io_of S.Source K.Sink source.old source.new sink.old sink.new) }
-    ensures host { RunsHostOf words.now bench.core result (io_of S.Source K.Sink source.old source.new sink.old sink.new) }
-    ensures audit { RunsAuditOf words.now bench.core result (io_of S.Source K.Sink source.old source.new sink.old sink.new) }
-    ensures usage { (result.status ≡ USAGE) ↔ ¬ (IsCommand words.now) }
-    ensures usage_written { result.status ≡ USAGE → WritesUsage (io_of S.Source K.Sink source.old source.new sink.old sink.new) }
-    ensures idle { result.status ≡ USAGE → IsKept bench.core (back result) }
-    ensures unread { result.status ≡ USAGE → source.new ≡ source.old }
+    requires other { IsTask words.now Task.Other }
+    ensures ends { EndsWell M.Mechanism D.Disk bench.core (back result) }
+    ensures runs { RunsOf words.now M.Mechanism D.Disk bench.core result (io_of S.Source K.Sink source.old source.new sink.old sink.new) }
+    ensures usage { TellsUsage (IsCommand words.now) bench result source.old source.new (io_of S.Source K.Sink source.old source.new sink.old sink.new) }
     ensures load_unread { IsLoad words.now → source.new ≡ source.old }
     ensures statuses { IsStatus result.status }
     ensures causes { ¬ (IsLoad words.now) → IsCaused result.status (io_of S.Source K.Sink source.old source.new sink.old sink.new) }
-    ensures accounts { Accounts M.Mechanism D.Disk bench.core (back result) }
-    ensures units { M.units result.mech ≡ bench.core.units }
     ensures unlinked { result.link ≡ None }
-    ensures second { IsKept bench.second (second_back result) }
+    ensures second { ComesBack bench.second (second_back result) }
 {
     if boots(alloc, words) {
         linkless(run_booting(alloc, words, source, sink, bench))
@@ -87,8 +76,7 @@ fn run_booting<S: Source, K: Sink, M: Mechanism, D: Disk, P: Watch, Q: Watch>(
 ) -> Ended<M, D, ()>
     requires starts { Starts M.Mechanism D.Disk bench.core }
     requires boots { IsGuard words.now ⊎ (IsReplay words.now ⊎ IsLoad words.now) }
-    ensures upholds { UpholdsAll M.Mechanism D.Disk bench.core (back result) }
-    ensures any_moment { WasOnTheWayAll M.Mechanism D.Disk bench.core (back result) }
+    ensures ends { EndsWell M.Mechanism D.Disk bench.core (back result) }
     ensures guard { RunsGuardOf words.now M.Mechanism D.Disk bench.core result (io_of S.Source K.Sink source.old source.new sink.old sink.new) }
     ensures replay { RunsReplayOf words.now M.Mechanism D.Disk bench.core result (io_of S.Source K.Sink source.old source.new sink.old sink.new) }
     ensures load { RunsLoadOf words.now M.Mechanism D.Disk bench.core result (io_of S.Source K.Sink source.old source.new sink.old sink.new) }
@@ -96,9 +84,7 @@ fn run_booting<S: Source, K: Sink, M: Mechanism, D: Disk, P: Watch, Q: Watch>(
     ensures load_unread { IsLoad words.now → source.new ≡ source.old }
     ensures statuses { IsStatus result.status }
     ensures causes { ¬ (IsLoad words.now) → IsCaused result.status (io_of S.Source K.Sink source.old source.new sink.old sink.new) }
-    ensures accounts { Accounts M.Mechanism D.Disk bench.core (back result) }
-    ensures units { M.units result.mech ≡ bench.core.units }
-    ensures second { IsKept bench.second (second_back result) }
+    ensures second { ComesBack bench.second (second_back result) }
 {
     if is_word(words, "guard") {
         return guard(alloc, words, source, sink, bench);
@@ -117,16 +103,14 @@ fn run_unbooted<S: Source, K: Sink, M: Mechanism, D: Disk, P: Watch, Q: Watch>(
     sink: &mut K,
     bench: Bench<M, D, P, Q>,
 ) -> Ended<M, D, ()>
-    ensures kept { IsKept bench.core (back result) }
+    ensures kept { ComesBack bench.core (back result) }
     ensures token { RunsTokenOf words.now bench.core result (io_of S.Source K.Sink source.old source.new sink.old sink.new) }
     ensures host { RunsHostOf words.now bench.core result (io_of S.Source K.Sink source.old source.new sink.old sink.new) }
     ensures audit { RunsAuditOf words.now bench.core result (io_of S.Source K.Sink source.old source.new sink.old sink.new) }
-    ensures usage { (result.status ≡ USAGE) ↔ ¬ (IsToken words.now ⊎ (IsHost words.now ⊎ IsAudit words.now)) }
-    ensures usage_written { result.status ≡ USAGE → WritesUsage (io_of S.Source K.Sink source.old source.new sink.old sink.new) }
-    ensures unread { result.status ≡ USAGE → source.new ≡ source.old }
+    ensures usage { TellsUsage (IsBootless words.now) bench result source.old source.new (io_of S.Source K.Sink source.old source.new sink.old sink.new) }
     ensures statuses { IsStatus result.status }
     ensures causes { IsCaused result.status (io_of S.Source K.Sink source.old source.new sink.old sink.new) }
-    ensures second { IsKept bench.second (second_back result) }
+    ensures second { ComesBack bench.second (second_back result) }
 {
     if is_word(words, "token") {
         return token(alloc, words, source, sink, bench);
@@ -137,7 +121,7 @@ fn run_unbooted<S: Source, K: Sink, M: Mechanism, D: Disk, P: Watch, Q: Watch>(
     audit(alloc, words, source, sink, bench)
 }
 
-// The same of a command that dials nothing, where a link could be.
+// What a command gives back that dials nothing, where a link could be.
 pub(crate) fn linkless<M: Mechanism, D: Disk, L>(ended: Ended<M, D, ()>) -> Ended<M, D, L>
     ensures { result ≡ record { status = ended.status; mech = ended.mech; disk = ended.disk; link = None; second = ended.second } }
 {

@@ -17,7 +17,7 @@ pub struct Ended<M: Mechanism, D: Disk, L> {
 }
 
 // What comes back of a machine that nothing touched.
-pub(crate) fn kept<M: Mechanism, D: Disk>(core: Core<M, D>) -> Pair<M, D>
+pub(crate) fn pair_of<M: Mechanism, D: Disk>(core: Core<M, D>) -> Pair<M, D>
     ensures { result ≡ record { mech = core.mech; disk = core.disk } }
 {
     Pair {

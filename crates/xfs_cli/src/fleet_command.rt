@@ -1,19 +1,19 @@
 //! The command `fleet`.
 
-ghost use Rattle.std.specs.Prelude.{◌≡◌, ◌↔◌};
+ghost use Rattle.std.specs.Prelude.{◌≡◌};
 ghost use Rattle.xfs_guard.specs.Starts.{Starts};
 ghost use Rattle.xfs_cli.specs.FleetRuns.{RunsFleetOf};
-ghost use Rattle.xfs_cli.specs.Returns.{back, second_back};
+ghost use Rattle.xfs_cli.specs.Returns.{back, second_back, ComesBack};
 ghost use Rattle.xfs_cli.specs.Run.{IsFleet};
 ghost use Rattle.xfs_cli.specs.Statuses.{IsCaused, IsStatus};
-ghost use Rattle.xfs_cli.specs.Streams.{io_of};
-ghost use Rattle.xfs_cli.specs.TokenRuns.{IsKept, WritesUsage};
+ghost use Rattle.xfs_script.specs.Streams.{io_of};
 ghost use Rattle.xfs_cli.specs.Headlines.{HaveHeadlines};
+ghost use Rattle.xfs_cli.specs.Usages.{TellsUsage};
 
-use crate::ended::{Ended, kept};
-use crate::last_line::{unbooted, usage};
+use crate::answer_input::answer_input;
+use crate::ended::{Ended, pair_of};
+use crate::last_line::{finish_unbooted, usage};
 use crate::player::Player;
-use crate::serve::serve;
 use crate::status::USAGE;
 use crate::words::is_word;
 use std::alloc::Global;
@@ -36,11 +36,9 @@ pub fn fleet<S: Source, K: Sink, M: Mechanism, D: Disk, P: Watch, Q: Watch>(
     requires starts { Starts M.Mechanism D.Disk bench.core }
     requires second { Starts M.Mechanism D.Disk bench.second }
     ensures machines { HaveHeadlines M.Mechanism D.Disk bench.core bench.second result }
-    ensures runs { RunsFleetOf words.now M.Mechanism D.Disk bench.core bench.second result (io_of S.Source K.Sink source.old source.new sink.old sink.new) }
-    ensures usage { (result.status ≡ USAGE) ↔ ¬ (IsFleet words.now) }
-    ensures usage_written { result.status ≡ USAGE → WritesUsage (io_of S.Source K.Sink source.old source.new sink.old sink.new) }
-    ensures unread { result.status ≡ USAGE → source.new ≡ source.old }
-    ensures idle { result.status ≡ USAGE → IsKept bench.core (back result) × IsKept bench.second (second_back result) }
+    ensures runs { RunsFleetOf words.now M.Mechanism D.Disk bench result (io_of S.Source K.Sink source.old source.new sink.old sink.new) }
+    ensures usage { TellsUsage (IsFleet words.now) bench result source.old source.new (io_of S.Source K.Sink source.old source.new sink.old sink.new) }
+    ensures idle { result.status ≡ USAGE → ComesBack bench.second (second_back result) }
     ensures statuses { IsStatus result.status }
     ensures causes { IsCaused result.status (io_of S.Source K.Sink source.old source.new sink.old sink.new) }
 {
@@ -54,8 +52,8 @@ pub fn fleet<S: Source, K: Sink, M: Mechanism, D: Disk, P: Watch, Q: Watch>(
     drop(keys);
     if !is_word(words, "fleet") {
         usage(sink);
-        let first = kept(core);
-        return ended(USAGE, first, kept(second));
+        let first = pair_of(core);
+        return give_back(USAGE, first, pair_of(second));
     }
     let (key, second_key) = (core.key, second.key);
     match Fleet::boot(alloc, core, second) {
@@ -66,10 +64,10 @@ pub fn fleet<S: Source, K: Sink, M: Mechanism, D: Disk, P: Watch, Q: Watch>(
                 a: Player::new(alloc, a, key),
                 b: Player::new(alloc, b, second_key),
             };
-            let status = serve(alloc, &mut two, source, sink);
+            let status = answer_input(alloc, &mut two, source, sink);
             let TwoSides { alloc: _, a, b } = two;
             let first = Pair::of(a.machine);
-            ended(status, first, Pair::of(b.machine))
+            give_back(status, first, Pair::of(b.machine))
         }
         Err(
             FleetFail {
@@ -78,12 +76,12 @@ pub fn fleet<S: Source, K: Sink, M: Mechanism, D: Disk, P: Watch, Q: Watch>(
                 a: first,
                 b: second,
             },
-        ) => ended(unbooted(sink, why), first, second),
+        ) => give_back(finish_unbooted(sink, why), first, second),
     }
 }
 
 // What comes back of the two machines, with this status.
-fn ended<M: Mechanism, D: Disk>(
+fn give_back<M: Mechanism, D: Disk>(
     status: u8,
     first: Pair<M, D>,
     second: Pair<M, D>,

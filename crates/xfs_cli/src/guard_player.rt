@@ -8,13 +8,13 @@ ghost use Rattle.xfs_mech.specs.Mechanism.{CanLoad};
 ghost use Rattle.xfs_guard.specs.Fits.{unfit};
 ghost use Rattle.xfs_guard.specs.Refusals.{IsAsk};
 ghost use Rattle.xfs_guard.specs.declared.deny.Deny.TheVariants as Deny;
-ghost use Rattle.xfs_script.specs.Answered.{Tells};
+ghost use Rattle.xfs_script.specs.Answered.{IsAnswerText};
 ghost use Rattle.xfs_cli.specs.Begun.{FailsRestart, LeavesOfLoad, LeavesOfVerb, MovesOrNot, WholeOrNone};
-ghost use Rattle.xfs_cli.specs.GuardTexts.{shown};
+ghost use Rattle.xfs_cli.specs.GuardTexts.{show_bytes};
 ghost use Rattle.xfs_cli.specs.GuardStates.{state_in};
 ghost use Rattle.xfs_cli.specs.Moves.{Moves};
 ghost use Rattle.xfs_cli.specs.Dispenses.{DispensesFor, IfRemembered, IsAllowedFor, named};
-ghost use Rattle.xfs_cli.specs.GuardVerbs.{AreAnswer, IsAnswer, IsLoaded};
+ghost use Rattle.xfs_cli.specs.GuardVerbs.{AreGuardAnswer, IsGuardAnswer, IsLoaded};
 ghost use Rattle.xfs_cli.specs.Lined.{IsLined};
 ghost use Rattle.xfs_cli.specs.Restarts.{IfUnbooted, RestartFails, Restarts};
 ghost use Rattle.xfs_guard.specs.declared.fail.BootFault.{BootFault};
@@ -23,13 +23,13 @@ ghost use Rattle.xfs_cli.specs.declared.guard_player.NoAnswer.TheVariants.{Unboo
 ghost use Rattle.xfs_dispenser.specs.declared.refusal.Refusal.TheVariants.{Deny as Denied};
 
 use crate::refused::refusal_text;
-use crate::text::{ended, joined, outcome_text, show_text};
+use crate::text::{join_parts, outcome_text, show_text, with_line_feed};
 use crate::token_key::TokenKey;
 use std::alloc::{AllocError, AllocFailed, Global};
 use xfs_base::{Bytes, Counts, Memory};
 use xfs_common::ErrorCode;
 use xfs_disk::Disk;
-use xfs_dispenser::{Leave, Named, Notes, Refusal, carry_out, leave_to_stack, stack_all};
+use xfs_dispenser::{Grant, Named, Notes, Refusal, carry_out, grant_to_stack, stack_all};
 use xfs_guard::{Ask, BootFault, Guard};
 use xfs_mech::Mechanism;
 use xfs_script::{Given, GuardLine};
@@ -79,7 +79,7 @@ impl<M: Mechanism, D: Disk> GuardPlayer<M, D> {
     pub fn answer_verb(&mut self, verb: &GuardLine) -> Result<Vec<u8>, NoAnswer>
         requires none { self.old.guard.state.open_order ≡ No }
         requires key { self.old.key ≡ self.old.guard.state.key }
-        ensures answer { IfOk result (λ text. Tells (AreAnswer (state_in D.faults self.old) verb.now) text.items (state_in D.faults self.new)) }
+        ensures answer { IfOk result (λ text. IsAnswerText (AreGuardAnswer (state_in D.faults self.old) verb.now) text.items (state_in D.faults self.new)) }
         ensures memory { result ≡ Err NoAnswer.Memory → LeavesOfVerb (state_in D.faults self.old) verb.now (state_in D.faults self.new) }
         ensures unbooted { IfUnbooted result (λ why. FailsRestart (state_in D.faults self.old) verb.now why (state_in D.faults self.new)) }
         ensures proceeds { Proceeds D.Disk self.old.guard self.new.guard }
@@ -88,45 +88,45 @@ impl<M: Mechanism, D: Disk> GuardPlayer<M, D> {
     {
         match verb {
             GuardLine::Skip => Ok(Vec::new(self.alloc)),
-            GuardLine::Issue => lined(self.issue()),
-            GuardLine::Clear => lined(self.clear()),
-            GuardLine::Mint(amounts) => lined(self.mint(amounts)),
-            GuardLine::Dispense { token, counts } => lined(self.dispense(token, counts)),
-            GuardLine::Present => lined(self.moved(Ask::Present)),
-            GuardLine::Reject => lined(self.moved(Ask::Reject)),
-            GuardLine::Retract => lined(self.moved(Ask::Retract)),
-            GuardLine::Take => lined(self.take()),
-            GuardLine::Fill { unit, count } => lined(self.fill(*unit, *count)),
+            GuardLine::Issue => as_line(self.issue()),
+            GuardLine::Clear => as_line(self.clear()),
+            GuardLine::Mint(amounts) => as_line(self.mint(amounts)),
+            GuardLine::Dispense { token, counts } => as_line(self.dispense(token, counts)),
+            GuardLine::Present => as_line(self.move_all(Ask::Present)),
+            GuardLine::Reject => as_line(self.move_all(Ask::Reject)),
+            GuardLine::Retract => as_line(self.move_all(Ask::Retract)),
+            GuardLine::Take => as_line(self.take()),
+            GuardLine::Fill { unit, count } => as_line(self.fill(*unit, *count)),
             GuardLine::Show => Ok(self.show()?),
-            GuardLine::Restart => Ok(ended(self.restart()?)?),
+            GuardLine::Restart => Ok(with_line_feed(self.restart()?)?),
         }
     }
 
     fn issue(&mut self) -> Result<Vec<u8>, Memory>
         requires { self.old.guard.state.open_order ≡ No }
-        ensures answer { IfOk result (λ text. IsAnswer (state_in D.faults self.old) Issue text.items (state_in D.faults self.new)) }
+        ensures answer { IfOk result (λ text. IsGuardAnswer (state_in D.faults self.old) Issue text.items (state_in D.faults self.new)) }
         ensures memory { OnErr result (WholeOrNone (state_in D.faults self.old) Issue (state_in D.faults self.new)) }
         ensures proceeds { Proceeds D.Disk self.old.guard self.new.guard }
         ensures none { self.new.guard.state.open_order ≡ No }
         ensures key { self.new.key ≡ self.old.key }
     {
         match self.guard.issue() {
-            Ok(nonce) => joined(self.alloc, b"nonce ", &nonce.text),
+            Ok(nonce) => join_parts(self.alloc, b"nonce ", &nonce.text),
             Err(deny) => refusal_text(self.alloc, &Refusal::Deny(deny)),
         }
     }
 
     fn clear(&mut self) -> Result<Vec<u8>, Memory>
         requires { self.old.guard.state.open_order ≡ No }
-        ensures answer { IfOk result (λ text. IsAnswer (state_in D.faults self.old) Clear text.items (state_in D.faults self.new)) }
+        ensures answer { IfOk result (λ text. IsGuardAnswer (state_in D.faults self.old) Clear text.items (state_in D.faults self.new)) }
         ensures memory { OnErr result (WholeOrNone (state_in D.faults self.old) Clear (state_in D.faults self.new)) }
         ensures proceeds { Proceeds D.Disk self.old.guard self.new.guard }
         ensures none { self.new.guard.state.open_order ≡ No }
         ensures key { self.new.key ≡ self.old.key }
     {
         match self.guard.clear() {
-            Ok(true) => joined(self.alloc, b"cleared", b""),
-            Ok(false) => joined(self.alloc, b"nothing to clear", b""),
+            Ok(true) => join_parts(self.alloc, b"cleared", b""),
+            Ok(false) => join_parts(self.alloc, b"nothing to clear", b""),
             Err(deny) => refusal_text(self.alloc, &Refusal::Deny(deny)),
         }
     }
@@ -134,20 +134,20 @@ impl<M: Mechanism, D: Disk> GuardPlayer<M, D> {
     // A genuine token for the live nonce, which is then the last one.
     fn mint(&mut self, amounts: &Amounts) -> Result<Vec<u8>, Memory>
         requires key { self.old.key ≡ self.old.guard.state.key }
-        ensures answer { IfOk result (λ text. IsAnswer (state_in D.faults self.old) (Mint amounts.now) text.items (state_in D.faults self.new)) }
+        ensures answer { IfOk result (λ text. IsGuardAnswer (state_in D.faults self.old) (Mint amounts.now) text.items (state_in D.faults self.new)) }
         ensures memory { OnErr result (WholeOrNone (state_in D.faults self.old) (Mint amounts.now) (state_in D.faults self.new)) }
         ensures same { self.new.guard ≡ self.old.guard }
         ensures key { self.new.key ≡ self.old.key }
     {
         let Some(nonce) = self.guard.live() else {
             self.last = None;
-            return joined(self.alloc, b"token ", b"none");
+            return join_parts(self.alloc, b"token ", b"none");
         };
         // A live nonce is of the grammar, so what remains is want of memory.
         let Ok(token) = self.key.make(self.alloc, &nonce.text, amounts) else {
             return Err(Memory);
         };
-        let text = joined(self.alloc, b"token ", &token);
+        let text = join_parts(self.alloc, b"token ", &token);
         self.last = Some(Bytes::new(token));
         text
     }
@@ -155,7 +155,7 @@ impl<M: Mechanism, D: Disk> GuardPlayer<M, D> {
     // The customer takes what lies in the outlet.
     fn take(&mut self) -> Result<Vec<u8>, Memory>
         requires { self.old.guard.state.open_order ≡ No }
-        ensures answer { IfOk result (λ text. IsAnswer (state_in D.faults self.old) Take text.items (state_in D.faults self.new)) }
+        ensures answer { IfOk result (λ text. IsGuardAnswer (state_in D.faults self.old) Take text.items (state_in D.faults self.new)) }
         ensures memory { OnErr result (WholeOrNone (state_in D.faults self.old) Take (state_in D.faults self.new)) }
         ensures proceeds { Proceeds D.Disk self.old.guard self.new.guard }
         ensures none { self.new.guard.state.open_order ≡ No }
@@ -170,7 +170,7 @@ impl<M: Mechanism, D: Disk> GuardPlayer<M, D> {
     // The operator adds notes to a unit, and it is written down.
     fn fill(&mut self, unit: u8, count: u32) -> Result<Vec<u8>, Memory>
         requires { self.old.guard.state.open_order ≡ No }
-        ensures answer { IfOk result (λ text. IsAnswer (state_in D.faults self.old) (Fill unit count) text.items (state_in D.faults self.new)) }
+        ensures answer { IfOk result (λ text. IsGuardAnswer (state_in D.faults self.old) (Fill unit count) text.items (state_in D.faults self.new)) }
         ensures memory { OnErr result (LeavesOfVerb (state_in D.faults self.old) (Fill unit count) (state_in D.faults self.new)) }
         ensures proceeds { Proceeds D.Disk self.old.guard self.new.guard }
         ensures none { self.new.guard.state.open_order ≡ No }
@@ -201,10 +201,10 @@ impl<M: Mechanism, D: Disk> GuardPlayer<M, D> {
     {
         let outcome = self.guard.load(unit, count)?;
         if outcome.failed {
-            return joined(self.alloc, b"fault", b"");
+            return join_parts(self.alloc, b"fault", b"");
         }
         match self.guard.note_load(unit, count) {
-            Ok(()) => joined(self.alloc, b"filled", b""),
+            Ok(()) => join_parts(self.alloc, b"filled", b""),
             Err(deny) => refusal_text(self.alloc, &Refusal::Deny(deny)),
         }
     }
@@ -220,18 +220,18 @@ impl<M: Mechanism, D: Disk> GuardPlayer<M, D> {
         ensures key { self.new.key ≡ self.old.key }
     {
         self.guard.reboot()?;
-        Ok(joined(self.alloc, b"restarted", b"")?)
+        Ok(join_parts(self.alloc, b"restarted", b"")?)
     }
 
     fn show(&mut self) -> Result<Vec<u8>, Memory>
-        ensures answer { IfOk result (λ text. text.items ≡ shown self.old.guard.state) }
+        ensures answer { IfOk result (λ text. text.items ≡ show_bytes self.old.guard.state) }
         ensures same { self.new ≡ self.old }
     {
         show_text(self.alloc, self.guard.units().len(), &self.guard.places())
     }
 
     // An order of all the notes of a place.
-    fn moved(&mut self, ask: Ask) -> Result<Vec<u8>, Memory>
+    fn move_all(&mut self, ask: Ask) -> Result<Vec<u8>, Memory>
         requires none { self.old.guard.state.open_order ≡ No }
         requires asked { IsAsk self.old.guard.state ask }
         ensures answer { IfOk result (λ text. Moves (state_in D.faults self.old) ask text.items (state_in D.faults self.new)) }
@@ -254,18 +254,18 @@ impl<M: Mechanism, D: Disk> GuardPlayer<M, D> {
         ensures none { self.new.guard.state.open_order ≡ No }
         ensures key { self.new.key ≡ self.old.key }
     {
-        let leave = match self.allowed(token, counts) {
-            Ok(leave) => leave,
+        let grant = match self.allow(token, counts) {
+            Ok(grant) => grant,
             Err(refusal) => return refusal_text(self.alloc, &refusal),
         };
-        match stack_all(&mut self.guard, leave.issue, &leave.counts) {
+        match stack_all(&mut self.guard, grant.issue, &grant.counts) {
             Ok(outcome) => outcome_text(self.alloc, b"moved", &outcome),
             Err(deny) => refusal_text(self.alloc, &Refusal::Deny(deny)),
         }
     }
 
-    // The leave to stack these notes on the token that the line names.
-    fn allowed(&mut self, token: &Given, counts: &Counts) -> Result<Leave, Refusal>
+    // The grant to stack these notes on the token that the line names.
+    fn allow(&mut self, token: &Given, counts: &Counts) -> Result<Grant, Refusal>
         requires { self.old.guard.state.open_order ≡ No }
         ensures allowed { IfRemembered result (IsAllowedFor (state_in D.faults self.old) token.now counts.now result (state_in D.faults self.new)) }
         ensures same { IfErr result (λ r. r ≢ Denied Deny.Disk → self.new.guard ≡ self.old.guard) }
@@ -275,24 +275,24 @@ impl<M: Mechanism, D: Disk> GuardPlayer<M, D> {
         ensures key { self.new.key ≡ self.old.key }
     {
         let notes = Notes::Individual(Named::These(*counts));
-        leave_to_stack(
+        grant_to_stack(
             self.alloc,
             &mut self.guard,
             &notes,
-            given(&self.last, token),
+            token_named(&self.last, token),
         )
     }
 }
 
 // The answer with its line feed, where there is one.
-fn lined(text: Result<Vec<u8>, Memory>) -> Result<Vec<u8>, NoAnswer>
+fn as_line(text: Result<Vec<u8>, Memory>) -> Result<Vec<u8>, NoAnswer>
     ensures { IsLined text result (λ t. t.items) }
 {
-    Ok(ended(text?)?)
+    Ok(with_line_feed(text?)?)
 }
 
 // The text of the token that a line names, where there is one.
-fn given<'a>(last: &'a Option<Bytes>, token: &'a Given) -> Option<&'a [u8]>
+fn token_named<'a>(last: &'a Option<Bytes>, token: &'a Given) -> Option<&'a [u8]>
     ensures { option_map (λ t. t.now) result ≡ named last.now token.now }
 {
     match token {

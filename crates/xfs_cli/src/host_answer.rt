@@ -1,11 +1,11 @@
 //! The answers of the command `host`.
 
 ghost use Rattle.std.specs.Prelude.{◌≡◌, ◌≤◌, IfOk, OnErr};
-ghost use Rattle.xfs_script.specs.Answered.{Tells};
-ghost use Rattle.xfs_cli.specs.HostVerbs.{AnswersAsk, AnswersOpen, AreAnswer, IsSmall, LeavesOfVerb, TellsLine, WholeOrNone};
+ghost use Rattle.xfs_script.specs.Answered.{IsAnswerText};
+ghost use Rattle.xfs_cli.specs.HostVerbs.{AnswersAsk, AnswersOpen, AreHostAnswer, IsSmall, LeavesOfVerb, TellsLine, WholeOrNone};
 
 use crate::host_text::{reply_text, show_text};
-use crate::text::ended;
+use crate::text::with_line_feed;
 use std::alloc::Global;
 use xfs_base::{Currency, Memory, Milli};
 use xfs_guard::BootFault;
@@ -63,7 +63,7 @@ impl Answerer for Bank {
 // The lines that answer a verb, a line feed behind each.
 fn verb_text(alloc: Global, host: &mut Host, verb: &HostLine) -> Result<Vec<u8>, Memory>
     requires { IsSmall verb.now }
-    ensures answer { IfOk result (λ text. Tells (AreAnswer host.old verb.now) text.items host.new) }
+    ensures answer { IfOk result (λ text. IsAnswerText (AreHostAnswer host.old verb.now) text.items host.new) }
     ensures leaves { OnErr result (LeavesOfVerb host.old verb.now host.new) }
 {
     match verb {
@@ -101,7 +101,7 @@ fn open_line(
     ensures answer { IfOk result (λ line. TellsLine (AnswersOpen host.old account currency balance.0) line.items host.new) }
     ensures leaves { OnErr result (WholeOrNone (AnswersOpen host.old account currency balance.0) host.old host.new) }
 {
-    ended(open_answer(alloc, host, account, currency, balance)?)
+    with_line_feed(open_answer(alloc, host, account, currency, balance)?)
 }
 
 fn open_answer(
@@ -141,7 +141,7 @@ fn ask_line(alloc: Global, host: &mut Host, ask: &Ask) -> Result<Vec<u8>, Memory
     ensures answer { IfOk result (λ line. TellsLine (AnswersAsk host.old ask.now) line.items host.new) }
     ensures leaves { OnErr result (WholeOrNone (AnswersAsk host.old ask.now) host.old host.new) }
 {
-    ended(ask_answer(alloc, host, ask)?)
+    with_line_feed(ask_answer(alloc, host, ask)?)
 }
 
 fn ask_answer(alloc: Global, host: &mut Host, ask: &Ask) -> Result<Vec<u8>, Memory>

@@ -4,7 +4,7 @@ ghost use Rattle.std.specs.Prelude.{◌≡◌, ◌++◌, ◌∷◌, [], decimal,
 ghost use Rattle.xfs_script.specs.Answered.{lines_text};
 ghost use Rattle.xfs_cli.specs.HostVerbs.{account_line, reply_text, show_lines};
 
-use crate::text::joined;
+use crate::text::join_parts;
 use itoa::Buffer;
 use std::alloc::{AllocError, Global};
 use xfs_base::Memory;
@@ -14,16 +14,16 @@ pub fn reply_text(alloc: Global, reply: &Reply) -> Result<Vec<u8>, Memory>
     ensures { IfOk result (λ text. text.items ≡ reply_text reply.now) }
 {
     match reply {
-        Reply::Token(text) => joined(alloc, b"token ", text.list()),
+        Reply::Token(text) => join_parts(alloc, b"token ", text.list()),
         Reply::Other => Ok(Vec::from_slice(alloc, b"refused other")?),
         Reply::Unknown => Ok(Vec::from_slice(alloc, b"refused account")?),
         Reply::WrongCurrency => Ok(Vec::from_slice(alloc, b"refused currency")?),
-        Reply::UsedNonce { tx } => Ok(numbered(alloc, b"refused nonce used ", *tx)?),
-        Reply::Poor { balance } => Ok(numbered(alloc, b"refused balance ", balance.0)?),
+        Reply::UsedNonce { tx } => Ok(with_number(alloc, b"refused nonce used ", *tx)?),
+        Reply::Poor { balance } => Ok(with_number(alloc, b"refused balance ", balance.0)?),
     }
 }
 
-fn numbered(alloc: Global, words: &[u8], number: u64) -> Result<Vec<u8>, AllocError>
+fn with_number(alloc: Global, words: &[u8], number: u64) -> Result<Vec<u8>, AllocError>
     ensures { IfOk result (λ text. text.items ≡ words.now ++ decimal number) }
 {
     let mut text = Vec::from_slice(alloc, words)?;

@@ -1,6 +1,7 @@
 //! The top call of the program, and the commands that it runs.
 #![tactic(auto)]
 
+mod answer_input;
 mod audit_answer;
 mod audit_command;
 mod client_command;
@@ -22,8 +23,6 @@ mod refused;
 mod replay_answer;
 mod replay_command;
 mod rest;
-mod say;
-mod serve;
 mod serve_command;
 pub mod status;
 mod text;

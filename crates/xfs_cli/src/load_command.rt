@@ -1,26 +1,25 @@
 //! The command `load`.
 
-ghost use Rattle.std.specs.Prelude.{◌≡◌, ◌↔◌, ◌∷◌, [], IfOk, length};
+ghost use Rattle.std.specs.Prelude.{◌≡◌, ◌∷◌, [], IfOk, length};
 ghost use Rattle.xfs_guard.specs.Keeps.{Proceeds};
 ghost use Rattle.xfs_guard.specs.Starts.{Starts};
 ghost use Rattle.xfs_load.specs.Summaries.{summary_line};
 ghost use Rattle.xfs_machine.specs.MachineView.{guard_of};
 ghost use Rattle.xfs_model.specs.State.{bare};
 ghost use Rattle.xfs_script.specs.Answered.{lines_text};
-ghost use Rattle.xfs_cli.specs.LoadEnds.{EndsLoad, TellsOrNot, output};
+ghost use Rattle.xfs_cli.specs.LoadEnds.{EndsLoad, WritesTextOrNot, output};
 ghost use Rattle.xfs_cli.specs.LoadRuns.{RunsLoadOf};
-ghost use Rattle.xfs_cli.specs.Moments.{WasOnTheWayAll};
-ghost use Rattle.xfs_cli.specs.Returns.{back, second_back};
+ghost use Rattle.xfs_cli.specs.Returns.{back, second_back, ComesBack};
 ghost use Rattle.xfs_cli.specs.Run.{IsLoad};
 ghost use Rattle.xfs_cli.specs.Statuses.{IsStatus};
-ghost use Rattle.xfs_cli.specs.Streams.{io_of};
-ghost use Rattle.xfs_cli.specs.TokenRuns.{IsKept, WritesUsage};
-ghost use Rattle.xfs_cli.specs.Upholds.{Accounts, UpholdsAll};
+ghost use Rattle.xfs_script.specs.Streams.{io_of};
+ghost use Rattle.xfs_cli.specs.Headlines.{EndsWell};
+ghost use Rattle.xfs_cli.specs.Usages.{TellsUsage};
 
-use crate::ended::{Ended, kept};
-use crate::last_line::{unbooted, usage};
+use crate::ended::{Ended, pair_of};
+use crate::last_line::{finish_unbooted, usage};
 use crate::status::{NO_MEMORY, READ_TO_END, USAGE, WRITE_FAULT};
-use crate::text::ended;
+use crate::text::with_line_feed;
 use crate::words::rounds_of;
 use std::alloc::Global;
 use xfs_base::{Memory, Sink, Source, write_all};
@@ -40,17 +39,12 @@ pub fn load<S: Source, K: Sink, M: Mechanism, D: Disk, P: Watch, Q: Watch>(
     bench: Bench<M, D, P, Q>,
 ) -> Ended<M, D, ()>
     requires starts { Starts M.Mechanism D.Disk bench.core }
-    ensures upholds { UpholdsAll M.Mechanism D.Disk bench.core (back result) }
-    ensures any_moment { WasOnTheWayAll M.Mechanism D.Disk bench.core (back result) }
+    ensures ends { EndsWell M.Mechanism D.Disk bench.core (back result) }
     ensures runs { RunsLoadOf words.now M.Mechanism D.Disk bench.core result (io_of S.Source K.Sink source.old source.new sink.old sink.new) }
-    ensures usage { (result.status ≡ USAGE) ↔ ¬ (IsLoad words.now) }
-    ensures usage_written { result.status ≡ USAGE → WritesUsage (io_of S.Source K.Sink source.old source.new sink.old sink.new) }
+    ensures usage { TellsUsage (IsLoad words.now) bench result source.old source.new (io_of S.Source K.Sink source.old source.new sink.old sink.new) }
     ensures unread { source.new ≡ source.old }
-    ensures idle { result.status ≡ USAGE → IsKept bench.core (back result) }
     ensures statuses { IsStatus result.status }
-    ensures accounts { Accounts M.Mechanism D.Disk bench.core (back result) }
-    ensures units { M.units result.mech ≡ bench.core.units }
-    ensures second { IsKept bench.second (second_back result) }
+    ensures second { ComesBack bench.second (second_back result) }
 {
     let Bench {
         core,
@@ -58,7 +52,7 @@ pub fn load<S: Source, K: Sink, M: Mechanism, D: Disk, P: Watch, Q: Watch>(
         keys,
         second,
     } = bench;
-    let second = kept(second);
+    let second = pair_of(second);
     drop(cards);
     drop(keys);
     let Some(rounds) = rounds_of(alloc, words) else {
@@ -85,7 +79,7 @@ pub fn load<S: Source, K: Sink, M: Mechanism, D: Disk, P: Watch, Q: Watch>(
             }
         }
         Err(BootFail { why, mech, disk }) => Ended {
-            status: unbooted(sink, why),
+            status: finish_unbooted(sink, why),
             mech,
             disk,
             link: None,
@@ -114,9 +108,9 @@ fn play_on<K: Sink, M: Mechanism, D: Disk>(
 
 // Writes the line of a summary; the status.
 fn tell<K: Sink>(alloc: Global, summary: &Summary, sink: &mut K) -> u8
-    ensures { TellsOrNot (lines_text (summary_line summary.now ∷ [])) result (output K.Sink sink.old sink.new) }
+    ensures { WritesTextOrNot (lines_text (summary_line summary.now ∷ [])) result (output K.Sink sink.old sink.new) }
 {
-    let text = match told(alloc, summary) {
+    let text = match line_of(alloc, summary) {
         Ok(text) => text,
         Err(Memory) => return NO_MEMORY,
     };
@@ -126,8 +120,8 @@ fn tell<K: Sink>(alloc: Global, summary: &Summary, sink: &mut K) -> u8
     }
 }
 
-fn told(alloc: Global, summary: &Summary) -> Result<Vec<u8>, Memory>
+fn line_of(alloc: Global, summary: &Summary) -> Result<Vec<u8>, Memory>
     ensures { IfOk result (λ text. text.items ≡ lines_text (summary_line summary.now ∷ [])) }
 {
-    ended(summary.line(alloc)?)
+    with_line_feed(summary.line(alloc)?)
 }

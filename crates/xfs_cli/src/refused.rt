@@ -5,7 +5,7 @@ ghost use Rattle.std.specs.Option.{option_map};
 ghost use Rattle.xfs_dispenser.specs.Answers.{answered};
 ghost use Rattle.xfs_cli.specs.Refused.{answer_word, refusal_text, refusal_number};
 
-use crate::text::joined;
+use crate::text::join_parts;
 use itoa::Buffer;
 use serde_json::Value;
 use std::alloc::Global;
@@ -21,7 +21,7 @@ pub fn refusal_text(alloc: Global, refusal: &Refusal) -> Result<Vec<u8>, Memory>
     ensures { IfOk result (λ text. refusal_text refusal.now ≡ Some text.items) }
 {
     let (code, payload) = refusal.answer(alloc)?;
-    let mut text = joined(alloc, b"refused ", word_of(code, &payload).as_bytes())?;
+    let mut text = join_parts(alloc, b"refused ", word_of(code, &payload).as_bytes())?;
     if let Some((name, number)) = number_of(refusal) {
         text.push(b' ')?;
         text.extend_from_slice(name.as_bytes())?;

@@ -1,20 +1,19 @@
 //! The command `replay`.
 
-ghost use Rattle.std.specs.Prelude.{◌≡◌, ◌↔◌};
+ghost use Rattle.std.specs.Prelude.{◌≡◌};
 ghost use Rattle.xfs_guard.specs.Starts.{Starts};
-ghost use Rattle.xfs_cli.specs.Moments.{WasOnTheWayAll};
 ghost use Rattle.xfs_cli.specs.ReplayRuns.{RunsReplayOf};
-ghost use Rattle.xfs_cli.specs.Returns.{back, second_back};
+ghost use Rattle.xfs_cli.specs.Returns.{back, second_back, ComesBack};
 ghost use Rattle.xfs_cli.specs.Run.{IsReplay};
 ghost use Rattle.xfs_cli.specs.Statuses.{IsCaused, IsStatus};
-ghost use Rattle.xfs_cli.specs.Streams.{io_of};
-ghost use Rattle.xfs_cli.specs.TokenRuns.{IsKept, WritesUsage};
-ghost use Rattle.xfs_cli.specs.Upholds.{Accounts, UpholdsAll};
+ghost use Rattle.xfs_script.specs.Streams.{io_of};
+ghost use Rattle.xfs_cli.specs.Headlines.{EndsWell};
+ghost use Rattle.xfs_cli.specs.Usages.{TellsUsage};
 
-use crate::ended::{Ended, kept};
-use crate::last_line::{unbooted, usage};
+use crate::answer_input::answer_input;
+use crate::ended::{Ended, pair_of};
+use crate::last_line::{finish_unbooted, usage};
 use crate::player::Player;
-use crate::serve::serve;
 use crate::status::USAGE;
 use crate::words::is_word;
 use std::alloc::Global;
@@ -33,18 +32,12 @@ pub fn replay<S: Source, K: Sink, M: Mechanism, D: Disk, P: Watch, Q: Watch>(
     bench: Bench<M, D, P, Q>,
 ) -> Ended<M, D, ()>
     requires starts { Starts M.Mechanism D.Disk bench.core }
-    ensures upholds { UpholdsAll M.Mechanism D.Disk bench.core (back result) }
-    ensures any_moment { WasOnTheWayAll M.Mechanism D.Disk bench.core (back result) }
+    ensures ends { EndsWell M.Mechanism D.Disk bench.core (back result) }
     ensures runs { RunsReplayOf words.now M.Mechanism D.Disk bench.core result (io_of S.Source K.Sink source.old source.new sink.old sink.new) }
-    ensures usage { (result.status ≡ USAGE) ↔ ¬ (IsReplay words.now) }
-    ensures usage_written { result.status ≡ USAGE → WritesUsage (io_of S.Source K.Sink source.old source.new sink.old sink.new) }
-    ensures unread { result.status ≡ USAGE → source.new ≡ source.old }
-    ensures idle { result.status ≡ USAGE → IsKept bench.core (back result) }
+    ensures usage { TellsUsage (IsReplay words.now) bench result source.old source.new (io_of S.Source K.Sink source.old source.new sink.old sink.new) }
     ensures statuses { IsStatus result.status }
     ensures causes { IsCaused result.status (io_of S.Source K.Sink source.old source.new sink.old sink.new) }
-    ensures accounts { Accounts M.Mechanism D.Disk bench.core (back result) }
-    ensures units { M.units result.mech ≡ bench.core.units }
-    ensures second { IsKept bench.second (second_back result) }
+    ensures second { ComesBack bench.second (second_back result) }
 {
     let Bench {
         core,
@@ -52,7 +45,7 @@ pub fn replay<S: Source, K: Sink, M: Mechanism, D: Disk, P: Watch, Q: Watch>(
         keys,
         second,
     } = bench;
-    let second = kept(second);
+    let second = pair_of(second);
     drop(cards);
     drop(keys);
     if !is_word(words, "replay") {
@@ -69,7 +62,7 @@ pub fn replay<S: Source, K: Sink, M: Mechanism, D: Disk, P: Watch, Q: Watch>(
     match Machine::boot(alloc, core) {
         Ok(machine) => {
             let mut player = Player::new(alloc, machine, key);
-            let status = serve(alloc, &mut player, source, sink);
+            let status = answer_input(alloc, &mut player, source, sink);
             let (mech, disk) = player.machine.end();
             Ended {
                 status,
@@ -80,7 +73,7 @@ pub fn replay<S: Source, K: Sink, M: Mechanism, D: Disk, P: Watch, Q: Watch>(
             }
         }
         Err(BootFail { why, mech, disk }) => Ended {
-            status: unbooted(sink, why),
+            status: finish_unbooted(sink, why),
             mech,
             disk,
             link: None,

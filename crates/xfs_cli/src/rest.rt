@@ -3,7 +3,7 @@
 ghost use Rattle.std.specs.Prelude.{◌≡◌, ◌++◌, ◌∷◌, [], codes, decimal, IfOk, OnErr};
 ghost use Rattle.xfs_guard.specs.Keeps.{Proceeds};
 ghost use Rattle.xfs_machine.specs.MachineView.{guard_of};
-ghost use Rattle.xfs_script.specs.Answered.{Tells, lines_text};
+ghost use Rattle.xfs_script.specs.Answered.{IsAnswerText, lines_text};
 ghost use Rattle.xfs_script.specs.declared.replay_line.ReplayLine.TheVariants as verbs;
 ghost use Rattle.xfs_cli.specs.ReplayEvents.{AnswersVerb};
 ghost use Rattle.xfs_cli.specs.ReplayCommand.{IsPartDone};
@@ -22,17 +22,17 @@ const FRAMES: usize = 512;
 
 impl<M: Mechanism, D: Disk> Player<M, D> {
     pub fn rest(&mut self) -> Result<Vec<u8>, Memory>
-        ensures answer { IfOk result (λ text. Tells (AnswersVerb (played self.old) verbs.Rest) text.items (played self.new)) }
+        ensures answer { IfOk result (λ text. IsAnswerText (AnswersVerb (played self.old) verbs.Rest) text.items (played self.new)) }
         ensures memory { OnErr result (IsPartDone (played self.old) verbs.Rest (played self.new)) }
         ensures proceeds { Proceeds D.Disk (guard_of self.old.machine) (guard_of self.new.machine) }
     {
         let count = rest(&mut self.machine, self.now, &mut self.tally)?;
-        rested(self.alloc, count)
+        rest_line(self.alloc, count)
     }
 }
 
 // The line with the count, in memory for the frames that mostly come behind it.
-fn rested(alloc: Global, count: u32) -> Result<Vec<u8>, Memory>
+fn rest_line(alloc: Global, count: u32) -> Result<Vec<u8>, Memory>
     ensures { IfOk result (λ text. text.items ≡ lines_text ((codes "rested " ++ decimal count) ∷ [])) }
 {
     let mut text = Vec::with_capacity(alloc, FRAMES)?;

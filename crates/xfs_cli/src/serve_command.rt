@@ -1,31 +1,29 @@
 //! The command `serve`.
 
-ghost use Rattle.std.specs.Prelude.{◌≡◌, ◌≤◌};
+ghost use Rattle.std.specs.Prelude.{◌≡◌};
 ghost use Rattle.xfs_guard.specs.Starts.{Starts};
-ghost use Rattle.xfs_cli.specs.Moments.{WasOnTheWayAll};
-ghost use Rattle.xfs_cli.specs.Returns.{back, second_back};
+ghost use Rattle.xfs_cli.specs.Returns.{back, second_back, ComesBack};
 ghost use Rattle.xfs_cli.specs.ServeRuns.{RunsServe, served_line, served_status};
-ghost use Rattle.xfs_cli.specs.Served.{WritesLast};
-ghost use Rattle.xfs_cli.specs.Streams.{output};
-ghost use Rattle.xfs_cli.specs.TokenRuns.{IsKept};
-ghost use Rattle.xfs_cli.specs.Upholds.{Accounts, UpholdsAll};
+ghost use Rattle.xfs_script.specs.Streams.{output};
+ghost use Rattle.xfs_script.specs.LastLines.{WritesLast};
+ghost use Rattle.xfs_cli.specs.Headlines.{EndsWell};
 
-use crate::ended::{Ended, kept};
-use crate::last_line::unbooted;
+use crate::ended::{Ended, pair_of};
+use crate::last_line::finish_unbooted;
 use crate::status::{LINK_FAILED, NO_MEMORY, READ_TO_END};
 use std::alloc::Global;
 use std::sync::Wait;
 use std::thread::Threads;
 use xfs_base::{Clock, Sink};
+use xfs_board::{Served, serve_connections};
 use xfs_disk::Disk;
 use xfs_guard::{Bench, BootFail, BootFault, Deny};
 use xfs_machine::Machine;
 use xfs_mech::{Mechanism, Watch};
 use xfs_server::{Doors, Gate};
 use xfs_serving::{CardWatch, Ending, KeyWatch};
-use xfs_serving_machine::{Served, serve_connections};
 
-/// boot records a machine, takes so many connections at the doors and serves them at once, each in a session of its own, and
+/// Boots a machine, takes so many connections at the doors and serves them at once, each in a session of its own, and
 /// carries an open order out at the end. It reads no input.
 pub fn serve_machine<
     R: Threads + Wait + Sync,
@@ -40,7 +38,7 @@ pub fn serve_machine<
 >(
     rt: &R,
     alloc: Global,
-    connections: u32,
+    count: u32,
     sink: &mut K,
     bench: Bench<M, D, P, Q>,
     clock: &C,
@@ -48,13 +46,10 @@ pub fn serve_machine<
     gate: &G,
 ) -> Ended<M, D, O::Link>
     requires starts { Starts M.Mechanism D.Disk bench.core }
-    ensures upholds { UpholdsAll M.Mechanism D.Disk bench.core (back result) }
-    ensures any_moment { WasOnTheWayAll M.Mechanism D.Disk bench.core (back result) }
-    ensures runs { RunsServe M.Mechanism D.Disk bench.core connections (back result) (O.log doors.old) (O.log doors.new) (output K.Sink sink.old sink.new) }
-    ensures accounts { Accounts M.Mechanism D.Disk bench.core (back result) }
-    ensures units { M.units result.mech ≡ bench.core.units }
+    ensures ends { EndsWell M.Mechanism D.Disk bench.core (back result) }
+    ensures runs { RunsServe M.Mechanism D.Disk bench.core count (back result) (O.log doors.old) (O.log doors.new) (output K.Sink sink.old sink.new) }
     ensures undialled { result.link ≡ None }
-    ensures second { IsKept bench.second (second_back result) }
+    ensures second { ComesBack bench.second (second_back result) }
 {
     let Bench {
         core,
@@ -62,13 +57,13 @@ pub fn serve_machine<
         keys,
         second,
     } = bench;
-    let second = kept(second);
+    let second = pair_of(second);
     match Machine::boot(alloc, core) {
         Ok(machine) => {
             let Served { ending, machine } = serve_connections::<R, M, D, O, C, G, P, Q>(
                 rt,
                 alloc,
-                connections,
+                count,
                 machine,
                 doors,
                 clock,
@@ -86,7 +81,7 @@ pub fn serve_machine<
             }
         }
         Err(BootFail { why, mech, disk }) => Ended {
-            status: unbooted(sink, why),
+            status: finish_unbooted(sink, why),
             mech,
             disk,
             link: None,
@@ -98,10 +93,10 @@ pub fn serve_machine<
 // The status of a server, once the line was written that the disk failed at the end, if it did.
 fn settle<K: Sink>(sink: &mut K, ending: Ending, settled: Result<(), Deny>) -> u8
     ensures status { result ≡ served_status ending settled }
-    ensures line { WritesLast (served_line settled) (K.faults sink.old) (K.faults sink.new) (K.held sink.old) (K.held sink.new) }
+    ensures line { WritesLast (served_line settled) (output K.Sink sink.old sink.new) }
 {
     match (settled, ending) {
-        (Err(_), _) => unbooted(sink, BootFault::Disk),
+        (Err(_), _) => finish_unbooted(sink, BootFault::Disk),
         (Ok(()), Ending::Served) => READ_TO_END,
         (Ok(()), Ending::Failed) => LINK_FAILED,
         (Ok(()), Ending::Memory) => NO_MEMORY,

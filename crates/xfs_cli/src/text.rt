@@ -11,7 +11,7 @@ use xfs_mech::Outcome;
 use xfs_script::counts_text;
 
 /// Two parts in one text, with room for its line feed.
-pub fn joined(alloc: Global, first: &[u8], second: &[u8]) -> Result<Vec<u8>, Memory>
+pub fn join_parts(alloc: Global, first: &[u8], second: &[u8]) -> Result<Vec<u8>, Memory>
     ensures { IfOk result (λ text. text.items ≡ first.now ++ second.now) }
 {
     let mut text = Vec::with_capacity(
@@ -39,7 +39,7 @@ pub fn outcome_text(alloc: Global, verb: &[u8], outcome: &Outcome) -> Result<Vec
 }
 
 /// The line that answers, with its line feed.
-pub fn ended(mut line: Vec<u8>) -> Result<Vec<u8>, Memory>
+pub fn with_line_feed(mut line: Vec<u8>) -> Result<Vec<u8>, Memory>
     ensures { IfOk result (λ text. text.items ≡ lines_text (line.items ∷ [])) }
 {
     line.push(b'\n')?;
@@ -50,7 +50,7 @@ pub fn ended(mut line: Vec<u8>) -> Result<Vec<u8>, Memory>
 pub fn line(alloc: Global, first: &[u8], second: &[u8]) -> Result<Vec<u8>, Memory>
     ensures { IfOk result (λ text. text.items ≡ lines_text ((first.now ++ second.now) ∷ [])) }
 {
-    ended(joined(alloc, first, second)?)
+    with_line_feed(join_parts(alloc, first, second)?)
 }
 
 /// The six places of each unit, a line a unit.

@@ -4,11 +4,11 @@ ghost use Rattle.std.specs.Prelude.{◌≡◌, ◌++◌, codes, decimal, IfOk, O
 ghost use Rattle.hex.specs.Hex.{encode_lower};
 ghost use Rattle.xfs_hmac.specs.Hmac.{hmac};
 ghost use Rattle.xfs_token.specs.Amounts.{amounts_of};
-ghost use Rattle.xfs_script.specs.Answered.{Tells};
-ghost use Rattle.xfs_cli.specs.TokenVerbs.{AreAnswer, IsFaultText, TellsMade, TellsRead, thousandths_text, amounts_text, joined_amounts, token_text};
+ghost use Rattle.xfs_script.specs.Answered.{IsAnswerText};
+ghost use Rattle.xfs_cli.specs.TokenVerbs.{AreTokenAnswer, IsFaultText, TellsMade, TellsRead, thousandths_text, amounts_text, joined_amounts, token_text};
 ghost use Rattle.xfs_cli.specs.TokenVerbs as answers;
 
-use crate::text::{ended, joined};
+use crate::text::{join_parts, with_line_feed};
 use crate::token_key::TokenKey;
 use itoa::Buffer;
 use std::alloc::{AllocError, Global};
@@ -67,16 +67,16 @@ impl Answerer for Tokens {
 
 // The lines that answer a verb, a line feed behind each.
 fn verb_text(alloc: Global, key: &TokenKey, verb: &TokenLine) -> Result<Vec<u8>, Memory>
-    ensures { IfOk result (λ text. Tells (λ output next. AreAnswer key.now verb.now output) text.items key.now) }
+    ensures { IfOk result (λ text. IsAnswerText (λ output next. AreTokenAnswer key.now verb.now output) text.items key.now) }
 {
     match verb {
         TokenLine::Skip => Ok(Vec::new(alloc)),
-        TokenLine::Read(bytes) => Ok(ended(read_answer(alloc, key, bytes.list())?)?),
+        TokenLine::Read(bytes) => Ok(with_line_feed(read_answer(alloc, key, bytes.list())?)?),
         TokenLine::Make { nonce, amounts } => {
-            Ok(ended(make_answer(alloc, key, nonce.list(), amounts)?)?)
+            Ok(with_line_feed(make_answer(alloc, key, nonce.list(), amounts)?)?)
         }
         TokenLine::Mac { key, message } => {
-            Ok(ended(mac_answer(alloc, key.list(), message.list())?)?)
+            Ok(with_line_feed(mac_answer(alloc, key.list(), message.list())?)?)
         }
     }
 }
@@ -174,12 +174,12 @@ fn make_answer(
     let Ok(token) = key.make(alloc, nonce, amounts) else {
         return Err(Memory);
     };
-    joined(alloc, b"token ", &token)
+    join_parts(alloc, b"token ", &token)
 }
 
 fn mac_answer(alloc: Global, key: &[u8], message: &[u8]) -> Result<Vec<u8>, Memory>
     ensures { IfOk result (λ v. v.items ≡ codes "mac " ++ encode_lower (hmac key.now message.now)) }
 {
     let digits = hex::encode(alloc, mac(key, message))?;
-    joined(alloc, b"mac ", digits.as_bytes())
+    join_parts(alloc, b"mac ", digits.as_bytes())
 }

@@ -1,15 +1,16 @@
 //! The command `token`.
 
-ghost use Rattle.std.specs.Prelude.{◌≡◌, ◌↔◌};
-ghost use Rattle.xfs_cli.specs.Returns.{back, second_back};
+ghost use Rattle.std.specs.Prelude.{◌≡◌};
+ghost use Rattle.xfs_cli.specs.Returns.{back, second_back, ComesBack};
 ghost use Rattle.xfs_cli.specs.Run.{IsToken};
 ghost use Rattle.xfs_cli.specs.Statuses.{IsCaused, IsStatus};
-ghost use Rattle.xfs_cli.specs.Streams.{io_of};
-ghost use Rattle.xfs_cli.specs.TokenRuns.{IsKept, RunsTokenOf, WritesUsage};
+ghost use Rattle.xfs_script.specs.Streams.{io_of};
+ghost use Rattle.xfs_cli.specs.TokenRuns.{RunsTokenOf};
+ghost use Rattle.xfs_cli.specs.Usages.{TellsUsage};
 
-use crate::ended::{Ended, kept};
+use crate::answer_input::answer_input;
+use crate::ended::{Ended, pair_of};
 use crate::last_line::usage;
-use crate::serve::serve;
 use crate::status::USAGE;
 use crate::token_answer::Tokens;
 use crate::token_key::TokenKey;
@@ -28,14 +29,12 @@ pub fn token<S: Source, K: Sink, M: Mechanism, D: Disk, P: Watch, Q: Watch>(
     sink: &mut K,
     bench: Bench<M, D, P, Q>,
 ) -> Ended<M, D, ()>
-    ensures kept { IsKept bench.core (back result) }
+    ensures kept { ComesBack bench.core (back result) }
     ensures runs { RunsTokenOf words.now bench.core result (io_of S.Source K.Sink source.old source.new sink.old sink.new) }
-    ensures usage { (result.status ≡ USAGE) ↔ ¬ (IsToken words.now) }
-    ensures usage_written { result.status ≡ USAGE → WritesUsage (io_of S.Source K.Sink source.old source.new sink.old sink.new) }
-    ensures unread { result.status ≡ USAGE → source.new ≡ source.old }
+    ensures usage { TellsUsage (IsToken words.now) bench result source.old source.new (io_of S.Source K.Sink source.old source.new sink.old sink.new) }
     ensures statuses { IsStatus result.status }
     ensures causes { IsCaused result.status (io_of S.Source K.Sink source.old source.new sink.old sink.new) }
-    ensures second { IsKept bench.second (second_back result) }
+    ensures second { ComesBack bench.second (second_back result) }
 {
     let Bench {
         core,
@@ -43,7 +42,7 @@ pub fn token<S: Source, K: Sink, M: Mechanism, D: Disk, P: Watch, Q: Watch>(
         keys,
         second,
     } = bench;
-    let second = kept(second);
+    let second = pair_of(second);
     drop(cards);
     drop(keys);
     let Core {
@@ -69,7 +68,7 @@ pub fn token<S: Source, K: Sink, M: Mechanism, D: Disk, P: Watch, Q: Watch>(
         alloc,
         key: TokenKey::new(key),
     };
-    let status = serve(alloc, &mut tokens, source, sink);
+    let status = answer_input(alloc, &mut tokens, source, sink);
     Ended {
         status,
         mech,

@@ -10,13 +10,14 @@ ghost use Rattle.xfs_cli.specs.HostRuns.{RunsHostOf};
 ghost use Rattle.xfs_cli.specs.LoadRuns.{RunsLoadOf};
 ghost use Rattle.xfs_cli.specs.Moments.{WasOnTheWayAll};
 ghost use Rattle.xfs_cli.specs.ReplayRuns.{RunsReplayOf};
-ghost use Rattle.xfs_cli.specs.Returns.{back, second_back};
+ghost use Rattle.xfs_cli.specs.Returns.{back, second_back, ComesBack};
 ghost use Rattle.xfs_cli.specs.Run.{IsClient, IsCommand, IsFleet, IsUnread};
 ghost use Rattle.xfs_cli.specs.ServeRuns.{RunsServeOf};
 ghost use Rattle.xfs_cli.specs.Statuses.{IsCaused, IsStatusOf};
-ghost use Rattle.xfs_cli.specs.Streams.{io_of, output};
-ghost use Rattle.xfs_cli.specs.TokenRuns.{IsKept, RunsTokenOf, WritesUsage};
+ghost use Rattle.xfs_script.specs.Streams.{io_of, output};
+ghost use Rattle.xfs_cli.specs.TokenRuns.{RunsTokenOf};
 ghost use Rattle.xfs_cli.specs.Upholds.{Accounts, UpholdsAll};
+ghost use Rattle.xfs_cli.specs.Usages.{TellsUsage};
 
 use crate::client_command::client;
 use crate::doorless::{linkless, run_without_doors};
@@ -74,15 +75,14 @@ pub fn run<
     ensures token { RunsTokenOf words.now bench.core result (io_of S.Source K.Sink source.old source.new sink.old sink.new) }
     ensures host { RunsHostOf words.now bench.core result (io_of S.Source K.Sink source.old source.new sink.old sink.new) }
     ensures audit { RunsAuditOf words.now bench.core result (io_of S.Source K.Sink source.old source.new sink.old sink.new) }
-    ensures fleet { RunsFleetOf words.now M.Mechanism D.Disk bench.core bench.second result (io_of S.Source K.Sink source.old source.new sink.old sink.new) }
+    ensures fleet { RunsFleetOf words.now M.Mechanism D.Disk bench result (io_of S.Source K.Sink source.old source.new sink.old sink.new) }
     ensures serve { RunsServeOf words.now M.Mechanism D.Disk bench.core result (O.log doors.old) (O.log doors.new) (output K.Sink sink.old sink.new) }
     ensures client { RunsClientOf words.now O.Link.log bench.core result (O.log doors.old) (O.log doors.new) (output K.Sink sink.old sink.new) }
 
-    // Words that are no command are told those that are; nothing is read, and mechanism and disk are as they were.
-    ensures usage { (result.status ≡ USAGE) ↔ ¬ (IsCommand words.now) }
-    ensures usage_written { result.status ≡ USAGE → WritesUsage (io_of S.Source K.Sink source.old source.new sink.old sink.new) }
-    ensures idle { result.status ≡ USAGE → IsKept bench.core (back result) }
-    ensures unread { (result.status ≡ USAGE) ⊎ IsUnread words.now → source.new ≡ source.old }
+    // Words that are no command are told those that are; nothing is read, and mechanism and disk are as they were. Nor do
+    // `load`, `serve` and `client` read.
+    ensures usage { TellsUsage (IsCommand words.now) bench result source.old source.new (io_of S.Source K.Sink source.old source.new sink.old sink.new) }
+    ensures unread { IsUnread words.now → source.new ≡ source.old }
 
     // The statuses that there are, and the cause of each of those that the input and the output have.
     ensures statuses { IsStatusOf words.now result.status }
@@ -91,8 +91,7 @@ pub fn run<
     // What comes back: the mechanism's notes add up, its table of units is the one that was handed in, and what told
     // its list or its bytes still does. Only `client` dials, and its link comes back. Only `fleet` touches the second.
     ensures accounts { Accounts M.Mechanism D.Disk bench.core (back result) }
-    ensures units { M.units result.mech ≡ bench.core.units }
-    ensures second { ¬ (IsFleet words.now) → IsKept bench.second (second_back result) }
+    ensures second { ¬ (IsFleet words.now) → ComesBack bench.second (second_back result) }
     ensures undialled { ¬ (IsClient words.now) → IsUndialled result.link (O.log doors.old) (O.log doors.new) }
 {
     match task_of(alloc, words) {

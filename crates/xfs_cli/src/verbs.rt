@@ -7,9 +7,9 @@ ghost use Rattle.xfs_guard.specs.Keeps.{Proceeds};
 ghost use Rattle.xfs_guard.specs.declared.fail.BootFault.{BootFault};
 ghost use Rattle.xfs_machine.specs.MachineView.{guard_of};
 ghost use Rattle.xfs_model.specs.Events.{touch as touched_by};
-ghost use Rattle.xfs_script.specs.Answered.{Tells, lines_text};
+ghost use Rattle.xfs_script.specs.Answered.{IsAnswerText, lines_text};
 ghost use Rattle.xfs_script.specs.declared.replay_line.ReplayLine.TheVariants as verbs;
-ghost use Rattle.xfs_cli.specs.ReplayEvents.{AnswersVerb, IsTouched, filled, token_bytes};
+ghost use Rattle.xfs_cli.specs.ReplayEvents.{AnswersVerb, IsTouched, with_token, token_bytes};
 ghost use Rattle.xfs_load.specs.Steps.{HappensInPart};
 ghost use Rattle.xfs_cli.specs.ReplayCommand.{IsPartDone, IsRestartRefused};
 ghost use Rattle.xfs_cli.specs.ReplayStates.{played};
@@ -31,7 +31,7 @@ impl<M: Mechanism, D: Disk> Player<M, D> {
     /// What a verb is answered: the lines of the answer, a line feed behind each.
     pub fn answer_verb(&mut self, verb: ReplayLine) -> Result<Vec<u8>, NoAnswer>
         requires { (m : Moment) → verb ≡ verbs.At m → m.0 ≤ LAST_MOMENT }
-        ensures answer { IfOk result (λ text. Tells (AnswersVerb (played self.old) verb) text.items (played self.new)) }
+        ensures answer { IfOk result (λ text. IsAnswerText (AnswersVerb (played self.old) verb) text.items (played self.new)) }
         ensures memory { result ≡ Err NoAnswer.Memory → IsPartDone (played self.old) verb (played self.new) }
         ensures restart { (f : BootFault) → result ≡ Err (NoAnswer.Unbooted f) → verb ≡ verbs.Restart }
         ensures unbooted { (f : BootFault) → result ≡ Err (NoAnswer.Unbooted f) → IsRestartRefused self.old f self.new }
@@ -61,7 +61,7 @@ impl<M: Mechanism, D: Disk> Player<M, D> {
     }
 
     fn join(&mut self, number: u32, service: Service) -> Result<Vec<u8>, Memory>
-        ensures answer { IfOk result (λ text. Tells (AnswersVerb (played self.old) (verbs.Join number service)) text.items (played self.new)) }
+        ensures answer { IfOk result (λ text. IsAnswerText (AnswersVerb (played self.old) (verbs.Join number service)) text.items (played self.new)) }
         ensures memory { OnErr result (IsPartDone (played self.old) (verbs.Join number service) (played self.new)) }
         ensures proceeds { Proceeds D.Disk (guard_of self.old.machine) (guard_of self.new.machine) }
     {
@@ -80,7 +80,7 @@ impl<M: Mechanism, D: Disk> Player<M, D> {
     }
 
     fn leave(&mut self, number: u32) -> Result<Vec<u8>, Memory>
-        ensures answer { IfOk result (λ text. Tells (AnswersVerb (played self.old) (verbs.Leave number)) text.items (played self.new)) }
+        ensures answer { IfOk result (λ text. IsAnswerText (AnswersVerb (played self.old) (verbs.Leave number)) text.items (played self.new)) }
         ensures memory { OnErr result (IsPartDone (played self.old) (verbs.Leave number) (played self.new)) }
         ensures proceeds { Proceeds D.Disk (guard_of self.old.machine) (guard_of self.new.machine) }
     {
@@ -95,7 +95,7 @@ impl<M: Mechanism, D: Disk> Player<M, D> {
 
     // A client says a message, in which each `@` is replaced.
     fn say(&mut self, number: u32, message: &[u8]) -> Result<Vec<u8>, Memory>
-        ensures answer { IfOk result (λ text. Tells (AnswersVerb (played self.old) (verbs.Say number message.now)) text.items (played self.new)) }
+        ensures answer { IfOk result (λ text. IsAnswerText (AnswersVerb (played self.old) (verbs.Say number message.now)) text.items (played self.new)) }
         ensures memory { OnErr result (IsPartDone (played self.old) (verbs.Say number message.now) (played self.new)) }
         ensures proceeds { Proceeds D.Disk (guard_of self.old.machine) (guard_of self.new.machine) }
     {
@@ -103,13 +103,13 @@ impl<M: Mechanism, D: Disk> Player<M, D> {
             return no_client(self.alloc);
         };
         let mut kept = Vec::new(self.alloc);
-        let message = said(self.alloc, message, token_bytes(&self.last), &mut kept)?;
+        let message = message_with(self.alloc, message, token_bytes(&self.last), &mut kept)?;
         self.machine.post(pass, message, self.now, &mut self.tally)?;
         Ok(Vec::new(self.alloc))
     }
 
     fn work(&mut self, service: Service) -> Result<Vec<u8>, Memory>
-        ensures answer { IfOk result (λ text. Tells (AnswersVerb (played self.old) (verbs.Work service)) text.items (played self.new)) }
+        ensures answer { IfOk result (λ text. IsAnswerText (AnswersVerb (played self.old) (verbs.Work service)) text.items (played self.new)) }
         ensures memory { OnErr result (IsPartDone (played self.old) (verbs.Work service) (played self.new)) }
         ensures proceeds { Proceeds D.Disk (guard_of self.old.machine) (guard_of self.new.machine) }
     {
@@ -120,7 +120,7 @@ impl<M: Mechanism, D: Disk> Player<M, D> {
     }
 
     fn touch(&mut self, touch: Touch) -> Result<Vec<u8>, Memory>
-        ensures answer { IfOk result (λ text. Tells (IsTouched (played self.old) touch) text.items (played self.new)) }
+        ensures answer { IfOk result (λ text. IsAnswerText (IsTouched (played self.old) touch) text.items (played self.new)) }
         ensures memory { OnErr result (HappensInPart (touched_by touch ∷ []) self.old.machine.state self.new.machine.state) }
         ensures proceeds { Proceeds D.Disk (guard_of self.old.machine) (guard_of self.new.machine) }
     {
@@ -137,7 +137,7 @@ impl<M: Mechanism, D: Disk> Player<M, D> {
 
     // A genuine token for the live nonce, which is then the last one.
     fn mint(&mut self, amounts: &Amounts) -> Result<Vec<u8>, Memory>
-        ensures answer { IfOk result (λ text. Tells (AnswersVerb (played self.old) (verbs.Mint amounts.now)) text.items (played self.new)) }
+        ensures answer { IfOk result (λ text. IsAnswerText (AnswersVerb (played self.old) (verbs.Mint amounts.now)) text.items (played self.new)) }
         ensures same { self.new.machine ≡ self.old.machine }
     {
         let Some(nonce) = self.machine.live() else {
@@ -155,7 +155,7 @@ impl<M: Mechanism, D: Disk> Player<M, D> {
 
     // boot records again on the same mechanism and disk. The moment and the last token stay.
     fn restart(&mut self) -> Result<Vec<u8>, NoAnswer>
-        ensures answer { IfOk result (λ text. Tells (AnswersVerb (played self.old) verbs.Restart) text.items (played self.new)) }
+        ensures answer { IfOk result (λ text. IsAnswerText (AnswersVerb (played self.old) verbs.Restart) text.items (played self.new)) }
         ensures memory { result ≡ Err NoAnswer.Memory → IsPartDone (played self.old) verbs.Restart (played self.new) }
         ensures unbooted { (f : BootFault) → result ≡ Err (NoAnswer.Unbooted f) → IsRestartRefused self.old f self.new }
         ensures proceeds { Proceeds D.Disk (guard_of self.old.machine) (guard_of self.new.machine) }
@@ -166,7 +166,7 @@ impl<M: Mechanism, D: Disk> Player<M, D> {
     }
 
     fn show(&mut self) -> Result<Vec<u8>, Memory>
-        ensures answer { IfOk result (λ text. Tells (AnswersVerb (played self.old) verbs.Show) text.items (played self.new)) }
+        ensures answer { IfOk result (λ text. IsAnswerText (AnswersVerb (played self.old) verbs.Show) text.items (played self.new)) }
         ensures same { self.new ≡ self.old }
     {
         show_text(
@@ -195,26 +195,26 @@ fn token_bytes(last: &Option<Bytes>) -> &[u8]
 }
 
 // The message with the token in place of each `@`. Only where it has one it is copied, into memory that is kept.
-fn said<'a>(
+fn message_with<'a>(
     alloc: Global,
     message: &'a [u8],
     token: &[u8],
     kept: &'a mut Vec<u8>,
 ) -> Result<&'a [u8], Memory>
-    ensures { IfOk result (λ text. text.now ≡ filled token.now message.now) }
+    ensures { IfOk result (λ text. text.now ≡ with_token token.now message.now) }
 {
     match memchr(b'@', message) {
         None => Ok(message),
         Some(_) => {
-            *kept = filled(alloc, message, token)?;
+            *kept = with_token(alloc, message, token)?;
             Ok(kept)
         }
     }
 }
 
 // The message with the token in place of each `@`. It is copied by runs, and mostly has one `@` at most.
-fn filled(alloc: Global, message: &[u8], token: &[u8]) -> Result<Vec<u8>, Memory>
-    ensures { IfOk result (λ text. text.items ≡ filled token.now message.now) }
+fn with_token(alloc: Global, message: &[u8], token: &[u8]) -> Result<Vec<u8>, Memory>
+    ensures { IfOk result (λ text. text.items ≡ with_token token.now message.now) }
 {
     let mut text = Vec::with_capacity(alloc, message.len().saturating_add(token.len()))?;
     let mut rest = message;

@@ -6,7 +6,7 @@ ghost use Rattle.xfs_words.specs.Words.{Names, texts};
 
 use std::alloc::Global;
 use xfs_base::Currency;
-use xfs_words::{Command, WordsFault, read, spelled};
+use xfs_words::{Command, WordsFault, name_command, read};
 
 /// Whether the words are this one word.
 pub fn is_word(words: &[String], word: &str) -> bool
@@ -27,7 +27,7 @@ pub fn command_of(alloc: Global, words: &[String]) -> Option<Command>
     match read(alloc, words) {
         Ok(command) => Some(command),
         Err(WordsFault::Usage) => None,
-        Err(WordsFault::Memory) => spelled(words),
+        Err(WordsFault::Memory) => name_command(words),
     }
 }
 

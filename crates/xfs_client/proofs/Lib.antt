@@ -1,6 +1,12 @@
+mod Agreement
+mod Asks
+mod Booleans
 mod DeskLaws
+mod Hearings
 pub mod Histories
+mod Lasts
 pub mod Numbers
 pub mod Openings
 mod Outcomes
 mod TokenTexts
+mod Withdrawals

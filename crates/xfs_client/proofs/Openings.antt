@@ -6,7 +6,7 @@ use Rattle.std.proofs.lemmas.Bool.{and_parts}
 use Rattle.xfs_envelope.specs.declared.code.Status.{Status}
 use Rattle.xfs_envelope.specs.Replies as reply
 use Rattle.xfs_envelope.specs.Replies.{Reply, reply_in}
-use Rattle.xfs_client.specs.History.{Told, Entry, asks, is_open, is_acknowledged, first_unacknowledged, open_ask, addressed, with_status, of_ask, told_by, told_of, told_in}
+use Rattle.xfs_client.specs.History.{Told, Entry, asks, is_open, is_acknowledged, first_unacknowledged, open_ask, addressee, with_status, of_ask, told_by, told_of, told_in}
 use Rattle.xfs_client.specs.Desks.{IsOpenTo}
 
 found_passes : (p : ℕ → Bool) (xs : List ℕ) → IfSome (find p xs) (λ k. p k ≡ true)
@@ -29,7 +29,7 @@ module _ (h : List Entry) where
   weaker None e = tt
   weaker (Some k) e = (and_parts _ _ e).0
 
-  addressed_is : (id : Option ℕ) → IfSome (addressed h id) (λ k. is_open h k ≡ true)
+  addressed_is : (id : Option ℕ) → IfSome (addressee h id) (λ k. is_open h k ≡ true)
   addressed_is None = weaker (first_unacknowledged h) (found_passes (λ id. is_open h id && not (is_acknowledged h id)) (range_with_len 1 (asks h)))
   addressed_is (Some id) = open_ask_is id
 
@@ -42,7 +42,7 @@ module _ (h : List Entry) where
   status_told (Some status) k e = e
 
   told_by_open : (r : Reply) → IfOk (told_by h r) (IsOpenTo h)
-  told_by_open (reply.acknowledge id name status) = told_of_open (addressed h id) _ (status_told status) (addressed_is id)
+  told_by_open (reply.acknowledge id name status) = told_of_open (addressee h id) _ (status_told status) (addressed_is id)
   told_by_open (reply.event id name payload) = told_of_open (open_ask h id) _ (λ k e. e) (open_ask_is id)
   told_by_open (reply.completion id name code payload) = told_of_open (open_ask h id) _ (λ k e. e) (open_ask_is id)
   told_by_open (reply.unsolicited name payload) = tt

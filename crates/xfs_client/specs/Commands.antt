@@ -19,3 +19,8 @@ command_text name id payload = compact_text (framed (command_header name id) pay
 abbrev pub ReadsAs : List ℕ → List ℕ → ℕ → Data → Type 0
 ReadsAs text name id payload = IsSome (as_object payload) → length text ≤ 65536
     → command_in text ≡ Ok record { name = name; id = id; timeout = 0; payload = payload }
+
+-- the text of a command, and a service reads it so
+pub record IsCommand (name : List ℕ) (id : ℕ) (payload : Data) (bytes : List ℕ) : Type 0 where
+  pub text : bytes ≡ command_text name id payload
+  pub reads_back : ReadsAs bytes name id payload

@@ -1,5 +1,5 @@
 -- What a desk remembers of a history: how many asks there are, and the open ones, by whether they are acknowledged.
-use Rattle.std.specs.Prelude.{◌≡◌, ℕ, List, Bool, true, false, ◌&&◌, ◌==◌, not, ⊤}
+use Rattle.std.specs.Prelude.{◌≡◌, ℕ, List, Bool, true, false, ◌&&◌, ◌==◌, not, ⊤, ◌++◌, ◌∷◌, []}
 use Rattle.std.specs.List.{list_any}
 use Rattle.std.specs.Ordering.{nat_cmp}
 use Rattle.std.specs.BTreeMap.{is_at}
@@ -20,6 +20,14 @@ pub record Keeps (d : Remembered) (h : List Entry) : Type 0 where
   pub running : (id : ℕ) → has d.acknowledged id ≡ (is_open h id && is_acknowledged h id)
   pub known : (id : ℕ) → is_asked h id ≡ false → (was_heard (ends id) h ≡ false) × (is_acknowledged h id ≡ false)
 
+-- P holds of every history that the desk keeps
+abbrev pub OfKept : Remembered → (List Entry → Type 0) → Type 0
+OfKept d P = (h : List Entry) → Keeps d h → P h
+
+-- the desk keeps every history that it kept, with this entry behind it
+abbrev pub GrowsBy : Entry → Remembered → Remembered → Type 0
+GrowsBy e old new = OfKept old (λ h. Keeps new (h ++ e ∷ []))
+
 -- the ask that this is for is open
 abbrev pub IsOpenTo : List Entry → Told → Type 0
 IsOpenTo h (acknowledged id) = is_open h id ≡ true
@@ -28,7 +36,7 @@ IsOpenTo h (event id) = is_open h id ≡ true
 IsOpenTo h (completed id code payload) = is_open h id ≡ true
 IsOpenTo h unsolicited = ⊤
 
--- this ends the ask with the id, and is no acknowledge
+-- what is told ends the ask with the id, and is no acknowledge
 pub record IsEndOf (id : ℕ) (t : Told) : Type 0 where
   pub over : (q : ℕ) → ends q t ≡ (id == q)
   pub other : (q : ℕ) → acknowledges q t ≡ false

@@ -75,9 +75,9 @@ abbrev pub open_ask : List Entry → ℕ → Option ℕ
 open_ask h id = if is_open h id then Some id else None
 
 -- the ask that an acknowledge is for
-abbrev pub addressed : List Entry → Option ℕ → Option ℕ
-addressed h None = first_unacknowledged h
-addressed h (Some id) = open_ask h id
+abbrev pub addressee : List Entry → Option ℕ → Option ℕ
+addressee h None = first_unacknowledged h
+addressee h (Some id) = open_ask h id
 
 -- an acknowledge with a status refuses the ask
 abbrev pub with_status : Option Status → ℕ → Told
@@ -91,7 +91,7 @@ of_ask (Some id) of = Ok (of id)
 
 -- what an answer tells
 abbrev pub told_by : List Entry → Reply → Result Told HearFault
-told_by h (reply.acknowledge id name status) = of_ask (addressed h id) (with_status status)
+told_by h (reply.acknowledge id name status) = of_ask (addressee h id) (with_status status)
 told_by h (reply.event id name payload) = of_ask (open_ask h id) event
 told_by h (reply.completion id name code payload) = of_ask (open_ask h id) (λ n. completed n code payload)
 told_by h (reply.unsolicited name payload) = Ok unsolicited

@@ -1,4 +1,6 @@
 pub mod Commands
 pub mod Desks
+pub mod Hearings
 pub mod History
 pub mod Withdrawals
+pub mod Withdraws

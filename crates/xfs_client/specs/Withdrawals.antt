@@ -11,9 +11,9 @@ use Rattle.xfs_envelope.specs.declared.code.Status.{Status}
 use Rattle.xfs_token.specs.Token.{is_nonce}
 use Rattle.xfs_token.specs.Amounts.{IsMade}
 use Rattle.xfs_client.specs.Commands.{ReadsAs, command_text}
-use Rattle.xfs_client.specs.Desks.{Remembered, Keeps}
+use Rattle.xfs_client.specs.Desks.{Remembered, Keeps, OfKept, IsOpenTo, IsEndOf}
 use Rattle.xfs_client.specs.History as history
-use Rattle.xfs_client.specs.History.{Told, Entry, asks, told_in}
+use Rattle.xfs_client.specs.History.{Told, Entry, asks, told_in, is_open}
 use Rattle.xfs_client.specs.declared.heard.HearFault.{HearFault}
 use Rattle.xfs_client.specs.declared.heard.HearFault.TheVariants.{Shape}
 use Rattle.xfs_client.specs.declared.withdrawal.Move.{Move}
@@ -101,6 +101,18 @@ conversation texts = fold (λ h text. hears h (told_in h text)) (history.ask ∷
 -- a withdrawal that was started and has heard these texts
 abbrev pub HasHeard : Withdrawing → List (List ℕ) → Type 0
 HasHeard w texts = Keeps w.desk (conversation texts)
+
+-- P holds of all texts that a withdrawal may have heard since its start
+abbrev pub OfHeard : Withdrawing → (List (List ℕ) → Type 0) → Type 0
+OfHeard w P = (texts : List (List ℕ)) → HasHeard w texts → P texts
+
+-- the desk keeps what it kept, with what was told and the ask that follows
+abbrev pub HearsThen : Told → Result Step HearFault → Remembered → Remembered → Type 0
+HearsThen t step old new = OfKept old (λ h. IsOpenTo h t → Keeps new (goes_on h t step))
+
+-- the desk keeps what it kept, with whatever ended the open ask of the id and the ask that follows
+abbrev pub EndsThen : ℕ → Result Step HearFault → Remembered → Remembered → Type 0
+EndsThen id step old new = (h : List Entry) (t : Told) → Keeps old h → is_open h id ≡ true → IsEndOf id t → Keeps new (goes_on h t step)
 
 abbrev pub denomination : List ℕ → ℕ → Data
 denomination currency amount = object (member (codes "currencies") (object (member currency (numbered amount) no_members)) no_members)

@@ -24,7 +24,7 @@ pub(crate) fn command(
     ensures reads_back { IfOk result (λ t. is_name name.now ≡ true → ReadsAs t.items name.now id (view payload.now)) }
 {
     let header = header(alloc, name, id)?;
-    xfs_json::text(alloc, &framed(alloc, header, payload)?)
+    xfs_json::text(alloc, &with_payload(alloc, header, payload)?)
 }
 
 fn header(alloc: Global, name: &str, id: u64) -> Result<Value, AllocError>
@@ -33,7 +33,7 @@ fn header(alloc: Global, name: &str, id: u64) -> Result<Value, AllocError>
     json!(in alloc; {"name": name, "requestId": id, "type": "command"})
 }
 
-fn framed(alloc: Global, header: Value, payload: &Value) -> Result<Value, AllocError>
+fn with_payload(alloc: Global, header: Value, payload: &Value) -> Result<Value, AllocError>
     ensures { IfOk result (λ v. view v ≡ framed (view header) (view payload.now)) }
 {
     let mut members = Map::new(alloc);

@@ -1,4 +1,4 @@
-ghost use Rattle.std.specs.Prelude.{◌≡◌, ◌≢◌, ◌<◌, ◌≤◌, ◌+◌, ◌++◌, ◌∷◌, [], List, true, false, IsTrue, IfOk, IfErr, OnOk, OnErr, Ok, Err};
+ghost use Rattle.std.specs.Prelude.{◌≡◌, ◌≢◌, ◌↔◌, ◌<◌, ◌≤◌, ◌+◌, ◌++◌, ◌∷◌, [], List, true, false, IsTrue, IfOk, IfErr, OnOk, OnErr, Ok, Err};
 ghost use Rattle.serde_json.specs.Data.{depth};
 ghost use Rattle.serde_json.specs.View.{view};
 ghost use Rattle.serde_json.specs.Written.{has_float};
@@ -6,8 +6,8 @@ ghost use Rattle.xfs_envelope.specs.Names.{is_name};
 ghost use Rattle.xfs_envelope.specs.Replies as replies;
 ghost use Rattle.xfs_client.specs.Commands.{ReadsAs, command_text};
 ghost use Rattle.xfs_client.specs.History as history;
-ghost use Rattle.xfs_client.specs.History.{Entry, Told, addressed, first_unacknowledged, is_open, of_ask, open_ask, told, told_by, told_in, with_status};
-ghost use Rattle.xfs_client.specs.Desks.{Keeps, IsOpenTo, IsEndOf};
+ghost use Rattle.xfs_client.specs.History.{Entry, Told, addressee, first_unacknowledged, is_open, of_ask, open_ask, told, told_by, told_in, with_status};
+ghost use Rattle.xfs_client.specs.Desks.{GrowsBy, IsEndOf, IsOpenTo, Keeps, OfKept};
 ghost use Rattle.xfs_client.specs.declared.desk.AskFault.TheVariants as AskFault;
 ghost use Rattle.xfs_client.specs.declared.heard.HearFault.TheVariants as HearFault;
 
@@ -93,9 +93,8 @@ impl Desk {
         requires depth { depth (view payload.now) ≤ 120 }
         ensures text { IfOk result (λ t. t.items ≡ command_text name.now (self.old.asked + 1) (view payload.now)) }
         ensures reads_back { IfOk result (λ t. ReadsAs t.items name.now (self.old.asked + 1) (view payload.now)) }
-        ensures grown { OnOk result ((h : List Entry) → Keeps self.old h → Keeps self.new (h ++ history.ask ∷ [])) }
-        ensures ids { self.old.asked ≡ 2147483647 → result ≡ Err AskFault.Ids }
-        ensures cause { result ≡ Err AskFault.Ids → self.old.asked ≡ 2147483647 }
+        ensures grown { OnOk result (GrowsBy history.ask self.old self.new) }
+        ensures ids { (result ≡ Err AskFault.Ids) ↔ (self.old.asked ≡ 2147483647) }
         ensures same { OnErr result (self.new ≡ self.old) }
     {
         if self.asked >= LAST_ID {
@@ -106,10 +105,10 @@ impl Desk {
 
     /// Takes a message of the service.
     pub fn hear(&mut self, bytes: &[u8]) -> Result<Heard, HearFault>
-        ensures ok { IfOk result (λ a. (h : List Entry) → Keeps self.old h → told_in h bytes.now ≡ Ok (told a)) }
+        ensures ok { IfOk result (λ a. OfKept self.old (λ h. told_in h bytes.now ≡ Ok (told a))) }
         ensures refused { IfErr result (λ e. e ≢ HearFault.Memory
-            → (h : List Entry) → Keeps self.old h → told_in h bytes.now ≡ Err e) }
-        ensures grown { IfOk result (λ a. (h : List Entry) → Keeps self.old h → Keeps self.new (h ++ history.heard (told a) ∷ [])) }
+            → OfKept self.old (λ h. told_in h bytes.now ≡ Err e)) }
+        ensures grown { IfOk result (λ a. GrowsBy (history.heard (told a)) self.old self.new) }
         ensures same { OnErr result (self.new ≡ self.old) }
     {
         let heard = self.listen(bytes)?;
@@ -118,7 +117,7 @@ impl Desk {
     }
 
     /// How many asks there are.
-    pub(crate) fn asked(&self) -> u64
+    pub(crate) fn asks(&self) -> u64
         ensures { result ≡ self.now.asked }
     {
         self.asked
@@ -131,7 +130,7 @@ impl Desk {
         requires depth { depth (view payload.now) ≤ 120 }
         ensures text { IfOk result (λ t. t.items ≡ command_text name.now (self.old.asked + 1) (view payload.now)) }
         ensures reads_back { IfOk result (λ t. ReadsAs t.items name.now (self.old.asked + 1) (view payload.now)) }
-        ensures grown { OnOk result ((h : List Entry) → Keeps self.old h → Keeps self.new (h ++ history.ask ∷ [])) }
+        ensures grown { OnOk result (GrowsBy history.ask self.old self.new) }
         ensures same { OnErr result (self.new ≡ self.old) }
     {
         let id = self.asked + 1;
@@ -143,17 +142,17 @@ impl Desk {
 
     /// What a message tells. Nothing is noted of it.
     pub(crate) fn listen(&self, bytes: &[u8]) -> Result<Heard, HearFault>
-        ensures ok { IfOk result (λ a. (h : List Entry) → Keeps self.now h → told_in h bytes.now ≡ Ok (told a)) }
+        ensures ok { IfOk result (λ a. OfKept self.now (λ h. told_in h bytes.now ≡ Ok (told a))) }
         ensures refused { IfErr result (λ e. e ≢ HearFault.Memory
-            → (h : List Entry) → Keeps self.now h → told_in h bytes.now ≡ Err e) }
+            → OfKept self.now (λ h. told_in h bytes.now ≡ Err e)) }
     {
         let answer = read_answer(self.alloc, bytes)?;
-        self.told(answer)
+        self.hear_answer(answer)
     }
 
-    fn told(&self, answer: Answer) -> Result<Heard, HearFault>
-        ensures ok { IfOk result (λ a. (h : List Entry) → Keeps self.now h → told_by h (replies.told answer) ≡ Ok (told a)) }
-        ensures err { IfErr result (λ e. (h : List Entry) → Keeps self.now h → told_by h (replies.told answer) ≡ Err e) }
+    fn hear_answer(&self, answer: Answer) -> Result<Heard, HearFault>
+        ensures ok { IfOk result (λ a. OfKept self.now (λ h. told_by h (replies.told answer) ≡ Ok (told a))) }
+        ensures err { IfErr result (λ e. OfKept self.now (λ h. told_by h (replies.told answer) ≡ Err e)) }
     {
         match answer {
             Answer::Acknowledge { id, status, .. } => self.acknowledge_of(id, status),
@@ -169,10 +168,10 @@ impl Desk {
     }
 
     fn acknowledge_of(&self, id: Option<u64>, status: Option<Status>) -> Result<Heard, HearFault>
-        ensures ok { IfOk result (λ a. (h : List Entry) → Keeps self.now h → of_ask (addressed h id) (with_status status) ≡ Ok (told a)) }
-        ensures err { IfErr result (λ e. (h : List Entry) → Keeps self.now h → of_ask (addressed h id) (with_status status) ≡ Err e) }
+        ensures ok { IfOk result (λ a. OfKept self.now (λ h. of_ask (addressee h id) (with_status status) ≡ Ok (told a))) }
+        ensures err { IfErr result (λ e. OfKept self.now (λ h. of_ask (addressee h id) (with_status status) ≡ Err e)) }
     {
-        let Some(id) = self.addressed(id) else {
+        let Some(id) = self.addressee(id) else {
             return Err(HearFault::Stranger);
         };
         match status {
@@ -182,8 +181,8 @@ impl Desk {
     }
 
     fn event_of(&self, id: u64) -> Result<Heard, HearFault>
-        ensures ok { IfOk result (λ a. (h : List Entry) → Keeps self.now h → of_ask (open_ask h id) history.event ≡ Ok (told a)) }
-        ensures err { IfErr result (λ e. (h : List Entry) → Keeps self.now h → of_ask (open_ask h id) history.event ≡ Err e) }
+        ensures ok { IfOk result (λ a. OfKept self.now (λ h. of_ask (open_ask h id) history.event ≡ Ok (told a))) }
+        ensures err { IfErr result (λ e. OfKept self.now (λ h. of_ask (open_ask h id) history.event ≡ Err e)) }
     {
         if !self.is_open(id) {
             return Err(HearFault::Stranger);
@@ -192,8 +191,8 @@ impl Desk {
     }
 
     fn completion_of(&self, id: u64, code: Code, payload: Value) -> Result<Heard, HearFault>
-        ensures ok { IfOk result (λ a. (h : List Entry) → Keeps self.now h → of_ask (open_ask h id) (λ n. history.completed n code (view payload)) ≡ Ok (told a)) }
-        ensures err { IfErr result (λ e. (h : List Entry) → Keeps self.now h → of_ask (open_ask h id) (λ n. history.completed n code (view payload)) ≡ Err e) }
+        ensures ok { IfOk result (λ a. OfKept self.now (λ h. of_ask (open_ask h id) (λ n. history.completed n code (view payload)) ≡ Ok (told a))) }
+        ensures err { IfErr result (λ e. OfKept self.now (λ h. of_ask (open_ask h id) (λ n. history.completed n code (view payload)) ≡ Err e)) }
     {
         if !self.is_open(id) {
             return Err(HearFault::Stranger);
@@ -201,8 +200,8 @@ impl Desk {
         Ok(Heard::Completed { id, code, payload })
     }
 
-    fn addressed(&self, id: Option<u64>) -> Option<u64>
-        ensures { (h : List Entry) → Keeps self.now h → result ≡ addressed h id }
+    fn addressee(&self, id: Option<u64>) -> Option<u64>
+        ensures { OfKept self.now (λ h. result ≡ addressee h id) }
     {
         match id {
             None => self.first_unacknowledged(),
@@ -211,7 +210,7 @@ impl Desk {
     }
 
     fn first_unacknowledged(&self) -> Option<u64>
-        ensures { (h : List Entry) → Keeps self.now h → result ≡ first_unacknowledged h }
+        ensures { OfKept self.now (λ h. result ≡ first_unacknowledged h) }
     {
         match self.unacknowledged.first() {
             Some(id) => Some(*id),
@@ -220,14 +219,13 @@ impl Desk {
     }
 
     fn is_open(&self, id: u64) -> bool
-        ensures { (h : List Entry) → Keeps self.now h → result ≡ is_open h id }
+        ensures { OfKept self.now (λ h. result ≡ is_open h id) }
     {
         self.unacknowledged.contains(&id) || self.acknowledged.contains(&id)
     }
 
     pub(crate) fn note(&mut self, heard: &Heard) -> Result<(), Memory>
-        ensures grown { OnOk result ((h : List Entry) → Keeps self.old h → IsOpenTo h (told heard.now)
-            → Keeps self.new (h ++ history.heard (told heard.now) ∷ [])) }
+        ensures grown { OnOk result (OfKept self.old (λ h. IsOpenTo h (told heard.now) → Keeps self.new (h ++ history.heard (told heard.now) ∷ []))) }
         ensures same { OnErr result (self.new ≡ self.old) }
     {
         match heard {
@@ -241,8 +239,7 @@ impl Desk {
     }
 
     fn acknowledge(&mut self, id: u64) -> Result<(), Memory>
-        ensures grown { OnOk result ((h : List Entry) → Keeps self.old h → is_open h id ≡ true
-            → Keeps self.new (h ++ history.heard (history.acknowledged id) ∷ [])) }
+        ensures grown { OnOk result (OfKept self.old (λ h. is_open h id ≡ true → Keeps self.new (h ++ history.heard (history.acknowledged id) ∷ []))) }
         ensures same { OnErr result (self.new ≡ self.old) }
     {
         self.acknowledged.insert(id)?;

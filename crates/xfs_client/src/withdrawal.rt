@@ -3,10 +3,10 @@ ghost use Rattle.std.specs.Str.{IsUtf8};
 ghost use Rattle.serde_json.specs.View.{view};
 ghost use Rattle.xfs_envelope.specs.Fields.{empty};
 ghost use Rattle.xfs_client.specs.Commands.{ReadsAs, command_text};
-ghost use Rattle.xfs_client.specs.Desks.{Keeps, IsOpenTo, IsEndOf};
+ghost use Rattle.xfs_client.specs.Desks.{Keeps, IsOpenTo, IsEndOf, GrowsBy};
 ghost use Rattle.xfs_client.specs.History as history;
 ghost use Rattle.xfs_client.specs.History.{Entry, Told, is_open, told};
-ghost use Rattle.xfs_client.specs.Withdrawals.{HasHeard, IsDispense, IsMove, IsPresent, after_completion, after_success, conversation, dispense_payload, goes_on, is_success, nonce_of, step_in, step_of};
+ghost use Rattle.xfs_client.specs.Withdrawals.{HasHeard, IsDispense, IsMove, IsPresent, after_completion, after_success, conversation, dispense_payload, goes_on, is_success, nonce_of, step_in, step_of, EndsThen, HearsThen, OfHeard};
 ghost use Rattle.xfs_client.specs.declared.heard.HearFault.TheVariants as HearFault;
 
 use crate::dispense::{payload_for, token_for};
@@ -88,11 +88,9 @@ impl Withdrawal {
     /// Takes a message of the service, and says what follows. A nonce that is no nonce of a token's
     /// grammar is `Shape`.
     pub fn next(&mut self, bytes: &[u8]) -> Result<Move, HearFault>
-        ensures moved { IfOk result (λ m. (texts : List (List ℕ)) → HasHeard self.old texts
-            → IsMove self.old.terms (step_in (conversation texts) bytes.now) m) }
-        ensures refused { IfErr result (λ e. e ≢ HearFault.Memory → (texts : List (List ℕ)) → HasHeard self.old texts
-            → step_in (conversation texts) bytes.now ≡ Err e) }
-        ensures heard { OnOk result ((texts : List (List ℕ)) → HasHeard self.old texts → HasHeard self.new (texts ++ bytes.now ∷ [])) }
+        ensures moved { IfOk result (λ m. OfHeard self.old (λ texts. IsMove self.old.terms (step_in (conversation texts) bytes.now) m)) }
+        ensures refused { IfErr result (λ e. e ≢ HearFault.Memory → OfHeard self.old (λ texts. step_in (conversation texts) bytes.now ≡ Err e)) }
+        ensures heard { OnOk result (OfHeard self.old (λ texts. HasHeard self.new (texts ++ bytes.now ∷ []))) }
         ensures terms { self.new.terms ≡ self.old.terms }
         ensures same { OnErr result (self.new ≡ self.old) }
     {
@@ -103,13 +101,12 @@ impl Withdrawal {
     fn answer(&mut self, heard: &Heard) -> Result<Move, HearFault>
         ensures moved { IfOk result (IsMove self.old.terms (step_of self.old.desk.asked (told heard.now))) }
         ensures refused { IfErr result (λ e. e ≢ HearFault.Memory → step_of self.old.desk.asked (told heard.now) ≡ Err e) }
-        ensures grown { OnOk result ((h : List Entry) → Keeps self.old.desk h → IsOpenTo h (told heard.now)
-            → Keeps self.new.desk (goes_on h (told heard.now) (step_of self.old.desk.asked (told heard.now)))) }
+        ensures grown { OnOk result (HearsThen (told heard.now) (step_of self.old.desk.asked (told heard.now)) self.old.desk self.new.desk) }
         ensures terms { self.new.terms ≡ self.old.terms }
         ensures same { OnErr result (self.new ≡ self.old) }
     {
         match heard {
-            Heard::Completed { id, code, payload } => self.completed(*id, *code, payload),
+            Heard::Completed { id, code, payload } => self.after_completion(*id, *code, payload),
             Heard::Refused { id, status } => {
                 self.desk.close(*id);
                 Ok(Move::Refused(*status))
@@ -121,16 +118,15 @@ impl Withdrawal {
         }
     }
 
-    fn completed(&mut self, id: u64, code: Code, payload: &Value) -> Result<Move, HearFault>
+    fn after_completion(&mut self, id: u64, code: Code, payload: &Value) -> Result<Move, HearFault>
         ensures moved { IfOk result (IsMove self.old.terms (after_completion self.old.desk.asked code (view payload.now))) }
         ensures refused { IfErr result (λ e. e ≢ HearFault.Memory → after_completion self.old.desk.asked code (view payload.now) ≡ Err e) }
-        ensures grown { OnOk result ((h : List Entry) (t : Told) → Keeps self.old.desk h → is_open h id ≡ true → IsEndOf id t
-            → Keeps self.new.desk (goes_on h t (after_completion self.old.desk.asked code (view payload.now)))) }
+        ensures grown { OnOk result (EndsThen id (after_completion self.old.desk.asked code (view payload.now)) self.old.desk self.new.desk) }
         ensures terms { self.new.terms ≡ self.old.terms }
         ensures same { OnErr result (self.new ≡ self.old) }
     {
         if is_success(code) {
-            self.succeeded(id, payload)
+            self.after_success(id, payload)
         } else {
             self.desk.close(id);
             Ok(Move::Ended(code))
@@ -138,15 +134,14 @@ impl Withdrawal {
     }
 
     // The ask that follows is made before the one that succeeded is over, since it may want memory.
-    fn succeeded(&mut self, id: u64, payload: &Value) -> Result<Move, HearFault>
+    fn after_success(&mut self, id: u64, payload: &Value) -> Result<Move, HearFault>
         ensures moved { IfOk result (IsMove self.old.terms (after_success self.old.desk.asked (view payload.now))) }
         ensures refused { IfErr result (λ e. e ≢ HearFault.Memory → after_success self.old.desk.asked (view payload.now) ≡ Err e) }
-        ensures grown { OnOk result ((h : List Entry) (t : Told) → Keeps self.old.desk h → is_open h id ≡ true → IsEndOf id t
-            → Keeps self.new.desk (goes_on h t (after_success self.old.desk.asked (view payload.now)))) }
+        ensures grown { OnOk result (EndsThen id (after_success self.old.desk.asked (view payload.now)) self.old.desk self.new.desk) }
         ensures terms { self.new.terms ≡ self.old.terms }
         ensures same { OnErr result (self.new ≡ self.old) }
     {
-        let asked = self.desk.asked();
+        let asked = self.desk.asks();
         let next = if asked == 1 {
             Move::Ask(Bytes::new(self.ask_dispense(payload)?))
         } else if asked == 2 {
@@ -162,7 +157,7 @@ impl Withdrawal {
         requires { self.old.desk.asked ≡ 1 }
         ensures text { IfOk result (λ t. MatchOption (nonce_of (view payload.now)) ⊥ (λ nonce. IsDispense self.old.terms nonce t.items)) }
         ensures refused { IfErr result (λ e. e ≢ HearFault.Memory → (e ≡ HearFault.Shape) × (nonce_of (view payload.now) ≡ None)) }
-        ensures grown { OnOk result ((h : List Entry) → Keeps self.old.desk h → Keeps self.new.desk (h ++ history.ask ∷ [])) }
+        ensures grown { OnOk result (GrowsBy history.ask self.old.desk self.new.desk) }
         ensures terms { self.new.terms ≡ self.old.terms }
         ensures same { OnErr result (self.new ≡ self.old) }
     {
@@ -190,7 +185,7 @@ impl Withdrawal {
     fn ask_present(&mut self) -> Result<Vec<u8>, Memory>
         requires { self.old.desk.asked ≡ 2 }
         ensures text { IfOk result (λ t. IsPresent t.items) }
-        ensures grown { OnOk result ((h : List Entry) → Keeps self.old.desk h → Keeps self.new.desk (h ++ history.ask ∷ [])) }
+        ensures grown { OnOk result (GrowsBy history.ask self.old.desk self.new.desk) }
         ensures terms { self.new.terms ≡ self.old.terms }
         ensures same { OnErr result (self.new ≡ self.old) }
     {

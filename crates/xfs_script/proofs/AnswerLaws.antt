@@ -95,8 +95,8 @@ answered-start c s r None w is = tt
 answered-start c s r (Some text) w is = rw is (record { output = []; each = (refl, refl); ahead = refl; written = Appends-none w })
 
 -- one more line
-pub answered-line : {S E : Type 0} (c : Command S E) (start state next : S) (r s : Reading) (x y z old new newer : Option (List ℕ)) (line : Line)
-    → IfTold x (HasAnswered c start state r y old new) → ReadsLine r s y z (Ok (Some line)) → WritesAnswer (c.Answers state line.text) next new newer
+pub answered-line : {S E : Type 0} {faults now : ℕ} (c : Command S E) (start state next : S) (r s : Reading) (x y z old new newer : Option (List ℕ)) (line : Line)
+    → IfTold x (HasAnswered c start state r y old new) → ReadsLine r s y z (Ok (Some line)) → WritesAnswer (c.Answers state line.text) next (record { faults = faults; faults_now = now; held = new; held_now = newer })
     → IfTold x (HasAnswered c start next s z old newer)
 answered-line c start state next r s None y z old new newer line h reads says = tt
 answered-line c start state next r s (Some text) y z old new newer line h reads says =
@@ -146,8 +146,8 @@ at-line c End.Memory many text left last end taken e = e
 at-line c (End.Ended why) many text left last end taken e = e
 
 -- the run ends at a line
-pub answered-stop : {S E : Type 0} (c : Command S E) (ending : Ending E) (start state next : S) (r s : Reading) (x y z old new newer : Option (List ℕ)) (line : Line)
-    → IfTold x (HasAnswered c start state r y old new) → ReadsLine r s y z (Ok (Some line)) → BreaksAtLine c ending line.number line.text state next new newer
+pub answered-stop : {S E : Type 0} {faults now : ℕ} (c : Command S E) (ending : Ending E) (start state next : S) (r s : Reading) (x y z old new newer : Option (List ℕ)) (line : Line)
+    → IfTold x (HasAnswered c start state r y old new) → ReadsLine r s y z (Ok (Some line)) → BreaksAtLine c line.number line.text state next (record { faults = faults; faults_now = now; held = new; held_now = newer }) ending
     → IfTold x (AnswersInput c ending start next z old newer)
 answered-stop c ending start state next r s None y z old new newer line h reads breaks = tt
 answered-stop c ending start state next r s (Some text) y z old new newer line h reads breaks =

@@ -67,8 +67,8 @@ load_is text field digits u n line head within count = record {
 load_field : (text field : List ℕ) (u n : ℕ) → text ≡ codes "loaded unit" ++ field → IsLoaded text u n → field ≡ (48 + u) ∷ 32 ∷ decimal n
 load_field text field u n line k = ap (drop 11) (sym line ∙ (k.line ∙ load_text_is u n k.last))
 
-pub no_load_front : (text : List ℕ) → ((field : List ℕ) → text ≡ codes "loaded unit" ++ field → ⊥) → (u n : ℕ) → IsLoaded text u n → ⊥
-no_load_front text other u n k = other ((48 + u) ∷ 32 ∷ decimal n) (k.line ∙ load_text_is u n k.last)
+pub no_load_prefix : (text : List ℕ) → ((field : List ℕ) → text ≡ codes "loaded unit" ++ field → ⊥) → (u n : ℕ) → IsLoaded text u n → ⊥
+no_load_prefix text other u n k = other ((48 + u) ∷ 32 ∷ decimal n) (k.line ∙ load_text_is u n k.last)
 
 pub no_load_head : (text field : List ℕ) → text ≡ codes "loaded unit" ++ field → ((u : ℕ) (digits : List ℕ) → 1 ≤ u → u ≤ 8 → field ≡ (48 + u) ∷ 32 ∷ digits → ⊥) → (u n : ℕ) → IsLoaded text u n → ⊥
 no_load_head text field line other u n k = other u (decimal n) k.first k.last (load_field text field u n line k)

@@ -22,10 +22,10 @@ gives_is old into place k n before after within fits taken = record {
   bytes = take n into;
   many = length-take-le n into fits;
   block =
-      let front : length (take place old) ≡ place = length-take-le place old within in
+      let kept : length (take place old) ≡ place = length-take-le place old within in
       let most : take n (into ++ post_of place k old) ≡ take n into = take-append-le n into (post_of place k old) fits in
       let P : ℕ → Type 0 = λ m. take (m + n) (put_mid place k old into) ≡ take place old ++ take n into in
-      subst P front (take-append-add (take place old) (into ++ post_of place k old) n ∙ ap (λ xs. take place old ++ xs) most);
+      subst P kept (take-append-add (take place old) (into ++ post_of place k old) n ∙ ap (λ xs. take place old ++ xs) most);
   taken = taken;
 }
 

@@ -10,7 +10,7 @@ use Rattle.xfs_base.specs.Causes.{IfTold}
 use Rattle.xfs_script.specs.Lines.{line_end, has_line_feed, first_line, rest, without_return}
 use Rattle.xfs_script.specs.Reading.{Reading, Grows, Drops, Gives, line_off}
 use Rattle.xfs_script.specs.Found.{IsOpen, IsRefusal}
-use Rattle.xfs_script.specs.Answer.{answer_of, answer_on, bytes_within, bytes_ahead, line_answer, line_found, past_line, IsAnswer, HasNumber, IsCutOff, KeepsLine, ReadsLine}
+use Rattle.xfs_script.specs.Answer.{answer_of, answer_on, bytes_within, bytes_ahead, line_answer, line_found, past_line, IsDueAnswer, HasNumber, IsCutOff, KeepsLine, ReadsLine}
 use Rattle.xfs_script.specs.declared.line.Line.{Line}
 use Rattle.xfs_script.specs.declared.line.LineFault.{LineFault}
 use Rattle.xfs_script.specs.declared.line.LineFault.TheVariants.{Read, Quota, TooLong, Memory}
@@ -76,7 +76,7 @@ gives_off r s t x y g e = record { bytes = g.bytes; given = e ∙ g.given; taken
 
 -- the line that ends at n is handed out, or refused
 pub handed_line : (r s t : Reading) (x y : Option (List ℕ)) (n : ℕ) (result : Result (Option Line) LineFault) → Grows r s x y → Due r s n x y
-    → IsAnswer result (line_answer (s.handed + 1) (without_return (take n s.pending))) → (result ≡ Err Read → ⊥) → OnOk result (t ≡ line_off s n) → OnErr result (t ≡ s)
+    → IsDueAnswer result (line_answer (s.handed + 1) (without_return (take n s.pending))) → (result ≡ Err Read → ⊥) → OnOk result (t ≡ line_off s n) → OnErr result (t ≡ s)
     → ReadsLine r t x y result
 handed_line r s t x y n (Ok None) g d is only ok err = absurd (not_none (s.handed + 1) (without_return (take n s.pending)) is)
 handed_line r s t x y n (Ok (Some line)) g d is only ok err =
@@ -122,7 +122,7 @@ handed_line r s t x y n (Err (TooLong m)) g d is only ok err =
 
 -- the end of the line at n is found, or the line is refused
 pub found_line : (r s : Reading) (x y : Option (List ℕ)) (n : ℕ) (result : Result (Option ℕ) LineFault) → Grows r s x y → Due r s n x y
-    → IsAnswer (line_found s result) (line_answer (s.handed + 1) (without_return (take n s.pending))) → (result ≡ Err Read → ⊥) → IfOk result (λ found. found ≡ Some n)
+    → IsDueAnswer (line_found s result) (line_answer (s.handed + 1) (without_return (take n s.pending))) → (result ≡ Err Read → ⊥) → IfOk result (λ found. found ≡ Some n)
     → ReadsLine r (past_line s result) x y (line_found s result)
 found_line r s x y n (Ok None) g d is only end = absurd (let bad : ⊥ = cc in bad)
 found_line r s x y n (Ok (Some k)) g d is only end =
@@ -237,7 +237,7 @@ fault_read r s x y g none = record {
   end = λ h. absurd (let bad : ⊥ = cc in bad);
 }
   where
-    told_any : (x : Option (List ℕ)) → IfTold x (λ xs. IsAnswer (Err Read) (answer_of r xs))
+    told_any : (x : Option (List ℕ)) → IfTold x (λ xs. IsDueAnswer (Err Read) (answer_of r xs))
     told_any None = tt
     told_any (Some xs) = tt
 
@@ -247,7 +247,7 @@ without_return-le bs = elim (cases_Bool (slice_index bs (length bs - 1) == 13)) 
   | inr over ↦ (let e = cond-false (slice_index bs (length bs - 1) == 13) (take (length bs - 1) bs) bs over in omega (arith, ap length e))
 ]
 
--- a line whose front is too long is too long
+-- a line whose prefix is too long is too long
 long_first : (k : ℕ) (d t : List ℕ) → line_end d ≡ length d → 70001 < length d → line_answer k (first_line (d ++ t)) ≡ Err (TooLong k)
 long_first k d t none long =
     let place = line_end-append d t none in
@@ -255,7 +255,7 @@ long_first k d t none long =
     let kept = without_return-le (take (line_end (d ++ t)) (d ++ t)) in
     line_over k (first_line (d ++ t)) (lt-leb (length (first_line (d ++ t))) 70000 (omega (arith, place, line, kept)))
 
-refused_told : (s u : Reading) (ys zs : List ℕ) → Drops s u (Some ys) (Some zs) → u.given ≤ 67108864 → 70001 < length s.pending → (fault : LineFault) → IsRefusal s.handed u (Some zs) fault → IsAnswer (Err fault) (answer_of s ys)
+refused_told : (s u : Reading) (ys zs : List ℕ) → Drops s u (Some ys) (Some zs) → u.given ≤ 67108864 → 70001 < length s.pending → (fault : LineFault) → IsRefusal s.handed u (Some zs) fault → IsDueAnswer (Err fault) (answer_of s ys)
 refused_told s u ys zs d bound long Read is = tt
 refused_told s u ys zs d bound long Memory is = tt
 refused_told s u ys zs d bound long Quota is =
@@ -263,30 +263,30 @@ refused_told s u ys zs d bound long Quota is =
     due_quota s ys (ap has_line_feed w ∙ no_feed (s.pending ++ d.bytes) u.pending d.no_end is.0)
     (omega (arith, is.1, d.given, ap length d.taken, length-append (d.bytes ++ u.pending) zs, length-append d.bytes u.pending))
 refused_told s u ys zs d bound long (TooLong n) is =
-    let front : List ℕ = s.pending ++ d.bytes in
-    let w : bytes_within s ys ≡ front ++ bytes_within u zs = within_dropped s u ys zs d bound in
-    let size : 70001 < length front = omega (arith, length-append s.pending d.bytes) in
+    let prefix : List ℕ = s.pending ++ d.bytes in
+    let w : bytes_within s ys ≡ prefix ++ bytes_within u zs = within_dropped s u ys zs d bound in
+    let size : 70001 < length prefix = omega (arith, length-append s.pending d.bytes) in
     let same : line_answer (s.handed + 1) (first_line (bytes_within s ys)) ≡ Err (TooLong n) =
-    ap (λ t. line_answer (s.handed + 1) (first_line t)) w ∙ (long_first (s.handed + 1) front (bytes_within u zs) d.no_end size ∙ ap (λ k. Err (TooLong k)) (sym is.0)) in
+    ap (λ t. line_answer (s.handed + 1) (first_line t)) w ∙ (long_first (s.handed + 1) prefix (bytes_within u zs) d.no_end size ∙ ap (λ k. Err (TooLong k)) (sym is.0)) in
     elim is.1 [
       | inl found ↦
           let more : List ℕ = take (67108864 - u.given) zs in
           let e = line_end-append_found u.pending more found in
-          due_first s ys (ap has_line_feed w ∙ has_feed front (bytes_within u zs) d.no_end (omega (arith, e, length-append u.pending more))) ∙ same
+          due_first s ys (ap has_line_feed w ∙ has_feed prefix (bytes_within u zs) d.no_end (omega (arith, e, length-append u.pending more))) ∙ same
       | inr ends ↦
           let e : bytes_within u zs ≡ u.pending = within_end u zs ends.1 in
-          due_last s ys (ap has_line_feed w ∙ no_feed front (bytes_within u zs) d.no_end (ap line_end e ∙ (ends.0 ∙ sym (ap length e))))
+          due_last s ys (ap has_line_feed w ∙ no_feed prefix (bytes_within u zs) d.no_end (ap line_end e ∙ (ends.0 ∙ sym (ap length e))))
           (omega (arith, ends.2, d.given, ap length d.taken, length-append (d.bytes ++ u.pending) zs, length-append d.bytes u.pending, ap length ends.1))
-          (omega (arith, ap length w, length-append front (bytes_within u zs)))
+          (omega (arith, ap length w, length-append prefix (bytes_within u zs)))
           ∙ same
     ]
 
-refused_all : (r s u : Reading) (x y z : Option (List ℕ)) → Grows r s x y → Drops s u y z → s.given ≤ 67108864 → u.given ≤ 67108864 → 70001 < length s.pending → (fault : LineFault) → IsRefusal s.handed u z fault → IfTold x (λ xs. IsAnswer (Err fault) (answer_of r xs))
+refused_all : (r s u : Reading) (x y z : Option (List ℕ)) → Grows r s x y → Drops s u y z → s.given ≤ 67108864 → u.given ≤ 67108864 → 70001 < length s.pending → (fault : LineFault) → IsRefusal s.handed u z fault → IfTold x (λ xs. IsDueAnswer (Err fault) (answer_of r xs))
 refused_all r s u None y z g d low bound long fault is = tt
 refused_all r s u (Some xs) None z g d low bound long fault is = absurd g.taken
 refused_all r s u (Some xs) (Some ys) None g d low bound long fault is = absurd d.taken
 refused_all r s u (Some xs) (Some ys) (Some zs) g d low bound long fault is =
-    let P : Result (Option Line) LineFault → Type 0 = λ a. IsAnswer (Err fault) a in
+    let P : Result (Option Line) LineFault → Type 0 = λ a. IsDueAnswer (Err fault) a in
     subst P (sym (same_answer r s xs ys g low)) (refused_told s u ys zs d bound long fault is)
 
 refused_number : (r s u : Reading) (z : Option (List ℕ)) (fault : LineFault) → s.handed ≡ r.handed → IsRefusal s.handed u z fault → HasNumber r.handed (Err fault)

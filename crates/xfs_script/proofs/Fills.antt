@@ -20,8 +20,8 @@ fill_is text field digits u n line head within count low high = record {
 fill_field : (text field : List ℕ) (u n : ℕ) → text ≡ codes "fill unit" ++ field → IsFill text u n → field ≡ (48 + u) ∷ 32 ∷ decimal n
 fill_field text field u n line k = ap (drop 9) (sym line ∙ (k.line ∙ fill_text_is u n k.last))
 
-pub no_fill_front : (text : List ℕ) → ((field : List ℕ) → text ≡ codes "fill unit" ++ field → ⊥) → (u n : ℕ) → IsFill text u n → ⊥
-no_fill_front text other u n k = other ((48 + u) ∷ 32 ∷ decimal n) (k.line ∙ fill_text_is u n k.last)
+pub no_fill_prefix : (text : List ℕ) → ((field : List ℕ) → text ≡ codes "fill unit" ++ field → ⊥) → (u n : ℕ) → IsFill text u n → ⊥
+no_fill_prefix text other u n k = other ((48 + u) ∷ 32 ∷ decimal n) (k.line ∙ fill_text_is u n k.last)
 
 pub no_fill_head : (text field : List ℕ) → text ≡ codes "fill unit" ++ field → ((u : ℕ) (digits : List ℕ) → 1 ≤ u → u ≤ 8 → field ≡ (48 + u) ∷ 32 ∷ digits → ⊥) → (u n : ℕ) → IsFill text u n → ⊥
 no_fill_head text field line other u n k = other u (decimal n) k.first k.last (fill_field text field u n line k)

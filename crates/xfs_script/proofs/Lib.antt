@@ -8,6 +8,7 @@ pub mod Ends
 pub mod Faults
 pub mod FieldLists
 pub mod Fills
+pub mod LastLaws
 pub mod LineLaws
 pub mod Numerals
 pub mod Parts

@@ -31,28 +31,28 @@ due_on r text a b c =
 abbrev long_or : ℕ → List ℕ → Bool → Result (Option Line) LineFault
 long_or n l t = if t then Ok (Some (record { number = n; text = l })) else Err (TooLong n)
 
-prefix-front : (p : ℕ → Bool) (xs ys : List ℕ) → prefix_len p xs < length xs → prefix_len p (xs ++ ys) ≡ prefix_len p xs
-prefix-front p [] ys lt = absurd (omega arith)
-prefix-front p (x ∷ xs) ys lt = go (p x) lt (prefix-front p xs ys)
+len-prefix : (p : ℕ → Bool) (xs ys : List ℕ) → prefix_len p xs < length xs → prefix_len p (xs ++ ys) ≡ prefix_len p xs
+len-prefix p [] ys lt = absurd (omega arith)
+len-prefix p (x ∷ xs) ys lt = go (p x) lt (len-prefix p xs ys)
   where
     go : (t : Bool) → (if t then 1 + prefix_len p xs else 0) < length (x ∷ xs) → (prefix_len p xs < length xs → prefix_len p (xs ++ ys) ≡ prefix_len p xs)
         → (if t then 1 + prefix_len p (xs ++ ys) else 0) ≡ (if t then 1 + prefix_len p xs else 0)
     go true lt rest = ap (λ n. 1 + n) (rest (omega arith))
     go false lt rest = refl
 
--- a line feed in a front of a text ends the same line in the whole text
-first-front : (front back : List ℕ) → has_line_feed front ≡ true → first_line (front ++ back) ≡ first_line front
-first-front front back has =
-    let within : line_end front < length front = ltb-true _ _ has in
-    let place : line_end (front ++ back) ≡ line_end front = prefix-front _ front back within in
-    rw place (ap without_return (take-append-le (line_end front) front back (omega arith)))
+-- a line feed in a prefix of a text ends the same line in the whole text
+first-prefix : (prefix back : List ℕ) → has_line_feed prefix ≡ true → first_line (prefix ++ back) ≡ first_line prefix
+first-prefix prefix back has =
+    let within : line_end prefix < length prefix = ltb-true _ _ has in
+    let place : line_end (prefix ++ back) ≡ line_end prefix = len-prefix _ prefix back within in
+    rw place (ap without_return (take-append-le (line_end prefix) prefix back (omega arith)))
 
 -- the first of the bytes within the limit is the first of all that are to come
 first-within : (r : Reading) (left : List ℕ) → has_line_feed (bytes_within r left) ≡ true → first_line (bytes_within r left) ≡ first_line (r.pending ++ left)
 first-within r left has =
     let k = 67108864 - r.given in
     let whole : r.pending ++ left ≡ bytes_within r left ++ drop k left = ap (λ l. r.pending ++ l) (sym (take-append-drop k left)) ∙ sym (append_assoc r.pending (take k left) (drop k left)) in
-    sym (first-front (bytes_within r left) (drop k left) has) ∙ ap first_line (sym whole)
+    sym (first-prefix (bytes_within r left) (drop k left) has) ∙ ap first_line (sym whole)
 
 -- below the limit all the bytes are within it
 all-within : (r : Reading) (left : List ℕ) → nat_le 67108864 (r.given + length left) ≡ false → bytes_within r left ≡ r.pending ++ left
@@ -160,7 +160,7 @@ read-limit r s y z many text fault ahead reads cut = go z (told (λ left. Consum
     go : (z : Option (List ℕ)) → Consumes (Some a.0) z reads.gives.bytes → IfTold z (NoLineEnds many text)
     go None h = tt
     go (Some left) h = record {
-      front = r.pending ++ reads.gives.bytes;
+      prefix = r.pending ++ reads.gives.bytes;
       split = sym a.2 ∙ (ap (λ l. r.pending ++ l) h ∙ sym (append_assoc r.pending reads.gives.bytes left));
       unended = reads.cut_off cut;
     }

@@ -20,8 +20,8 @@ unit_is part field digits u n line head within count = record {
 unit_field : (part field : List ℕ) (u n : ℕ) → part ≡ codes "unit" ++ field → IsUnit part u n → field ≡ (48 + u) ∷ 58 ∷ decimal n
 unit_field part field u n line k = ap (drop 4) (sym line ∙ (k.text ∙ unit_text_is u n k.high))
 
-pub no_front : (part : List ℕ) → ((field : List ℕ) → part ≡ codes "unit" ++ field → ⊥) → (u n : ℕ) → IsUnit part u n → ⊥
-no_front part other u n k = other ((48 + u) ∷ 58 ∷ decimal n) (k.text ∙ unit_text_is u n k.high)
+pub no_prefix : (part : List ℕ) → ((field : List ℕ) → part ≡ codes "unit" ++ field → ⊥) → (u n : ℕ) → IsUnit part u n → ⊥
+no_prefix part other u n k = other ((48 + u) ∷ 58 ∷ decimal n) (k.text ∙ unit_text_is u n k.high)
 
 pub no_head : (part field : List ℕ) → part ≡ codes "unit" ++ field → ((u : ℕ) (digits : List ℕ) → 1 ≤ u → u ≤ 8 → field ≡ (48 + u) ∷ 58 ∷ digits → ⊥) → (u n : ℕ) → IsUnit part u n → ⊥
 no_head part field line other u n k = other u (decimal n) k.low k.high (unit_field part field u n line k)

@@ -7,16 +7,16 @@ use Rattle.xfs_script.specs.Guard.{IsGuardLine, IsWordLine, IsMint, IsFill}
 use Rattle.xfs_script.specs.declared.guard_line.GuardLine.{GuardLine}
 use Rattle.xfs_script.specs.declared.guard_line.GuardLine.TheVariants.{Skip, Issue, Clear, Mint, Dispense, Fill, Present, Reject, Retract, Take, Restart, Show}
 
-pub field_is : (text front begin field : List ℕ) → begin ≡ take (length front) text → field ≡ drop (length front) text → begin ≡ front → text ≡ front ++ field
-field_is text front begin field begins behind same =
-    sym (take-append-drop (length front) text) ∙ (ap (λ t. t ++ drop (length front) text) (sym begins ∙ same) ∙ ap (λ t. front ++ t) (sym behind))
+pub field_is : (text prefix begin field : List ℕ) → begin ≡ take (length prefix) text → field ≡ drop (length prefix) text → begin ≡ prefix → text ≡ prefix ++ field
+field_is text prefix begin field begins behind same =
+    sym (take-append-drop (length prefix) text) ∙ (ap (λ t. t ++ drop (length prefix) text) (sym begins ∙ same) ∙ ap (λ t. prefix ++ t) (sym behind))
 
-pub no_field : (text front begin : List ℕ) → begin ≡ take (length front) text → (begin ≡ front → ⊥) → (field : List ℕ) → text ≡ front ++ field → ⊥
-no_field text front begin begins other field is =
-    other (begins ∙ (ap (λ t. take (length front) t) is ∙ take_at front field (length front) refl))
+pub no_field : (text prefix begin : List ℕ) → begin ≡ take (length prefix) text → (begin ≡ prefix → ⊥) → (field : List ℕ) → text ≡ prefix ++ field → ⊥
+no_field text prefix begin begins other field is =
+    other (begins ∙ (ap (λ t. take (length prefix) t) is ∙ take_at prefix field (length prefix) refl))
 
-pub short_field : (text front : List ℕ) → length text < length front → (field : List ℕ) → text ≡ front ++ field → ⊥
-short_field text front short field is = absurd (let bad : ⊥ = omega (arith, ap length is, length-append front field) in bad)
+pub short_field : (text prefix : List ℕ) → length text < length prefix → (field : List ℕ) → text ≡ prefix ++ field → ⊥
+short_field text prefix short field is = absurd (let bad : ⊥ = omega (arith, ap length is, length-append prefix field) in bad)
 
 pub no_line : (text : List ℕ) → ((line : GuardLine) → IsWordLine text line → ⊥) → ((amounts : List (List ℕ × ℕ)) → IsMint text amounts → ⊥) → ((unit count : ℕ) → IsFill text unit count → ⊥) → ((field : List ℕ) (counts : Counts) → HasFields text field counts → ⊥) → (line : GuardLine) → IsGuardLine text line → ⊥
 no_line text word mint fill dispense Skip is = word Skip is

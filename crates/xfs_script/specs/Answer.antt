@@ -31,12 +31,12 @@ unfoldable pub answer_of : Reading → List ℕ → Result (Option Line) LineFau
 answer_of r left = answer_on r.handed (bytes_within r left) (r.given + length left)
 
 -- the answer is the one that is due, but for a fault of the source and want of memory
-abbrev pub IsAnswer : Result (Option Line) LineFault → Result (Option Line) LineFault → Type 0
-IsAnswer (Ok found) due = due ≡ Ok found
-IsAnswer (Err Read) due = Unit {0}
-IsAnswer (Err Memory) due = Unit {0}
-IsAnswer (Err Quota) due = due ≡ Err Quota
-IsAnswer (Err (TooLong n)) due = due ≡ Err (TooLong n)
+abbrev pub IsDueAnswer : Result (Option Line) LineFault → Result (Option Line) LineFault → Type 0
+IsDueAnswer (Ok found) due = due ≡ Ok found
+IsDueAnswer (Err Read) due = Unit {0}
+IsDueAnswer (Err Memory) due = Unit {0}
+IsDueAnswer (Err Quota) due = due ≡ Err Quota
+IsDueAnswer (Err (TooLong n)) due = due ≡ Err (TooLong n)
 
 -- the answer's line is the one behind those that were handed out
 abbrev pub HasNumber : ℕ → Result (Option Line) LineFault → Type 0
@@ -64,7 +64,7 @@ IsCutOff result = (result ≡ Err Read) ⊎ (result ≡ Err Quota)
 -- a call took a line off the bytes to come, or says why not; where the reading is cut off, what was kept and what the source gave have no line feed
 pub record ReadsLine (old new : Reading) (before after : Option (List ℕ)) (result : Result (Option Line) LineFault) : Type 0 where
   pub gives : Gives old new before after
-  pub answer : IfTold before (λ left. IsAnswer result (answer_of old left))
+  pub answer : IfTold before (λ left. IsDueAnswer result (answer_of old left))
   pub rest : OnOk result (IfTold before (λ left. bytes_ahead new after ≡ Some (rest (old.pending ++ left))))
   pub number : HasNumber old.handed result
   pub handed : new.handed ≡ old.handed + lines_in result
@@ -79,7 +79,7 @@ line_found r (Ok (Some end)) = Ok (Some (record { number = r.handed + 1; text = 
 line_found r (Ok None) = Ok None
 line_found r (Err fault) = Err fault
 
--- that line is taken off
+-- what is kept once the line whose end was found is taken off
 abbrev pub past_line : Reading → Result (Option ℕ) LineFault → Reading
 past_line r (Ok (Some end)) = line_off r end
 past_line r (Ok None) = r

@@ -10,7 +10,7 @@ lines_text [] = []
 lines_text (line ∷ lines) = line ++ 10 ∷ lines_text lines
 
 -- the bytes are those of the lines that answer
-pub record Tells {S : Type 0} (AreAnswer : List (List ℕ) → S → Type 0) (bytes : List ℕ) (next : S) : Type 0 where
+pub record IsAnswerText {S : Type 0} (AreAnswer : List (List ℕ) → S → Type 0) (bytes : List ℕ) (next : S) : Type 0 where
   pub output : List (List ℕ)
   pub answer : AreAnswer output next
   pub text : bytes ≡ lines_text output

@@ -17,7 +17,7 @@ filled_units unit (count ∷ counts) = if count == 0 then filled_units (unit + 1
 abbrev pub joined_units : List (ℕ × ℕ) → List ℕ
 joined_units units = join_with_byte 44 (map unit_text units)
 
--- the same, and `none` where there is no unit
+-- the texts of units joined by commas, and `none` where there is no unit
 abbrev pub units_or_none : List (ℕ × ℕ) → List ℕ
 units_or_none [] = codes "none"
 units_or_none (u ∷ units) = joined_units (u ∷ units)

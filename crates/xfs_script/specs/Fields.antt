@@ -3,6 +3,10 @@ use Rattle.std.specs.Prelude.{◌≡◌, ℕ, ◌==◌, List, Some}
 use Rattle.std.specs.List.{slice_split}
 use Rattle.xfs_token.specs.Amounts.{read_amounts, IsAmounts}
 
+-- what stands between such bytes of a text
+abbrev pub pieces : ℕ → List ℕ → List (List ℕ)
+pieces byte text = slice_split (λ b. b == byte) text
+
 -- what stands between the spaces of a line
 abbrev pub fields : List ℕ → List (List ℕ)
 fields text = slice_split (λ b. b == 32) text

@@ -13,12 +13,12 @@ letter_a = 97
 abbrev pub letter_b : ℕ
 letter_b = 98
 
--- what stands in front of a side's lines
-abbrev pub front : ℕ → List ℕ
-front letter = letter ∷ 32 ∷ []
+-- what stands in letter_mark of a side's lines
+abbrev pub letter_mark : ℕ → List ℕ
+letter_mark letter = letter ∷ 32 ∷ []
 
 abbrev pub is_of_side : ℕ → List ℕ → Bool
-is_of_side letter line = starts_with nat_eq line (front letter)
+is_of_side letter line = starts_with nat_eq line (letter_mark letter)
 
 -- a side's lines, without these two bytes, in order
 abbrev pub side : ℕ → List (List ℕ) → List (List ℕ)
@@ -27,7 +27,7 @@ side letter lines = map (drop 2) (filter (is_of_side letter) lines)
 -- the two bytes of a side, and this of what stands behind them
 pub record IsOf (letter : ℕ) (IsBehind : List ℕ → Type 0) (text : List ℕ) : Type 0 where
   pub behind : List ℕ
-  pub text_is : text ≡ front letter ++ behind
+  pub text_is : text ≡ letter_mark letter ++ behind
   pub is : IsBehind behind
 
 -- the text is this line

@@ -21,12 +21,12 @@ IsFound r left End = IsOpen r × IsAtEnd left × (r.given < QUOTA)
 IsFound r left Long = IsOpen r × (LONGEST_LINE + 1 < length r.pending)
 IsFound r left Quota = IsOpen r × (r.given ≡ QUOTA)
 
--- a line whose front was dropped ends, or no more may be read
+-- a line whose first bytes were dropped ends, or no more may be read
 abbrev pub IsPassed : Reading → Option (List ℕ) → Bool → Type 0
 IsPassed r left true = (line_end r.pending < length r.pending) ⊎ (IsOpen r × IsAtEnd left × (r.given < QUOTA))
 IsPassed r left false = IsOpen r × (r.given ≡ QUOTA)
 
--- why a line isn't handed out whose front was dropped
+-- why a line isn't handed out whose first bytes were dropped
 abbrev pub IsRefusal : ℕ → Reading → Option (List ℕ) → LineFault → Type 0
 IsRefusal handed r left Fault.Read = IsOpen r
 IsRefusal handed r left Fault.Quota = IsPassed r left false

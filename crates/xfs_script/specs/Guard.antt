@@ -35,7 +35,7 @@ IsGuardLine text Take = text ≡ codes "take"
 IsGuardLine text Restart = text ≡ codes "restart"
 IsGuardLine text Show = text ≡ codes "show"
 
--- the same of the lines that have no fields
+-- the text is a line of `guard` that has no fields
 abbrev pub IsWordLine : List ℕ → GuardLine → Type 0
 IsWordLine text (Mint amounts) = ⊥
 IsWordLine text (Dispense token counts) = ⊥

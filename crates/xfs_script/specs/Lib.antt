@@ -10,8 +10,10 @@ pub mod FleetLines
 pub mod Found
 pub mod Guard
 pub mod HostLines
+pub mod LastLines
 pub mod Lines
 pub mod Reading
 pub mod ReplayLines
+pub mod Streams
 pub mod TokenLines
 pub mod Words

@@ -52,6 +52,6 @@ pub record StopsAtLine (IsLine : List ℕ → Type 0) (text : List ℕ) : Type 0
 
 -- between the first lines of a text and the bytes that are left no further line ends
 pub record NoLineEnds (many : ℕ) (text left : List ℕ) : Type 0 where
-  pub front : List ℕ
-  pub split : behind many text ≡ front ++ left
-  pub unended : has_line_feed front ≡ false
+  pub prefix : List ℕ
+  pub split : behind many text ≡ prefix ++ left
+  pub unended : has_line_feed prefix ≡ false

@@ -15,7 +15,7 @@ pub record Reading : Type 0 where
 abbrev pub nothing_read : Reading
 nothing_read = record { pending = []; given = 0; handed = 0 }
 
--- the same where nothing was begun
+-- what a reader keeps, also before its first call
 abbrev pub reading_of : Option Reading → Reading
 reading_of None = nothing_read
 reading_of (Some r) = r

@@ -105,7 +105,7 @@ IsReplayLine text (Mint amounts) = IsMint text amounts
 IsReplayLine text Restart = text ≡ codes "restart"
 IsReplayLine text Show = text ≡ codes "show"
 
--- the same of the lines that have no fields
+-- the text is a line of `replay` that has no fields
 abbrev pub IsReplayWord : List ℕ → ReplayLine → Type 0
 IsReplayWord text (Join client service) = ⊥
 IsReplayWord text (Leave client) = ⊥
@@ -117,7 +117,7 @@ IsReplayWord text (Key key) = ⊥
 IsReplayWord text (Mint amounts) = ⊥
 IsReplayWord text line = IsReplayLine text line
 
--- and of those whose fields are numbers, names and amounts
+-- the text is a line of `replay` whose fields are numbers, names or amounts
 abbrev pub IsReplayFields : List ℕ → ReplayLine → Type 0
 IsReplayFields text (Join client service) = IsJoin text client service
 IsReplayFields text (Leave client) = IsLeave text client

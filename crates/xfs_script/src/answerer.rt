@@ -1,5 +1,5 @@
 ghost use Rattle.std.specs.Prelude.{◌≡◌, ◌≤◌, ℕ, List, IfOk, IfErr, length};
-ghost use Rattle.xfs_script.specs.Answered.{Tells, IsUnanswered};
+ghost use Rattle.xfs_script.specs.Answered.{IsAnswerText, IsUnanswered};
 ghost use Rattle.xfs_script.specs.Commands.{Command};
 ghost use Rattle.xfs_script.specs.declared.feed.TheConstants.{LONGEST_LINE};
 
@@ -58,7 +58,7 @@ pub trait Answerer {
         requires short { length line.now ≤ LONGEST_LINE }
         ensures ready { IsReady self.new }
         ensures keeps { Keeps self.old self.new }
-        ensures answer { IfOk result (λ text. Tells (command.Answers (state self.old) line.now) text.items (state self.new)) }
+        ensures answer { IfOk result (λ text. IsAnswerText (command.Answers (state self.old) line.now) text.items (state self.new)) }
         ensures unanswered { IfErr result (λ why. IsUnanswered command (state self.old) line.now why (state self.new)) };
 
     ghost keeps_same: { (a : Self) → Keeps a a };

@@ -1,11 +1,10 @@
-ghost use Rattle.std.specs.Prelude.{◌≡◌, ◌<◌, ◌≤◌, List, ℕ, length, OnOk, IfErr};
-ghost use Rattle.std.specs.Io.KnownBytes.{IsAtEnd};
+ghost use Rattle.std.specs.Prelude.{◌≡◌, ◌≤◌, List, ℕ, length, OnOk, IfErr};
 ghost use Rattle.xfs_base.specs.Causes.{IfTold, Rose};
 ghost use Rattle.xfs_script.specs.Lines.{AllLines, StopsAtLine};
-ghost use Rattle.xfs_script.specs.Reading.{GaveAll};
-ghost use Rattle.xfs_script.specs.Endings.{AnswersInput, BreaksAtLine, EndsAfter, WritesAnswer};
+ghost use Rattle.xfs_script.specs.Endings.{AnswersTold, BreaksAtLine, EndsAfter, HasEndCause, WritesAnswer};
+ghost use Rattle.xfs_script.specs.Streams.{io_of, output};
 ghost use Rattle.xfs_script.specs.declared.answerer.Ending.TheVariants as Ending;
-ghost use Rattle.xfs_script.specs.declared.feed.TheConstants.{LONGEST_LINE, QUOTA};
+ghost use Rattle.xfs_script.specs.declared.feed.TheConstants.{LONGEST_LINE};
 
 use crate::answerer::{Answerer, Ending, Unanswered};
 use crate::feed::Feed;
@@ -24,16 +23,11 @@ pub fn answer_lines<S: Source, K: Sink, A: Answerer>(
     requires { A.IsReady answerer.old }
     ensures ready { A.IsReady answerer.new }
     ensures keeps { A.Keeps answerer.old answerer.new }
-    ensures answers { IfTold (S.left source.old) (AnswersInput A.command result (A.state answerer.old) (A.state answerer.new) (S.left source.new) (K.held sink.old) (K.held sink.new)) }
+    ensures answers { AnswersTold A.state A.command result answerer.old answerer.new (io_of S.Source K.Sink source.old source.new sink.old sink.new) }
     ensures lines { result ≡ Ending.AtEnd → IfTold (S.left source.old) (AllLines A.command.IsLine) }
     ensures not_a_line { (number : ℕ) → result ≡ Ending.NotALine number → IfTold (S.left source.old) (StopsAtLine A.command.IsLine) }
     ensures ended { (why : A.End) → result ≡ Ending.Ended why → EndsAfter A.Keeps A.state A.command answerer.old why (A.state answerer.new) }
-    ensures whole { result ≡ Ending.AtEnd → IsAtEnd (S.left source.new) }
-    ensures fewer { result ≡ Ending.AtEnd → IfTold (S.left source.old) (λ text. length text < QUOTA) }
-    ensures quota { result ≡ Ending.Quota → GaveAll (S.left source.old) (S.left source.new) }
-    ensures read { result ≡ Ending.Read → Rose (S.faults source.old) (S.faults source.new) }
-    ensures write { result ≡ Ending.Write → Rose (K.faults sink.old) (K.faults sink.new) }
-    ensures sink_later { K.faults sink.old ≤ K.faults sink.new }
+    ensures causes { HasEndCause result (io_of S.Source K.Sink source.old source.new sink.old sink.new) }
 {
     let Ok(mut feed) = Feed::new(alloc) else {
         return Ending::Memory;
@@ -66,8 +60,8 @@ fn answer_line<K: Sink, A: Answerer>(
     requires short { length line.now ≤ LONGEST_LINE }
     ensures ready { A.IsReady answerer.new }
     ensures keeps { A.Keeps answerer.old answerer.new }
-    ensures ok { OnOk result (WritesAnswer (A.command.Answers (A.state answerer.old) line.now) (A.state answerer.new) (K.held sink.old) (K.held sink.new)) }
-    ensures err { IfErr result (λ ending. BreaksAtLine A.command ending number line.now (A.state answerer.old) (A.state answerer.new) (K.held sink.old) (K.held sink.new)) }
+    ensures ok { OnOk result (WritesAnswer (A.command.Answers (A.state answerer.old) line.now) (A.state answerer.new) (output K.Sink sink.old sink.new)) }
+    ensures err { IfErr result (BreaksAtLine A.command number line.now (A.state answerer.old) (A.state answerer.new) (output K.Sink sink.old sink.new)) }
     ensures later { K.faults sink.old ≤ K.faults sink.new }
     ensures cause { IfErr result (λ ending. ending ≡ Ending.Write → Rose (K.faults sink.old) (K.faults sink.new)) }
 {

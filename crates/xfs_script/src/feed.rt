@@ -4,7 +4,7 @@ ghost use Rattle.xfs_base.specs.Causes.{HasCause, Rose};
 ghost use Rattle.xfs_script.specs.Lines.{line_end, without_return};
 ghost use Rattle.xfs_script.specs.Reading.{nothing_read, line_off, Grows, Drops, GivesBehind};
 ghost use Rattle.xfs_script.specs.Found.{IsFound, IsOpen, IsPassed, IsRefusal};
-ghost use Rattle.xfs_script.specs.Answer.{ReadsLine, KeepsLine, IsAnswer, line_answer, line_found, past_line};
+ghost use Rattle.xfs_script.specs.Answer.{ReadsLine, KeepsLine, IsDueAnswer, line_answer, line_found, past_line};
 ghost use Rattle.xfs_script.specs.declared.feed.TheConstants.{LONGEST, QUOTA};
 ghost use Rattle.xfs_script.specs.declared.line.LineFault.TheVariants as LineFault;
 
@@ -185,7 +185,7 @@ impl Feed {
     fn measure(&self, end: usize) -> Result<Option<usize>, LineFault>
         requires within { end ≤ length self.now.pending }
         requires some { 0 < length self.now.pending }
-        ensures is { IsAnswer (line_found self.now result) (line_answer (self.now.handed + 1) (without_return (take end self.now.pending))) }
+        ensures is { IsDueAnswer (line_found self.now result) (line_answer (self.now.handed + 1) (without_return (take end self.now.pending))) }
         ensures only { result ≢ Err LineFault.Read }
         ensures end { IfOk result (λ found. found ≡ Some end) }
     {
@@ -277,7 +277,7 @@ fn move_to_front(block: &mut [u8], start: usize, end: usize)
     requires low { start ≤ end }
     requires high { end ≤ length block.old }
     ensures len { length block.new ≡ length block.old }
-    ensures front { take (end - start) block.new ≡ take (end - start) (drop start block.old) }
+    ensures moved { take (end - start) block.new ≡ take (end - start) (drop start block.old) }
 {
     if start > 0 {
         block.copy_within(start..end, 0);

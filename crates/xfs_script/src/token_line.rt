@@ -64,7 +64,7 @@ fn read_make(alloc: Global, nonce: &[u8], field: &[u8]) -> Result<(Bytes, Amount
     ensures nonce { IfOk result (λ m. m.0 ≡ nonce.now) }
     ensures valid { OnOk result (IsTrue (grammar.is_nonce nonce.now)) }
     ensures amounts { IfOk result (λ m. SpellsAmounts field.now m.1) }
-    ensures not_a_line { result ≡ Err ScriptFault.NotALine → (amounts : List (List ℕ × ℕ)) → IsTrue (grammar.is_nonce nonce.now) → ¬ SpellsAmounts field.now amounts }
+    ensures not_a_line { result ≡ Err ScriptFault.NotALine → (a : List (List ℕ × ℕ)) → IsTrue (grammar.is_nonce nonce.now) → ¬ SpellsAmounts field.now a }
 {
     if !is_nonce(nonce) {
         return Err(ScriptFault::NotALine);

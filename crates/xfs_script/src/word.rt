@@ -1,6 +1,5 @@
-ghost use Rattle.std.specs.Prelude.{◌≡◌, ◌<◌, ◌==◌, ◌∷◌, ◌++◌, List, [], ℕ, length, IfSome, IfNone, MatchOption, IsTrue, ◌↔◌};
-ghost use Rattle.std.specs.List.{slice_split};
-ghost use Rattle.xfs_script.specs.Fields.{fields};
+ghost use Rattle.std.specs.Prelude.{◌≡◌, ◌<◌, ◌∷◌, ◌++◌, List, [], ℕ, length, IfSome, IfNone, MatchOption, IsTrue, ◌↔◌};
+ghost use Rattle.xfs_script.specs.Fields.{fields, pieces};
 ghost use Rattle.xfs_script.specs.Words.{IsSkipped};
 
 use memchr::memchr;
@@ -22,15 +21,15 @@ pub(crate) fn is_word(text: &[u8], word: &[u8]) -> bool
 }
 
 /// What stands behind these bytes, where the text begins with them.
-pub fn field_of<'a>(text: &'a [u8], front: &[u8]) -> Option<&'a [u8]>
-    ensures found { IfSome result (λ field. text.now ≡ front.now ++ field.now) }
-    ensures none { IfNone result ((field : List ℕ) → ¬ (text.now ≡ front.now ++ field)) }
+pub fn field_of<'a>(text: &'a [u8], prefix: &[u8]) -> Option<&'a [u8]>
+    ensures found { IfSome result (λ field. text.now ≡ prefix.now ++ field.now) }
+    ensures none { IfNone result ((field : List ℕ) → ¬ (text.now ≡ prefix.now ++ field)) }
 {
-    if text.len() < front.len() {
+    if text.len() < prefix.len() {
         return None;
     }
-    let (begin, field) = text.split_at(front.len());
-    if is_word(begin, front) {
+    let (begin, field) = text.split_at(prefix.len());
+    if is_word(begin, prefix) {
         Some(field)
     } else {
         None
@@ -39,7 +38,7 @@ pub fn field_of<'a>(text: &'a [u8], front: &[u8]) -> Option<&'a [u8]>
 
 // What stands before the first such byte, and what stands behind it.
 pub(crate) fn cut(text: &[u8], byte: u8) -> (&[u8], Option<&[u8]>)
-    ensures parts { MatchOption result.1 (slice_split (λ b. b == byte) text.now ≡ result.0.now ∷ []) (λ behind. slice_split (λ b. b == byte) text.now ≡ result.0.now ∷ slice_split (λ b. b == byte) behind.now) }
+    ensures parts { MatchOption result.1 (pieces byte text.now ≡ result.0.now ∷ []) (λ rest. pieces byte text.now ≡ result.0.now ∷ pieces byte rest.now) }
     ensures shorter { IfSome result.1 (λ behind. length behind.now < length text.now) }
 {
     match memchr(byte, text) {

@@ -4,7 +4,7 @@ use Rattle.std.proofs.lemmas.List.{get_or-append-add, get_or-take, length-take-l
 use Rattle.std.proofs.lemmas.List.Elements.{All-nil, All-push}
 use Rattle.std.proofs.lemmas.Bool.{false_from_ne_true, ltb-true}
 use Rattle.memchr.specs.Find.{IsFirstByte, is_byte}
-use Rattle.xfs_script.specs.Answered.{Tells, lines_text}
+use Rattle.xfs_script.specs.Answered.{IsAnswerText, lines_text}
 use Rattle.xfs_script.specs.Lines.{has_line_feed}
 use Rattle.xfs_sides.specs.Sides.{IsMarked}
 use Rattle.xfs_script.proofs.Ends.{none_is}
@@ -76,7 +76,7 @@ no_rest answer front (b ∷ rest) is none =
     absurd (none (length rest) (omega arith) (omega arith) (eq-eqb _ _ here))
 
 pub all_marked : (letter : ℕ) (text rest marked : List ℕ) → IsMarkedUpTo letter text rest marked → IsFirstByte (is_byte 10) rest None
-    → (answer : List (List ℕ)) → text ≡ lines_text answer → Tells (λ output _. IsMarked letter answer output) marked answer
+    → (answer : List (List ℕ)) → text ≡ lines_text answer → IsAnswerText (λ output _. IsMarked letter answer output) marked answer
 all_marked letter text rest marked is none answer whole =
     let left = no_rest answer (lines_text is.lines) rest (sym whole ∙ is.split) none in
     record {

@@ -1,7 +1,7 @@
 -- The lines of a command over two sides, where those of the command are lines of `replay`.
 use Rattle.std.proofs.Common.{◌≡◌, ◌++◌, ◌≤◌, ℕ, List, ap, arith, inl, inr, length}
 use Rattle.xfs_script.specs.Commands.{Command}
-use Rattle.xfs_script.specs.FleetLines.{IsFleetLine, IsOf, front, letter_a, letter_b}
+use Rattle.xfs_script.specs.FleetLines.{IsFleetLine, IsOf, letter_mark, letter_a, letter_b}
 use Rattle.xfs_script.specs.ReplayLines.{IsReplayLine}
 use Rattle.xfs_script.specs.declared.feed.TheConstants.{LONGEST_LINE}
 use Rattle.xfs_script.specs.declared.fleet_line.FleetLine.{FleetLine}
@@ -11,7 +11,7 @@ use Rattle.xfs_sides.specs.ReadLines.{HasFleetLines, HasReplayLines, IsFleetText
 use Rattle.xfs_sides.specs.Sides.{IsSideLine}
 
 -- what stands behind the two bytes of a side is no longer than the line
-behind-short : (letter : ℕ) (behind text : List ℕ) → text ≡ front letter ++ behind → length text ≤ LONGEST_LINE → length behind ≤ LONGEST_LINE
+behind-short : (letter : ℕ) (behind text : List ℕ) → text ≡ letter_mark letter ++ behind → length text ≤ LONGEST_LINE → length behind ≤ LONGEST_LINE
 behind-short letter behind text is short = let long = ap length is in omega (arith, short, long)
 
 module _ {S E : Type 0} (c : Command S E) (replay : HasReplayLines c) where

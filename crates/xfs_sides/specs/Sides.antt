@@ -3,14 +3,14 @@ use Rattle.std.specs.Prelude.{◌≡◌, ◌⊎◌, ◌≤◌, ℕ, false, All, 
 use Rattle.std.proofs.Common.{inl, inr}
 use Rattle.std.specs.declared.option.Option.{Option}
 use Rattle.std.specs.Io.KnownBytes.{Appends}
-use Rattle.xfs_script.specs.Answered.{AnswersEach, lines_text}
+use Rattle.xfs_script.specs.Answered.{AnswersEach, IsAnswerText, lines_text}
 use Rattle.xfs_script.specs.Commands.{Command}
 use Rattle.xfs_script.specs.FleetLines.{IsOf, letter_a, letter_b, side}
 use Rattle.xfs_script.specs.Lines.{behind, first_lines, has_line_feed}
 use Rattle.xfs_script.specs.Words.{IsSkipped}
 use Rattle.xfs_script.specs.declared.feed.TheConstants.{LONGEST_LINE}
 
--- the same at each side
+-- what there is at each side
 pub record Sides (S : Type 0) : Type 0 where
   pub a : S
   pub b : S
@@ -26,7 +26,11 @@ pub record IsMarked (letter : ℕ) (answer output : List (List ℕ)) : Type 0 wh
   pub cut : All (λ line. has_line_feed line ≡ false) lines
   pub marked : output ≡ map (λ line. letter ∷ 32 ∷ line) lines
 
--- this happens at the side of its letter, and the other stays as it is
+-- a text, where it is that of lines, is marked: each of its lines has the two bytes of a side in front
+abbrev pub MarksEach : ℕ → List ℕ → List ℕ → Type 0
+MarksEach letter text marked = (answer : List (List ℕ)) → text ≡ lines_text answer → IsAnswerText (λ output _. IsMarked letter answer output) marked answer
+
+-- something happens at the side of its letter, and the other stays as it is
 abbrev pub AtOneSide : {S : Type 0} → (ℕ → S → S → Type 0) → Sides S → Sides S → Type 0
 AtOneSide Happens old new = (Happens letter_a old.a new.a × (new.b ≡ old.b)) ⊎ (Happens letter_b old.b new.b × (new.a ≡ old.a))
 
@@ -35,6 +39,10 @@ pub record AnswersMarked {S : Type 0} (Answers : S → List ℕ → List (List �
   pub answer : List (List ℕ)
   pub answers : Answers old line answer new
   pub marked : IsMarked letter answer output
+
+-- the bytes are those of the marked answer to a line
+abbrev pub IsMarkedText : {S E : Type 0} → Command S E → ℕ → S → List ℕ → List ℕ → S → Type 0
+IsMarkedText c letter old line bytes new = IsAnswerText (λ output next. AnswersMarked c.Answers letter output old next line) bytes new
 
 -- a line that is skipped has no answer
 pub record IsPassedOver {S : Type 0} (old : S) (text : List ℕ) (output : List (List ℕ)) (new : S) : Type 0 where
@@ -48,7 +56,7 @@ module _ {S E : Type 0} (c : Command S E) where
     pub short : length text ≤ LONGEST_LINE
     pub is : IsSkipped text ⊎ (IsOf letter_a c.IsLine text ⊎ IsOf letter_b c.IsLine text)
 
-  -- it is passed over, or answered at its side
+  -- a line is passed over, or answered at its side
   pub record AnswersSide (old : Sides S) (text : List ℕ) (output : List (List ℕ)) (new : Sides S) : Type 0 where
     pub short : length text ≤ LONGEST_LINE
     pub done : IsPassedOver old text output new ⊎ AtOneSide (λ letter was now. IsOf letter (AnswersMarked c.Answers letter output was now) text) old new
@@ -61,7 +69,7 @@ module _ {S E : Type 0} (c : Command S E) where
   abbrev pub LeavesSide : Sides S → List ℕ → Sides S → Type 0
   LeavesSide old text new = (new ≡ old) ⊎ AtOneSide (λ letter was now. IsOf letter (λ line. unwritten.Leaves was line now) text) old new
 
-  -- it ends where a side ends
+  -- the command over two sides ends where a side ends
   abbrev pub EndsAtSide : Sides S → List ℕ → E → Sides S → Type 0
   EndsAtSide old text why new = AtOneSide (λ letter was now. IsOf letter (λ line. c.EndsAt was line why now) text) old new
 

@@ -1,6 +1,5 @@
-ghost use Rattle.std.specs.Prelude.{◌≡◌, ℕ, List, IfOk};
-ghost use Rattle.xfs_script.specs.Answered.{Tells, lines_text};
-ghost use Rattle.xfs_sides.specs.Sides.{IsMarked};
+ghost use Rattle.std.specs.Prelude.{IfOk};
+ghost use Rattle.xfs_sides.specs.Sides.{MarksEach};
 
 use memchr::memchr;
 use std::alloc::Global;
@@ -8,7 +7,7 @@ use xfs_base::Memory;
 
 /// The lines of an answer, each with a side's letter and a space in front.
 pub fn mark_lines(alloc: Global, letter: u8, text: &[u8]) -> Result<Vec<u8>, Memory>
-    ensures { IfOk result (λ marked. (answer : List (List ℕ)) → text.now ≡ lines_text answer → Tells (λ output _. IsMarked letter answer output) marked.items answer) }
+    ensures { IfOk result (λ marked. MarksEach letter text.now marked.items) }
 {
     let mut marked = Vec::with_capacity(alloc, text.len())?;
     let mut rest = text;

@@ -1,10 +1,10 @@
 ghost use Rattle.std.specs.Prelude.{◌≡◌, ◌≤◌, IfOk, IfErr, length};
-ghost use Rattle.xfs_script.specs.Answered.{IsUnanswered, Tells};
+ghost use Rattle.xfs_script.specs.Answered.{IsUnanswered};
 ghost use Rattle.xfs_script.specs.declared.feed.TheConstants.{LONGEST_LINE};
 ghost use Rattle.xfs_script.specs.declared.answerer.Ending.TheVariants as Ending;
 ghost use Rattle.xfs_base.specs.Causes.{IfTold};
 ghost use Rattle.xfs_sides.specs.ReadLines.{HasFleetLines, HasReplayLines};
-ghost use Rattle.xfs_sides.specs.Sides.{AnswersMarked, AreAlone, both, unwritten};
+ghost use Rattle.xfs_sides.specs.Sides.{AreAlone, IsMarkedText, both, unwritten};
 
 use crate::mark::mark_lines;
 use std::alloc::Global;
@@ -90,7 +90,7 @@ fn answer_at<A: Answerer>(
     requires short { length behind.now ≤ LONGEST_LINE }
     ensures ready { A.IsReady side.new }
     ensures keeps { A.Keeps side.old side.new }
-    ensures answer { IfOk result (λ text. Tells (λ output next. AnswersMarked A.command.Answers letter output (A.state side.old) next behind.now) text.items (A.state side.new)) }
+    ensures answer { IfOk result (λ text. IsMarkedText A.command letter (A.state side.old) behind.now text.items (A.state side.new)) }
     ensures unanswered { IfErr result (λ why. IsUnanswered (unwritten A.command) (A.state side.old) behind.now why (A.state side.new)) }
 {
     match side.answer(behind) {

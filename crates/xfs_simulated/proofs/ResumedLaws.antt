@@ -14,7 +14,7 @@ use Rattle.xfs_journal.specs.declared.record.Rec.{Rec}
 use Rattle.xfs_journal.proofs.Unique.{stands_for_one}
 use Rattle.xfs_simulated.specs.Resumed.{GoesOn, GoesOnFrom}
 
--- so of each list that the bytes stand for, where the disk tells them and didn't fail
+-- of each list that the bytes stand for this is told, where the disk tells them and didn't fail
 abbrev pub TellsOf : Option (List ℕ) → Type 0 → List NoteKind → List Motion → Places → Type 0
 TellsOf held failed units motions places = IfTold held (λ bytes. (records : List Rec) → StandsFor bytes records → failed ⊎ GoesOn units records motions places)
 
@@ -30,7 +30,7 @@ tells-refused (Some bytes) failed units (NotJournal at) motions places nor none 
 tells-refused (Some bytes) failed units Disk motions places nor none disk = λ records stood. inl (disk refl)
 tells-refused (Some bytes) failed units Memory motions places nor none disk = absurd (nor refl)
 
--- the same of a mechanism that has these motions, these places and this table
+-- this is told too of a mechanism that has these motions, these places and this table
 pub tells-as : (held : Option (List ℕ)) (failed : Type 0) (units : List NoteKind) (motions motions' : List Motion) (places places' : Places) (table : List NoteKind)
     → table ≡ units → motions' ≡ motions → places' ≡ places → TellsOf held failed units motions places → TellsOf held failed table motions' places'
 tells-as held failed units motions motions' places places' table same moved lie told = rw (same, moved, lie) told

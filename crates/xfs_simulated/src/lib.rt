@@ -5,7 +5,7 @@
 mod leaving;
 mod machine;
 mod news;
-mod resumed;
+mod resume;
 mod secret;
 mod setup;
 
@@ -15,6 +15,6 @@ pub use machine::{
     second_core, units,
 };
 pub use news::{card_news, key_news};
-pub use resumed::{LIFE, core_resumed};
+pub use resume::{LIFE, resume_core};
 pub use secret::{OWN, SECOND, Secrets, secret_in};
 pub use setup::Setup;

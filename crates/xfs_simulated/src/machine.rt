@@ -1,15 +1,13 @@
-ghost use Rattle.std.specs.Prelude.{◌≡◌, ℕ, List, [], replicate, IfSome};
+ghost use Rattle.std.specs.Prelude.{◌≡◌, List, [], replicate, IfSome};
 ghost use Rattle.xfs_base.specs.Causes.{IfTold};
-ghost use Rattle.xfs_disk.specs.Disk.{Only};
-ghost use Rattle.xfs_disk.specs.MemDisk.{IsImage as MayBe, bytes_of, steps_of};
+ghost use Rattle.xfs_disk.specs.MemDisk.{bytes_of, steps_of};
 ghost use Rattle.xfs_disk.specs.Wrapped.{failing_calls, failing_inner};
-ghost use Rattle.xfs_guard.specs.Recorded.{IsRecorded};
 ghost use Rattle.xfs_guard.specs.Starts.{Starts};
-ghost use Rattle.xfs_journal.specs.Image.{IsImage, StandsFor};
+ghost use Rattle.xfs_journal.specs.Image.{IsImage};
 ghost use Rattle.xfs_journal.specs.declared.record.Rec.{Rec};
 ghost use Rattle.xfs_mech.specs.SimWatch.{touches_of};
 ghost use Rattle.xfs_mech.specs.Sim.{units_of, places_of, motions_of, faults_of, failures_of};
-ghost use Rattle.xfs_simulated.specs.Simulated.{four_units, filled};
+ghost use Rattle.xfs_simulated.specs.Simulated.{four_units, full_limits, hundred_each};
 
 use crate::secret::{OWN, SECOND, Secrets};
 use std::alloc::Global;
@@ -52,7 +50,7 @@ pub fn units() -> Option<UnitTable>
 
 /// 100 notes in each of the four units, and none elsewhere.
 pub fn places() -> Places
-    ensures { result ≡ filled }
+    ensures { result ≡ hundred_each }
 {
     let none = Counts([0; 8]);
     Places {
@@ -69,7 +67,7 @@ pub fn places() -> Places
 /// which those of `units` never do.
 pub fn mechanism(alloc: Global, units: &UnitTable, faults: Vec<Fault>) -> Option<SimMech>
     ensures units { IfSome result (λ mech. units_of mech ≡ units.now) }
-    ensures places { IfSome result (λ mech. places_of mech ≡ filled) }
+    ensures places { IfSome result (λ mech. places_of mech ≡ hundred_each) }
     ensures motions { IfSome result (λ mech. motions_of mech ≡ []) }
     ensures faults { IfSome result (λ mech. (faults_of mech ≡ faults.items) × (failures_of mech ≡ 0)) }
 {
@@ -103,14 +101,12 @@ pub fn core_on<M: Mechanism>(
     requires none { (records : List Rec) → ¬ IsImage (bytes_of disk) records }
     ensures handed { (result.mech ≡ mech) × (result.disk ≡ disk) × (result.units ≡ units) × (result.limits ≡ limits) }
     ensures secrets { (result.key ≡ replicate 32 0x0b) × (result.seed ≡ replicate 32 0) × (result.life ≡ 0) }
-    ensures units { M.units result.mech ≡ result.units }
-    ensures starts { (image : List ℕ) → MayBe result.disk image → (records : List Rec) → StandsFor image records → IsRecorded result.key result.units records (M.motions result.mech) }
-    ensures at_rest { Only (bytes_of result.disk) (MayBe result.disk) }
+    ensures starts { Starts M.Mechanism ⟦<MemDisk as Disk>⟧ result }
 {
     core_under(OWN, mech, units, disk, limits)
 }
 
-/// The same with other secrets. A nonce lives without an end.
+/// A core with these secrets, as `core_on` has one with its own. A nonce lives without an end.
 pub fn core_under<M: Mechanism>(
     secrets: Secrets,
     mech: M,
@@ -124,9 +120,7 @@ pub fn core_under<M: Mechanism>(
     requires none { (records : List Rec) → ¬ IsImage (bytes_of disk) records }
     ensures handed { (result.mech ≡ mech) × (result.disk ≡ disk) × (result.units ≡ units) × (result.limits ≡ limits) }
     ensures secrets { (result.key ≡ secrets.key) × (result.seed ≡ secrets.seed) × (result.life ≡ 0) }
-    ensures units { M.units result.mech ≡ result.units }
-    ensures starts { (image : List ℕ) → MayBe result.disk image → (records : List Rec) → StandsFor image records → IsRecorded result.key result.units records (M.motions result.mech) }
-    ensures at_rest { Only (bytes_of result.disk) (MayBe result.disk) }
+    ensures starts { Starts M.Mechanism ⟦<MemDisk as Disk>⟧ result }
 {
     let Secrets { key, seed } = secrets;
     Core {
@@ -140,7 +134,7 @@ pub fn core_under<M: Mechanism>(
     }
 }
 
-/// The same over a disk whose calls at these places fail.
+/// A core as of `core_under`, over a disk whose calls at these places fail.
 pub fn core_failing<M: Mechanism>(
     secrets: Secrets,
     mech: M,
@@ -156,9 +150,7 @@ pub fn core_failing<M: Mechanism>(
     ensures handed { (result.mech ≡ mech) × (failing_inner result.disk ≡ disk) × (result.units ≡ units) × (result.limits ≡ limits) }
     ensures failing { failing_calls result.disk ≡ failing.items }
     ensures secrets { (result.key ≡ secrets.key) × (result.seed ≡ secrets.seed) × (result.life ≡ 0) }
-    ensures units { M.units result.mech ≡ result.units }
-    ensures starts { (image : List ℕ) → MayBe (failing_inner result.disk) image → (records : List Rec) → StandsFor image records → IsRecorded result.key result.units records (M.motions result.mech) }
-    ensures at_rest { Only (bytes_of (failing_inner result.disk)) (MayBe (failing_inner result.disk)) }
+    ensures starts { Starts M.Mechanism ⟦<FailDisk as Disk>⟧ result }
 {
     let Core {
         mech,
@@ -185,9 +177,9 @@ pub fn core_failing<M: Mechanism>(
 pub fn second_core(alloc: Global) -> Option<Core<SimMech, FailDisk>>
     ensures secrets { IfSome result (λ core. (core.key ≡ replicate 32 0x0c) × (core.seed ≡ replicate 32 0x01) × (core.life ≡ 0)) }
     ensures units { IfSome result (λ core. (core.units ≡ four_units) × (units_of core.mech ≡ core.units)) }
-    ensures places { IfSome result (λ core. (places_of core.mech ≡ filled) × (motions_of core.mech ≡ [])) }
+    ensures places { IfSome result (λ core. (places_of core.mech ≡ hundred_each) × (motions_of core.mech ≡ [])) }
     ensures sound { IfSome result (λ core. (faults_of core.mech ≡ []) × (failing_calls core.disk ≡ [])) }
-    ensures limits { IfSome result (λ core. core.limits ≡ record { records = 1000000; bytes = 17179869184 }) }
+    ensures limits { IfSome result (λ core. core.limits ≡ full_limits) }
     ensures starts { IfSome result (Starts ⟦<SimMech as Mechanism>⟧ ⟦<FailDisk as Disk>⟧) }
 {
     let units = units()?;

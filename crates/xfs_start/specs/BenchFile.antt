@@ -36,7 +36,7 @@ pub record SetsUp (text : List ℕ) (setup : BenchSetup) : Type 0 where
   pub written : AllZip IsBenchLine (lines text) each
   pub all : setup_by each ≡ Some setup
 
--- where there is no text it is the fixed bench
+-- the fixed bench, or what a text sets up
 abbrev pub IsSetUp : Option (List ℕ) → BenchSetup → Type 0
 IsSetUp None setup = setup ≡ fixed_setup
 IsSetUp (Some text) setup = SetsUp text setup
@@ -48,7 +48,7 @@ pub record HasNoLine (each : List (List ℕ)) : Type 0 where
   pub there : slice_get each place ≡ Some line
   pub none : IsNoLine line
 
--- its lines say something twice
+-- the lines of a text say something twice
 pub record SaysTwice (text : List ℕ) : Type 0 where
   pub each : List BenchLine
   pub written : AllZip IsBenchLine (lines text) each

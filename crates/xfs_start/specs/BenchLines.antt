@@ -24,7 +24,7 @@ pub record IsCall (field : List ℕ) (call : ℕ) : Type 0 where
   pub low : 1 ≤ call
   pub high : call ≤ 18446744073709551615
 
--- so many notes
+-- a number of notes
 pub record IsNotes (field : List ℕ) (count : ℕ) : Type 0 where
   pub digits : field ≡ decimal count
   pub high : count ≤ 4294967295

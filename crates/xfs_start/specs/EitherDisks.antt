@@ -2,6 +2,7 @@
 use Rattle.std.specs.Prelude.{ℕ, List}
 use Rattle.std.specs.declared.option.Option.{Option}
 use Rattle.xfs_disk.specs.declared.disk.Disk.{Ghosts as Disks}
+use Rattle.xfs_guard.specs.declared.machine_core.Core.{Core}
 use Rattle.xfs_start.specs.declared.either_disk.EitherDisk.{EitherDisk}
 use Rattle.xfs_start.specs.declared.either_disk.EitherDisk.TheVariants.{File, Memory}
 
@@ -26,6 +27,18 @@ was_image f m (File disk) = f.images_since disk
 was_image f m (Memory disk) = m.images_since disk
 
 -- how often the one it is failed
-abbrev pub counted : {F M : Type 0} → Disks F → Disks M → EitherDisk F M → ℕ
-counted f m (File disk) = f.faults disk
-counted f m (Memory disk) = m.faults disk
+abbrev pub faults_of_either : {F M : Type 0} → Disks F → Disks M → EitherDisk F M → ℕ
+faults_of_either f m (File disk) = f.faults disk
+faults_of_either f m (Memory disk) = m.faults disk
+
+-- a core with another disk
+abbrev pub with_disk : {M D E : Type 0} → Core M D → E → Core M E
+with_disk core disk = record {
+  mech = core.mech;
+  disk = disk;
+  key = core.key;
+  seed = core.seed;
+  units = core.units;
+  limits = core.limits;
+  life = core.life;
+}

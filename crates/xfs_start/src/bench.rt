@@ -1,15 +1,12 @@
 //! The bench of a server.
 
-ghost use Rattle.std.specs.Prelude.{◌≡◌, ◌⊎◌, List, [], None, IfOk};
-ghost use Rattle.xfs_base.specs.Causes.{IfTold, Rose};
+ghost use Rattle.std.specs.Prelude.{◌≡◌, None, IfOk};
 ghost use Rattle.xfs_guard.specs.Starts.{Starts};
-ghost use Rattle.xfs_journal.specs.Image.{StandsFor};
-ghost use Rattle.xfs_journal.specs.declared.record.Rec.{Rec};
 ghost use Rattle.xfs_mech.specs.Sim.{failures_of, faults_of, units_of};
-ghost use Rattle.xfs_mech.specs.SimWatch.{failing_of, touches_of};
-ghost use Rattle.xfs_simulated.specs.Resumed.{IsResumed};
-ghost use Rattle.xfs_simulated.specs.Simulated.{four_units};
-ghost use Rattle.xfs_start.specs.EitherDisks.{counted};
+ghost use Rattle.xfs_simulated.specs.News.{HasNews};
+ghost use Rattle.xfs_simulated.specs.Resumed.{IsResumed, OfJournal};
+ghost use Rattle.xfs_simulated.specs.Simulated.{four_units, full_limits};
+ghost use Rattle.xfs_start.specs.EitherDisks.{faults_of_either, with_disk};
 ghost use Rattle.xfs_start.specs.declared.either_disk.EitherDisk.TheVariants as Kind;
 
 use crate::either_disk::EitherDisk;
@@ -18,7 +15,7 @@ use xfs_base::Memory;
 use xfs_disk::{Disk, FailDisk};
 use xfs_guard::{Bench, Core};
 use xfs_mech::{Mechanism, SimMech, SimWatch};
-use xfs_simulated::{Secrets, Setup, core_resumed, second_core};
+use xfs_simulated::{Secrets, Setup, resume_core, second_core};
 
 /// The simulated machine that goes on where the journal on the disk leaves it, to whose devices the news and faults of the
 /// setup come. A nonce lives for ten minutes. Beside it stands the second machine of `fleet`, whose disk is in memory.
@@ -29,18 +26,16 @@ pub fn server_bench<D: Disk>(
     setup: Setup,
 ) -> Result<Bench<SimMech, EitherDisk<D, FailDisk>, SimWatch, SimWatch>, Memory>
     ensures secrets { IfOk result (λ bench. (bench.core.key ≡ secrets.key) × (bench.core.seed ≡ secrets.seed)) }
-    ensures table { IfOk result (λ bench. (bench.core.units ≡ four_units) × (units_of bench.core.mech ≡ bench.core.units)) }
-    ensures limits { IfOk result (λ bench. (bench.core.limits.records ≡ 1000000) × (bench.core.limits.bytes ≡ 17179869184)) }
-    ensures life { IfOk result (λ bench. bench.core.life ≡ 600000) }
-    ensures resumed { IfOk result (λ bench. IfTold (D.held disk) (λ bytes. (records : List Rec) → StandsFor bytes records
-        → Rose (D.faults disk) (counted D.Disk ⟦<FailDisk as Disk>⟧ bench.core.disk) ⊎ IsResumed records bench.core.mech)) }
+    ensures set { IfOk result (λ bench. (bench.core.units ≡ four_units) × (bench.core.limits ≡ full_limits) × (bench.core.life ≡ 600000)) }
+    ensures table { IfOk result (λ bench. units_of bench.core.mech ≡ bench.core.units) }
+    ensures resumed { IfOk result (λ bench. OfJournal (D.held disk) (D.faults disk) (faults_of_either D.Disk ⟦<FailDisk as Disk>⟧ bench.core.disk)
+        (λ records. IsResumed records bench.core.mech)) }
     ensures faults { IfOk result (λ bench. (faults_of bench.core.mech ≡ setup.faults.items) × (failures_of bench.core.mech ≡ 0)) }
-    ensures cards { IfOk result (λ bench. (touches_of bench.cards ≡ setup.cards.items) × (failing_of bench.cards ≡ [])) }
-    ensures keys { IfOk result (λ bench. (touches_of bench.keys ≡ setup.keys.items) × (failing_of bench.keys ≡ [])) }
+    ensures news { IfOk result (λ bench. HasNews setup.cards.items bench.cards × HasNews setup.keys.items bench.keys) }
     ensures untold { IfOk result (λ bench. ((d : D) → D.held d ≡ None) → Starts ⟦<SimMech as Mechanism>⟧ ⟦<EitherDisk<D, FailDisk> as Disk>⟧ bench.core) }
     ensures second { IfOk result (λ bench. Starts ⟦<SimMech as Mechanism>⟧ ⟦<EitherDisk<D, FailDisk> as Disk>⟧ bench.second) }
 {
-    let core = core_resumed(alloc, disk, secrets, setup.faults)?;
+    let core = resume_core(alloc, disk, secrets, setup.faults)?;
     let second = second_core(alloc).ok_or(Memory)?;
     Ok(Bench {
         core: over_file(core),
@@ -52,7 +47,7 @@ pub fn server_bench<D: Disk>(
 
 // A core whose disk is over a file.
 fn over_file<D: Disk>(core: Core<SimMech, D>) -> Core<SimMech, EitherDisk<D, FailDisk>>
-    ensures { result ≡ record { mech = core.mech; disk = Kind.File core.disk; key = core.key; seed = core.seed; units = core.units; limits = core.limits; life = core.life } }
+    ensures { result ≡ with_disk core (Kind.File core.disk) }
 {
     let Core {
         mech,
@@ -76,7 +71,7 @@ fn over_file<D: Disk>(core: Core<SimMech, D>) -> Core<SimMech, EitherDisk<D, Fai
 
 // A core whose disk is in memory.
 fn over_memory<D: Disk>(core: Core<SimMech, FailDisk>) -> Core<SimMech, EitherDisk<D, FailDisk>>
-    ensures { result ≡ record { mech = core.mech; disk = Kind.Memory core.disk; key = core.key; seed = core.seed; units = core.units; limits = core.limits; life = core.life } }
+    ensures { result ≡ with_disk core (Kind.Memory core.disk) }
 {
     let Core {
         mech,

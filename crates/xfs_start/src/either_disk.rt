@@ -1,6 +1,6 @@
 //! A disk of one of two kinds.
 
-ghost use Rattle.xfs_start.specs.EitherDisks.{counted, held_of, is_image, moment_of, was_image};
+ghost use Rattle.xfs_start.specs.EitherDisks.{faults_of_either, held_of, is_image, moment_of, was_image};
 ghost use Rattle.xfs_start.specs.declared.either_disk.EitherDisk.TheVariants as Kind;
 
 use xfs_base::Failed;
@@ -22,7 +22,7 @@ impl<F: Disk, M: Disk> Disk for EitherDisk<F, M> {
 
     ghost images_since = { was_image F.Disk M.Disk };
 
-    ghost faults = { counted F.Disk M.Disk };
+    ghost faults = { faults_of_either F.Disk M.Disk };
 
     ghost as_read = { elim [ Kind.File d ↦ F.as_read d | Kind.Memory d ↦ M.as_read d ] };
 

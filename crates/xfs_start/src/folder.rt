@@ -3,7 +3,7 @@
 use crate::bench_file::setup_in;
 use crate::bench_line::BenchFault;
 use crate::fault::{FileFault, StartFault};
-use crate::journal::opened;
+use crate::journal::open_journal;
 use std::alloc::{Alloc, Global};
 use std::fs;
 use std::fs::{File, Files};
@@ -89,7 +89,7 @@ impl<'a, R: Files<File = File> + Alloc<A = Global>> Folder<'a, R> {
     /// The journal's file, for this program alone as long as it is open. It is made where there is none, for its owner
     /// alone, and never cut.
     pub fn journal(&self) -> Result<File, StartFault> {
-        match opened(self.rt, self.path, self.path_of(JOURNAL_FILE)?.as_str()) {
+        match open_journal(self.rt, self.path, self.path_of(JOURNAL_FILE)?.as_str()) {
             Ok(file) => Ok(file),
             Err(why) => Err(StartFault::of_file(JOURNAL_FILE, why)),
         }

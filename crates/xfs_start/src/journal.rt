@@ -11,10 +11,14 @@ const OWNER_ALONE: u32 = 0o600;
 
 /// Opens the file and locks it for as long as it is open. A file that isn't there is made; no link is followed, and
 /// nothing is opened but a file. Nothing was written to it where it is refused.
-pub fn opened<R: Files<File = File>>(rt: &R, folder: &str, path: &str) -> Result<File, FileFault> {
+pub fn open_journal<R: Files<File = File>>(
+    rt: &R,
+    folder: &str,
+    path: &str,
+) -> Result<File, FileFault> {
     let file = match fs::symlink_metadata(rt, path) {
-        Ok(found) => reopened(rt, path, &found)?,
-        Err(error) if error.kind() == ErrorKind::NotFound => made(rt, path)?,
+        Ok(found) => reopen(rt, path, &found)?,
+        Err(error) if error.kind() == ErrorKind::NotFound => make_journal(rt, path)?,
         Err(error) => return Err(FileFault::from(error)),
     };
     match file.try_lock() {
@@ -30,11 +34,7 @@ pub fn opened<R: Files<File = File>>(rt: &R, folder: &str, path: &str) -> Result
 }
 
 // Opens what was found, if it still stands there.
-fn reopened<R: Files<File = File>>(
-    rt: &R,
-    path: &str,
-    found: &Metadata,
-) -> Result<File, FileFault> {
+fn reopen<R: Files<File = File>>(rt: &R, path: &str, found: &Metadata) -> Result<File, FileFault> {
     if !found.is_file() {
         return Err(FileFault::NotAFile);
     }
@@ -48,7 +48,7 @@ fn reopened<R: Files<File = File>>(
 }
 
 // A link that has come meanwhile isn't followed.
-fn made<R: Files<File = File>>(rt: &R, path: &str) -> Result<File, FileFault> {
+fn make_journal<R: Files<File = File>>(rt: &R, path: &str) -> Result<File, FileFault> {
     let file = File::options()
         .read(true)
         .write(true)

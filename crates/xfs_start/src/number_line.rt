@@ -77,7 +77,7 @@ fn read_three(call: &[u8], moved: &[u8], diverted: &[u8]) -> Option<Fault>
     ensures call { IfSome result (λ fault. IsCall call.now fault.call) }
     ensures moved { IfSome result (λ fault. IsNotes moved.now fault.moved) }
     ensures diverted { IfSome result (λ fault. IsNotes diverted.now fault.diverted) }
-    ensures none { IfNone result ((fault : faults.Fault) → IsCall call.now fault.call → IsNotes moved.now fault.moved → ¬ IsNotes diverted.now fault.diverted) }
+    ensures none { IfNone result ((f : faults.Fault) → IsCall call.now f.call → IsNotes moved.now f.moved → ¬ IsNotes diverted.now f.diverted) }
 {
     let call = read_call(call)?;
     let moved = read_notes(moved)?;

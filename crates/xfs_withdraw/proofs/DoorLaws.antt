@@ -7,8 +7,8 @@ use Rattle.xfs_client.specs.Withdrawals.{Terms}
 use Rattle.xfs_server.specs.Doors.{DoorLog, after_dial}
 use Rattle.xfs_server.specs.Links.{LinkLog}
 use Rattle.xfs_server.specs.declared.doors.DialFault.{DialFault}
-use Rattle.xfs_withdraw.specs.Doors.{HasDialled, HasFailed, is_closed, quiets_of}
-use Rattle.xfs_withdraw.specs.Endings.{dial_ending, status_of}
+use Rattle.xfs_withdraw.specs.Doors.{HasDialled, HasFailed, tells_closed, quiets_of}
+use Rattle.xfs_withdraw.specs.Endings.{dial_ending, withdrawal_status}
 use Rattle.xfs_withdraw.specs.Talks.{Withdraws, IsQuietFor, was_closed, fault_count}
 use Rattle.xfs_withdraw.specs.declared.ending.Ending.{Ending}
 use Rattle.xfs_withdraw.specs.declared.ending.Ending.TheVariants.{Done, Ended, Refused, BadAnswer, Closed, Quiet, Failed, Memory}
@@ -31,38 +31,38 @@ only-closed ending told e = ((λ is. e ∙ ap (λ x. was_closed (Some x)) is), (
 less : (n : ℕ) → n < MOST_QUIETS → n ≡ MOST_QUIETS → ⊥
 less n few all = omega (arith, few, all)
 
-only-quiet : (ending : Ending) (quiets : ℕ) → IsQuietFor (Some ending) quiets → (status_of ending ≡ STAYED_QUIET) ↔ (quiets ≡ MOST_QUIETS)
+only-quiet : (ending : Ending) (quiets : ℕ) → IsQuietFor (Some ending) quiets → (withdrawal_status ending ≡ STAYED_QUIET) ↔ (quiets ≡ MOST_QUIETS)
 only-quiet Done quiets q = ((λ e. absurd (none e)), (λ all. absurd (less quiets q all)))
   where
-    none : status_of Done ≡ STAYED_QUIET → ⊥
+    none : withdrawal_status Done ≡ STAYED_QUIET → ⊥
     none e = omega (arith, e)
 only-quiet (Ended code) quiets q = ((λ e. absurd (none e)), (λ all. absurd (less quiets q all)))
   where
-    none : status_of (Ended code) ≡ STAYED_QUIET → ⊥
+    none : withdrawal_status (Ended code) ≡ STAYED_QUIET → ⊥
     none e = omega (arith, e)
 only-quiet (Refused status) quiets q = ((λ e. absurd (none e)), (λ all. absurd (less quiets q all)))
   where
-    none : status_of (Refused status) ≡ STAYED_QUIET → ⊥
+    none : withdrawal_status (Refused status) ≡ STAYED_QUIET → ⊥
     none e = omega (arith, e)
 only-quiet BadAnswer quiets q = ((λ e. absurd (none e)), (λ all. absurd (less quiets q all)))
   where
-    none : status_of BadAnswer ≡ STAYED_QUIET → ⊥
+    none : withdrawal_status BadAnswer ≡ STAYED_QUIET → ⊥
     none e = omega (arith, e)
 only-quiet Closed quiets q = ((λ e. absurd (none e)), (λ all. absurd (less quiets q all)))
   where
-    none : status_of Closed ≡ STAYED_QUIET → ⊥
+    none : withdrawal_status Closed ≡ STAYED_QUIET → ⊥
     none e = omega (arith, e)
 only-quiet Quiet quiets q = ((λ e. q), (λ all. refl))
 only-quiet Failed quiets q = ((λ e. absurd (none e)), (λ all. absurd (less quiets q all)))
   where
-    none : status_of Failed ≡ STAYED_QUIET → ⊥
+    none : withdrawal_status Failed ≡ STAYED_QUIET → ⊥
     none e = omega (arith, e)
 only-quiet Memory quiets q = ((λ e. absurd (none e)), (λ all. absurd (less quiets q all)))
   where
-    none : status_of Memory ≡ STAYED_QUIET → ⊥
+    none : withdrawal_status Memory ≡ STAYED_QUIET → ⊥
     none e = omega (arith, e)
 
-only-failed : (ending : Ending) → status_of ending ≡ LINK_FAILED → ending ≡ Failed
+only-failed : (ending : Ending) → withdrawal_status ending ≡ LINK_FAILED → ending ≡ Failed
 only-failed Done e = absurd (omega (arith, e))
 only-failed (Ended code) e = absurd (omega (arith, e))
 only-failed (Refused status) e = absurd (omega (arith, e))
@@ -82,7 +82,7 @@ rose DialFault.Memory before now e once = absurd (failed_not e)
 
 module _ {L : Type 0} (log : L → LinkLog) (terms : Terms) where
   pub closed_cause : (link : Option L) (ending : Ending) (before now : DoorLog) → IfSome link (λ l. Withdraws terms ending (log l)) → HasDialled link ending before now
-      → (ending ≡ Closed) ↔ (is_closed (option_map log link) ≡ true)
+      → (ending ≡ Closed) ↔ (tells_closed (option_map log link) ≡ true)
   closed_cause (Some l) ending before now w d = only-closed ending (log l).closed w.tells.closed
   closed_cause None ending before now w d = ((λ e. absurd (open_still d.fault (sym d.is ∙ e))), (λ e. absurd (false_is_true e)))
     where
@@ -94,11 +94,11 @@ module _ {L : Type 0} (log : L → LinkLog) (terms : Terms) where
       false_is_true e = search rules
 
   pub quiet_cause : (link : Option L) (ending : Ending) (before now : DoorLog) → IfSome link (λ l. Withdraws terms ending (log l)) → HasDialled link ending before now
-      → (status_of ending ≡ STAYED_QUIET) ↔ (quiets_of (option_map log link) ≡ MOST_QUIETS)
+      → (withdrawal_status ending ≡ STAYED_QUIET) ↔ (quiets_of (option_map log link) ≡ MOST_QUIETS)
   quiet_cause (Some l) ending before now w d = only-quiet ending (log l).quiets w.tells.quiets
-  quiet_cause None ending before now w d = ((λ e. absurd (not_quiet d.fault (ap status_of (sym d.is) ∙ e))), (λ e. absurd (none e)))
+  quiet_cause None ending before now w d = ((λ e. absurd (not_quiet d.fault (ap withdrawal_status (sym d.is) ∙ e))), (λ e. absurd (none e)))
     where
-      not_quiet : (fault : DialFault) → status_of (dial_ending fault) ≡ STAYED_QUIET → ⊥
+      not_quiet : (fault : DialFault) → withdrawal_status (dial_ending fault) ≡ STAYED_QUIET → ⊥
       not_quiet DialFault.Failed e = omega (arith, e)
       not_quiet DialFault.Memory e = omega (arith, e)
 
@@ -106,6 +106,6 @@ module _ {L : Type 0} (log : L → LinkLog) (terms : Terms) where
       none e = omega (arith, e)
 
   pub failed_cause : (link : Option L) (ending : Ending) (before now : DoorLog) → IfSome link (λ l. Withdraws terms ending (log l)) → HasDialled link ending before now
-      → status_of ending ≡ LINK_FAILED → HasFailed (option_map log link) before now
+      → withdrawal_status ending ≡ LINK_FAILED → HasFailed (option_map log link) before now
   failed_cause (Some l) ending before now w d e = w.tells.faults ∙ ap (λ x. fault_count (Some x)) (only-failed ending e)
   failed_cause None ending before now w d e = rose d.fault before now (sym d.is ∙ only-failed ending e) d.once

@@ -1,3 +1,2 @@
 pub mod DoorLaws
-pub mod LastLaws
 pub mod TalkLaws

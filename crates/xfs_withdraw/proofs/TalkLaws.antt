@@ -15,7 +15,7 @@ use Rattle.xfs_server.specs.Links.{LinkLog, IsFresh, after_take, after_give}
 use Rattle.xfs_server.specs.declared.link.GiveFault.{GiveFault}
 use Rattle.xfs_server.specs.declared.link.Taking.{Taking}
 use Rattle.xfs_withdraw.specs.Endings.{ending_of, give_ending, hear_ending}
-use Rattle.xfs_withdraw.specs.Talks.{Asks, started, waited, asked, at_text, waiting, unheard, unsent, Tells, GoesOn, HasTaken, Withdraws}
+use Rattle.xfs_withdraw.specs.Talks.{Asks, started, waited, asked, at_text, waiting, unheard, unsent, LinkTells, GoesOn, HasTaken, Withdraws}
 use Rattle.xfs_withdraw.specs.declared.ending.Ending.TheVariants.{Done, Ended, Refused, BadAnswer, Closed, Quiet, Failed, Memory}
 use Rattle.xfs_withdraw.specs.declared.talk.TheConstants.{MOST_QUIETS}
 
@@ -30,31 +30,31 @@ told-more None xs ys e = tt
 told-more (Some list) xs ys e = ap (λ l. l ++ ys) e
 
 -- what the link tells at an ending that is no call of its own
-module _ (l : LinkLog) (texts asks : List (List ℕ)) (t : Tells l None texts asks) where
-  tells-done : Tells l (Some Done) texts asks
+module _ (l : LinkLog) (texts asks : List (List ℕ)) (t : LinkTells l None texts asks) where
+  tells-done : LinkTells l (Some Done) texts asks
   tells-done = record { taken = t.taken; sent = t.sent; closed = t.closed; faults = t.faults; quiets = t.quiets }
 
-  tells-ended : (code : Code) → Tells l (Some (Ended code)) texts asks
+  tells-ended : (code : Code) → LinkTells l (Some (Ended code)) texts asks
   tells-ended code = record { taken = t.taken; sent = t.sent; closed = t.closed; faults = t.faults; quiets = t.quiets }
 
-  tells-refused : (status : Status) → Tells l (Some (Refused status)) texts asks
+  tells-refused : (status : Status) → LinkTells l (Some (Refused status)) texts asks
   tells-refused status = record { taken = t.taken; sent = t.sent; closed = t.closed; faults = t.faults; quiets = t.quiets }
 
-  tells-bad : Tells l (Some BadAnswer) texts asks
+  tells-bad : LinkTells l (Some BadAnswer) texts asks
   tells-bad = record { taken = t.taken; sent = t.sent; closed = t.closed; faults = t.faults; quiets = t.quiets }
 
-  tells-memory : Tells l (Some Memory) texts asks
+  tells-memory : LinkTells l (Some Memory) texts asks
   tells-memory = record { taken = t.taken; sent = t.sent; closed = t.closed; faults = t.faults; quiets = t.quiets }
 
-tells-fresh : (l : LinkLog) → IsFresh l → Tells l None [] []
+tells-fresh : (l : LinkLog) → IsFresh l → LinkTells l None [] []
 tells-fresh l f = record { taken = f.taken; sent = f.sent; closed = f.closed; faults = f.faults; quiets = rw f.quiets (omega arith) }
 
 -- one text was sent
-tells-sent : (l m : LinkLog) (texts asks : List (List ℕ)) (ask : List ℕ) (x : Unit {0}) → Tells l None texts asks → m ≡ after_give l ask (Ok x) → Tells m None texts (asks ++ ask ∷ [])
+tells-sent : (l m : LinkLog) (texts asks : List (List ℕ)) (ask : List ℕ) (x : Unit {0}) → LinkTells l None texts asks → m ≡ after_give l ask (Ok x) → LinkTells m None texts (asks ++ ask ∷ [])
 tells-sent l m texts asks ask x t e = rw e record { taken = t.taken; sent = told-more l.sent asks (ask ∷ []) t.sent; closed = t.closed; faults = t.faults; quiets = t.quiets }
 
 -- and one wasn't
-tells-unsent : (l m : LinkLog) (texts asks : List (List ℕ)) (ask : List ℕ) (fault : GiveFault) → Tells l None texts asks → m ≡ after_give l ask (Err fault) → Tells m (Some (give_ending fault)) texts asks
+tells-unsent : (l m : LinkLog) (texts asks : List (List ℕ)) (ask : List ℕ) (fault : GiveFault) → LinkTells l None texts asks → m ≡ after_give l ask (Err fault) → LinkTells m (Some (give_ending fault)) texts asks
 tells-unsent l m texts asks ask GiveFault.Failed t e = rw e record { taken = t.taken; sent = t.sent; closed = t.closed; faults = rw t.faults refl; quiets = t.quiets }
 tells-unsent l m texts asks ask GiveFault.Memory t e = rw e record { taken = t.taken; sent = t.sent; closed = t.closed; faults = t.faults; quiets = t.quiets }
 

@@ -1,38 +1,35 @@
 -- How a withdrawal over a link ends, its status and its last line.
-use Rattle.std.specs.Prelude.{◌⊎◌, ℕ, List, [], ◌∷◌, ◌++◌, codes, Bool, true, false, Option, None, Some, Result, Ok, Err}
-use Rattle.std.specs.Io.KnownBytes.{Appends}
-use Rattle.xfs_base.specs.Causes.{Rose, TookPrefix}
+use Rattle.std.specs.Prelude.{ℕ, List, [], ◌∷◌, ◌++◌, codes, Bool, true, false, Option, None, Some, Result, Ok, Err}
 use Rattle.xfs_client.specs.Withdrawals as step
 use Rattle.xfs_client.specs.Withdrawals.{Step}
 use Rattle.xfs_client.specs.declared.heard.HearFault.{HearFault}
 use Rattle.xfs_envelope.specs.Codes.{code_text, status_text}
-use Rattle.xfs_script.specs.Answered.{lines_text}
 use Rattle.xfs_server.specs.declared.doors.DialFault.{DialFault}
 use Rattle.xfs_server.specs.declared.link.GiveFault.{GiveFault}
 use Rattle.xfs_withdraw.specs.declared.ending.Ending.{Ending}
 use Rattle.xfs_withdraw.specs.declared.ending.Ending.TheVariants.{Done, Ended, Refused, BadAnswer, Closed, Quiet, Failed, Memory}
 use Rattle.xfs_withdraw.specs.declared.ending.TheConstants.{ENDED, NO_MEMORY, LINK_FAILED, STAYED_QUIET}
 
-abbrev pub status_of : Ending → ℕ
-status_of Done = ENDED
-status_of (Ended code) = ENDED
-status_of (Refused status) = ENDED
-status_of BadAnswer = ENDED
-status_of Closed = ENDED
-status_of Quiet = STAYED_QUIET
-status_of Failed = LINK_FAILED
-status_of Memory = NO_MEMORY
+abbrev pub withdrawal_status : Ending → ℕ
+withdrawal_status Done = ENDED
+withdrawal_status (Ended code) = ENDED
+withdrawal_status (Refused status) = ENDED
+withdrawal_status BadAnswer = ENDED
+withdrawal_status Closed = ENDED
+withdrawal_status Quiet = STAYED_QUIET
+withdrawal_status Failed = LINK_FAILED
+withdrawal_status Memory = NO_MEMORY
 
 -- the last line, where there is one
-abbrev pub last_line : Ending → List (List ℕ)
-last_line Done = codes "withdrawal done" ∷ []
-last_line (Ended code) = (codes "withdrawal ended: " ++ code_text code) ∷ []
-last_line (Refused status) = (codes "withdrawal refused: " ++ status_text status) ∷ []
-last_line BadAnswer = codes "withdrawal ended: bad answer" ∷ []
-last_line Closed = codes "withdrawal ended: closed" ∷ []
-last_line Quiet = codes "withdrawal ended: quiet" ∷ []
-last_line Failed = []
-last_line Memory = []
+abbrev pub withdrawal_line : Ending → List (List ℕ)
+withdrawal_line Done = codes "withdrawal done" ∷ []
+withdrawal_line (Ended code) = (codes "withdrawal ended: " ++ code_text code) ∷ []
+withdrawal_line (Refused status) = (codes "withdrawal refused: " ++ status_text status) ∷ []
+withdrawal_line BadAnswer = codes "withdrawal ended: bad answer" ∷ []
+withdrawal_line Closed = codes "withdrawal ended: closed" ∷ []
+withdrawal_line Quiet = codes "withdrawal ended: quiet" ∷ []
+withdrawal_line Failed = []
+withdrawal_line Memory = []
 
 -- the ending where no link is dialled
 abbrev pub dial_ending : DialFault → Ending
@@ -70,7 +67,3 @@ is_cut_off Closed = true
 is_cut_off Quiet = true
 is_cut_off Failed = true
 is_cut_off Memory = true
-
--- the sink took all of some last lines, or failed and took a prefix of them
-abbrev pub WritesLast : List (List ℕ) → ℕ → ℕ → Option (List ℕ) → Option (List ℕ) → Type 0
-WritesLast lines faults now before after = Appends before after (lines_text lines) ⊎ (Rose faults now × TookPrefix before after (lines_text lines))

@@ -48,7 +48,7 @@ pub data Ends (terms : Terms) : Ending → List (List ℕ) → List (List ℕ) �
       → (fault : GiveFault)
       → Ends terms (give_ending fault) texts asks
 
--- it was told that the link is closed
+-- whether the link told that it is closed
 abbrev pub was_closed : Option Ending → Bool
 was_closed None = false
 was_closed (Some Done) = false
@@ -85,7 +85,7 @@ IsQuietFor (Some Failed) quiets = quiets < MOST_QUIETS
 IsQuietFor (Some Memory) quiets = quiets < MOST_QUIETS
 
 -- what the link tells of a withdrawal that took these texts and sent these asks, and ended so or goes on
-pub record Tells (l : LinkLog) (ending : Option Ending) (texts asks : List (List ℕ)) : Type 0 where
+pub record LinkTells (l : LinkLog) (ending : Option Ending) (texts asks : List (List ℕ)) : Type 0 where
   pub taken : IfTold l.taken (λ list. list ≡ texts)
   pub sent : IfTold l.sent (λ list. list ≡ asks)
   pub closed : l.closed ≡ was_closed ending
@@ -97,7 +97,7 @@ pub record Withdraws (terms : Terms) (ending : Ending) (l : LinkLog) : Type 0 wh
   pub texts : List (List ℕ)
   pub asks : List (List ℕ)
   pub ends : Ends terms ending texts asks
-  pub tells : Tells l (Some ending) texts asks
+  pub tells : LinkTells l (Some ending) texts asks
 
 -- the withdrawal over the link goes on, and heard a quiet so often
 pub record GoesOn (w : Withdrawing) (quiets : ℕ) (l : LinkLog) : Type 0 where
@@ -105,14 +105,14 @@ pub record GoesOn (w : Withdrawing) (quiets : ℕ) (l : LinkLog) : Type 0 where
   pub asks : List (List ℕ)
   pub heard : HasHeard w texts
   pub has_asks : Asks w.terms texts asks
-  pub tells : Tells l None texts asks
+  pub tells : LinkTells l None texts asks
   pub count : l.quiets ≡ quiets
 
--- the same with one text that was taken and isn't heard yet
+-- the withdrawal over the link goes on, with one text that was taken and isn't heard yet
 pub record HasTaken (w : Withdrawing) (quiets : ℕ) (text : List ℕ) (l : LinkLog) : Type 0 where
   pub texts : List (List ℕ)
   pub asks : List (List ℕ)
   pub heard : HasHeard w texts
   pub has_asks : Asks w.terms texts asks
-  pub tells : Tells l None (texts ++ text ∷ []) asks
+  pub tells : LinkTells l None (texts ++ text ∷ []) asks
   pub count : l.quiets ≡ quiets

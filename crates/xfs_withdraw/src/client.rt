@@ -1,10 +1,9 @@
-ghost use Rattle.std.specs.Prelude.{◌≡◌, ◌≤◌, ◌↔◌, true, IfSome, option_map};
-ghost use Rattle.xfs_withdraw.specs.Doors.{HasDialled, HasFailed, is_closed, quiets_of};
-ghost use Rattle.xfs_withdraw.specs.Endings.{last_line, status_of, WritesLast};
-ghost use Rattle.xfs_withdraw.specs.Talks.{terms_of, Withdraws};
-ghost use Rattle.xfs_withdraw.specs.declared.ending.Ending.TheVariants as Ending;
-ghost use Rattle.xfs_withdraw.specs.declared.ending.TheConstants.{LINK_FAILED, STAYED_QUIET};
-ghost use Rattle.xfs_withdraw.specs.declared.talk.TheConstants.{MOST_QUIETS};
+ghost use Rattle.std.specs.Prelude.{◌≤◌, IfSome, option_map};
+ghost use Rattle.xfs_script.specs.LastLines.{WritesLast};
+ghost use Rattle.xfs_script.specs.Streams.{output};
+ghost use Rattle.xfs_withdraw.specs.Doors.{HasDialled, HasLinkCause};
+ghost use Rattle.xfs_withdraw.specs.Endings.{withdrawal_line};
+ghost use Rattle.xfs_withdraw.specs.Talks.{Withdraws, terms_of};
 
 use crate::Ending;
 use crate::last_line::finish;
@@ -45,13 +44,11 @@ pub fn withdraw<R: Wait, O: Doors, C: Clock, K: Sink>(
     ensures dialled { HasDialled result.link result.ending (O.log doors.old) (O.log doors.new) }
 
     // The last line is that of the ending: whole, or a prefix of it where the sink failed.
-    ensures line { WritesLast (last_line result.ending) (K.faults sink.old) (K.faults sink.new) (K.held sink.old) (K.held sink.new) }
+    ensures line { WritesLast (withdrawal_line result.ending) (output K.Sink sink.old sink.new) }
     ensures later { K.faults sink.old ≤ K.faults sink.new }
 
     // The causes of closed, quiet and failed.
-    ensures closed { (result.ending ≡ Ending.Closed) ↔ (is_closed (option_map O.Link.log result.link) ≡ true) }
-    ensures quiet { (status_of result.ending ≡ STAYED_QUIET) ↔ (quiets_of (option_map O.Link.log result.link) ≡ MOST_QUIETS) }
-    ensures failed { status_of result.ending ≡ LINK_FAILED → HasFailed (option_map O.Link.log result.link) (O.log doors.old) (O.log doors.new) }
+    ensures causes { HasLinkCause result.ending (option_map O.Link.log result.link) (O.log doors.old) (O.log doors.new) }
 {
     let withdrawn = over_a_link(rt, alloc, currency, amount, key, doors, clock);
     finish(sink, withdrawn.ending);

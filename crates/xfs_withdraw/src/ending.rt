@@ -1,5 +1,5 @@
 ghost use Rattle.std.specs.Prelude.{◌≡◌};
-ghost use Rattle.xfs_withdraw.specs.Endings.{status_of};
+ghost use Rattle.xfs_withdraw.specs.Endings.{withdrawal_status};
 
 use xfs_base::Memory;
 use xfs_client::HearFault;
@@ -39,7 +39,7 @@ pub enum Ending {
 impl Ending {
     /// The status of the program that ended so.
     pub fn status(self) -> u8
-        ensures { result ≡ status_of self }
+        ensures { result ≡ withdrawal_status self }
     {
         match self {
             Ending::Done

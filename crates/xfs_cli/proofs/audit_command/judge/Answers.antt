@@ -1,7 +1,7 @@
 use Rattle.std.proofs.Common.{arith, sym, ◌∙◌, inl, inr}
 use Rattle.xfs_script.proofs.Due.{told_map}
 use Rattle.xfs_cli.specs.AuditVerbs.{handed_of}
-use Rattle.xfs_cli.specs.Streams.{io_of}
+use Rattle.xfs_script.specs.Streams.{io_of}
 use Rattle.xfs_cli.proofs.AuditLaws.{audits-end, audits-other}
 use Rattle.xfs_cli.proofs.EndingLaws.{is-boot, is-end, is-no_line, is-quota, is-read, is-write, no-usage, status-ending}
 use Rattle.xfs_cli.proofs.audit_command.judge.Goals as goal
@@ -18,7 +18,7 @@ returns-clause-audits g c =
     let io = io_of g.S.Source g.K.Sink c.args.source.now c.answer_lines.new.source c.args.sink.now c.finish.new.sink in
     told_map (g.S.Source.left c.args.source.now) _ _ (λ text answers.
     audits-other c.args.key.now c.args.units.now c.finish.result io (handed_of c.new-auditor.result) (handed_of c.answer_lines.new.answerer) c.answer_lines.result (g.K.Sink.faults c.answer_lines.new.sink) (g.K.Sink.held c.answer_lines.new.sink) text
-    c.new-auditor.ensures c.in_default.not-AtEnd answers c.answer_lines.ensures.sink_later c.finish.ensures.status c.finish.ensures.written) c.answer_lines.ensures.answers
+    c.new-auditor.ensures c.in_default.not-AtEnd answers c.answer_lines.ensures.causes.sink_later c.finish.ensures.status c.finish.ensures.written) c.answer_lines.ensures.answers
 
 pub returns-clause-lines : goal.returns-clause-lines
 returns-clause-lines g c = λ zero. c.answer_lines.ensures.lines (is-end _ (sym c.finish.ensures.status ∙ zero))
@@ -43,7 +43,7 @@ returns-clause-statuses g c = rw c.finish.ensures.status (status-ending c.answer
 
 pub returns-clause-causes : goal.returns-clause-causes
 returns-clause-causes g c =
-    let ending = c.answer_lines.ensures in
+    let ending = c.answer_lines.ensures.causes in
     let status = c.finish.ensures.status in
     record {
       whole = λ zero. ending.whole (is-end _ (sym status ∙ zero));

@@ -4,10 +4,10 @@ use Rattle.xfs_cli.proofs.token_command.token.Goals as goal
 
 pub returns-clause-runs : goal.returns-clause-runs
 returns-clause-runs g c = λ words.
-    let s = c.serve-status.ensures in
-    let unbooted : (c.serve-status.result ≢ 6) × (c.serve-status.result ≢ 7) × (c.serve-status.result ≢ 12) = ((λ six. (s.unbooted (inl six)).after.ends), (λ seven. (s.unbooted (inr (inl seven))).after.ends), (λ twelve. (s.unbooted (inr (inr twelve))).after.ends)) in
+    let s = c.answer_input-status.ensures.ends in
+    let unbooted : (c.answer_input-status.result ≢ 6) × (c.answer_input-status.result ≢ 7) × (c.answer_input-status.result ≢ 12) = ((λ six. (s.unbooted (inl six)).after.ends), (λ seven. (s.unbooted (inr (inl seven))).after.ends), (λ twelve. (s.unbooted (inr (inr twelve))).after.ends)) in
     record {
-      serves = rw (s.keeps, c.new.ensures) at s.serves;
+      answers = rw (s.keeps, c.new.ensures) at s.answers;
       lines = s.lines;
       not_a_line = s.not_a_line;
       kept = record { mech = refl; disk = refl };

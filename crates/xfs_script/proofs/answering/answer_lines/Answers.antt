@@ -1,4 +1,4 @@
-use Rattle.std.proofs.Common.{◌+◌, take, arith, refl}
+use Rattle.std.proofs.Common.{rules, ◌+◌, take, arith, refl}
 use Rattle.xfs_script.specs.Lines.{without_return}
 use Rattle.xfs_script.specs.declared.line.Line.{Line}
 use Rattle.xfs_script.proofs.LineLaws.{Gives-trans, read-quota}
@@ -13,8 +13,15 @@ returns-in-Err-clause-answers g c =
     let found : Line = record { number = c.find_line.new.self.handed + 1; text = without_return (take c.in-Ok-Some.end c.find_line.new.self.pending) } in
     answered-stop g.A.Answerer.command c.in-Err.ending _ _ _ _ _ _ _ _ _ _ _ found c.loop.invariant.answered (rw c.in-Ok-Some.field-0-is at c.in-Ok-Some.ensures.reads) (rw (c.number.ensures, c.line.ensures) at c.in-Err.ensures.err)
 
-pub returns-in-Err-Quota-clause-quota : goal.returns-in-Err-Quota-clause-quota
-returns-in-Err-Quota-clause-quota g c = λ quota. read-quota _ _ _ _ _ c.loop.invariant.gives (rw c.in-Err-Quota.field-0-is at c.in-Err-Quota.ensures.reads)
+pub returns-in-Err-Quota-clause-causes : goal.returns-in-Err-Quota-clause-causes
+returns-in-Err-Quota-clause-causes g c = record {
+  whole = search rules;
+  fewer = search rules;
+  quota = λ quota. read-quota _ _ _ _ _ c.loop.invariant.gives (rw c.in-Err-Quota.field-0-is at c.in-Err-Quota.ensures.reads);
+  read = search rules;
+  write = search rules;
+  sink_later = search rules;
+}
 
 pub returns-in-Err-TooLong-clause-answers : goal.returns-in-Err-TooLong-clause-answers
 returns-in-Err-TooLong-clause-answers g c =

@@ -1,12 +1,12 @@
 use Rattle.std.proofs.Common.{ℕ}
 use Rattle.xfs_script.specs.Counts.{IsUnit}
 use Rattle.xfs_token.proofs.AmountReading.{IfNone_from}
-use Rattle.xfs_script.proofs.UnitParts.{unit_is, no_front, no_head, no_digits}
+use Rattle.xfs_script.proofs.UnitParts.{unit_is, no_prefix, no_head, no_digits}
 use Rattle.xfs_script.proofs.counts_field.read_unit.Goals as goal
 
 pub returns-in_err-field_of-clause-none : goal.returns-in_err-field_of-clause-none
 returns-in_err-field_of-clause-none c =
-    IfNone_from _ ((unit count : ℕ) → IsUnit c.args.part.now unit count → ⊥) (no_front c.args.part.now c.in_err-field_of.ensures.none)
+    IfNone_from _ ((unit count : ℕ) → IsUnit c.args.part.now unit count → ⊥) (no_prefix c.args.part.now c.in_err-field_of.ensures.none)
 
 pub returns-in_err-unit-clause-none : goal.returns-in_err-unit-clause-none
 returns-in_err-unit-clause-none c =

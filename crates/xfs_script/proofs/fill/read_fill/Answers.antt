@@ -1,13 +1,13 @@
 use Rattle.std.proofs.Common.{ℕ, arith, inl, inr}
 use Rattle.xfs_script.specs.Guard.{IsFill}
 use Rattle.xfs_token.proofs.AmountReading.{IfNone_from}
-use Rattle.xfs_script.proofs.Fills.{fill_is, no_fill_front, no_fill_head, no_fill_digits, no_fill_count}
+use Rattle.xfs_script.proofs.Fills.{fill_is, no_fill_prefix, no_fill_head, no_fill_digits, no_fill_count}
 use Rattle.xfs_script.proofs.fill.read_fill.Goals.{then-count-eq0-via-then-count-eq0, then-count-eq0-via-else-count-eq0+then-count-gt-MOST_FILLED}
 use Rattle.xfs_script.proofs.fill.read_fill.Goals as goal
 
 pub returns-in_err-field_of-clause-none : goal.returns-in_err-field_of-clause-none
 returns-in_err-field_of-clause-none c =
-    IfNone_from _ ((unit count : ℕ) → IsFill c.args.text.now unit count → ⊥) (no_fill_front c.args.text.now c.in_err-field_of.ensures.none)
+    IfNone_from _ ((unit count : ℕ) → IsFill c.args.text.now unit count → ⊥) (no_fill_prefix c.args.text.now c.in_err-field_of.ensures.none)
 
 pub returns-in_err-unit-clause-none : goal.returns-in_err-unit-clause-none
 returns-in_err-unit-clause-none c =

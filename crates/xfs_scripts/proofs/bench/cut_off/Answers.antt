@@ -1,4 +1,4 @@
-use Rattle.std.proofs.Common.{◌≡◌, refl, inl, inr, arith, List, ℕ, [], length}
+use Rattle.std.proofs.Common.{rules, ◌≡◌, refl, inl, inr, arith, List, ℕ, [], length}
 use Rattle.std.specs.declared.option.Option.{Option}
 use Rattle.xfs_base.specs.declared.money.NoteKind.{NoteKind}
 use Rattle.xfs_base.specs.declared.counts.Places.{Places}
@@ -17,9 +17,16 @@ use Rattle.xfs_scripts.proofs.bench.cut_off.Goals as goal
 upheld-starts : (key : List ℕ) (units : List NoteKind) (L L' : Option (List Motion)) (P P' : Places) (c : List ℕ) (J : List Rec) → Upholds key units [] L P c L' P' → StandsFor c J → IsRecorded key units J L'
 upheld-starts key units L L' P P' c J upheld stands = rw (stands_for_one c J upheld.records stands upheld.stands) upheld.recorded
 
-pub returns-clause-starts : goal.returns-clause-starts
-returns-clause-starts c = λ left may J stands.
+pub returns : goal.returns
+returns c =
     let start : StandsFor (bytes_of (fuse_inner c.fused_core-core.result.disk)) [] = rw c.fused_core-core.ensures.disk (inr (refl, rw c.empty.ensures.empty (omega arith), c.empty.ensures.none)) in
-    let image : MayBe (fuse_inner c.played-ended.result.disk) left = rw (at_rest-memory c.crash.result c.crash.ensures.settled left may) (rw c.inner-disk.ensures at c.crash.ensures.image) in
-    rw c.copied-units.ensures (rw c.resume.ensures.motions (rw c.in_ok-motions.ensures (rw c.motions.ensures
-    (upheld-starts _ _ _ _ _ _ left J (c.played-ended.ensures.upholds [] start left image) stands))))
+    record {
+      starts = record {
+        units = search rules;
+        recorded = λ left may J stands.
+            let image : MayBe (fuse_inner c.play-ended.result.disk) left = rw (at_rest-memory c.crash.result c.crash.ensures.settled left may) (rw c.inner-disk.ensures at c.crash.ensures.image) in
+            rw c.copied-units.ensures (rw c.resume.ensures.motions (rw c.in_ok-motions.ensures (rw c.motions.ensures
+            (upheld-starts _ _ _ _ _ _ left J (c.play-ended.ensures.upholds [] start left image) stands))));
+        at_rest = at_rest-memory c.crash.result c.crash.ensures.settled;
+      };
+    }

@@ -1,24 +1,26 @@
 use Rattle.std.proofs.Common.{inl, inr}
-use Rattle.xfs_withdraw.proofs.LastLaws.{last-none}
+use Rattle.std.proofs.lemmas.List.{append-nil}
+use Rattle.xfs_envelope.specs.Codes.{code_text, status_text}
+use Rattle.xfs_script.proofs.LastLaws.{last-none}
 use Rattle.xfs_withdraw.proofs.last_line.finish.Goals as goal
 
 pub returns-in-Done-clause-written : goal.returns-in-Done-clause-written
-returns-in-Done-clause-written g c = rw c.in-Done.is c.say.ensures.written
+returns-in-Done-clause-written g c = rw c.in-Done.is c.write_last_line.ensures.written
 
 pub returns-in-Ended-clause-written : goal.returns-in-Ended-clause-written
-returns-in-Ended-clause-written g c = rw c.in-Ended.is (rw (c.as_bytes.ensures.value, c.text.ensures) at c.say-in-Ended.ensures.written)
+returns-in-Ended-clause-written g c = rw c.in-Ended.is (rw (c.as_bytes.ensures.value, c.text.ensures, append-nil (code_text c.in-Ended.code)) at c.write_last_line-in-Ended.ensures.written)
 
 pub returns-in-Refused-clause-written : goal.returns-in-Refused-clause-written
-returns-in-Refused-clause-written g c = rw c.in-Refused.is (rw (c.as_bytes-in-Refused.ensures.value, c.text-in-Refused.ensures) at c.say-in-Refused.ensures.written)
+returns-in-Refused-clause-written g c = rw c.in-Refused.is (rw (c.as_bytes-in-Refused.ensures.value, c.text-in-Refused.ensures, append-nil (status_text c.in-Refused.status)) at c.write_last_line-in-Refused.ensures.written)
 
 pub returns-in-BadAnswer-clause-written : goal.returns-in-BadAnswer-clause-written
-returns-in-BadAnswer-clause-written g c = rw c.in-BadAnswer.is c.say-in-BadAnswer.ensures.written
+returns-in-BadAnswer-clause-written g c = rw c.in-BadAnswer.is c.write_last_line-in-BadAnswer.ensures.written
 
 pub returns-in-Closed-clause-written : goal.returns-in-Closed-clause-written
-returns-in-Closed-clause-written g c = rw c.in-Closed.is c.say-in-Closed.ensures.written
+returns-in-Closed-clause-written g c = rw c.in-Closed.is c.write_last_line-in-Closed.ensures.written
 
 pub returns-in-Quiet-clause-written : goal.returns-in-Quiet-clause-written
-returns-in-Quiet-clause-written g c = rw c.in-Quiet.is c.say-in-Quiet.ensures.written
+returns-in-Quiet-clause-written g c = rw c.in-Quiet.is c.write_last_line-in-Quiet.ensures.written
 
 pub returns-in-Failed-clause-written : goal.returns-in-Failed-clause-written
 returns-in-Failed-clause-written g c = elim c.in-Failed.is [

@@ -16,26 +16,26 @@ returns-in-Err-clause-answer g c =
     IfOk-weaker c.refusal_text.result _ _ (λ text told. inl (record { refusal = c.in-Err.refusal; refused = c.in-Err.ensures.allowed (λ e. told-kept c.in-Err.refusal text.items told cc); text = told })) c.refusal_text.ensures
 
 pub stack_all-requires-clause-few : goal.stack_all-requires-clause-few
-stack_all-requires-clause-few g c = rw c.allowed.ensures.proceeds.continues.units (few-allowed _ _ c.args.counts.now c.in-Ok.leave _ (c.in-Ok.ensures.allowed (λ e. cc)))
+stack_all-requires-clause-few g c = rw c.allow.ensures.proceeds.continues.units (few-allowed _ _ c.args.counts.now c.in-Ok.grant _ (c.in-Ok.ensures.allowed (λ e. cc)))
 
 pub returns-in-Ok-stack_all-clause-proceeds : goal.returns-in-Ok-stack_all-clause-proceeds
-returns-in-Ok-stack_all-clause-proceeds g c = Proceeds-trans g.D.Disk _ _ _ g.met.D.Disk.counts_now c.allowed.ensures.proceeds c.stack_all.ensures.proceeds
+returns-in-Ok-stack_all-clause-proceeds g c = Proceeds-trans g.D.Disk _ _ _ g.met.D.Disk.counts_now c.allow.ensures.proceeds c.stack_all.ensures.proceeds
 
 pub returns-in-Err-stack_all-clause-proceeds : goal.returns-in-Err-stack_all-clause-proceeds
-returns-in-Err-stack_all-clause-proceeds g c = Proceeds-trans g.D.Disk _ _ _ g.met.D.Disk.counts_now c.allowed.ensures.proceeds c.stack_all.ensures.proceeds
+returns-in-Err-stack_all-clause-proceeds g c = Proceeds-trans g.D.Disk _ _ _ g.met.D.Disk.counts_now c.allow.ensures.proceeds c.stack_all.ensures.proceeds
 
 pub returns-in-Err-clause-memory : goal.returns-in-Err-clause-memory
 returns-in-Err-clause-memory g c =
     let old = (guard_state g.D.Disk.faults c.args.self.now.guard c.args.self.now.last) in
-    let new = guard_state g.D.Disk.faults c.allowed.new.self.guard c.allowed.new.self.last in
+    let new = guard_state g.D.Disk.faults c.allow.new.self.guard c.allow.new.self.last in
     on-err c.refusal_text.result _ (inl (refused-or-nothing (Dispenses old (named c.args.self.now.last c.args.token.now) c.args.counts.now) old new c.in-Err.refusal
-    (λ other. seen-both g.D.Disk.faults c.args.self.now.guard c.allowed.new.self.guard c.args.self.now.last c.allowed.new.self.last (c.in-Err.ensures.same other) c.allowed.ensures.last)
+    (λ other. seen-both g.D.Disk.faults c.args.self.now.guard c.allow.new.self.guard c.args.self.now.last c.allow.new.self.last (c.in-Err.ensures.same other) c.allow.ensures.last)
     (λ line told. inl (record { refusal = c.in-Err.refusal; refused = c.in-Err.ensures.allowed (λ e. told-kept c.in-Err.refusal line told cc); text = told }))))
 
 pub returns-in-Ok-stack_all-clause-answer : goal.returns-in-Ok-stack_all-clause-answer
 returns-in-Ok-stack_all-clause-answer g c = IfOk-weaker c.outcome_text.result _ _ (λ text told. inr (record {
-  leave = c.in-Ok.leave;
-  bound = guard_state g.D.Disk.faults c.allowed.new.self.guard c.allowed.new.self.last;
+  grant = c.in-Ok.grant;
+  bound = guard_state g.D.Disk.faults c.allow.new.self.guard c.allow.new.self.last;
   allowed = c.in-Ok.ensures.allowed (λ e. cc);
   result = Ok c.in-Ok-stack_all.outcome;
   stacked = c.in-Ok-stack_all.ensures.stacked (λ e. cc);
@@ -47,8 +47,8 @@ pub returns-in-Ok-stack_all-clause-memory : goal.returns-in-Ok-stack_all-clause-
 returns-in-Ok-stack_all-clause-memory g c = on-err _ _ (inl (inr (
   outcome_text (codes "moved") c.in-Ok-stack_all.outcome,
   inr (record {
-    leave = c.in-Ok.leave;
-    bound = guard_state g.D.Disk.faults c.allowed.new.self.guard c.allowed.new.self.last;
+    grant = c.in-Ok.grant;
+    bound = guard_state g.D.Disk.faults c.allow.new.self.guard c.allow.new.self.last;
     allowed = c.in-Ok.ensures.allowed (λ e. cc);
     result = Ok c.in-Ok-stack_all.outcome;
     stacked = c.in-Ok-stack_all.ensures.stacked (λ e. cc);
@@ -60,8 +60,8 @@ returns-in-Ok-stack_all-clause-memory g c = on-err _ _ (inl (inr (
 pub returns-in-Err-stack_all-clause-answer : goal.returns-in-Err-stack_all-clause-answer
 returns-in-Err-stack_all-clause-answer g c =
     IfOk-weaker c.refusal_text-in-Err-stack_all.result _ _ (λ text told. inr (record {
-      leave = c.in-Ok.leave;
-      bound = guard_state g.D.Disk.faults c.allowed.new.self.guard c.allowed.new.self.last;
+      grant = c.in-Ok.grant;
+      bound = guard_state g.D.Disk.faults c.allow.new.self.guard c.allow.new.self.last;
       allowed = c.in-Ok.ensures.allowed (λ e. cc);
       result = Err c.in-Err-stack_all.deny;
       stacked = c.in-Err-stack_all.ensures.stacked (λ e. told-some (Denied c.in-Err-stack_all.deny) text.items told (ap (λ d. Denied d) (err-same e)));
@@ -71,5 +71,5 @@ returns-in-Err-stack_all-clause-answer g c =
 
 pub returns-in-Err-stack_all-clause-memory : goal.returns-in-Err-stack_all-clause-memory
 returns-in-Err-stack_all-clause-memory g c =
-    on-err _ _ (ordered-or-part (guard_state g.D.Disk.faults c.args.self.now.guard c.args.self.now.last) (guard_state g.D.Disk.faults c.allowed.new.self.guard c.allowed.new.self.last) (guard_state g.D.Disk.faults c.stack_all.new.guard c.allowed.new.self.last) (named c.args.self.now.last c.args.token.now) c.args.counts.now c.in-Ok.leave c.in-Err-stack_all.deny
+    on-err _ _ (ordered-or-part (guard_state g.D.Disk.faults c.args.self.now.guard c.args.self.now.last) (guard_state g.D.Disk.faults c.allow.new.self.guard c.allow.new.self.last) (guard_state g.D.Disk.faults c.stack_all.new.guard c.allow.new.self.last) (named c.args.self.now.last c.args.token.now) c.args.counts.now c.in-Ok.grant c.in-Err-stack_all.deny
     (c.in-Ok.ensures.allowed (λ e. cc)) refl c.in-Err-stack_all.ensures.memory c.in-Err-stack_all.ensures.stacked)

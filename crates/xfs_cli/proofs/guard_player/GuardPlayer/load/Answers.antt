@@ -11,15 +11,15 @@ use Rattle.xfs_cli.proofs.guard_player.GuardPlayer.load.Goals as goal
 pub returns-then-outcome-clause-answer : goal.returns-then-outcome-clause-answer
 returns-then-outcome-clause-answer g c =
     let e = c.in_ok-outcome.ensures in
-    IfOk-weaker c.joined.result _ _ (λ text told. record {
+    IfOk-weaker c.join_parts.result _ _ (λ text told. record {
       can = c.requires.fits;
       fit = c.requires.fit;
       outcome = c.in_ok-outcome.outcome;
       loaded = guard_state g.D.Disk.faults c.load.new.self c.args.self.now.last;
       reported = e.ok;
-      called = record { called = record { later = e.keeps.proceeds.mech_faults; cause = e.cause; disk_same = ap g.D.Disk.faults e.same }; last_is = refl };
+      called = record { called = record { later = e.uses.keeps.proceeds.mech_faults; cause = e.uses.cause; disk_same = ap g.D.Disk.faults e.uses.same }; last_is = refl };
       noted = inl (c.if-outcome.true, told, refl);
-    }) c.joined.ensures
+    }) c.join_parts.ensures
 
 pub returns-in-Ok-clause-answer : goal.returns-in-Ok-clause-answer
 returns-in-Ok-clause-answer g c =
@@ -27,18 +27,18 @@ returns-in-Ok-clause-answer g c =
     let w = c.in-Ok.ensures in
     let loaded = guard_state g.D.Disk.faults c.load.new.self c.args.self.now.last in
     let noted = guard_state g.D.Disk.faults c.note_load.new.self c.args.self.now.last in
-    IfOk-weaker c.joined-in-Ok.result _ _ (λ text told. record {
+    IfOk-weaker c.join_parts-in-Ok.result _ _ (λ text told. record {
       can = c.requires.fits;
       fit = c.requires.fit;
       outcome = c.in_ok-outcome.outcome;
       loaded = loaded;
       reported = e.ok;
-      called = record { called = record { later = e.keeps.proceeds.mech_faults; cause = e.cause; disk_same = ap g.D.Disk.faults e.same }; last_is = refl };
-      noted = inr (c.if-outcome.false, wrote-kept loaded noted _ _ _ _ text.items w.refused w.ok w.keeps.proceeds.disk_faults refl told);
-    }) c.joined-in-Ok.ensures
+      called = record { called = record { later = e.uses.keeps.proceeds.mech_faults; cause = e.uses.cause; disk_same = ap g.D.Disk.faults e.uses.same }; last_is = refl };
+      noted = inr (c.if-outcome.false, wrote-kept loaded noted _ _ _ _ text.items w.refused w.ok w.writes.keeps.proceeds.disk_faults refl told);
+    }) c.join_parts-in-Ok.ensures
 
 pub returns-in-Ok-clause-proceeds : goal.returns-in-Ok-clause-proceeds
-returns-in-Ok-clause-proceeds g c = Proceeds-trans g.D.Disk _ _ _ g.met.D.Disk.counts_now c.in_ok-outcome.ensures.keeps.proceeds c.note_load.ensures.keeps.proceeds
+returns-in-Ok-clause-proceeds g c = Proceeds-trans g.D.Disk _ _ _ g.met.D.Disk.counts_now c.in_ok-outcome.ensures.uses.keeps.proceeds c.note_load.ensures.writes.keeps.proceeds
 
 pub returns-in-Err-clause-answer : goal.returns-in-Err-clause-answer
 returns-in-Err-clause-answer g c =
@@ -50,23 +50,23 @@ returns-in-Err-clause-answer g c =
       outcome = c.in_ok-outcome.outcome;
       loaded = guard_state g.D.Disk.faults c.load.new.self c.args.self.now.last;
       reported = e.ok;
-      called = record { called = record { later = e.keeps.proceeds.mech_faults; cause = e.cause; disk_same = ap g.D.Disk.faults e.same }; last_is = refl };
-      noted = inr (c.if-outcome.false, wrote-err (Unit {0}) g.D.Disk.faults c.load.new.self c.note_load.new.self c.args.self.now.last _ _ _ _ text.items c.in-Err.deny w.refused w.disk w.keeps.proceeds.disk_faults w.cause w.same told);
+      called = record { called = record { later = e.uses.keeps.proceeds.mech_faults; cause = e.uses.cause; disk_same = ap g.D.Disk.faults e.uses.same }; last_is = refl };
+      noted = inr (c.if-outcome.false, wrote-err (Unit {0}) g.D.Disk.faults c.load.new.self c.note_load.new.self c.args.self.now.last _ _ _ _ text.items c.in-Err.deny w.refused w.writes.disk w.writes.keeps.proceeds.disk_faults w.writes.cause w.writes.same told);
     }) c.refusal_text.ensures
 
 pub returns-in-Err-clause-proceeds : goal.returns-in-Err-clause-proceeds
-returns-in-Err-clause-proceeds g c = Proceeds-trans g.D.Disk _ _ _ g.met.D.Disk.counts_now c.in_ok-outcome.ensures.keeps.proceeds c.note_load.ensures.keeps.proceeds
+returns-in-Err-clause-proceeds g c = Proceeds-trans g.D.Disk _ _ _ g.met.D.Disk.counts_now c.in_ok-outcome.ensures.uses.keeps.proceeds c.note_load.ensures.writes.keeps.proceeds
 
 pub returns-in-Err-clause-none : goal.returns-in-Err-clause-none
 returns-in-Err-clause-none g c =
     let w = c.in-Err.ensures in
     let kept = ap (λ (v : View). v.open_order) c.in_ok-outcome.ensures.ok.same in
-    none-err (Unit {0}) c.load.new.self c.note_load.new.self _ c.in-Err.deny w.disk w.same (kept ∙ c.requires.none)
+    none-err (Unit {0}) c.load.new.self c.note_load.new.self _ c.in-Err.deny w.writes.disk w.writes.same (kept ∙ c.requires.none)
 
 pub returns-then-outcome-clause-memory : goal.returns-then-outcome-clause-memory
 returns-then-outcome-clause-memory g c =
     let e = c.in_ok-outcome.ensures in
-    on-err c.joined.result _ (inl (inr (
+    on-err c.join_parts.result _ (inl (inr (
       codes "fault",
       record {
         can = c.requires.fits;
@@ -74,7 +74,7 @@ returns-then-outcome-clause-memory g c =
         outcome = c.in_ok-outcome.outcome;
         loaded = guard_state g.D.Disk.faults c.load.new.self c.args.self.now.last;
         reported = e.ok;
-        called = record { called = record { later = e.keeps.proceeds.mech_faults; cause = e.cause; disk_same = ap g.D.Disk.faults e.same }; last_is = refl };
+        called = record { called = record { later = e.uses.keeps.proceeds.mech_faults; cause = e.uses.cause; disk_same = ap g.D.Disk.faults e.uses.same }; last_is = refl };
         noted = inl (c.if-outcome.true, refl, refl);
       },
     )))
@@ -85,7 +85,7 @@ returns-in-Ok-clause-memory g c =
     let w = c.in-Ok.ensures in
     let loaded = guard_state g.D.Disk.faults c.load.new.self c.args.self.now.last in
     let noted = guard_state g.D.Disk.faults c.note_load.new.self c.args.self.now.last in
-    on-err c.joined-in-Ok.result _ (inl (inr (
+    on-err c.join_parts-in-Ok.result _ (inl (inr (
       codes "filled",
       record {
         can = c.requires.fits;
@@ -93,8 +93,8 @@ returns-in-Ok-clause-memory g c =
         outcome = c.in_ok-outcome.outcome;
         loaded = loaded;
         reported = e.ok;
-        called = record { called = record { later = e.keeps.proceeds.mech_faults; cause = e.cause; disk_same = ap g.D.Disk.faults e.same }; last_is = refl };
-        noted = inr (c.if-outcome.false, wrote-kept loaded noted _ _ _ _ (codes "filled") w.refused w.ok w.keeps.proceeds.disk_faults refl refl);
+        called = record { called = record { later = e.uses.keeps.proceeds.mech_faults; cause = e.uses.cause; disk_same = ap g.D.Disk.faults e.uses.same }; last_is = refl };
+        noted = inr (c.if-outcome.false, wrote-kept loaded noted _ _ _ _ (codes "filled") w.refused w.ok w.writes.keeps.proceeds.disk_faults refl refl);
       },
     )))
 
@@ -104,7 +104,7 @@ returns-in-Err-clause-memory g c =
     let w = c.in-Err.ensures in
     on-err c.refusal_text.result _ (elim (denied-text c.in-Err.deny) [
       | inl is ↦ inr (part-filled g.D.Disk.faults c.args.self.now.guard c.load.new.self c.note_load.new.self c.args.self.now.last _ _ c.in_ok-outcome.outcome c.requires.fits c.requires.fit e.ok
-          (record { called = record { later = e.keeps.proceeds.mech_faults; cause = e.cause; disk_same = ap g.D.Disk.faults e.same }; last_is = refl }) c.if-outcome.false (w.same (not-disk c.in-Err.deny is)))
+          (record { called = record { later = e.uses.keeps.proceeds.mech_faults; cause = e.uses.cause; disk_same = ap g.D.Disk.faults e.uses.same }; last_is = refl }) c.if-outcome.false (w.writes.same (not-disk c.in-Err.deny is)))
       | inr text ↦ inl (inr (
         text.0,
         record {
@@ -113,8 +113,8 @@ returns-in-Err-clause-memory g c =
           outcome = c.in_ok-outcome.outcome;
           loaded = guard_state g.D.Disk.faults c.load.new.self c.args.self.now.last;
           reported = e.ok;
-          called = record { called = record { later = e.keeps.proceeds.mech_faults; cause = e.cause; disk_same = ap g.D.Disk.faults e.same }; last_is = refl };
-          noted = inr (c.if-outcome.false, wrote-err (Unit {0}) g.D.Disk.faults c.load.new.self c.note_load.new.self c.args.self.now.last _ _ _ _ text.0 c.in-Err.deny w.refused w.disk w.keeps.proceeds.disk_faults w.cause w.same text.1);
+          called = record { called = record { later = e.uses.keeps.proceeds.mech_faults; cause = e.uses.cause; disk_same = ap g.D.Disk.faults e.uses.same }; last_is = refl };
+          noted = inr (c.if-outcome.false, wrote-err (Unit {0}) g.D.Disk.faults c.load.new.self c.note_load.new.self c.args.self.now.last _ _ _ _ text.0 c.in-Err.deny w.refused w.writes.disk w.writes.keeps.proceeds.disk_faults w.writes.cause w.writes.same text.1);
         },
       ))
     ])

@@ -10,11 +10,11 @@ returns-in_err-reboot-clause-unbooted g c =
     let e = c.in_err-reboot.ensures in
     let old = seen g.D.Disk c.args.self.now.guard in
     let new = seen g.D.Disk c.reboot.new.self in
-    let refused = refuses_as (g.D.Disk.held c.args.self.now.guard.disk ≡ None) (Err c.in_err-reboot.field-0.0) old new e.memory e.full e.disk e.not_journal e.untold e.cause e.keeps.proceeds.disk_faults in
+    let refused = refuses_as (g.D.Disk.held c.args.self.now.guard.disk ≡ None) (Err c.in_err-reboot.field-0.0) old new e.refuses.memory e.refuses.full e.refuses.disk e.refuses.not_journal e.refuses.untold e.refuses.cause e.keeps.proceeds.disk_faults in
     restart_refused c.from_residual.result c.in_err-reboot.field-0.0 old new c.args.self.now.last c.from_residual.ensures.1 refused
 
-pub returns-in_err-joined-clause-memory : goal.returns-in_err-joined-clause-memory
-returns-in_err-joined-clause-memory g c = λ is.
+pub returns-in_err-join_parts-clause-memory : goal.returns-in_err-join_parts-clause-memory
+returns-in_err-join_parts-clause-memory g c = λ is.
     let e = c.in_ok-reboot.ensures in
     let old = seen g.D.Disk c.args.self.now.guard in
     let new = seen g.D.Disk c.reboot.new.self in
@@ -27,4 +27,4 @@ returns-clause-answer g c =
     let old = seen g.D.Disk c.args.self.now.guard in
     let new = seen g.D.Disk c.reboot.new.self in
     let done = reboots (g.D.Disk.held c.args.self.now.guard.disk) (Ok tt) old new e.ok e.fits e.keeps.proceeds.disk_faults in
-    restart_answered old new c.args.self.now.last c.in_ok-joined.field-0.items done c.in_ok-joined.ensures
+    restart_answered old new c.args.self.now.last c.in_ok-join_parts.field-0.items done c.in_ok-join_parts.ensures

@@ -9,5 +9,5 @@ returns-in-Ok-clause-memory g c =
     let e = c.in-Ok.ensures in
     on-err _ _ (inr (
       outcome_text (codes "taken") c.in-Ok.outcome,
-      record { outcome = c.in-Ok.outcome; lie = e.lie; reported = e.ok; called = record { called = record { later = e.keeps.proceeds.mech_faults; cause = e.cause; disk_same = ap g.D.Disk.faults e.same }; last_is = refl }; text = refl },
+      record { outcome = c.in-Ok.outcome; lie = e.lie; reported = e.ok; called = record { called = record { later = e.uses.keeps.proceeds.mech_faults; cause = e.uses.cause; disk_same = ap g.D.Disk.faults e.uses.same }; last_is = refl }; text = refl },
     ))

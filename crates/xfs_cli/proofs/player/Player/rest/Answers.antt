@@ -7,11 +7,11 @@ use Rattle.xfs_cli.proofs.player.Player.rest.Goals as goal
 
 pub returns-clause-answer : goal.returns-clause-answer
 returns-clause-answer g c =
-    IfOk-weaker c.rested.result _ _ (λ text told. record {
+    IfOk-weaker c.rest_line.result _ _ (λ text told. record {
       output = (codes "rested " ++ decimal c.in_ok-count.count) ∷ [];
       answer = record { count = c.in_ok-count.count; machine = c.rest.new.machine.state; rests = c.in_ok-count.ensures.rests; text = refl; is = refl };
       text = told;
-    }) c.rested.ensures
+    }) c.rest_line.ensures
 
 pub returns-clause-memory : goal.returns-clause-memory
 returns-clause-memory g c = on-err _ _ (rests-part _ _ _ _ _ c.in_ok-count.ensures.rests)

@@ -1,0 +1,65 @@
+//! What a client hears of a lawful conversation: the calls of a desk and of a withdrawal, as they go on with what
+//! was asked and heard.
+
+ghost use Rattle.std.specs.Prelude.{◌≡◌, ◌≢◌, ◌↔◌, ◌≤◌, ◌+◌, ◌++◌, ◌∷◌, [], false, IsTrue, IsSome, IfOk, IfErr, OnErr, Ok, Err, OnOk};
+ghost use Rattle.serde_json.specs.Data.{depth};
+ghost use Rattle.serde_json.specs.Find.{as_object};
+ghost use Rattle.serde_json.specs.View.{view};
+ghost use Rattle.serde_json.specs.Written.{has_float};
+ghost use Rattle.xfs_envelope.specs.Names.{is_name};
+ghost use Rattle.xfs_client.specs.Commands.{IsCommand};
+ghost use Rattle.xfs_client.specs.Desks.{GrowsBy, OfKept};
+ghost use Rattle.xfs_client.specs.History.{told, told_in};
+ghost use Rattle.xfs_client.specs.Hearings.{AsksOn, ComesNext, Hearing, OfHearing};
+ghost use Rattle.xfs_client.specs.Withdrawals.{HasHeard, IsMove, OfHeard, conversation, step_in};
+ghost use Rattle.xfs_client.specs.Withdraws.{ComesTo, LacksNonce, WithdrawsOn};
+ghost use Rattle.xfs_client.specs.History as history;
+ghost use Rattle.xfs_client.specs.declared.desk.AskFault.TheVariants as AskFault;
+ghost use Rattle.xfs_client.specs.declared.heard.HearFault.TheVariants as HearFault;
+
+use crate::{AskFault, Desk, HearFault, Heard, Move, Withdrawal};
+use xfs_json::Value;
+
+/// Asks a command whose payload is an object. It is the desk's next ask, also for a service that
+/// finds its text too long.
+pub fn ask(desk: &mut Desk, name: &str, payload: &Value) -> Result<Vec<u8>, AskFault>
+    requires name { IsTrue (is_name name.now) }
+    requires object { IsSome (as_object (view payload.now)) }
+    requires no_float { has_float (view payload.now) ≡ false }
+    requires depth { depth (view payload.now) ≤ 120 }
+    ensures written { IfOk result (λ t. IsCommand name.now (desk.old.asked + 1) (view payload.now) t.items) }
+    ensures ids { (result ≡ Err AskFault.Ids) ↔ (desk.old.asked ≡ 2147483647) }
+    ensures goes_on { IfOk result (λ t. AsksOn t.items desk.old desk.new) }
+    ensures same { OnErr result (desk.new ≡ desk.old) }
+{
+    desk.ask(name, payload)
+}
+
+/// Hears a frame. Where it is the next frame of a lawful conversation whose texts are the first of
+/// those that the desk asked, only want of memory keeps it from being heard.
+pub fn hear(desk: &mut Desk, frame: &[u8]) -> Result<Heard, HearFault>
+    ensures ok { IfOk result (λ a. OfKept desk.old (λ h. told_in h frame.now ≡ Ok (told a))) }
+    ensures refused { IfErr result (λ e. e ≢ HearFault.Memory → OfKept desk.old (λ h. told_in h frame.now ≡ Err e)) }
+    ensures known { IfErr result (λ e. OfKept desk.old (λ h. ComesNext h frame.now → e ≡ HearFault.Memory)) }
+    ensures keeps { IfOk result (λ a. GrowsBy (history.heard (told a)) desk.old desk.new) }
+    ensures hearing { IfOk result (λ a. OfHearing desk.old (λ h texts past. Hearing (h ++ history.heard (told a) ∷ []) texts (past ++ frame.now ∷ []))) }
+    ensures same { OnErr result (desk.new ≡ desk.old) }
+{
+    desk.hear(frame)
+}
+
+/// Hears a frame, and says what follows. Of the next frame of a lawful conversation, whose texts are
+/// the first of those that the withdrawal asked, it is refused only for want of memory and for a success of
+/// GetCommandNonce that gives no nonce.
+pub fn next(withdrawal: &mut Withdrawal, frame: &[u8]) -> Result<Move, HearFault>
+    ensures moved { IfOk result (λ m. OfHeard withdrawal.old (λ before. IsMove withdrawal.old.terms (step_in (conversation before) frame.now) m)) }
+    ensures refused { IfErr result (λ e. e ≢ HearFault.Memory → OfHeard withdrawal.old (λ before. step_in (conversation before) frame.now ≡ Err e)) }
+    ensures known { IfErr result (λ e. e ≢ HearFault.Memory → OfHeard withdrawal.old (λ before. ComesTo withdrawal.old.terms before frame.now
+        → LacksNonce (conversation before) frame.now)) }
+    ensures heard { OnOk result (OfHeard withdrawal.old (λ before. HasHeard withdrawal.new (before ++ frame.now ∷ []))) }
+    ensures withdraws { IfOk result (λ m. OfHeard withdrawal.old (λ before. WithdrawsOn withdrawal.old.terms withdrawal.new.terms m before frame.now)) }
+    ensures terms { withdrawal.new.terms ≡ withdrawal.old.terms }
+    ensures same { OnErr result (withdrawal.new ≡ withdrawal.old) }
+{
+    withdrawal.next(frame)
+}

@@ -1,6 +1,0 @@
-mod Agreement
-mod Asks
-mod Booleans
-mod Hearings
-mod Lasts
-mod Withdrawals
