@@ -16,7 +16,7 @@ use Rattle.xfs_conversation.specs.Answers.{is_invalid_message}
 use Rattle.xfs_conversation.specs.Parts.{EachFrame}
 use Rattle.xfs_conversation.specs.Pending.{Pending, pending_of}
 use Rattle.xfs_audit.specs.Conversing.{Acknowledges, misread, refused, accepted, Says, completed, told, announced, Converses, ended, posted, heard, IsWithout}
-use Rattle.xfs_audit.specs.Fitting.{status_in, ended_in, told_in, statuses, completions, asked, accepted_by, is_among, unended, Ends, Tells, Fits}
+use Rattle.xfs_audit.specs.Fitting.{status_in, ended_in, event_id_in, statuses, completions, asked, accepted_by, is_among, unended, Ends, HasOpenId, Fits}
 use Rattle.xfs_audit.proofs.Counting.{split-contains, contains-split}
 use Rattle.xfs_audit.proofs.Unended.{unended-push, unended-without, unended-found, among-other}
 
@@ -49,7 +49,7 @@ record FitsFrom (acc : List Pending) (done : List ℕ) (ids : List ℕ) (texts f
   each : length choice ≡ length (completions frames)
   acknowledges : map is_invalid_message (statuses frames) ≡ texts_are texts
   ends : EachFrame frames (λ before frame. IfSome (ended_in (reply_in frame)) (EndsAt (all_by acc texts before) (ended_by done choice before) (pick_at choice before)))
-  tells : EachFrame frames (λ before frame. IfSome (told_in (reply_in frame)) (TellsAt (all_by acc texts before) (ended_by done choice before)))
+  tells : EachFrame frames (λ before frame. IfSome (event_id_in (reply_in frame)) (TellsAt (all_by acc texts before) (ended_by done choice before)))
   left : ids_of (unended 0 (done ++ choice) (all_by acc texts frames)) ≡ ids
   answers : EachFrame frames (λ before frame. IsSome (reply_in frame))
 
@@ -150,7 +150,7 @@ each-cons P frame frames first all (b ∷ before) later f is =
 -- and with it
 head-of : {acc next : List Pending} {done gone ids : List ℕ} {texts later frames : List (List ℕ)} (frame : List ℕ) (f : FitsFrom next gone ids later frames) (choice : List ℕ) → Moves frame acc next done gone texts later choice f.choice
     → length choice ≡ length (completions (frame ∷ frames)) → map is_invalid_message (statuses (frame ∷ frames)) ≡ texts_are texts
-    → IfSome (ended_in (reply_in frame)) (EndsAt (all_by acc texts []) (ended_by done choice []) (pick_at choice [])) → IfSome (told_in (reply_in frame)) (TellsAt (all_by acc texts []) (ended_by done choice [])) → IsSome (reply_in frame)
+    → IfSome (ended_in (reply_in frame)) (EndsAt (all_by acc texts []) (ended_by done choice []) (pick_at choice [])) → IfSome (event_id_in (reply_in frame)) (TellsAt (all_by acc texts []) (ended_by done choice [])) → IsSome (reply_in frame)
     → FitsFrom acc done ids texts (frame ∷ frames)
 head-of {acc = acc} {next = next} {done = done} {gone = gone} {ids = ids} {texts = texts} {later = later} {frames = frames} frame f choice moves each acknowledges ends tells some = record {
   choice = choice;
@@ -158,7 +158,7 @@ head-of {acc = acc} {next = next} {done = done} {gone = gone} {ids = ids} {texts
   acknowledges = acknowledges;
   ends = each-cons (λ before g. IfSome (ended_in (reply_in g)) (EndsAt (all_by acc texts before) (ended_by done choice before) (pick_at choice before))) frame frames ends
       (λ before after g is. move-ends _ (sym (moves.all before)) (sym (moves.ended before)) (sym (moves.pick before)) (f.ends before after g is));
-  tells = each-cons (λ before g. IfSome (told_in (reply_in g)) (TellsAt (all_by acc texts before) (ended_by done choice before))) frame frames tells
+  tells = each-cons (λ before g. IfSome (event_id_in (reply_in g)) (TellsAt (all_by acc texts before) (ended_by done choice before))) frame frames tells
       (λ before after g is. move-tells _ (sym (moves.all before)) (sym (moves.ended before)) (f.tells before after g is));
   left = subst (λ ps. ids_of (unended 0 (done ++ choice) ps) ≡ ids) (sym (moves.all frames)) (subst (λ l. ids_of (unended 0 l (all_by next later frames)) ≡ ids) (sym moves.whole) f.left);
   answers = each-cons (λ before g. IsSome (reply_in g)) frame frames some f.answers;
@@ -268,7 +268,7 @@ converses-where-it-fits ids texts frames f = speaks frames [] [] ids texts (λ m
   each = f.each;
   acknowledges = f.acknowledges;
   ends = λ before later frame is. ends_at (ended_in (reply_in frame)) before (f.ends before later frame is);
-  tells = λ before later frame is. tells_at (told_in (reply_in frame)) before (f.tells before later frame is);
+  tells = λ before later frame is. tells_at (event_id_in (reply_in frame)) before (f.tells before later frame is);
   left = f.left;
   answers = f.answers;
 }
@@ -277,7 +277,7 @@ converses-where-it-fits ids texts frames f = speaks frames [] [] ids texts (λ m
     ends_at None before h = h
     ends_at (Some p) before h = (h.number, h.chosen, h.is_open.accepted, h.is_open.not_ended)
 
-    tells_at : (o : Option ℕ) (before : List (List ℕ)) → IfSome o (Tells f.choice texts before) → IfSome o (TellsAt (all_by [] texts before) (ended_by [] f.choice before))
+    tells_at : (o : Option ℕ) (before : List (List ℕ)) → IfSome o (HasOpenId f.choice texts before) → IfSome o (TellsAt (all_by [] texts before) (ended_by [] f.choice before))
     tells_at None before h = h
     tells_at (Some id) before h = (h.number, h.command, h.is_open.accepted, h.is_open.not_ended, h.its)
 
@@ -330,7 +330,7 @@ found-open acc done p before later e =
     (r.number, r.there, subst (λ n. is_among done n ≡ false) zero_more r.not_ended, subst (λ n. unended 0 (done ++ n ∷ []) acc ≡ before ++ later) zero_more r.rest_is)
 
 quiet-head : {acc : List Pending} {done ids : List ℕ} {texts frames : List (List ℕ)} (frame : List ℕ) (f : FitsFrom acc done ids texts frames) → status_in (reply_in frame) ≡ None → ended_in (reply_in frame) ≡ None
-    → IfSome (told_in (reply_in frame)) (TellsAt (all_by acc texts []) (ended_by done f.choice [])) → IsSome (reply_in frame) → FitsFrom acc done ids texts (frame ∷ frames)
+    → IfSome (event_id_in (reply_in frame)) (TellsAt (all_by acc texts []) (ended_by done f.choice [])) → IsSome (reply_in frame) → FitsFrom acc done ids texts (frame ∷ frames)
 quiet-head {acc = acc} {done = done} {texts = texts} {frames = frames} frame f s e tells some =
     head-of frame f f.choice (quiet-moves frame acc done texts f.choice s e) (f.each ∙ ap (λ (cs : List Pending). length cs) (sym (completions-none frame frames e)))
     (ap (map is_invalid_message) (statuses-none frame frames s) ∙ f.acknowledges) (rw e tt) tells some
@@ -370,7 +370,7 @@ fits-where-it-converses ids texts frames talk =
       each = f.each;
       acknowledges = f.acknowledges;
       ends = λ before later frame is. ends_at f.choice (ended_in (reply_in frame)) before (f.ends before later frame is);
-      tells = λ before later frame is. tells_at f.choice (told_in (reply_in frame)) before (f.tells before later frame is);
+      tells = λ before later frame is. tells_at f.choice (event_id_in (reply_in frame)) before (f.tells before later frame is);
       left = f.left;
       answers = f.answers;
     }
@@ -379,6 +379,6 @@ fits-where-it-converses ids texts frames talk =
     ends_at choice None before h = h
     ends_at choice (Some p) before h = record { number = h.0; chosen = h.1; is_open = record { accepted = h.2; not_ended = h.3 } }
 
-    tells_at : (choice : List ℕ) (o : Option ℕ) (before : List (List ℕ)) → IfSome o (TellsAt (all_by [] texts before) (ended_by [] choice before)) → IfSome o (Tells choice texts before)
+    tells_at : (choice : List ℕ) (o : Option ℕ) (before : List (List ℕ)) → IfSome o (TellsAt (all_by [] texts before) (ended_by [] choice before)) → IfSome o (HasOpenId choice texts before)
     tells_at choice None before h = h
     tells_at choice (Some id) before h = record { number = h.0; command = h.1; is_open = record { accepted = h.2; not_ended = h.3 }; its = h.4 }

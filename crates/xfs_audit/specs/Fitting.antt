@@ -20,9 +20,9 @@ ended_in (Some (completion id name code payload)) = Some record { id = id; name 
 ended_in other = None
 
 -- the id of an event
-abbrev pub told_in : Option Reply → Option ℕ
-told_in (Some (event id name payload)) = Some id
-told_in other = None
+abbrev pub event_id_in : Option Reply → Option ℕ
+event_id_in (Some (event id name payload)) = Some id
+event_id_in other = None
 
 abbrev pub statuses : List (List ℕ) → List (Option Status)
 statuses frames = filter_map (λ frame. status_in (reply_in frame)) frames
@@ -61,7 +61,7 @@ pub record Ends (choice : List ℕ) (texts before : List (List ℕ)) (p : Pendin
   pub is_open : IsOpen choice texts before number p
 
 -- an event has the id of a command that is open before it
-pub record Tells (choice : List ℕ) (texts before : List (List ℕ)) (id : ℕ) : Type 0 where
+pub record HasOpenId (choice : List ℕ) (texts before : List (List ℕ)) (id : ℕ) : Type 0 where
   pub number : ℕ
   pub command : Pending
   pub is_open : IsOpen choice texts before number command
@@ -74,7 +74,7 @@ pub record Fits (ids : List ℕ) (texts frames : List (List ℕ)) : Type 0 where
   -- the acknowledges are as many as the texts, and each says invalidMessage exactly where its text is no command
   pub acknowledges : map is_invalid_message (statuses frames) ≡ map (λ text. is_err (command_in text)) texts
   pub ends : EachFrame frames (λ before frame. IfSome (ended_in (reply_in frame)) (Ends choice texts before))
-  pub tells : EachFrame frames (λ before frame. IfSome (told_in (reply_in frame)) (Tells choice texts before))
+  pub tells : EachFrame frames (λ before frame. IfSome (event_id_in (reply_in frame)) (HasOpenId choice texts before))
   -- the accepted commands that no completion ends have these ids, in their order
   pub left : map (λ (p : Pending). p.id) (unended 0 choice (accepted_by (statuses frames) texts)) ≡ ids
   -- each frame is an answer: what is no acknowledge, completion or event is unsolicited

@@ -4,7 +4,7 @@ use Rattle.xfs_journal.specs.declared.record.Rec.{Rec}
 use Rattle.xfs_journal.specs.Journal.{reading}
 use Rattle.xfs_audit.specs.declared.reader.Reader.{Reader}
 
--- so many of the records were read, and this issue lives behind them
+-- the reader has read as many records as it counts, and the issue that lives behind them
 pub record IsRead (records : List Rec) (r : Reader) : Type 0 where
   pub within : r.count ≤ length records
   pub read : reading (take r.count records) ≡ record { count = r.count; live = r.live }

@@ -29,7 +29,7 @@ pub data Stay : List Pending → List Pending → Type 0 where
   stays : (p : Pending) {some all : List Pending} → Stay some all → Stay (p ∷ some) (p ∷ all)
   goes : (p : Pending) {some all : List Pending} → Stay some all → Stay some (p ∷ all)
 
--- of the pending commands so many stay, by the first of these ids, and the others are those that are due, in any order
+-- `count` of the pending commands stay, by the first of these ids, and the others are those that are due, in any order
 pub record Splits (ids : List ℕ) (count : ℕ) (due pending : List Pending) : Type 0 where
   pub bound : count ≤ length ids
   pub staying : List Pending

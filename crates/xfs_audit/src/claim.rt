@@ -64,7 +64,7 @@ impl Claim {
         for i in 0..kinds.len() {
             let currency = kinds[i].currency;
             let worth = self.shown[i] + moved.value(units, currency);
-            if worth > u128::from(self.allowed(currency)) {
+            if worth > u128::from(self.amount_allowed(currency)) {
                 return false;
             }
             self.shown[i] = worth;
@@ -73,7 +73,7 @@ impl Claim {
     }
 
     // What the token allows in a currency.
-    fn allowed(&self, currency: Currency) -> u64
+    fn amount_allowed(&self, currency: Currency) -> u64
         ensures { result ≡ allowed self.now.amounts currency }
     {
         match &self.amounts {

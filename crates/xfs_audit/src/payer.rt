@@ -57,7 +57,7 @@ impl Payer {
         ensures paid { IfOk result (λ paid. OnTrue paid (Reads key.now units.now records.now entry.now self.old self.new)) }
         ensures unpaid { IfOk result (λ paid. OnFalse paid (Breaks key.now units.now records.now entry.now self.old)) }
     {
-        match presented(entry) {
+        match order_put_out(entry) {
             Some((number, moved)) => self.pay(alloc, key, units, records, number as usize, &moved),
             None => Ok(true),
         }
@@ -152,7 +152,7 @@ impl Payer {
 }
 
 // The order's number and the notes, where an entry put notes out.
-fn presented(entry: &Motion) -> Option<(u64, Counts)>
+fn order_put_out(entry: &Motion) -> Option<(u64, Counts)>
     ensures { IsPutOut entry.now result }
 {
     match entry {

@@ -24,20 +24,20 @@ pub data Effect : Type 0 where
   done : Code → Data → Effect
   removed : Effect
 
-abbrev pub seen : CardEffect → Effect
-seen effect.Nothing = nothing
-seen effect.AskInsert = ask_insert
-seen (effect.Inserted payload) = inserted (view payload)
-seen (effect.Done code payload) = done code (view payload)
-seen effect.Removed = removed
+abbrev pub effect_of : CardEffect → Effect
+effect_of effect.Nothing = nothing
+effect_of effect.AskInsert = ask_insert
+effect_of (effect.Inserted payload) = inserted (view payload)
+effect_of (effect.Done code payload) = done code (view payload)
+effect_of effect.Removed = removed
 
 -- the payload that an effect tells
-abbrev pub payload_in : Effect → Option Data
-payload_in nothing = None
-payload_in ask_insert = None
-payload_in (inserted payload) = Some payload
-payload_in (done code payload) = Some payload
-payload_in removed = None
+abbrev pub payload_of : Effect → Option Data
+payload_of nothing = None
+payload_of ask_insert = None
+payload_of (inserted payload) = Some payload
+payload_of (done code payload) = Some payload
+payload_of removed = None
 
 -- the effect of an event, and where the card is next
 pub record Row : Type 0 where

@@ -41,9 +41,9 @@ fn read_ask(payload: &Value) -> Result<CardAsk, CardFail>
     ensures { result ≡ read_ask (view payload.now) }
 {
     let (Some(one), Some(two), Some(three)) = (
-        asked(payload, "track1"),
-        asked(payload, "track2"),
-        asked(payload, "track3"),
+        flag_in(payload, "track1"),
+        flag_in(payload, "track2"),
+        flag_in(payload, "track3"),
     ) else {
         return Err(CardFail::Shape);
     };
@@ -56,7 +56,7 @@ fn read_ask(payload: &Value) -> Result<CardAsk, CardFail>
     }
 }
 
-fn asked(payload: &Value, name: &str) -> Option<bool>
+fn flag_in(payload: &Value, name: &str) -> Option<bool>
     ensures { result ≡ asked_in name.now (view payload.now) }
 {
     match truth(payload, name) {

@@ -1,7 +1,7 @@
 ghost use Rattle.std.specs.Prelude.{◌≡◌, IfOk, OnErr, IfSome};
 ghost use Rattle.xfs_envelope.specs.Messages.{IsPayload};
 ghost use Rattle.xfs_card.specs.Slot.{empty, is_awaited, is_at_exit};
-ghost use Rattle.xfs_card.specs.Table.{row, row_of, read_row, move_row, reset_row, inserted_row, removed_row, fault_row, stop_row, seen, payload_in};
+ghost use Rattle.xfs_card.specs.Table.{row, row_of, read_row, move_row, reset_row, inserted_row, removed_row, fault_row, stop_row, effect_of, payload_of};
 
 use crate::CardAsk;
 use crate::payload::tracks_payload;
@@ -70,7 +70,7 @@ impl CardState {
     }
 
     /// Whether a Read waits for a card.
-    pub fn awaited(&self) -> bool
+    pub fn awaits_card(&self) -> bool
         ensures { result ≡ is_awaited self.now }
     {
         matches!(&self.place, Place::Awaited { .. })
@@ -84,7 +84,7 @@ impl CardState {
     }
 
     fn begin_read(&mut self, alloc: Global, tracks: [bool; 3]) -> Result<CardEffect, AllocError>
-        ensures row { IfOk result (λ effect. read_row tracks self.old ≡ row (seen effect) self.new) }
+        ensures row { IfOk result (λ effect. read_row tracks self.old ≡ row (effect_of effect) self.new) }
         ensures memory { OnErr result (self.new ≡ self.old) }
     {
         match &self.place {
@@ -101,7 +101,7 @@ impl CardState {
     }
 
     fn begin_move(&mut self, alloc: Global) -> Result<CardEffect, Memory>
-        ensures row { IfOk result (λ effect. move_row self.old ≡ row (seen effect) self.new) }
+        ensures row { IfOk result (λ effect. move_row self.old ≡ row (effect_of effect) self.new) }
         ensures memory { OnErr result (self.new ≡ self.old) }
     {
         if let Place::Inside(_) = &self.place {
@@ -113,7 +113,7 @@ impl CardState {
     }
 
     fn begin_reset(&mut self, alloc: Global) -> CardEffect
-        ensures row { reset_row self.old ≡ row (seen result) self.new }
+        ensures row { reset_row self.old ≡ row (effect_of result) self.new }
     {
         if let Place::Inside(_) = &self.place {
             self.place = Place::AtExit;
@@ -122,7 +122,7 @@ impl CardState {
     }
 
     fn insert(&mut self, alloc: Global, card: Tracks) -> Result<CardEffect, AllocError>
-        ensures row { IfOk result (λ effect. inserted_row card self.old ≡ row (seen effect) self.new) }
+        ensures row { IfOk result (λ effect. inserted_row card self.old ≡ row (effect_of effect) self.new) }
         ensures memory { OnErr result (self.new ≡ self.old) }
     {
         let effect = match &self.place {
@@ -137,7 +137,7 @@ impl CardState {
     }
 
     fn remove(&mut self) -> CardEffect
-        ensures row { removed_row self.old ≡ row (seen result) self.new }
+        ensures row { removed_row self.old ≡ row (effect_of result) self.new }
     {
         match &self.place {
             Place::AtExit => {
@@ -149,7 +149,7 @@ impl CardState {
     }
 
     fn fail(&mut self, alloc: Global) -> CardEffect
-        ensures row { fault_row self.old ≡ row (seen result) self.new }
+        ensures row { fault_row self.old ≡ row (effect_of result) self.new }
     {
         match &self.place {
             Place::Awaited { .. } => {
@@ -161,7 +161,7 @@ impl CardState {
     }
 
     fn stop(&mut self) -> CardEffect
-        ensures row { stop_row self.old ≡ row (seen result) self.new }
+        ensures row { stop_row self.old ≡ row (effect_of result) self.new }
     {
         if let Place::Awaited { .. } = &self.place {
             self.place = Place::Empty;
@@ -172,9 +172,9 @@ impl CardState {
 
 /// What an event does to the card reader. Want of memory leaves the state as it was.
 pub fn step(alloc: Global, state: &mut CardState, event: CardEvent) -> Result<CardEffect, Memory>
-    ensures row { IfOk result (λ effect. row_of state.old event ≡ row (seen effect) state.new) }
+    ensures row { IfOk result (λ effect. row_of state.old event ≡ row (effect_of effect) state.new) }
     ensures memory { OnErr result (state.new ≡ state.old) }
-    ensures payload { IfOk result (λ effect. IfSome (payload_in (seen effect)) IsPayload) }
+    ensures payload { IfOk result (λ effect. IfSome (payload_of (effect_of effect)) IsPayload) }
 {
     match event {
         CardEvent::Begin(CardAsk::Read { tracks }) => Ok(state.begin_read(alloc, tracks)?),

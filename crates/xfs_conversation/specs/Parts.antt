@@ -6,7 +6,7 @@ use Rattle.xfs_envelope.specs.Replies.{Reply, reply_in, acknowledge, event, comp
 use Rattle.xfs_conversation.specs.Answers.{heading_of, heading_in, is_invalid_message, is_invalid_id, accepted_in, completes}
 use Rattle.xfs_conversation.specs.Pending.{Pending, is_pending, is_wrong_id}
 
--- of each frame, with those that were heard before it
+-- each frame is such, given the frames that were heard before it
 abbrev pub EachFrame : List (List ℕ) → (List (List ℕ) → List ℕ → Type 0) → Type 0
 EachFrame frames P = (before later : List (List ℕ)) (frame : List ℕ) → frames ≡ before ++ frame ∷ later → P before frame
 

@@ -9,27 +9,27 @@ use Rattle.xfs_disk.specs.Steps.{MayLeave, LeftSince, history}
 abbrev pub bytes_of : MemDisk → List ℕ
 bytes_of m = m.bytes.items
 
--- its steps, the oldest first
+-- the steps of a disk, the oldest first
 abbrev pub history_of : MemDisk → List Step
 history_of m = history m.settled.items m.steps.items
 
--- its steps, the newest first
+-- the steps of a disk, the newest first
 abbrev pub steps_of : MemDisk → List Step
 steps_of m = reverse (history_of m)
 
--- its images
+-- the images of a disk
 abbrev pub IsImage : MemDisk → List ℕ → Type 0
 IsImage m = MayLeave (bytes_of m) (steps_of m)
 
--- the number of its steps
+-- the number of a disk's steps
 abbrev pub moment_of : MemDisk → ℕ
 moment_of m = length (history_of m)
 
--- its images of the moments from one on
+-- the images of a disk at the moments from one on
 abbrev pub WasImage : MemDisk → ℕ → List ℕ → Type 0
 WasImage m = LeftSince (bytes_of m) (steps_of m)
 
--- time goes on from one state of it to a later one
+-- time goes on from one state of a disk to a later one
 abbrev pub TimeGoesOn : MemDisk → MemDisk → Type 0
 TimeGoesOn old new = Elapses (moment_of old) (moment_of new) (WasImage old) (WasImage new) (IsImage new)
 

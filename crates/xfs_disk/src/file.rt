@@ -35,7 +35,7 @@ impl FileDisk {
     }
 
     // Syncs the file, where no sync has failed yet.
-    fn synced(&self) -> io::Result<()>
+    fn sync_file(&self) -> io::Result<()>
         ensures lost { has_lost self.now ≡ true → OnOk result ⊥ }
     {
         if self.lost {
@@ -45,7 +45,7 @@ impl FileDisk {
     }
 
     // Counts a failure.
-    fn counted<T: Drop>(&mut self, answer: io::Result<T>) -> Result<T, Failed>
+    fn count_failure<T: Drop>(&mut self, answer: io::Result<T>) -> Result<T, Failed>
         ensures cause { HasCause self.old.faults self.new.faults result }
         ensures same { IfOk result (λ x. answer ≡ Ok x) }
         ensures lost { has_lost self.new ≡ has_lost self.old }
@@ -79,22 +79,22 @@ impl Disk for FileDisk {
 
     fn len(&mut self) -> Result<u64, Failed> {
         let answer = length_of(&self.file);
-        self.counted(answer)
+        self.count_failure(answer)
     }
 
     fn read(&mut self, at: u64, into: &mut [u8]) -> Result<usize, Failed> {
         let answer = self.file.read_at(into, at);
-        self.counted(answer)
+        self.count_failure(answer)
     }
 
     fn write_at(&mut self, at: u64, bytes: &[u8]) -> Result<(), Failed> {
         let answer = self.file.write_all_at(bytes, at);
-        self.counted(answer)
+        self.count_failure(answer)
     }
 
     fn cut(&mut self, len: u64) -> Result<(), Failed> {
         let answer = self.file.set_len(len);
-        self.counted(answer)
+        self.count_failure(answer)
     }
 
     fn sync(&mut self) -> Result<(), Failed>
@@ -103,8 +103,8 @@ impl Disk for FileDisk {
         ensures remembers { OnErr result (has_lost self.new ≡ true) }
         ensures same { OnOk result (has_lost self.new ≡ has_lost self.old) }
     {
-        let answer = self.synced();
-        let result = self.counted(answer);
+        let answer = self.sync_file();
+        let result = self.count_failure(answer);
         if result.is_err() {
             self.lost = true;
         }

@@ -4,7 +4,7 @@ use Rattle.std.specs.List.{sum_by}
 use Rattle.std.specs.Cmp.Lexicographic.{bytes_decides}
 use Rattle.std.proofs.lemmas.Bool.{eq-eqb, eqb-false, eqb-true, ne_eqb}
 use Rattle.std.proofs.lemmas.List.Sums.{sum_by-cons, sum_by_push}
-use Rattle.xfs_host.specs.Book.{Book, Call, Opened, Asked, Opening, balance_in, book_of, debits, decided, first_in, first_of, is_paid, noted, opening_in, user_in, with_first, with_opening}
+use Rattle.xfs_host.specs.Book.{Book, Call, Opened, Asked, Opening, balance_in, book_of, debits, decided, first_ask_in, first_of, is_paid, noted, opening_in, user_in, with_first, with_opening}
 use Rattle.xfs_host.specs.Laws.{IsCovered, IsSound, debits_in, taken, tokens_in, uses, worth}
 use Rattle.xfs_host.specs.declared.first.First.{First}
 use Rattle.xfs_host.proofs.Paying.{IsPaying, paying}
@@ -205,13 +205,13 @@ whole_noted b (Opened account currency balance) k = by_opening (opening_in b acc
     by_opening : (x : Option Opening) → opening_in b account ≡ x → IsWhole (noted b (Opened account currency balance))
     by_opening (Some o) e = subst IsWhole (sym (noted_open b account currency balance (ap is_some e))) k
     by_opening None e = subst IsWhole (sym (noted_opening b account currency balance e)) (whole_opening b (record { account = account; currency = currency; balance = balance }) k e)
-whole_noted b (Asked t) k = by_first (first_in b t.tx) refl
+whole_noted b (Asked t) k = by_first (first_ask_in b t.tx) refl
   where
     by_decision : (d : Bool) → is_paid (decided b t) ≡ d → IsWhole (with_first b (first_of b t))
     by_decision true e = whole_paid b (first_of b t) k e (paying b t e)
     by_decision false e = whole_refused b (first_of b t) k e
 
-    by_first : (x : Option First) → first_in b t.tx ≡ x → IsWhole (noted b (Asked t))
+    by_first : (x : Option First) → first_ask_in b t.tx ≡ x → IsWhole (noted b (Asked t))
     by_first (Some f) e = subst IsWhole (sym (noted_again b t (ap is_some e))) k
     by_first None e = subst IsWhole (sym (noted_new b t e)) (by_decision (is_paid (decided b t)) refl)
 

@@ -10,7 +10,7 @@ use Rattle.std.proofs.lemmas.Bool.{eqb-true}
 use Rattle.std.proofs.lemmas.List.Folds.{find-append}
 use Rattle.std.proofs.lemmas.List.Sums.{fold_push, sum_by_push}
 use Rattle.xfs_host.specs.Ask.{Terms}
-use Rattle.xfs_host.specs.Book.{Book, Call, Opened, Asked, Opening, account_in, account_of, book_of, debit, debits, first_in, first_of, is_paid, noted, opening_in, user_in, with_first, with_opening}
+use Rattle.xfs_host.specs.Book.{Book, Call, Opened, Asked, Opening, account_in, account_of, book_of, debit, debits, first_ask_in, first_of, is_paid, noted, opening_in, user_in, with_first, with_opening}
 use Rattle.xfs_host.specs.Kept.{IsKept, less, tx_at}
 use Rattle.xfs_host.specs.declared.account.Account.{Account}
 use Rattle.xfs_host.specs.declared.first.First.{First}
@@ -102,21 +102,21 @@ debits_paid b f q paid here =
     omega (arith, debits_more b f q, all)
 
 -- the first asks, with one more
-at_first : (b : Book) (f : First) (q : ℕ) → first_in b f.terms.tx ≡ None → cond (f.terms.tx == q) (Some f) (first_in b q) ≡ first_in (with_first b f) q
+at_first : (b : Book) (f : First) (q : ℕ) → first_ask_in b f.terms.tx ≡ None → cond (f.terms.tx == q) (Some f) (first_ask_in b q) ≡ first_ask_in (with_first b f) q
 at_first b f q none = by_key (f.terms.tx == q) refl
   where
-    by_key : (t : Bool) → (f.terms.tx == q) ≡ t → cond t (Some f) (first_in b q) ≡ first_in (with_first b f) q
-    by_key true e = sym (found_new (λ g. g.terms.tx == q) b.asked f (subst (λ x. first_in b x ≡ None) (eqb-true f.terms.tx q e) none) e)
+    by_key : (t : Bool) → (f.terms.tx == q) ≡ t → cond t (Some f) (first_ask_in b q) ≡ first_ask_in (with_first b f) q
+    by_key true e = sym (found_new (λ g. g.terms.tx == q) b.asked f (subst (λ x. first_ask_in b x ≡ None) (eqb-true f.terms.tx q e) none) e)
     by_key false e = sym (found_same (λ g. g.terms.tx == q) b.asked f e)
 
-firsts_more : (b : Book) (fs fs2 : BTreeMap ℕ First) (f : First) → ((q : ℕ) → get nat_cmp fs q ≡ first_in b q) → first_in b f.terms.tx ≡ None
+firsts_more : (b : Book) (fs fs2 : BTreeMap ℕ First) (f : First) → ((q : ℕ) → get nat_cmp fs q ≡ first_ask_in b q) → first_ask_in b f.terms.tx ≡ None
     → ((q : ℕ) → get nat_cmp fs2 q ≡ cond (f.terms.tx == q) (Some f) (get nat_cmp fs q))
-    → (q : ℕ) → get nat_cmp fs2 q ≡ first_in (with_first b f) q
+    → (q : ℕ) → get nat_cmp fs2 q ≡ first_ask_in (with_first b f) q
 firsts_more b fs fs2 f k none updates q = updates q ∙ ap (cond (f.terms.tx == q) (Some f)) (k q) ∙ at_first b f q none
 
 -- a first ask is refused
 pub refused_kept : (b : Book) (accs : BTreeMap ℕ Account) (fs fs2 : BTreeMap ℕ First) (ns : BTreeMap (Vec ℕ Global) ℕ) (f : First)
-    → IsKept b accs fs ns → first_in b f.terms.tx ≡ None → is_paid f.decision ≡ false
+    → IsKept b accs fs ns → first_ask_in b f.terms.tx ≡ None → is_paid f.decision ≡ false
     → ((q : ℕ) → get nat_cmp fs2 q ≡ cond (f.terms.tx == q) (Some f) (get nat_cmp fs q))
     → btree_map_len fs2 ≡ btree_map_len fs + 1
     → IsKept (with_first b f) accs fs2 ns
@@ -167,7 +167,7 @@ at_nonce b f n paid unused = by_key (bytes_eq f.terms.nonce n) refl
 
 -- a first ask is paid
 pub paid_kept : (b : Book) (accs accs2 : BTreeMap ℕ Account) (fs fs2 : BTreeMap ℕ First) (ns ns2 : BTreeMap (Vec ℕ Global) ℕ) (f : First)
-    → IsKept b accs fs ns → first_in b f.terms.tx ≡ None → is_paid f.decision ≡ true → IsPaying b f.terms
+    → IsKept b accs fs ns → first_ask_in b f.terms.tx ≡ None → is_paid f.decision ≡ true → IsPaying b f.terms
     → ((q : ℕ) → get nat_cmp accs2 q ≡ cond (f.terms.account == q) (option_map (less f.terms.amount) (get nat_cmp accs q)) (get nat_cmp accs q))
     → keys accs2 ≡ keys accs → btree_map_len accs2 ≡ btree_map_len accs
     → ((q : ℕ) → get nat_cmp fs2 q ≡ cond (f.terms.tx == q) (Some f) (get nat_cmp fs q))
@@ -189,11 +189,11 @@ pub book_more : {A : Type 0} (h : A → Call) (xs : List A) (x : A) → book_of 
 book_more h xs x = ap book_of (map-append h xs (x ∷ [])) ∙ fold_push noted (record { opened = []; asked = [] }) (map h xs) (h x)
 
 -- an ask whose number is new is one more first ask
-pub noted_new : (b : Book) (t : Terms) → first_in b t.tx ≡ None → noted b (Asked t) ≡ with_first b (first_of b t)
+pub noted_new : (b : Book) (t : Terms) → first_ask_in b t.tx ≡ None → noted b (Asked t) ≡ with_first b (first_of b t)
 noted_new b t none = ap (λ x. cond (is_some x) b (with_first b (first_of b t))) none
 
 -- an ask whose number is kept changes nothing
-pub noted_again : (b : Book) (t : Terms) → is_some (first_in b t.tx) ≡ true → noted b (Asked t) ≡ b
+pub noted_again : (b : Book) (t : Terms) → is_some (first_ask_in b t.tx) ≡ true → noted b (Asked t) ≡ b
 noted_again b t kept = ap (λ x. cond x b (with_first b (first_of b t))) kept
 
 -- an account that is not open is one more

@@ -19,7 +19,7 @@ pub record IsTerms (t : Terms) : Type 0 where
   pub nonce : IsTrue (is_nonce t.nonce)
   pub small : t.amount ≤ 999999999999
 
--- the same but for the transaction's number
+-- two asks have the same terms, whatever the transaction's number
 abbrev pub is_same : Terms → Terms → Bool
 is_same a b = a.account == b.account && bytes_eq a.nonce b.nonce && bytes_eq a.currency b.currency && a.amount == b.amount
 

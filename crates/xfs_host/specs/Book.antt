@@ -41,8 +41,8 @@ abbrev pub opening_in : Book → ℕ → Option Opening
 opening_in b account = find (λ o. o.account == account) b.opened
 
 -- the first ask with a number
-abbrev pub first_in : Book → ℕ → Option First
-first_in b tx = find (λ f. f.terms.tx == tx) b.asked
+abbrev pub first_ask_in : Book → ℕ → Option First
+first_ask_in b tx = find (λ f. f.terms.tx == tx) b.asked
 
 -- the first ask that was answered a token for a nonce
 abbrev pub user_in : Book → List ℕ → Option First
@@ -87,7 +87,7 @@ by_first None b t = decided b t
 
 -- what is decided of any ask
 abbrev pub decided_any : Book → Terms → Decision
-decided_any b t = by_first (first_in b t.tx) b t
+decided_any b t = by_first (first_ask_in b t.tx) b t
 
 -- a first ask with what is decided of it
 abbrev pub first_of : Book → Terms → First
@@ -106,7 +106,7 @@ abbrev pub noted : Book → Call → Book
 noted b (Opened account currency balance) =
     if is_some (opening_in b account) then b
     else with_opening b (record { account = account; currency = currency; balance = balance })
-noted b (Asked t) = if is_some (first_in b t.tx) then b else with_first b (first_of b t)
+noted b (Asked t) = if is_some (first_ask_in b t.tx) then b else with_first b (first_of b t)
 
 -- the book after a history
 abbrev pub book_of : List Call → Book

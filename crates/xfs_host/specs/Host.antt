@@ -3,7 +3,7 @@ use Rattle.std.specs.Prelude.{◌≡◌, ℕ, ◌≤◌, ◌&&◌, not, nat_le, 
 use Rattle.std.specs.declared.option.Option.{Option}
 use Rattle.std.specs.declared.result.Result.{Result}
 use Rattle.xfs_host.specs.Ask.{Terms}
-use Rattle.xfs_host.specs.Book.{Call, Book, first_in, opening_in}
+use Rattle.xfs_host.specs.Book.{Call, Book, first_ask_in, opening_in}
 use Rattle.xfs_host.specs.declared.faults.HostFault.{HostFault}
 use Rattle.xfs_host.specs.declared.faults.HostFault.TheVariants as host
 use Rattle.xfs_host.specs.declared.faults.OpenFault.{OpenFault}
@@ -28,7 +28,7 @@ open_refusal b account =
 -- a kept number is answered at the limit of 100,000, a new one is not
 abbrev pub host_refusal : Book → Terms → Option HostFault
 host_refusal b t =
-    if not (is_some (first_in b t.tx)) && nat_le 100000 (length b.asked) then Some host.Limit
+    if not (is_some (first_ask_in b t.tx)) && nat_le 100000 (length b.asked) then Some host.Limit
     else None
 
 -- this refusal is the answer; where there is none, only memory may be wanting

@@ -7,7 +7,7 @@ use Rattle.std.specs.Cmp.Lexicographic.{slice_cmp}
 use Rattle.std.specs.BTreeMap.{BTreeMap, get, get_by, keys, btree_map_len}
 use Rattle.std.specs.Global.{Global}
 use Rattle.std.specs.Prelude.{Vec}
-use Rattle.xfs_host.specs.Book.{Book, Call, Opened, Asked, account_in, opening_in, first_in, user_in, debits, rising}
+use Rattle.xfs_host.specs.Book.{Book, Call, Opened, Asked, account_in, opening_in, first_ask_in, user_in, debits, rising}
 use Rattle.xfs_host.specs.declared.account.Account.{Account}
 use Rattle.xfs_host.specs.declared.event.Event.{Event}
 use Rattle.xfs_host.specs.declared.event.Event.TheVariants as event
@@ -35,7 +35,7 @@ pub record IsKept (b : Book) (accs : BTreeMap ℕ Account) (fs : BTreeMap ℕ Fi
   pub accounts : (q : ℕ) → get nat_cmp accs q ≡ account_in b q
   pub numbers : keys accs ≡ rising b
   pub opened : btree_map_len accs ≡ length b.opened
-  pub firsts : (q : ℕ) → get nat_cmp fs q ≡ first_in b q
+  pub firsts : (q : ℕ) → get nat_cmp fs q ≡ first_ask_in b q
   pub asked : btree_map_len fs ≡ length b.asked
   pub untouched : (q : ℕ) → opening_in b q ≡ None → debits b q ≡ 0
   pub nonces : (n : List ℕ) → tx_at ns n ≡ option_map (λ f. f.terms.tx) (user_in b n)

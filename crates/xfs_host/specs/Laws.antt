@@ -40,7 +40,7 @@ pub record IsSound (b : Book) : Type 0 where
   pub totals : (currency : List ℕ) → tokens_in currency b ≡ debits_in currency b
   pub once : (nonce : List ℕ) → count_by (uses nonce) b.asked ≤ 1
 
--- so is every history
+-- the book of every history is sound
 abbrev pub AreSound : Type 0
 AreSound = (calls : List Call) → IsSound (book_of calls)
 

@@ -8,16 +8,16 @@ use Rattle.xfs_host.specs.declared.reply.Reply.{Reply}
 use Rattle.xfs_host.specs.declared.reply.Reply.TheVariants as reply
 
 -- the reply, with the text of its token where there is one
-abbrev pub told : List ℕ → Decision → Reply
-told text Paid = reply.Token text
-told text Other = reply.Other
-told text Unknown = reply.Unknown
-told text WrongCurrency = reply.WrongCurrency
-told text (UsedNonce tx) = reply.UsedNonce tx
-told text (Poor balance) = reply.Poor (record { 0 = balance })
+abbrev pub reply_of : List ℕ → Decision → Reply
+reply_of text Paid = reply.Token text
+reply_of text Other = reply.Other
+reply_of text Unknown = reply.Unknown
+reply_of text WrongCurrency = reply.WrongCurrency
+reply_of text (UsedNonce tx) = reply.UsedNonce tx
+reply_of text (Poor balance) = reply.Poor (record { 0 = balance })
 
 -- the reply to an ask of which this was decided; what was paid has its token
 pub record IsReply (key : List ℕ) (t : Terms) (decision : Decision) (reply : Reply) : Type 0 where
   pub text : List ℕ
-  pub is : reply ≡ told text decision
+  pub is : reply ≡ reply_of text decision
   pub made : decision ≡ Paid → IsMade key t.nonce ((t.currency, t.amount) ∷ []) text

@@ -62,7 +62,7 @@ impl Ask {
     }
 
     // The same once more.
-    pub(crate) fn copied(&self, alloc: Global) -> Result<Ask, AllocError>
+    pub(crate) fn copy(&self, alloc: Global) -> Result<Ask, AllocError>
         ensures { IfOk result (λ a. a ≡ self.now) }
     {
         Ok(Ask {

@@ -127,7 +127,7 @@ impl Host {
     pub fn accounts(&self) -> Result<Vec<(u64, Account)>, AllocError>
         ensures { IfOk result (λ list. map (λ e. (e.0, Some e.1)) list.items ≡ listed (book_of self.now.calls)) }
     {
-        self.ledger.listed()
+        self.ledger.list_accounts()
     }
 
     /// The account at a place, from 0, among the open ones by their rising numbers, with its currency and its balance.

@@ -1,6 +1,6 @@
 //! Accounts, transactions and nonces.
 ghost use Rattle.std.specs.Prelude.{◌≡◌, ◌<◌, ◌++◌, ◌∷◌, [], length, map, option_map, Some, None, true, false, is_some, IfOk, OnOk, OnErr, slice_get};
-ghost use Rattle.xfs_host.specs.Book.{Opened, Asked, account_in, book_of, decided, first_in, listed, opening_in, reply_after, rising, user_in};
+ghost use Rattle.xfs_host.specs.Book.{Opened, Asked, account_in, book_of, decided, first_ask_in, listed, opening_in, reply_after, rising, user_in};
 ghost use Rattle.xfs_host.specs.Book as book;
 ghost use Rattle.xfs_host.specs.Kept.{call_of};
 ghost use Rattle.xfs_host.specs.declared.decision.Decision.TheVariants.{Paid};
@@ -88,7 +88,7 @@ impl Ledger {
     }
 
     // The open accounts by their rising numbers.
-    pub(crate) fn listed(&self) -> Result<Vec<(u64, Account)>, AllocError>
+    pub(crate) fn list_accounts(&self) -> Result<Vec<(u64, Account)>, AllocError>
         ensures { IfOk result (λ list. map (λ e. (e.0, Some e.1)) list.items ≡ listed (book_of self.now)) }
     {
         pairs(self.alloc, &self.accounts)
@@ -102,7 +102,7 @@ impl Ledger {
     }
 
     pub(crate) fn is_kept(&self, tx: u64) -> bool
-        ensures { result ≡ is_some (first_in (book_of self.now) tx) }
+        ensures { result ≡ is_some (first_ask_in (book_of self.now) tx) }
     {
         self.firsts.contains_key(&tx)
     }
@@ -183,7 +183,7 @@ impl Ledger {
     }
 
     fn note_repeat(&mut self, ask: &Ask) -> Result<(), AllocError>
-        requires { is_some (first_in (book_of self.old) ask.now.tx) ≡ true }
+        requires { is_some (first_ask_in (book_of self.old) ask.now.tx) ≡ true }
         ensures ok { OnOk result (self.new ≡ self.old ++ Asked ask.now ∷ []) }
         ensures err { OnErr result (self.new ≡ self.old) }
     {
@@ -193,13 +193,13 @@ impl Ledger {
     }
 
     fn note_refused(&mut self, ask: &Ask, decision: Decision) -> Result<(), AllocError>
-        requires new { first_in (book_of self.old) ask.now.tx ≡ None }
+        requires new { first_ask_in (book_of self.old) ask.now.tx ≡ None }
         requires decided { decision ≡ decided (book_of self.old) ask.now }
         requires refused { book.is_paid decision ≡ false }
         ensures ok { OnOk result (self.new ≡ self.old ++ Asked ask.now ∷ []) }
         ensures err { OnErr result (self.new ≡ self.old) }
     {
-        let terms = ask.copied(self.alloc)?;
+        let terms = ask.copy(self.alloc)?;
         self.calls.reserve(1)?;
         add(&mut self.firsts, ask.tx(), First { terms, decision })?;
         self.calls.push_reserved(event_of(ask));
@@ -208,14 +208,14 @@ impl Ledger {
 
     // What takes memory comes before the balance, and is undone where more is wanted.
     fn note_paid(&mut self, ask: &Ask) -> Result<(), AllocError>
-        requires new { first_in (book_of self.old) ask.now.tx ≡ None }
+        requires new { first_ask_in (book_of self.old) ask.now.tx ≡ None }
         requires paid { decided (book_of self.old) ask.now ≡ Paid }
         ensures ok { OnOk result (self.new ≡ self.old ++ Asked ask.now ∷ []) }
         ensures err { OnErr result (self.new ≡ self.old) }
     {
         let nonce = Vec::from_slice(self.alloc, ask.nonce())?;
         let first = First {
-            terms: ask.copied(self.alloc)?,
+            terms: ask.copy(self.alloc)?,
             decision: Decision::Paid,
         };
         self.calls.reserve(1)?;

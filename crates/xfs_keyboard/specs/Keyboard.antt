@@ -17,18 +17,18 @@ pub data Effect : Type 0 where
   ended : KeyName → Data → Effect
   failed : Effect
 
-abbrev pub seen : KeyEffect → Effect
-seen effect.Nothing = nothing
-seen (effect.Told key) = told key
-seen (effect.Ended key payload) = ended key (view payload)
-seen effect.Failed = failed
+abbrev pub effect_of : KeyEffect → Effect
+effect_of effect.Nothing = nothing
+effect_of (effect.Told key) = told key
+effect_of (effect.Ended key payload) = ended key (view payload)
+effect_of effect.Failed = failed
 
 -- the payload that an effect tells
-abbrev pub payload_in : Effect → Option Data
-payload_in nothing = None
-payload_in (told key) = None
-payload_in (ended key payload) = Some payload
-payload_in failed = None
+abbrev pub payload_of : Effect → Option Data
+payload_of nothing = None
+payload_of (told key) = None
+payload_of (ended key payload) = Some payload
+payload_of failed = None
 
 -- the effect of an event, and what is there next: an entry, or none
 pub record Row : Type 0 where

@@ -25,14 +25,14 @@ pub struct EntryAsk {
 
 impl EntryAsk {
     /// The same once more. It takes no memory.
-    pub fn copied(&self) -> EntryAsk
+    pub fn copy(&self) -> EntryAsk
         ensures { result ≡ self.now }
     {
         EntryAsk {
             max_len: self.max_len,
             auto_end: self.auto_end,
-            active: self.active.copied(),
-            ends: self.ends.copied(),
+            active: self.active.copy(),
+            ends: self.ends.copy(),
         }
     }
 }

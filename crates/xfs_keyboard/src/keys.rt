@@ -46,7 +46,7 @@ impl KeySet {
     }
 
     /// The same set.
-    pub fn copied(&self) -> KeySet
+    pub fn copy(&self) -> KeySet
         ensures { result ≡ self.now }
     {
         KeySet { keys: self.keys }

@@ -1,7 +1,7 @@
 ghost use Rattle.std.specs.Prelude.{◌≡◌, None, IfOk, OnErr, IfSome, is_some};
 ghost use Rattle.xfs_envelope.specs.Messages.{IsPayload};
 ghost use Rattle.xfs_keyboard.specs.Entries.{IsKeyboard};
-ghost use Rattle.xfs_keyboard.specs.Keyboard.{row, row_of, seen, payload_in};
+ghost use Rattle.xfs_keyboard.specs.Keyboard.{row, row_of, effect_of, payload_of};
 ghost use Rattle.xfs_keyboard.specs.declared.state.KeyEvent.TheVariants.{Key};
 
 use crate::EntryAsk;
@@ -71,8 +71,8 @@ impl KeyState {
     }
 
     fn press(&mut self, alloc: Global, key: KeyName) -> Result<KeyEffect, AllocError>
-        ensures row { IfOk result (λ effect. row_of self.old (Key key) ≡ row (seen effect) self.new) }
-        ensures payload { IfOk result (λ effect. IfSome (payload_in (seen effect)) IsPayload) }
+        ensures row { IfOk result (λ effect. row_of self.old (Key key) ≡ row (effect_of effect) self.new) }
+        ensures payload { IfOk result (λ effect. IfSome (payload_of (effect_of effect)) IsPayload) }
         ensures memory { OnErr result (self.new ≡ self.old) }
     {
         let Some(entry) = &mut self.entry else {
@@ -93,9 +93,9 @@ impl KeyState {
 
 /// What an event does to the keyboard. Want of memory leaves the state as it was.
 pub fn step(alloc: Global, state: &mut KeyState, event: KeyEvent) -> Result<KeyEffect, Memory>
-    ensures row { IfOk result (λ effect. row_of state.old event ≡ row (seen effect) state.new) }
+    ensures row { IfOk result (λ effect. row_of state.old event ≡ row (effect_of effect) state.new) }
     ensures memory { OnErr result (state.new ≡ state.old) }
-    ensures payload { IfOk result (λ effect. IfSome (payload_in (seen effect)) IsPayload) }
+    ensures payload { IfOk result (λ effect. IfSome (payload_of (effect_of effect)) IsPayload) }
 {
     match event {
         KeyEvent::Begin(ask) => {

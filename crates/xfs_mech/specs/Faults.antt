@@ -12,7 +12,7 @@ use Rattle.xfs_mech.specs.declared.fault.Fault.{Fault}
 abbrev pub fault_at : List Fault → ℕ → Option Fault
 fault_at faults call = find (λ f. f.call == call) faults
 
--- of the first so many notes, lower units first, how many are of the unit at a place: what the lower units leave of them, at most its count
+-- how many of the first notes, lower units first, are of the unit at a place: what the lower units leave of them, at most its count
 abbrev pub first_notes : Counts → ℕ → ℕ → ℕ
 first_notes counts many u = min (at counts u) (many - sum (take u counts.0))
 

@@ -25,7 +25,7 @@ pub(crate) fn fault_of(faults: &[Fault], call: u64) -> Option<Fault>
 }
 
 // What the fault leaves of an order.
-fn stopped(fault: Fault, kind: Kind, counts: &Counts) -> Outcome
+fn stop_at(fault: Fault, kind: Kind, counts: &Counts) -> Outcome
     ensures carried { MayCarry kind counts.now result.moved result.diverted result.failed }
     ensures failed { result.failed ≡ true }
     ensures stopped { StopsAt fault kind counts.now result.moved result.diverted }
@@ -51,7 +51,7 @@ pub(crate) fn outcome_of(fault: Option<Fault>, kind: Kind, counts: &Counts) -> O
     ensures stopped { IfSome fault (λ f. StopsAt f kind counts.now result.moved result.diverted) }
 {
     match fault {
-        Some(fault) => stopped(fault, kind, counts),
+        Some(fault) => stop_at(fault, kind, counts),
         None => Outcome {
             moved: *counts,
             diverted: Counts([0; 8]),

@@ -46,15 +46,15 @@ pub fn can_load(units: &UnitTable, places: &Places, unit: u8, count: u32) -> boo
 pub fn totals(places: &Places) -> [u64; 8]
     ensures { (u : ℕ) → slice_index result u ≡ all_notes places.now u }
 {
-    let totals = added([0; 8], &places.units);
-    let totals = added(totals, &places.transport);
-    let totals = added(totals, &places.outlet);
-    let totals = added(totals, &places.taken);
-    let totals = added(totals, &places.retracted);
-    added(totals, &places.rejected)
+    let totals = add_counts([0; 8], &places.units);
+    let totals = add_counts(totals, &places.transport);
+    let totals = add_counts(totals, &places.outlet);
+    let totals = add_counts(totals, &places.taken);
+    let totals = add_counts(totals, &places.retracted);
+    add_counts(totals, &places.rejected)
 }
 
-fn added(mut totals: [u64; 8], counts: &Counts) -> [u64; 8]
+fn add_counts(mut totals: [u64; 8], counts: &Counts) -> [u64; 8]
     requires { (u : ℕ) → slice_index totals u < 2 ^ 63 }
     ensures sum { (u : ℕ) → slice_index result u ≡ slice_index totals u + at counts.now u }
     ensures bound { (u : ℕ) → slice_index result u < slice_index totals u + 2 ^ 32 }

@@ -86,7 +86,7 @@ impl SimMech {
     }
 
     // Counts one more call, and says which fault it meets.
-    fn called(&mut self) -> Option<Fault>
+    fn count_call(&mut self) -> Option<Fault>
         ensures due { result ≡ due self.old }
         ensures counted { Counted self.old self.new (is_some result) }
         ensures units { units_of self.new ≡ units_of self.old }
@@ -152,7 +152,7 @@ impl Mechanism for SimMech {
         ensures counted { Counted self.old self.new result.failed }
         ensures stopped { IfSome (due self.old) (λ f. StopsAt f (kind_of order) (counts_of order) result.moved result.diverted) }
     {
-        let fault = self.called();
+        let fault = self.count_call();
         let (number, kind) = (order.number(), order.kind());
         let outcome = outcome_of(fault, kind, &order.counts());
         self.places = after_order(&self.places, kind, &outcome.moved, &outcome.diverted);
@@ -176,7 +176,7 @@ impl Mechanism for SimMech {
         ensures counted { Counted self.old self.new result.failed }
         ensures whole { result.failed ≡ false → result.moved ≡ (places_of self.old).outlet }
     {
-        if self.called().is_some() {
+        if self.count_call().is_some() {
             return nothing();
         }
         let counts = self.places.outlet;
@@ -196,7 +196,7 @@ impl Mechanism for SimMech {
         ensures cause { result.failed ≡ true → Rose (failures_of self.old) (failures_of self.new) }
         ensures counted { Counted self.old self.new result.failed }
     {
-        if self.called().is_some() {
+        if self.count_call().is_some() {
             return nothing();
         }
         self.places = after_loading(&self.places, unit, count);

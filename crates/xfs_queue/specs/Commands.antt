@@ -28,14 +28,14 @@ is_ready Waiting = false
 is_ready Running = false
 is_ready Ready = true
 
--- the same line
+-- whether two lines are one
 abbrev pub is_on : Line → Line → Bool
 is_on Nonce Nonce = true
 is_on Nonce Device = false
 is_on Device Nonce = false
 is_on Device Device = true
 
--- the same ticket
+-- whether two tickets are one
 abbrev pub is_ticket : Ticket → Ticket → Bool
 is_ticket t u = (u.client.0 == t.client.0) && (u.id == t.id)
 

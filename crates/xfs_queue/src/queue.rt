@@ -154,7 +154,7 @@ impl<J> Queue<J> {
     }
 
     /// Whether it was canceled, or its client has left.
-    pub fn marked(&self, ticket: Ticket) -> bool
+    pub fn is_marked(&self, ticket: Ticket) -> bool
         ensures { result ≡ list_any (λ a. is_at ticket a && a.marked) self.now }
     {
         self.commands

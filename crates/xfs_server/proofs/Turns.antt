@@ -8,7 +8,7 @@ use Rattle.xfs_base.specs.declared.faults.Memory.{Memory}
 use Rattle.xfs_server.specs.Boards.{BoardLog, after_post, after_turn, after_fetch}
 use Rattle.xfs_server.specs.Counted.{counted, grown}
 use Rattle.xfs_server.specs.Links.{LinkLog, after_take, after_give}
-use Rattle.xfs_server.specs.Sessions.{Stop, Course, Turns, Ends, Session, IsAtLimit, Heard, GaveFront, over_of, lost, front, kept, turns_in, fetches_in, fault_count, is_closed, Behind, AtClosed, AtFault, AtMemory, AtPost, AtTurn, AtGive}
+use Rattle.xfs_server.specs.Sessions.{Stop, Course, Turns, Ends, Session, IsAtLimit, Heard, GaveFront, over_of, lost, given_at, kept, turns_in, fetches_in, fault_count, is_closed, Behind, AtClosed, AtFault, AtMemory, AtPost, AtTurn, AtGive}
 use Rattle.xfs_server.specs.declared.link.GiveFault.{GiveFault}
 use Rattle.xfs_server.specs.declared.link.Taking.{Taking}
 use Rattle.xfs_server.specs.declared.session.Over.{Over}
@@ -263,9 +263,9 @@ course_join n many stop l m k b d e c f = record {
   coming = coming-coming c.texts f.texts (lost stop) l.coming m.coming k.coming c.coming f.coming;
   taken = f.taken ∙ ap (grown (f.texts ++ lost stop)) c.taken ∙ grown_joined c.texts f.texts (lost stop) l.taken;
   posted = f.posted ∙ ap (grown f.texts) c.posted ∙ grown-grown c.texts f.texts b.texts;
-  handed = f.handed ∙ ap (grown (f.given ++ (front stop ++ kept stop))) c.handed ∙ grown_joined c.given f.given (front stop ++ kept stop) b.handed;
+  handed = f.handed ∙ ap (grown (f.given ++ (given_at stop ++ kept stop))) c.handed ∙ grown_joined c.given f.given (given_at stop ++ kept stop) b.handed;
   latest = f.latest;
-  sent = f.sent ∙ ap (grown (f.given ++ front stop)) c.sent ∙ grown_joined c.given f.given (front stop) l.sent;
+  sent = f.sent ∙ ap (grown (f.given ++ given_at stop)) c.sent ∙ grown_joined c.given f.given (given_at stop) l.sent;
   told = f.told ∙ ap (is_closed (over_of stop)) c.told;
   ended = f.ended;
   faults = f.faults ∙ ap (counted (fault_count (over_of stop))) c.faults;

@@ -6,8 +6,7 @@ use Rattle.xfs_base.specs.declared.faults.Memory.{Memory}
 use Rattle.xfs_base.specs.Causes.{next_count}
 use Rattle.xfs_server.specs.Counted.{grown}
 
--- the texts posted, the frames handed over, and those that the latest call of frames handed over, where the board tells them;
--- and how many calls of post, turn and frames there were, which each board tells
+-- the texts posted, the frames handed over, and those that the latest call of frames handed over, where the board tells them, beside the numbers of calls of post, turn and frames, which each board tells
 pub record BoardLog : Type 0 where
   pub texts : Option (List (List ℕ))
   pub handed : Option (List (List ℕ))

@@ -41,15 +41,15 @@ lost (AtPost text) = text ∷ []
 lost AtTurn = []
 lost (AtGive given refused rest fault) = []
 
--- of the frames of a turn that wasn't whole, those given and those not given
-abbrev pub front : Stop → List (List ℕ)
-front Behind = []
-front AtClosed = []
-front AtFault = []
-front AtMemory = []
-front (AtPost text) = []
-front AtTurn = []
-front (AtGive given refused rest fault) = given
+-- the frames that a turn which was not whole had given
+abbrev pub given_at : Stop → List (List ℕ)
+given_at Behind = []
+given_at AtClosed = []
+given_at AtFault = []
+given_at AtMemory = []
+given_at (AtPost text) = []
+given_at AtTurn = []
+given_at (AtGive given refused rest fault) = given
 
 abbrev pub kept : Stop → List (List ℕ)
 kept Behind = []
@@ -92,7 +92,7 @@ fault_count Over.Failed = 1
 fault_count Over.Memory = 0
 fault_count Over.Turns = 0
 
--- it closed where no text is to come
+-- a session that closed had no text to come
 abbrev pub IsAllTaken : Over → Option (List (List ℕ)) → Type 0
 IsAllTaken Over.Closed coming = IsEmptyIfTold coming
 IsAllTaken Over.Failed coming = ⊤
@@ -109,7 +109,7 @@ IsLatest (AtPost text) latest = ⊤
 IsLatest AtTurn latest = ⊤
 IsLatest (AtGive given refused rest fault) latest = IfTold latest (λ frames. frames ≡ given ++ refused ∷ rest)
 
--- so many whole turns, and what was done of the one behind them: the texts that were posted, the quiets, and the frames that were given in whole turns
+-- whole turns, and what was done of the one behind them: the texts that were posted, the quiets, and the frames that were given in whole turns
 pub record Course (turns : ℕ) (stop : Stop) (link link' : LinkLog) (board board' : BoardLog) : Type 0 where
   pub texts : List (List ℕ)
   pub quiets : ℕ
@@ -118,9 +118,9 @@ pub record Course (turns : ℕ) (stop : Stop) (link link' : LinkLog) (board boar
   pub coming : link.coming ≡ option_map (λ rest. texts ++ (lost stop ++ rest)) link'.coming
   pub taken : link'.taken ≡ grown (texts ++ lost stop) link.taken
   pub posted : board'.texts ≡ grown texts board.texts
-  pub handed : board'.handed ≡ grown (given ++ (front stop ++ kept stop)) board.handed
+  pub handed : board'.handed ≡ grown (given ++ (given_at stop ++ kept stop)) board.handed
   pub latest : IsLatest stop board'.latest
-  pub sent : link'.sent ≡ grown (given ++ front stop) link.sent
+  pub sent : link'.sent ≡ grown (given ++ given_at stop) link.sent
   pub told : link'.closed ≡ is_closed (over_of stop) link.closed
   pub ended : IsAllTaken (over_of stop) link'.coming
   pub faults : link'.faults ≡ counted (fault_count (over_of stop)) link.faults
@@ -129,12 +129,12 @@ pub record Course (turns : ℕ) (stop : Stop) (link link' : LinkLog) (board boar
   pub worked : board'.turns ≡ counted (turns + turns_in stop) board.turns
   pub fetched : board'.fetches ≡ counted (turns + fetches_in stop) board.fetches
 
--- so many whole turns, one behind the other: the frames of each are given before the next begins
+-- whole turns, one behind the other: the frames of each are given before the next begins
 abbrev pub Turns : ℕ → LinkLog → LinkLog → BoardLog → BoardLog → Type 0
 Turns zero link link' board board' = (link' ≡ link) × (board' ≡ board)
 Turns (suc turns) link link' board board' = (link_before : LinkLog) × (board_before : BoardLog) × Turns turns link link_before board board_before × Course 1 Behind link_before link' board_before board'
 
--- it ends at the limit only after 4,294,967,296 turns
+-- a session ends at the limit only after 4,294,967,296 turns
 abbrev pub IsAtLimit : Over → ℕ → Type 0
 IsAtLimit Over.Closed turns = ⊤
 IsAtLimit Over.Failed turns = ⊤

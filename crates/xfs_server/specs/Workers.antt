@@ -39,7 +39,7 @@ lost (AtTouch touch) = touch ∷ []
 lost AtFault = []
 lost AtWork = []
 
--- of a round that wasn't whole: whether a fault was called, whether the board was turned, and whether the round was begun
+-- what a round that wasn't whole had done: whether a fault was called, whether the board was turned, and whether the round was begun
 abbrev pub faults_in : Halt → ℕ
 faults_in Between = 0
 faults_in AtClosing = 0
@@ -66,8 +66,7 @@ abbrev pub IsQuietEnd : ℕ → Option (List Touch) → Type 0
 IsQuietEnd zero coming = ⊤
 IsQuietEnd (suc n) coming = IfTold coming (λ touches. touches ≡ [])
 
--- so many whole rounds, and what was done of the one behind them: the touches made, the failures handed on, the quiets, the rounds in which nothing was wanted,
--- and how often a fault counted as a touch
+-- whole rounds, and what was done of the one behind them: the touches made, the failures handed on, the quiets, the rounds in which nothing was wanted, and how often a fault counted as a touch
 pub record Rounds (rounds : ℕ) (halt : Halt) (coming coming' : Option (List Touch)) (failed failed' : ℕ) (board board' : TendedLog) : Type 0 where
   pub touched : List Touch
   pub failures : ℕ

@@ -57,7 +57,7 @@ impl MemTended {
     }
 
     /// The touches made.
-    pub fn touched(&self) -> &[Touch]
+    pub fn touches_made(&self) -> &[Touch]
         ensures { self.now.log.touched ≡ Some result.now }
     {
         &self.touched

@@ -14,7 +14,7 @@ faults_in Served = 0
 faults_in Failed = 1
 faults_in Memory = 0
 
--- of so many connections that are to come
+-- of `count` connections that are to come, those that came before this ending: all where they were served
 pub record Takes (count : ℕ) (ending : Ending) (old new : DoorLog) : Type 0 where
   pub came : ℕ
   pub quiets : ℕ

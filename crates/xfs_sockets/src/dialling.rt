@@ -30,7 +30,7 @@ fn path_of(service: Service) -> &'static str {
 }
 
 /// Does a client's handshake with a service on a connected stream.
-pub fn dialled<S: RandomSource + Drop, C: Clock>(
+pub fn shake_dialled<S: RandomSource + Drop, C: Clock>(
     alloc: Global,
     source: S,
     clock: &C,

@@ -3,7 +3,7 @@ ghost use Rattle.xfs_base.specs.declared.moment.Service.TheVariants as Service;
 ghost use Rattle.xfs_server.specs.Links.{IsFresh};
 
 use crate::SocketLink;
-use crate::dialling::dialled;
+use crate::dialling::shake_dialled;
 use crate::entrance::{Entrance, Port};
 use crate::socket::Socket;
 use crate::visitors::Origins;
@@ -140,7 +140,7 @@ impl<'a, R: Net<Listener = TcpListener, Stream = TcpStream> + RandomSource, C: C
     }
 
     /// The port that the last dial reached nobody at, and why.
-    pub fn unreached(&self) -> Option<(u16, ErrorKind)> {
+    pub fn last_unreached(&self) -> Option<(u16, ErrorKind)> {
         self.unreached
     }
 
@@ -171,7 +171,7 @@ impl<'a, R: Net<Listener = TcpListener, Stream = TcpStream> + RandomSource, C: C
         })
     }
 
-    fn connected(
+    fn connect_to(
         &self,
         service: Service,
         stream: TcpStream,
@@ -179,7 +179,7 @@ impl<'a, R: Net<Listener = TcpListener, Stream = TcpStream> + RandomSource, C: C
         ensures { IfOk result (λ link. IsFresh link) }
     {
         let port = self.ports.of(service);
-        let socket = dialled(self.alloc, self.rt, self.clock, service, port, stream)?;
+        let socket = shake_dialled(self.alloc, self.rt, self.clock, service, port, stream)?;
         Ok(SocketLink::new(self.alloc, Socket::Client(socket), self.clock))
     }
 }
@@ -222,7 +222,7 @@ impl<
         self.last_dialled = Some(service);
         let port = self.ports.of(service);
         let dialled = match TcpStream::connect(self.rt, ("127.0.0.1", port)) {
-            Ok(stream) => self.connected(service, stream),
+            Ok(stream) => self.connect_to(service, stream),
             Err(error) => {
                 self.unreached = Some((port, error.kind()));
                 Err(DialFault::Failed)

@@ -112,13 +112,13 @@ impl<'a, R: RandomSource + Drop, C: Clock> Wire<'a, R, C> {
         let reads = if stream.waits() { 1 } else { READS };
         for _ in 1..reads {
             let answer = self.read();
-            match found(alloc, answer) {
+            match heard_in(alloc, answer) {
                 Heard::Nothing => {}
                 heard => return heard,
             }
         }
         let answer = self.read();
-        found(alloc, answer)
+        heard_in(alloc, answer)
     }
 
     fn read(&mut self) -> Result<Message, Error> {
@@ -152,7 +152,7 @@ impl<'a, R: RandomSource + Drop, C: Clock> Wire<'a, R, C> {
     // Where there is no memory for it, the next look pings.
     fn ping(&mut self, now: Moment) -> Taking {
         let written = self.socket.write(Message::Ping(Payload::from_static(b"")));
-        match given(written) {
+        match give_result(written) {
             Ok(()) => {
                 self.unsent = true;
                 self.since = now;
@@ -174,7 +174,7 @@ impl<'a, R: RandomSource + Drop, C: Clock> Wire<'a, R, C> {
         if self.socket.stream().set_waits(true).is_err() {
             return Err(GiveFault::Failed);
         }
-        let written = given(self.socket.write(message));
+        let written = give_result(self.socket.write(message));
         self.unsent = match written {
             Ok(()) => true,
             Err(GiveFault::Memory) => self.unsent,
@@ -201,7 +201,7 @@ impl<'a, R: RandomSource + Drop, C: Clock> Wire<'a, R, C> {
             return Taking::Failed;
         }
         let replied = self.socket.flush();
-        match given(replied) {
+        match give_result(replied) {
             Ok(()) => Taking::Closed,
             Err(_) => Taking::Failed,
         }
@@ -224,10 +224,10 @@ impl<'a, R: RandomSource + Drop, C: Clock> Wire<'a, R, C> {
     }
 }
 
-fn found(alloc: Global, answer: Result<Message, Error>) -> Heard {
+fn heard_in(alloc: Global, answer: Result<Message, Error>) -> Heard {
     match answer {
-        Ok(Message::Text(text)) => copied(alloc, text.as_str().as_bytes()),
-        Ok(Message::Binary(bytes)) => copied(alloc, bytes.as_slice()),
+        Ok(Message::Text(text)) => copy_bytes(alloc, text.as_str().as_bytes()),
+        Ok(Message::Binary(bytes)) => copy_bytes(alloc, bytes.as_slice()),
         Ok(Message::Close(_)) => Heard::Close,
         Ok(_) => Heard::Nothing,
         Err(Error::ConnectionClosed) => Heard::Ended,
@@ -243,7 +243,7 @@ fn found(alloc: Global, answer: Result<Message, Error>) -> Heard {
     }
 }
 
-fn copied(alloc: Global, bytes: &[u8]) -> Heard {
+fn copy_bytes(alloc: Global, bytes: &[u8]) -> Heard {
     match Vec::from_slice(alloc, bytes) {
         Ok(text) => Heard::Text(Bytes::new(text)),
         Err(_) => Heard::Memory,
@@ -251,7 +251,7 @@ fn copied(alloc: Global, bytes: &[u8]) -> Heard {
 }
 
 // A write that waited its time is a fault like every other.
-fn given(sent: Result<(), Error>) -> Result<(), GiveFault> {
+fn give_result(sent: Result<(), Error>) -> Result<(), GiveFault> {
     match sent {
         Ok(()) => Ok(()),
         Err(Error::OutOfMemory) => Err(GiveFault::Memory),

@@ -16,7 +16,7 @@ unit_name unit = codes "unit" ++ (48 + unit) ∷ []
 abbrev pub unit_payload : NoteKind → ℕ → Data
 unit_payload kind count = object (member (codes "count") (number (unsigned count)) (member (codes "currency") (string kind.currency) (member (codes "value") (number (unsigned kind.value)) no_members)))
 
--- the same of the units from one on, whose kinds these are
+-- what GetStorage tells of the units from one on, whose kinds these are
 abbrev pub units_payload : List NoteKind → ℕ → Counts → Members
 units_payload [] unit counts = no_members
 units_payload (k ∷ ks) unit counts = member (unit_name unit) (unit_payload k (at counts (unit - 1))) (units_payload ks (unit + 1) counts)

@@ -50,10 +50,10 @@ pub fn read_added(payload: &Value) -> Result<Added, AddedFault>
 fn are_added(units: &Map) -> bool
     ensures { IsTrue result ↔ AreAdded (Some (members_view units.now.entries)) }
 {
-    !units.is_empty() && all_added(units)
+    !units.is_empty() && are_all_added(units)
 }
 
-fn all_added(units: &Map) -> bool
+fn are_all_added(units: &Map) -> bool
     ensures { IsTrue result ↔ AllAdded (members_view units.now.entries) }
 {
     for (_, unit) in units {

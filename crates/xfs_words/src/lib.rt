@@ -8,4 +8,4 @@ mod table;
 
 pub use command::{Command, WordsFault};
 pub use reading::read;
-pub use spelling::spelled;
+pub use spelling::name_command;

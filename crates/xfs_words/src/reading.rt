@@ -28,7 +28,7 @@ pub fn read(alloc: Global, words: &[String]) -> Result<Command, WordsFault>
     if !is_plain(words) || !has_name(words) {
         return Err(WordsFault::Usage);
     }
-    let matches = parsed(alloc, words)?;
+    let matches = parse_words(alloc, words)?;
     match matches.subcommand() {
         Some((name, found)) => command(name, found),
         None => Err(WordsFault::Usage),
@@ -65,7 +65,7 @@ fn is_name(word: &str) -> bool
     )
 }
 
-fn parsed<'a>(alloc: Global, words: &'a [String]) -> Result<ArgMatches<'a>, WordsFault>
+fn parse_words<'a>(alloc: Global, words: &'a [String]) -> Result<ArgMatches<'a>, WordsFault>
     ensures ok { IfOk result (λ _. fault_of table (texts words.entry.now) ≡ []) }
     ensures rows { IfOk result (λ matches. subcommand_rows_of matches ≡ subcommand_of table (texts words.entry.now)) }
     ensures usage { IfErr result (λ fault. fault ≡ Usage → ¬ (fault_of table (texts words.entry.now) ≡ [])) }

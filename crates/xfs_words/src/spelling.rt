@@ -16,13 +16,13 @@ const MOST_AMOUNT: u64 = 1_000_000;
 
 /// The command that the words name, as `read` gives it, compared as they stand. It takes no memory, so it serves where
 /// `read` found none.
-pub fn spelled(words: &[String]) -> Option<Command>
+pub fn name_command(words: &[String]) -> Option<Command>
     ensures named { IfSome result (λ command. Names command (texts words.now)) }
     ensures none { IfNone result ((command : Command) → ¬ (Names command (texts words.now))) }
 {
     match words {
         [name] => bare(name.as_str()),
-        [name, number] => numbered(name.as_str(), number.as_str()),
+        [name, number] => number_command(name.as_str(), number.as_str()),
         [name, letters, number] => withdrawal(name.as_str(), letters.as_str(), number.as_str()),
         _ => None,
     }
@@ -43,7 +43,7 @@ fn bare(name: &str) -> Option<Command>
     }
 }
 
-fn numbered(name: &str, number: &str) -> Option<Command>
+fn number_command(name: &str, number: &str) -> Option<Command>
     ensures named { IfSome result (λ command. Names command (name.now ∷ number.now ∷ [])) }
     ensures none { IfNone result ((command : Command) → ¬ (Names command (name.now ∷ number.now ∷ []))) }
 {

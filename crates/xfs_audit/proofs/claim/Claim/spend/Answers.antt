@@ -19,7 +19,7 @@ loop-i-preserved c =
     let lt : i < length c.loop-i.self.shown = omega (arith, inv.long, c.kinds-kinds.ensures.high, ap length same) in
     let read : slice_get kinds i ≡ Some c.index-kinds-i.result = slice_get_read kinds (length kinds) i c.index-kinds-i.result refl c.loop-i-test.true c.index-kinds-i.is in
     let there : slice_get units i ≡ Some c.index-kinds-i.result = rw same at read in
-    let may : c.allowed.result ≡ allowed c.loop-i.self.amounts c.index-kinds-i.result.currency = c.allowed.ensures ∙ ap (λ (k : NoteKind). allowed c.loop-i.self.amounts k.currency) (sym c.index-kinds-i.is) in
+    let may : c.amount_allowed.result ≡ allowed c.loop-i.self.amounts c.index-kinds-i.result.currency = c.amount_allowed.ensures ∙ ap (λ (k : NoteKind). allowed c.loop-i.self.amounts k.currency) (sym c.index-kinds-i.is) in
     record {
       long = grind (arith, common_steps, inv.long);
       amounts = inv.amounts;

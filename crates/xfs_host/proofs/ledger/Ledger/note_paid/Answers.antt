@@ -1,5 +1,5 @@
 use Rattle.std.proofs.Common.{◌≡◌, ◌∷◌, ◌++◌, [], None, map, refl, ◌∙◌, ap, sym, subst}
-use Rattle.xfs_host.specs.Book.{book_of, decided, first_in, first_of, is_paid, noted, with_first}
+use Rattle.xfs_host.specs.Book.{book_of, decided, first_ask_in, first_of, is_paid, noted, with_first}
 use Rattle.xfs_host.specs.Kept.{IsKept, call_of}
 use Rattle.xfs_host.specs.declared.decision.Decision.TheVariants.{Paid}
 use Rattle.xfs_host.specs.declared.first.First.{First}
@@ -13,9 +13,9 @@ invariant_of-self-2 c =
     let t = c.args.ask.now in
     let b = book_of (map (λ s. call_of s.value) l.calls.items) in
     let f : First = record { terms = t; decision = Paid } in
-    let new : first_in b t.tx ≡ None = ap (λ calls. first_in (book_of calls) t.tx) c.self.view_is ∙ c.requires.new in
+    let new : first_ask_in b t.tx ≡ None = ap (λ calls. first_ask_in (book_of calls) t.tx) c.self.view_is ∙ c.requires.new in
     let is : Paid ≡ decided b t = sym (ap (λ calls. decided (book_of calls) t) c.self.view_is ∙ c.requires.paid) in
-    let updates = rw (c.tx-2.ensures, c.in_ok-copied.ensures) at c.in_default.ensures.updates in
+    let updates = rw (c.tx-2.ensures, c.in_ok-copy.ensures) at c.in_default.ensures.updates in
     let used = rw (c.tx.ensures, c.in_ok-nonce.ensures.items, c.nonce.ensures.now) at c.in_ok-use_nonce.ensures.used in
     let charged = rw (c.account.ensures, c.amount.ensures.now) at c.charge.ensures.charged in
     let kept : IsKept (with_first b f) c.charge.new.accounts c.add.new.map c.use_nonce.new.nonces =

@@ -3,7 +3,7 @@ use Rattle.std.specs.Prelude.{IfOk}
 use Rattle.xfs_host.specs.Book.{Call, book_of, listed}
 use Rattle.xfs_host.specs.Kept.{call_of}
 use Rattle.xfs_host.proofs.Entries.{found, listed_entries}
-use Rattle.xfs_host.proofs.ledger.Ledger.listed.Goals as goal
+use Rattle.xfs_host.proofs.ledger.Ledger.list_accounts.Goals as goal
 
 pub returns : goal.returns
 returns c =

@@ -1,6 +1,6 @@
 use Rattle.std.proofs.Common.{◌≡◌, ℕ, ◌+◌, ◌^◌, ◌<◌, ◌≤◌, length, slice_index}
 use Rattle.xfs_base.specs.Counts.{at}
-use Rattle.xfs_mech.proofs.limits.added.Given as goal
+use Rattle.xfs_mech.proofs.limits.add_counts.Given as goal
 
 abbrev pub invariant-loop-unit : goal.invariant-loop-unit
 invariant-loop-unit l = record {

@@ -6,7 +6,7 @@ use Rattle.clap.specs.declared.error.kind.ErrorKind.TheVariants.{OutOfMemory}
 use Rattle.clap.proofs.WalkLemmas.{both}
 use Rattle.xfs_words.specs.Words.{texts}
 use Rattle.xfs_words.proofs.ClapLaws.{memory_alone, simple_table, table_taken}
-use Rattle.xfs_words.proofs.reading.parsed.Goals as goal
+use Rattle.xfs_words.proofs.reading.parse_words.Goals as goal
 
 pub returns-in-Ok-clause-ok : goal.returns-in-Ok-clause-ok
 returns-in-Ok-clause-ok c =

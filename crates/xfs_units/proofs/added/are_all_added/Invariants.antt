@@ -1,6 +1,6 @@
 use Rattle.serde_json.specs.View.{members_view}
 use Rattle.xfs_units.specs.Payloads.{AllAdded}
-use Rattle.xfs_units.proofs.added.all_added.Given as goal
+use Rattle.xfs_units.proofs.added.are_all_added.Given as goal
 
 abbrev pub invariant-loop-unit : goal.invariant-loop-unit
 invariant-loop-unit l = record {

@@ -1,7 +1,7 @@
 use Rattle.std.proofs.Common.{arith}
 use Rattle.std.proofs.lemmas.Grind.{common_steps}
 use Rattle.xfs_mech.proofs.CountLaws.{plus-done, plus-left, plus-bound}
-use Rattle.xfs_mech.proofs.limits.added.Goals as goal
+use Rattle.xfs_mech.proofs.limits.add_counts.Goals as goal
 
 pub loop-unit-preserved : goal.loop-unit-preserved
 loop-unit-preserved c = record {
