@@ -1,23 +1,19 @@
 //! Guards over the mechanism of the simulated machine and an empty disk whose calls at given places fail.
 
-ghost use Rattle.std.specs.Prelude.{◌≡◌, ℕ, List, IfOk, []};
+ghost use Rattle.std.specs.Prelude.{◌≡◌, IfOk, []};
 ghost use Rattle.xfs_base.specs.Causes.{IfTold};
 ghost use Rattle.xfs_mech.specs.Sim.{units_of, motions_of};
-ghost use Rattle.xfs_disk.specs.MemDisk.{IsImage as MayBe};
-ghost use Rattle.xfs_disk.specs.Wrapped.{failing_inner};
-ghost use Rattle.xfs_journal.specs.Image.{StandsFor};
-ghost use Rattle.xfs_journal.specs.declared.record.Rec.{Rec};
-ghost use Rattle.xfs_guard.specs.Recorded.{IsRecorded};
+ghost use Rattle.xfs_guard.specs.Starts.{Starts};
 ghost use Rattle.xfs_guard.specs.declared.open.Open.TheVariants.{No};
 
 use std::alloc::Global;
 use std::test::Fail;
 use xfs_base::UnitTable;
-use xfs_disk::{Disk, FailDisk, MemDisk};
+use xfs_disk::{Disk, FailDisk};
 use xfs_guard::{Core, Guard};
 use xfs_journal::Limits;
 use xfs_mech::{Mechanism, SimMech};
-use xfs_simulated::{LIMITS, core_on, empty, mechanism};
+use xfs_simulated::{LIMITS, OWN, core_failing, empty, mechanism};
 
 /// A token of EUR 50 for the first nonce, under the key of the simulated machine. Its HMAC is that of Python's hmac and
 /// hashlib.
@@ -37,28 +33,9 @@ pub fn sim(alloc: Global, units: &UnitTable) -> Result<SimMech, Fail>
     Ok(mechanism(alloc, units, Vec::new(alloc)).ok_or("the mechanism")?)
 }
 
-// The same core, over a disk whose calls at these places fail.
-fn failing_core<M: Mechanism>(core: Core<M, MemDisk>, failing: Vec<u64>) -> Core<M, FailDisk>
-    requires units { M.units core.mech ≡ core.units }
-    requires starts { (image : List ℕ) → MayBe core.disk image → (records : List Rec) → StandsFor image records → IsRecorded core.key core.units records (M.motions core.mech) }
-    ensures units { M.units result.mech ≡ result.units }
-    ensures starts { (image : List ℕ) → MayBe (failing_inner result.disk) image → (records : List Rec) → StandsFor image records → IsRecorded result.key result.units records (M.motions result.mech) }
-{
-    Core {
-        mech: core.mech,
-        disk: FailDisk::new(core.disk, failing),
-        key: core.key,
-        seed: core.seed,
-        units: core.units,
-        limits: core.limits,
-        life: core.life,
-    }
-}
-
 // A guard over a core whose disk was written by nobody.
-fn booted<M: Mechanism, D: Disk>(alloc: Global, core: Core<M, D>) -> Result<Guard<M, D>, Fail>
-    requires units { M.units core.mech ≡ core.units }
-    requires starts { (image : List ℕ) → D.images core.disk image → (records : List Rec) → StandsFor image records → IsRecorded core.key core.units records (M.motions core.mech) }
+fn boot<M: Mechanism>(alloc: Global, core: Core<M, FailDisk>) -> Result<Guard<M, FailDisk>, Fail>
+    requires starts { Starts M.Mechanism ⟦<FailDisk as Disk>⟧ core }
     ensures { IfOk result (λ g. g.state.open_order ≡ No) }
 {
     let Core {
@@ -88,8 +65,11 @@ pub fn guard_over<M: Mechanism>(
     requires units { M.units mech ≡ units }
     ensures { IfOk result (λ g. g.state.open_order ≡ No) }
 {
-    let core = core_on(mech, units, empty(alloc), limits);
-    booted(alloc, failing_core(core, Vec::from_slice(alloc, failing)?))
+    let failing = Vec::from_slice(alloc, failing)?;
+    boot(
+        alloc,
+        core_failing(OWN, mech, units, empty(alloc), limits, failing),
+    )
 }
 
 /// The same over the simulated machine and its limits.

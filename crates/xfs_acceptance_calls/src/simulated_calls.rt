@@ -8,7 +8,7 @@ use xfs_disk::MemDisk;
 use xfs_journal::{Journal, Rec, Survey};
 use xfs_mech::{KeyName, Mechanism, Motion, News, SimWatch, Touch, Watch};
 use xfs_simulated::{
-    LIMITS, OWN, card_news, core_on, core_resumed, empty, key_news, mechanism, places, secret_in,
+    LIMITS, OWN, card_news, core_on, empty, key_news, mechanism, places, resume_core, secret_in,
     units,
 };
 
@@ -154,7 +154,7 @@ fn the_machine_goes_on_where_its_journal_leaves_it(rt: HostRuntime) -> Result<()
         kind: Kind::Stack,
         counts: twenties(3),
     })?;
-    let core = core_resumed(alloc, journal.end(), OWN, Vec::new(alloc))?;
+    let core = resume_core(alloc, journal.end(), OWN, Vec::new(alloc))?;
     let left = Places {
         units: twenties(12),
         taken: twenties(2),
@@ -179,7 +179,7 @@ fn places_that_no_machine_has_are_not_taken(rt: HostRuntime) -> Result<(), Fail>
     let alloc = rt.alloc();
     for (count, moved) in [(10_001, 0), (1, 2), (4_000_000_001, 4_000_000_001)] {
         let journal = paid(alloc, count, moved)?;
-        let core = core_resumed(alloc, journal.end(), OWN, Vec::new(alloc))?;
+        let core = resume_core(alloc, journal.end(), OWN, Vec::new(alloc))?;
         assert_eq!(rt; core.mech.survey(), full(), "{count}");
     }
     Ok(())
@@ -190,7 +190,7 @@ fn a_disk_without_a_journal_has_a_full_machine(rt: HostRuntime) -> Result<(), Fa
     let alloc = rt.alloc();
     for bytes in [b"".as_slice(), &[0xff; 9], &[0xff; 10]] {
         let disk = MemDisk::new(alloc, Vec::from_slice(alloc, bytes)?);
-        let core = core_resumed(alloc, disk, OWN, Vec::new(alloc))?;
+        let core = resume_core(alloc, disk, OWN, Vec::new(alloc))?;
         assert_eq!(rt; core.mech.survey(), full());
         assert!(rt; core.mech.motions().is_empty());
         assert!(rt; bytes.len() < 10 || core.disk.bytes() == bytes);

@@ -45,7 +45,7 @@ fn told(alloc: Global, effect: &CardEffect) -> Result<String, Fail> {
 
 // Where the card is, for which a reset is begun where it is not at the exit.
 fn place(alloc: Global, state: &mut CardState) -> Result<&'static str, Fail> {
-    if state.awaited() {
+    if state.awaits_card() {
         return Ok("awaited");
     }
     if state.at_exit() {

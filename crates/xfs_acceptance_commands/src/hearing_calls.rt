@@ -7,8 +7,8 @@ ghost use Rattle.serde_json.specs.Written.{has_float};
 use std::alloc::Global;
 use std::test::Fail;
 use xfs_base::Currency;
+use xfs_client::hearing::{ask, hear, next};
 use xfs_client::{Desk, HearFault, Heard, Move, Withdrawal};
-use xfs_hearing::{ask, hear, next};
 use xfs_json::{Map, Value};
 
 const ACCEPTED: &str =

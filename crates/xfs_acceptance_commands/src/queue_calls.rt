@@ -91,7 +91,7 @@ fn cancel_and_a_leaving_client_touch_their_own_alone(rt: HostRuntime) -> Result<
     assert_eq!(rt; queue.cancel(ClientId(1), &ids), 1);
     assert_eq!(rt; queue.stopped(), Some(ticket(1, 2)));
     assert_eq!(rt; queue.cancel(ClientId(2), &Ids::All), 1);
-    assert!(rt; queue.marked(ticket(2, 1)) && !queue.marked(ticket(1, 1)));
+    assert!(rt; queue.is_marked(ticket(2, 1)) && !queue.is_marked(ticket(1, 1)));
     if let Some(first) = queue.next(Line::Device)
         && queue.running().is_none()
     {
@@ -99,7 +99,7 @@ fn cancel_and_a_leaving_client_touch_their_own_alone(rt: HostRuntime) -> Result<
     }
     queue.drop_client(ClientId(1));
     assert_eq!(rt; queue.running(), Some(ticket(1, 1)));
-    assert!(rt; queue.marked(ticket(1, 1)) && queue.holds(ClientId(2), 1));
+    assert!(rt; queue.is_marked(ticket(1, 1)) && queue.holds(ClientId(2), 1));
     if let Some(running) = queue.running() {
         assert_eq!(rt; queue.set_job(running, 8), 1);
     }

@@ -2,7 +2,7 @@ use crate::tables::halves;
 use std::alloc::{AllocError, Global};
 use std::process::Abort;
 use std::test::Fail;
-use xfs_words::{read, spelled};
+use xfs_words::{name_command, read};
 
 // Words with strokes between them, and the command that they name; the letters are those of EUR.
 const WORDS: &str = "guard => Guard
@@ -107,7 +107,7 @@ fn words_in(alloc: Global, text: &str) -> Result<Vec<String>, AllocError> {
 // Both readings of the words make this of them.
 fn name(rt: &impl Abort, alloc: Global, words: &[String], due: &str) -> Result<(), Fail> {
     let command = read(alloc, words).ok();
-    assert!(rt; spelled(words) == command, "{words:?}");
+    assert!(rt; name_command(words) == command, "{words:?}");
     let told = match command {
         Some(command) => format!(in alloc; "{command:?}")?,
         None => String::from_str(alloc, "none")?,

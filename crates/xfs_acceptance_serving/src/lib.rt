@@ -1,4 +1,4 @@
-//! Sessions, workers, servers and clients over doors and links in memory, as tests: threads that come and end by themselves.
+//! The machine behind boards, servers and `run` over doors and links in memory, as tests: threads that come and end by themselves.
 #![tactic(auto)]
 
 #[cfg(test)]
@@ -20,8 +20,6 @@ mod clients;
 #[cfg(test)]
 mod doors;
 #[cfg(test)]
-mod lists;
-#[cfg(test)]
 mod restart_calls;
 #[cfg(test)]
 mod rows;
@@ -36,12 +34,4 @@ mod runs;
 #[cfg(test)]
 mod scene;
 #[cfg(test)]
-mod servers;
-#[cfg(test)]
-mod sessions;
-#[cfg(test)]
 mod told;
-#[cfg(test)]
-mod turn_calls;
-#[cfg(test)]
-mod withdraw_calls;

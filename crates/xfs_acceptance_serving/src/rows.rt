@@ -2,7 +2,6 @@
 
 use crate::bench::{a_card, a_key, machine};
 use crate::doors::{PatientDoors, crowd};
-use crate::lists::{first_of, halves, is};
 use crate::scene::{Scene, Until};
 use crate::told::{Told, told_by};
 use std::alloc::Global;
@@ -12,12 +11,12 @@ use std::test::Fail;
 use std::thread::Threads;
 use std::time;
 use xfs_base::{Clock, Counts, Places, StdClock};
+use xfs_board::serve_connections;
 use xfs_disk::Disk;
 use xfs_machine::Machine;
 use xfs_mech::{Mechanism, SimWatch};
 use xfs_server::{Doors, Gate};
 use xfs_serving::{CardWatch, Ending, KeyWatch};
-use xfs_serving_machine::serve_connections;
 
 /// The clients that come, by their letters; how many connections the server takes, and whether the doors fail once all have
 /// come; how many clients the gate holds back, and until when; and what is due then.
@@ -31,12 +30,20 @@ struct Row<'a> {
     due: &'a str,
 }
 
+// What stands before and behind the first of these marks: all of it before, where there is none.
+fn cut_at<'a>(text: &'a str, mark: &str) -> (&'a str, &'a str) {
+    match text.split_once(mark) {
+        Some(parts) => parts,
+        None => (text, ""),
+    }
+}
+
 // A row of a table, whose gate holds clients back until others were answered.
 fn row_of(text: &str) -> Option<Row<'_>> {
-    let (given, due) = halves(text);
-    let (clients, given) = first_of(given);
-    let (count, given) = first_of(given);
-    let (doors, last) = first_of(given);
+    let (given, due) = cut_at(text, " => ");
+    let (clients, given) = cut_at(given, " ");
+    let (count, given) = cut_at(given, " ");
+    let (doors, last) = cut_at(given, " ");
     Some(Row {
         clients,
         count: count.parse::<u32>().ok()?,
@@ -135,7 +142,7 @@ fn is_so(ending: Ending, word: &str) -> bool {
 
 fn is_live(live: Option<u64>, due: &str) -> bool {
     match live {
-        Some(number) => is(number, due),
+        Some(number) => due.parse::<u64>() == Ok(number),
         None => due == "-",
     }
 }
@@ -152,8 +159,8 @@ fn are_taken(places: &Places, due: &str) -> bool {
 
 // Whether no connection is open, and the live nonce, the records and the notes are what is due.
 fn tells(told: &Told, due: &str) -> bool {
-    let (live, due) = first_of(due);
-    let (records, taken) = first_of(due);
+    let (live, due) = cut_at(due, " ");
+    let (records, taken) = cut_at(due, " ");
     told.open == 0
         && is_live(told.live, live)
         && told.records.as_slice() == records.as_bytes()
@@ -162,10 +169,10 @@ fn tells(told: &Told, due: &str) -> bool {
 
 // Whether the row's server ends as the row says: in which way, and how many clients heard all that they were to.
 fn is_served(report: &Report, row: Row<'_>) -> bool {
-    let (ending, due) = first_of(row.due);
-    let (answered, due) = first_of(due);
+    let (ending, due) = cut_at(row.due, " ");
+    let (answered, due) = cut_at(due, " ");
     is_so(report.ending, ending)
-        && is(report.answered, answered)
+        && answered.parse::<u64>() == Ok(report.answered)
         && !report.amiss
         && report.held == (row.last > 0)
         && tells(&report.told, due)

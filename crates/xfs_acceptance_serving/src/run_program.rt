@@ -1,44 +1,16 @@
 //! A run over doors, a clock and a mechanism in memory.
 
-ghost use Rattle.std.specs.Prelude.{◌≡◌, ℕ, List};
-ghost use Rattle.xfs_disk.specs.Disk.{Only};
-ghost use Rattle.xfs_disk.specs.MemDisk.{IsImage as MayBe, bytes_of};
-ghost use Rattle.xfs_disk.specs.Wrapped.{failing_inner};
-ghost use Rattle.xfs_guard.specs.Recorded.{IsRecorded};
-ghost use Rattle.xfs_journal.specs.Image.{StandsFor};
-ghost use Rattle.xfs_journal.specs.declared.record.Rec.{Rec};
-
 use std::alloc::Global;
 use std::sync::Wait;
 use std::test::Fail;
 use std::thread::Threads;
 use xfs_base::{Clock, MemSink, MemSource};
 use xfs_cli::{Ended, run};
-use xfs_disk::{FailDisk, MemDisk};
-use xfs_guard::{Bench, Core};
-use xfs_mech::{Mechanism, SimMech, TakerWatch};
+use xfs_disk::FailDisk;
+use xfs_guard::Bench;
+use xfs_mech::{SimMech, TakerWatch};
 use xfs_server::{Doors, OpenGate};
-use xfs_simulated::{LIMITS, core_on, empty, mechanism, second_core, units};
-
-// The same core, over a disk whose calls at these places fail.
-fn failing_core<M: Mechanism>(core: Core<M, MemDisk>, failing: Vec<u64>) -> Core<M, FailDisk>
-    requires units { M.units core.mech ≡ core.units }
-    requires starts { (image : List ℕ) → MayBe core.disk image → (records : List Rec) → StandsFor image records → IsRecorded core.key core.units records (M.motions core.mech) }
-    requires at_rest { Only (bytes_of core.disk) (MayBe core.disk) }
-    ensures units { M.units result.mech ≡ result.units }
-    ensures starts { (image : List ℕ) → MayBe (failing_inner result.disk) image → (records : List Rec) → StandsFor image records → IsRecorded result.key result.units records (M.motions result.mech) }
-    ensures at_rest { Only (bytes_of (failing_inner result.disk)) (MayBe (failing_inner result.disk)) }
-{
-    Core {
-        mech: core.mech,
-        disk: FailDisk::new(core.disk, failing),
-        key: core.key,
-        seed: core.seed,
-        units: core.units,
-        limits: core.limits,
-        life: core.life,
-    }
-}
+use xfs_simulated::{LIMITS, OWN, core_failing, empty, mechanism, second_core, units};
 
 /// Runs the program with these words on one line of input, over main's mechanism and an empty disk whose calls at these
 /// places fail.
@@ -53,10 +25,9 @@ pub fn program<R: Threads + Wait + Sync, C: Clock + Sync, O: Doors>(
 ) -> Result<Ended<SimMech, FailDisk, O::Link>, Fail> {
     let units = units().ok_or("the units")?;
     let mech = mechanism(alloc, &units, Vec::new(alloc)).ok_or("the mechanism")?;
-    let core = core_on(mech, units, empty(alloc), LIMITS);
-    let core = failing_core(core, Vec::from_slice(alloc, failing)?);
+    let failing = Vec::from_slice(alloc, failing)?;
     let bench = Bench {
-        core,
+        core: core_failing(OWN, mech, units, empty(alloc), LIMITS, failing),
         cards: TakerWatch,
         keys: TakerWatch,
         second: second_core(alloc).ok_or("the second machine")?,

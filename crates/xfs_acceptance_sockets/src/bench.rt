@@ -1,9 +1,6 @@
 //! A simulated machine that has booted.
 
-ghost use Rattle.std.specs.Prelude.{◌≡◌, ℕ, List};
-ghost use Rattle.xfs_guard.specs.Recorded.{IsRecorded};
-ghost use Rattle.xfs_journal.specs.Image.{StandsFor};
-ghost use Rattle.xfs_journal.specs.declared.record.Rec.{Rec};
+ghost use Rattle.xfs_guard.specs.Starts.{Starts};
 
 use std::alloc::Global;
 use std::test::Fail;
@@ -13,9 +10,8 @@ use xfs_machine::Machine;
 use xfs_mech::{Mechanism, SimMech};
 use xfs_simulated::{LIMITS, core_on, empty, mechanism, units};
 
-fn booted<M: Mechanism, D: Disk>(alloc: Global, core: Core<M, D>) -> Result<Machine<M, D>, Fail>
-    requires units { M.units core.mech ≡ core.units }
-    requires starts { (image : List ℕ) → D.images core.disk image → (records : List Rec) → StandsFor image records → IsRecorded core.key core.units records (M.motions core.mech) }
+fn boot(alloc: Global, core: Core<SimMech, MemDisk>) -> Result<Machine<SimMech, MemDisk>, Fail>
+    requires starts { Starts ⟦<SimMech as Mechanism>⟧ ⟦<MemDisk as Disk>⟧ core }
 {
     match Machine::boot(alloc, core) {
         Ok(machine) => Ok(machine),
@@ -27,5 +23,5 @@ fn booted<M: Mechanism, D: Disk>(alloc: Global, core: Core<M, D>) -> Result<Mach
 pub fn machine(alloc: Global) -> Result<Machine<SimMech, MemDisk>, Fail> {
     let units = units().ok_or("the units")?;
     let mech = mechanism(alloc, &units, Vec::new(alloc)).ok_or("the mechanism")?;
-    booted(alloc, core_on(mech, units, empty(alloc), LIMITS))
+    boot(alloc, core_on(mech, units, empty(alloc), LIMITS))
 }

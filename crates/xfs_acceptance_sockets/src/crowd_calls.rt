@@ -12,12 +12,12 @@ use std::test::Fail;
 use std::thread::Threads;
 use std::{thread, time};
 use xfs_base::{Clock, Memory, Service, StdClock};
+use xfs_board::Served;
 use xfs_disk::Disk;
 use xfs_machine::Machine;
 use xfs_mech::Mechanism;
 use xfs_server::{Doors, Link, OpenGate, Taking};
 use xfs_serving::Ending as Over;
-use xfs_serving_machine::Served;
 use xfs_sockets::Ports;
 
 // So many clients come to the dispenser: one that doesn't read, one that has the nonces, and these.

@@ -178,11 +178,11 @@ fn tale_of<R: Wait>(rt: &R, alloc: Global, trial: Trial) -> Result<Option<Tale>,
         pauses: AtomicU64::new(0),
     };
     let over = tend(rt, &mut board, &mut watch, &clock);
-    if over != Over2::Done || !begins_with_the_key(board.touched()) {
+    if over != Over2::Done || !begins_with_the_key(board.touches_made()) {
         return Ok(None);
     }
     Ok(Some(Tale {
-        touches: board.touched().len(),
+        touches: board.touches_made().len(),
         faults: board.faults(),
         turns: board.turns(),
         pauses: clock.pauses.load(Ordering::SeqCst),

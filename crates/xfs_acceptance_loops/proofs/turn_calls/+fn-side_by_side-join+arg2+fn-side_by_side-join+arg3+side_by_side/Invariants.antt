@@ -1,5 +1,5 @@
 use Rattle.std.proofs.Common.{◌+◌, ◌*◌}
-use Rattle.xfs_acceptance_serving.proofs.turn_calls.+fn-side_by_side-join+arg2+fn-side_by_side-join+arg3+side_by_side.Given as goal
+use Rattle.xfs_acceptance_loops.proofs.turn_calls.+fn-side_by_side-join+arg2+fn-side_by_side-join+arg3+side_by_side.Given as goal
 
 abbrev pub decreases-join+arg2 : goal.decreases-join+arg2
 decreases-join+arg2 g l = 2 * l.half + 1

@@ -1,0 +1,4 @@
+use Rattle.xfs_acceptance_calls.proofs.guard_bench.boot.Goals as goal
+
+pub boot-requires-clause-recorded : goal.boot-requires-clause-recorded
+boot-requires-clause-recorded g c = λ records may. c.requires.starts.recorded may.bytes may.left records may.stands
