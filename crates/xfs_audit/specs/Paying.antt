@@ -10,8 +10,6 @@ use Rattle.xfs_journal.specs.declared.record.Rec.{Rec}
 use Rattle.xfs_journal.specs.declared.record.Rec.TheVariants.{Order}
 use Rattle.xfs_journal.specs.Journal.{record_at}
 use Rattle.xfs_guard.specs.Within.{shown, Within}
-use Rattle.xfs_hmac.specs.declared.key.Key.{Key}
-use Rattle.xfs_hmac.specs.Hmac.{IsKey}
 use Rattle.xfs_guard.specs.Agrees.{IsAsked}
 use Rattle.xfs_audit.specs.Reading.{IsRead}
 use Rattle.xfs_audit.specs.Claims.{HasClaim, Spends}
@@ -60,27 +58,27 @@ SpendsThere units moved (Some old) (Some new) paid = Spends units moved old new 
 SpendsThere units moved old new paid = ⊥
 
 -- notes that were put out on an order are paid for, whatever was read before
-abbrev pub Pays : Key → List NoteKind → List Rec → ℕ → Counts → Payer → Payer → Type 0
-Pays key units records number moved old new = (k : List ℕ) (done : List Motion) (counts diverted : Counts) → IsKey key k → IsPaying k units records done old
-    → IsPresented records number counts → IsPaying k units records (done ++ Moved number Present moved diverted ∷ []) new
+abbrev pub Pays : List ℕ → List NoteKind → List Rec → ℕ → Counts → Payer → Payer → Type 0
+Pays key units records number moved old new = (done : List Motion) (counts diverted : Counts) → IsPaying key units records done old
+    → IsPresented records number counts → IsPaying key units records (done ++ Moved number Present moved diverted ∷ []) new
 
 -- no list with these notes is within its tokens, whatever stands behind them
-abbrev pub IsUnpaid : Key → List NoteKind → List Rec → ℕ → Counts → Payer → Type 0
-IsUnpaid key units records number moved old = (k : List ℕ) (done rest : List Motion) (diverted : Counts) → IsKey key k → IsPaying k units records done old
-    → ¬ (Within k units records (done ++ Moved number Present moved diverted ∷ rest))
+abbrev pub IsUnpaid : List ℕ → List NoteKind → List Rec → ℕ → Counts → Payer → Type 0
+IsUnpaid key units records number moved old = (done rest : List Motion) (diverted : Counts) → IsPaying key units records done old
+    → ¬ (Within key units records (done ++ Moved number Present moved diverted ∷ rest))
 
 -- what was paid for stays so
 abbrev pub Keeps : List Rec → Payer → Payer → Type 0
 Keeps records old new = (k : List ℕ) (units : List NoteKind) (done : List Motion) → IsPaying k units records done old → IsPaying k units records done new
 
 -- what was paid for under this key stays so
-abbrev pub KeepsUnder : Key → List Rec → Payer → Payer → Type 0
-KeepsUnder key records old new = (k : List ℕ) (units : List NoteKind) (done : List Motion) → IsKey key k → IsPaying k units records done old → IsPaying k units records done new
+abbrev pub KeepsUnder : List ℕ → List Rec → Payer → Payer → Type 0
+KeepsUnder key records old new = (units : List NoteKind) (done : List Motion) → IsPaying key units records done old → IsPaying key units records done new
 
 -- one more entry is paid for
-abbrev pub Reads : Key → List NoteKind → List Rec → Motion → Payer → Payer → Type 0
-Reads key units records entry old new = (k : List ℕ) (done : List Motion) → IsKey key k → IsAsked records entry → IsPaying k units records done old → IsPaying k units records (done ++ entry ∷ []) new
+abbrev pub Reads : List ℕ → List NoteKind → List Rec → Motion → Payer → Payer → Type 0
+Reads key units records entry old new = (done : List Motion) → IsAsked records entry → IsPaying key units records done old → IsPaying key units records (done ++ entry ∷ []) new
 
 -- no list with this entry is within its tokens
-abbrev pub Breaks : Key → List NoteKind → List Rec → Motion → Payer → Type 0
-Breaks key units records entry old = (k : List ℕ) (done rest : List Motion) → IsKey key k → IsPaying k units records done old → ¬ (Within k units records (done ++ entry ∷ rest))
+abbrev pub Breaks : List ℕ → List NoteKind → List Rec → Motion → Payer → Type 0
+Breaks key units records entry old = (done rest : List Motion) → IsPaying key units records done old → ¬ (Within key units records (done ++ entry ∷ rest))

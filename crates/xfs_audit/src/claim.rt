@@ -1,11 +1,10 @@
 //! The token of a segment, and what was put out on it.
 
-ghost use Rattle.std.specs.Prelude.{◌≡◌, ℕ, ◌≤◌, ◌↔◌, IsTrue, List, length, IfOk, Some, slice_get};
+ghost use Rattle.std.specs.Prelude.{◌≡◌, ℕ, ◌≤◌, ◌↔◌, IsTrue, length, IfOk, Some, slice_get};
 ghost use Rattle.xfs_token.specs.Token.{Spells};
 ghost use Rattle.std.specs.Option.{option_map};
 ghost use Rattle.std.specs.Bool.{OnTrue, OnFalse};
 ghost use Rattle.xfs_base.specs.declared.money.NoteKind.{NoteKind as Kind};
-ghost use Rattle.xfs_hmac.specs.Hmac.{IsKey};
 ghost use Rattle.xfs_journal.specs.Journal.{token_of};
 ghost use Rattle.xfs_audit.specs.Claims.{IsIssueAt, IsIssue, IsClaimOf, IsFresh, HasToken, IsTokenOf, IsUnder, allowed, IsPaidAt, IsOver};
 
@@ -13,9 +12,8 @@ use crate::nonce::nonce_text;
 use crate::reader::is_mark;
 use std::alloc::Global;
 use xfs_base::{Counts, Currency, Memory, UnitTable};
-use xfs_hmac::Key;
 use xfs_journal::{Rec, Text};
-use xfs_token::{Amounts, Token, TokenFault, amounts, genuine_under, read};
+use xfs_token::{Amounts, Token, TokenFault, TokenKey, amounts, read};
 
 /// The amounts of a segment's token, and the worth of what was put out in the segment, in the
 /// currency of each unit.
@@ -30,11 +28,11 @@ impl Claim {
     /// was, or where it is no genuine token with the nonce of the issue.
     pub fn of(
         alloc: Global,
-        key: &Key,
+        key: &TokenKey,
         records: &[Rec],
         issue: usize,
     ) -> Result<Option<Claim>, Memory>
-        ensures claim { IfOk result (λ claim. (k : List ℕ) → IsKey key.now k → IsClaimOf k records.now issue claim) }
+        ensures claim { IfOk result (λ claim. IsClaimOf key.now records.now issue claim) }
         ensures fresh { IfOk result IsFresh }
     {
         let Some((number, word)) = issue_at(records, issue) else {
@@ -111,9 +109,14 @@ fn token_of(records: &[Rec], issue: usize) -> Option<&Text>
 }
 
 // The token that a text spells, where it has this nonce and the HMAC of its own bytes.
-fn token_in(alloc: Global, key: &Key, text: &[u8], nonce: &[u8]) -> Result<Option<Token>, Memory>
+fn token_in(
+    alloc: Global,
+    key: &TokenKey,
+    text: &[u8],
+    nonce: &[u8],
+) -> Result<Option<Token>, Memory>
     requires { length text.now ≤ 1024 }
-    ensures { IfOk result (λ token. (k : List ℕ) → IsKey key.now k → IsTokenOf k nonce.now text.now token) }
+    ensures { IfOk result (λ token. IsTokenOf key.now nonce.now text.now token) }
 {
     let token = match read(alloc, text) {
         Ok(token) => token,
@@ -127,9 +130,9 @@ fn token_in(alloc: Global, key: &Key, text: &[u8], nonce: &[u8]) -> Result<Optio
 }
 
 // Whether a token has this nonce and the HMAC of its own bytes.
-fn carries(key: &Key, text: &[u8], token: &Token, nonce: &[u8]) -> bool
+fn carries(key: &TokenKey, text: &[u8], token: &Token, nonce: &[u8]) -> bool
     requires { Spells token.now text.now }
-    ensures { (k : List ℕ) → IsKey key.now k → (IsTrue result ↔ HasToken k nonce.now text.now token.now) }
+    ensures { IsTrue result ↔ HasToken key.now nonce.now text.now token.now }
 {
-    token.nonce() == nonce && genuine_under(key, text, token)
+    token.nonce() == nonce && key.is_genuine(text, token)
 }

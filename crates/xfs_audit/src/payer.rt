@@ -4,7 +4,6 @@ ghost use Rattle.std.specs.Prelude.{◌≡◌, ℕ, ◌+◌, ◌<◌, ◌≤◌,
 ghost use Rattle.xfs_journal.specs.declared.record.Rec.{Rec as Record};
 ghost use Rattle.std.specs.Bool.{OnTrue, OnFalse};
 ghost use Rattle.xfs_base.specs.declared.money.NoteKind.{NoteKind as NotesOf};
-ghost use Rattle.xfs_hmac.specs.Hmac.{IsKey};
 ghost use Rattle.xfs_audit.specs.Reading.{IsRead};
 ghost use Rattle.xfs_audit.specs.Claims.{IsClaimOf, IsUnder};
 ghost use Rattle.xfs_audit.specs.Paying.{IsPaying, IsPutOut, SpendsThere, Pays, IsUnpaid, Reads, Breaks, Keeps, KeepsUnder};
@@ -15,9 +14,9 @@ use crate::claim::Claim;
 use crate::reader::Reader;
 use std::alloc::Global;
 use xfs_base::{Counts, Kind, Memory, UnitTable};
-use xfs_hmac::Key;
 use xfs_journal::Rec;
 use xfs_mech::Motion;
+use xfs_token::TokenKey;
 
 /// How far the records were read, and the claim of the issue that lives there, once notes were put
 /// out since it.
@@ -43,7 +42,7 @@ impl Payer {
     pub fn read(
         &mut self,
         alloc: Global,
-        key: &Key,
+        key: &TokenKey,
         units: &UnitTable,
         records: &[Rec],
         entry: &Motion,
@@ -67,7 +66,7 @@ impl Payer {
     fn pay(
         &mut self,
         alloc: Global,
-        key: &Key,
+        key: &TokenKey,
         units: &UnitTable,
         records: &[Rec],
         number: usize,
@@ -114,7 +113,7 @@ impl Payer {
     fn open(
         &mut self,
         alloc: Global,
-        key: &Key,
+        key: &TokenKey,
         records: &[Rec],
         issue: usize,
     ) -> Result<bool, Memory>
@@ -124,7 +123,7 @@ impl Payer {
         ensures small { IfOk result (λ made. OnTrue made (IfSome self.new.claim IsUnder)) }
         ensures claim { IfOk result (λ made. OnTrue made (IsSome self.new.claim)) }
         ensures same { IfOk result (λ made. OnTrue made (KeepsUnder key.now records.now self.old self.new)) }
-        ensures none { IfOk result (λ made. OnFalse made ((k : List ℕ) → IsKey key.now k → IsClaimOf k records.now issue None)) }
+        ensures none { IfOk result (λ made. OnFalse made (IsClaimOf key.now records.now issue None)) }
     {
         if self.claim.is_some() {
             return Ok(true);

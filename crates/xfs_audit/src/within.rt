@@ -7,9 +7,9 @@ ghost use Rattle.xfs_guard.specs.Within.{Within};
 use crate::payer::Payer;
 use std::alloc::Global;
 use xfs_base::{Memory, UnitTable};
-use xfs_hmac::Key;
 use xfs_journal::Rec;
 use xfs_mech::Motion;
+use xfs_token::TokenKey;
 
 /// Whether what was put out since each nonce was issued is worth no more than the token that was
 /// bound to it first. Records and motions are read once, side by side, and one HMAC is made for each
@@ -24,7 +24,7 @@ pub fn is_within(
     requires { Agrees records.now motions.now }
     ensures { IfOk result (λ within. IsTrue within ↔ Within key.now units.now records.now motions.now) }
 {
-    let key = Key::new(key);
+    let key = TokenKey::new(*key);
     let mut payer = Payer::new();
     for entry in motions {
         if !payer.read(alloc, &key, units, records, entry)? {

@@ -4,7 +4,7 @@ use Rattle.std.proofs.lemmas.Bool.{and_parts, or_cases, leb-true, eqb-true}
 use Rattle.std.specs.Prelude.{IsTrue}
 use Rattle.std.proofs.lemmas.List.{drop_all, length-replicate}
 use Rattle.xfs_disk.specs.Disk.{Torn, Cut, overlaid}
-use Rattle.xfs_disk.specs.Steps.{before, MayLeave, is_sound, synced, blotted, crashed}
+use Rattle.xfs_disk.specs.Steps.{before, LeftNow, is_sound, synced, blotted, crashed}
 use Rattle.xfs_disk.specs.Images.{here}
 use Rattle.xfs_disk.specs.declared.step.Step.{Step}
 use Rattle.xfs_disk.specs.declared.step.Step.TheVariants.{Write, Resize, Sync}
@@ -16,7 +16,7 @@ pub cut_same : (n : ℕ) (d : List ℕ) → Cut n d d
 cut_same n d = record { no_shorter = omega arith; no_longer = omega arith; prefix = refl }
 
 -- `settled`: the steps before those that are kept
-synced_image : (settled : List Step) (now : List ℕ) (steps : List Step) → MayLeave now (steps ++ settled) (synced now steps)
+synced_image : (settled : List Step) (now : List ℕ) (steps : List Step) → LeftNow now (steps ++ settled) (synced now steps)
 synced_image settled now [] = here now settled
 synced_image settled now (Write at len was ∷ older) =
     let b = before (Write at len was) now in inr (synced b older, synced_image settled b older, torn_same at len (synced b older))
@@ -64,7 +64,7 @@ parts at len w n is =
     let e = or_cases (w == len) (at + len == n) p.1 in
     (leb-true (at + len) n q.0, leb-true w len q.1, ⊎_elim (λ x. inl (eqb-true w len x)) (λ x. inr (eqb-true (at + len) n x)) e)
 
-blotted_image : (byte : ℕ) (settled : List Step) (now : List ℕ) (steps : List Step) → IsTrue (is_sound now steps) → MayLeave now (steps ++ settled) (blotted byte now steps)
+blotted_image : (byte : ℕ) (settled : List Step) (now : List ℕ) (steps : List Step) → IsTrue (is_sound now steps) → LeftNow now (steps ++ settled) (blotted byte now steps)
 blotted_image byte settled now [] sound = here now settled
 blotted_image byte settled now (Write at len was ∷ older) sound =
     let b = before (Write at len was) now in
@@ -73,6 +73,6 @@ blotted_image byte settled now (Write at len was ∷ older) sound =
 blotted_image byte settled now (Resize len was ∷ older) sound = inl refl
 blotted_image byte settled now (Sync ∷ older) sound = inl refl
 
-pub crashed_image : (pick : ℕ) (settled : List Step) (now : List ℕ) (steps : List Step) → IsTrue (is_sound now steps) → MayLeave now (steps ++ settled) (crashed pick now steps)
+pub crashed_image : (pick : ℕ) (settled : List Step) (now : List ℕ) (steps : List Step) → IsTrue (is_sound now steps) → LeftNow now (steps ++ settled) (crashed pick now steps)
 crashed_image zero settled now steps sound = synced_image settled now steps
 crashed_image (suc k) settled now steps sound = blotted_image ((k + 1) % 256) settled now steps sound

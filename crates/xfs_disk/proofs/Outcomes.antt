@@ -3,7 +3,7 @@ use Rattle.std.proofs.Common.{◌≡◌, ◌⊎◌, inl, inr, ℕ, ◌-◌, ◌�
 use Rattle.std.specs.Prelude.{IsTrue, OnOk, OnErr, Ok, Err}
 use Rattle.std.specs.declared.result.Result.{Result}
 use Rattle.xfs_disk.specs.Disk.{Torn, Cut, Elapses, ImagesFollow, AddsNone, overlaid, resized}
-use Rattle.xfs_disk.specs.Steps.{MayLeave, LeftSince, history, is_sound}
+use Rattle.xfs_disk.specs.Steps.{LeftNow, LeftSince, history, is_sound}
 use Rattle.xfs_disk.specs.declared.step.Step.{Step}
 use Rattle.xfs_disk.specs.declared.step.Step.TheVariants.{Write, Resize}
 use Rattle.xfs_disk.proofs.Changes.{Noted, elapses, elapses_same, follows, keeps_sound, unchanged}
@@ -40,12 +40,12 @@ resized_since past b ss new ns len (inl (w, (was, is, notes))) = inl (w, (was, i
 resized_since past b ss new ns len (inr (w, same)) = inr (w, ap (history past) same)
 
 module _ (b : List ℕ) (ss : List Step) (new : List ℕ) (ns : List Step) where
-  pub same_time : IsSame b ss new ns → Elapses (length ss) (length ns) (LeftSince b (reverse ss)) (LeftSince new (reverse ns)) (MayLeave new (reverse ns))
-  same_time same = subst (λ (l : List ℕ). Elapses (length ss) (length ns) (LeftSince b (reverse ss)) (LeftSince l (reverse ns)) (MayLeave l (reverse ns))) (sym same.0)
-      (subst (λ (l : List Step). Elapses (length ss) (length l) (LeftSince b (reverse ss)) (LeftSince b (reverse l)) (MayLeave b (reverse l))) (sym same.1) (elapses_same b ss))
+  pub same_time : IsSame b ss new ns → Elapses (length ss) (length ns) (LeftSince b (reverse ss)) (LeftSince new (reverse ns)) (LeftNow new (reverse ns))
+  same_time same = subst (λ (l : List ℕ). Elapses (length ss) (length ns) (LeftSince b (reverse ss)) (LeftSince l (reverse ns)) (LeftNow l (reverse ns))) (sym same.0)
+      (subst (λ (l : List Step). Elapses (length ss) (length l) (LeftSince b (reverse ss)) (LeftSince b (reverse l)) (LeftNow b (reverse l))) (sym same.1) (elapses_same b ss))
 
-  pub same_images : IsSame b ss new ns → AddsNone (MayLeave b (reverse ss)) (MayLeave new (reverse ns))
-  same_images same c left = unchanged b ss ns same.1 c (subst (λ (l : List ℕ). MayLeave l (reverse ns) c) same.0 left)
+  pub same_images : IsSame b ss new ns → AddsNone (LeftNow b (reverse ss)) (LeftNow new (reverse ns))
+  same_images same c left = unchanged b ss ns same.1 c (subst (λ (l : List ℕ). LeftNow l (reverse ns) c) same.0 left)
 
   pub same_sound : IsSame b ss new ns → IsTrue (is_sound b (reverse ss)) → IsTrue (is_sound new (reverse ns))
   same_sound same was = subst (λ (l : List ℕ). IsTrue (is_sound l (reverse ns))) (sym same.0) (subst (λ (l : List Step). IsTrue (is_sound b (reverse l))) (sym same.1) was)
@@ -54,13 +54,13 @@ module _ (b : List ℕ) (ss : List Step) (new : List ℕ) (ns : List Step) where
     noted : (wrote : Wrote b ss new ns at bytes) → Noted (Write at (length bytes) wrote.1.0) b ss (overlaid b at bytes) ns
     noted wrote = record { back = back b bytes wrote.1.0.items at within wrote.1.1; notes = wrote.1.2 }
 
-    pub write_time : Wrote b ss new ns at bytes ⊎ IsSame b ss new ns → Elapses (length ss) (length ns) (LeftSince b (reverse ss)) (LeftSince new (reverse ns)) (MayLeave new (reverse ns))
-    write_time (inl w) = subst (λ (l : List ℕ). Elapses (length ss) (length ns) (LeftSince b (reverse ss)) (LeftSince l (reverse ns)) (MayLeave l (reverse ns))) (sym w.0)
+    pub write_time : Wrote b ss new ns at bytes ⊎ IsSame b ss new ns → Elapses (length ss) (length ns) (LeftSince b (reverse ss)) (LeftSince new (reverse ns)) (LeftNow new (reverse ns))
+    write_time (inl w) = subst (λ (l : List ℕ). Elapses (length ss) (length ns) (LeftSince b (reverse ss)) (LeftSince l (reverse ns)) (LeftNow l (reverse ns))) (sym w.0)
         (elapses (Write at (length bytes) w.1.0) b ss (overlaid b at bytes) ns (noted w))
     write_time (inr same) = same_time same
 
-    pub write_images : Wrote b ss new ns at bytes ⊎ IsSame b ss new ns → ImagesFollow (Torn at (length bytes)) (MayLeave b (reverse ss)) (MayLeave new (reverse ns))
-    write_images (inl w) = subst (λ (l : List ℕ). ImagesFollow (Torn at (length bytes)) (MayLeave b (reverse ss)) (MayLeave l (reverse ns))) (sym w.0)
+    pub write_images : Wrote b ss new ns at bytes ⊎ IsSame b ss new ns → ImagesFollow (Torn at (length bytes)) (LeftNow b (reverse ss)) (LeftNow new (reverse ns))
+    write_images (inl w) = subst (λ (l : List ℕ). ImagesFollow (Torn at (length bytes)) (LeftNow b (reverse ss)) (LeftNow l (reverse ns))) (sym w.0)
         (follows (Write at (length bytes) w.1.0) b ss (overlaid b at bytes) ns (noted w) (torn_written b bytes w.1.0.items at within w.1.1))
     write_images (inr same) = λ c left. (c, same_images same c left, torn_same at (length bytes) c)
 
@@ -73,11 +73,11 @@ module _ (b : List ℕ) (ss : List Step) (new : List ℕ) (ns : List Step) where
     cut_noted : (cut : Resized b ss new ns len) → Noted (Resize len cut.1.0) b ss new ns
     cut_noted cut = record { back = cut.1.1; notes = cut.1.2 }
 
-    pub cut_time : Resized b ss new ns len ⊎ IsSame b ss new ns → Elapses (length ss) (length ns) (LeftSince b (reverse ss)) (LeftSince new (reverse ns)) (MayLeave new (reverse ns))
+    pub cut_time : Resized b ss new ns len ⊎ IsSame b ss new ns → Elapses (length ss) (length ns) (LeftSince b (reverse ss)) (LeftSince new (reverse ns)) (LeftNow new (reverse ns))
     cut_time (inl cut) = elapses (Resize len cut.1.0) b ss new ns (cut_noted cut)
     cut_time (inr same) = same_time same
 
-    pub cut_images : Resized b ss new ns len ⊎ IsSame b ss new ns → ImagesFollow (Cut len) (MayLeave b (reverse ss)) (MayLeave new (reverse ns))
+    pub cut_images : Resized b ss new ns len ⊎ IsSame b ss new ns → ImagesFollow (Cut len) (LeftNow b (reverse ss)) (LeftNow new (reverse ns))
     cut_images (inl cut) = follows (Resize len cut.1.0) b ss new ns (cut_noted cut) (subst (Cut len b) (sym cut.0) (cut_done b len))
     cut_images (inr same) = λ c left. (c, same_images same c left, cut_same len c)
 

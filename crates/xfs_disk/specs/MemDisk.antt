@@ -3,7 +3,7 @@ use Rattle.std.specs.Prelude.{◌≡◌, ℕ, List, length, reverse}
 use Rattle.xfs_disk.specs.declared.memory.MemDisk.{MemDisk}
 use Rattle.xfs_disk.specs.declared.step.Step.{Step}
 use Rattle.xfs_disk.specs.Disk.{Elapses}
-use Rattle.xfs_disk.specs.Steps.{MayLeave, LeftSince, history}
+use Rattle.xfs_disk.specs.Steps.{LeftNow, LeftSince, history}
 
 -- what a read gives
 abbrev pub bytes_of : MemDisk → List ℕ
@@ -19,7 +19,7 @@ steps_of m = reverse (history_of m)
 
 -- the images of a disk
 abbrev pub IsImage : MemDisk → List ℕ → Type 0
-IsImage m = MayLeave (bytes_of m) (steps_of m)
+IsImage m = LeftNow (bytes_of m) (steps_of m)
 
 -- the number of a disk's steps
 abbrev pub moment_of : MemDisk → ℕ

@@ -25,14 +25,14 @@ Makes (Resize len was) old new = Cut len old new
 Makes Sync old new = ⊥
 
 -- what a crash may leave: the bytes as they read, or what the newest step makes of an earlier image
-abbrev pub MayLeave : List ℕ → List Step → List ℕ → Type 0
-MayLeave now [] c = c ≡ now
-MayLeave now (s ∷ older) c = (c ≡ now) ⊎ ((d : List ℕ) × MayLeave (before s now) older d × Makes s d c)
+abbrev pub LeftNow : List ℕ → List Step → List ℕ → Type 0
+LeftNow now [] c = c ≡ now
+LeftNow now (s ∷ older) c = (c ≡ now) ⊎ ((d : List ℕ) × LeftNow (before s now) older d × Makes s d c)
 
 -- what a crash at some moment from t on might have left; the moment is the number of steps
 abbrev pub LeftSince : List ℕ → List Step → ℕ → List ℕ → Type 0
-LeftSince now [] t c = MayLeave now [] c
-LeftSince now (s ∷ older) t c = MayLeave now (s ∷ older) c ⊎ ((t ≤ length older) × LeftSince (before s now) older t c)
+LeftSince now [] t c = LeftNow now [] c
+LeftSince now (s ∷ older) t c = LeftNow now (s ∷ older) c ⊎ ((t ≤ length older) × LeftSince (before s now) older t c)
 
 -- A write lies within the bytes. What it overwrote is no longer than it, and shorter only at the end.
 abbrev pub stands : Step → List ℕ → Bool

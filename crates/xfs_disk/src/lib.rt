@@ -2,14 +2,12 @@
 #![tactic(auto)]
 
 mod disk;
-mod fail;
+mod faulty;
 mod file;
-mod fuse;
 mod memory;
 mod step;
 
 pub use disk::Disk;
-pub use fail::FailDisk;
+pub use faulty::{FailDisk, FaultRule, FaultyDisk, FuseDisk};
 pub use file::FileDisk;
-pub use fuse::FuseDisk;
 pub use memory::MemDisk;

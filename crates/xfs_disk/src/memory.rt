@@ -4,7 +4,7 @@ ghost use Rattle.std.specs.Prelude.{◌≡◌, ◌+◌, ◌-◌, ◌<◌, ◌≤
 ghost use Rattle.xfs_base.specs.Causes.{Rose};
 ghost use Rattle.xfs_disk.specs.declared.step.Step.TheVariants.{Write, Resize, Sync};
 ghost use Rattle.xfs_disk.specs.Disk.{overlaid, resized};
-ghost use Rattle.xfs_disk.specs.Steps.{MayLeave, LeftSince, history, is_sound, synced, blotted, crashed};
+ghost use Rattle.xfs_disk.specs.Steps.{LeftNow, LeftSince, history, is_sound, synced, blotted, crashed};
 ghost use Rattle.xfs_disk.specs.Images.{as_read, counts_now, only_now};
 
 use crate::Disk;
@@ -96,7 +96,7 @@ impl Disk for MemDisk {
 
     ghost held = { λ m. Some m.bytes.items };
 
-    ghost images = { λ m. MayLeave m.bytes.items (reverse (history m.settled.items m.steps.items)) };
+    ghost images = { λ m. LeftNow m.bytes.items (reverse (history m.settled.items m.steps.items)) };
 
     ghost moment = { λ m. length (history m.settled.items m.steps.items) };
 

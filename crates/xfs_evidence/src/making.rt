@@ -12,8 +12,8 @@ use crate::text::spell;
 use crate::{EvidenceFault, Shown};
 use std::alloc::Global;
 use xfs_base::{Memory, UnitTable};
-use xfs_guard::Signer;
 use xfs_journal::Rec;
+use xfs_token::TokenKey;
 
 /// What was presented under the last nonce, as a token that a host checks under the same key: the number of the last Issue
 /// of these records, and for each currency of the units what was presented in its segment. So many records stand in
@@ -35,13 +35,13 @@ pub fn evidence(
     ensures refused { MakesUnless (evidence_refusal base records.now) result }
     ensures put_out { IfOk result (λ text. IsEvidenceBehind base key.now units.now records.now nonce.now text.items) }
 {
-    evidence_under(alloc, &Signer::new(*key), units, base, records, nonce)
+    evidence_under(alloc, &TokenKey::new(*key), units, base, records, nonce)
 }
 
-/// The same under a key that was prepared once.
+/// The evidence under a key that was prepared once for many.
 pub fn evidence_under(
     alloc: Global,
-    key: &Signer,
+    key: &TokenKey,
     units: &UnitTable,
     base: u64,
     records: &[Rec],

@@ -7,14 +7,19 @@ ghost use Rattle.xfs_token.specs.Token.{IsMac, Parts, four_digits, is_nonce, pai
 ghost use Rattle.xfs_evidence.specs.Evidence.{IsSigned, IsWrittenAs};
 
 use std::alloc::{AllocError, Global};
-use xfs_guard::Signer;
 use xfs_hmac::upper;
+use xfs_token::TokenKey;
 
 // How many bytes a token has beside its nonce and its pairs.
 const FRAME: usize = 113;
 
 /// The text of a token with this nonce and these pairs, and the HMAC of its own bytes.
-pub fn sign(alloc: Global, key: &Signer, nonce: &[u8], pairs: &[u8]) -> Result<Vec<u8>, AllocError>
+pub fn sign(
+    alloc: Global,
+    key: &TokenKey,
+    nonce: &[u8],
+    pairs: &[u8],
+) -> Result<Vec<u8>, AllocError>
     requires nonce { IsTrue (is_nonce nonce.now) }
     requires short { length pairs.now ≤ 256 }
     ensures { (t : Parts) → IsWrittenAs t nonce.now pairs.now → IfOk result (λ text. IsSigned key.now t text.items) }

@@ -13,11 +13,10 @@ use crate::signing::sign;
 use itoa::Buffer;
 use std::alloc::{AllocError, Global};
 use xfs_base::{Currency, Memory, Milli};
-use xfs_guard::Signer;
-use xfs_token::Amounts;
+use xfs_token::{Amounts, TokenKey};
 
 /// The token that tells this, with this nonce.
-pub fn spell(alloc: Global, key: &Signer, nonce: &[u8], shown: &Shown) -> Result<Vec<u8>, Memory>
+pub fn spell(alloc: Global, key: &TokenKey, nonce: &[u8], shown: &Shown) -> Result<Vec<u8>, Memory>
     requires nonce { IsTrue (is_nonce nonce.now) }
     requires issue { 1 ≤ shown.now.issue }
     requires amounts { AreTold (unwrap_or shown.now.amounts []) }

@@ -1,7 +1,7 @@
 -- What every call keeps, by what the call did.
 use Rattle.std.proofs.Common.{◌≡◌, ℕ, ◌≤◌, Bool, true, is_some, List, Result, refl, arith}
 use Rattle.xfs_base.specs.Causes.{IfTold}
-use Rattle.xfs_disk.specs.Moments.{LeavesOnly}
+use Rattle.xfs_disk.specs.Moments.{LeavesOnly, EachImage}
 use Rattle.xfs_disk.specs.declared.disk.Disk.{Ghosts}
 use Rattle.xfs_journal.specs.JournalView.{IsPossible}
 use Rattle.xfs_journal.specs.declared.record.Rec.{Rec}
@@ -14,13 +14,13 @@ use Rattle.xfs_guard.specs.Crashed.{LeavesBehind}
 use Rattle.xfs_guard.specs.Keeps.{Proceeds, Keeps, NoEntry}
 use Rattle.xfs_guard.specs.CrashOutcomes.{StandsRecorded, StandsThrough}
 use Rattle.xfs_guard.specs.Recorded.{IsRecorded}
-use Rattle.xfs_guard.specs.Stored.{LeavesPossible}
 use Rattle.xfs_guard.specs.Upheld.{IsUpheld}
 use Rattle.xfs_guard.specs.View.{View, GuardView}
 use Rattle.xfs_guard.specs.declared.deny.Deny.{Deny}
 use Rattle.xfs_guard.proofs.BehindLaws.{behind-still, behind-trans}
 use Rattle.xfs_guard.proofs.ContinueLaws.{Continues-same, Continues-trans}
 use Rattle.xfs_guard.proofs.LeftLaws.{left-same, left-unwritten}
+use Rattle.xfs_guard.specs.Stored.{StandsForPossible}
 
 -- bytes that stand for a recorded list do so beside a call that adds no entry
 through-recorded : (v : View) (bytes : List ℕ) → StandsRecorded v.key v.units v.motions bytes → StandsThrough v NoEntry bytes
@@ -55,7 +55,7 @@ Keeps-same g x only_now upheld = record {
 }
 
 -- a call that did nothing, whose disk leaves one of the possible lists, each of which is recorded
-pub Keeps-still : {D : Type 0} (g : Ghosts D) (x : GuardView D) → ((d : D) (c : List ℕ) → g.images_since d (g.moment d) c → g.images d c) → LeavesPossible g x.disk x.state.records x.state.in_doubt
+pub Keeps-still : {D : Type 0} (g : Ghosts D) (x : GuardView D) → ((d : D) (c : List ℕ) → g.images_since d (g.moment d) c → g.images d c) → EachImage g x.disk (StandsForPossible x.state.records x.state.in_doubt)
     → (is_some (g.held x.disk) ≡ true → (records : List Rec) → IsPossible x.state.records x.state.in_doubt records → IsRecorded x.state.key x.state.units records x.state.motions) → Keeps g NoEntry x x
 Keeps-still g x only_now leaves recorded = record {
   proceeds = Proceeds-same g x only_now;

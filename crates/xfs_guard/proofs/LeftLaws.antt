@@ -6,10 +6,10 @@ use Rattle.xfs_base.specs.declared.counts.Places.{Places}
 use Rattle.xfs_base.specs.declared.money.NoteKind.{NoteKind}
 use Rattle.xfs_mech.specs.Mechanism.{AddsEntry}
 use Rattle.xfs_mech.specs.declared.motion.Motion.{Motion}
-use Rattle.xfs_disk.specs.Moments.{LeavesOnly}
+use Rattle.xfs_disk.specs.Moments.{LeavesOnly, EachImage}
 use Rattle.xfs_disk.specs.declared.disk.Disk.{Ghosts}
 use Rattle.xfs_journal.specs.Image.{IsImage, StandsFor}
-use Rattle.xfs_journal.specs.JournalView.{IsButForEighth, IsPossible, HasPossible, StandsForEither, LeavesOneOf, LeavesList}
+use Rattle.xfs_journal.specs.JournalView.{IsButForEighth, IsPossible, HasPossible, StandsForEither}
 use Rattle.xfs_journal.specs.Paging.{IsOldOrShort, IsQuiet}
 use Rattle.xfs_journal.specs.declared.record.Rec.{Rec}
 use Rattle.xfs_journal.specs.Journal.{boot_of}
@@ -21,7 +21,7 @@ use Rattle.xfs_guard.specs.CrashOutcomes.{EachStands, IsOldOrBooted, IsOldOrFoun
 use Rattle.xfs_guard.specs.Booting.{IsSpared}
 use Rattle.xfs_guard.specs.Recorded.{IsRecorded}
 use Rattle.xfs_guard.specs.Sound.{IsSound}
-use Rattle.xfs_guard.specs.Stored.{LeavesPossible, StandsForPossible, MayLeave}
+use Rattle.xfs_guard.specs.Stored.{StandsForPossible, MayLeave}
 use Rattle.xfs_guard.specs.View.{View}
 use Rattle.xfs_guard.proofs.BootLaws.{IsRecorded-boot}
 use Rattle.xfs_guard.proofs.KeptLaws.{recorded-sound, recorded-ties, told-at}
@@ -48,14 +48,14 @@ module _ {D : Type 0} (g : Ghosts D) where
       started g d Holds (λ c left. from_told (g.held d) (λ _. (c : List ℕ) → g.images d c → Holds c) each all told c (only_now c left)))
 
   -- each image stands for a recorded list, where each of the possible lists is one
-  pub leaves-recorded : (d : D) (v : View) → LeavesPossible g d v.records v.in_doubt
+  pub leaves-recorded : (d : D) (v : View) → EachImage g d (StandsForPossible v.records v.in_doubt)
       → (is_some (g.held d) ≡ true → (records : List Rec) → IsPossible v.records v.in_doubt records → IsRecorded v.key v.units records v.motions)
       → IfTold (g.held d) (λ _. (c : List ℕ) → g.images d c → StandsRecorded v.key v.units v.motions c)
   leaves-recorded d v leaves recorded = on_told (g.held d) (λ _. (c : List ℕ) → g.images d c → StandsRecorded v.key v.units v.motions c) (λ all told c left.
       recorded-possible v.key v.units v.motions v.records v.in_doubt c (recorded (ap is_some told)) (from_told (g.held d) (λ _. (c : List ℕ) → g.images d c → StandsForPossible v.records v.in_doubt c) leaves all told c left))
 
   -- a call that wrote nothing
-  pub left-unwritten : (d : D) (v : View) → ((c : List ℕ) → g.images_since d (g.moment d) c → g.images d c) → LeavesPossible g d v.records v.in_doubt
+  pub left-unwritten : (d : D) (v : View) → ((c : List ℕ) → g.images_since d (g.moment d) c → g.images d c) → EachImage g d (StandsForPossible v.records v.in_doubt)
       → (is_some (g.held d) ≡ true → (records : List Rec) → IsPossible v.records v.in_doubt records → IsRecorded v.key v.units records v.motions)
       → IfTold (g.held d) (λ _. LeavesOnly g d d (StandsRecorded v.key v.units v.motions))
   left-unwritten d v only_now leaves recorded = left-same d (StandsRecorded v.key v.units v.motions) only_now (leaves-recorded d v leaves recorded)
@@ -70,7 +70,7 @@ module _ {D : Type 0} (g : Ghosts D) where
       (from_told (g.held old) (λ _. LeavesOnly g old new (StandsForEither v.records r)) moments all told))
 
   -- a call of the mechanism, which may add such an entry
-  pub left-through : (d : D) (v : View) (MayAdd : Motion → Type 0) → ((c : List ℕ) → g.images_since d (g.moment d) c → g.images d c) → LeavesPossible g d v.records v.in_doubt
+  pub left-through : (d : D) (v : View) (MayAdd : Motion → Type 0) → ((c : List ℕ) → g.images_since d (g.moment d) c → g.images d c) → EachImage g d (StandsForPossible v.records v.in_doubt)
       → (is_some (g.held d) ≡ true → (records : List Rec) → IsPossible v.records v.in_doubt records → IsRecorded v.key v.units records v.motions)
       → (is_some (g.held d) ≡ true → (records : List Rec) → IsPossible v.records v.in_doubt records → (entry : Motion) (now : Option (List Motion)) → MayAdd entry → AddsEntry v.motions entry now → IsRecorded v.key v.units records now)
       → IfTold (g.held d) (λ _. LeavesOnly g d d (StandsThrough v MayAdd))
@@ -95,7 +95,7 @@ one-possible records d found none (inr doubt) = absurd (never doubt.0 (sym none 
     never r e = cc
 
 -- a crash leaves it
-pub leaves-kept : {D : Type 0} (g : Ghosts D) (disk : D) (records : List Rec) (d : Option Rec) → d ≡ None → LeavesOneOf g disk records d → LeavesList g disk records
+pub leaves-kept : {D : Type 0} (g : Ghosts D) (disk : D) (records : List Rec) (d : Option Rec) → d ≡ None → EachImage g disk (HasPossible records d) → EachImage g disk (λ c. StandsFor c records)
 leaves-kept g disk records d none stored = on_told (g.held disk) (λ _. (c : List ℕ) → g.images disk c → StandsFor c records) (λ all told c left.
     let has = from_told (g.held disk) (λ _. (c : List ℕ) → g.images disk c → HasPossible records d c) stored all told c left in
     inl (subst (λ (list : List Rec). IsImage c list) (one-possible records d has.0 none has.1) has.2))

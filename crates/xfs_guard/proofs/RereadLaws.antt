@@ -3,7 +3,7 @@ use Rattle.std.proofs.Common.{◌≡◌, ◌⊎◌, inl, inr, ⊎_elim, ℕ, tru
 use Rattle.std.specs.Prelude.{is_some}
 use Rattle.xfs_base.specs.Causes.{IfTold}
 use Rattle.xfs_base.specs.declared.counts.Places.{Places}
-use Rattle.xfs_disk.specs.Moments.{LeavesOnly}
+use Rattle.xfs_disk.specs.Moments.{LeavesOnly, EachImage}
 use Rattle.xfs_disk.specs.declared.disk.Disk.{Ghosts}
 use Rattle.xfs_journal.specs.JournalView.{IsPossible, StandsForEither}
 use Rattle.xfs_journal.specs.Paging.{IsQuiet}
@@ -14,7 +14,7 @@ use Rattle.xfs_journal.proofs.Told.{on_told, from_told}
 use Rattle.xfs_guard.specs.Crashed.{IsCrashOutcomeAt, StandsLeft, StandsReread, LeavesBehind}
 use Rattle.xfs_guard.specs.CrashOutcomes.{StandsRecorded}
 use Rattle.xfs_guard.specs.Recorded.{IsRecorded}
-use Rattle.xfs_guard.specs.Stored.{LeavesPossible, StandsForPossible}
+use Rattle.xfs_guard.specs.Stored.{StandsForPossible}
 use Rattle.xfs_guard.specs.View.{View, GuardView}
 use Rattle.xfs_guard.proofs.BootLaws.{IsRecorded-boot}
 use Rattle.xfs_guard.proofs.CrashedLaws.{begins-trans, begins-possible}
@@ -62,7 +62,7 @@ module _ {D : Type 0} (g : Ghosts D) where
       }
 
   -- and is recorded
-  pub recorded-reread : (old new : D) (v : View) (p : Places) (IsLeftNow : List Rec → Type 0) → LeavesPossible g old v.records v.in_doubt
+  pub recorded-reread : (old new : D) (v : View) (p : Places) (IsLeftNow : List Rec → Type 0) → EachImage g old (StandsForPossible v.records v.in_doubt)
       → (is_some (g.held old) ≡ true → (list : List Rec) → IsPossible v.records v.in_doubt list → IsRecorded v.key v.units list v.motions)
       → IfTold (g.held old) (λ _. LeavesOnly g old new (λ bytes. g.images old bytes ⊎ StandsReread v.records v.in_doubt p IsLeftNow bytes))
       → IfTold (g.held old) (λ _. LeavesOnly g old new (StandsRecorded v.key v.units v.motions))

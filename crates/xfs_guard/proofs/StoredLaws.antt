@@ -5,10 +5,10 @@ use Rattle.std.proofs.lemmas.Bool.{ltb-true, ltb-false}
 use Rattle.std.specs.declared.option.Option.{Option}
 use Rattle.xfs_base.specs.Causes.{IfTold}
 use Rattle.xfs_base.specs.declared.counts.Places.{Places}
-use Rattle.xfs_disk.specs.Moments.{LeavesOnly}
+use Rattle.xfs_disk.specs.Moments.{LeavesOnly, EachImage}
 use Rattle.xfs_disk.specs.declared.disk.Disk.{Ghosts}
 use Rattle.xfs_journal.specs.Image.{StandsFor}
-use Rattle.xfs_journal.specs.JournalView.{IsPossible, HasPossible, StandsForEither, LeavesOneOf}
+use Rattle.xfs_journal.specs.JournalView.{IsPossible, HasPossible, StandsForEither}
 use Rattle.xfs_journal.specs.Paging.{IsQuiet}
 use Rattle.xfs_journal.specs.declared.record.Rec.{Rec}
 use Rattle.xfs_journal.specs.Journal.{boot_of, with_boot}
@@ -74,7 +74,7 @@ WasLeft-append g old mid new end places kept as_read mounted appended ended stan
     }
 
 -- a list that a crash may leave is a possible one
-pub left-possible : {D : Type 0} (g : Ghosts D) (d : D) (kept : List Rec) (in_doubt : Option Rec) → LeavesOneOf g d kept in_doubt
+pub left-possible : {D : Type 0} (g : Ghosts D) (d : D) (kept : List Rec) (in_doubt : Option Rec) → EachImage g d (HasPossible kept in_doubt)
     → (records : List Rec) → MayLeave g d records → IsPossible kept in_doubt records
 left-possible g d kept in_doubt stored records may =
     let known = tells (g.held d) may.told in

@@ -11,14 +11,15 @@ use Rattle.xfs_guard.specs.declared.open.Open.TheVariants.{No}
 use Rattle.xfs_guard.specs.Kept.{IsKept}
 use Rattle.xfs_guard.specs.Presented.{presented_in, unsettled}
 use Rattle.xfs_guard.specs.Sound.{Ties, where_told}
-use Rattle.xfs_guard.specs.Stored.{LeavesPossible}
 use Rattle.xfs_guard.specs.Upheld.{IsCounted, IsUpheld}
 use Rattle.xfs_guard.specs.View.{View}
 use Rattle.xfs_guard.specs.Within.{shown}
 use Rattle.xfs_guard.proofs.LeftLaws.{leaves-recorded}
 use Rattle.xfs_guard.proofs.MarkLaws.{boot-marked, mark-there, bound-there, issue-there}
 use Rattle.xfs_guard.proofs.SizeLaws.{neither}
-use Rattle.xfs_journal.specs.JournalView.{LeavesOneOf}
+use Rattle.xfs_disk.specs.Moments.{EachImage}
+use Rattle.xfs_journal.specs.JournalView.{HasPossible}
+use Rattle.xfs_guard.specs.Stored.{StandsForPossible}
 
 either : (a b : Bool) (Claim : Type 0) → (a ≡ true → Claim) → (b ≡ true → Claim) → (a || b) ≡ true → Claim
 either true b Claim one two e = one refl
@@ -33,7 +34,7 @@ counted v told = go (where_told v.disk_told v.motions) told
     go None t = tt
     go (Some entries) t = t.counted
 
-pub upheld : {D : Type 0} (g : Ghosts D) (v : View) (d : D) (spare left : ℕ) (kinds : List NoteKind) → v.disk_told ≡ is_some (g.held d) → IsKept v spare left kinds → LeavesOneOf g d v.records v.in_doubt → LeavesPossible g d v.records v.in_doubt
+pub upheld : {D : Type 0} (g : Ghosts D) (v : View) (d : D) (spare left : ℕ) (kinds : List NoteKind) → v.disk_told ≡ is_some (g.held d) → IsKept v spare left kinds → EachImage g d (HasPossible v.records v.in_doubt) → EachImage g d (StandsForPossible v.records v.in_doubt)
     → IsUpheld g (record { state = v; disk = d })
 upheld g v d spare left kinds told kept stored leaves = record {
   stored = stored;

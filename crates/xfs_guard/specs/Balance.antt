@@ -13,7 +13,7 @@ use Rattle.xfs_journal.specs.Journal.{boot_places}
 abbrev pub no_notes : Counts
 no_notes = record { 0 = 0 ∷ 0 ∷ 0 ∷ 0 ∷ 0 ∷ 0 ∷ 0 ∷ 0 ∷ [] }
 
--- so many notes more of one unit, which counts from 1
+-- a number of notes more of one unit, which counts from 1
 abbrev pub with_notes : Counts → ℕ → ℕ → Counts
 with_notes counts unit count = record { 0 = slice_set counts.0 (unit - 1) (at counts (unit - 1) + count) }
 

@@ -50,14 +50,6 @@ SparesUnlisted g old new = IfTold (g.held old) (λ all. ((records : List Rec) �
 abbrev pub IsSpared : (List ℕ → Type 0) → List ℕ → List ℕ → Type 0
 IsSpared images all c = (d : List ℕ) × IsOldOrShort images all d × ((c ≡ d) ⊎ IsButForEighth d c)
 
--- nothing was written, but that a short file may be an empty journal, and that the version of a file may be another
-abbrev pub SparesAll : {D : Type 0} → Ghosts D → D → D → Type 0
-SparesAll g old new = IfTold (g.held old) (λ all. LeavesOnly g old new (IsSpared (g.images old) all))
-
--- at any moment a crash leaves these records, with this one or without it
-abbrev pub AddsAtMost : {D : Type 0} → Ghosts D → D → D → List Rec → Rec → Type 0
-AddsAtMost g old new records rec = IfTold (g.held old) (λ _. LeavesOnly g old new (StandsForEither records rec))
-
 -- these are the records that the disk has, with a boot record of these places behind them
 abbrev pub IsFoundBooted : Option (List ℕ) → Places → List Rec → Type 0
 IsFoundBooted held places now = IfTold held (λ all. (records : List Rec) × StandsFor all records × (now ≡ with_boot records places))
@@ -94,10 +86,6 @@ IsRereadFailed rebases old new = (records : List Rec) × IsPossible old.records 
 -- the journal was not read, and is shut
 abbrev pub IsNotReread : View → View → Type 0
 IsNotReread old new = new ≡ unread old
-
--- a disk goes on telling its bytes, or not telling them
-abbrev pub TellsAs : {D : Type 0} → Ghosts D → D → D → Type 0
-TellsAs g old new = is_some (g.held new) ≡ is_some (g.held old)
 
 -- each list that a crash may leave is a possible one of this state
 abbrev pub LeavesListOf : {D : Type 0} → Ghosts D → D → View → Type 0

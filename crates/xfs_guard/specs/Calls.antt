@@ -6,7 +6,6 @@ use Rattle.xfs_base.specs.declared.faults.Memory.{Memory}
 use Rattle.xfs_disk.specs.declared.disk.Disk.{Ghosts}
 use Rattle.xfs_mech.specs.declared.motion.Motion.{Motion}
 use Rattle.xfs_mech.specs.declared.motion.Outcome.{Outcome}
-use Rattle.xfs_journal.specs.JournalView.{LeavesList}
 use Rattle.xfs_journal.specs.declared.record.Rec.{Rec}
 use Rattle.xfs_guard.specs.declared.deny.Deny.{Deny}
 use Rattle.xfs_guard.specs.declared.deny.Deny.TheVariants.{Disk}
@@ -15,6 +14,8 @@ use Rattle.xfs_guard.specs.Keeps.{Keeps, NoEntry}
 use Rattle.xfs_guard.specs.LedgerView.{IsWriteFault}
 use Rattle.xfs_guard.specs.Refusals.{bound_token}
 use Rattle.xfs_guard.specs.View.{GuardView, shut_at}
+use Rattle.xfs_disk.specs.Moments.{EachImage}
+use Rattle.xfs_journal.specs.Image.{StandsFor}
 
 -- What a call keeps that writes this record: after an answer that the disk failed the journal is shut with the record in doubt, after another refusal nothing changed, and after a success a crash leaves the list.
 pub record WritesRecord {T D : Type 0} (g : Ghosts D) (rec : Rec) (result : Result T Deny) (old new : GuardView D) : Type 0 where
@@ -22,7 +23,7 @@ pub record WritesRecord {T D : Type 0} (g : Ghosts D) (rec : Rec) (result : Resu
   pub cause : result ≡ Err Disk → Rose (g.faults old.disk) (g.faults new.disk)
   pub same : IfErr result (λ e. e ≢ Disk → new ≡ old)
   pub keeps : Keeps g NoEntry old new
-  pub kept : OnOk result (LeavesList g new.disk new.state.records)
+  pub kept : OnOk result (EachImage g new.disk (λ c. StandsFor c new.state.records))
 
 -- What a call keeps that may bind a token: no order is open, nothing changes where one is bound already, and a write fails only where none is.
 pub record BindsOnce {T D : Type 0} (result : Result T Deny) (old new : GuardView D) : Type 0 where

@@ -58,14 +58,6 @@ pub record MayTake (v : View) (entry : Motion) : Type 0 where
 abbrev pub IsOldOrFound : (List ℕ → Type 0) → List ℕ → List ℕ → Type 0
 IsOldOrFound images all bytes = images bytes ⊎ ((found : List Rec) × StandsFor all found × StandsFor bytes found)
 
--- at any moment since a disk that told was handed in, a crash leaves one of its images, or the list that it had
-abbrev pub LeavesFound : {D : Type 0} → Ghosts D → D → D → Type 0
-LeavesFound g before now = IfTold (g.held before) (λ all. LeavesOnly g before now (IsOldOrFound (g.images before) all))
-
 -- one of the images before, or the bytes stand for the list that was found, with this boot record or without it
 abbrev pub IsOldOrBooted : (List ℕ → Type 0) → List ℕ → Places → List ℕ → Type 0
 IsOldOrBooted images all places bytes = images bytes ⊎ ((found : List Rec) × StandsFor all found × StandsForEither found (boot_of found places) bytes)
-
--- at any moment since a disk that told was handed in, a crash leaves one of its images, or the list that it had, with a boot record of these places or without it
-abbrev pub LeavesFoundOrBooted : {D : Type 0} → Ghosts D → D → D → Places → Type 0
-LeavesFoundOrBooted g before now places = IfTold (g.held before) (λ all. LeavesOnly g before now (IsOldOrBooted (g.images before) all places))

@@ -3,7 +3,7 @@ use Rattle.std.specs.Prelude.{◌≡◌, ◌≢◌, ◌⊎◌, ℕ, ◌<◌, Boo
 use Rattle.std.specs.declared.option.Option.{Option}
 use Rattle.std.specs.List.{AllByRecursion}
 use Rattle.xfs_base.specs.Causes.{IfTold}
-use Rattle.xfs_disk.specs.Moments.{LeavesOnly}
+use Rattle.xfs_disk.specs.Moments.{EachMoment}
 use Rattle.xfs_disk.specs.declared.disk.Disk.{Ghosts}
 use Rattle.xfs_mech.specs.declared.motion.Motion.{Motion}
 use Rattle.xfs_mech.specs.Motions.{NumberIs}
@@ -55,7 +55,7 @@ pub record StandsReread (kept : List Rec) (in_doubt : Option Rec) (places : Plac
 -- The disk goes on telling, and each image of each moment since the earlier state is one of those of then, or stands for a list that was left on the way to the later one.
 pub record LeavesBehind {D : Type 0} (g : Ghosts D) (old new : GuardView D) : Type 0 where
   pub told : is_some (g.held new.disk) ≡ is_some (g.held old.disk)
-  pub moments : IfTold (g.held old.disk) (λ _. LeavesOnly g old.disk new.disk (λ bytes. g.images old.disk bytes ⊎ StandsLeft old.state new.state bytes))
+  pub moments : EachMoment g old.disk new.disk (λ _ bytes. g.images old.disk bytes ⊎ StandsLeft old.state new.state bytes)
 
 -- without its last record the list is a prefix of the records, and no motion has that record's number
 pub record IsLost (records : List Rec) (motions : Option (List Motion)) (list : List Rec) : Type 0 where

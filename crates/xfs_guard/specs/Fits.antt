@@ -7,7 +7,7 @@ use Rattle.xfs_guard.specs.declared.fit.Fit.{Fit}
 use Rattle.xfs_guard.specs.declared.fit.TheConstants.{LEAST_BYTES, LEAST_RECORDS}
 use Rattle.xfs_guard.specs.View.{View}
 
--- too little is left of the limits: of the records those that memory has count, of the bytes those of the file
+-- too little is left of the limits, which count the records that memory has and the bytes of the file
 abbrev pub is_short : View → Bool
 is_short v = nat_lt (v.limits.records - (length v.records - v.base)) LEAST_RECORDS || nat_lt (v.limits.bytes - size v.records) LEAST_BYTES
 

@@ -1,7 +1,6 @@
 -- What every call of a guard keeps.
 use Rattle.std.specs.Prelude.{◌≤◌}
-use Rattle.xfs_base.specs.Causes.{IfTold}
-use Rattle.xfs_disk.specs.Moments.{LeavesOnly}
+use Rattle.xfs_disk.specs.Moments.{EachMoment}
 use Rattle.xfs_disk.specs.declared.disk.Disk.{Ghosts}
 use Rattle.xfs_mech.specs.declared.motion.Motion.{Motion}
 use Rattle.xfs_guard.specs.Continues.{Continues}
@@ -19,7 +18,7 @@ pub record Proceeds {D : Type 0} (g : Ghosts D) (old new : GuardView D) : Type 0
 -- What one call keeps, which may add one such entry to the mechanism's list: each image of each moment of it stands besides for a list that is recorded with the mechanism's list before the call, and with that list and any such entry more.
 pub record Keeps {D : Type 0} (g : Ghosts D) (MayAdd : Motion → Type 0) (old new : GuardView D) : Type 0 where
   pub proceeds : Proceeds g old new
-  pub recorded : IfTold (g.held old.disk) (λ _. LeavesOnly g old.disk new.disk (StandsThrough old.state MayAdd))
+  pub recorded : EachMoment g old.disk new.disk (λ _. StandsThrough old.state MayAdd)
 
 -- no entry of the mechanism: a call that writes a record adds none
 abbrev pub NoEntry : Motion → Type 0

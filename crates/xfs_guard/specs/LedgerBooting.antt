@@ -9,18 +9,17 @@ use Rattle.xfs_base.specs.declared.counts.Kind.{Kind}
 use Rattle.xfs_base.specs.declared.counts.Kind.TheVariants.{Present}
 use Rattle.xfs_base.specs.declared.money.NoteKind.{NoteKind}
 use Rattle.xfs_base.specs.declared.counts.Places.{Places}
-use Rattle.xfs_disk.specs.Moments.{LeavesOnly}
+use Rattle.xfs_disk.specs.Moments.{LeavesOnly, EachImage, EachMoment}
 use Rattle.xfs_disk.specs.declared.disk.Disk.{Ghosts}
 use Rattle.xfs_journal.specs.Image.{StandsFor}
 use Rattle.xfs_journal.specs.Journal.{base_of, boot_of, with_boot}
-use Rattle.xfs_journal.specs.JournalView.{JournalView, exceeds, IsCarriedOver, IsNoJournal, IsPossible, LeavesList}
+use Rattle.xfs_journal.specs.JournalView.{JournalView, exceeds, IsCarriedOver, IsNoJournal, IsPossible, StandsForEither}
 use Rattle.xfs_journal.specs.Outcomes.{DiskGoesOn, IsMounted}
 use Rattle.xfs_journal.specs.Paging.{IsQuiet}
 use Rattle.xfs_journal.specs.declared.limits.Limits.{Limits}
 use Rattle.xfs_journal.specs.declared.record.Rec.{Rec}
 use Rattle.xfs_guard.specs.Balance.{no_notes}
-use Rattle.xfs_guard.specs.Booting.{AddsAtMost, HadRoom, IsFound, LacksRoom, LeavesEither, SparesAll, SparesUnlisted, TellsAs, base_then}
-use Rattle.xfs_guard.specs.CrashOutcomes.{LeavesFound, LeavesFoundOrBooted}
+use Rattle.xfs_guard.specs.Booting.{HadRoom, IsFound, LacksRoom, LeavesEither, SparesUnlisted, base_then, IsSpared}
 use Rattle.xfs_guard.specs.Crashed.{IsCrashOutcome, StandsReread}
 use Rattle.xfs_guard.specs.LedgerView.{IsWriteFault, LedgerView, Wrote}
 use Rattle.xfs_guard.specs.Presented.{presented_in}
@@ -29,6 +28,7 @@ use Rattle.xfs_guard.specs.declared.deny.Deny.{Deny}
 use Rattle.xfs_guard.specs.declared.deny.Deny.TheVariants as deny
 use Rattle.xfs_guard.specs.declared.fail.BootFault.{BootFault}
 use Rattle.xfs_guard.specs.declared.fail.BootFault.TheVariants.{NotJournal, Disk, Full, Memory}
+use Rattle.xfs_guard.specs.CrashOutcomes.{IsOldOrFound, IsOldOrBooted}
 
 -- a possible list of the journal was read again, and has a boot record of these places behind it, since which nothing was loaded
 abbrev pub IsBootedNow : {D : Type 0} → Bool → LedgerView D → LedgerView D → Places → Type 0
@@ -80,10 +80,6 @@ abbrev pub IsOldOrReread : {D : Type 0} → Ghosts D → LedgerView D → Ledger
 IsOldOrReread g old new places bytes = g.images old.disk bytes
     ⊎ StandsReread old.records old.in_doubt places (IsCrashOutcome new.records new.in_doubt (new.shut || new.boot_missing)) bytes
 
--- at each moment of a restore or a reboot a crash leaves one of the images before, or a possible list that was read again, with its boot record or without it
-abbrev pub LeavesReread : {D : Type 0} → Ghosts D → LedgerView D → LedgerView D → Places → Type 0
-LeavesReread g old new places = IfTold (g.held old.disk) (λ _. LeavesOnly g old.disk new.disk (IsOldOrReread g old new places))
-
 -- with these notes, what was presented stays within a token's amounts in each currency
 abbrev pub StaysSmall : List NoteKind → List Rec → Kind → Counts → Type 0
 StaysSmall units records kind moved = kind ≡ Present → (c : List ℕ) → presented_in units records c + value units moved c ≤ 999999999999
@@ -91,9 +87,9 @@ StaysSmall units records kind moved = kind ≡ Present → (c : List ℕ) → pr
 -- The journal of a disk is mounted, whose file is of a version that boots write: nothing else was written.
 pub record MountsJournal {D : Type 0} (g : Ghosts D) (limits : Limits) (before : D) (j : JournalView D) : Type 0 where
   pub mounted : IsMounted g before limits j
-  pub spared : SparesAll g before j.disk
+  pub spared : EachMoment g before j.disk (IsSpared (g.images before))
   pub carried : IsCarriedOver (g.held j.disk)
-  pub any_moment : LeavesFound g before j.disk
+  pub any_moment : EachMoment g before j.disk (IsOldOrFound (g.images before))
   pub goes_on : DiskGoesOn g before j.disk
 
 -- A disk isn't mounted for this, and is left so.
@@ -103,8 +99,8 @@ pub record RefusesMount {D : Type 0} (g : Ghosts D) (before : D) (why : BootFaul
   pub disk : why ≡ Disk → Rose (g.faults before) (g.faults now)
   pub not_full : why ≢ Full
   pub unlisted : SparesUnlisted g before now
-  pub unwritten : why ≢ Disk → SparesAll g before now
-  pub any_moment : LeavesFound g before now
+  pub unwritten : why ≢ Disk → EachMoment g before now (IsSpared (g.images before))
+  pub any_moment : EachMoment g before now (IsOldOrFound (g.images before))
   pub goes_on : DiskGoesOn g before now
 
 -- What a call of a ledger does that writes this record, with which these amounts are bound.
@@ -114,8 +110,8 @@ pub record WritesLedger {T D : Type 0} (g : Ghosts D) (rec : Rec) (bound : Optio
   pub cause : result ≡ Err deny.Disk → Rose (g.faults old.disk) (g.faults new.disk)
   pub faults : g.faults old.disk ≤ g.faults new.disk
   pub told : is_some (g.held new.disk) ≡ is_some (g.held old.disk)
-  pub any_moment : AddsAtMost g old.disk new.disk old.records rec
-  pub kept : OnOk result (LeavesList g new.disk new.records)
+  pub any_moment : EachMoment g old.disk new.disk (λ _. StandsForEither old.records rec)
+  pub kept : OnOk result (EachImage g new.disk (λ c. StandsFor c new.records))
 
 -- The ledger of a boot: the list that the disk had, with a boot record of these places behind it, since which nothing was loaded.
 pub record BootsLedger {D : Type 0} (g : Ghosts D) (limits : Limits) (units : List NoteKind) (places : Places) (before : D) (l : LedgerView D) : Type 0 where
@@ -125,10 +121,10 @@ pub record BootsLedger {D : Type 0} (g : Ghosts D) (limits : Limits) (units : Li
   pub opened : (l.shut ≡ false) × (l.in_doubt ≡ None) × (l.bound ≡ None) × (l.boot_missing ≡ false)
   pub same : (l.limits ≡ limits) × (l.units ≡ units)
   pub unloaded : (l.booted ≡ places) × (l.loaded ≡ no_notes)
-  pub kept : LeavesList g l.disk l.records
+  pub kept : EachImage g l.disk (λ c. StandsFor c l.records)
   pub carried : IsCarriedOver (g.held l.disk)
-  pub told : TellsAs g before l.disk
-  pub any_moment : LeavesFoundOrBooted g before l.disk places
+  pub told : is_some (g.held l.disk) ≡ is_some (g.held before)
+  pub any_moment : EachMoment g before l.disk (λ all. IsOldOrBooted (g.images before) all places)
   pub faults : g.faults before ≤ g.faults l.disk
 
 -- The boot of a ledger is refused for this, and leaves this disk.
@@ -140,9 +136,9 @@ pub record RefusesLedger {D : Type 0} (g : Ghosts D) (limits : Limits) (places :
   pub left : (records : List Rec) → MayLeave g now records → WasLeft g before places records
   pub either : LeavesEither g before now places
   pub unlisted : SparesUnlisted g before now
-  pub unwritten : why ≢ Disk → SparesAll g before now
-  pub told : TellsAs g before now
-  pub any_moment : LeavesFoundOrBooted g before now places
+  pub unwritten : why ≢ Disk → EachMoment g before now (IsSpared (g.images before))
+  pub told : is_some (g.held now) ≡ is_some (g.held before)
+  pub any_moment : EachMoment g before now (λ all. IsOldOrBooted (g.images before) all places)
   pub faults : g.faults before ≤ g.faults now
 
 -- What each refusal of a restore or a reboot makes of a ledger: after want of memory all is as before, after want of room a list was read, and after the others the journal is shut.

@@ -2,13 +2,13 @@
 use Rattle.std.specs.Prelude.{◌≡◌, ◌≢◌, ◌⊎◌, ◌≤◌, ℕ, Bool, false, is_some, None, Err, IfErr}
 use Rattle.std.specs.declared.result.Result.{Result}
 use Rattle.xfs_base.specs.Causes.{IfTold, Rose}
-use Rattle.xfs_disk.specs.Moments.{LeavesOnly}
+use Rattle.xfs_disk.specs.Moments.{LeavesOnly, EachImage, EachMoment}
 use Rattle.xfs_disk.specs.declared.disk.Disk.{Ghosts}
 use Rattle.xfs_mech.specs.declared.mechanism.Mechanism.{Ghosts as Mechanisms}
 use Rattle.xfs_journal.specs.Image.{StandsFor}
-use Rattle.xfs_journal.specs.JournalView.{IsCarriedOver, IsNoJournal, LeavesOneOf}
+use Rattle.xfs_journal.specs.JournalView.{IsCarriedOver, IsNoJournal, HasPossible}
 use Rattle.xfs_journal.specs.Paging.{IsQuiet}
-use Rattle.xfs_guard.specs.Booting.{HadRoom, IsNotReread, IsRereadFailed, IsRereadFull, LacksRoom, LeavesEither, LeavesListOf, LeavesRecorded, SparesAll, SparesUnlisted, TellsAs}
+use Rattle.xfs_guard.specs.Booting.{HadRoom, IsNotReread, IsRereadFailed, IsRereadFull, LacksRoom, LeavesEither, LeavesListOf, LeavesRecorded, SparesUnlisted, IsSpared}
 use Rattle.xfs_guard.specs.Continues.{ContinuesFound}
 use Rattle.xfs_guard.specs.CrashOutcomes.{EachStands, IsOldOrBooted, StandsRecorded}
 use Rattle.xfs_guard.specs.Entries.{AtEntry, BeginsFound}
@@ -42,8 +42,8 @@ pub record RefusesBoot {D : Type 0} (d : Ghosts D) (e : AtEntry) (before : D) (w
   pub left : LeavesRecorded d now e.key e.units e.motions
   pub either : LeavesEither d before now e.places
   pub unlisted : SparesUnlisted d before now
-  pub unwritten : why ≢ Disk → SparesAll d before now
-  pub told : TellsAs d before now
+  pub unwritten : why ≢ Disk → EachMoment d before now (IsSpared (d.images before))
+  pub told : is_some (d.held now) ≡ is_some (d.held before)
   pub leaves : LeavesBooted d e before now
 
 -- What each refusal of a restore leaves, or of a reboot, which rebases: after want of memory all is as before, after want of room a list was read, and after the others the journal is shut. A disk that tells is never refused as no journal.
@@ -58,7 +58,7 @@ pub record RefusesRestore {D : Type 0} (g : Ghosts D) (rebases : Bool) (result :
 
 -- The mechanism and the disk come back as the guard had them, and each list that a crash may leave of the disk is recorded.
 pub record HandsBack {M D : Type 0} (m : Mechanisms M) (d : Ghosts D) (guard : GuardView D) (mech : M) (now : D) : Type 0 where
-  pub stored : LeavesOneOf d now guard.state.records guard.state.in_doubt
+  pub stored : EachImage d now (HasPossible guard.state.records guard.state.in_doubt)
   pub left : LeavesListOf d now guard.state
   pub recorded : LeavesRecorded d now guard.state.key guard.state.units guard.state.motions
   pub clean : guard.state.shut ≡ false → guard.state.in_doubt ≡ None

@@ -89,7 +89,7 @@ pub record Binds (old new : View) (bytes : List ℕ) (amounts : List (List ℕ �
   pub first : bound_token old.records ≡ None → new ≡ record old { records = old.records ++ Bind bytes ∷ []; bound = Some amounts }
   pub again : bound_token old.records ≢ None → new ≡ old
 
--- so many notes of one unit, which counts from 1
+-- a number of notes of one unit, which counts from 1
 abbrev pub notes_of : ℕ → ℕ → Counts
 notes_of unit count = record { 0 = slice_set no_notes.0 (unit - 1) count }
 

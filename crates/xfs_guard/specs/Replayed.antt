@@ -97,7 +97,7 @@ renumber base m = m
 abbrev pub renumbered : ℕ → List Motion → List Motion
 renumbered base motions = map (renumber base) motions
 
--- but for the base on top of its numbers the list agrees with the records
+-- the list agrees with the records, but for the base on top of its numbers
 pub record AgreesFrom (base : ℕ) (records : List Rec) (list : List Motion) : Type 0 where
   pub motions : List Motion
   pub agrees : Agrees records motions

@@ -2,6 +2,7 @@
 use Rattle.std.specs.Prelude.{◌≡◌, ℕ, List}
 use Rattle.xfs_base.specs.Causes.{IfTold}
 use Rattle.xfs_disk.specs.Disk.{Only}
+use Rattle.xfs_disk.specs.Moments.{EachImage}
 use Rattle.xfs_disk.specs.declared.disk.Disk.{Ghosts as Disks}
 use Rattle.xfs_mech.specs.declared.mechanism.Mechanism.{Ghosts as Mechanisms}
 use Rattle.xfs_journal.specs.Image.{StandsFor}
@@ -11,7 +12,7 @@ use Rattle.xfs_guard.specs.declared.machine_core.Core.{Core}
 
 -- each list of records that an image of the disk stands for is numbered, agrees with the mechanism's list, and puts out no more than its tokens cover
 abbrev pub AllRecorded : {M D : Type 0} → Mechanisms M → Disks D → Core M D → Type 0
-AllRecorded m d core = IfTold (d.held core.disk) (λ _. (image : List ℕ) → d.images core.disk image → (records : List Rec) → StandsFor image records → IsRecorded core.key core.units records (m.motions core.mech))
+AllRecorded m d core = EachImage d core.disk (λ image. (records : List Rec) → StandsFor image records → IsRecorded core.key core.units records (m.motions core.mech))
 
 -- a crash leaves what the disk reads as
 abbrev pub AtRest : {D : Type 0} → Disks D → D → Type 0

@@ -13,10 +13,6 @@ use Rattle.xfs_journal.specs.Journal.{with_boot}
 abbrev pub StandsForPossible : List Rec → Option Rec → List ℕ → Type 0
 StandsForPossible kept in_doubt bytes = (records : List Rec) × IsPossible kept in_doubt records × StandsFor bytes records
 
--- where the disk tells, a crash leaves one of these lists
-abbrev pub LeavesPossible : {D : Type 0} → Ghosts D → D → List Rec → Option Rec → Type 0
-LeavesPossible g disk kept in_doubt = IfTold (g.held disk) (λ _. (c : List ℕ) → g.images disk c → StandsForPossible kept in_doubt c)
-
 -- the disk tells, and a crash may leave bytes that stand for this list
 pub record MayLeave {D : Type 0} (g : Ghosts D) (disk : D) (records : List Rec) : Type 0 where
   pub told : is_some (g.held disk) ≡ true

@@ -15,14 +15,13 @@ ghost use Rattle.xfs_guard.specs.LedgerView.{IsWriteFault};
 ghost use Rattle.xfs_guard.specs.Refusals.{Answers, Passes, TokenRefused, Binds, claim_refusal, bind_refusal, bound_token, over_budget};
 
 use crate::budget::over_budget;
-use crate::signer::Signer;
 use crate::{Claim, Deny, Guard, Permit};
 use std::alloc::{AllocError, Global};
 use xfs_base::Counts;
 use xfs_disk::Disk;
 use xfs_journal::Text;
 use xfs_mech::Mechanism;
-use xfs_token::{Amounts, MAC_FIELD, Token, amounts, read};
+use xfs_token::{Amounts, MAC_FIELD, Token, TokenKey, amounts, read};
 
 impl<M: Mechanism, D: Disk> Guard<M, D> {
     /// Looks at a token's bytes: whether the journal takes more records, and whether they spell a token
@@ -156,7 +155,7 @@ fn text_of(alloc: Global, bytes: &[u8]) -> Result<Text, AllocError>
 }
 
 // The HMAC that is due: that of all but the last field of the token's text.
-fn due(key: &Signer, bytes: &[u8]) -> [u8; 32]
+fn due(key: &TokenKey, bytes: &[u8]) -> [u8; 32]
     requires { MAC_FIELD ≤ length bytes.now }
     ensures { result ≡ hmac key.now (take (length bytes.now - MAC_FIELD) bytes.now) }
 {

@@ -3,7 +3,6 @@ ghost use Rattle.std.specs.Option.{option_or};
 ghost use Rattle.xfs_base.specs.Causes.{Rose};
 ghost use Rattle.xfs_journal.specs.declared.record.Rec.TheVariants.{Issue, Clear, Expire, Order};
 ghost use Rattle.xfs_journal.specs.Journal.{base_of, next_issue};
-ghost use Rattle.xfs_journal.specs.JournalView.{LeavesList};
 ghost use Rattle.xfs_guard.specs.declared.open.Open.TheVariants.{No};
 ghost use Rattle.xfs_guard.specs.Booting.{LeavesRecorded};
 ghost use Rattle.xfs_guard.specs.Calls.{UsesMechanism, WritesRecord};
@@ -23,11 +22,12 @@ ghost use Rattle.xfs_guard.specs.Segment.{IsTellable};
 ghost use Rattle.xfs_guard.specs.Orders.{IsWritten, IsActed, Acts, Settles, Unsettles, kind_unacted};
 ghost use Rattle.xfs_guard.specs.Refusals.{Answers, IsAdmitted, IsAsk, order_refusal, nothing_refusal, notes_of, asked_kind, asked_counts};
 ghost use Rattle.xfs_guard.specs.declared.ask.Ask.TheVariants.{Stack as AskStack, Present as AskPresent};
+ghost use Rattle.xfs_disk.specs.Moments.{EachImage};
+ghost use Rattle.xfs_journal.specs.Image.{StandsFor};
 
 use crate::budget::over_budget;
 use crate::fit::{LEAST_BYTES, LEAST_RECORDS};
 use crate::ledger::{Ledger, RefusedLedger};
-use crate::signer::Signer;
 use crate::words::Words;
 use crate::{Ask, BootFail, BootFault, Deny, Fit, Nonce, Open};
 use std::alloc::Global;
@@ -36,6 +36,7 @@ use xfs_base::{Counts, Kind, Memory, Places, UnitTable};
 use xfs_disk::Disk;
 use xfs_journal::{Limits, Rec, Survey};
 use xfs_mech::{Mechanism, Order as MechOrder, Outcome};
+use xfs_token::TokenKey;
 
 /// The guard: it alone hands orders to the mechanism. Each call appends at most one record or makes
 /// at most one call of the mechanism that adds an entry, never both; `restore` alone reads the disk again.
@@ -48,7 +49,7 @@ pub struct Guard<M: Mechanism, D: Disk> {
     pub(crate) alloc: Global,
     pub(crate) mech: M,
     pub(crate) ledger: Ledger<D>,
-    pub(crate) key: Signer,
+    pub(crate) key: TokenKey,
     words: Words,
     pub(crate) open_order: Open,
 }
@@ -56,8 +57,9 @@ pub struct Guard<M: Mechanism, D: Disk> {
 impl<M: Mechanism, D: Disk> Model for Guard<M, D> {
     ghost use Rattle.std.specs.Prelude.{is_some};
     ghost use Rattle.xfs_guard.specs.View.{GuardView, over};
+    ghost use Rattle.xfs_disk.specs.Moments.{EachImage};
     ghost use Rattle.xfs_guard.specs.Kept.{IsKept};
-    ghost use Rattle.xfs_guard.specs.Stored.{LeavesPossible};
+    ghost use Rattle.xfs_guard.specs.Stored.{StandsForPossible};
 
     ghost Value = { GuardView D };
 
@@ -68,7 +70,7 @@ impl<M: Mechanism, D: Disk> Model for Guard<M, D> {
 
     ghost invariant = { λ g. IsKept (over g.key g.words g.open_order (M.motions g.mech) (M.places g.mech) (M.faults g.mech) g.ledger (is_some (D.held g.ledger.disk)))
         (M.room g.mech) g.ledger.room (M.units g.mech)
-        × LeavesPossible D.Disk g.ledger.disk g.ledger.records g.ledger.in_doubt };
+        × EachImage D.Disk g.ledger.disk (StandsForPossible g.ledger.records g.ledger.in_doubt) };
 }
 
 impl<M: Mechanism, D: Disk> Guard<M, D> {
@@ -104,7 +106,7 @@ impl<M: Mechanism, D: Disk> Guard<M, D> {
                 alloc,
                 mech,
                 ledger,
-                key: Signer::new(key),
+                key: TokenKey::new(key),
                 words: Words::new(seed),
                 open_order: Open::No,
             }),
@@ -194,7 +196,7 @@ impl<M: Mechanism, D: Disk> Guard<M, D> {
     }
 
     /// The key of the tokens, prepared.
-    pub fn signer(&self) -> &Signer
+    pub fn signer(&self) -> &TokenKey
         ensures { result.now ≡ self.now.state.key }
     {
         &self.key
@@ -445,7 +447,7 @@ impl<M: Mechanism, D: Disk> Guard<M, D> {
         ensures disk { OnErr result (Unsettles self.old.state self.new.state) }
         ensures cause { OnErr result (Rose (D.faults self.old.disk) (D.faults self.new.disk)) }
         ensures keeps { Keeps D.Disk NoEntry self.old self.new }
-        ensures kept { OnOk result (LeavesList D.Disk self.new.disk self.new.state.records) }
+        ensures kept { OnOk result (EachImage D.Disk self.new.disk (λ c. StandsFor c self.new.state.records)) }
     {
         let Open::Acted {
             kind,

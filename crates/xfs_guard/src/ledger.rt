@@ -6,21 +6,22 @@ ghost use Rattle.xfs_base.specs.Counts.{at};
 ghost use Rattle.xfs_base.specs.declared.counts.Counts.{Counts};
 ghost use Rattle.xfs_journal.specs.Image.{HasUnit, size};
 ghost use Rattle.xfs_journal.specs.Journal.{base_of, boot_of, issues_in, record_at, live_of, last_mark, next_issue, nonce_text, with_boot};
-ghost use Rattle.xfs_journal.specs.JournalView.{exceeds, refusal, LeavesOneOf};
+ghost use Rattle.xfs_journal.specs.JournalView.{exceeds, refusal, HasPossible, StandsForEither};
 ghost use Rattle.xfs_journal.specs.Outcomes.{DiskGoesOn, FailsAt, IsAppended, IsUnwritten, KeepsJournal, WritesAtMost};
 ghost use Rattle.xfs_journal.specs.declared.record.Rec.TheVariants.{Issue, Bind, Order, Done, Load};
 ghost use Rattle.xfs_guard.specs.declared.fail.BootFault.TheVariants.{NotJournal, Disk as BootDisk, Full as BootFull, Memory as BootMemory};
 ghost use Rattle.xfs_guard.specs.Nonce.{EndsNonce, live_in};
 ghost use Rattle.xfs_guard.specs.Refusals.{bound_token, bound_number};
 ghost use Rattle.xfs_guard.specs.Presented.{presented_in};
-ghost use Rattle.xfs_guard.specs.LedgerBooting.{BootsLedger, IsBootedNow, StaysSmall, LeavesReread, RefusesLedger, RefusesReread, WritesLedger};
+ghost use Rattle.xfs_guard.specs.LedgerBooting.{BootsLedger, IsBootedNow, StaysSmall, RefusesLedger, RefusesReread, WritesLedger, IsOldOrReread};
 ghost use Rattle.xfs_guard.specs.LedgerView.{IsOpenLedger, IsWriteFault, IsSame, IsPresentedBound, write_refusal};
 ghost use Rattle.xfs_guard.specs.Balance.{with_notes};
-ghost use Rattle.xfs_guard.specs.Booting.{AddsAtMost, HadRoomThen, IsFoundBooted, base_then};
+ghost use Rattle.xfs_guard.specs.Booting.{HadRoomThen, IsFoundBooted, base_then};
 ghost use Rattle.xfs_guard.specs.Ledger.{IsLive, IsDoubted};
-ghost use Rattle.xfs_guard.specs.Stored.{LeavesPossible};
 ghost use Rattle.xfs_guard.specs.Pays.{FitsSums, GrowBy, GrowsSums, IsSumOf, StayWithin};
 ghost use Rattle.xfs_guard.specs.Segment.{IsTellable};
+ghost use Rattle.xfs_disk.specs.Moments.{EachImage, EachMoment};
+ghost use Rattle.xfs_guard.specs.Stored.{StandsForPossible};
 
 use crate::bound::{Bound, Live};
 use crate::mounting::mount;
@@ -151,7 +152,7 @@ impl<D: Disk> Ledger<D> {
     /// The journal's disk.
     pub fn end(self) -> D
         ensures disk { result ≡ self.disk }
-        ensures stored { LeavesOneOf D.Disk result self.records self.in_doubt }
+        ensures stored { EachImage D.Disk result (HasPossible self.records self.in_doubt) }
     {
         let Ledger {
             journal,
@@ -171,7 +172,7 @@ impl<D: Disk> Ledger<D> {
     /// Whether the disk failed and the journal wasn't read again since.
     pub fn shut(&self) -> bool
         ensures shut { result ≡ self.now.shut }
-        ensures possible { LeavesOneOf D.Disk self.now.disk self.now.records self.now.in_doubt }
+        ensures possible { EachImage D.Disk self.now.disk (HasPossible self.now.records self.now.in_doubt) }
     {
         self.journal.shut()
     }
@@ -408,8 +409,8 @@ impl<D: Disk> Ledger<D> {
         ensures stands { OnOk result (IsFoundBooted (D.held self.old.disk) places self.new.records) }
         ensures refuses { RefusesReread D.Disk rebases places result self.old self.new }
         ensures goes_on { DiskGoesOn D.Disk self.old.disk self.new.disk }
-        ensures left { LeavesPossible D.Disk self.new.disk self.new.records self.new.in_doubt }
-        ensures any_moment { LeavesReread D.Disk self.old self.new places }
+        ensures left { EachImage D.Disk self.new.disk (StandsForPossible self.new.records self.new.in_doubt) }
+        ensures any_moment { EachMoment D.Disk self.old.disk self.new.disk (λ _. IsOldOrReread D.Disk self.old self.new places) }
     {
         let before = self.newest();
         if let Err(why) = self.journal.remount() {
@@ -542,7 +543,7 @@ fn append<D: Disk>(journal: &mut Journal<D>, rec: Rec) -> Result<u64, Deny>
     ensures reserved { 1 ≤ journal.old.room → IfErr result (λ e. e ≡ Deny.Disk) }
     ensures room { journal.old.room ≤ journal.new.room + 1 }
     ensures keeps { KeepsJournal D.Disk journal.old journal.new }
-    ensures any_moment { AddsAtMost D.Disk journal.old.disk journal.new.disk journal.old.records rec }
+    ensures any_moment { EachMoment D.Disk journal.old.disk journal.new.disk (λ _. StandsForEither journal.old.records rec) }
 {
     match journal.append(rec) {
         Ok(number) => Ok(number),

@@ -20,7 +20,6 @@ mod open;
 mod replayed;
 mod reports;
 mod restore;
-mod signer;
 mod words;
 
 pub use ask::Ask;
@@ -34,5 +33,4 @@ pub use machine_core::Core;
 pub use nonce::Nonce;
 pub use open::Open;
 pub use replayed::motions_of;
-pub use signer::Signer;
 pub use xfs_base::Kind;

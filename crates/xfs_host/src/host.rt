@@ -1,7 +1,6 @@
 //! The host.
 ghost use Rattle.std.specs.Prelude.{◌≡◌, ◌<◌, ◌≤◌, ◌++◌, ◌∷◌, [], ℕ, List, length, map, Some, IfOk, OnOk, OnErr, slice_get};
 ghost use Rattle.std.specs.Option.{option_map};
-ghost use Rattle.xfs_hmac.specs.Hmac.{IsKey};
 ghost use Rattle.xfs_token.specs.Amounts.{IsMade};
 ghost use Rattle.xfs_host.specs.Book.{Opened, Asked, account_in, balance_after, book_of, listed, reply_after, rising};
 ghost use Rattle.xfs_host.specs.Host.{IsRefusedAs, host_refusal, open_refusal};
@@ -16,10 +15,8 @@ use crate::ledger::Ledger;
 use crate::{HostFault, OpenFault, Reply, Text};
 use std::alloc::{AllocError, Global};
 use std::marker::Model;
-use std::snapshot::Snapshot;
 use xfs_base::{Currency, Milli};
-use xfs_hmac::Key;
-use xfs_token::{Amounts, make_under};
+use xfs_token::{Amounts, TokenKey};
 
 const ACCOUNTS: usize = 10_000;
 
@@ -30,22 +27,19 @@ const TRANSACTIONS: usize = 100_000;
 #[derive(Drop)]
 pub struct Host {
     alloc: Global,
-    key: Key,
-    // Only proofs read it.
-    secret: Snapshot<[u8; 32]>,
+    key: TokenKey,
     ledger: Ledger,
 }
 
 impl Model for Host {
     ghost use Rattle.xfs_host.specs.Host.{IsWithinLimits, State};
     ghost use Rattle.xfs_host.specs.Book.{book_of};
-    ghost use Rattle.xfs_hmac.specs.Hmac.{IsKey};
 
     ghost Value = { State };
 
-    ghost view = { λ h. record { key = h.secret.value; calls = h.ledger } };
+    ghost view = { λ h. record { key = h.key; calls = h.ledger } };
 
-    ghost invariant = { λ h. IsKey h.key h.secret.value × IsWithinLimits (book_of h.ledger) };
+    ghost invariant = { λ h. IsWithinLimits (book_of h.ledger) };
 }
 
 impl Host {
@@ -55,8 +49,7 @@ impl Host {
     {
         Host {
             alloc,
-            key: Key::new(&key),
-            secret: Snapshot::of(&key),
+            key: TokenKey::new(key),
             ledger: Ledger::new(alloc),
         }
     }
@@ -141,8 +134,13 @@ impl Host {
     }
 }
 
-fn reply_to(alloc: Global, key: &Key, ask: &Ask, decision: Decision) -> Result<Reply, AllocError>
-    ensures { (k : List ℕ) → IsKey key.now k → IfOk result (IsReply k ask.now decision) }
+fn reply_to(
+    alloc: Global,
+    key: &TokenKey,
+    ask: &Ask,
+    decision: Decision,
+) -> Result<Reply, AllocError>
+    ensures { IfOk result (IsReply key.now ask.now decision) }
 {
     match decision {
         Decision::Paid => Ok(Reply::Token(token(alloc, key, ask)?)),
@@ -157,13 +155,13 @@ fn reply_to(alloc: Global, key: &Key, ask: &Ask, decision: Decision) -> Result<R
 }
 
 // The text is the same each time that it is made.
-fn token(alloc: Global, key: &Key, ask: &Ask) -> Result<Text, AllocError>
-    ensures { (k : List ℕ) → IsKey key.now k → IfOk result (IsMade k ask.now.nonce ((ask.now.currency, ask.now.amount) ∷ [])) }
+fn token(alloc: Global, key: &TokenKey, ask: &Ask) -> Result<Text, AllocError>
+    ensures { IfOk result (IsMade key.now ask.now.nonce ((ask.now.currency, ask.now.amount) ∷ [])) }
 {
     let Some(amounts) = Amounts::one(ask.currency(), Milli(ask.amount())) else {
         unreachable!();
     };
-    match make_under(alloc, key, ask.nonce(), &amounts) {
+    match key.make(alloc, ask.nonce(), &amounts) {
         Ok(text) => Ok(Text::new(text)),
         Err(_) => Err(AllocError),
     }

@@ -14,7 +14,7 @@ use Rattle.xfs_disk.specs.declared.disk.Disk.{Ghosts}
 use Rattle.xfs_journal.proofs.Moments.{started}
 use Rattle.xfs_journal.specs.Gate.{HasOpened, IsClosed, IsOpened, IsEither, IsEitherOf}
 use Rattle.xfs_journal.specs.Image.{IsImage, IsRecord, StandsFor, contents, end_of, blocks, framed, magic}
-use Rattle.xfs_journal.specs.JournalView.{IsButForEighth, HasVersion, IsAtRest, IsKept, IsInDoubt, HasPossible, LeavesWithOrWithout, StandsForEither, exceeds}
+use Rattle.xfs_journal.specs.JournalView.{IsButForEighth, HasVersion, IsAtRest, IsKept, IsInDoubt, HasPossible, StandsForEither, exceeds}
 use Rattle.xfs_journal.specs.Outcomes.{WritesAtMost}
 use Rattle.xfs_journal.specs.declared.record.Rec.{Rec}
 use Rattle.xfs_journal.proofs.Told.{on_told, from_told, both_told}
@@ -198,7 +198,7 @@ pub still : {D : Type 0} (g : Ghosts D) (d : D) (J : List Rec) (r : Rec) (shut :
     → ((c : List ℕ) → g.images_since d (g.moment d) c → g.images d c) → IsKept (g.held d) (g.images d) J shut end → shut ≡ false → WritesAtMost g d d J r
 still g d J r shut end now kept is_open =
     let at_rest = stands_at_rest (g.held d) (g.images d) J end (subst (λ (s : Bool). IsKept (g.held d) (g.images d) J s end) is_open kept) in
-    let left : LeavesWithOrWithout g d d J r = on_told (g.held d) (λ _. (c : List ℕ) → g.images d c → StandsForEither J r c) (λ b known c was.
+    let left : IfTold (g.held d) (λ _. (c : List ℕ) → g.images d c → StandsForEither J r c) = on_told (g.held d) (λ _. (c : List ℕ) → g.images d c → StandsForEither J r c) (λ b known c was.
     inl (from_told (g.held d) (λ _. (f : List ℕ) → g.images d f → StandsFor f J) at_rest b known c was)) in
     record {
       any_moment = on_told (g.held d) (λ _. LeavesOnly g d d (StandsForEither J r)) (λ b known.

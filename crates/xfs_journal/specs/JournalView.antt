@@ -76,18 +76,6 @@ IsPossibleBehind base kept in_doubt found = IsPossible (drop base kept) in_doubt
 abbrev pub HasPossible : List Rec → Option Rec → List ℕ → Type 0
 HasPossible kept in_doubt bytes = (records : List Rec) × IsPossible kept in_doubt records × IsImage bytes records
 
--- a disk that tells leaves the list after every crash
-abbrev pub LeavesList : {D : Type 0} → Ghosts D → D → List Rec → Type 0
-LeavesList g disk records = IfTold (g.held disk) (λ _. (c : List ℕ) → g.images disk c → StandsFor c records)
-
--- a disk that tells leaves one of the possible lists after every crash
-abbrev pub LeavesOneOf : {D : Type 0} → Ghosts D → D → List Rec → Option Rec → Type 0
-LeavesOneOf g disk kept in_doubt = IfTold (g.held disk) (λ _. (c : List ℕ) → g.images disk c → HasPossible kept in_doubt c)
-
--- a disk that told leaves the list after every crash, or the list with the record
-abbrev pub LeavesWithOrWithout : {D : Type 0} → Ghosts D → D → D → List Rec → Rec → Type 0
-LeavesWithOrWithout g old new records r = IfTold (g.held old) (λ _. (c : List ℕ) → g.images new c → StandsForEither records r c)
-
 -- a disk that tells, and whose eighth byte was a 1: it has a 2 there and the rest as it was, and a crash leaves that
 abbrev pub IsRenewed : {D : Type 0} → Ghosts D → D → D → Type 0
 IsRenewed g old new = IfTold (g.held old) (λ all. slice_get all 7 ≡ Some 0x31 →

@@ -1,11 +1,11 @@
 -- What a call of a journal leaves, by what it answers.
 use Rattle.std.specs.Prelude.{◌≡◌, ◌≢◌, ℕ, ◌+◌, ◌≤◌, true, false, List, [], ◌∷◌, ◌++◌, length, is_some, Some, None}
 use Rattle.xfs_base.specs.Causes.{IfTold, Rose}
-use Rattle.xfs_disk.specs.Moments.{LeavesOnly}
+use Rattle.xfs_disk.specs.Moments.{EachImage, EachMoment}
 use Rattle.xfs_disk.specs.declared.disk.Disk.{Ghosts}
 use Rattle.xfs_journal.specs.Image.{StandsFor}
 use Rattle.xfs_journal.specs.Journal.{base_of}
-use Rattle.xfs_journal.specs.JournalView.{JournalView, HasVersion, IsButForEighth, IsCarriedOver, IsPossible, IsRenewed, LeavesList, LeavesWithOrWithout, MayPartAt, StandsForEither}
+use Rattle.xfs_journal.specs.JournalView.{JournalView, HasVersion, IsButForEighth, IsCarriedOver, IsPossible, IsRenewed, MayPartAt, StandsForEither}
 use Rattle.xfs_journal.specs.declared.faults.AppendFault.{AppendFault}
 use Rattle.xfs_journal.specs.declared.faults.AppendFault.TheVariants.{Disk as AppendDisk, Memory as AppendMemory}
 use Rattle.xfs_journal.specs.declared.faults.MountFault.{MountFault}
@@ -28,7 +28,7 @@ pub record KeepsJournal {D : Type 0} (g : Ghosts D) (old new : JournalView D) : 
 pub record IsOpenJournal {D : Type 0} (g : Ghosts D) (j : JournalView D) : Type 0 where
   pub shut : j.shut ≡ false
   pub in_doubt : j.in_doubt ≡ None
-  pub acknowledged : LeavesList g j.disk j.records
+  pub acknowledged : EachImage g j.disk (λ c. StandsFor c j.records)
 
 -- the list that a disk tells was mounted: memory has it from its last boot record on
 pub record IsMounted {D : Type 0} (g : Ghosts D) (disk : D) (given : Limits) (j : JournalView D) : Type 0 where
@@ -56,18 +56,18 @@ pub record IsLeftUnread {D : Type 0} (g : Ghosts D) (old new : JournalView D) (f
 -- a journal was carried over: a crash leaves its list, and its file is of another version than 1
 pub record IsMigrated {D : Type 0} (g : Ghosts D) (old new : JournalView D) : Type 0 where
   pub renewed : IsRenewed g old.disk new.disk
-  pub acknowledged : LeavesList g new.disk new.records
+  pub acknowledged : EachImage g new.disk (λ c. StandsFor c new.records)
   pub carried : IsCarriedOver (g.held new.disk)
 
 -- at any moment a crash leaves the bytes of a disk that told, but for the eighth, so it leaves the list
 pub record SparesList {D : Type 0} (g : Ghosts D) (old new : D) (records : List Rec) : Type 0 where
-  pub any_moment : IfTold (g.held old) (λ _. LeavesOnly g old new (λ c. StandsFor c records))
-  pub spares : IfTold (g.held old) (λ all. LeavesOnly g old new (IsButForEighth all))
+  pub any_moment : EachMoment g old new (λ _ c. StandsFor c records)
+  pub spares : EachMoment g old new IsButForEighth
 
 -- at any moment a crash leaves the list of a disk that told, with the record or without it
 pub record WritesAtMost {D : Type 0} (g : Ghosts D) (old new : D) (records : List Rec) (rec : Rec) : Type 0 where
-  pub any_moment : IfTold (g.held old) (λ _. LeavesOnly g old new (StandsForEither records rec))
-  pub images : LeavesWithOrWithout g old new records rec
+  pub any_moment : EachMoment g old new (λ _. StandsForEither records rec)
+  pub images : IfTold (g.held old) (λ _. (c : List ℕ) → g.images new c → StandsForEither records rec c)
 
 -- a record was appended at this place, and the version stays what it was
 pub record IsAppended {D : Type 0} (g : Ghosts D) (old new : JournalView D) (rec : Rec) (at : ℕ) : Type 0 where

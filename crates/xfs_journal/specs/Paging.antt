@@ -5,7 +5,7 @@ use Rattle.std.specs.declared.option.Option.{Option}
 use Rattle.std.specs.List.{AllByRecursion}
 use Rattle.xfs_base.specs.Causes.{IfTold}
 use Rattle.xfs_disk.specs.Disk.{AddsNone}
-use Rattle.xfs_disk.specs.Moments.{LeavesOnly}
+use Rattle.xfs_disk.specs.Moments.{EachMoment, LeavesOnly}
 use Rattle.xfs_disk.specs.declared.disk.Disk.{Ghosts}
 use Rattle.xfs_journal.specs.Image.{IsRecord, body, framed, contents, end_of, magic}
 use Rattle.xfs_journal.specs.declared.faults.MountFault.{MountFault}
@@ -90,7 +90,7 @@ IsOldOrShort images all c = images c ⊎ ((length all ≤ 9) × (length c ≤ 9)
 
 -- at any moment a crash leaves an image of before, or at most 9 bytes where a disk that told had no more
 abbrev pub LeavesOldOrShort : {D : Type 0} → Ghosts D → D → D → Type 0
-LeavesOldOrShort g old new = IfTold (g.held old) (λ all. LeavesOnly g old new (IsOldOrShort (g.images old) all))
+LeavesOldOrShort g old new = EachMoment g old new (IsOldOrShort (g.images old))
 
 -- a disk that tells has more than 9 bytes, and they cease to be a journal there
 abbrev pub CeasesLongAt : Option (List ℕ) → ℕ → Type 0

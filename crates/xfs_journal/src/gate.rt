@@ -3,9 +3,9 @@ ghost use Rattle.std.specs.Prelude.{◌≡◌, List, ℕ, ◌+◌, ◌<◌, ◌�
 ghost use Rattle.std.specs.declared.option.Option.{Option};
 ghost use Rattle.xfs_base.specs.Causes.{HasCause, IfTold};
 ghost use Rattle.xfs_disk.specs.Disk.{overlaid, Torn, ImagesFollow, Only};
-ghost use Rattle.xfs_disk.specs.Moments.{LeavesOnly};
-ghost use Rattle.xfs_journal.specs.Image.{IsRecord, end_of, framed};
-ghost use Rattle.xfs_journal.specs.JournalView.{HasVersion, IsKept, IsInDoubt, LeavesList};
+ghost use Rattle.xfs_disk.specs.Moments.{LeavesOnly, EachImage};
+ghost use Rattle.xfs_journal.specs.Image.{IsRecord, end_of, framed, StandsFor};
+ghost use Rattle.xfs_journal.specs.JournalView.{HasVersion, IsKept, IsInDoubt};
 ghost use Rattle.xfs_journal.specs.Outcomes.{WritesAtMost};
 ghost use Rattle.xfs_journal.specs.Gate.{HasOpened, IsClosed, IsEitherOf, MayBecome};
 
@@ -74,7 +74,7 @@ pub(crate) fn write_record<D: Disk>(
     ensures crashes { WritesAtMost D.Disk disk.old disk.new recent.now.all rec.now }
     ensures in_doubt { IsInDoubt (D.held disk.new) (D.images disk.new) recent.now.all true (Some rec.now) }
     ensures none_in_doubt { OnOk result (IsInDoubt (D.held disk.new) (D.images disk.new) (recent.now.all ++ rec.now ∷ []) false None) }
-    ensures acknowledged { OnOk result (LeavesList D.Disk disk.new (recent.now.all ++ rec.now ∷ [])) }
+    ensures acknowledged { OnOk result (EachImage D.Disk disk.new (λ c. StandsFor c (recent.now.all ++ rec.now ∷ []))) }
     ensures cause { HasCause (D.faults disk.old) (D.faults disk.new) result }
 {
     write_behind(disk, gate, bytes)

@@ -4,13 +4,14 @@ ghost use Rattle.xfs_base.specs.Causes.{IfTold, Rose};
 ghost use Rattle.xfs_journal.specs.declared.body.TheConstants.{MOST};
 ghost use Rattle.xfs_journal.specs.Image.{HasUnit, framed, end_of, size, IsRecord};
 ghost use Rattle.xfs_journal.specs.Journal.{base_of, issues_in};
-ghost use Rattle.xfs_journal.specs.JournalView.{exceeds, refusal, stops, IsNoJournal, LeavesOneOf, HasVersion};
+ghost use Rattle.xfs_journal.specs.JournalView.{exceeds, refusal, stops, IsNoJournal, HasVersion, HasPossible};
 ghost use Rattle.xfs_journal.specs.Outcomes.{DiskGoesOn, IsAppended, IsLeftUnread, IsMigrated, IsMounted, IsNotAppended, IsReread, KeepsJournal, SparesList, WritesAtMost};
 ghost use Rattle.xfs_journal.specs.declared.faults.AppendFault.TheVariants.{Disk as DiskFault, Memory as NoMemory};
-ghost use Rattle.xfs_journal.specs.Paging.{LeavesOldOrShort, IsQuiet};
+ghost use Rattle.xfs_journal.specs.Paging.{IsQuiet, LeavesOldOrShort};
 ghost use Rattle.xfs_journal.specs.declared.faults.MigrateFault.TheVariants.{Disk as MigrateDisk, Shut as IsShut};
 ghost use Rattle.xfs_journal.specs.declared.faults.MountFault.TheVariants.{NotJournal, Disk as MountDisk, Memory as MountMemory};
 ghost use Rattle.xfs_journal.specs.declared.record.Rec.{Rec};
+ghost use Rattle.xfs_disk.specs.Moments.{EachImage};
 
 use crate::body::{MOST, fill};
 use crate::gate::{next_gate, write_record};
@@ -159,7 +160,7 @@ impl<D: Disk> Journal<D> {
     pub fn shut(&self) -> bool
         ensures shut { result ≡ self.now.shut }
         ensures settled { self.now.shut ≡ false → self.now.in_doubt ≡ None }
-        ensures possible { LeavesOneOf D.Disk self.now.disk self.now.records self.now.in_doubt }
+        ensures possible { EachImage D.Disk self.now.disk (HasPossible self.now.records self.now.in_doubt) }
     {
         self.shut
     }
@@ -183,7 +184,7 @@ impl<D: Disk> Journal<D> {
     pub fn end(self) -> D
         ensures disk { result ≡ self.disk }
         ensures settled { self.shut ≡ false → self.in_doubt ≡ None }
-        ensures possible { LeavesOneOf D.Disk result self.records self.in_doubt }
+        ensures possible { EachImage D.Disk result (HasPossible self.records self.in_doubt) }
     {
         self.disk
     }
@@ -206,7 +207,7 @@ impl<D: Disk> Journal<D> {
 
         // A disk that tells has one of the two lists, so it isn't refused as no journal, nor written: a crash at any
         // moment of the call leaves what it might have left before.
-        ensures possible { LeavesOneOf D.Disk self.old.disk self.old.records self.old.in_doubt }
+        ensures possible { EachImage D.Disk self.old.disk (HasPossible self.old.records self.old.in_doubt) }
         ensures any_moment { IfTold (D.held self.old.disk) (λ _. IsQuiet D.Disk self.old.disk self.new.disk) }
     {
         match reload(

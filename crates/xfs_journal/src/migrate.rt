@@ -2,9 +2,11 @@
 ghost use Rattle.std.specs.Prelude.{◌≡◌, ◌≢◌, ◌<◌, [], ◌∷◌, false, None, Some, is_some, option_map, length, slice_get, IfOk, OnOk};
 ghost use Rattle.xfs_base.specs.Causes.{HasCause, IfTold};
 ghost use Rattle.xfs_disk.specs.Disk.{overlaid, Only};
-ghost use Rattle.xfs_journal.specs.JournalView.{HasVersion, IsKept, IsInDoubt, IsRenewed, LeavesList};
+ghost use Rattle.xfs_journal.specs.JournalView.{HasVersion, IsKept, IsInDoubt, IsRenewed};
 ghost use Rattle.xfs_journal.specs.Outcomes.{SparesList};
 ghost use Rattle.xfs_journal.specs.Paging.{IsQuiet};
+ghost use Rattle.xfs_disk.specs.Moments.{EachImage};
+ghost use Rattle.xfs_journal.specs.Image.{StandsFor};
 
 use crate::gate::write_synced;
 use crate::recent::Recent;
@@ -41,7 +43,7 @@ fn renew<D: Disk>(disk: &mut D, recent: &Recent, gate: u64) -> Result<(), Failed
     ensures version { OnOk result (HasVersion (D.held disk.new) (Some 0x32)) }
     ensures told { is_some (D.held disk.new) ≡ is_some (D.held disk.old) }
     ensures crashes { SparesList D.Disk disk.old disk.new recent.now.all }
-    ensures list { LeavesList D.Disk disk.new recent.now.all }
+    ensures list { EachImage D.Disk disk.new (λ c. StandsFor c recent.now.all) }
     ensures cause { HasCause (D.faults disk.old) (D.faults disk.new) result }
 {
     write_synced(disk, 7, &[VERSION])
@@ -64,7 +66,7 @@ pub(crate) fn carry_over<D: Disk>(
     ensures quiet { IfTold (D.held disk.old) (λ all. slice_get all 7 ≢ Some 0x31 → IsQuiet D.Disk disk.old disk.new) }
     ensures told { is_some (D.held disk.new) ≡ is_some (D.held disk.old) }
     ensures crashes { SparesList D.Disk disk.old disk.new recent.now.all }
-    ensures list { LeavesList D.Disk disk.new recent.now.all }
+    ensures list { EachImage D.Disk disk.new (λ c. StandsFor c recent.now.all) }
     ensures cause { HasCause (D.faults disk.old) (D.faults disk.new) result }
 {
     let version = version_of(disk, known)?;

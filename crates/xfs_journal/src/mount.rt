@@ -9,7 +9,7 @@ ghost use Rattle.xfs_journal.specs.Holding.{IsHeld};
 ghost use Rattle.xfs_journal.specs.declared.keep.Keep.TheVariants.{SinceBoot};
 ghost use Rattle.xfs_journal.specs.Image.{IsImage, IsRecord, StandsFor, end_of};
 ghost use Rattle.xfs_journal.specs.JournalView.{HasVersion, IsKept};
-ghost use Rattle.xfs_journal.specs.Paging.{IsQuiet, LeavesOldOrShort, CeasesAt, CeasesLongAt, MayCease};
+ghost use Rattle.xfs_journal.specs.Paging.{IsQuiet, CeasesAt, CeasesLongAt, LeavesOldOrShort, MayCease};
 ghost use Rattle.xfs_journal.specs.declared.faults.MountFault.TheVariants.{NotJournal, Disk as DiskFault};
 
 use crate::MountFault;

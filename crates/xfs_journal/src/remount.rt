@@ -8,10 +8,11 @@ ghost use Rattle.xfs_journal.specs.Journal.{base_of};
 ghost use Rattle.xfs_journal.specs.declared.body.TheConstants.{MOST};
 ghost use Rattle.xfs_journal.specs.declared.keep.Keep.TheVariants.{Behind};
 ghost use Rattle.xfs_journal.specs.Image.{IsImage, IsRecord, end_of};
-ghost use Rattle.xfs_journal.specs.JournalView.{DiffersAt, HasVersion, IsKept, IsPossible, IsPossibleBehind, LeavesOneOf, MayPartAt};
+ghost use Rattle.xfs_journal.specs.JournalView.{DiffersAt, HasVersion, IsKept, HasPossible, IsPossible, IsPossibleBehind, MayPartAt};
 ghost use Rattle.xfs_journal.specs.Paging.{IsQuiet, MayCease};
 ghost use Rattle.xfs_journal.specs.declared.faults.MountFault.TheVariants.{NotJournal, Disk as DiskFault};
 ghost use Rattle.xfs_journal.specs.declared.record.Rec.{Rec};
+ghost use Rattle.xfs_disk.specs.Moments.{EachImage};
 
 use crate::body::MOST;
 use crate::differ::{parts_at, size_of};
@@ -138,7 +139,7 @@ pub(crate) fn reload<D: Disk>(
     requires room { MOST ≤ vec_capacity block.old }
     requires of_table { AllByRecursion IsRecord kept.now.all × IfSome in_doubt.now IsRecord }
     requires led { kept.now.base ≤ base_of kept.now.all }
-    requires possible { LeavesOneOf D.Disk disk.old kept.now.all in_doubt.now }
+    requires possible { EachImage D.Disk disk.old (HasPossible kept.now.all in_doubt.now) }
     ensures base { IfOk result (λ l. l.recent.base ≡ kept.now.base) }
     ensures kept { IfOk result (λ l. IsKept (D.held disk.new) (D.images disk.new) (with_front kept.now.base kept.now.all l.recent.all) false l.end) }
     ensures version { IfOk result (λ l. HasVersion (D.held disk.new) (Some l.version)) }

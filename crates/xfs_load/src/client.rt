@@ -20,11 +20,10 @@ use std::marker::Model;
 use xfs_base::{Bytes, Memory, Milli, Moment};
 use xfs_disk::Disk;
 use xfs_envelope::{Answer, AnswerFault, Code, read_answer};
-use xfs_hmac::Key;
 use xfs_json::{Value, words};
 use xfs_machine::{Frames, Machine, Pass, Tally};
 use xfs_mech::{Mechanism, Touch};
-use xfs_token::{Amounts, MakeFault, make_under};
+use xfs_token::{Amounts, MakeFault, TokenKey};
 
 // Every call that takes a moment is given the first.
 const AT_START: Moment = Moment(0);
@@ -33,8 +32,7 @@ const AT_START: Moment = Moment(0);
 #[derive(Drop)]
 pub(crate) struct Client {
     alloc: Global,
-    key: [u8; 32],
-    prepared: Key,
+    key: TokenKey,
     pass: Pass,
     tally: Tally,
     asked: u64,
@@ -44,14 +42,11 @@ pub(crate) struct Client {
 }
 
 impl Model for Client {
-    ghost use Rattle.xfs_hmac.specs.Hmac.{IsKey};
     ghost use Rattle.xfs_load.specs.Generator.{Client as ClientView};
 
     ghost Value = { ClientView };
 
     ghost view = { λ c. record { key = c.key; pass = c.pass; asked = c.asked; nonce = c.nonce; failed = c.failed; refused = c.refused } };
-
-    ghost invariant = { λ c. IsKey c.prepared c.key };
 }
 
 impl Client {
@@ -61,8 +56,7 @@ impl Client {
     {
         Client {
             alloc,
-            key,
-            prepared: Key::new(&key),
+            key: TokenKey::new(key),
             pass,
             tally: Tally::new(),
             asked: 0,
@@ -182,7 +176,7 @@ impl Client {
         let Some(nonce) = &self.nonce else {
             return Ok(None);
         };
-        match make_under(self.alloc, &self.prepared, nonce.list(), &amounts(amount)) {
+        match self.key.make(self.alloc, nonce.list(), &amounts(amount)) {
             Ok(token) => Ok(Some(Bytes::new(token))),
             Err(MakeFault::BadNonce) => Ok(None),
             Err(MakeFault::Memory) => Err(Memory),

@@ -16,7 +16,7 @@ IsReached units have currency amount false = (n : Counts) → IsMix units have c
 abbrev pub IsOutOfReach : List NoteKind → Counts → List ℕ → ℕ → Type 0
 IsOutOfReach units limits currency amount = (n : Counts) → IsWithin units limits currency amount n → ⊥
 
--- some are
+-- some counts within limits are worth an amount
 pub record IsInReach (units : List NoteKind) (limits : Counts) (currency : List ℕ) (amount : ℕ) : Type 0 where
   pub counts : Counts
   pub eight : length counts.0 ≡ 8

@@ -1,7 +1,7 @@
 ghost use Rattle.std.specs.Prelude.{◌≡◌, List, [], replicate, IfSome};
 ghost use Rattle.xfs_base.specs.Causes.{IfTold};
 ghost use Rattle.xfs_disk.specs.MemDisk.{bytes_of, steps_of};
-ghost use Rattle.xfs_disk.specs.Wrapped.{failing_calls, failing_inner};
+ghost use Rattle.xfs_disk.specs.Wrapped.{failing_calls, inner_of};
 ghost use Rattle.xfs_guard.specs.Starts.{Starts};
 ghost use Rattle.xfs_journal.specs.Image.{IsImage};
 ghost use Rattle.xfs_journal.specs.declared.record.Rec.{Rec};
@@ -147,7 +147,7 @@ pub fn core_failing<M: Mechanism>(
     requires units { M.units mech ≡ units }
     requires settled { steps_of disk ≡ [] }
     requires none { (records : List Rec) → ¬ IsImage (bytes_of disk) records }
-    ensures handed { (result.mech ≡ mech) × (failing_inner result.disk ≡ disk) × (result.units ≡ units) × (result.limits ≡ limits) }
+    ensures handed { (result.mech ≡ mech) × (inner_of result.disk ≡ disk) × (result.units ≡ units) × (result.limits ≡ limits) }
     ensures failing { failing_calls result.disk ≡ failing.items }
     ensures secrets { (result.key ≡ secrets.key) × (result.seed ≡ secrets.seed) × (result.life ≡ 0) }
     ensures starts { Starts M.Mechanism ⟦<FailDisk as Disk>⟧ result }

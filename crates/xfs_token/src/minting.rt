@@ -1,17 +1,13 @@
 ghost use Rattle.std.specs.Prelude.{◌≡◌, ◌+◌, ◌<◌, ◌≤◌, ◌++◌, ◌∷◌, [], ℕ, List, codes, Err, IfOk, IfErr, OnOk, length, take, false};
-ghost use Rattle.xfs_hmac.specs.Hmac.{IsKey};
 ghost use Rattle.xfs_token.specs.Token as grammar;
 ghost use Rattle.xfs_token.specs.Token.{pairs_text};
 ghost use Rattle.xfs_token.specs.Amounts.{IsAmounts, IsMade, decimals, amount_text, dispense_key, dispense_pairs};
 ghost use Rattle.xfs_token.specs.declared.minting.MakeFault.TheVariants.{BadNonce};
 
-use crate::Amounts;
-use crate::grammar::is_nonce;
-use crate::text::{FRAME, covered, push_mac};
+use crate::{Amounts, TokenKey};
 use itoa::Buffer;
 use std::alloc::{AllocError, Global};
 use xfs_base::{Currency, Milli};
-use xfs_hmac::Key;
 
 /// Why no token was made.
 #[derive(Clone, Copy, Debug, PartialEq, Eq)]
@@ -43,32 +39,11 @@ pub fn make(
     ensures bad_nonce { grammar.is_nonce nonce.now ≡ false → result ≡ Err BadNonce }
     ensures cause { IfErr result (λ e. e ≡ BadNonce → grammar.is_nonce nonce.now ≡ false) }
 {
-    make_under(alloc, &Key::new(key), nonce, amounts)
+    TokenKey::new(*key).make(alloc, nonce, amounts)
 }
 
-/// The same under a key that was prepared once for many tokens.
-pub fn make_under(
-    alloc: Global,
-    key: &Key,
-    nonce: &[u8],
-    amounts: &Amounts,
-) -> Result<Vec<u8>, MakeFault>
-    ensures ok { (k : List ℕ) → IsKey key.now k → IfOk result (λ v. IsMade k nonce.now amounts.now v.items) }
-    ensures bad_nonce { grammar.is_nonce nonce.now ≡ false → result ≡ Err BadNonce }
-    ensures cause { IfErr result (λ e. e ≡ BadNonce → grammar.is_nonce nonce.now ≡ false) }
-{
-    if !is_nonce(nonce) {
-        return Err(MakeFault::BadNonce);
-    }
-    let pairs = dispense_text(alloc, amounts)?;
-    let total = nonce.len() + pairs.len() + FRAME;
-    let mut text = covered(alloc, nonce, &pairs, total as u16)?;
-    let code = key.mac(&text);
-    push_mac(&mut text, &code)?;
-    Ok(text)
-}
-
-fn dispense_text(alloc: Global, amounts: &Amounts) -> Result<Vec<u8>, AllocError>
+// The pairs of the amounts, under the keys DISPENSE1 onwards.
+pub(crate) fn dispense_text(alloc: Global, amounts: &Amounts) -> Result<Vec<u8>, AllocError>
     ensures text { IfOk result (λ v. v.items ≡ pairs_text (dispense_pairs 1 amounts.now)) }
     ensures valid { IsAmounts amounts.now }
 {

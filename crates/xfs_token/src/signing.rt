@@ -1,31 +1,19 @@
 ghost use Rattle.std.specs.Prelude.{◌≡◌, ◌<◌, ◌≤◌, ℕ, List, ◌↔◌, IsTrue, IfOk, IfErr, IsErr, length, map};
-ghost use Rattle.xfs_hmac.specs.Hmac.{IsKey};
 ghost use Rattle.xfs_token.specs.Token.{Genuine, Spells, form, pairs_text};
 ghost use Rattle.xfs_token.specs.Pairs.{pair_of};
 ghost use Rattle.xfs_token.specs.declared.signing.WriteFault.TheVariants.{TooLong};
 
-use crate::Token;
 use crate::pair::Pair;
-use crate::text::{FRAME, MAC_FIELD, covered, push_mac};
+use crate::text::{FRAME, covered, push_mac};
+use crate::{Token, TokenKey};
 use std::alloc::{AllocError, Global};
-use xfs_hmac::Key;
 
-/// Whether the HMAC of a token is that of its own bytes under a key. The bytes are the token's
-/// text.
+/// Whether the HMAC of a token is that of its own bytes under a key. The bytes are the token's text.
 pub fn genuine(key: &[u8; 32], bytes: &[u8], token: &Token) -> bool
     requires { Spells token.now bytes.now }
     ensures { IsTrue result ↔ Genuine key.now token.now bytes.now }
 {
-    genuine_under(&Key::new(key), bytes, token)
-}
-
-/// The same under a key that was prepared once for many tokens.
-pub fn genuine_under(key: &Key, bytes: &[u8], token: &Token) -> bool
-    requires { Spells token.now bytes.now }
-    ensures { (k : List ℕ) → IsKey key.now k → IsTrue result ↔ Genuine k token.now bytes.now }
-{
-    let (front, _) = bytes.split_at(bytes.len() - MAC_FIELD);
-    key.mac(front) == token.mac()
+    TokenKey::new(*key).is_genuine(bytes, token)
 }
 
 /// Why a token was not written.

@@ -5,19 +5,19 @@ use Rattle.xfs_audit.proofs.PayingLaws.{unpaid-dead, unpaid-unclaimed, unpaid-th
 use Rattle.xfs_audit.proofs.payer.Payer.pay.Goals as goal
 
 pub returns-in_default-clause-unpaid : goal.returns-in_default-clause-unpaid
-returns-in_default-clause-unpaid c = λ k done rest diverted is paying within. unpaid-dead k c.args.units.now c.args.records.now done rest c.turn.new.self.read c.args.number c.args.moved.now diverted c.turn.ensures.read c.turn.ensures.count (none-from _ c.in_default.not-Some) within
+returns-in_default-clause-unpaid c = λ done rest diverted paying within. unpaid-dead c.args.key.now c.args.units.now c.args.records.now done rest c.turn.new.self.read c.args.number c.args.moved.now diverted c.turn.ensures.read c.turn.ensures.count (none-from _ c.in_default.not-Some) within
 
 pub returns-then-not-branch-clause-unpaid : goal.returns-then-not-branch-clause-unpaid
-returns-then-not-branch-clause-unpaid c = λ k done rest diverted is paying within. unpaid-unclaimed k c.args.units.now c.args.records.now done rest c.turn.new.self.read c.args.number c.in-Some.issue c.args.moved.now diverted c.turn.ensures.read c.turn.ensures.count c.in-Some.is (OnFalse_at c.if-not-branch.true c.in_ok-open.ensures.none k is) within
+returns-then-not-branch-clause-unpaid c = λ done rest diverted paying within. unpaid-unclaimed c.args.key.now c.args.units.now c.args.records.now done rest c.turn.new.self.read c.args.number c.in-Some.issue c.args.moved.now diverted c.turn.ensures.read c.turn.ensures.count c.in-Some.is (OnFalse_at c.if-not-branch.true c.in_ok-open.ensures.none) within
 
 pub returns-clause-paid : goal.returns-clause-paid
-returns-clause-paid c = OnTrue_from c.spend.result (Pays c.args.key.now c.args.units.now c.args.records.now c.args.number c.args.moved.now c.args.self.now c.spend.new.self) (λ yes k done counts diverted is paying ordered.
-    let opened = OnTrue_at c.if-not-branch.false c.in_ok-open.ensures.same k c.args.units.now done is (c.turn.ensures.same k c.args.units.now done paying) in
-    spent-there k c.args.units.now c.args.records.now done c.open.new.self c.spend.new.self.read c.spend.new.self.claim c.args.number counts c.args.moved.now diverted opened c.spend.ensures.read
+returns-clause-paid c = OnTrue_from c.spend.result (Pays c.args.key.now c.args.units.now c.args.records.now c.args.number c.args.moved.now c.args.self.now c.spend.new.self) (λ yes done counts diverted paying ordered.
+    let opened = OnTrue_at c.if-not-branch.false c.in_ok-open.ensures.same c.args.units.now done (c.turn.ensures.same c.args.key.now c.args.units.now done paying) in
+    spent-there c.args.key.now c.args.units.now c.args.records.now done c.open.new.self c.spend.new.self.read c.spend.new.self.claim c.args.number counts c.args.moved.now diverted opened c.spend.ensures.read
     (let read = c.open.ensures.read in rw read c.turn.ensures.count) ordered (rw yes at c.spend.ensures.spent))
 
 pub returns-clause-unpaid : goal.returns-clause-unpaid
-returns-clause-unpaid c = OnFalse_from c.spend.result (IsUnpaid c.args.key.now c.args.units.now c.args.records.now c.args.number c.args.moved.now c.args.self.now) (λ not_paid k done rest diverted is paying within.
-    let opened = OnTrue_at c.if-not-branch.false c.in_ok-open.ensures.same k c.args.units.now done is (c.turn.ensures.same k c.args.units.now done paying) in
-    unpaid-there k c.args.units.now c.args.records.now done rest c.open.new.self c.spend.new.self.claim c.args.number c.args.moved.now diverted opened
+returns-clause-unpaid c = OnFalse_from c.spend.result (IsUnpaid c.args.key.now c.args.units.now c.args.records.now c.args.number c.args.moved.now c.args.self.now) (λ not_paid done rest diverted paying within.
+    let opened = OnTrue_at c.if-not-branch.false c.in_ok-open.ensures.same c.args.units.now done (c.turn.ensures.same c.args.key.now c.args.units.now done paying) in
+    unpaid-there c.args.key.now c.args.units.now c.args.records.now done rest c.open.new.self c.spend.new.self.claim c.args.number c.args.moved.now diverted opened
     (let read = c.open.ensures.read in rw read c.turn.ensures.count) (rw not_paid at c.spend.ensures.spent) within)

@@ -2,11 +2,12 @@ use Rattle.std.proofs.Common.{◌≡◌, ◌≤◌, length, vec_capacity, rules,
 use Rattle.xfs_base.specs.Causes.{IfTold}
 use Rattle.xfs_journal.specs.Holding.{with_front}
 use Rattle.xfs_journal.specs.Image.{StandsFor}
-use Rattle.xfs_journal.specs.JournalView.{HasVersion, IsInDoubt, IsKept, IsMeasured, LeavesList}
+use Rattle.xfs_journal.specs.JournalView.{HasVersion, IsInDoubt, IsKept, IsMeasured}
 use Rattle.xfs_journal.specs.declared.body.TheConstants.{MOST}
 use Rattle.xfs_journal.proofs.Appended.{stands_at_rest, told_image}
 use Rattle.xfs_journal.proofs.Doubt.{measured_again, no_doubt, kept_by, doubt_by, shut_cases, version_still}
 use Rattle.xfs_journal.proofs.journal.Journal.remount.Goals as goal
+use Rattle.xfs_disk.specs.Moments.{EachImage}
 
 pub returns-in-Err-clause-err : goal.returns-in-Err-clause-err
 returns-in-Err-clause-err g c =
@@ -19,7 +20,7 @@ returns-in-Ok-clause-ok g c =
     let j = c.self.inside in
     let read = c.in-Ok.ensures in
     let image : IfTold (g.D.Disk.held j.disk) (λ all. StandsFor all (with_front j.recent.base j.recent.all c.in-Ok.field-0.recent.all)) = told_image _ _ read.image in
-    let list : LeavesList g.D.Disk c.reload.new.disk (with_front j.recent.base j.recent.all c.in-Ok.field-0.recent.all) = stands_at_rest _ _ _ _ read.kept in
+    let list : EachImage g.D.Disk c.reload.new.disk (λ bytes. StandsFor bytes (with_front j.recent.base j.recent.all c.in-Ok.field-0.recent.all)) = stands_at_rest _ _ _ _ read.kept in
     rw (← c.self.view_is) (record {
       records = rw c.take_from.ensures.all read.possible;
       opened = record { shut = refl; in_doubt = refl; acknowledged = rw c.take_from.ensures.all list };

@@ -6,7 +6,7 @@ use Rattle.xfs_token.specs.Token.{is_nonce}
 use Rattle.xfs_token.specs.Amounts.{IsAmounts, dispense_pairs}
 use Rattle.xfs_token.proofs.Written.{made, nonce_within}
 use Rattle.xfs_token.proofs.Minted.{length-dispense_pairs}
-use Rattle.xfs_token.proofs.minting.make_under.Goals as goal
+use Rattle.xfs_token.proofs.key.TokenKey.make.Goals as goal
 
 pub overflow_cast-total : goal.overflow_cast-total
 overflow_cast-total c =
@@ -19,11 +19,11 @@ overflow_cast-total c =
     omega (arith, within, short, text, ok, valid.high)
 
 pub returns-clause-ok : goal.returns-clause-ok
-returns-clause-ok c k held =
+returns-clause-ok c =
     let valid : IsAmounts c.args.amounts.now = c.dispense_text.ensures.valid in
     let good : is_nonce c.args.nonce.now ≡ true = cc in
     let ok = c.in_ok-pairs.pairs.ok in
     let text = ap length c.in_ok-pairs.ensures.text in
     let front = c.in_ok-text.ensures (dispense_pairs 1 c.args.amounts.now) (c.deref.ensures.value ∙ c.in_ok-pairs.ensures.text) in
-    made k c.args.nonce.now c.mac-code.result _ c.args.amounts.now _ good valid c.push_mac.ensures.mac (omega (arith, ok, text)) (c.mac-code.ensures k held ∙ ap (hmac k) (c.deref-2.ensures.value ∙ front))
+    made c.args.self.now c.args.nonce.now c.mac-code.result _ c.args.amounts.now _ good valid c.push_mac.ensures.mac (omega (arith, ok, text)) (c.mac-code.ensures ∙ ap (hmac c.args.self.now) (c.deref-2.ensures.value ∙ front))
     (c.in_ok-push_mac.ensures.items ∙ ap (λ (l : List ℕ). l ++ codes ",HMACSHA256=" ++ encode_upper c.mac-code.result) front)

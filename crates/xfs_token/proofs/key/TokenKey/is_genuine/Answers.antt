@@ -1,6 +1,6 @@
 use Rattle.std.proofs.Common.{length, ap, arith}
 use Rattle.xfs_token.proofs.Written.{length-form}
-use Rattle.xfs_token.proofs.signing.genuine_under.Goals as goal
+use Rattle.xfs_token.proofs.key.TokenKey.is_genuine.Goals as goal
 
 pub overflow_sub-bytes : goal.overflow_sub-bytes
 overflow_sub-bytes c =
