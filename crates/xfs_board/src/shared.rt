@@ -46,7 +46,7 @@ impl<M: Mechanism, D: Disk> Model for SharedMachine<M, D> {
     ghost use Rattle.std.specs.Coded.{codes};
     ghost use Rattle.xfs_board.specs.Chronicles.{HasBase, Shared};
     ghost use Rattle.xfs_guard.specs.Keeps.{Proceeds};
-    ghost use Rattle.xfs_machine.specs.DataCodes.{data_code};
+    ghost use Rattle.xfs_traffic.specs.DataCodes.{data_code};
     ghost use Rattle.xfs_machine.specs.MachineView.{guard_of};
 
     ghost Value = { Shared D };

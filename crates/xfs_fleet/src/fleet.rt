@@ -18,7 +18,7 @@ pub struct Fleet<M: Mechanism, D: Disk> {
 
 impl<M: Mechanism, D: Disk> Model for Fleet<M, D> {
     ghost use Rattle.std.specs.Coded.{codes};
-    ghost use Rattle.xfs_machine.specs.DataCodes.{data_code};
+    ghost use Rattle.xfs_traffic.specs.DataCodes.{data_code};
     ghost use Rattle.xfs_fleet.specs.FleetView.{FleetView};
 
     ghost Value = { FleetView D };

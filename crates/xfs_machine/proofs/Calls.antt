@@ -12,7 +12,7 @@ use Rattle.xfs_base.specs.declared.moment.TheConstants.{LAST_MOMENT}
 use Rattle.xfs_envelope.specs.Commands.{command_in}
 use Rattle.xfs_machine.specs.Answers.{posted}
 use Rattle.xfs_machine.specs.MachineView.{IsWhole}
-use Rattle.xfs_machine.specs.Senders.{IsSeen, with_both}
+use Rattle.xfs_traffic.specs.Senders.{IsSeen, with_both}
 use Rattle.xfs_model.specs.Connections.{connection_of, is_client, without_mail}
 use Rattle.xfs_model.specs.Events.{Answer, Event, join, post, outbox, leave, joined, full, done, handed, memory}
 use Rattle.xfs_model.specs.Posts.{TakesText}

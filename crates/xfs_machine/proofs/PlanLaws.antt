@@ -16,10 +16,10 @@ use Rattle.xfs_model.specs.Cases.{WorksOnPlan, has_ended, with_went}
 use Rattle.xfs_model.specs.State.{Job, Queues, State}
 use Rattle.xfs_model.proofs.Changes.{same_some}
 use Rattle.xfs_model.proofs.Lists.{found_passes}
-use Rattle.xfs_machine.specs.Jobs.{changed_at}
+use Rattle.xfs_traffic.specs.Jobs.{changed_at}
 use Rattle.xfs_machine.specs.Parts.{MayStep, with_job_plan, with_step}
-use Rattle.xfs_machine.proofs.AnswerLaws.{at_its_ticket}
-use Rattle.xfs_machine.proofs.ChangeLaws.{alike, still, twice}
+use Rattle.xfs_traffic.proofs.AnswerLaws.{at_its_ticket}
+use Rattle.xfs_traffic.proofs.ChangeLaws.{alike, still, twice}
 
 runs : (stage : Stage) → is_running stage ≡ true → stage ≡ Running
 runs Waiting e = absurd (let f : false ≡ true = e in cc)

@@ -1,11 +1,8 @@
--- A machine may go to another thread where its mechanism and its disk may. Its results are JSON values, and its journal's list has in front what it was before. Since the types of these hold themselves, Rattle finds no such proof of a type that they are part of, and it stands here.
+-- A machine may go to another thread where its mechanism and its disk may. Its journal's list has in front what it was before: since the types of these hold themselves, Rattle finds no such proof of a type that they are part of, and it stands here.
 use denote.RattleType.{RattleType}
 use denote.Param.Send.{IsSend, plain_send, struct_send, recorded_send, view_send, sendable}
 use denote.Struct.Declared.{shape}
-use Rattle.serde_json.proofs.value.Value.TheLaws.TheKnot as knot
-use Rattle.serde_json.specs.contracts.value.Value as value
 use Rattle.std.proofs.Crossing as owned
-use Rattle.std.proofs.MapsCrossing as maps
 use Rattle.std.proofs.alloc.Global.TheSendSync as heap
 use Rattle.std.proofs.option.Option.TheSendSync as optional
 use Rattle.xfs_base.proofs.counts.Counts.TheSendSync as counts
@@ -14,13 +11,11 @@ use Rattle.xfs_base.proofs.money.UnitTable.TheSendSync as units
 use Rattle.xfs_base.proofs.moment.Moment.TheSendSync as moment
 use Rattle.xfs_card.proofs.state.CardState.TheSendSync as card
 use Rattle.xfs_disk.specs.declared.disk.Disk as Disk
-use Rattle.xfs_envelope.proofs.code.Code.TheSendSync as code
-use Rattle.xfs_envelope.proofs.name.Name.TheSendSync as name
 use Rattle.xfs_guard.proofs.bound.Bound.TheSendSync as bound
 use Rattle.xfs_guard.proofs.bound.Live.TheSendSync as live
 use Rattle.xfs_guard.proofs.nonce.Nonce.TheSendSync as nonce
 use Rattle.xfs_guard.proofs.open.Open.TheSendSync as open_order
-use Rattle.xfs_guard.proofs.signer.Signer.TheSendSync as signer
+use Rattle.xfs_token.proofs.key.TokenKey.TheSendSync as key
 use Rattle.xfs_guard.proofs.words.Words.TheSendSync as words
 use Rattle.xfs_guard.specs.contracts.guard.Guard as guard
 use Rattle.xfs_guard.specs.contracts.guard.Guard.TheInside as in_guard
@@ -32,42 +27,11 @@ use Rattle.xfs_journal.proofs.record.Rec.TheSendSync as rec
 use Rattle.xfs_journal.specs.contracts.journal.Journal as journal
 use Rattle.xfs_journal.specs.contracts.journal.Journal.TheInside as in_journal
 use Rattle.xfs_keyboard.proofs.state.KeyState.TheSendSync as keys
-use Rattle.xfs_machine.proofs.connections.Connections.TheSendSync as connections
-use Rattle.xfs_machine.proofs.job.Ending.TheSendSync as ending
-use Rattle.xfs_machine.proofs.running_plan.RunningPlan.TheSendSync as plan
-use Rattle.xfs_machine.specs.contracts.job.Job as job
-use Rattle.xfs_machine.specs.contracts.job.Outcome as outcome
-use Rattle.xfs_machine.specs.contracts.job.Outcome.TheInside as in_outcome
+use Rattle.xfs_traffic.proofs.Sent.{queues_send}
+use Rattle.xfs_traffic.proofs.connections.Connections.TheSendSync as connections
 use Rattle.xfs_machine.specs.contracts.machine.Machine as machine
 use Rattle.xfs_machine.specs.contracts.machine.Machine.TheInside as in_machine
-use Rattle.xfs_machine.specs.contracts.queues.Queues as queues
-use Rattle.xfs_machine.specs.contracts.queues.Queues.TheInside as in_queues
 use Rattle.xfs_mech.specs.declared.mechanism.Mechanism as Mechanism
-use Rattle.xfs_queue.proofs.queue.Queue.TheSendSync as of_queue
-use Rattle.xfs_queue.specs.contracts.queue.Queue as queue
-
-value_send : IsSend (value.the_field).row
-value_send = search (maps.crosses, owned.crosses, knot.crosses, sendable) depth 60 fits 20000
-
-outcome_send : IsSend outcome.the_row
-outcome_send =
-    let fields = in_outcome.the_type in
-    view_send in_outcome.the_row _ _ _ _
-    (recorded_send (in_outcome.the_field).row _ _ fields.to_one
-    (struct_send (shape fields) (code.the_field_send, (value_send, (search (ending.the_field_send, owned.crosses, sendable) depth 60 fits 20000, tt)))))
-
-job_send : IsSend job.the_row
-job_send = search (name.the_send, plan.the_send, outcome_send, maps.crosses, owned.crosses, sendable) depth 60 fits 20000
-
-queue_send : IsSend (queue.the_row job.the_row)
-queue_send = of_queue.the_send job.the_row job_send
-
-queues_send : IsSend queues.the_row
-queues_send =
-    let fields = in_queues.the_type in
-    view_send in_queues.the_row _ _ _ _
-    (recorded_send (in_queues.the_field).row _ _ fields.to_one
-    (struct_send (shape fields) (queue_send, (queue_send, (queue_send, (queue_send, tt))))))
 
 journal_send : (D : RattleType) (d : Disk.Ghosts D.Denot) → IsSend D → IsSend (journal.the_row D d)
 journal_send D d sd =
@@ -158,7 +122,7 @@ guard_send M D m d sm sd =
         (
           ledger_send D d sd,
           (
-            signer.the_send,
+            key.the_send,
             (
               words.the_send,
               (

@@ -28,7 +28,8 @@ use Rattle.xfs_model.specs.State.{Ask, issue, clear, cash, card, entry, bad, Job
 use Rattle.xfs_model.specs.Work.{Case, order, expire, answer, nonce, overdue, stop, go_on, begin, rest, case_of, can_begin, has_nonce, has_order, has_overdue, has_ready, has_running, has_stopped, is_life_over, is_ordered}
 use Rattle.xfs_model.proofs.Changes.{same_some}
 use Rattle.xfs_model.proofs.Lists.{found_passes}
-use Rattle.xfs_machine.specs.Parts.{HasDeviceAsk, HasNonceAsk, HasPlan, HasResult}
+use Rattle.xfs_traffic.specs.Parts.{HasResult}
+use Rattle.xfs_machine.specs.Parts.{HasDeviceAsk, HasNonceAsk, HasPlan}
 use Rattle.xfs_card.specs.Slot.{Slot}
 use Rattle.xfs_dispenser.specs.Seen.{Seen}
 use Rattle.xfs_keyboard.specs.Entries.{Entry}

@@ -17,11 +17,12 @@ use Rattle.xfs_model.specs.Events.{finish, restart, unrestarted}
 use Rattle.xfs_model.specs.Guards.{FailsToBoot, FindsNoRoom}
 use Rattle.xfs_model.specs.State.{State}
 use Rattle.xfs_model.specs.Step.{Step, gone}
-use Rattle.xfs_journal.specs.JournalView.{LeavesOneOf}
+use Rattle.xfs_disk.specs.Moments.{EachImage}
+use Rattle.xfs_journal.specs.JournalView.{HasPossible}
 
 -- mechanism and disk are those of the guard as it was last seen
 pub record IsHandedBack {M D : Type 0} (m : Mechanisms M) (g : Ghosts D) (last : Seen) (mech : M) (disk : D) : Type 0 where
-  pub stored : LeavesOneOf g disk last.guard.records last.guard.in_doubt
+  pub stored : EachImage g disk (HasPossible last.guard.records last.guard.in_doubt)
   pub told : is_some (g.held disk) ≡ last.guard.disk_told
   pub disk_faults : g.faults disk ≡ last.disk_faults
   pub motions : m.motions mech ≡ last.guard.motions

@@ -1,16 +1,10 @@
 pub mod Answers
 pub mod Changes
 pub mod Chosen
-pub mod DataCodes
 pub mod Endings
-pub mod Jobs
 pub mod Laws
-pub mod Lending
 pub mod MachineView
 pub mod Parts
-pub mod Readings
 pub mod Tallies
 pub mod Wanted
-pub mod TakenBack
 pub mod Working
-pub mod Senders

@@ -1,8 +1,6 @@
--- A machine with other parts. What a call does to some parts of a machine is said for every machine that has them.
-use Rattle.std.specs.Prelude.{◌≡◌, ◌≢◌, ◌⊎◌, ◌||◌, ℕ, List, [], ◌∷◌, Bool, Option, Some, None, find, map}
-use Rattle.xfs_base.specs.declared.moment.ClientId.{ClientId}
+-- A machine with another guard beside other parts. What a call does to some parts of a machine is said for every machine that has them.
+use Rattle.std.specs.Prelude.{◌≡◌, ◌≢◌, ◌⊎◌, ◌||◌, List, Bool, Option, Some, find}
 use Rattle.xfs_base.specs.declared.moment.Moment.{Moment}
-use Rattle.xfs_base.specs.declared.moment.Service.{Service}
 use Rattle.xfs_card.specs.Slot.{Slot}
 use Rattle.xfs_dispenser.specs.Answers.{Went, more, done}
 use Rattle.xfs_dispenser.specs.Plans.{IsPlanned}
@@ -12,18 +10,11 @@ use Rattle.xfs_dispenser.specs.declared.plan.Plan.{Plan}
 use Rattle.xfs_guard.specs.View.{View}
 use Rattle.xfs_keyboard.specs.Entries.{Entry}
 use Rattle.xfs_mech.specs.declared.motion.Motion.{Motion}
-use Rattle.xfs_queue.specs.Commands.{is_ready, is_running, waits_on}
+use Rattle.xfs_queue.specs.Commands.{is_running, waits_on}
 use Rattle.xfs_queue.specs.declared.command.Line.TheVariants.{Nonce, Device}
 use Rattle.xfs_queue.specs.declared.command.Command.{Command}
-use Rattle.xfs_model.specs.Connections.{is_at, is_service, with_mail}
 use Rattle.xfs_model.specs.Results.{outcome, with_result}
-use Rattle.xfs_model.specs.State.{issue, clear, Connection, Job, Outcome, Queues, State}
-
-abbrev pub at_card : State → Slot → List Connection → Queues → State
-at_card s slot connections queues = record s { slot = slot; connections = connections; queues = queues }
-
-abbrev pub at_keys : State → Option Entry → List Connection → Queues → State
-at_keys s keypad connections queues = record s { keypad = keypad; connections = connections; queues = queues }
+use Rattle.xfs_model.specs.State.{issue, clear, Connection, Job, Queues, State}
 
 abbrev pub at_cash : State → Seen → Queues → State
 at_cash s next queues = record s { seen = next; queues = queues }
@@ -55,18 +46,6 @@ pub record HasPlan (v : View) (q : List (Command Job)) : Type 0 where
 -- an entry that a step of the running plan may add to the mechanism's list
 abbrev pub MayStep : View → List (Command Job) → Motion → Type 0
 MayStep v q entry = (a : Command Job) × (plan : Plan) × (find (λ b. is_running b.stage) q ≡ Some a) × (a.job.plan ≡ Some plan) × MayWork v plan entry
-
--- a command is ready, and the first that is has its result
-pub record HasResult (q : List (Command Job)) : Type 0 where
-  pub command : Command Job
-  pub first : find (λ a. is_ready a.stage) q ≡ Some command
-  pub result : Outcome
-  pub has : command.job.outcome ≡ Some result
-
--- connections with an announcement, if there is one, and then a frame for one of them
-abbrev pub mailed_behind : Service → ClientId → Option (List ℕ) → List ℕ → List Connection → List Connection
-mailed_behind service client None last ks = map (λ k. with_mail (is_at service client k) (last ∷ []) k) ks
-mailed_behind service client (Some frame) last ks = map (λ k. with_mail (is_at service client k) (last ∷ []) k) (map (λ k. with_mail (is_service service k.service) (frame ∷ []) k) ks)
 
 -- a command waits on the nonce line, and the first that does asks for a nonce, or that it ends
 pub record HasNonceAsk (q : List (Command Job)) : Type 0 where

@@ -17,7 +17,8 @@ use Rattle.xfs_queue.specs.declared.command.Line.TheVariants.{Device}
 use Rattle.xfs_model.specs.Sound.{IsFitting}
 use Rattle.xfs_model.specs.State.{Connection, Queues, State, queue_of}
 use Rattle.xfs_model.specs.Work.{Case, order, expire, answer, nonce, overdue, stop, go_on, begin, rest, case_of}
-use Rattle.xfs_machine.specs.Parts.{HasDeviceAsk, HasNonceAsk, HasPlan, HasResult, MayStep}
+use Rattle.xfs_traffic.specs.Parts.{HasResult}
+use Rattle.xfs_machine.specs.Parts.{HasDeviceAsk, HasNonceAsk, HasPlan, MayStep}
 
 -- the machine at a moment, with other parts
 abbrev pub at_work : State → Seen → Moment → Bool → Moment → Slot → Option Entry → List Connection → Queues → State

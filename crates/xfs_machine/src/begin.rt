@@ -9,7 +9,7 @@ ghost use Rattle.xfs_guard.specs.Keeps.{Keeps, NoEntry, Proceeds};
 ghost use Rattle.xfs_guard.specs.Upheld.{IsUpheld};
 ghost use Rattle.xfs_guard.specs.declared.open.Open.TheVariants.{No};
 ghost use Rattle.xfs_machine.specs.Changes.{CardBegins, EntryBegins};
-ghost use Rattle.xfs_machine.specs.Jobs.{changed_at};
+ghost use Rattle.xfs_traffic.specs.Jobs.{changed_at};
 ghost use Rattle.xfs_machine.specs.Parts.{HasDeviceAsk, at_begin};
 ghost use Rattle.xfs_model.specs.Cases.{BeginsFirst, with_start};
 ghost use Rattle.xfs_model.specs.Results.{running, with_plan};
@@ -20,11 +20,6 @@ ghost use Rattle.xfs_queue.specs.Commands.{is_running, ticket_of, waits_on};
 ghost use Rattle.xfs_queue.specs.Queue.{IsWaiting};
 ghost use Rattle.xfs_queue.specs.declared.command.Line.TheVariants as Line;
 
-use crate::connections::Connections;
-use crate::job::{Ask, Job, Outcome};
-use crate::notices::insert_card;
-use crate::queues::Queues;
-use crate::running_plan::RunningPlan;
 use std::alloc::Global;
 use xfs_base::{Memory, Service};
 use xfs_card::{CardAsk, CardEffect, CardEvent, CardState};
@@ -36,6 +31,7 @@ use xfs_guard::Guard;
 use xfs_keyboard::{EntryAsk, KeyEvent, KeyState};
 use xfs_mech::Mechanism;
 use xfs_queue::{Command, Line, Queue, Stage, Ticket};
+use xfs_traffic::{Ask, Connections, Job, Outcome, Queues, RunningPlan, insert_card};
 
 /// Begins it, by what it asks. None runs.
 pub(crate) fn begin_first<M: Mechanism, D: Disk>(
@@ -65,7 +61,7 @@ pub(crate) fn begin_first<M: Mechanism, D: Disk>(
         unreachable!()
     };
     let ticket = command.ticket();
-    match &command.job.ask {
+    match command.job.ask() {
         Ask::Cash(ask) => {
             let room = RunningPlan::room(alloc)?;
             let begun = begin(alloc, guard, exchange, ask)?;
@@ -128,8 +124,6 @@ fn start_plan(queue: &mut Queue<Job>, ticket: Ticket, plan: RunningPlan)
     ensures { queue.new ≡ changed_at (with_plan plan false) ticket queue.old }
 {
     queue.start(ticket);
-    // The clause of `commands` tells that the ids differ.
-    let _ids = queue.commands();
     queue.job(ticket).go_on(plan, false);
 }
 

@@ -10,9 +10,7 @@ ghost use Rattle.xfs_machine.specs.MachineView.{guard_of};
 ghost use Rattle.xfs_model.specs.State.{bare};
 ghost use Rattle.xfs_model.specs.Told.{HasMark};
 
-use crate::connections::Connections;
 use crate::machine::Machine;
-use crate::queues::Queues;
 use std::alloc::Global;
 use xfs_base::Moment;
 use xfs_card::CardState;
@@ -20,6 +18,7 @@ use xfs_disk::Disk;
 use xfs_guard::{BootFail, Core, Guard};
 use xfs_keyboard::KeyState;
 use xfs_mech::Mechanism;
+use xfs_traffic::{Connections, Queues};
 
 impl<M: Mechanism, D: Disk> Machine<M, D> {
     /// A machine over this mechanism and the journal of this disk, which gets a boot record, with no connection,

@@ -10,15 +10,13 @@ ghost use Rattle.xfs_model.specs.State.{State};
 ghost use Rattle.xfs_model.specs.Work.{case_of, is_ordered};
 ghost use Rattle.xfs_queue.specs.Commands.{is_due, is_running};
 
-use crate::connections::is_service;
-use crate::job::Job;
 use crate::life::is_life_over;
-use crate::queues::Queues;
 use xfs_base::{Moment, Service};
 use xfs_disk::Disk;
 use xfs_guard::Guard;
 use xfs_mech::Mechanism;
 use xfs_queue::{Line, Queue};
+use xfs_traffic::{Job, Queues, is_service};
 
 /// The cases of a step of work, in their order.
 #[derive(Clone, Copy)]

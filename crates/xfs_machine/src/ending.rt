@@ -14,9 +14,7 @@ ghost use Rattle.xfs_model.specs.State.{State, bare};
 ghost use Rattle.xfs_model.specs.Step.{Step, gone};
 
 use crate::boot::newest;
-use crate::connections::Connections;
 use crate::machine::Machine;
-use crate::queues::Queues;
 use crate::reboot::{close, reboot};
 use std::alloc::Global;
 use xfs_base::Moment;
@@ -25,6 +23,7 @@ use xfs_disk::Disk;
 use xfs_guard::{BootFail, BootFault, Deny, Guard};
 use xfs_keyboard::KeyState;
 use xfs_mech::Mechanism;
+use xfs_traffic::{Connections, Queues};
 
 impl<M: Mechanism, D: Disk> Machine<M, D> {
     /// Boots again in place, on the same mechanism and disk: every connection, command, card, entry and

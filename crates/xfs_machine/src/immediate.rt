@@ -8,7 +8,7 @@ ghost use Rattle.xfs_common.specs.declared.payloads.Fit2.TheVariants as fit;
 ghost use Rattle.xfs_envelope.specs.Commands.{said};
 ghost use Rattle.xfs_envelope.specs.Messages.{IsPayload};
 ghost use Rattle.xfs_guard.specs.Fits.{unfit};
-ghost use Rattle.xfs_machine.specs.Senders.{IsCompleted, IsSeen, with_both};
+ghost use Rattle.xfs_traffic.specs.Senders.{IsCompleted, IsSeen, with_both};
 ghost use Rattle.xfs_model.specs.Frames.{IsAcknowledge, IsCompletion};
 ghost use Rattle.xfs_common.specs.Payloads.{capabilities_payload, status_payload};
 ghost use Rattle.xfs_common.specs.declared.error.ErrorCode.TheVariants.{NoMatchingRequestIds};
@@ -20,11 +20,7 @@ ghost use Rattle.xfs_model.specs.State.{Connection as ConnectionView, State};
 ghost use Rattle.xfs_queue.specs.Commands.{names};
 ghost use Rattle.xfs_queue.specs.Queue.{is_named};
 
-use crate::connections::{Connections, is_service};
-use crate::job::{Job, Outcome};
-use crate::post::{Sender, acceptance_reply};
 use crate::present_status::{is_present_status, told_present_status};
-use crate::queues::Queues;
 use std::alloc::Global;
 use xfs_base::{Bytes, ClientId, Memory, Service};
 use xfs_common::{
@@ -36,6 +32,7 @@ use xfs_envelope::{Code, Envelope, completion};
 use xfs_guard::Guard;
 use xfs_mech::Mechanism;
 use xfs_queue::{Command, Ids, Queue};
+use xfs_traffic::{Connections, Job, Outcome, Queues, Sender, acceptance_reply, is_service};
 use xfs_units::storage;
 
 // Accepts a command and completes it. Where memory runs out nothing has changed.

@@ -11,14 +11,12 @@ ghost use Rattle.xfs_machine.specs.Changes.{LifeEnds};
 ghost use Rattle.xfs_model.specs.State.{State};
 ghost use Rattle.xfs_model.specs.Work.{is_life_over};
 
-use crate::connections::Connections;
-use crate::job::Ending;
-use crate::notices::nonce_ended;
 use std::alloc::Global;
 use xfs_base::{Memory, Moment, Service};
 use xfs_disk::Disk;
 use xfs_guard::{Deny, Guard};
 use xfs_mech::Mechanism;
+use xfs_traffic::{Connections, Ending, nonce_ended};
 
 /// Whether a nonce lives whose life is over, and the journal takes more records. Most lives have no end, so that
 /// the life is looked at first.

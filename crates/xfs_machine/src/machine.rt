@@ -13,14 +13,9 @@ ghost use Rattle.xfs_model.specs.Step.{Step};
 ghost use Rattle.xfs_model.specs.Told.{AllTell};
 
 use crate::boot::newest;
-use crate::connection::Connection;
-use crate::connections::Connections;
-use crate::frames::Frames;
 use crate::notes_taken::is_shutter_closed;
 use crate::pass::{JoinFault, Pass};
-use crate::post::{Sender, take};
-use crate::queues::Queues;
-use crate::reading::Reading;
+use crate::post::take;
 use crate::tally::Tally;
 use std::alloc::Global;
 use std::marker::Model;
@@ -31,6 +26,7 @@ use xfs_guard::{Guard, Nonce};
 use xfs_journal::Rec;
 use xfs_keyboard::KeyState;
 use xfs_mech::Mechanism;
+use xfs_traffic::{Connection, Connections, Frames, Queues, Reading, Sender};
 
 // So many connections may be open.
 const MOST_OPEN: usize = 64;
@@ -56,7 +52,7 @@ pub struct Machine<M: Mechanism, D: Disk> {
 impl<M: Mechanism, D: Disk> Model for Machine<M, D> {
     ghost use Rattle.xfs_machine.specs.MachineView.{MachineView, IsWhole, over};
     ghost use Rattle.std.specs.Coded.{codes};
-    ghost use Rattle.xfs_machine.specs.DataCodes.{data_code};
+    ghost use Rattle.xfs_traffic.specs.DataCodes.{data_code};
 
     ghost Value = { MachineView D };
 

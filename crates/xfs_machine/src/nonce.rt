@@ -8,7 +8,7 @@ ghost use Rattle.xfs_guard.specs.Keeps.{Keeps, NoEntry, Proceeds};
 ghost use Rattle.xfs_guard.specs.Upheld.{IsUpheld};
 ghost use Rattle.xfs_guard.specs.declared.open.Open.TheVariants.{No};
 ghost use Rattle.xfs_machine.specs.Changes.{FirstOfNonces, NonceCleared, NonceDone};
-ghost use Rattle.xfs_machine.specs.Jobs.{ask_seen};
+ghost use Rattle.xfs_traffic.specs.Jobs.{ask_seen};
 ghost use Rattle.xfs_machine.specs.Parts.{HasNonceAsk};
 ghost use Rattle.xfs_envelope.specs.declared.code.Code.TheVariants.{DeviceNotReady};
 ghost use Rattle.xfs_model.specs.Results.{plain, success};
@@ -17,8 +17,6 @@ ghost use Rattle.xfs_queue.specs.Commands.{ticket_of, waits_on};
 ghost use Rattle.xfs_queue.specs.Queue.{IsQueue, IsWaiting};
 ghost use Rattle.xfs_queue.specs.declared.command.Line.TheVariants as Line;
 
-use crate::job::{Ask, Ending, Job, Outcome};
-use crate::queues::Queues;
 use std::alloc::Global;
 use xfs_base::{Memory, Moment, Service};
 use xfs_common::{nonce, nothing};
@@ -27,6 +25,7 @@ use xfs_envelope::Code;
 use xfs_guard::{Deny, Guard};
 use xfs_mech::Mechanism;
 use xfs_queue::{Command, Line, Queue, Stage};
+use xfs_traffic::{Ask, Ending, Job, Outcome, Queues};
 
 /// Does the first command of the line. Where its deadline has come it has the result `timeOut`.
 pub(crate) fn take_first<M: Mechanism, D: Disk>(
@@ -51,7 +50,7 @@ pub(crate) fn take_first<M: Mechanism, D: Disk>(
     let outcome = if queues.at(Service::Cash).due(ticket, now) {
         Outcome::new(Code::TimeOut, nothing(alloc))
     } else {
-        do_ask(alloc, guard, issued, now, &command.job.ask)?
+        do_ask(alloc, guard, issued, now, command.job.ask())?
     };
     queues.set_result(Service::Cash, ticket, outcome);
     Ok(())
@@ -155,9 +154,5 @@ fn clear_outcome(alloc: Global, lived: bool) -> Outcome
     ensures { result ≡ record (success nothing_said) { ending = if lived then Some ended else None } }
 {
     let ending = if lived { Some(Ending::Cleared) } else { None };
-    Outcome {
-        code: Code::Success,
-        payload: nothing(alloc),
-        ending,
-    }
+    Outcome::with_ending(Code::Success, nothing(alloc), ending)
 }

@@ -6,15 +6,11 @@ ghost use Rattle.xfs_envelope.specs.Messages.{IsPayload};
 ghost use Rattle.xfs_dispenser.specs.Seen.{seen};
 ghost use Rattle.xfs_dispenser.specs.Steps.{KeepsStep};
 ghost use Rattle.xfs_machine.specs.Changes.{PlanGoesOn};
-ghost use Rattle.xfs_machine.specs.Jobs.{changed_at};
+ghost use Rattle.xfs_traffic.specs.Jobs.{changed_at};
 ghost use Rattle.xfs_machine.specs.Parts.{MayStep, HasPlan, with_job_plan, with_plan_kept, with_step};
 ghost use Rattle.xfs_model.specs.Guards.{is_live};
 ghost use Rattle.xfs_queue.specs.Queue.{IsPending, command_at};
 
-use crate::job::{Job, Outcome};
-use crate::queues::Queues;
-use crate::running_plan::RunningPlan;
-use crate::stopping::running_command;
 use std::alloc::Global;
 use xfs_base::{Memory, Service};
 use xfs_disk::Disk;
@@ -22,6 +18,7 @@ use xfs_dispenser::Progress;
 use xfs_guard::Guard;
 use xfs_mech::Mechanism;
 use xfs_queue::{Queue, Ticket};
+use xfs_traffic::{Job, Outcome, Queues, RunningPlan, running_command};
 
 /// Does one step of the plan. Where memory runs out the command has its plan as before.
 pub(crate) fn work_on_plan<M: Mechanism, D: Disk>(
@@ -76,39 +73,12 @@ fn step_on(queues: &mut Queues, ticket: Ticket, plan: RunningPlan, ended: bool, 
     }
 }
 
-impl Job {
-    // Its plan, which it has no longer.
-    fn take_plan(&mut self) -> Option<RunningPlan>
-        ensures had { result ≡ self.old.plan }
-        ensures left { self.new ≡ record self.old { plan = None } }
-    {
-        self.plan.take()
-    }
-
-    // The plan that it had.
-    fn put_plan(&mut self, plan: RunningPlan)
-        ensures { self.new ≡ record self.old { plan = Some plan } }
-    {
-        self.plan = Some(plan);
-    }
-
-    // Its plan behind a step; a live nonce that ended in an earlier step stays told.
-    fn step_to(&mut self, plan: RunningPlan, ended: bool)
-        ensures { self.new ≡ record self.old { plan = Some plan; ended_nonce = self.old.ended_nonce || ended } }
-    {
-        self.plan = Some(plan);
-        self.ended_nonce |= ended;
-    }
-}
-
 fn take_plan(queue: &mut Queue<Job>, ticket: Ticket) -> Option<RunningPlan>
     requires { IsPending queue.old ticket }
     ensures had { option_map (λ a. a.job.plan) (command_at queue.old ticket) ≡ Some result }
     ensures left { queue.new ≡ changed_at (with_job_plan None) ticket queue.old }
     ensures pending { IsPending queue.new ticket }
 {
-    // The clause of `commands` tells that the ids differ.
-    let _ids = queue.commands();
     queue.job(ticket).take_plan()
 }
 
@@ -116,8 +86,6 @@ fn put_plan(queue: &mut Queue<Job>, ticket: Ticket, plan: RunningPlan)
     requires { IsPending queue.old ticket }
     ensures { queue.new ≡ changed_at (with_job_plan (Some plan)) ticket queue.old }
 {
-    // The clause of `commands` tells that the ids differ.
-    let _ids = queue.commands();
     queue.job(ticket).put_plan(plan);
 }
 
@@ -126,7 +94,5 @@ fn go_on(queue: &mut Queue<Job>, ticket: Ticket, plan: RunningPlan, ended: bool)
     ensures goes_on { queue.new ≡ changed_at (with_plan_kept plan ended) ticket queue.old }
     ensures pending { IsPending queue.new ticket }
 {
-    // The clause of `commands` tells that the ids differ.
-    let _ids = queue.commands();
     queue.job(ticket).step_to(plan, ended);
 }

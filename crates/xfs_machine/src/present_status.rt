@@ -9,8 +9,6 @@ ghost use Rattle.xfs_model.specs.PresentStatus.{TellsPresented};
 ghost use Rattle.xfs_model.specs.Results.{error, success};
 ghost use Rattle.xfs_token.specs.Token as token;
 
-use crate::connections::is_service;
-use crate::job::Outcome;
 use std::alloc::Global;
 use xfs_base::{Memory, Service};
 use xfs_common::{ErrorCode, error_code, nothing, present_status};
@@ -20,6 +18,7 @@ use xfs_evidence::{EvidenceFault, evidence_under, is_nonce};
 use xfs_guard::Guard;
 use xfs_json::{Value, words};
 use xfs_mech::Mechanism;
+use xfs_traffic::{Outcome, is_service};
 
 pub(crate) fn is_present_status(service: Service, name: &str) -> bool
     ensures { result ≡ presents.is_present_status service name.now }

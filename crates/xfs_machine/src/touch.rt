@@ -16,11 +16,8 @@ ghost use Rattle.xfs_model.specs.Step.{Step};
 ghost use Rattle.xfs_model.specs.Touches.{Touches};
 
 use crate::answer::Touched;
-use crate::connections::Connections;
-use crate::devices::{fail_card, fail_keys, press_key, put_card, take_card};
 use crate::machine::Machine;
 use crate::notes_taken::take_notes;
-use crate::queues::Queues;
 use crate::tally::Tally;
 use std::alloc::Global;
 use xfs_base::Memory;
@@ -28,6 +25,7 @@ use xfs_card::CardState;
 use xfs_disk::Disk;
 use xfs_keyboard::KeyState;
 use xfs_mech::{Mechanism, Touch};
+use xfs_traffic::{Connections, Queues, fail_card, fail_keys, press_key, put_card, take_card};
 
 impl<M: Mechanism, D: Disk> Machine<M, D> {
     /// Takes one event of the world: of the card slot, of the key pad, or that the customer takes the notes

@@ -17,16 +17,12 @@ ghost use Rattle.xfs_model.specs.State.{State};
 ghost use Rattle.xfs_model.specs.Step.{Step, at_moment};
 
 use crate::answer::Work;
-use crate::answering::answer_first;
 use crate::begin::begin_first;
 use crate::cases::{Case, case_of};
-use crate::connections::Connections;
 use crate::life::expire;
 use crate::machine::{Machine, later};
 use crate::nonce::take_first;
 use crate::plan::work_on_plan;
-use crate::queues::Queues;
-use crate::stopping::{stop_running, time_out};
 use crate::tally::Tally;
 use std::alloc::Global;
 use xfs_base::{Memory, Moment, Service};
@@ -35,6 +31,7 @@ use xfs_disk::Disk;
 use xfs_guard::Guard;
 use xfs_keyboard::KeyState;
 use xfs_mech::Mechanism;
+use xfs_traffic::{Connections, Queues, answer_first, stop_running, time_out};
 
 impl<M: Mechanism, D: Disk> Machine<M, D> {
     /// Does one step of a service's work: the first case that applies. It is `Idle` exactly where none does.

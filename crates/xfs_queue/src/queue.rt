@@ -119,6 +119,7 @@ impl<J> Queue<J> {
     pub fn stopped(&self) -> Option<Ticket>
         ensures found { result ≡ option_map ticket_of (find (λ a. is_waiting a.stage && a.marked) self.now) }
         ensures waiting { IfSome result (IsWaiting self.now) }
+        ensures valid { IsQueue self.now }
     {
         self.commands
             .iter()
@@ -227,6 +228,7 @@ impl<J> Queue<J> {
         requires { IsPending self.old ticket }
         ensures* writes_back { sem 𝓛 (LendsJob J.row self.entry ticket result) }
         ensures now { option_map (λ a. a.job) (command_at self.old ticket) ≡ Some result.now }
+        ensures valid { IsQueue self.old }
     {
         let at = place(&self.commands, ticket);
         let command = &mut self.commands[at];

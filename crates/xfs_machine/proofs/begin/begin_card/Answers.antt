@@ -1,9 +1,9 @@
 use Rattle.serde_json.specs.View.{view}
 use Rattle.xfs_queue.specs.Commands.{is_waiting}
 use Rattle.xfs_model.specs.State.{queue_of}
-use Rattle.xfs_machine.specs.Parts.{at_card}
-use Rattle.xfs_machine.proofs.ChangeLaws.{waits_there}
-use Rattle.xfs_machine.proofs.HeardLaws.{card_ended}
+use Rattle.xfs_traffic.specs.Parts.{at_card}
+use Rattle.xfs_traffic.proofs.ChangeLaws.{waits_there}
+use Rattle.xfs_machine.proofs.BegunLaws.{card_ended}
 use Rattle.xfs_machine.proofs.begin.begin_card.Goals as goal
 
 pub set_result-requires : goal.set_result-requires

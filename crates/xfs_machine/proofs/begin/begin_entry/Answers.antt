@@ -1,5 +1,5 @@
 use Rattle.xfs_keyboard.specs.Keyboard.{effect_of}
-use Rattle.xfs_machine.proofs.HeardLaws.{entry_begun}
+use Rattle.xfs_machine.proofs.BegunLaws.{entry_begun}
 use Rattle.xfs_machine.proofs.begin.begin_entry.Goals as goal
 
 pub returns-clause-begins : goal.returns-clause-begins

@@ -4,9 +4,9 @@ use Rattle.xfs_card.specs.Table.{ask_insert, effect_of}
 use Rattle.xfs_card.specs.declared.ask.CardAsk.TheVariants.{Read}
 use Rattle.xfs_queue.specs.Commands.{is_waiting}
 use Rattle.xfs_model.specs.State.{queue_of}
-use Rattle.xfs_machine.specs.Parts.{at_card}
-use Rattle.xfs_machine.proofs.ChangeLaws.{waits_there}
-use Rattle.xfs_machine.proofs.HeardLaws.{card_begun, card_ended, read_effects, read_else}
+use Rattle.xfs_traffic.specs.Parts.{at_card}
+use Rattle.xfs_traffic.proofs.ChangeLaws.{waits_there}
+use Rattle.xfs_machine.proofs.BegunLaws.{card_begun, card_ended, read_effects, read_else}
 use Rattle.xfs_machine.proofs.begin.begin_read.Goals as goal
 
 pub returns-in_default-clause-memory : goal.returns-in_default-clause-memory

@@ -1,7 +1,7 @@
 use Rattle.std.proofs.Common.{◌∙◌, refl}
 use Rattle.xfs_queue.specs.Commands.{is_waiting}
 use Rattle.xfs_queue.specs.declared.command.Stage.TheVariants.{Running}
-use Rattle.xfs_machine.proofs.ChangeLaws.{pending_changed, planned, waits_there}
+use Rattle.xfs_traffic.proofs.ChangeLaws.{pending_changed, planned, waits_there}
 use Rattle.xfs_machine.proofs.begin.start_plan.Goals as goal
 
 pub job-requires : goal.job-requires
@@ -12,5 +12,5 @@ job-requires c =
 pub returns : goal.returns
 returns c =
     let there = rw c.start.ensures at c.job.ensures.now in
-    let kept = rw c.start.ensures at c.commands-ids.ensures.valid in
+    let kept = rw c.start.ensures at c.job.ensures.valid in
     rw (c.go_on.ensures, c.start.ensures) (planned c.args.plan c.args.ticket c.args.queue.now c.job.result.now there kept)

@@ -6,7 +6,8 @@ use Rattle.xfs_dispenser.specs.Seen.{seen}
 use Rattle.xfs_queue.specs.Commands.{is_ready, waits_on}
 use Rattle.xfs_queue.specs.declared.command.Line.TheVariants.{Nonce}
 use Rattle.xfs_model.specs.State.{queue_of}
-use Rattle.xfs_machine.proofs.ChosenLaws.{answers_first, any_there, device_first, expires_first, nonce_first, rests_empty}
+use Rattle.xfs_traffic.proofs.QueueTests.{any_there}
+use Rattle.xfs_machine.proofs.ChosenLaws.{answers_first, device_first, expires_first, nonce_first, rests_empty}
 use Rattle.xfs_machine.proofs.cases.case_of.Goals as goal
 
 pub returns-then-is_cash-over-clause-case : goal.returns-then-is_cash-over-clause-case

@@ -1,7 +1,8 @@
 use Rattle.std.proofs.Common.{◌&&◌, not, ap, sym, ◌∙◌}
 use Rattle.std.specs.List.{list_any}
 use Rattle.xfs_queue.specs.Commands.{is_running}
-use Rattle.xfs_machine.proofs.ChosenLaws.{any_there, begins_first, goes_on_first, overdue_first, rests, stops_first}
+use Rattle.xfs_traffic.proofs.QueueTests.{any_there}
+use Rattle.xfs_machine.proofs.ChosenLaws.{begins_first, goes_on_first, overdue_first, rests, stops_first}
 use Rattle.xfs_machine.proofs.cases.device_case.Goals as goal
 
 pub returns-then-is_some : goal.returns-then-is_some

@@ -1,7 +1,7 @@
 use Rattle.std.proofs.Common.{◌||◌, sym, ◌∙◌}
 use Rattle.xfs_queue.specs.Commands.{is_due}
-use Rattle.xfs_machine.proofs.ChangeLaws.{none_found}
-use Rattle.xfs_machine.proofs.ChosenLaws.{none_runs, stopped_one}
+use Rattle.xfs_traffic.proofs.ChangeLaws.{none_found}
+use Rattle.xfs_traffic.proofs.QueueTests.{none_runs, stopped_one}
 use Rattle.xfs_machine.proofs.cases.is_stopped.Goals as goal
 
 pub returns-in-Some : goal.returns-in-Some

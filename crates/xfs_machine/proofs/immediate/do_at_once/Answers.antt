@@ -1,7 +1,7 @@
 use Rattle.std.proofs.Common.{sym, ◌∙◌}
 use Rattle.std.proofs.lemmas.Result.{on_ok_weaker}
 use Rattle.xfs_envelope.specs.Commands.{said}
-use Rattle.xfs_machine.specs.Senders.{with_both}
+use Rattle.xfs_traffic.specs.Senders.{with_both}
 use Rattle.xfs_machine.proofs.Posting.{tells, tells_presents}
 use Rattle.xfs_machine.proofs.immediate.do_at_once.Goals as goal
 

@@ -5,8 +5,8 @@ use Rattle.xfs_guard.proofs.KeepsLaws.{Keeps-same, Proceeds-same}
 use Rattle.xfs_queue.specs.Commands.{is_waiting, ticket_of}
 use Rattle.xfs_model.specs.Results.{plain}
 use Rattle.xfs_machine.specs.Parts.{at_nonce_line}
-use Rattle.xfs_machine.proofs.AnswerLaws.{nonce_done, nonce_late}
-use Rattle.xfs_machine.proofs.ChangeLaws.{waits_there}
+use Rattle.xfs_machine.proofs.NonceLine.{nonce_done, nonce_late}
+use Rattle.xfs_traffic.proofs.ChangeLaws.{waits_there}
 use Rattle.xfs_machine.proofs.nonce.take_first.Goals as goal
 use Rattle.xfs_machine.proofs.nonce.take_first.Goals.{then-due, else-due+in_ok-outcome}
 
@@ -26,7 +26,7 @@ returns-clause-takes g c = λ s.
           rw (w.guard-is, w.issued-is) (nonce_late before a c.due.result c.set_result.new.self first valid is_due w.if-due.true (rw (c.ticket-ticket.ensures, is) at c.set_result.ensures))
       | else-due+in_ok-outcome w ↦
           rw (w.guard-is, w.issued-is) (nonce_done before a c.due.result c.if-due.outcome (seen g.D.Disk w.do_ask.new.guard) w.do_ask.new.issued c.set_result.new.self first valid is_due w.if-due.false
-          (rw (← c.command.view_is, w.outcome-is) (w.in_ok-outcome.ensures.done before)) (rw c.ticket-ticket.ensures at c.set_result.ensures))
+          (rw (← w.ask.ensures, w.outcome-is) (w.in_ok-outcome.ensures.done before)) (rw c.ticket-ticket.ensures at c.set_result.ensures))
     ]
 
 pub returns-clause-proceeds : goal.returns-clause-proceeds

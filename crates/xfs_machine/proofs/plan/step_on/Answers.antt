@@ -2,7 +2,7 @@ use Rattle.std.proofs.Common.{ap, refl, ◌∙◌}
 use Rattle.serde_json.specs.View.{view}
 use Rattle.xfs_model.specs.Results.{outcome, with_result}
 use Rattle.xfs_machine.specs.Parts.{with_plan_kept}
-use Rattle.xfs_machine.proofs.ChangeLaws.{twice}
+use Rattle.xfs_traffic.proofs.ChangeLaws.{twice}
 use Rattle.xfs_machine.proofs.plan.step_on.Goals as goal
 
 pub returns-in-Result : goal.returns-in-Result

@@ -10,7 +10,7 @@ use Rattle.xfs_queue.specs.Queue.{IsQueue}
 use Rattle.xfs_queue.specs.declared.command.Command.{Command}
 use Rattle.xfs_model.specs.State.{Job}
 use Rattle.xfs_model.proofs.Changes.{same_some}
-use Rattle.xfs_machine.specs.Jobs.{changed_at}
+use Rattle.xfs_traffic.specs.Jobs.{changed_at}
 use Rattle.xfs_machine.specs.Parts.{at_cash, with_job_plan}
 use Rattle.xfs_machine.proofs.PlanLaws.{one_plan, plan_back, plan_taken, plan_worked, step_adds}
 use Rattle.xfs_machine.proofs.plan.work_on_plan.Goals as goal

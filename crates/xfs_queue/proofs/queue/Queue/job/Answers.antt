@@ -16,5 +16,5 @@ returns g c =
     let place = rw c.deref.ensures.value at c.place-at.ensures in
     let is = c.index_mut-command.ensures.value in (
       (refl, λ w. rw (← c.self.view_is) (written c.args.ticket (λ a. record a { job = w }) q c.place-at.result c.index_mut-command.result.now c.self.invariant.0.ids place is)),
-      record { writes_back = tt; now = rw (← c.self.view_is) (ap (option_map (λ a. a.job)) (taken c.args.ticket q c.place-at.result c.index_mut-command.result.now place is)) },
+      record { writes_back = tt; now = rw (← c.self.view_is) (ap (option_map (λ a. a.job)) (taken c.args.ticket q c.place-at.result c.index_mut-command.result.now place is)); valid = rw (← c.self.view_is) c.self.invariant.0 },
     )

@@ -1,6 +1,0 @@
-use Rattle.serde_json.specs.View.{view}
-use Rattle.xfs_machine.proofs.AskLaws.{bad_entry}
-use Rattle.xfs_machine.proofs.asks.entry_ask.Goals as goal
-
-pub returns-in-Err : goal.returns-in-Err
-returns-in-Err c = bad_entry c.args.name.now (view c.args.payload.now) c.requires c.in-Err.ensures.shape

@@ -1,0 +1,12 @@
+pub mod AcceptLaws
+pub mod Announced
+pub mod AnswerLaws
+pub mod AskLaws
+pub mod ChangeLaws
+pub mod Changed
+pub mod HeardLaws
+pub mod Places
+pub mod QueueTests
+pub mod Sent
+pub mod Unsent
+pub mod Withdrawn
