@@ -5,13 +5,13 @@ use Rattle.xfs_mech.specs.declared.mechanism.Mechanism.{Ghosts as Mechanisms}
 use Rattle.xfs_guard.specs.View.{GuardView}
 use Rattle.xfs_guard.specs.declared.fail.BootFault.{BootFault}
 use Rattle.xfs_guard.specs.declared.machine_core.Core.{Core}
-use Rattle.xfs_cli.specs.Boots.{IsNoJournal, WritesBoot, boot_status}
+use Rattle.xfs_lines.specs.Boots.{IsNoJournal, WritesBoot, boot_status}
 use Rattle.xfs_cli.specs.BootsOnce.{BootsOnce}
-use Rattle.xfs_cli.specs.Returns.{Return}
+use Rattle.xfs_lines.specs.Returns.{Return}
 use Rattle.xfs_script.specs.Streams.{Streams}
-use Rattle.xfs_cli.proofs.BootedLaws.{ends-full, told-any}
-use Rattle.xfs_cli.proofs.RunLaws.{due-full, due-unread, ends-unread, fits-run, journal-run}
-use Rattle.xfs_cli.proofs.UnreadLaws.{unwritten-quiet}
+use Rattle.xfs_lines.proofs.BootedLaws.{ends-full, told-any}
+use Rattle.xfs_lines.proofs.RunLaws.{due-full, due-unread, ends-unread, fits-run, journal-run}
+use Rattle.xfs_lines.proofs.UnreadLaws.{unwritten-quiet}
 use Rattle.xfs_guard.specs.Outcomes.{BootsGuard, RefusesBoot}
 use Rattle.xfs_guard.specs.Entries.{at_entry}
 

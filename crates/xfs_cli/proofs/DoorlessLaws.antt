@@ -5,7 +5,7 @@ use Rattle.std.specs.declared.alloc.Global.{Global}
 use Rattle.xfs_words.specs.Words.{Names, texts}
 use Rattle.xfs_words.specs.declared.command.Command.{Command}
 use Rattle.xfs_words.specs.declared.command.Command.TheVariants.{Guard, Token, Replay, Load, Serve, Client, Host, Audit, Fleet}
-use Rattle.xfs_cli.specs.Run.{IsAudit, IsClient, IsCommand, IsFleet, IsGuard, IsHost, IsLoad, IsReplay, IsServe, IsToken}
+use Rattle.xfs_lines.specs.Run.{IsAudit, IsClient, IsCommand, IsFleet, IsGuard, IsHost, IsLoad, IsReplay, IsServe, IsToken}
 use Rattle.xfs_cli.proofs.WordLaws.{apart, kind_of}
 
 -- words of a command that boots name no command of another kind

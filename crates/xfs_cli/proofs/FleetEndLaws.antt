@@ -10,11 +10,11 @@ use Rattle.xfs_guard.specs.declared.fail.BootFault.{BootFault}
 use Rattle.xfs_guard.specs.declared.fail.BootFault.TheVariants.{NotJournal, Disk, Full, Memory as NoMemory}
 use Rattle.xfs_script.specs.Lines.{AllLines, StopsAtLine}
 use Rattle.xfs_script.specs.Reading.{GaveAll}
-use Rattle.xfs_cli.specs.Boots.{IsNoJournal, boot_status}
-use Rattle.xfs_cli.specs.Statuses.{IsFinished, IsStatus}
-use Rattle.xfs_cli.proofs.BootedLaws.{told-any}
-use Rattle.xfs_cli.proofs.EndLaws.{lines-all, short-all}
-use Rattle.xfs_cli.proofs.EndingLaws.{boot-least, status-boot}
+use Rattle.xfs_lines.specs.Boots.{IsNoJournal, boot_status}
+use Rattle.xfs_lines.specs.Output.Statuses.{IsFinished, IsStatus}
+use Rattle.xfs_lines.proofs.BootedLaws.{told-any}
+use Rattle.xfs_lines.proofs.EndLaws.{lines-all, short-all}
+use Rattle.xfs_lines.proofs.EndingLaws.{boot-least, status-boot}
 
 -- what each status of a run has as its cause
 pub record HasCausesOf (IsLineOf NoRoomAt : List ℕ → Type 0) (status : ℕ) (left left' : Option (List ℕ)) (source sink disk journal : Type 0) : Type 0 where

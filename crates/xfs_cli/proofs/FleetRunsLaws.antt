@@ -24,24 +24,25 @@ use Rattle.xfs_script.specs.Lines.{behind, first_line, first_lines}
 use Rattle.xfs_script.specs.declared.answerer.Ending.TheVariants.{AtEnd, Ended}
 use Rattle.xfs_sides.proofs.SideLaws.{are-alone, empty-line}
 use Rattle.xfs_sides.specs.Sides.{AreAlone, Sides}
-use Rattle.xfs_cli.specs.Boots.{BootExceeds, IsNoJournal, WritesBoot, boot_status}
+use Rattle.xfs_lines.specs.Boots.{BootExceeds, IsNoJournal, WritesBoot, boot_status}
 use Rattle.xfs_cli.specs.FleetRuns.{AreUnhindered, BeginsBoth, IsFirstUnbooted, RunsFleet, fleet_lines, restart_of, state_a, state_b}
-use Rattle.xfs_cli.specs.ReplayCommand.{Progresses, replay_lines}
-use Rattle.xfs_cli.specs.ReplayRuns.{Begins}
-use Rattle.xfs_cli.specs.ReplayStates.{Played, begun, guard_state_of}
-use Rattle.xfs_cli.specs.Restarts.{EndsRestart, IsFull}
-use Rattle.xfs_cli.specs.Returns.{Return, ComesBack}
-use Rattle.xfs_cli.specs.Runs.{AtEntryList, IsEnd, IsFullAtEnd, IsStillAt, NothingFailed}
-use Rattle.xfs_cli.specs.InputEnds.{EndsInput, ending_status, IsAnswered}
-use Rattle.xfs_cli.specs.Statuses.{HasFullRestart, IsFinished}
+use Rattle.xfs_cli.specs.Replay.Command.{Progresses, replay_lines}
+use Rattle.xfs_cli.specs.Replay.Runs.{Begins}
+use Rattle.xfs_cli.specs.Replay.States.{Played, begun, guard_state_of}
+use Rattle.xfs_lines.specs.Guard.Restarts.{EndsRestart, IsFull}
+use Rattle.xfs_lines.specs.Returns.{Return, ComesBack}
+use Rattle.xfs_lines.specs.Runs.{AtEntryList, IsEnd, IsFullAtEnd, IsStillAt, NothingFailed}
+use Rattle.xfs_lines.specs.Output.InputEnds.{EndsInput, ending_status, IsAnswered}
+use Rattle.xfs_lines.specs.Output.Statuses.{HasFullRestart, IsFinished}
 use Rattle.xfs_script.specs.Streams.{Streams, output_of}
-use Rattle.xfs_cli.specs.Headlines.{HasHeadline}
-use Rattle.xfs_cli.proofs.BootedLaws.{ends-at, ends-failed, ends-full, failed-then, full-end, full-then, none-told, still-at, told-any, told-more, untold-then}
-use Rattle.xfs_cli.proofs.EndingLaws.{boot-least, is-boot, is-end}
+use Rattle.xfs_lines.specs.Headlines.{HasHeadline}
+use Rattle.xfs_lines.proofs.BootedLaws.{ends-at, ends-failed, ends-full, failed-then, full-end, full-then, none-told, still-at, told-any, told-more, untold-then}
+use Rattle.xfs_lines.proofs.EndingLaws.{boot-least, is-boot, is-end}
 use Rattle.xfs_cli.proofs.FleetEndLaws.{HasCausesOf, at-list, causes-unbooted, finishes-of}
 use Rattle.xfs_script.proofs.LastLaws.{last-taken}
-use Rattle.xfs_cli.proofs.RunLaws.{due-full, due-unread, ends-unread, fits-run, journal-run}
-use Rattle.xfs_cli.proofs.EndsLaws.{HasEnded, machine-ended}
+use Rattle.xfs_lines.proofs.RunLaws.{due-full, due-unread, ends-unread, fits-run, journal-run}
+use Rattle.xfs_lines.proofs.EndsLaws.{HasEnded}
+use Rattle.xfs_cli.proofs.MachineLaws.{machine-ended}
 use Rattle.xfs_script.specs.LastLines.{WritesLast}
 use Rattle.xfs_guard.specs.Outcomes.{BootsGuard}
 

@@ -11,14 +11,15 @@ use Rattle.xfs_journal.specs.Journal.{with_boot}
 use Rattle.xfs_machine.specs.MachineView.{MachineView, guard_of}
 use Rattle.xfs_fleet.specs.Boots.{IsBooted, IsRefusedBoot}
 use Rattle.xfs_fleet.specs.Endings.{Ends}
-use Rattle.xfs_cli.specs.Boots.{IsNoJournal}
-use Rattle.xfs_cli.specs.Headlines.{HasHeadline}
-use Rattle.xfs_cli.specs.Returns.{ComesBack, Return}
-use Rattle.xfs_cli.proofs.BootedLaws.{told-any}
-use Rattle.xfs_cli.proofs.EndsLaws.{ends-kept, ends-refused, ends-run, machine-ended}
-use Rattle.xfs_cli.proofs.NumberLaws.{newer-run, newer-same}
-use Rattle.xfs_cli.proofs.RunLaws.{journal-run}
-use Rattle.xfs_cli.proofs.UnreadLaws.{unwritten-quiet}
+use Rattle.xfs_lines.specs.Boots.{IsNoJournal}
+use Rattle.xfs_lines.specs.Headlines.{HasHeadline}
+use Rattle.xfs_lines.specs.Returns.{ComesBack, Return}
+use Rattle.xfs_lines.proofs.BootedLaws.{told-any}
+use Rattle.xfs_lines.proofs.EndsLaws.{ends-kept, ends-refused, ends-run}
+use Rattle.xfs_cli.proofs.MachineLaws.{machine-ended}
+use Rattle.xfs_lines.proofs.NumberLaws.{newer-run, newer-same}
+use Rattle.xfs_lines.proofs.RunLaws.{journal-run}
+use Rattle.xfs_lines.proofs.UnreadLaws.{unwritten-quiet}
 
 module _ {M D : Type 0} (m : Mechanisms M) (d : Disks D) (core : Core M D) (r : Return M D)
     (as_read : (disk : D) (all : List ℕ) → d.held disk ≡ Some all → d.images disk all) (starts : Starts m d core) where

@@ -7,10 +7,10 @@ use Rattle.xfs_model.specs.Step.{Step}
 use Rattle.xfs_model.proofs.Advancing.{advances}
 use Rattle.xfs_script.specs.declared.replay_line.ReplayLine.{ReplayLine}
 use Rattle.xfs_script.specs.declared.replay_line.ReplayLine.TheVariants.{Skip, Join, Leave, Say, At, Work, Rest, CardIn, CardTaken, CardFault, Key, KeyFault, Take, Mint, Restart, Show}
-use Rattle.xfs_cli.specs.ReplayCommand.{IsPartDone}
-use Rattle.xfs_cli.specs.ReplayEvents.{HandsAll, HasMail}
-use Rattle.xfs_cli.specs.ReplayStates.{Played}
-use Rattle.xfs_cli.specs.declared.clients.Client.{Client}
+use Rattle.xfs_cli.specs.Replay.Command.{IsPartDone}
+use Rattle.xfs_cli.specs.Replay.Events.{HandsAll, HasMail}
+use Rattle.xfs_cli.specs.Replay.States.{Played}
+use Rattle.xfs_cli.specs.declared.commands.replay.clients.Client.{Client}
 
 -- the count has not fallen
 abbrev pub IsNoLess : State → State → Type 0

@@ -17,22 +17,22 @@ use Rattle.xfs_guard.specs.declared.fail.BootFault.TheVariants.{NotJournal, Disk
 use Rattle.xfs_guard.specs.declared.machine_core.Core.{Core}
 use Rattle.xfs_machine.specs.MachineView.{MachineView, guard_of}
 use Rattle.xfs_model.specs.State.{State, bare}
-use Rattle.xfs_cli.specs.Boots.{BootExceeds, IsNoJournal, WritesBoot, boot_status}
+use Rattle.xfs_lines.specs.Boots.{BootExceeds, IsNoJournal, WritesBoot, boot_status}
 use Rattle.xfs_guard.specs.Entries.{at_entry, opened}
 use Rattle.xfs_load.specs.Summaries.{IsSummary, summary_line}
 use Rattle.xfs_load.specs.declared.summary.Summary.{Summary}
 use Rattle.xfs_script.specs.Answered.{lines_text}
 use Rattle.xfs_cli.specs.LoadEnds.{EndsLoad, Output, WritesTextOrNot}
 use Rattle.xfs_cli.specs.LoadRuns.{RunsLoad, guard_state_of}
-use Rattle.xfs_cli.specs.Statuses.{IsFinished, IsStatus}
+use Rattle.xfs_lines.specs.Output.Statuses.{IsFinished, IsStatus}
 use Rattle.xfs_script.specs.Streams.{Streams, output_of}
-use Rattle.xfs_cli.specs.Returns.{Return}
-use Rattle.xfs_cli.proofs.BootedLaws.{ends-at, ends-failed, told-any}
+use Rattle.xfs_lines.specs.Returns.{Return}
+use Rattle.xfs_lines.proofs.BootedLaws.{ends-at, ends-failed, told-any}
 use Rattle.xfs_cli.proofs.BootsOnceLaws.{boots-refused, boots-served}
-use Rattle.xfs_cli.proofs.EndingLaws.{boot-least}
-use Rattle.xfs_cli.proofs.NumberLaws.{newer-run, newer-same}
-use Rattle.xfs_cli.proofs.RunLaws.{Starts}
-use Rattle.xfs_cli.proofs.EndsLaws.{HasEnded}
+use Rattle.xfs_lines.proofs.EndingLaws.{boot-least}
+use Rattle.xfs_lines.proofs.NumberLaws.{newer-run, newer-same}
+use Rattle.xfs_lines.proofs.RunLaws.{Starts}
+use Rattle.xfs_lines.proofs.EndsLaws.{HasEnded}
 use Rattle.xfs_guard.specs.Outcomes.{BootsGuard, RefusesBoot}
 
 -- a boot that nothing hinders is refused for want of memory alone

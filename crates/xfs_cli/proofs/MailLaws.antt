@@ -6,9 +6,9 @@ use Rattle.xfs_model.specs.State.{State}
 use Rattle.xfs_model.specs.Step.{Step}
 use Rattle.xfs_script.specs.Answered.{lines_text}
 use Rattle.xfs_script.proofs.AnswerLaws.{lines_text-append}
-use Rattle.xfs_cli.specs.ReplayEvents.{HandsAll, HasMail, frame_line}
-use Rattle.xfs_cli.specs.ReplayCommand.{IsPartMailed}
-use Rattle.xfs_cli.specs.declared.clients.Client.{Client}
+use Rattle.xfs_cli.specs.Replay.Events.{HandsAll, HasMail, frame_line}
+use Rattle.xfs_cli.specs.Replay.Command.{IsPartMailed}
+use Rattle.xfs_cli.specs.declared.commands.replay.clients.Client.{Client}
 use Rattle.xfs_load.proofs.RestLaws.{part-none}
 
 -- one client more

@@ -36,15 +36,15 @@ use Rattle.xfs_server.specs.Doors.{DoorLog}
 use Rattle.xfs_serving.specs.Takings.{Takes, faults_in}
 use Rattle.xfs_serving.specs.declared.ending.Ending.{Ending}
 use Rattle.xfs_serving.specs.declared.ending.Ending.TheVariants as taking
-use Rattle.xfs_cli.specs.Boots.{WritesBoot, boot_status}
-use Rattle.xfs_cli.specs.Returns.{Return}
+use Rattle.xfs_lines.specs.Boots.{WritesBoot, boot_status}
+use Rattle.xfs_lines.specs.Returns.{Return}
 use Rattle.xfs_cli.specs.ServeRuns.{ClosesBehind, RunsServe, StandsForMore, served_line, served_status}
-use Rattle.xfs_cli.specs.Statuses.{IsFinished, IsOneOf}
+use Rattle.xfs_lines.specs.Output.Statuses.{IsFinished, IsOneOf}
 use Rattle.xfs_script.specs.Streams.{Output, unread_io}
-use Rattle.xfs_cli.specs.declared.status.TheConstants.{DISK_FAULT, JOURNAL_FULL, LINK_FAILED, NOT_A_JOURNAL, NO_MEMORY, READ_TO_END}
-use Rattle.xfs_cli.proofs.BootedLaws.{ends-failed, told-any}
+use Rattle.xfs_lines.specs.declared.output.status.TheConstants.{DISK_FAULT, JOURNAL_FULL, LINK_FAILED, NOT_A_JOURNAL, NO_MEMORY, READ_TO_END}
+use Rattle.xfs_lines.proofs.BootedLaws.{ends-failed, told-any}
 use Rattle.xfs_cli.proofs.BootsOnceLaws.{boots-refused, boots-served}
-use Rattle.xfs_cli.proofs.EndingLaws.{boot-least}
+use Rattle.xfs_lines.proofs.EndingLaws.{boot-least}
 use Rattle.xfs_cli.proofs.LoadLaws.{refused-finishes}
 use Rattle.xfs_script.specs.LastLines.{WritesLast}
 use Rattle.xfs_guard.specs.Outcomes.{BootsGuard, RefusesBoot}

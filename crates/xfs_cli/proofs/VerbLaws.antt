@@ -21,10 +21,10 @@ use Rattle.xfs_script.proofs.AnswerLaws.{lines_text-append}
 use Rattle.xfs_script.specs.ReplayLines.{IsReplayLine}
 use Rattle.xfs_script.specs.declared.replay_line.ReplayLine.{ReplayLine}
 use Rattle.xfs_script.specs.declared.replay_line.ReplayLine.TheVariants.{Skip, Join, Leave, Say, At, Work, Rest, CardIn, CardTaken, CardFault, Key, KeyFault, Take, Mint, Restart, Show}
-use Rattle.xfs_cli.specs.ReplayEvents.{AnswersEvent, AnswersReplay, AnswersVerb, HasMail, IsTouched, Mints, clients_after, event_of, lines_of, lines_to}
+use Rattle.xfs_cli.specs.Replay.Events.{AnswersEvent, AnswersReplay, AnswersVerb, HasMail, IsTouched, Mints, clients_after, event_of, lines_of, lines_to}
 use Rattle.xfs_load.specs.Steps.{HappensInPart, rounds}
-use Rattle.xfs_cli.specs.ReplayCommand.{IsPartDone}
-use Rattle.xfs_cli.specs.ReplayStates.{Played, is_joined}
+use Rattle.xfs_cli.specs.Replay.Command.{IsPartDone}
+use Rattle.xfs_cli.specs.Replay.States.{Played, is_joined}
 use Rattle.xfs_load.proofs.RestLaws.{part-none, part-one, rests-part}
 
 machine-same : (events : List Event) (s next : Played) → next.machine ≡ s.machine → HappensInPart events s.machine next.machine

@@ -1,7 +1,7 @@
 -- A message gets its token run by run, each up to the next `@`.
 use Rattle.std.proofs.Common.{◌≡◌, ℕ, zero, suc, ◌+◌, ◌<◌, List, [], ◌∷◌, ◌++◌, length, take, drop, get_or, Some, None, refl, sym, ap, ◌∙◌, add-one, append_assoc, arith, ne_eqb, eq-eqb, eqb-true}
 use Rattle.memchr.specs.Find.{IsFirstByte, is_byte}
-use Rattle.xfs_cli.specs.ReplayEvents.{with_token}
+use Rattle.xfs_cli.specs.Replay.Events.{with_token}
 
 filled_none : (token message : List ℕ) → ((k : ℕ) → k < length message → ¬ (get_or message k 0 ≡ 64)) → with_token token message ≡ message
 filled_none token [] none = refl

@@ -3,11 +3,11 @@ use Rattle.std.specs.Prelude.{◌≡◌}
 use Rattle.xfs_disk.specs.declared.disk.Disk.{Ghosts as Disks}
 use Rattle.xfs_mech.specs.declared.mechanism.Mechanism.{Ghosts as Mechanisms}
 use Rattle.xfs_guard.specs.declared.machine_core.Core.{Core}
-use Rattle.xfs_cli.specs.Boots.{BootExceeds, EndsFull, EndsUnread, IsDue, IsUnwritten}
-use Rattle.xfs_cli.specs.Returns.{Return}
-use Rattle.xfs_cli.specs.Runs.{AtEntryList, WhereNoJournal}
+use Rattle.xfs_lines.specs.Boots.{BootExceeds, EndsFull, EndsUnread, IsDue, IsUnwritten}
+use Rattle.xfs_lines.specs.Returns.{Return}
+use Rattle.xfs_lines.specs.Runs.{AtEntryList, WhereNoJournal}
 use Rattle.xfs_script.specs.Streams.{Streams}
-use Rattle.xfs_cli.specs.declared.status.TheConstants.{JOURNAL_FULL, NOT_A_JOURNAL}
+use Rattle.xfs_lines.specs.declared.output.status.TheConstants.{JOURNAL_FULL, NOT_A_JOURNAL}
 
 pub record BootsOnce {M D : Type 0} (m : Mechanisms M) (d : Disks D) (core : Core M D) (result : Return M D) (io : Streams) : Type 0 where
   pub not_journal : result.status ≡ NOT_A_JOURNAL → EndsUnread (d.held core.disk) io

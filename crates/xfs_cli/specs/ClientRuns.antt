@@ -11,11 +11,11 @@ use Rattle.xfs_withdraw.specs.Talks.{Withdraws, terms_of}
 use Rattle.xfs_withdraw.specs.declared.ending.Ending.{Ending}
 use Rattle.xfs_withdraw.specs.declared.ending.Ending.TheVariants.{Closed}
 use Rattle.xfs_withdraw.specs.declared.talk.TheConstants.{MOST_QUIETS}
-use Rattle.xfs_cli.specs.Returns.{back, ComesBack}
-use Rattle.xfs_cli.specs.Run.{IsClientOf}
+use Rattle.xfs_lines.specs.Returns.{back, ComesBack}
+use Rattle.xfs_lines.specs.Run.{IsClientOf}
 use Rattle.xfs_script.specs.Streams.{Output}
-use Rattle.xfs_cli.specs.declared.ended.Ended.{Ended}
-use Rattle.xfs_cli.specs.declared.status.TheConstants.{LINK_FAILED, STAYED_QUIET}
+use Rattle.xfs_lines.specs.declared.ended.Ended.{Ended}
+use Rattle.xfs_lines.specs.declared.output.status.TheConstants.{LINK_FAILED, STAYED_QUIET}
 use Rattle.xfs_script.specs.LastLines.{WritesLast}
 
 pub record RunsClient {M D L : Type 0} (log : L → LinkLog) (terms : Terms) (core : Core M D) (ended : Ended M D L) (before now : DoorLog) (o : Output) : Type 0 where

@@ -5,13 +5,13 @@ use Rattle.xfs_disk.specs.declared.disk.Disk.{Ghosts as Disks}
 use Rattle.xfs_mech.specs.declared.mechanism.Mechanism.{Ghosts as Mechanisms}
 use Rattle.xfs_guard.specs.declared.machine_core.Core.{Core}
 use Rattle.xfs_script.specs.Streams.{Streams}
-use Rattle.xfs_cli.specs.AuditRuns.{RunsAuditOf}
-use Rattle.xfs_cli.specs.GuardRuns.{RunsGuardOf}
-use Rattle.xfs_cli.specs.HostRuns.{RunsHostOf}
+use Rattle.xfs_lines.specs.Audit.Runs.{RunsAuditOf}
+use Rattle.xfs_lines.specs.Guard.Runs.{RunsGuardOf}
+use Rattle.xfs_lines.specs.Host.Runs.{RunsHostOf}
 use Rattle.xfs_cli.specs.LoadRuns.{RunsLoadOf}
-use Rattle.xfs_cli.specs.ReplayRuns.{RunsReplayOf}
-use Rattle.xfs_cli.specs.TokenRuns.{RunsTokenOf}
-use Rattle.xfs_cli.specs.declared.ended.Ended.{Ended}
+use Rattle.xfs_cli.specs.Replay.Runs.{RunsReplayOf}
+use Rattle.xfs_lines.specs.Token.Runs.{RunsTokenOf}
+use Rattle.xfs_lines.specs.declared.ended.Ended.{Ended}
 
 -- each command that the words may name has its run
 pub record RunsOf {M D L : Type 0} (words : List (String Global)) (m : Mechanisms M) (d : Disks D) (core : Core M D) (ended : Ended M D L) (io : Streams) : Type 0 where

@@ -13,20 +13,20 @@ use Rattle.xfs_script.specs.FleetLines.{letter_mark, letter_a, letter_b}
 use Rattle.xfs_script.specs.Lines.{AllLines, StopsAtLine}
 use Rattle.xfs_script.specs.declared.feed.TheConstants.{QUOTA}
 use Rattle.xfs_sides.specs.Sides.{AreAlone, Sides, sides}
-use Rattle.xfs_cli.specs.Boots.{BootExceeds, EndsFailed, EndsFull, EndsUnread, IsDue}
-use Rattle.xfs_cli.specs.GuardStates.{GuardState}
-use Rattle.xfs_cli.specs.ReplayCommand.{replay_lines}
-use Rattle.xfs_cli.specs.ReplayRuns.{Begins}
-use Rattle.xfs_cli.specs.ReplayStates.{Played, guard_state_of}
-use Rattle.xfs_cli.specs.Returns.{Return, back, second_back, ComesBack}
-use Rattle.xfs_cli.specs.Run.{IsFleet}
-use Rattle.xfs_cli.specs.Runs.{AtEntryList, FromStart, IsEnd, IsFullAtEnd, IsStillAt, IsUnbooted, NothingFailed, WhereNoJournal}
-use Rattle.xfs_cli.specs.InputEnds.{EndsInput}
-use Rattle.xfs_cli.specs.Statuses.{HasFullRestart, IsFinished}
+use Rattle.xfs_lines.specs.Boots.{BootExceeds, EndsFailed, EndsFull, EndsUnread, IsDue}
+use Rattle.xfs_lines.specs.Guard.States.{GuardState}
+use Rattle.xfs_cli.specs.Replay.Command.{replay_lines}
+use Rattle.xfs_cli.specs.Replay.Runs.{Begins}
+use Rattle.xfs_cli.specs.Replay.States.{Played, guard_state_of}
+use Rattle.xfs_lines.specs.Returns.{Return, back, second_back, ComesBack}
+use Rattle.xfs_lines.specs.Run.{IsFleet}
+use Rattle.xfs_lines.specs.Runs.{AtEntryList, FromStart, IsEnd, IsFullAtEnd, IsStillAt, IsUnbooted, NothingFailed, WhereNoJournal}
+use Rattle.xfs_lines.specs.Output.InputEnds.{EndsInput}
+use Rattle.xfs_lines.specs.Output.Statuses.{HasFullRestart, IsFinished}
 use Rattle.xfs_script.specs.Streams.{Streams}
-use Rattle.xfs_cli.specs.Headlines.{HasHeadline}
-use Rattle.xfs_cli.specs.declared.ended.Ended.{Ended}
-use Rattle.xfs_cli.specs.declared.status.TheConstants.{DISK_FAULT, JOURNAL_FULL, NOT_A_JOURNAL, NOT_A_LINE, READ_TO_END}
+use Rattle.xfs_lines.specs.Headlines.{HasHeadline}
+use Rattle.xfs_lines.specs.declared.ended.Ended.{Ended}
+use Rattle.xfs_lines.specs.declared.output.status.TheConstants.{DISK_FAULT, JOURNAL_FULL, NOT_A_JOURNAL, NOT_A_LINE, READ_TO_END}
 use Rattle.xfs_guard.specs.declared.bench.Bench.{Bench}
 
 -- the lines of `replay`, each at the machine of its letter

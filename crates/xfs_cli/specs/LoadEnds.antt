@@ -8,7 +8,7 @@ use Rattle.xfs_load.specs.declared.summary.Summary.{Summary}
 use Rattle.xfs_model.specs.State.{State}
 use Rattle.xfs_script.specs.Answered.{lines_text}
 pub use Rattle.xfs_script.specs.Streams.{Output, output}
-use Rattle.xfs_cli.specs.declared.status.TheConstants.{NO_MEMORY, READ_TO_END, WRITE_FAULT}
+use Rattle.xfs_lines.specs.declared.output.status.TheConstants.{NO_MEMORY, READ_TO_END, WRITE_FAULT}
 
 -- the whole text was written, or the sink failed and took a prefix of it
 pub record IsWritten (text : List ℕ) (status : ℕ) (o : Output) : Type 0 where

@@ -7,19 +7,19 @@ use Rattle.xfs_mech.specs.Moves.{IsNewer}
 use Rattle.xfs_mech.specs.declared.mechanism.Mechanism.{Ghosts as Mechanisms}
 use Rattle.xfs_guard.specs.declared.machine_core.Core.{Core}
 use Rattle.xfs_model.specs.State.{State, bare}
-use Rattle.xfs_cli.specs.Boots.{BootExceeds, EndsFailed}
+use Rattle.xfs_lines.specs.Boots.{BootExceeds, EndsFailed}
 use Rattle.xfs_cli.specs.BootsOnce.{BootsOnce}
 use Rattle.xfs_guard.specs.Entries.{AtEntry, at_entry}
-use Rattle.xfs_cli.specs.GuardStarts.{IsStart}
+use Rattle.xfs_lines.specs.Guard.Starts.{IsStart}
 use Rattle.xfs_cli.specs.LoadEnds.{EndsLoad, Output}
-use Rattle.xfs_cli.specs.Run.{IsLoadOf}
-use Rattle.xfs_cli.specs.Runs.{AtEntryList, FromStart, IsEnd, IsUnbooted}
-use Rattle.xfs_cli.specs.GuardStates.{GuardState}
-use Rattle.xfs_cli.specs.Statuses.{IsFinished}
+use Rattle.xfs_lines.specs.Run.{IsLoadOf}
+use Rattle.xfs_lines.specs.Runs.{AtEntryList, FromStart, IsEnd, IsUnbooted}
+use Rattle.xfs_lines.specs.Guard.States.{GuardState}
+use Rattle.xfs_lines.specs.Output.Statuses.{IsFinished}
 use Rattle.xfs_script.specs.Streams.{Streams, output_of}
-use Rattle.xfs_cli.specs.Returns.{Return, back}
-use Rattle.xfs_cli.specs.declared.ended.Ended.{Ended}
-use Rattle.xfs_cli.specs.declared.status.TheConstants.{DISK_FAULT, INPUT_TOO_LONG, NOT_A_LINE, READ_FAULT, WRITE_FAULT}
+use Rattle.xfs_lines.specs.Returns.{Return, back}
+use Rattle.xfs_lines.specs.declared.ended.Ended.{Ended}
+use Rattle.xfs_lines.specs.declared.output.status.TheConstants.{DISK_FAULT, INPUT_TOO_LONG, NOT_A_LINE, READ_FAULT, WRITE_FAULT}
 
 -- what a run of `guard` would see of a machine, with no token minted
 abbrev pub guard_state_of : State → GuardState

@@ -21,17 +21,17 @@ use Rattle.xfs_server.specs.Doors.{DoorLog}
 use Rattle.xfs_serving.specs.Takings.{Takes}
 use Rattle.xfs_serving.specs.declared.ending.Ending.{Ending}
 use Rattle.xfs_serving.specs.declared.ending.Ending.TheVariants.{Served, Failed, Memory}
-use Rattle.xfs_cli.specs.Boots.{BootExceeds, EndsFailed, boot_line}
+use Rattle.xfs_lines.specs.Boots.{BootExceeds, EndsFailed, boot_line}
 use Rattle.xfs_cli.specs.BootsOnce.{BootsOnce}
 use Rattle.xfs_guard.specs.Entries.{at_entry}
 use Rattle.xfs_cli.specs.LoadRuns.{Begins}
-use Rattle.xfs_cli.specs.Returns.{Return, back}
-use Rattle.xfs_cli.specs.Run.{IsServeOf}
-use Rattle.xfs_cli.specs.Runs.{AtEntryList, FromStart, IsUnbooted}
-use Rattle.xfs_cli.specs.Statuses.{IsFinished, IsOneOf}
+use Rattle.xfs_lines.specs.Returns.{Return, back}
+use Rattle.xfs_lines.specs.Run.{IsServeOf}
+use Rattle.xfs_lines.specs.Runs.{AtEntryList, FromStart, IsUnbooted}
+use Rattle.xfs_lines.specs.Output.Statuses.{IsFinished, IsOneOf}
 use Rattle.xfs_script.specs.Streams.{Output, unread_io}
-use Rattle.xfs_cli.specs.declared.ended.Ended.{Ended}
-use Rattle.xfs_cli.specs.declared.status.TheConstants.{DISK_FAULT, JOURNAL_FULL, LINK_FAILED, NOT_A_JOURNAL, NO_MEMORY, READ_TO_END}
+use Rattle.xfs_lines.specs.declared.ended.Ended.{Ended}
+use Rattle.xfs_lines.specs.declared.output.status.TheConstants.{DISK_FAULT, JOURNAL_FULL, LINK_FAILED, NOT_A_JOURNAL, NO_MEMORY, READ_TO_END}
 use Rattle.xfs_script.specs.LastLines.{WritesLast}
 
 -- the status of a server whose taking ended so, unless the disk failed at the settling of an open order

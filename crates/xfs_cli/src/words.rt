@@ -1,22 +1,13 @@
 //! The words of the command line.
 
-ghost use Rattle.std.specs.Prelude.{◌≡◌, ◌↔◌, IfNone, IfSome, IsTrue};
-ghost use Rattle.xfs_cli.specs.Run.{IsClient, IsClientOf, IsCommand, IsLoad, IsLoadOf, IsTask, IsWord};
+ghost use Rattle.std.specs.Prelude.{IfNone, IfSome};
+ghost use Rattle.xfs_cli.specs.Tasks.{IsTask};
+ghost use Rattle.xfs_lines.specs.Run.{IsClient, IsClientOf, IsCommand, IsLoad, IsLoadOf};
 ghost use Rattle.xfs_words.specs.Words.{Names, texts};
 
 use std::alloc::Global;
 use xfs_base::Currency;
 use xfs_words::{Command, WordsFault, name_command, read};
-
-/// Whether the words are this one word.
-pub fn is_word(words: &[String], word: &str) -> bool
-    ensures { IsTrue result ↔ IsWord word.now words.now }
-{
-    match words {
-        [first] => first.as_str() == word,
-        _ => false,
-    }
-}
 
 /// The command that the words name, as `clap` reads them. Where that finds no memory they are compared as they stand,
 /// so that want of memory never hides that they are no command.

@@ -1,7 +1,0 @@
-use Rattle.std.proofs.Common.{◌≡◌}
-use Rattle.xfs_script.specs.Answered.{lines_text}
-use Rattle.xfs_cli.specs.GuardTexts.{show_lines}
-use Rattle.xfs_cli.proofs.text.show_text.Given as goal
-
-abbrev pub invariant-loop-place : goal.invariant-loop-place
-invariant-loop-place l = l.text.items ≡ lines_text (show_lines l.place l.fn.places)

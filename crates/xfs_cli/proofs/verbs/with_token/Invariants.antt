@@ -1,9 +1,0 @@
-use Rattle.std.proofs.Common.{◌≡◌, ◌++◌, length}
-use Rattle.xfs_cli.specs.ReplayEvents.{with_token}
-use Rattle.xfs_cli.proofs.verbs.with_token.Given as goal
-
-abbrev pub invariant-loop-place : goal.invariant-loop-place
-invariant-loop-place l = l.text.items ++ with_token l.token l.rest ≡ with_token l.token l.message
-
-abbrev pub decreases-loop-place : goal.decreases-loop-place
-decreases-loop-place l = length l.rest

@@ -1,0 +1,19 @@
+use Rattle.std.proofs.Common.{◌++◌, inr, sym, ◌∙◌}
+use Rattle.std.specs.Prelude.{codes}
+use Rattle.xfs_guard.specs.Nonce.{live_in}
+use Rattle.xfs_lines.specs.Guard.States.{guard_state}
+use Rattle.xfs_lines.proofs.BegunLaws.{on-err, mints-none, mints-made}
+use Rattle.xfs_lines.proofs.commands.guard.player.GuardPlayer.mint.Goals as goal
+
+pub returns-in_default-clause-memory : goal.returns-in_default-clause-memory
+returns-in_default-clause-memory g c =
+    let v = c.args.self.now.guard.state in
+    on-err _ _ (inr (codes "token none", mints-none (guard_state g.D.Disk.faults c.args.self.now.guard c.args.self.now.last) (live_in v.boot_missing v.records) c.args.amounts.now (sym c.live.ensures ∙ c.in_default.is)))
+
+pub returns-clause-memory : goal.returns-clause-memory
+returns-clause-memory g c =
+    let v = c.args.self.now.guard.state in
+    on-err _ _ (inr (
+      codes "token " ++ c.in-Ok.token.items,
+      mints-made (guard_state g.D.Disk.faults c.args.self.now.guard c.args.self.now.last) (live_in v.boot_missing v.records) c.in-Some.nonce c.args.amounts.now c.args.self.now.key c.in-Ok.token.items c.new.result (sym c.live.ensures ∙ c.in-Some.is) c.requires.key c.in-Ok.ensures.ok c.new.ensures,
+    ))

@@ -1,0 +1,12 @@
+pub mod Audit
+pub mod Boots
+pub mod Guard
+pub mod Headlines
+pub mod Host
+pub mod Moments
+pub mod Output
+pub mod Returns
+pub mod Run
+pub mod Runs
+pub mod Token
+pub mod Upholds

@@ -1,0 +1,6 @@
+//! The commands, one folder each.
+
+pub mod audit;
+pub mod guard;
+pub mod host;
+pub mod token;

@@ -1,0 +1,4 @@
+//! The command `audit`.
+
+pub mod answer;
+pub mod command;

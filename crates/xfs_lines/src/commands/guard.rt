@@ -1,0 +1,5 @@
+//! The command `guard`.
+
+pub mod answer;
+pub mod command;
+pub mod player;

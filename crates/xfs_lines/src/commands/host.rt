@@ -1,0 +1,5 @@
+//! The command `host`.
+
+pub mod answer;
+pub mod command;
+pub mod text;

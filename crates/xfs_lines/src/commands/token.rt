@@ -1,0 +1,4 @@
+//! The command `token`.
+
+pub mod answer;
+pub mod command;

@@ -1,0 +1,20 @@
+//! The commands over lines that need no machine, and what every command over lines stands on.
+#![tactic(auto)]
+
+mod commands;
+mod ended;
+mod input;
+mod output;
+mod words;
+
+pub use commands::audit::command::audit;
+pub use commands::guard::command::guard;
+pub use commands::guard::player::NoAnswer;
+pub use commands::host::command::host;
+pub use commands::token::command::token;
+pub use ended::{Ended, Second, second_of};
+pub use input::answer_input;
+pub use output::last_line::{finish_unbooted, usage};
+pub use output::status;
+pub use output::text::{line, show_text, with_line_feed};
+pub use words::is_word;
