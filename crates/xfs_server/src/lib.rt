@@ -2,6 +2,7 @@
 //! what they stand on: links, doors, gates and boards, with objects in memory.
 #![tactic(auto)]
 
+mod backoff;
 mod board;
 mod doors;
 mod gate;
@@ -14,6 +15,7 @@ mod session;
 mod tended;
 mod worker;
 
+pub use backoff::Backoff;
 pub use board::{Board, Work2};
 pub use doors::{DialFault, Door, Doors};
 pub use gate::{Gate, GateAt, OpenGate};

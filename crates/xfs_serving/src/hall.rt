@@ -1,5 +1,5 @@
 use std::alloc::Global;
-use std::sync::atomic::AtomicBool;
+use std::sync::atomic::{AtomicBool, Ordering};
 
 /// What all threads of a server share.
 #[derive(Drop)]
@@ -30,5 +30,12 @@ impl Signals {
             keys_here: AtomicBool::new(false),
             notes_here: AtomicBool::new(false),
         }
+    }
+
+    /// Whether the loop of the doors makes the rounds of some worker.
+    pub fn is_any_here(&self) -> bool {
+        self.cards_here.load(Ordering::SeqCst)
+            || self.keys_here.load(Ordering::SeqCst)
+            || self.notes_here.load(Ordering::SeqCst)
     }
 }

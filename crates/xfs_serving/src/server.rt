@@ -15,7 +15,10 @@ use std::thread;
 use std::thread::{Scope, Threads};
 use xfs_base::{Clock, Memory};
 use xfs_mech::Watch;
-use xfs_server::{Door, Doors, Gate};
+use xfs_server::{Backoff, Door, Doors, Gate};
+
+// The longest pause at the doors, in milliseconds: by so much later a connection is let in.
+const LONGEST_PAUSE: u64 = 16;
 
 /// Takes `count` connections and serves each in a session of its own, with a worker at the card slot, the
 /// key pad and the outlet. It returns once all sessions have ended.
@@ -150,13 +153,17 @@ where
     ensures seen { IsPrefix (H.seen staff.old.backend) (H.seen staff.new.backend) }
 {
     let mut taken = 0;
+    let mut backoff = Backoff::up_to(LONGEST_PAUSE);
     for _ in hall.rt.forever() {
         if taken == count {
             return Ending::Served;
         }
         match door_turn(scope, hall, staff, doors) {
-            Ok(true) => taken += 1,
-            Ok(false) => {}
+            Ok(true) => {
+                taken += 1;
+                backoff.reset();
+            }
+            Ok(false) => await_visitor(hall, &mut backoff),
             Err(ending) => return ending,
         }
     }
@@ -196,12 +203,18 @@ where
             Ok(()) => Ok(true),
             Err(Memory) => Err(Ending::Memory),
         },
-        Door::Quiet => {
-            hall.clock.pause();
-            Ok(false)
-        }
+        Door::Quiet => Ok(false),
         Door::Failed => Err(Ending::Failed),
         Door::Memory => Err(Ending::Memory),
+    }
+}
+
+// Nobody came. The pauses stay short where the loop makes the rounds of a worker.
+fn await_visitor<R: Wait, C: Clock, G>(hall: &Hall<R, C, G>, backoff: &mut Backoff) {
+    if hall.signals.is_any_here() {
+        hall.clock.pause();
+    } else {
+        backoff.pause(hall.rt, hall.clock);
     }
 }
 

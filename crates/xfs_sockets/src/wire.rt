@@ -9,8 +9,9 @@ use tungstenite::{Bytes as Payload, Error, Message};
 use xfs_base::{Bytes, Clock, Moment};
 use xfs_server::{GiveFault, Taking};
 
-// How many reads come back at once before one waits, while an answer is owed.
-const LOOKS: u32 = 16;
+// How many looks come back at once before one waits, while an answer is owed: each has the board turned, and no command
+// has more steps, a dispense from eight units 26.
+const LOOKS: u32 = 32;
 
 // How many reads such a look makes, so that the board is not turned for each of them.
 const READS: u32 = 4;
@@ -25,8 +26,13 @@ const MOST_LOOKS: u32 = 1_000;
 // How long a peer may be silent before it is pinged, and then once more.
 const SILENT_MILLIS: u64 = 60_000;
 
-// How long a read waits where no answer is owed: an idle session wakes less often.
+// How long a read waits where no answer is owed, and once so many looks in a row found nothing: an idle session wakes less
+// often. A text that comes ends the wait at once.
 const IDLE_MILLIS: u64 = 48;
+
+const IDLE_LOOKS: u32 = 64;
+
+const LONG_IDLE_MILLIS: u64 = 100;
 
 /// A socket, and how its reads wait. While an answer is owed the reads come back at once for a while, so
 /// that the board is turned for it; where none is owed a read waits for the peer. What is given leaves with
@@ -207,20 +213,31 @@ impl<'a, R: RandomSource + Drop, C: Clock> Wire<'a, R, C> {
         }
     }
 
-    // While an answer is owed, reads come back at once for a while, and then wait a little.
+    // What is owed for too long is forgotten.
     fn prepare_read(&mut self) -> io::Result<()> {
         if self.looks >= MOST_LOOKS {
             self.owed = 0;
         }
+        let wait = self.next_wait();
         let stream = self.socket.stream();
-        if self.owed == 0 {
-            stream.set_pause(IDLE_MILLIS)?;
-        } else if self.looks < LOOKS {
-            return stream.set_waits(false);
-        } else {
-            stream.set_pause(READ_MILLIS)?;
+        match wait {
+            Some(millis) => {
+                stream.set_pause(millis)?;
+                stream.set_waits(true)
+            }
+            None => stream.set_waits(false),
         }
-        stream.set_waits(true)
+    }
+
+    // How many milliseconds the next read waits. While an answer is owed, reads come back at once for a while (None), and
+    // then wait a little; a session at which nothing happens wakes less and less often.
+    fn next_wait(&self) -> Option<u64> {
+        match (self.owed > 0, self.looks) {
+            (true, looks) if looks < LOOKS => None,
+            (true, _) => Some(READ_MILLIS),
+            (false, looks) if looks < IDLE_LOOKS => Some(IDLE_MILLIS),
+            (false, _) => Some(LONG_IDLE_MILLIS),
+        }
     }
 }
 

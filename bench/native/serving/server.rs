@@ -1,5 +1,6 @@
 //! The server: its doors, its sessions and its workers.
 
+use crate::backoff::Backoff;
 use crate::file_journal::FileJournal;
 use crate::link::Link;
 use crate::machine::{Machine, NONE};
@@ -12,7 +13,9 @@ use std::time::{Duration, Instant};
 
 const JOURNAL: &str = "xfs.journal";
 const LIFE_MILLIS: u64 = 600_000;
-const PAUSE: Duration = Duration::from_millis(1);
+// The longest pauses, in milliseconds.
+const LONGEST_OF_A_WORKER: u64 = 9;
+const LONGEST_AT_THE_DOORS: u64 = 16;
 const MOST_TURNS: u64 = 4_294_967_296;
 // So that a server that is forgotten ends.
 const LONGEST: Duration = Duration::from_secs(600);
@@ -94,13 +97,16 @@ fn session(hall: &Hall, client: u32, is_cash: bool, stream: TcpStream) {
 
 /// Tends a device, until the server ends.
 fn tend(hall: &Hall, is_cash: bool) {
+    let mut backoff = Backoff::up_to(LONGEST_OF_A_WORKER);
     while !hall.ended.load(Ordering::SeqCst) {
         let is_wanted = hall.wants(is_cash);
         if is_wanted {
             hall.take();
         }
-        if !hall.work(is_cash) && !is_wanted {
-            thread::sleep(PAUSE);
+        if hall.work(is_cash) || is_wanted {
+            backoff.reset();
+        } else {
+            backoff.pause();
         }
     }
 }
@@ -114,6 +120,7 @@ fn listen(port: u16) -> Result<TcpListener> {
 /// Takes connections until all have come, with a session for each.
 fn take_all<'a>(sessions: &'a Scope<'a, '_>, hall: &'a Hall, listeners: &[TcpListener], count: u32) -> Result<()> {
     let mut taken = 0;
+    let mut backoff = Backoff::up_to(LONGEST_AT_THE_DOORS);
     while taken < count && hall.begun.elapsed() < LONGEST {
         let before = taken;
         for (place, listener) in listeners.iter().enumerate() {
@@ -128,7 +135,9 @@ fn take_all<'a>(sessions: &'a Scope<'a, '_>, hall: &'a Hall, listeners: &[TcpLis
             }
         }
         if taken == before {
-            thread::sleep(PAUSE);
+            backoff.pause();
+        } else {
+            backoff.reset();
         }
     }
     Ok(())

@@ -5,14 +5,16 @@ use std::io::{Error, ErrorKind, Read, Result, Write};
 use std::net::TcpStream;
 use std::time::Duration;
 
-// The reads of `xfs serve` (crates/xfs_sockets): while an answer is owed, sixteen looks of four reads each come back at once.
-const LOOKS: u32 = 16;
+// The reads of `xfs serve` (crates/xfs_sockets): while an answer is owed, 32 looks of four reads each come back at once.
+const LOOKS: u32 = 32;
 const READS: u32 = 4;
 // How many frames answer a text: its acknowledge and its completion.
 const ANSWERS: u32 = 2;
-// How long a read waits then, and where no answer is owed.
+// How long a read waits then, and where no answer is owed, and where so many looks in a row found nothing.
 const READ_MILLIS: u64 = 1;
 const IDLE_MILLIS: u64 = 48;
+const IDLE_LOOKS: u32 = 64;
+const LONG_IDLE_MILLIS: u64 = 100;
 
 const READ_BYTES: usize = 16_384;
 
@@ -57,7 +59,7 @@ impl Link {
 
     fn prepare_read(&mut self) -> Result<()> {
         if self.owed == 0 {
-            self.set_pause(IDLE_MILLIS)?;
+            self.set_pause(if self.looks < IDLE_LOOKS { IDLE_MILLIS } else { LONG_IDLE_MILLIS })?;
         } else if self.looks < LOOKS {
             return self.set_waits(false);
         } else {
