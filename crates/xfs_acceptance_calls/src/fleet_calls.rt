@@ -2,7 +2,7 @@
 
 ghost use Rattle.std.specs.Prelude.{◌≡◌, ℕ, List, IfOk, Some};
 ghost use Rattle.xfs_disk.specs.MemDisk.{IsImage as MayBe};
-ghost use Rattle.xfs_disk.specs.Wrapped.{failing_inner};
+ghost use Rattle.xfs_disk.specs.Wrapped.{inner_of};
 ghost use Rattle.xfs_guard.specs.Booting.{LeavesRecorded};
 ghost use Rattle.xfs_guard.specs.Recorded.{IsRecorded};
 ghost use Rattle.xfs_journal.specs.Image.{StandsFor};

@@ -2,11 +2,11 @@
 
 use crate::files::opened;
 use crate::guard_bench::{GENUINE, guard_on, guard_over, sim, units};
-use crate::journal_calls::old_file;
 use std::alloc::Global;
 use std::fs::{self, File};
 use std::process::Abort;
 use std::test::Fail;
+use xfs_acceptance_journal::short_files::old_file;
 use xfs_base::Counts;
 use xfs_disk::FileDisk;
 use xfs_guard::{Ask, BootFault, Fit, Guard};

@@ -6,11 +6,11 @@ ghost use Rattle.xfs_mech.specs.Sim.{units_of};
 
 use crate::files::opened;
 use crate::guard_bench::{GENUINE, units};
-use crate::journal_calls::start_file;
 use std::alloc::Global;
 use std::fs::{self, File};
 use std::process::Abort;
 use std::test::Fail;
+use xfs_acceptance_journal::short_files::start_file;
 use xfs_base::{Counts, Kind, UnitTable};
 use xfs_disk::{Disk, FileDisk};
 use xfs_guard::{Ask, Deny, Guard};

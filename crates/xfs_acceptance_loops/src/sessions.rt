@@ -218,6 +218,17 @@ fn a_worker_hands_on_what_is_wanted_and_pauses_where_nothing_came(
     Ok(())
 }
 
+// Longer pauses aren't the clock's.
+#[test]
+fn a_worker_pauses_longer_after_sixteen_rounds_where_nothing_is_wanted(
+    rt: HostRuntime,
+) -> Result<(), Fail> {
+    let alloc = rt.alloc();
+    assert!(rt; tale_of(&rt, alloc, tried(false, 20, None))? == told(0, 0, 20, 16));
+    assert!(rt; tale_of(&rt, alloc, tried(true, 20, None))? == told(2, 0, 20, 18));
+    Ok(())
+}
+
 // Doors to which one link comes, over which one text comes, and that dial one other link at the second time.
 fn doors_of(alloc: Global) -> Result<MemDoors, Memory> {
     let none = Vec::new(alloc);

@@ -1,4 +1,4 @@
-//! What the operating system gives: links, doors and listeners over real sockets, and the files of a working folder.
+//! The files of a working folder, as the program finds and makes them.
 #![tactic(auto)]
 
 #[cfg(test)]
@@ -7,13 +7,3 @@ mod bench_calls;
 mod files;
 #[cfg(test)]
 mod folder_calls;
-#[cfg(test)]
-mod listener_calls;
-#[cfg(test)]
-mod peers;
-#[cfg(test)]
-mod silence_calls;
-#[cfg(test)]
-mod socket_calls;
-#[cfg(test)]
-mod visitor_calls;

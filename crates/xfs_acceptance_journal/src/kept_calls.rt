@@ -1,7 +1,8 @@
 //! What a journal has in memory of a longer file, and what a remount asks of it there.
 
 use crate::files::opened;
-use crate::journal_calls::{LIMITS, mounted, old_file, short_file};
+use crate::journal_calls::{LIMITS, mounted};
+use crate::short_files::{old_file, short_file};
 use std::alloc::Global;
 use std::fs::{self, File};
 use std::test::Fail;

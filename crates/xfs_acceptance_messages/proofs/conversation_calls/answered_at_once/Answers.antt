@@ -8,7 +8,7 @@ use Rattle.xfs_envelope.specs.Replies.{reply_in, acknowledge, completion}
 use Rattle.xfs_conversation.specs.Conversation.{Conversation, joined}
 use Rattle.xfs_conversation.specs.Pending.{is_request_id}
 use Rattle.xfs_conversation.proofs.Immediate.{completed_at_once}
-use Rattle.xfs_acceptance_commands.proofs.conversation_calls.answered_at_once.Goals as goal
+use Rattle.xfs_acceptance_messages.proofs.conversation_calls.answered_at_once.Goals as goal
 
 -- the first exchange of a connection
 pub first_exchange : (text first second : List ℕ) (c : Command) (code : Code) (payload : Data) → command_in text ≡ Ok c → is_request_id c.id ≡ true

@@ -1,6 +1,7 @@
 //! Files of an older version, and how they are carried over.
 
-use crate::journal_calls::{mounted, old_file};
+use crate::journal_calls::mounted;
+use crate::short_files::old_file;
 use std::alloc::Global;
 use std::test::Fail;
 use xfs_disk::{FailDisk, MemDisk};
