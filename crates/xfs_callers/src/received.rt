@@ -1,0 +1,25 @@
+//! A caller of xfs_envelope.
+
+ghost use Rattle.std.specs.Prelude.{◌≡◌, IfOk, Ok, Some, None};
+ghost use Rattle.xfs_envelope.specs.Commands.{Command, command_in};
+ghost use Rattle.xfs_envelope.specs.Replies.{acknowledge as acknowledged, reply_in};
+
+use std::alloc::Global;
+use xfs_base::Memory;
+use xfs_envelope::{Status, Why, acknowledge, read};
+
+/// What a service says at once to a text: that its command was received, or that it is none.
+pub fn answer(alloc: Global, text: &[u8]) -> Result<Vec<u8>, Memory>
+    ensures { (c : Command) → command_in text.now ≡ Ok c → IfOk result (λ t. reply_in t.items ≡ Some (acknowledged (Some c.id) (Some c.name) None)) }
+{
+    match read(alloc, text) {
+        Ok(command) => acknowledge(alloc, Some(&command.name), Some(command.id), None),
+        Err(refused) if refused.why == Why::Memory => Err(Memory),
+        Err(refused) => acknowledge(
+            alloc,
+            None,
+            refused.id.map(u64::from),
+            Some(Status::InvalidMessage),
+        ),
+    }
+}

@@ -1,0 +1,35 @@
+//! A caller of xfs_turn.
+
+ghost use Rattle.std.specs.Prelude.{◌≡◌};
+ghost use mathlib.Core.List.{IsPrefix};
+
+use std::sync::Wait;
+use xfs_turn::{Chronicle, Seat, Turn};
+
+/// Who came, the first first.
+#[derive(Drop)]
+pub struct Visits {
+    pub names: Vec<u64>,
+}
+
+impl Chronicle for Visits {
+    type Entry = u64;
+
+    ghost list = { λ visits. visits.names.items };
+
+    fn count(&self) -> u64 {
+        self.names.len() as u64
+    }
+}
+
+/// A thread writes itself into the list in its turn. What its seat had seen still begins what it has seen then.
+pub fn visit<R: Wait>(rt: &R, turn: &Turn<Visits>, seat: Seat<Visits>, name: u64) -> Seat<Visits>
+    requires lock { seat.lock ≡ turn.now }
+    ensures lock { result.lock ≡ seat.lock }
+    ensures seen { IsPrefix seat.seen result.seen }
+{
+    let mut held = turn.enter(rt, seat);
+    // Where there is no memory the visit isn't written down.
+    let _ = held.value().names.push(name);
+    turn.leave(held)
+}
