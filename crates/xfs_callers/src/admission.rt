@@ -1,7 +1,8 @@
 //! A caller of xfs_token.
 
-ghost use Rattle.std.specs.Prelude.{IfOk};
-ghost use Rattle.xfs_token.specs.Token.{Genuine, Spells};
+ghost use Rattle.std.specs.Prelude.{◌≡◌, IfOk, Err};
+ghost use Rattle.xfs_callers.specs.declared.admission.Denial.TheVariants as Denial;
+ghost use Rattle.xfs_token.specs.Token.{Genuine, Parts, Spells};
 
 use std::alloc::Global;
 use xfs_token::{Token, TokenFault, genuine, read};
@@ -18,7 +19,8 @@ pub enum Denial {
 
 /// The token of a text, where it is genuine.
 pub fn admit(alloc: Global, key: &[u8; 32], text: &[u8]) -> Result<Token, Denial>
-    ensures { IfOk result (λ token. Spells token text.now × Genuine key.now token text.now) }
+    ensures admitted { IfOk result (λ token. Spells token text.now × Genuine key.now token text.now) }
+    ensures forged { result ≡ Err Denial.Forged → (token : Parts) × Spells token text.now × ¬ (Genuine key.now token text.now) }
 {
     let token = match read(alloc, text) {
         Ok(token) => token,

@@ -1,6 +1,6 @@
 //! A caller of xfs_turn.
 
-ghost use Rattle.std.specs.Prelude.{◌≡◌};
+ghost use Rattle.std.specs.Prelude.{◌≡◌, ◌++◌, ◌∷◌, [], ℕ, List, true};
 ghost use mathlib.Core.List.{IsPrefix};
 
 use std::sync::Wait;
@@ -22,14 +22,20 @@ impl Chronicle for Visits {
     }
 }
 
-/// A thread writes itself into the list in its turn. What its seat had seen still begins what it has seen then.
-pub fn visit<R: Wait>(rt: &R, turn: &Turn<Visits>, seat: Seat<Visits>, name: u64) -> Seat<Visits>
+/// A thread writes itself into the list in its turn, and answers whether there was memory for it. What its seat had seen
+/// still begins what it has seen then.
+pub fn visit<R: Wait>(
+    rt: &R,
+    turn: &Turn<Visits>,
+    seat: Seat<Visits>,
+    name: u64,
+) -> (Seat<Visits>, bool)
     requires lock { seat.lock ≡ turn.now }
-    ensures lock { result.lock ≡ seat.lock }
-    ensures seen { IsPrefix seat.seen result.seen }
+    ensures lock { result.0.lock ≡ seat.lock }
+    ensures seen { IsPrefix seat.seen result.0.seen }
+    ensures written { result.1 ≡ true → (front : List ℕ) × (result.0.seen ≡ front ++ name ∷ []) }
 {
     let mut held = turn.enter(rt, seat);
-    // Where there is no memory the visit isn't written down.
-    let _ = held.value().names.push(name);
-    turn.leave(held)
+    let written = held.value().names.push(name).is_ok();
+    (turn.leave(held), written)
 }
