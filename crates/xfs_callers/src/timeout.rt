@@ -1,8 +1,8 @@
 //! A caller of xfs_json.
 
-ghost use Rattle.std.specs.Prelude.{◌≡◌, ◌≤◌, IfSome, Ok, Some, codes};
+ghost use Rattle.std.specs.Prelude.{◌≡◌, ◌≤◌, IfSome, Some};
 ghost use Rattle.serde_json.specs.Data.{Data};
-ghost use Rattle.xfs_json.specs.Members.{member_as, member_of, whole_in};
+ghost use Rattle.xfs_callers.specs.Timeout.{HasTimeout};
 ghost use Rattle.xfs_json.specs.Reading.{reading};
 
 use std::alloc::Global;
@@ -10,7 +10,7 @@ use xfs_json::{parse, whole};
 
 /// The member `timeout` of a text's object, in milliseconds: from 0 to an hour. None where it has no such number.
 pub fn timeout_in(alloc: Global, text: &[u8]) -> Option<u64>
-    ensures found { (d : Data) → reading text.now ≡ Some d → IfSome result (λ millis. member_as (whole_in 0 3600000) (member_of (codes "timeout") d) ≡ Ok (Some millis)) }
+    ensures found { (d : Data) → reading text.now ≡ Some d → IfSome result (HasTimeout d) }
     ensures bounds { IfSome result (λ millis. millis ≤ 3600000) }
 {
     let value = parse(alloc, text).ok()?;
