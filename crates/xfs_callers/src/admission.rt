@@ -20,6 +20,7 @@ pub enum Denial {
 /// The token of a text, where it is genuine.
 pub fn admit(alloc: Global, key: &[u8; 32], text: &[u8]) -> Result<Token, Denial>
     ensures admitted { IfOk result (λ token. Spells token text.now × Genuine key.now token text.now) }
+    ensures no_token { result ≡ Err Denial.NoToken → (token : Parts) → ¬ (Spells token text.now) }
     ensures forged { result ≡ Err Denial.Forged → (token : Parts) × Spells token text.now × ¬ (Genuine key.now token text.now) }
 {
     let token = match read(alloc, text) {

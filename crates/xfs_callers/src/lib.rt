@@ -2,6 +2,8 @@
 #![tactic(auto)]
 
 mod admission;
+#[cfg(test)]
+mod calls;
 mod counted;
 mod hook;
 mod next;

@@ -1,26 +1,34 @@
 //! A caller of xfs_mix.
 
-ghost use Rattle.std.specs.Prelude.{◌≤◌, IfSome, sum};
+ghost use Rattle.std.specs.Prelude.{◌≡◌, ◌≤◌, ◌<◌, IfOk, IfSome, None, Ok, sum};
+ghost use Rattle.xfs_base.specs.declared.counts.Counts.{Counts};
 ghost use Rattle.xfs_mix.specs.Mix.{IsLeast, IsMix};
 
 use std::alloc::Global;
-use xfs_base::{Counts, Currency, UnitTable};
-use xfs_mix::least;
+use xfs_base::{Counts, Currency, Memory, UnitTable};
+use xfs_mix::{MixFault, least};
 
-/// The notes that a customer is offered for an amount: as few as there can be, and never more than 60.
+/// The notes that a customer is offered for an amount from 1 to 1,000,000: as few as there can be. None where there are
+/// no such notes, or more than 60 of them.
 pub fn notes_for(
     alloc: Global,
     units: &UnitTable,
     have: &Counts,
     currency: Currency,
     amount: u32,
-) -> Option<Counts>
-    ensures mix { IfSome result (IsMix units.now have.now currency amount) }
-    ensures least { IfSome result (IsLeast units.now have.now currency amount) }
-    ensures notes { IfSome result (λ notes. sum notes.0 ≤ 60) }
+) -> Result<Option<Counts>, Memory>
+    ensures mix { IfOk result (λ found. IfSome found (IsMix units.now have.now currency amount)) }
+    ensures least { IfOk result (λ found. IfSome found (IsLeast units.now have.now currency amount)) }
+    ensures notes { IfOk result (λ found. IfSome found (λ notes. sum notes.0 ≤ 60)) }
+    ensures none { result ≡ Ok None → 1 ≤ amount → amount ≤ 1000000
+        → (notes : Counts) → IsMix units.now have.now currency amount notes → 60 < sum notes.0 }
 {
     if amount == 0 || amount > 1_000_000 {
-        return None;
+        return Ok(None);
     }
-    least(alloc, units, have, currency, amount).ok()
+    match least(alloc, units, have, currency, amount) {
+        Ok(notes) => Ok(Some(notes)),
+        Err(MixFault::Nothing | MixFault::TooMany) => Ok(None),
+        Err(MixFault::Memory) => Err(Memory),
+    }
 }

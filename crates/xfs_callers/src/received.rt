@@ -1,8 +1,8 @@
 //! A caller of xfs_envelope.
 
-ghost use Rattle.std.specs.Prelude.{◌≡◌, IfOk, Ok, Some, None};
-ghost use Rattle.xfs_envelope.specs.Commands.{Command, command_in};
-ghost use Rattle.xfs_envelope.specs.Replies.{acknowledge as acknowledged, reply_in};
+ghost use Rattle.std.specs.Prelude.{MatchResult, IfOk};
+ghost use Rattle.xfs_callers.specs.Received.{Acknowledges, Refuses};
+ghost use Rattle.xfs_envelope.specs.Commands.{command_in};
 
 use std::alloc::Global;
 use xfs_base::Memory;
@@ -10,7 +10,7 @@ use xfs_envelope::{Status, Why, acknowledge, read};
 
 /// What a service says at once to a text: that its command was received, or that it is none.
 pub fn answer(alloc: Global, text: &[u8]) -> Result<Vec<u8>, Memory>
-    ensures { (c : Command) → command_in text.now ≡ Ok c → IfOk result (λ t. reply_in t.items ≡ Some (acknowledged (Some c.id) (Some c.name) None)) }
+    ensures { IfOk result (λ answer. MatchResult (command_in text.now) (Acknowledges answer.items) (Refuses answer.items)) }
 {
     match read(alloc, text) {
         Ok(command) => acknowledge(alloc, Some(&command.name), Some(command.id), None),
