@@ -11,7 +11,7 @@ use Rattle.xfs_lines.specs.Boots.{BootExceeds, EndsFailed}
 use Rattle.xfs_cli.specs.BootsOnce.{BootsOnce}
 use Rattle.xfs_guard.specs.Entries.{AtEntry, at_entry}
 use Rattle.xfs_lines.specs.Guard.Starts.{IsStart}
-use Rattle.xfs_cli.specs.LoadEnds.{EndsLoad, Output}
+use Rattle.xfs_cli.specs.LoadEnds.{EndsLoad}
 use Rattle.xfs_lines.specs.Run.{IsLoadOf}
 use Rattle.xfs_lines.specs.Runs.{AtEntryList, FromStart, IsEnd, IsUnbooted}
 use Rattle.xfs_lines.specs.Guard.States.{GuardState}

@@ -68,9 +68,9 @@ with-here l unit count u low high = elim (cases_eq u (unit - 1)) [
 ]
 
 -- a loading that doesn't fail
-pub balanced-loaded : (records : List Rec) (b : Places) (l : Counts) (places places' : Places) (unit count : ℕ) (m d : Counts) (failed : Bool) (before now : Option (List Motion)) (spare left : ℕ)
-    → failed ≡ false → 1 ≤ unit → unit ≤ 8 → Reports (Loaded unit count) m d failed before now places places' spare left → IsBalanced records b l places → IsBalanced records b (with_notes l unit count) places'
-balanced-loaded records b l places places' unit count m d failed before now spare left fine low few r h = record {
+pub balanced-loaded : (records : List Rec) (b : Places) (l : Counts) (places places' : Places) (unit count : ℕ) (failed : Bool) (before now : Option (List Motion))
+    → failed ≡ false → 1 ≤ unit → unit ≤ 8 → Reports (Loaded unit count) failed before now places places' → IsBalanced records b l places → IsBalanced records b (with_notes l unit count) places'
+balanced-loaded records b l places places' unit count failed before now fine low few r h = record {
   boot = h.boot;
   kept = h.kept;
   tells = h.tells;
@@ -79,12 +79,12 @@ balanced-loaded records b l places places' unit count m d failed before now spar
 }
 
 -- a report that fails
-pub balanced-failed : (records : List Rec) (b : Places) (l : Counts) (places places' : Places) (e : Motion) (m d : Counts) (failed : Bool) (before now : Option (List Motion)) (spare left : ℕ)
-    → failed ≡ true → Reports e m d failed before now places places' spare left → IsBalanced records b l places → IsBalanced records b l places'
-balanced-failed records b l places places' e m d failed before now spare left is r h = rw (r.nothing is).1 h
+pub balanced-failed : (records : List Rec) (b : Places) (l : Counts) (places places' : Places) (e : Motion) (failed : Bool) (before now : Option (List Motion))
+    → failed ≡ true → Reports e failed before now places places' → IsBalanced records b l places → IsBalanced records b l places'
+balanced-failed records b l places places' e failed before now is r h = rw (r.nothing is).1 h
 
 -- a report of a taking
-pub balanced-taking : (records : List Rec) (b : Places) (l : Counts) (places places' : Places) (c m d : Counts) (failed : Bool) (before now : Option (List Motion)) (spare left : ℕ)
-    → Reports (Taken c) m d failed before now places places' spare left → IsBalanced records b l places → IsBalanced records b l places'
-balanced-taking records b l places places' c m d true before now spare left r h = balanced-failed records b l places places' (Taken c) m d true before now spare left refl r h
-balanced-taking records b l places places' c m d false before now spare left r h = balanced-taken records b l places places' c (r.places refl) h
+pub balanced-taking : (records : List Rec) (b : Places) (l : Counts) (places places' : Places) (c : Counts) (failed : Bool) (before now : Option (List Motion))
+    → Reports (Taken c) failed before now places places' → IsBalanced records b l places → IsBalanced records b l places'
+balanced-taking records b l places places' c true before now r h = balanced-failed records b l places places' (Taken c) true before now refl r h
+balanced-taking records b l places places' c false before now r h = balanced-taken records b l places places' c (r.places refl) h

@@ -26,6 +26,7 @@ pub mod ReplayLaws
 pub mod ReportLaws
 pub mod RereadLaws
 pub mod RestoreLaws
+pub mod RoomLaws
 pub mod SegmentLaws
 pub mod SizeLaws
 pub mod SoundLaws

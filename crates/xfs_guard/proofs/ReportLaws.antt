@@ -14,7 +14,7 @@ use Rattle.xfs_base.proofs.MoneyLaws.{value_from-le}
 use Rattle.xfs_mech.specs.declared.motion.Motion.{Motion}
 use Rattle.xfs_mech.specs.declared.motion.Motion.TheVariants.{Moved, Taken, Loaded}
 use Rattle.xfs_mech.specs.Motions.{NumberIs, PlacesOf}
-use Rattle.xfs_mech.specs.Mechanism.{AddsEntry, Reports, source_of}
+use Rattle.xfs_mech.specs.Mechanism.{AddsEntry, Reports, UsesRoom, source_of}
 use Rattle.xfs_mech.proofs.MotionLaws.{all-append}
 use Rattle.xfs_journal.specs.declared.record.Rec.{Rec}
 use Rattle.xfs_guard.specs.declared.open.Open.{Open}
@@ -161,19 +161,18 @@ sound-failed v f l s = record {
 }
 
 -- a report keeps what the guard keeps
-pub IsSound-report : (v : View) (e : Motion) (m d : Counts) (failed : Bool) (now : Option (List Motion)) (places' : Places) (f : ℕ) (l : Counts) (spare left : ℕ) → IsSound v → IsReport e
-    → Reports e m d failed v.motions now v.places places' spare left → (PlacesOf v.places (e ∷ []) places' → LeavesSource v.open_order v.places places') → IsSound (reported_view v now places' f l)
-IsSound-report v e m d false now places' f l spare left s is r leaves = sound-entry v e now places' f l s is (r.grown refl) (r.places refl) (leaves (r.places refl))
-IsSound-report v e m d true now places' f l spare left s is r leaves = let none = r.nothing refl in rw (none.0, none.1) (sound-failed v f l s)
+pub IsSound-report : (v : View) (e : Motion) (failed : Bool) (now : Option (List Motion)) (places' : Places) (f : ℕ) (l : Counts) → IsSound v → IsReport e
+    → Reports e failed v.motions now v.places places' → (PlacesOf v.places (e ∷ []) places' → LeavesSource v.open_order v.places places') → IsSound (reported_view v now places' f l)
+IsSound-report v e false now places' f l s is r leaves = sound-entry v e now places' f l s is (r.grown refl) (r.places refl) (leaves (r.places refl))
+IsSound-report v e true now places' f l s is r leaves = let none = r.nothing refl in rw (none.0, none.1) (sound-failed v f l s)
 
 -- room is left for what an open order still adds
-pub HasRoom-report : (o : Open) (e : Motion) (m d : Counts) (failed : Bool) (was now : Option (List Motion)) (places places' : Places) (before spare left room : ℕ) → HasRoom o before room → before < spare
-    → Reports e m d failed was now places places' spare left → HasRoom o left room
-HasRoom-report o e m d failed was now places places' before spare left room h more r = go o (enough failed r) h
+pub HasRoom-report : (o : Open) (failed : Bool) (before spare left room : ℕ) → HasRoom o before room → before < spare → UsesRoom failed spare left → HasRoom o left room
+HasRoom-report o failed before spare left room h more uses = go o (enough failed uses) h
   where
-    enough : (failed : Bool) → Reports e m d failed was now places places' spare left → before ≤ left
-    enough false r = let one = r.room refl in omega (arith, one, more)
-    enough true r = let same = (r.nothing refl).2 in omega (arith, same, more)
+    enough : (failed : Bool) → UsesRoom failed spare left → before ≤ left
+    enough false uses = omega (arith, uses, more)
+    enough true uses = omega (arith, uses, more)
 
     go : (o : Open) → before ≤ left → HasRoom o before room → HasRoom o left room
     go No le h = tt
@@ -222,10 +221,10 @@ stands-failed v f l compared from s = record { booted = s.booted; recorded = s.r
     ties (Some motions) t = ties-same (view_behind from v) v.motions v.places f l (reached from motions) t
 
 -- what follows after a report, also behind a record in doubt
-pub Continues-report : (v : View) (e : Motion) (m d : Counts) (failed : Bool) (now : Option (List Motion)) (places' : Places) (f : ℕ) (l : Counts) (spare left : ℕ) → IsReport e
-    → Reports e m d failed v.motions now v.places places' spare left → Continues v (reported_view v now places' f l)
-Continues-report v e m d true now places' f l spare left is r = let none = r.nothing refl in rw (none.0, none.1) (record { leads = λ records possible. record { from = records; possible = possible; led = leads-same v.motions records v.places }; key = refl; seed = refl; units = refl; moves = Moves-same v.motions v.places; disk_told = refl; limits = refl; grew = begins-same v.records; left = λ records was. was; behind = stands-failed v f l })
-Continues-report v e m d false now places' f l spare left is r = record {
+pub Continues-report : (v : View) (e : Motion) (failed : Bool) (now : Option (List Motion)) (places' : Places) (f : ℕ) (l : Counts) → IsReport e
+    → Reports e failed v.motions now v.places places' → Continues v (reported_view v now places' f l)
+Continues-report v e true now places' f l is r = let none = r.nothing refl in rw (none.0, none.1) (record { leads = λ records possible. record { from = records; possible = possible; led = leads-same v.motions records v.places }; key = refl; seed = refl; units = refl; moves = Moves-same v.motions v.places; disk_told = refl; limits = refl; grew = begins-same v.records; left = λ records was. was; behind = stands-failed v f l })
+Continues-report v e false now places' f l is r = record {
   leads = λ records possible. record {
     from = records;
     possible = possible;
@@ -269,10 +268,10 @@ IsRecorded-entry key u kept e was now is g h = record { numbered = h.numbered; a
     within (Some motions) a g = rw g (Within-quiet key u kept motions e (λ p cur. shown_by-report u kept p cur e is) (within-report key u kept (motions ++ e ∷ []) e is) a)
 
 -- so it does after a report
-pub IsRecorded-report : (key : List ℕ) (u : List NoteKind) (records : List Rec) (e : Motion) (m d : Counts) (failed : Bool) (was now : Option (List Motion)) (places places' : Places) (spare left : ℕ) → IsReport e
-    → Reports e m d failed was now places places' spare left → IsRecorded key u records was → IsRecorded key u records now
-IsRecorded-report key u records e m d true was now places places' spare left is r h = let none = r.nothing refl in rw none.0 h
-IsRecorded-report key u records e m d false was now places places' spare left is r h = IsRecorded-entry key u records e was now is (r.grown refl) h
+pub IsRecorded-report : (key : List ℕ) (u : List NoteKind) (records : List Rec) (e : Motion) (failed : Bool) (was now : Option (List Motion)) (places places' : Places) → IsReport e
+    → Reports e failed was now places places' → IsRecorded key u records was → IsRecorded key u records now
+IsRecorded-report key u records e true was now places places' is r h = let none = r.nothing refl in rw none.0 h
+IsRecorded-report key u records e false was now places places' is r h = IsRecorded-entry key u records e was now is (r.grown refl) h
 
 -- what the limits leave an open order stays
 pub HasLimits-report : (o : Open) (v : View) (now : Option (List Motion)) (places' : Places) (f : ℕ) (l : Counts) → HasLimits o v → HasLimits o (reported_view v now places' f l)

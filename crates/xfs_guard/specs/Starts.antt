@@ -1,5 +1,5 @@
 -- What a run may start from.
-use Rattle.std.specs.Prelude.{◌≡◌, ℕ, List}
+use Rattle.std.specs.Prelude.{◌≡◌, List}
 use Rattle.xfs_base.specs.Causes.{IfTold}
 use Rattle.xfs_disk.specs.Disk.{Only}
 use Rattle.xfs_disk.specs.Moments.{EachImage}

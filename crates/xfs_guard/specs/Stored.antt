@@ -1,7 +1,6 @@
 -- Which lists of records a disk may have.
 use Rattle.std.specs.Prelude.{◌≡◌, ◌⊎◌, true, is_some, ℕ, List}
 use Rattle.std.specs.declared.option.Option.{Option}
-use Rattle.xfs_base.specs.Causes.{IfTold}
 use Rattle.xfs_base.specs.declared.counts.Places.{Places}
 use Rattle.xfs_disk.specs.declared.disk.Disk.{Ghosts}
 use Rattle.xfs_journal.specs.Image.{StandsFor}

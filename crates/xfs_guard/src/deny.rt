@@ -1,6 +1,5 @@
 ghost use Rattle.std.specs.Prelude.{◌≡◌};
 
-use std::alloc::{AllocError, AllocFailed};
 use xfs_base::{Currency, Memory, Milli};
 use xfs_token::TokenFault;
 
@@ -52,16 +51,6 @@ impl From<Memory> for Deny {
     ghost from_gives = { λ _ e. e ≡ DenyMemory };
 
     fn from(_: Memory) -> Self {
-        Deny::Memory
-    }
-}
-
-impl From<AllocError> for Deny {
-    ghost use Rattle.xfs_guard.specs.declared.deny.Deny.TheVariants.{Memory as DenyMemory};
-
-    ghost from_gives = { λ _ e. e ≡ DenyMemory };
-
-    fn from(_: AllocError) -> Self {
         Deny::Memory
     }
 }

@@ -43,12 +43,13 @@ impl Words {
         }
     }
 
-    /// The word of an issue.
+    /// The word of issue `number`: the ChaCha20 (RFC 8439) words of the seed at the places 2n (its high
+    /// half) and 2n + 1 (its low half) of stream 0.
     pub fn at(&self, number: u64) -> u64
         ensures { result ≡ issue_word self.now number }
     {
         if number < self.first || number - self.first >= STRETCH {
-            return word_of(self.seed, number);
+            return next_of(&mut generator_at(self.seed, number));
         }
         self.kept[(number - self.first) as usize]
     }
@@ -63,14 +64,6 @@ impl Words {
             self.kept = words_from(self.seed, first);
         }
     }
-}
-
-// The word of issue `number`: the ChaCha20 (RFC 8439) words of the seed at the places 2n (its high
-// half) and 2n + 1 (its low half) of stream 0.
-fn word_of(seed: [u8; 32], number: u64) -> u64
-    ensures { result ≡ issue_word seed number }
-{
-    next_of(&mut generator_at(seed, number))
 }
 
 // The words of a stretch of issues.

@@ -55,14 +55,6 @@ impl Page {
         self.at
     }
 
-    // Whether all of it was handed over.
-    fn is_empty(&self) -> bool
-        ensures yes { result ≡ true → self.now.window ≡ [] }
-        ensures no { result ≡ false → 1 ≤ length self.now.window }
-    {
-        self.from == self.to
-    }
-
     // Hands over what it has, at most so many bytes.
     fn give(&mut self, out: &mut Vec<u8>, most: usize) -> usize
         requires room { length out.old.items + most ≤ vec_capacity out.old }
@@ -80,9 +72,8 @@ impl Page {
         count
     }
 
-    // Reads what comes next, where all that it had is handed over.
+    // Reads what comes next, where nothing is left to hand over.
     fn refill<D: Disk>(&mut self, disk: &mut D) -> Result<(), Failed>
-        requires empty { self.old.window ≡ [] }
         requires shows { IfTold (D.held disk.old) (λ all. Shows all self.old) }
         ensures shows { OnOk result (IfTold (D.held disk.old) (λ all. Shows all self.new)) }
         ensures end { OnOk result (self.new.window ≡ [] → IfTold (D.held disk.old) (λ all. length all ≤ self.old.at)) }
@@ -91,7 +82,7 @@ impl Page {
         ensures quiet { IsQuiet D.Disk disk.old disk.new }
         ensures cause { HasCause (D.faults disk.old) (D.faults disk.new) result }
     {
-        if self.at == self.len {
+        if self.from < self.to || self.at == self.len {
             return Ok(());
         }
         let count = disk.read(self.at, &mut self.bytes)?;
@@ -112,22 +103,6 @@ fn at_most(count: usize, left: u64) -> usize
     }
 }
 
-// Reads what comes next, where nothing is left to hand over.
-fn ready<D: Disk>(disk: &mut D, page: &mut Page) -> Result<(), Failed>
-    requires shows { IfTold (D.held disk.old) (λ all. Shows all page.old) }
-    ensures shows { OnOk result (IfTold (D.held disk.old) (λ all. Shows all page.new)) }
-    ensures end { OnOk result (page.new.window ≡ [] → IfTold (D.held disk.old) (λ all. length all ≤ page.old.at)) }
-    ensures at { page.new.at ≡ page.old.at }
-    ensures len { page.new.len ≡ page.old.len }
-    ensures quiet { IsQuiet D.Disk disk.old disk.new }
-    ensures cause { HasCause (D.faults disk.old) (D.faults disk.new) result }
-{
-    if page.is_empty() {
-        return page.refill(disk);
-    }
-    Ok(())
-}
-
 // Puts the next bytes behind those that were read, at most so many; none only at the end.
 fn read_some<D: Disk>(
     disk: &mut D,
@@ -145,7 +120,7 @@ fn read_some<D: Disk>(
     ensures quiet { IsQuiet D.Disk disk.old disk.new }
     ensures cause { HasCause (D.faults disk.old) (D.faults disk.new) result }
 {
-    ready(disk, page)?;
+    page.refill(disk)?;
     Ok(page.give(out, most))
 }
 

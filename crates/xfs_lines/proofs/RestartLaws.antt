@@ -1,17 +1,14 @@
 -- A restart, answered or refused, in the words of the commands that have such a line.
-use Rattle.std.proofs.Common.{◌≡◌, ◌≤◌, ◌⊎◌, ℕ, true, false, List, [], ◌∷◌, Option, Result, Ok, Err, inl, inr, refl, ap, arith, sym, subst, ◌∙◌, length, take, length-append}
-use Rattle.std.proofs.lemmas.List.{take-append-le, take_all}
+use Rattle.std.proofs.Common.{◌≡◌, ◌≤◌, ◌⊎◌, ℕ, true, false, List, Option, Result, Ok, Err, inl, inr, refl, ap, sym, subst, ◌∙◌}
 use Rattle.std.specs.Prelude.{IfErr, IsErrAnd, codes}
 use Rattle.xfs_base.specs.Causes.{Rose}
-use Rattle.xfs_base.specs.declared.counts.Places.{Places}
 use Rattle.xfs_dispenser.specs.Seen as Of
-use Rattle.xfs_guard.specs.Booting.{HadRoom, IsNotReread, IsRereadBooted, IsRereadFailed, IsRereadFull, has_no_room_at_boot}
+use Rattle.xfs_guard.proofs.RoomLaws.{fits_read}
+use Rattle.xfs_guard.specs.Booting.{HadRoom, IsNotReread, IsRereadBooted, IsRereadFailed, IsRereadFull}
 use Rattle.xfs_guard.specs.View.{View, reread, unbooted, unread}
 use Rattle.xfs_guard.specs.declared.fail.BootFault.{BootFault}
 use Rattle.xfs_guard.specs.declared.fail.BootFault.TheVariants.{NotJournal, Disk, Full, Memory}
-use Rattle.xfs_journal.specs.Journal.{base_of, boot_of, with_boot}
-use Rattle.xfs_journal.specs.declared.limits.Limits.{Limits}
-use Rattle.xfs_journal.specs.declared.record.Rec.{Rec}
+use Rattle.xfs_journal.specs.Journal.{base_of}
 use Rattle.xfs_lines.specs.Guard.Restarts.{IsFull, RestartFails, Restarts}
 use Rattle.xfs_lines.specs.Guard.States.{IsStill, GuardState}
 use Rattle.xfs_lines.specs.declared.commands.guard.player.NoAnswer.{NoAnswer}
@@ -83,23 +80,6 @@ pub restart-refused : {T : Type 0} (result : Result T NoAnswer) (why : BootFault
     → (fault : BootFault) → result ≡ Err (Unbooted fault) → RestartFails old fault new
 restart-refused (Ok x) why old new err is fault same = absurd err
 restart-refused (Err e) why old new err is fault same = subst (λ f. RestartFails old f new) (fault_of (sym err ∙ err_of same)) is
-
--- lists are the same that are so behind their boot record
-same_read : (read records : List Rec) (places : Places) → with_boot read places ≡ with_boot records places → read ≡ records
-same_read read records places is =
-    let one = length-append read (boot_of read places ∷ []) in
-    let other = length-append records (boot_of records places ∷ []) in
-    let sizes = ap (λ (l : List Rec). length l) is in
-    let same : length read ≡ length records = omega (arith, one, other, sizes) in
-    sym (take-append-le (length read) read (boot_of read places ∷ []) (omega arith) ∙ take_all (length read) read (omega arith))
-    ∙ ap (λ (l : List Rec). take (length read) l) is
-    ∙ take-append-le (length read) records (boot_of records places ∷ []) (omega (arith, same)) ∙ take_all (length read) records (omega (arith, same))
-
--- there was room for the boot record behind the list that was read
-fits_read : (held : Option (List ℕ)) (limits : Limits) (places : Places) (records now : List Rec) → now ≡ with_boot records places → HadRoom held limits places now
-    → has_no_room_at_boot limits records places ≡ false
-fits_read held limits places records now is (read, stands, room) =
-    subst (λ (l : List Rec). has_no_room_at_boot limits l places ≡ false) (same_read read records places (sym room.0 ∙ is)) room.1
 
 -- a restart that is answered: the journal was read again, and has its boot record, which alone is in memory
 pub restart-answered : (held : Option (List ℕ)) (old new : Of.Seen) (last : Option (List ℕ)) (line : List ℕ) → IsRereadBooted true old.guard new.guard

@@ -1,30 +1,21 @@
 -- A run of a command that boots is as its record says: where its lines were served, and where the boot was refused.
-use Rattle.std.proofs.Common.{◌≡◌, ◌≤◌, [], ℕ, true, List, None, Some, inl, inr, refl, sym, ◌∙◌, ap, arith}
-use Rattle.xfs_base.specs.Causes.{IfTold, Rose}
+use Rattle.std.proofs.Common.{◌≡◌, ◌≤◌, [], ℕ, List, None, Some, inl, inr, refl, sym, ◌∙◌, ap, arith}
+use Rattle.xfs_base.specs.Causes.{Rose}
 use Rattle.xfs_disk.specs.declared.disk.Disk.{Ghosts as Disks}
 use Rattle.xfs_mech.specs.declared.mechanism.Mechanism.{Ghosts as Mechanisms}
-use Rattle.xfs_journal.specs.Image.{StandsFor}
-use Rattle.xfs_journal.specs.JournalView.{HasPossible}
-use Rattle.xfs_journal.specs.Paging.{CeasesAt, IsQuiet}
-use Rattle.xfs_journal.specs.declared.record.Rec.{Rec}
 use Rattle.xfs_journal.specs.Journal.{with_boot}
 use Rattle.xfs_guard.specs.Continues.{Continues}
 use Rattle.xfs_guard.specs.Keeps.{Proceeds}
 use Rattle.xfs_guard.specs.View.{View, GuardView}
 use Rattle.xfs_guard.specs.declared.fail.BootFault.{BootFault}
-use Rattle.xfs_guard.specs.declared.fail.BootFault.TheVariants.{NotJournal, Disk, Full}
 use Rattle.xfs_guard.specs.declared.machine_core.Core.{Core}
 use Rattle.xfs_script.specs.Commands.{Command}
-use Rattle.xfs_script.specs.Lines.{AllLines, StopsAtLine}
-use Rattle.xfs_lines.specs.Output.BootLines.{IsOfBoot}
 use Rattle.xfs_lines.specs.Boots.{IsNoJournal, WritesBoot, boot_status}
-use Rattle.xfs_guard.specs.Booting.{HadRoom, has_no_room_at_boot}
 use Rattle.xfs_guard.specs.Entries.{at_entry, opened}
 use Rattle.xfs_lines.specs.Guard.Restarts.{IsFull}
 use Rattle.xfs_lines.specs.Runs.{IsEnd, IsFullAtEnd, Runs}
 use Rattle.xfs_lines.specs.Guard.States.{GuardState}
-use Rattle.xfs_lines.specs.Output.InputEnds.{EndsUnbooted, EndsInput, IsAnswered}
-use Rattle.xfs_lines.specs.Output.Statuses.{IsCaused, IsStatus}
+use Rattle.xfs_lines.specs.Output.InputEnds.{IsAnswered}
 use Rattle.xfs_script.specs.Streams.{Streams}
 use Rattle.xfs_lines.specs.Returns.{Return}
 use Rattle.xfs_lines.proofs.BootedLaws.{EndsAtRestarts, failed-end, untold-end, left-full, ends-at, still-at, told-more, told-any, ends-failed, ends-full, none-told, full-end, full-line}

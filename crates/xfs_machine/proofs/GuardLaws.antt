@@ -1,14 +1,13 @@
 -- What the guard's own clauses say, in the words of the machine's definitions.
-use Rattle.std.proofs.Common.{◌≡◌, ◌≢◌, ◌≤◌, ◌⊎◌, ℕ, Bool, true, false, List, [], ◌∷◌, length, take, None, Some, Option, Result, Ok, Err, inl, inr, refl, sym, ap, ◌∙◌, subst, arith, length-append}
-use Rattle.std.proofs.lemmas.List.{take-append-le, take_all}
+use Rattle.std.proofs.Common.{◌≡◌, ◌≢◌, ◌≤◌, ◌⊎◌, ℕ, Bool, true, false, List, None, Some, Option, Result, Ok, Err, inl, inr, refl, ap, subst}
 use Rattle.std.specs.Prelude.{is_ok, IfErr, OnErr, OnOk}
 use Rattle.xfs_base.specs.Causes.{Rose}
 use Rattle.xfs_base.specs.declared.counts.Counts.{Counts}
 use Rattle.xfs_base.specs.declared.counts.Kind.{Kind}
 use Rattle.xfs_base.specs.Counts.{LiesIn}
-use Rattle.xfs_base.specs.declared.counts.Places.{Places}
 use Rattle.xfs_dispenser.specs.Seen.{Seen, MechCalled}
-use Rattle.xfs_guard.specs.Booting.{HadRoom, IsRereadBooted, IsNotReread, IsRereadFull, IsRereadFailed, has_no_room_at_boot}
+use Rattle.xfs_guard.proofs.RoomLaws.{fits_read}
+use Rattle.xfs_guard.specs.Booting.{HadRoom, IsRereadBooted, IsNotReread, IsRereadFull, IsRereadFailed}
 use Rattle.xfs_guard.specs.Reports.{HasReported}
 use Rattle.xfs_mech.specs.declared.motion.Motion.TheVariants.{Taken}
 use Rattle.xfs_guard.specs.Orders.{Settles, Unsettles, kind_unacted}
@@ -18,32 +17,12 @@ use Rattle.xfs_guard.specs.declared.fail.BootFault.{BootFault}
 use Rattle.xfs_guard.specs.declared.fail.BootFault.TheVariants.{NotJournal, Disk, Full, Memory}
 use Rattle.xfs_guard.specs.declared.open.Open.{Open}
 use Rattle.xfs_guard.specs.declared.open.Open.TheVariants.{No, Written, Acted}
-use Rattle.xfs_journal.specs.declared.limits.Limits.{Limits}
-use Rattle.xfs_journal.specs.declared.record.Rec.{Rec}
-use Rattle.xfs_journal.specs.Journal.{boot_of, with_boot}
 use Rattle.xfs_disk.specs.declared.disk.Disk.{Ghosts}
 use Rattle.xfs_machine.specs.Endings.{ActsThenSettles, ClosesThrough, RefusesAs}
 use Rattle.xfs_model.specs.Events.{fault, taken}
 use Rattle.xfs_model.specs.Guards.{ActsAndSettles, Closes, IsUnbooted, Reboots, SettlesOn, is_shutter_closed, written, unwritten}
 use Rattle.xfs_model.specs.State.{State}
 use Rattle.xfs_model.specs.Touches.{TakesNotes, failed, took}
-
--- lists are the same that are so behind their boot record
-same_read : (read records : List Rec) (places : Places) → with_boot read places ≡ with_boot records places → read ≡ records
-same_read read records places is =
-    let one = length-append read (boot_of read places ∷ []) in
-    let other = length-append records (boot_of records places ∷ []) in
-    let sizes = ap (λ (l : List Rec). length l) is in
-    let same : length read ≡ length records = omega (arith, one, other, sizes) in
-    sym (take-append-le (length read) read (boot_of read places ∷ []) (omega arith) ∙ take_all (length read) read (omega arith))
-    ∙ ap (λ (l : List Rec). take (length read) l) is
-    ∙ take-append-le (length read) records (boot_of records places ∷ []) (omega (arith, same)) ∙ take_all (length read) records (omega (arith, same))
-
--- there was room for the boot record behind the list that was read
-fits_read : (held : Option (List ℕ)) (limits : Limits) (places : Places) (records now : List Rec) → now ≡ with_boot records places → HadRoom held limits places now
-    → has_no_room_at_boot limits records places ≡ false
-fits_read held limits places records now is (read, stands, room) =
-    subst (λ (l : List Rec). has_no_room_at_boot limits l places ≡ false) (same_read read records places (sym room.0 ∙ is)) room.1
 
 -- the journal was read again, and has its boot record, which alone is in memory
 pub reboots : (held : Option (List ℕ)) (r : Result Unit BootFault) (old new : Seen) → OnOk r (IsRereadBooted true old.guard new.guard)

@@ -35,12 +35,20 @@ pub record MayCarry (kind : Kind) (counts moved diverted : Counts) (failed : Boo
   pub straight : kind ≢ Stack → IsZero diverted
 
 -- a report that doesn't fail adds this one entry; one that fails adds none and moves nothing
-pub record Reports (entry : Motion) (moved diverted : Counts) (failed : Bool) (before now : Option (List Motion)) (was is : Places) (spare left : ℕ) : Type 0 where
+pub record Reports (entry : Motion) (failed : Bool) (before now : Option (List Motion)) (was is : Places) : Type 0 where
   pub grown : failed ≡ false → AddsEntry before entry now
   pub places : failed ≡ false → PlacesOf was (entry ∷ []) is
-  pub room : failed ≡ false → left + 1 ≡ spare
-  pub nothing : failed ≡ true → (now ≡ before) × (is ≡ was) × (left ≡ spare) × IsZero moved
+  pub nothing : failed ≡ true → (now ≡ before) × (is ≡ was)
+
+-- what a report may tell: no notes where it fails, and never diverted ones
+pub record MayReport (moved diverted : Counts) (failed : Bool) : Type 0 where
+  pub nothing : failed ≡ true → IsZero moved
   pub straight : IsZero diverted
+
+-- the room for further entries is one less, and the same where the call failed
+abbrev pub UsesRoom : Bool → ℕ → ℕ → Type 0
+UsesRoom false before now = now + 1 ≡ before
+UsesRoom true before now = now ≡ before
 
 -- the unit is in the table, and the limits hold once so many notes were added to it
 pub record CanLoad (units : List NoteKind) (p : Places) (unit count : ℕ) : Type 0 where

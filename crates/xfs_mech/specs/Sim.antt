@@ -1,5 +1,5 @@
 -- A mechanism in memory: its list, its places, and the faults that it was made with.
-use Rattle.std.specs.Prelude.{◌≡◌, ℕ, List, Bool, is_some, if◌then◌else◌}
+use Rattle.std.specs.Prelude.{◌≡◌, ℕ, List, Bool, Some, is_some, if◌then◌else◌}
 use Rattle.std.specs.declared.option.Option.{Option}
 use Rattle.xfs_base.specs.Causes.{next_count}
 use Rattle.xfs_base.specs.declared.counts.Places.{Places}
@@ -18,6 +18,10 @@ places_of m = m.places
 
 abbrev pub motions_of : SimMech → List Motion
 motions_of m = m.motions.items
+
+-- its list, which it tells
+abbrev pub told : SimMech → Option (List Motion)
+told m = Some (motions_of m)
 
 abbrev pub room_of : SimMech → ℕ
 room_of m = m.room

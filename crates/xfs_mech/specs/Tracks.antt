@@ -1,11 +1,17 @@
 -- The tracks of a card: each is there or not, and one that is there has 1 to 255 bytes.
-use Rattle.std.specs.Prelude.{ℕ, ◌≤◌, ◌==◌, List, length, None, IfSome, if◌then◌else◌}
+use Rattle.std.specs.Prelude.{ℕ, ◌≤◌, ◌==◌, List, Vec, length, None, IfSome, if◌then◌else◌}
+use Rattle.std.specs.Option.{option_map}
+use Rattle.std.specs.declared.alloc.Global.{Global}
 use Rattle.std.specs.declared.option.Option.{Option}
 
 pub record CardTracks : Type 0 where
   pub one : Option (List ℕ)
   pub two : Option (List ℕ)
   pub three : Option (List ℕ)
+
+-- the bytes of a track as it is handed over
+abbrev pub bytes_in : Option (Vec ℕ Global) → Option (List ℕ)
+bytes_in track = option_map (λ v. v.items) track
 
 -- where the track is there it has 1 to 255 bytes
 abbrev pub IsTrack : Option (List ℕ) → Type 0

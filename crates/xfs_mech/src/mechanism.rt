@@ -8,7 +8,7 @@ ghost use Rattle.xfs_mech.specs.declared.motion.Motion.{Motion};
 ghost use Rattle.xfs_mech.specs.declared.motion.Motion.TheVariants.{Moved, Taken, Loaded};
 ghost use Rattle.xfs_mech.specs.Orders.{number_of, kind_of, counts_of};
 ghost use Rattle.xfs_mech.specs.Motions.{PlacesOf};
-ghost use Rattle.xfs_mech.specs.Mechanism.{AddsEntry, source_of, PlacesFit, MayCarry, Reports, CanLoad, Loads};
+ghost use Rattle.xfs_mech.specs.Mechanism.{AddsEntry, source_of, PlacesFit, MayCarry, Reports, MayReport, UsesRoom, CanLoad, Loads};
 
 use crate::{Order, Outcome};
 use xfs_base::{Memory, Places};
@@ -58,7 +58,9 @@ pub trait Mechanism: Drop {
     fn taken(&mut self) -> Outcome
         requires room { 0 < room self.old }
         ensures lie { LiesIn result.moved (places self.old).outlet }
-        ensures reported { Reports (Taken result.moved) result.moved result.diverted result.failed (motions self.old) (motions self.new) (places self.old) (places self.new) (room self.old) (room self.new) }
+        ensures moved { MayReport result.moved result.diverted result.failed }
+        ensures reported { Reports (Taken result.moved) result.failed (motions self.old) (motions self.new) (places self.old) (places self.new) }
+        ensures room { UsesRoom result.failed (room self.old) (room self.new) }
         ensures units { units self.new ≡ units self.old }
         ensures later { faults self.old ≤ faults self.new }
         ensures cause { result.failed ≡ true → Rose (faults self.old) (faults self.new) };
@@ -68,7 +70,9 @@ pub trait Mechanism: Drop {
         requires room { 0 < room self.old }
         requires fits { CanLoad (units self.old) (places self.old) unit count }
         ensures loaded { Loads unit count result.moved result.failed }
-        ensures reported { Reports (Loaded unit count) result.moved result.diverted result.failed (motions self.old) (motions self.new) (places self.old) (places self.new) (room self.old) (room self.new) }
+        ensures moved { MayReport result.moved result.diverted result.failed }
+        ensures reported { Reports (Loaded unit count) result.failed (motions self.old) (motions self.new) (places self.old) (places self.new) }
+        ensures room { UsesRoom result.failed (room self.old) (room self.new) }
         ensures units { units self.new ≡ units self.old }
         ensures later { faults self.old ≤ faults self.new }
         ensures cause { result.failed ≡ true → Rose (faults self.old) (faults self.new) };

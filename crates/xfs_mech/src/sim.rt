@@ -105,17 +105,17 @@ impl SimMech {
 }
 
 impl Mechanism for SimMech {
-    ghost use Rattle.std.specs.Prelude.{◌≡◌, ℕ, ◌+◌, ◌<◌, ◌≤◌, [], ◌∷◌, ◌++◌, Some, true, false, IfSome, OnOk, OnErr};
+    ghost use Rattle.std.specs.Prelude.{◌≡◌, ℕ, ◌+◌, ◌<◌, ◌≤◌, [], ◌∷◌, ◌++◌, true, false, IfSome, OnOk, OnErr};
     ghost use Rattle.xfs_base.specs.Causes.{Rose};
     ghost use Rattle.xfs_base.specs.Counts.{LiesIn};
     ghost use Rattle.xfs_mech.specs.declared.motion.Motion.TheVariants.{Moved, Taken, Loaded};
     ghost use Rattle.xfs_mech.specs.Orders.{number_of, kind_of, counts_of};
     ghost use Rattle.xfs_mech.specs.Motions.{PlacesOf};
-    ghost use Rattle.xfs_mech.specs.Mechanism.{source_of, PlacesFit, MayCarry, Reports, CanLoad, Loads, AddsEntry};
+    ghost use Rattle.xfs_mech.specs.Mechanism.{source_of, PlacesFit, MayCarry, Reports, MayReport, UsesRoom, CanLoad, Loads, AddsEntry};
     ghost use Rattle.xfs_mech.specs.Faults.{StopsAt};
-    ghost use Rattle.xfs_mech.specs.Sim.{units_of, places_of, motions_of, room_of, failures_of, due, Counted, Uncounted};
+    ghost use Rattle.xfs_mech.specs.Sim.{units_of, places_of, motions_of, told, room_of, failures_of, due, Counted, Uncounted};
 
-    ghost motions = { λ m. Some (motions_of m) };
+    ghost motions = { told };
 
     ghost places = { places_of };
 
@@ -169,7 +169,9 @@ impl Mechanism for SimMech {
     fn taken(&mut self) -> Outcome
         requires room { 0 < room_of self.old }
         ensures lie { LiesIn result.moved (places_of self.old).outlet }
-        ensures reported { Reports (Taken result.moved) result.moved result.diverted result.failed (Some (motions_of self.old)) (Some (motions_of self.new)) (places_of self.old) (places_of self.new) (room_of self.old) (room_of self.new) }
+        ensures moved { MayReport result.moved result.diverted result.failed }
+        ensures reported { Reports (Taken result.moved) result.failed (told self.old) (told self.new) (places_of self.old) (places_of self.new) }
+        ensures room { UsesRoom result.failed (room_of self.old) (room_of self.new) }
         ensures units { units_of self.new ≡ units_of self.old }
         ensures later { failures_of self.old ≤ failures_of self.new }
         ensures cause { result.failed ≡ true → Rose (failures_of self.old) (failures_of self.new) }
@@ -190,7 +192,9 @@ impl Mechanism for SimMech {
         requires room { 0 < room_of self.old }
         requires fits { CanLoad (units_of self.old) (places_of self.old) unit count }
         ensures loaded { Loads unit count result.moved result.failed }
-        ensures reported { Reports (Loaded unit count) result.moved result.diverted result.failed (Some (motions_of self.old)) (Some (motions_of self.new)) (places_of self.old) (places_of self.new) (room_of self.old) (room_of self.new) }
+        ensures moved { MayReport result.moved result.diverted result.failed }
+        ensures reported { Reports (Loaded unit count) result.failed (told self.old) (told self.new) (places_of self.old) (places_of self.new) }
+        ensures room { UsesRoom result.failed (room_of self.old) (room_of self.new) }
         ensures units { units_of self.new ≡ units_of self.old }
         ensures later { failures_of self.old ≤ failures_of self.new }
         ensures cause { result.failed ≡ true → Rose (failures_of self.old) (failures_of self.new) }

@@ -1,6 +1,6 @@
 ghost use Rattle.std.specs.Prelude.{◌≡◌, ◌↔◌, IsSome, IfSome, IsTrue};
 ghost use Rattle.std.specs.Option.{option_map};
-ghost use Rattle.xfs_mech.specs.Tracks.{IsTrack, track_of};
+ghost use Rattle.xfs_mech.specs.Tracks.{IsTrack, bytes_in, track_of};
 
 use std::marker::Model;
 
@@ -13,21 +13,20 @@ pub struct Tracks {
 }
 
 impl Model for Tracks {
-    ghost use Rattle.std.specs.Option.{option_map};
-    ghost use Rattle.xfs_mech.specs.Tracks.{CardTracks};
+    ghost use Rattle.xfs_mech.specs.Tracks.{CardTracks, bytes_in};
 
     ghost Value = { CardTracks };
 
-    ghost view = { λ t. record { one = option_map (λ v. v.items) t.one; two = option_map (λ v. v.items) t.two; three = option_map (λ v. v.items) t.three } };
+    ghost view = { λ t. record { one = bytes_in t.one; two = bytes_in t.two; three = bytes_in t.three } };
 }
 
 impl Tracks {
     /// None exactly where a list that is there hasn't 1 to 255 bytes. It takes no memory.
     pub fn new(one: Option<Vec<u8>>, two: Option<Vec<u8>>, three: Option<Vec<u8>>) -> Option<Tracks>
-        ensures one { IfSome result (λ t. t.one ≡ option_map (λ v. v.items) one) }
-        ensures two { IfSome result (λ t. t.two ≡ option_map (λ v. v.items) two) }
-        ensures three { IfSome result (λ t. t.three ≡ option_map (λ v. v.items) three) }
-        ensures valid { IsSome result ↔ (IsTrack (option_map (λ v. v.items) one) × IsTrack (option_map (λ v. v.items) two) × IsTrack (option_map (λ v. v.items) three)) }
+        ensures one { IfSome result (λ t. t.one ≡ bytes_in one) }
+        ensures two { IfSome result (λ t. t.two ≡ bytes_in two) }
+        ensures three { IfSome result (λ t. t.three ≡ bytes_in three) }
+        ensures valid { IsSome result ↔ (IsTrack (bytes_in one) × IsTrack (bytes_in two) × IsTrack (bytes_in three)) }
     {
         if is_track(&one) && is_track(&two) && is_track(&three) {
             Some(Tracks { one, two, three })
@@ -51,7 +50,7 @@ impl Tracks {
 }
 
 fn is_track(track: &Option<Vec<u8>>) -> bool
-    ensures { IsTrue result ↔ IsTrack (option_map (λ v. v.items) track.now) }
+    ensures { IsTrue result ↔ IsTrack (bytes_in track.now) }
 {
     match track {
         Some(bytes) => !bytes.is_empty() && bytes.len() <= 255,

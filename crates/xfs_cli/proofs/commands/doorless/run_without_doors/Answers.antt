@@ -1,12 +1,9 @@
 use Rattle.std.proofs.Common.{arith, inl, inr, subst, sym}
 use Rattle.std.specs.Prelude.{◌⊎◌}
 use Rattle.xfs_words.specs.declared.command.Command.TheVariants.{Audit, Host, Token}
-use Rattle.xfs_script.specs.Streams.{io_of}
-use Rattle.xfs_cli.specs.Doorless.{RunsOf}
 use Rattle.xfs_lines.specs.Headlines.{EndsWell}
 use Rattle.xfs_lines.specs.Returns.{back}
 use Rattle.xfs_lines.specs.Run.{IsGuard, IsLoad, IsReplay}
-use Rattle.xfs_lines.specs.Output.Usages.{TellsUsage}
 use Rattle.xfs_cli.proofs.DoorlessLaws.{boots-apart, boots-command, unbooted-usage}
 use Rattle.xfs_lines.proofs.EndsLaws.{ends-kept}
 use Rattle.xfs_cli.proofs.commands.doorless.run_without_doors.Goals as goal

@@ -1,4 +1,4 @@
-use Rattle.std.proofs.Common.{inl, inr, rules, subst, sym}
+use Rattle.std.proofs.Common.{inl, inr, subst, sym}
 use Rattle.xfs_words.specs.declared.command.Command.TheVariants.{Client, Fleet, Serve}
 use Rattle.xfs_script.specs.Streams.{io_of}
 use Rattle.xfs_cli.specs.FleetRuns.{RunsFleet}
