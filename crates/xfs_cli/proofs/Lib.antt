@@ -1,6 +1,6 @@
 pub mod BootsOnceLaws
 pub mod ClientLaws
-pub mod DoorlessLaws
+pub mod CommandLaws
 pub mod FleetEndLaws
 pub mod FleetRunsLaws
 pub mod HeadlineLaws

@@ -32,9 +32,13 @@ pub record RunsClient {M D L : Type 0} (log : L → LinkLog) (terms : Terms) (co
   pub failed : ended.status ≡ LINK_FAILED → HasFailed (option_map log ended.link) before now
   pub kept : ComesBack core (back ended)
 
--- the words `client`, a currency and an amount have a run of `client` with these terms
+-- a run of `client` for an amount of a currency, with a token under the core's key
+abbrev pub RunsClientFor : {M D L : Type 0} → (L → LinkLog) → List ℕ → ℕ → Core M D → Ended M D L → DoorLog → DoorLog → Output → Type 0
+RunsClientFor log currency amount core ended before now o = RunsClient log (terms_of currency amount core.key) core ended before now o
+
+-- the words `client`, a currency and an amount have that run
 abbrev pub RunsClientOf : {M D L : Type 0} → List (String Global) → (L → LinkLog) → Core M D → Ended M D L → DoorLog → DoorLog → Output → Type 0
-RunsClientOf words log core ended before now o = (currency : List ℕ) (amount : ℕ) → IsClientOf currency amount words → RunsClient log (terms_of currency amount core.key) core ended before now o
+RunsClientOf words log core ended before now o = (currency : List ℕ) (amount : ℕ) → IsClientOf currency amount words → RunsClientFor log currency amount core ended before now o
 
 -- nobody was dialled, and there is no link
 pub record IsUndialled {L : Type 0} (link : Option L) (before now : DoorLog) : Type 0 where

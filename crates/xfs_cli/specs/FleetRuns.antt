@@ -115,6 +115,10 @@ module _ {M D : Type 0} (m : Mechanisms M) (d : Disks D) (core second : Core M D
     pub finishes : NothingFailed io (d.faults core.disk) (d.faults a.disk) → ¬ (Rose (d.faults second.disk) (d.faults b.disk)) → IfTold io.input (λ text.
         AtEntryList d core.disk (λ records. AtEntryList d second.disk (λ others. AreUnhindered text records others → IsFinished a.status)))
 
--- the words `fleet` have a run of `fleet`
+-- the machines of a bench have a run of `fleet`
+abbrev pub RunsBoth : {M D P Q L : Type 0} → Mechanisms M → Disks D → Bench M D P Q → Ended M D L → Streams → Type 0
+RunsBoth m d bench ended io = RunsFleet m d bench.core bench.second (back ended) (second_back ended) io
+
+-- the words `fleet` have that run
 abbrev pub RunsFleetOf : {M D P Q L : Type 0} → List (String Global) → Mechanisms M → Disks D → Bench M D P Q → Ended M D L → Streams → Type 0
-RunsFleetOf words m d bench ended io = IsFleet words → RunsFleet m d bench.core bench.second (back ended) (second_back ended) io
+RunsFleetOf words m d bench ended io = IsFleet words → RunsBoth m d bench ended io

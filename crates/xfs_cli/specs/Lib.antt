@@ -1,9 +1,8 @@
 pub mod BootsOnce
 pub mod ClientRuns
-pub mod Doorless
+pub mod CommandRuns
 pub mod FleetRuns
 pub mod LoadEnds
 pub mod LoadRuns
 pub mod Replay
 pub mod ServeRuns
-pub mod Tasks

@@ -1,7 +1,6 @@
 //! The call that runs the words' command, and each command that plays a machine.
 
 pub mod client;
-pub mod doorless;
 pub mod fleet;
 pub mod load;
 pub mod replay;

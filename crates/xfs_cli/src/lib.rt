@@ -8,4 +8,5 @@ pub use commands::fleet::fleet;
 pub use commands::load::load;
 pub use commands::replay::command::replay;
 pub use commands::run::run;
-pub use xfs_lines::{Ended, audit, guard, host, status, token};
+pub use words::command_of;
+pub use xfs_lines::{Ended, audit, guard, host, status, tell_usage, token};

@@ -20,4 +20,3 @@ pub mod RunLaws
 pub mod RunsLaws
 pub mod TokenTexts
 pub mod UnreadLaws
-pub mod WordLaws

@@ -6,10 +6,9 @@ use Rattle.xfs_mech.specs.declared.mechanism.Mechanism.{Ghosts as Mechanisms}
 use Rattle.xfs_guard.specs.declared.machine_core.Core.{Core}
 use Rattle.xfs_lines.specs.Boots.{IsUnwritten}
 use Rattle.xfs_lines.specs.Moments.{WasOnTheWayAll}
-use Rattle.xfs_lines.specs.Returns.{Return, back, second_back}
+use Rattle.xfs_lines.specs.Returns.{Return}
 use Rattle.xfs_lines.specs.Runs.{AtEntryList, WhereNoJournal}
 use Rattle.xfs_lines.specs.Upholds.{Accounts, UpholdsAll}
-use Rattle.xfs_lines.specs.declared.ended.Ended.{Ended}
 
 -- what was put out is within the tokens at the end and at each moment of the run, and the notes add up
 pub record EndsWell {M D : Type 0} (m : Mechanisms M) (d : Disks D) (core : Core M D) (result : Return M D) : Type 0 where
@@ -24,7 +23,3 @@ pub record HasHeadline {M D : Type 0} (m : Mechanisms M) (d : Disks D) (core : C
   pub unmoved : WhereNoJournal d core.disk (result.mech ≡ core.mech)
   -- the mechanism's new numbers lie behind the journal's
   pub newer : AtEntryList d core.disk (λ records. IsNewer (length records) (m.motions core.mech) (m.motions result.mech))
-
--- the machine of each core has its headline
-abbrev pub HaveHeadlines : {M D L : Type 0} → Mechanisms M → Disks D → Core M D → Core M D → Ended M D L → Type 0
-HaveHeadlines m d core second ended = HasHeadline m d core (back ended) × HasHeadline m d second (second_back ended)

@@ -1,13 +1,9 @@
 -- The words that a run of the program takes: those of the table of commands.
-use Rattle.std.specs.Prelude.{◌≡◌, ◌⊎◌, ℕ, List, [], ◌∷◌, String}
+use Rattle.std.specs.Prelude.{◌⊎◌, ℕ, List, String}
 use Rattle.std.specs.declared.alloc.Global.{Global}
 use Rattle.xfs_words.specs.Words.{Names, texts}
 use Rattle.xfs_words.specs.declared.command.Command.{Command}
 use Rattle.xfs_words.specs.declared.command.Command.TheVariants.{Guard, Token, Replay, Load, Serve, Client, Host, Audit, Fleet}
-
--- the words are this one word
-abbrev pub IsWord : List ℕ → List (String Global) → Type 0
-IsWord word words = texts words ≡ word ∷ []
 
 abbrev pub IsGuard : List (String Global) → Type 0
 IsGuard words = Names Guard (texts words)
@@ -51,10 +47,6 @@ IsFleet words = Names Fleet (texts words)
 -- the words name a command
 abbrev pub IsCommand : List (String Global) → Type 0
 IsCommand words = (command : Command) × Names command (texts words)
-
--- a command that boots nothing and answers lines
-abbrev pub IsBootless : List (String Global) → Type 0
-IsBootless words = IsToken words ⊎ (IsHost words ⊎ IsAudit words)
 
 -- a command that reads no input
 abbrev pub IsUnread : List (String Global) → Type 0

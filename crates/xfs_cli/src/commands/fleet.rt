@@ -1,14 +1,11 @@
 //! The command `fleet`.
 
-ghost use Rattle.std.specs.Prelude.{◌≡◌};
+ghost use Rattle.std.specs.Prelude.{◌≡◌, ◌≢◌};
 ghost use Rattle.xfs_guard.specs.Starts.{Starts};
-ghost use Rattle.xfs_cli.specs.FleetRuns.{RunsFleetOf};
-ghost use Rattle.xfs_lines.specs.Returns.{back, second_back, ComesBack};
-ghost use Rattle.xfs_lines.specs.Run.{IsFleet};
+ghost use Rattle.xfs_cli.specs.FleetRuns.{RunsBoth};
+ghost use Rattle.xfs_lines.specs.Returns.{back, second_back};
 ghost use Rattle.xfs_lines.specs.Output.Statuses.{IsCaused, IsStatus};
 ghost use Rattle.xfs_script.specs.Streams.{io_of};
-ghost use Rattle.xfs_lines.specs.Headlines.{HaveHeadlines};
-ghost use Rattle.xfs_lines.specs.Output.Usages.{TellsUsage};
 
 use crate::commands::replay::player::Player;
 use std::alloc::Global;
@@ -17,7 +14,7 @@ use xfs_disk::Disk;
 use xfs_fleet::{Fleet, FleetFail, Pair};
 use xfs_guard::Bench;
 use xfs_lines::status::USAGE;
-use xfs_lines::{Ended, Second, answer_input, finish_unbooted, is_word, second_of, usage};
+use xfs_lines::{Ended, Second, answer_input, cores_of, finish_unbooted};
 use xfs_mech::{Mechanism, Watch};
 use xfs_sides::TwoSides;
 
@@ -25,38 +22,18 @@ use xfs_sides::TwoSides;
 /// read. The machines share nothing but the input and the output.
 pub fn fleet<S: Source, K: Sink, M: Mechanism, D: Disk, P: Watch, Q: Watch>(
     alloc: Global,
-    words: &[String],
     source: &mut S,
     sink: &mut K,
     bench: Bench<M, D, P, Q>,
 ) -> Ended<M, D, ()>
     requires starts { Starts M.Mechanism D.Disk bench.core }
     requires second { Starts M.Mechanism D.Disk bench.second }
-    ensures machines { HaveHeadlines M.Mechanism D.Disk bench.core bench.second result }
-    ensures runs { RunsFleetOf words.now M.Mechanism D.Disk bench result (io_of S.Source K.Sink source.old source.new sink.old sink.new) }
-    ensures usage { TellsUsage (IsFleet words.now) bench result source.old source.new (io_of S.Source K.Sink source.old source.new sink.old sink.new) }
-    ensures idle { result.status ≡ USAGE → ComesBack bench.second (second_back result) }
+    ensures runs { RunsBoth M.Mechanism D.Disk bench result (io_of S.Source K.Sink source.old source.new sink.old sink.new) }
+    ensures usage { result.status ≢ USAGE }
     ensures statuses { IsStatus result.status }
     ensures causes { IsCaused result.status (io_of S.Source K.Sink source.old source.new sink.old sink.new) }
 {
-    let Bench {
-        core,
-        cards,
-        keys,
-        second,
-    } = bench;
-    drop(cards);
-    drop(keys);
-    if !is_word(words, "fleet") {
-        usage(sink);
-        return Ended {
-            status: USAGE,
-            mech: core.mech,
-            disk: core.disk,
-            link: None,
-            second: second_of(second),
-        };
-    }
+    let (core, second) = cores_of(bench);
     let (key, second_key) = (core.key, second.key);
     match Fleet::boot(alloc, core, second) {
         Ok(fleet) => {
@@ -69,7 +46,7 @@ pub fn fleet<S: Source, K: Sink, M: Mechanism, D: Disk, P: Watch, Q: Watch>(
             let status = answer_input(alloc, &mut two, source, sink);
             let TwoSides { alloc: _, a, b } = two;
             let first = Pair::of(a.machine);
-            give_back(status, first, Pair::of(b.machine))
+            give_back_both(status, first, Pair::of(b.machine))
         }
         Err(
             FleetFail {
@@ -78,12 +55,12 @@ pub fn fleet<S: Source, K: Sink, M: Mechanism, D: Disk, P: Watch, Q: Watch>(
                 a: first,
                 b: second,
             },
-        ) => give_back(finish_unbooted(sink, why), first, second),
+        ) => give_back_both(finish_unbooted(sink, why), first, second),
     }
 }
 
-// What comes back of the two machines, with this status.
-fn give_back<M: Mechanism, D: Disk>(
+// Gives back what the two machines leave, with this status.
+fn give_back_both<M: Mechanism, D: Disk>(
     status: u8,
     first: Pair<M, D>,
     second: Pair<M, D>,

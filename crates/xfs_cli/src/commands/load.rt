@@ -1,6 +1,6 @@
 //! The command `load`.
 
-ghost use Rattle.std.specs.Prelude.{◌≡◌, ◌∷◌, [], IfOk, length};
+ghost use Rattle.std.specs.Prelude.{◌≡◌, ◌≢◌, ◌∷◌, [], IfOk, length};
 ghost use Rattle.xfs_guard.specs.Keeps.{Proceeds};
 ghost use Rattle.xfs_guard.specs.Starts.{Starts};
 ghost use Rattle.xfs_load.specs.Summaries.{summary_line};
@@ -8,21 +8,18 @@ ghost use Rattle.xfs_machine.specs.MachineView.{guard_of};
 ghost use Rattle.xfs_model.specs.State.{bare};
 ghost use Rattle.xfs_script.specs.Answered.{lines_text};
 ghost use Rattle.xfs_cli.specs.LoadEnds.{EndsLoad, WritesTextOrNot, output};
-ghost use Rattle.xfs_cli.specs.LoadRuns.{RunsLoadOf};
+ghost use Rattle.xfs_cli.specs.LoadRuns.{RunsLoad};
 ghost use Rattle.xfs_lines.specs.Returns.{back, second_back, ComesBack};
-ghost use Rattle.xfs_lines.specs.Run.{IsLoad};
 ghost use Rattle.xfs_lines.specs.Output.Statuses.{IsStatus};
 ghost use Rattle.xfs_script.specs.Streams.{io_of};
 ghost use Rattle.xfs_lines.specs.Headlines.{EndsWell};
-ghost use Rattle.xfs_lines.specs.Output.Usages.{TellsUsage};
 
-use crate::words::rounds_of;
 use std::alloc::Global;
 use xfs_base::{Memory, Sink, Source, write_all};
 use xfs_disk::Disk;
-use xfs_guard::{Bench, BootFail};
+use xfs_guard::Bench;
 use xfs_lines::status::{NO_MEMORY, READ_TO_END, USAGE, WRITE_FAULT};
-use xfs_lines::{Ended, finish_unbooted, second_of, usage, with_line_feed};
+use xfs_lines::{Ended, cores_of, give_back, give_back_unbooted, with_line_feed};
 use xfs_load::{Summary, play};
 use xfs_machine::Machine;
 use xfs_mech::{Mechanism, Watch};
@@ -31,58 +28,28 @@ use xfs_mech::{Mechanism, Watch};
 /// input.
 pub fn load<S: Source, K: Sink, M: Mechanism, D: Disk, P: Watch, Q: Watch>(
     alloc: Global,
-    words: &[String],
+    rounds: u32,
     source: &mut S,
     sink: &mut K,
     bench: Bench<M, D, P, Q>,
 ) -> Ended<M, D, ()>
     requires starts { Starts M.Mechanism D.Disk bench.core }
     ensures ends { EndsWell M.Mechanism D.Disk bench.core (back result) }
-    ensures runs { RunsLoadOf words.now M.Mechanism D.Disk bench.core result (io_of S.Source K.Sink source.old source.new sink.old sink.new) }
-    ensures usage { TellsUsage (IsLoad words.now) bench result source.old source.new (io_of S.Source K.Sink source.old source.new sink.old sink.new) }
+    ensures runs { RunsLoad M.Mechanism D.Disk bench.core rounds (back result) (io_of S.Source K.Sink source.old source.new sink.old sink.new) }
+    ensures usage { result.status ≢ USAGE }
     ensures unread { source.new ≡ source.old }
     ensures statuses { IsStatus result.status }
     ensures second { ComesBack bench.second (second_back result) }
 {
-    let Bench {
-        core,
-        cards,
-        keys,
-        second,
-    } = bench;
-    let second = second_of(second);
-    drop(cards);
-    drop(keys);
-    let Some(rounds) = rounds_of(alloc, words) else {
-        usage(sink);
-        return Ended {
-            status: USAGE,
-            mech: core.mech,
-            disk: core.disk,
-            link: None,
-            second,
-        };
-    };
+    let (core, second) = cores_of(bench);
     let key = core.key;
     match Machine::boot(alloc, core) {
         Ok(mut machine) => {
             let status = play_on(alloc, &mut machine, key, rounds, sink);
             let (mech, disk) = machine.end();
-            Ended {
-                status,
-                mech,
-                disk,
-                link: None,
-                second,
-            }
+            give_back(status, mech, disk, second)
         }
-        Err(BootFail { why, mech, disk }) => Ended {
-            status: finish_unbooted(sink, why),
-            mech,
-            disk,
-            link: None,
-            second,
-        },
+        Err(fail) => give_back_unbooted(sink, fail, second),
     }
 }
 

@@ -1,6 +1,6 @@
 //! The top call.
 
-ghost use Rattle.std.specs.Prelude.{◌≡◌, ◌⊎◌, ◌↔◌, None};
+ghost use Rattle.std.specs.Prelude.{◌≡◌};
 ghost use Rattle.xfs_guard.specs.Starts.{Starts};
 ghost use Rattle.xfs_lines.specs.Audit.Runs.{RunsAuditOf};
 ghost use Rattle.xfs_cli.specs.ClientRuns.{IsUndialled, RunsClientOf};
@@ -18,22 +18,25 @@ ghost use Rattle.xfs_script.specs.Streams.{io_of, output};
 ghost use Rattle.xfs_lines.specs.Token.Runs.{RunsTokenOf};
 ghost use Rattle.xfs_lines.specs.Upholds.{Accounts, UpholdsAll};
 ghost use Rattle.xfs_lines.specs.Output.Usages.{TellsUsage};
+ghost use Rattle.xfs_cli.specs.CommandRuns.{IsNamed, AtDoors, HasRun, without_link};
+ghost use Rattle.xfs_words.specs.declared.command.Command.TheVariants.{Fleet};
 
 use crate::commands::client::client;
-use crate::commands::doorless::{linkless, run_without_doors};
 use crate::commands::fleet::fleet;
-use crate::commands::serve::serve_machine;
-use crate::words::{Task, task_of};
+use crate::commands::load::load;
+use crate::commands::replay::command::replay;
+use crate::commands::serve::serve;
+use crate::words::command_of;
 use std::alloc::Global;
 use std::sync::Wait;
 use std::thread::Threads;
 use xfs_base::{Clock, Sink, Source};
 use xfs_disk::Disk;
 use xfs_guard::Bench;
-use xfs_lines::Ended;
-use xfs_lines::status::USAGE;
+use xfs_lines::{Ended, audit, guard, host, tell_usage, token};
 use xfs_mech::{Mechanism, Watch};
 use xfs_server::{Doors, Gate};
+use xfs_words::Command;
 
 /// The program: the words of the command line, its input and output, what it works on, and where connections come in
 /// and are dialled. The sessions of `serve` pass the gate.
@@ -94,19 +97,85 @@ pub fn run<
     ensures second { ¬ (IsFleet words.now) → ComesBack bench.second (second_back result) }
     ensures undialled { ¬ (IsClient words.now) → IsUndialled result.link (O.log doors.old) (O.log doors.new) }
 {
-    match task_of(alloc, words) {
-        Task::Serve(connections) => serve_machine(
-            rt,
-            alloc,
-            connections,
-            sink,
-            bench,
-            clock,
-            doors,
-            gate,
-        ),
-        Task::Client => client(rt, alloc, words, sink, bench, clock, doors),
-        Task::Fleet => linkless(fleet(alloc, words, source, sink, bench)),
-        Task::Other => run_without_doors(alloc, words, source, sink, bench),
+    match command_of(alloc, words) {
+        Some(command) => run_command(rt, alloc, command, source, sink, bench, clock, doors, gate),
+        None => tell_usage(sink, bench),
+    }
+}
+
+// Runs the command that some words name.
+fn run_command<
+    R: Threads + Wait + Sync,
+    S: Source,
+    K: Sink,
+    M: Mechanism + Send,
+    D: Disk + Send,
+    P: Watch + Send,
+    Q: Watch + Send,
+    C: Clock + Sync,
+    O: Doors,
+    G: Gate + Sync,
+>(
+    rt: &R,
+    alloc: Global,
+    command: Command,
+    source: &mut S,
+    sink: &mut K,
+    bench: Bench<M, D, P, Q>,
+    clock: &C,
+    doors: &mut O,
+    gate: &G,
+) -> Ended<M, D, O::Link>
+    requires named { IsNamed command }
+    requires starts { Starts M.Mechanism D.Disk bench.core }
+    requires second { command ≡ Fleet → Starts M.Mechanism D.Disk bench.second }
+    ensures runs { HasRun command M.Mechanism D.Disk bench result source.old source.new (io_of S.Source K.Sink source.old source.new sink.old sink.new) }
+    ensures doors { AtDoors command M.Mechanism D.Disk O.Link.log bench result (O.log doors.old) (O.log doors.new) (output K.Sink sink.old sink.new) }
+{
+    match command {
+        Command::Guard => linkless(guard(alloc, source, sink, bench)),
+        Command::Token => linkless(token(alloc, source, sink, bench)),
+        Command::Replay => linkless(replay(alloc, source, sink, bench)),
+        Command::Load(rounds) => linkless(load(alloc, rounds as u32, source, sink, bench)),
+        Command::Serve(connections) => {
+            serve(
+                rt,
+                alloc,
+                connections as u32,
+                sink,
+                bench,
+                clock,
+                doors,
+                gate,
+            )
+        }
+        Command::Client(currency, amount) => {
+            client(
+                rt,
+                alloc,
+                currency,
+                amount as u32,
+                sink,
+                bench,
+                clock,
+                doors,
+            )
+        }
+        Command::Host => linkless(host(alloc, source, sink, bench)),
+        Command::Audit => linkless(audit(alloc, source, sink, bench)),
+        Command::Fleet => linkless(fleet(alloc, source, sink, bench)),
+    }
+}
+
+// What a command gives back that dials nothing, where a link could be.
+fn linkless<M: Mechanism, D: Disk, L>(ended: Ended<M, D, ()>) -> Ended<M, D, L>
+    ensures { result ≡ without_link ended }
+{
+    Ended {
+        status: ended.status,
+        mech: ended.mech,
+        disk: ended.disk,
+        link: None,
+        second: ended.second,
     }
 }

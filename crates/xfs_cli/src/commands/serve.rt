@@ -14,9 +14,9 @@ use std::thread::Threads;
 use xfs_base::{Clock, Sink};
 use xfs_board::{Served, serve_connections};
 use xfs_disk::Disk;
-use xfs_guard::{Bench, BootFail, BootFault, Deny};
+use xfs_guard::{Bench, BootFault, Deny};
 use xfs_lines::status::{LINK_FAILED, NO_MEMORY, READ_TO_END};
-use xfs_lines::{Ended, finish_unbooted, second_of};
+use xfs_lines::{Ended, finish_unbooted, give_back, give_back_unbooted};
 use xfs_machine::Machine;
 use xfs_mech::{Mechanism, Watch};
 use xfs_server::{Doors, Gate};
@@ -24,7 +24,7 @@ use xfs_serving::{CardWatch, Ending, KeyWatch};
 
 /// Boots a machine, takes so many connections at the doors and serves them at once, each in a session of its own, and
 /// carries an open order out at the end. It reads no input.
-pub fn serve_machine<
+pub fn serve<
     R: Threads + Wait + Sync,
     K: Sink,
     M: Mechanism + Send,
@@ -56,7 +56,6 @@ pub fn serve_machine<
         keys,
         second,
     } = bench;
-    let second = second_of(second);
     match Machine::boot(alloc, core) {
         Ok(machine) => {
             let Served { ending, machine } = serve_connections::<R, M, D, O, C, G, P, Q>(
@@ -71,21 +70,9 @@ pub fn serve_machine<
                 KeyWatch(keys),
             );
             let (settled, mech, disk) = machine.finish();
-            Ended {
-                status: settle(sink, ending, settled),
-                mech,
-                disk,
-                link: None,
-                second,
-            }
+            give_back(settle(sink, ending, settled), mech, disk, second)
         }
-        Err(BootFail { why, mech, disk }) => Ended {
-            status: finish_unbooted(sink, why),
-            mech,
-            disk,
-            link: None,
-            second,
-        },
+        Err(fail) => give_back_unbooted(sink, fail, second),
     }
 }
 

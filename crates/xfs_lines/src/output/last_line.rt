@@ -74,7 +74,7 @@ pub fn finish_unbooted<K: Sink>(sink: &mut K, fault: BootFault) -> u8
 }
 
 /// Writes the commands that there are.
-pub fn usage<K: Sink>(sink: &mut K)
+pub fn write_usage<K: Sink>(sink: &mut K)
     ensures written { WritesLast (usage_line ∷ []) (output K.Sink sink.old sink.new) }
 {
     write_last_line(

@@ -1,80 +1,47 @@
 //! The command `replay`.
 
-ghost use Rattle.std.specs.Prelude.{◌≡◌};
+ghost use Rattle.std.specs.Prelude.{◌≢◌};
 ghost use Rattle.xfs_guard.specs.Starts.{Starts};
-ghost use Rattle.xfs_cli.specs.Replay.Runs.{RunsReplayOf};
+ghost use Rattle.xfs_cli.specs.Replay.Runs.{RunsReplay};
 ghost use Rattle.xfs_lines.specs.Returns.{back, second_back, ComesBack};
-ghost use Rattle.xfs_lines.specs.Run.{IsReplay};
 ghost use Rattle.xfs_lines.specs.Output.Statuses.{IsCaused, IsStatus};
 ghost use Rattle.xfs_script.specs.Streams.{io_of};
 ghost use Rattle.xfs_lines.specs.Headlines.{EndsWell};
-ghost use Rattle.xfs_lines.specs.Output.Usages.{TellsUsage};
 
 use crate::commands::replay::player::Player;
 use std::alloc::Global;
 use xfs_base::{Sink, Source};
 use xfs_disk::Disk;
-use xfs_guard::{Bench, BootFail};
+use xfs_guard::Bench;
 use xfs_lines::status::USAGE;
-use xfs_lines::{Ended, answer_input, finish_unbooted, is_word, second_of, usage};
+use xfs_lines::{Ended, answer_input, cores_of, give_back, give_back_unbooted};
 use xfs_machine::Machine;
 use xfs_mech::{Mechanism, Watch};
 
 /// Reads replay lines and answers each of them from a machine, before the next line is read.
 pub fn replay<S: Source, K: Sink, M: Mechanism, D: Disk, P: Watch, Q: Watch>(
     alloc: Global,
-    words: &[String],
     source: &mut S,
     sink: &mut K,
     bench: Bench<M, D, P, Q>,
 ) -> Ended<M, D, ()>
     requires starts { Starts M.Mechanism D.Disk bench.core }
     ensures ends { EndsWell M.Mechanism D.Disk bench.core (back result) }
-    ensures runs { RunsReplayOf words.now M.Mechanism D.Disk bench.core result (io_of S.Source K.Sink source.old source.new sink.old sink.new) }
-    ensures usage { TellsUsage (IsReplay words.now) bench result source.old source.new (io_of S.Source K.Sink source.old source.new sink.old sink.new) }
+    ensures runs { RunsReplay M.Mechanism D.Disk bench.core (back result) (io_of S.Source K.Sink source.old source.new sink.old sink.new) }
+    ensures usage { result.status ≢ USAGE }
     ensures statuses { IsStatus result.status }
     ensures causes { IsCaused result.status (io_of S.Source K.Sink source.old source.new sink.old sink.new) }
     ensures second { ComesBack bench.second (second_back result) }
 {
-    let Bench {
-        core,
-        cards,
-        keys,
-        second,
-    } = bench;
-    let second = second_of(second);
-    drop(cards);
-    drop(keys);
-    if !is_word(words, "replay") {
-        usage(sink);
-        return Ended {
-            status: USAGE,
-            mech: core.mech,
-            disk: core.disk,
-            link: None,
-            second,
-        };
-    }
+    let (core, second) = cores_of(bench);
     let key = core.key;
     match Machine::boot(alloc, core) {
         Ok(machine) => {
             let mut player = Player::new(alloc, machine, key);
             let status = answer_input(alloc, &mut player, source, sink);
             let (mech, disk) = player.machine.end();
-            Ended {
-                status,
-                mech,
-                disk,
-                link: None,
-                second,
-            }
+            give_back(status, mech, disk, second)
         }
-        Err(BootFail { why, mech, disk }) => Ended {
-            status: finish_unbooted(sink, why),
-            mech,
-            disk,
-            link: None,
-            second,
-        },
+        Err(fail) => give_back_unbooted(sink, fail, second),
     }
 }

@@ -3,25 +3,22 @@
 ghost use Rattle.std.specs.Prelude.{◌≡◌, ◌≢◌};
 ghost use Rattle.xfs_base.specs.Causes.{IfTold, Rose};
 ghost use Rattle.xfs_script.specs.Lines.{AllLines, StopsAtLine};
-ghost use Rattle.xfs_lines.specs.Audit.Runs.{Audits, Judges, RunsAuditOf};
+ghost use Rattle.xfs_lines.specs.Audit.Runs.{Audits, Judges, RunsAudit};
 ghost use Rattle.xfs_lines.specs.Audit.Verbs.{IsLineOfAudit, handed_of};
 ghost use Rattle.xfs_lines.specs.Returns.{back, second_back, ComesBack};
-ghost use Rattle.xfs_lines.specs.Run.{IsAudit};
 ghost use Rattle.xfs_lines.specs.Output.Statuses.{IsCaused, IsStatus};
 ghost use Rattle.xfs_script.specs.Streams.{io_of};
-ghost use Rattle.xfs_lines.specs.Output.Usages.{TellsUsage};
 
 use crate::commands::audit::answer::Auditor;
-use crate::ended::{Ended, second_of};
-use crate::output::last_line::{finish, usage};
+use crate::ended::{Ended, give_back_untouched};
+use crate::output::last_line::finish;
 use crate::output::status::{
     DISK_FAULT, JOURNAL_FULL, NO_MEMORY, NOT_A_JOURNAL, NOT_A_LINE, READ_TO_END, USAGE, WRITE_FAULT,
 };
-use crate::words::is_word;
 use std::alloc::Global;
 use xfs_base::{Memory, Sink, Source, UnitTable, write_all};
 use xfs_disk::Disk;
-use xfs_guard::{Bench, Core};
+use xfs_guard::Bench;
 use xfs_mech::{Mechanism, Watch};
 use xfs_script::{Ending, answer_lines};
 
@@ -29,54 +26,19 @@ use xfs_script::{Ending, answer_lines};
 /// key and units.
 pub fn audit<S: Source, K: Sink, M: Mechanism, D: Disk, P: Watch, Q: Watch>(
     alloc: Global,
-    words: &[String],
     source: &mut S,
     sink: &mut K,
     bench: Bench<M, D, P, Q>,
 ) -> Ended<M, D, ()>
     ensures kept { ComesBack bench.core (back result) }
-    ensures runs { RunsAuditOf words.now bench.core result (io_of S.Source K.Sink source.old source.new sink.old sink.new) }
-    ensures usage { TellsUsage (IsAudit words.now) bench result source.old source.new (io_of S.Source K.Sink source.old source.new sink.old sink.new) }
+    ensures runs { RunsAudit bench.core (back result) (io_of S.Source K.Sink source.old source.new sink.old sink.new) }
+    ensures usage { result.status ≢ USAGE }
     ensures statuses { IsStatus result.status }
     ensures causes { IsCaused result.status (io_of S.Source K.Sink source.old source.new sink.old sink.new) }
     ensures second { ComesBack bench.second (second_back result) }
 {
-    let Bench {
-        core,
-        cards,
-        keys,
-        second,
-    } = bench;
-    let second = second_of(second);
-    drop(cards);
-    drop(keys);
-    let Core {
-        mech,
-        disk,
-        key,
-        seed: _,
-        units,
-        limits: _,
-        life: _,
-    } = core;
-    if !is_word(words, "audit") {
-        usage(sink);
-        return Ended {
-            status: USAGE,
-            mech,
-            disk,
-            link: None,
-            second,
-        };
-    }
-    let status = judge(alloc, &key, &units, source, sink);
-    Ended {
-        status,
-        mech,
-        disk,
-        link: None,
-        second,
-    }
+    let status = judge(alloc, &bench.core.key, &bench.core.units, source, sink);
+    give_back_untouched(bench, status, None)
 }
 
 // Takes in each line of the input, writes the verdict or the last line, and gives the status.

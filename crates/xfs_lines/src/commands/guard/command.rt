@@ -1,54 +1,41 @@
 //! The command `guard`.
 
-ghost use Rattle.std.specs.Prelude.{◌≡◌};
+ghost use Rattle.std.specs.Prelude.{◌≢◌};
 ghost use Rattle.xfs_guard.specs.Outcomes.{HandsBack};
 ghost use Rattle.xfs_guard.specs.Starts.{Starts};
-ghost use Rattle.xfs_lines.specs.Guard.Runs.{RunsGuardOf};
+ghost use Rattle.xfs_lines.specs.Guard.Runs.{RunsGuard};
 ghost use Rattle.xfs_lines.specs.Returns.{back, second_back, ComesBack};
-ghost use Rattle.xfs_lines.specs.Run.{IsGuard};
 ghost use Rattle.xfs_lines.specs.Output.Statuses.{IsCaused, IsStatus};
 ghost use Rattle.xfs_script.specs.Streams.{io_of};
 ghost use Rattle.xfs_lines.specs.Headlines.{EndsWell};
-ghost use Rattle.xfs_lines.specs.Output.Usages.{TellsUsage};
 
 use crate::commands::guard::player::GuardPlayer;
-use crate::ended::{Ended, second_of};
+use crate::ended::{Ended, cores_of, give_back, give_back_unbooted};
 use crate::input::answer_input;
-use crate::output::last_line::{finish_unbooted, usage};
 use crate::output::status::USAGE;
-use crate::words::is_word;
 use std::alloc::Global;
 use xfs_base::{Sink, Source};
 use xfs_disk::Disk;
-use xfs_guard::{Bench, BootFail, Core, Guard};
+use xfs_guard::{Bench, Core, Guard};
 use xfs_mech::{Mechanism, Watch};
 use xfs_token::TokenKey;
 
 /// Reads guard lines and answers each of them, before the next line is read.
 pub fn guard<S: Source, K: Sink, M: Mechanism, D: Disk, P: Watch, Q: Watch>(
     alloc: Global,
-    words: &[String],
     source: &mut S,
     sink: &mut K,
     bench: Bench<M, D, P, Q>,
 ) -> Ended<M, D, ()>
     requires starts { Starts M.Mechanism D.Disk bench.core }
     ensures ends { EndsWell M.Mechanism D.Disk bench.core (back result) }
-    ensures runs { RunsGuardOf words.now M.Mechanism D.Disk bench.core result (io_of S.Source K.Sink source.old source.new sink.old sink.new) }
-    ensures usage { TellsUsage (IsGuard words.now) bench result source.old source.new (io_of S.Source K.Sink source.old source.new sink.old sink.new) }
+    ensures runs { RunsGuard M.Mechanism D.Disk bench.core (back result) (io_of S.Source K.Sink source.old source.new sink.old sink.new) }
+    ensures usage { result.status ≢ USAGE }
     ensures statuses { IsStatus result.status }
     ensures causes { IsCaused result.status (io_of S.Source K.Sink source.old source.new sink.old sink.new) }
     ensures second { ComesBack bench.second (second_back result) }
 {
-    let Bench {
-        core,
-        cards,
-        keys,
-        second,
-    } = bench;
-    let second = second_of(second);
-    drop(cards);
-    drop(keys);
+    let (core, second) = cores_of(bench);
     let Core {
         mech,
         disk,
@@ -58,16 +45,6 @@ pub fn guard<S: Source, K: Sink, M: Mechanism, D: Disk, P: Watch, Q: Watch>(
         limits,
         life: _,
     } = core;
-    if !is_word(words, "guard") {
-        usage(sink);
-        return Ended {
-            status: USAGE,
-            mech,
-            disk,
-            link: None,
-            second,
-        };
-    }
     match Guard::boot(alloc, mech, disk, key, seed, units, limits) {
         Ok(guard) => {
             let mut player = GuardPlayer {
@@ -78,21 +55,9 @@ pub fn guard<S: Source, K: Sink, M: Mechanism, D: Disk, P: Watch, Q: Watch>(
             };
             let status = answer_input(alloc, &mut player, source, sink);
             let (mech, disk) = mech_and_disk(player);
-            Ended {
-                status,
-                mech,
-                disk,
-                link: None,
-                second,
-            }
+            give_back(status, mech, disk, second)
         }
-        Err(BootFail { why, mech, disk }) => Ended {
-            status: finish_unbooted(sink, why),
-            mech,
-            disk,
-            link: None,
-            second,
-        },
+        Err(fail) => give_back_unbooted(sink, fail, second),
     }
 }
 

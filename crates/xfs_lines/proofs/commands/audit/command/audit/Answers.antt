@@ -5,9 +5,9 @@ use Rattle.xfs_lines.proofs.LineEndLaws.{empty-audit, unbooted-finishes}
 use Rattle.xfs_lines.proofs.commands.audit.command.audit.Goals as goal
 
 pub returns-clause-runs : goal.returns-clause-runs
-returns-clause-runs g c = λ words.
+returns-clause-runs g c =
     let s = c.judge-status.ensures in
-    record {
+    rw c.give_back_untouched.ensures (record {
       audits = s.audits;
       verdict = λ zero. told_map (g.S.Source.left c.args.source.now) _ _ (λ text audits. audited c.args.bench.core.key c.args.bench.core.units c.judge-status.result _ text zero audits) s.audits;
       lines = s.lines;
@@ -15,4 +15,4 @@ returns-clause-runs g c = λ words.
       kept = record { mech = refl; disk = refl };
       unbooted = s.unbooted;
       finishes = unbooted-finishes _ empty-audit _ _ _ _ _ s.statuses s.usage s.unbooted s.causes.read s.causes.write s.causes.quota s.not_a_line;
-    }
+    })
