@@ -8,15 +8,15 @@ ghost use Rattle.xfs_common.specs.declared.payloads.Fit2.TheVariants as fit;
 ghost use Rattle.xfs_envelope.specs.Commands.{said};
 ghost use Rattle.xfs_envelope.specs.Messages.{IsPayload};
 ghost use Rattle.xfs_guard.specs.Fits.{unfit};
-ghost use Rattle.xfs_traffic.specs.Senders.{IsCompleted, IsSeen, with_both};
+ghost use Rattle.xfs_machine.specs.Changes.{CancelIsDone, IsDoneAtOnce};
+ghost use Rattle.xfs_traffic.specs.Senders.{IsCompleted};
 ghost use Rattle.xfs_model.specs.Frames.{IsAcknowledge, IsCompletion};
 ghost use Rattle.xfs_common.specs.Payloads.{capabilities_payload, status_payload};
 ghost use Rattle.xfs_common.specs.declared.error.ErrorCode.TheVariants.{NoMatchingRequestIds};
 ghost use Rattle.xfs_model.specs.Immediate.{ids_of, told_of};
 ghost use Rattle.xfs_model.specs.Results.{error, success};
 ghost use Rattle.xfs_units.specs.Payloads.{storage_payload};
-ghost use Rattle.xfs_model.specs.Posts.{DoesAtOnce};
-ghost use Rattle.xfs_model.specs.State.{Connection as ConnectionView, State};
+ghost use Rattle.xfs_model.specs.State.{State};
 ghost use Rattle.xfs_queue.specs.Commands.{names};
 ghost use Rattle.xfs_queue.specs.Queue.{is_named};
 
@@ -32,33 +32,29 @@ use xfs_envelope::{Code, Envelope, completion};
 use xfs_guard::Guard;
 use xfs_mech::Mechanism;
 use xfs_queue::{Command, Ids, Queue};
-use xfs_traffic::{Connections, Job, Outcome, Queues, Sender, acceptance_reply, is_service};
+use xfs_traffic::{Connections, Job, Outcome, Sender, Traffic, acceptance_reply, is_service};
 use xfs_units::storage;
 
 // Accepts a command and completes it. Where memory runs out nothing has changed.
 pub(crate) fn do_at_once<M: Mechanism, D: Disk>(
     alloc: Global,
     guard: &Guard<M, D>,
-    connections: &mut Connections,
-    queues: &mut Queues,
+    traffic: &mut Traffic,
     sender: Sender,
     command: &Envelope,
 ) -> Result<(), Memory>
-    ensures ok { OnOk result ((s : State) (k : ConnectionView) → k.client ≡ sender.client → k.service ≡ sender.service
-        → s.seen.guard ≡ guard.now.state
-        → DoesAtOnce (with_both s connections.old queues.old) k (said command.now) (with_both s connections.new queues.new)) }
-    ensures connections { OnErr result (connections.new ≡ connections.old) }
-    ensures queues { OnErr result (queues.new ≡ queues.old) }
+    ensures ok { OnOk result (IsDoneAtOnce sender guard.now.state (said command.now) traffic.old traffic.new) }
+    ensures err { OnErr result (traffic.new ≡ traffic.old) }
 {
     if command.name.as_str() == "Common.Cancel" {
-        return cancel(alloc, connections, queues, sender, command);
+        return cancel(alloc, traffic, sender, command);
     }
     if is_present_status(sender.service, command.name.as_str()) {
         let outcome = told_present_status(alloc, guard, &command.payload)?;
-        return complete(alloc, connections, sender, command, &outcome);
+        return complete(alloc, &mut traffic.connections, sender, command, &outcome);
     }
     let outcome = tell(alloc, guard, sender.service, command.name.as_str())?;
-    complete(alloc, connections, sender, command, &outcome)
+    complete(alloc, &mut traffic.connections, sender, command, &outcome)
 }
 
 // The acknowledge and the completion are sent, or neither.
@@ -140,32 +136,31 @@ fn tell_storage<M: Mechanism, D: Disk>(
 // A Cancel stops the named commands of its client, where one of them is pending.
 fn cancel(
     alloc: Global,
-    connections: &mut Connections,
-    queues: &mut Queues,
+    traffic: &mut Traffic,
     sender: Sender,
     command: &Envelope,
 ) -> Result<(), Memory>
     requires { command.now.name ≡ codes "Common.Cancel" }
-    ensures ok { OnOk result ((s : State) (k : ConnectionView) → k.client ≡ sender.client → k.service ≡ sender.service
-        → DoesAtOnce (with_both s connections.old queues.old) k (said command.now) (with_both s connections.new queues.new)) }
-    ensures connections { OnErr result (connections.new ≡ connections.old) }
-    ensures queues { OnErr result (queues.new ≡ queues.old) }
+    ensures ok { OnOk result (CancelIsDone sender (said command.now) traffic.old traffic.new) }
+    ensures err { OnErr result (traffic.new ≡ traffic.old) }
 {
     let ids = match read_cancel(alloc, &command.payload) {
         Ok(what) => ids_of(what),
         Err(ReadFail::Shape) => {
             let outcome = Outcome::new(Code::InvalidData, nothing(alloc));
-            return complete(alloc, connections, sender, command, &outcome);
+            return complete(alloc, &mut traffic.connections, sender, command, &outcome);
         }
         Err(ReadFail::Memory) => return Err(Memory),
     };
-    if !names_one(queues.at(sender.service), sender.client, &ids) {
+    if !names_one(traffic.queues.at(sender.service), sender.client, &ids) {
         let outcome = no_matching(alloc)?;
-        return complete(alloc, connections, sender, command, &outcome);
+        return complete(alloc, &mut traffic.connections, sender, command, &outcome);
     }
     let outcome = Outcome::new(Code::Success, nothing(alloc));
-    complete(alloc, connections, sender, command, &outcome)?;
-    queues.stop(alloc, sender.service, sender.client, &ids);
+    complete(alloc, &mut traffic.connections, sender, command, &outcome)?;
+    traffic
+        .queues
+        .stop(alloc, sender.service, sender.client, &ids);
     Ok(())
 }
 

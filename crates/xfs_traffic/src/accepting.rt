@@ -5,18 +5,18 @@ ghost use Rattle.xfs_base.specs.declared.moment.TheConstants.{LAST_MOMENT};
 ghost use Rattle.xfs_conversation.specs.Pending.{is_wrong_id};
 ghost use Rattle.xfs_envelope.specs.Commands.{said};
 ghost use Rattle.xfs_envelope.specs.declared.code.Status.TheVariants.{InvalidMessage};
-ghost use Rattle.xfs_traffic.specs.Senders.{IsTurnedAway, IsSeen, with_both};
+ghost use Rattle.xfs_traffic.specs.Senders.{IsAccepted, IsTurnedAway};
 ghost use Rattle.xfs_model.specs.Commands.{line_of};
 ghost use Rattle.xfs_model.specs.Frames.{IsAcknowledge};
 ghost use Rattle.xfs_model.specs.Pendings.{pending_in};
-ghost use Rattle.xfs_model.specs.Posts.{Accepts, is_crowded};
-ghost use Rattle.xfs_model.specs.State.{Connection as ConnectionView, State, queue_of};
+ghost use Rattle.xfs_model.specs.Posts.{is_crowded};
+ghost use Rattle.xfs_model.specs.State.{queue_of};
 ghost use Rattle.xfs_queue.specs.Commands.{is_of};
 
 use crate::asks::ask_of;
 use crate::connections::Connections;
 use crate::job::Job;
-use crate::queues::Queues;
+use crate::traffic::Traffic;
 use std::alloc::Global;
 use xfs_base::{Bytes, ClientId, Memory, Moment, Service};
 use xfs_conversation::is_request_id;
@@ -115,8 +115,7 @@ pub fn acceptance_reply(alloc: Global, command: &Envelope) -> Result<Bytes, Memo
 /// The command is pending from now on. Where its acknowledge can't be sent, it is taken out again.
 pub fn accept(
     alloc: Global,
-    connections: &mut Connections,
-    queues: &mut Queues,
+    traffic: &mut Traffic,
     sender: Sender,
     line: Line,
     command: Envelope,
@@ -124,12 +123,10 @@ pub fn accept(
 ) -> Result<(), Memory>
     requires moment { now.0 ≤ LAST_MOMENT }
     requires line { line_of sender.service command.name ≡ Some line }
-    requires free { is_wrong_id (pending_in sender.client (queue_of queues.old sender.service)) command.id ≡ false }
-    requires roomy { is_crowded (queue_of queues.old sender.service) sender.client ≡ false }
-    ensures ok { OnOk result ((s : State) (k : ConnectionView) → IsSeen now sender s k
-        → Accepts (with_both s connections.old queues.old) k line (said command) (with_both s connections.new queues.new)) }
-    ensures connections { OnErr result (connections.new ≡ connections.old) }
-    ensures queues { OnErr result (queues.new ≡ queues.old) }
+    requires free { is_wrong_id (pending_in sender.client (queue_of traffic.old.queues sender.service)) command.id ≡ false }
+    requires roomy { is_crowded (queue_of traffic.old.queues sender.service) sender.client ≡ false }
+    ensures ok { OnOk result (IsAccepted now sender line (said command) traffic.old traffic.new) }
+    ensures err { OnErr result (traffic.new ≡ traffic.old) }
 {
     let reply = acceptance_reply(alloc, &command)?;
     let ask = ask_of(
@@ -144,11 +141,16 @@ pub fn accept(
         id: command.id,
     };
     let job = Job::new(command.name, ask);
-    queues.offer(sender.service, ticket, line, command.timeout, now, job)?;
-    match connections.send(sender.service, sender.client, reply) {
+    traffic
+        .queues
+        .offer(sender.service, ticket, line, command.timeout, now, job)?;
+    match traffic
+        .connections
+        .send(sender.service, sender.client, reply)
+    {
         Ok(()) => Ok(()),
         Err(Memory) => {
-            queues.remove(sender.service, ticket);
+            traffic.queues.remove(sender.service, ticket);
             Err(Memory)
         }
     }

@@ -15,6 +15,7 @@ mod queues;
 mod reading;
 mod running_plan;
 mod stopping;
+mod traffic;
 
 pub use accepting::{
     Sender, accept, acceptance_reply, is_crowded, is_wrong_id, refuse, refuse_text,
@@ -23,7 +24,7 @@ pub use answering::answer_first;
 pub use asks::line_of;
 pub use connection::Connection;
 pub use connections::{Connections, is_service};
-pub use devices::{fail_card, fail_keys, press_key, put_card, take_card};
+pub use devices::{Devices, fail_card, fail_keys, press_key, put_card, take_card};
 pub use frames::Frames;
 pub use job::{Ask, Ending, Job, Outcome};
 pub use notices::{insert_card, nonce_ended};
@@ -31,3 +32,4 @@ pub use queues::Queues;
 pub use reading::Reading;
 pub use running_plan::RunningPlan;
 pub use stopping::{running_command, stop_running, time_out};
+pub use traffic::Traffic;
