@@ -1,5 +1,5 @@
 -- How an order is carried out: it is refused; or it is written, acted and settled, and the disk may fail at either record. How counts are stacked by such orders.
-use Rattle.std.specs.Prelude.{◌≡◌, ◌≤◌, ◌⊎◌, ℕ, zero, suc, ◌+◌, true, false, List, [], ◌∷◌, replicate, slice_set, take, Ok, Err, Some, None}
+use Rattle.std.specs.Prelude.{◌≡◌, ◌≤◌, ◌⊎◌, ℕ, ◌-◌, true, false, List, [], ◌∷◌, replicate, slice_set, take, Ok, Err, Some, None}
 use Rattle.std.specs.declared.result.Result.{Result}
 use Rattle.xfs_base.specs.Causes.{Rose}
 use Rattle.xfs_base.specs.Counts.{at}
@@ -13,6 +13,7 @@ use Rattle.xfs_guard.specs.declared.deny.Deny.{Deny}
 use Rattle.xfs_guard.specs.declared.deny.Deny.TheVariants.{Disk}
 use Rattle.xfs_dispenser.specs.Seen.{Seen, Becomes, Fails, MechCalled}
 use Rattle.xfs_dispenser.specs.Steps.{order_record, ordered, refusal_of}
+use Rattle.xfs_dispenser.specs.Units.{units_with}
 
 -- an order was written and acted, with this outcome
 pub record IsOrderActed (s : Seen) (ask : Ask) (outcome : Outcome) (acted : Seen) : Type 0 where
@@ -75,19 +76,18 @@ pub record StacksUnit (Onward : Outcome → Seen → Result Outcome Deny → See
   pub carried : CarriesOut s ask one middle
   pub onward : FollowsUnit Onward all u one middle result next
 
--- counts are stacked from the unit u on, which counts from 0, unit by unit, behind all that was stacked before
-abbrev pub Stacks : ℕ → List ℕ → ℕ → Outcome → Seen → Result Outcome Deny → Seen → Type 0
-Stacks issue [] u all s result next = (result ≡ Ok all) × (next ≡ s)
-Stacks issue (zero ∷ counts) u all s result next = Stacks issue counts (u + 1) all s result next
-Stacks issue (suc n ∷ counts) u all s result next = StacksUnit (Stacks issue counts (u + 1)) s (Stack issue (u + 1) (suc n)) all u result next
+-- the notes of these units are stacked, by an order for each, behind all that was stacked before
+abbrev pub Stacks : ℕ → List (ℕ × ℕ) → Outcome → Seen → Result Outcome Deny → Seen → Type 0
+Stacks issue [] all s result next = (result ≡ Ok all) × (next ≡ s)
+Stacks issue (unit ∷ units) all s result next = StacksUnit (Stacks issue units) s (Stack issue unit.0 unit.1) all (unit.0 - 1) result next
 
 -- the counts of all units are stacked
 abbrev pub StacksAll : ℕ → Counts → Seen → Result Outcome Deny → Seen → Type 0
-StacksAll issue counts s result next = Stacks issue counts.0 0 nothing_stacked s result next
+StacksAll issue counts s result next = Stacks issue (units_with counts.0) nothing_stacked s result next
 
 -- the orders of the first units were carried out, and none of them failed
 pub record StacksFirst (issue : ℕ) (counts : List ℕ) (s end : Seen) : Type 0 where
   pub units : ℕ
   pub outcome : Outcome
-  pub stacked : Stacks issue (take units counts) 0 nothing_stacked s (Ok outcome) end
+  pub stacked : Stacks issue (take units (units_with counts)) nothing_stacked s (Ok outcome) end
   pub fine : outcome.failed ≡ false

@@ -1,18 +1,13 @@
 -- A dispense that its token covers, and a present behind it, are done in full, where no count of faults rises.
-use Rattle.std.proofs.Common.{◌≡◌, ◌≤◌, ◌+◌, ◌-◌, ◌==◌, ℕ, zero, suc, Bool, true, false, List, [], ◌∷◌, ◌++◌, length, drop, get_or, None, Some, Ok, Err, inl, inr, refl, sym, subst, ◌∙◌, ap, arith, true≢false}
-use Rattle.std.specs.Prelude.{◌&&◌, fold, replicate, nat_lt, not, sum, zip, codes, if◌then◌else◌}
-use Rattle.std.specs.List.{prefix_len}
+use Rattle.std.proofs.Common.{◌≡◌, ◌≤◌, ◌+◌, ◌-◌, ℕ, false, List, [], ◌∷◌, ◌++◌, length, None, Some, Ok, Err, inl, inr, refl, sym, subst, ◌∙◌, ap, arith}
+use Rattle.std.specs.Prelude.{fold, replicate, codes}
 use Rattle.std.specs.Option.{option_map}
 use Rattle.std.specs.declared.option.Option.{Option}
 use Rattle.std.specs.declared.result.Result.{Result}
-use Rattle.std.proofs.lemmas.Bool.{le-ltb, ne_eqb}
-use Rattle.std.proofs.lemmas.List.{append-nil, get_or-drop, length-set}
-use Rattle.std.proofs.lemmas.List.Folds.{sum_by-zero}
+use Rattle.std.proofs.lemmas.List.{length-set}
 use Rattle.xfs_base.specs.Counts.{at}
 use Rattle.xfs_base.specs.declared.counts.Counts.{Counts as CountsOf}
 use Rattle.xfs_token.proofs.Whole.{one_token, no_fault}
-use Rattle.xfs_mix.specs.Asked.{count_fault, is_none}
-use Rattle.xfs_mix.specs.declared.asked.CountFault.TheVariants.{Empty, TooMany, Short as ShortCount}
 use Rattle.xfs_mech.specs.declared.motion.Outcome.{Outcome}
 use Rattle.xfs_journal.specs.declared.record.Rec.TheVariants.{Bind}
 use Rattle.xfs_guard.specs.View.{View}
@@ -38,7 +33,7 @@ use Rattle.xfs_lines.specs.Guard.Moves.{Moves, IsOrderLine}
 use Rattle.xfs_lines.specs.Guard.Dispenses.{Dispenses, IsAllowed, IsOrdered, named}
 use Rattle.xfs_lines.specs.Guard.Texts.{outcome_text}
 use Rattle.xfs_lines.specs.Guard.Verbs.{AnswersGuard, AreGuardAnswer}
-use Rattle.xfs_lines.specs.Guard.Complete.{AnswersInFull, CanDispense, CanPresent, IsBindable, IsCalm, IsCoveredBy, IsDispensed, IsGood, IsPresented, moved_line}
+use Rattle.xfs_lines.specs.Guard.Complete.{AnswersInFull, CanDispense, CanPresent, IsBindable, IsCalm, IsDispensed, IsGood, IsPresented, moved_line}
 use Rattle.xfs_dispenser.specs.Carried.{nothing_stacked}
 use Rattle.xfs_dispenser.specs.Checks.{Passed, GrantChecks, Permits, TokenChecks, passed_unless, within_budget}
 use Rattle.xfs_dispenser.specs.Denominations.{FirstOf, given_unless}
@@ -49,6 +44,7 @@ use Rattle.xfs_dispenser.specs.declared.refusal.Refusal.{Refusal}
 use Rattle.xfs_dispenser.specs.declared.refusal.Refusal.TheVariants.{Deny as Denied}
 use Rattle.xfs_lines.proofs.DispenseLaws.{IsLet, is-let}
 use Rattle.xfs_lines.proofs.GuardStateLaws.{told-some}
+use Rattle.xfs_dispenser.proofs.CarryLaws.{stacks-from-units}
 use Rattle.xfs_dispenser.proofs.CompleteLaws.{fault-none, some-gained, some-nonce}
 use Rattle.xfs_dispenser.proofs.StackLaws.{present-places}
 use Rattle.xfs_dispenser.proofs.TurnLaws.{IsLater, calm-rest}
@@ -157,7 +153,7 @@ ordered-full s next token bytes line counts eight is c calm o =
     let calm-on = calm-rest (guard_of s) (guard_of o.bound) (guard_of next) (bound-later c.binding) calm in
     let stacked = rw l.counts_are at o.stacked in
     let all = stacks-full o.grant.issue c.amounts counts.0 0 [] nothing_stacked (guard_of o.bound) o.result (guard_of next) refl (omega (arith, eight)) refl (rw eight refl)
-    (rw eight ready.0) ready.1 calm-on stacked in
+    (rw eight ready.0) ready.1 calm-on (stacks-from-units o.grant.issue counts.0 0 nothing_stacked (guard_of o.bound) o.result (guard_of next) stacked) in
     let told : IsOrderLine (codes "moved") (Ok all.outcome) line = rw all.is at o.told in
     let lives = some-nonce (live_nonce next.guard.records) o.grant.issue all.open_for.lives in
     let gained : (u : ℕ) → at next.guard.places.transport u ≡ at s.guard.places.transport u + at counts u = (λ u. rw ready.2 at (all.transport u)) in

@@ -9,7 +9,8 @@ use Rattle.xfs_guard.specs.declared.ask.Ask.TheVariants.{Stack as AskStack}
 use Rattle.xfs_guard.specs.declared.deny.Deny.{Deny}
 use Rattle.xfs_dispenser.specs.Seen.{Seen}
 use Rattle.xfs_dispenser.specs.Complete.{IsCalm}
-use Rattle.xfs_dispenser.specs.Carried.{CarriesOut, IsOrderActed, IsOrderSettled, IsStopped, Stacks, FollowsUnit, with_stacked}
+use Rattle.xfs_dispenser.specs.Carried.{CarriesOut, IsOrderActed, IsOrderSettled, IsStopped, FollowsUnit, with_stacked}
+use Rattle.xfs_dispenser.proofs.CarryLaws.{StacksFrom}
 use Rattle.xfs_dispenser.specs.Steps.{refusal_of}
 use Rattle.xfs_dispenser.proofs.TurnLaws.{IsFull, IsLater, full-of, later-becomes, later-same, later-trans, rose-within, sound, written-kind}
 
@@ -42,12 +43,12 @@ follows-later Onward each all u (Err d) s result next f = later-same s next f.1
 follows-later Onward each all u (Ok o) s result next (inl f) = later-same s next f.2
 follows-later Onward each all u (Ok o) s result next (inr f) = each (with_stacked all u o) s result next f.1
 
-pub stacks-later : (issue : ℕ) (counts : List ℕ) (u : ℕ) (all : Outcome) (s : Seen) (result : Result Outcome Deny) (next : Seen) → Stacks issue counts u all s result next → IsLater s next
+pub stacks-later : (issue : ℕ) (counts : List ℕ) (u : ℕ) (all : Outcome) (s : Seen) (result : Result Outcome Deny) (next : Seen) → StacksFrom issue counts u all s result next → IsLater s next
 stacks-later issue [] u all s result next h = later-same s next h.1
 stacks-later issue (zero ∷ counts) u all s result next h = stacks-later issue counts (u + 1) all s result next h
 stacks-later issue (suc n ∷ counts) u all s result next h =
     later-trans s h.middle next (carries-later s (AskStack issue (u + 1) (suc n)) h.one h.middle h.carried)
-    (follows-later (Stacks issue counts (u + 1)) (λ all s result next more. stacks-later issue counts (u + 1) all s result next more) all u h.one h.middle result next h.onward)
+    (follows-later (StacksFrom issue counts (u + 1)) (λ all s result next more. stacks-later issue counts (u + 1) all s result next more) all u h.one h.middle result next h.onward)
 
 -- ---- an order that isn't refused
 

@@ -10,7 +10,8 @@ use Rattle.xfs_guard.specs.Refusals.{notes_of}
 use Rattle.xfs_guard.specs.declared.ask.Ask.TheVariants.{Stack as AskStack}
 use Rattle.xfs_guard.specs.declared.deny.Deny.{Deny}
 use Rattle.xfs_dispenser.specs.Seen.{Seen}
-use Rattle.xfs_dispenser.specs.Carried.{Stacks, GoesOn, with_stacked}
+use Rattle.xfs_dispenser.specs.Carried.{GoesOn, with_stacked}
+use Rattle.xfs_dispenser.proofs.CarryLaws.{StacksFrom}
 use Rattle.xfs_dispenser.specs.Complete.{IsCalm}
 use Rattle.xfs_dispenser.proofs.StackLaws.{ahead-after, more-room, open-after, stack-places}
 use Rattle.xfs_dispenser.proofs.TurnLaws.{IsFull, calm-first, calm-rest}
@@ -75,12 +76,12 @@ moved-after all one before rest u n low long was is =
     let b : set (before ++ 0 ∷ zeros (length rest)) u n ≡ before ++ n ∷ zeros (length rest) = rw (← long) (set-append_seam before 0 (zeros (length rest)) n) in
     a ∙ (b ∙ sym (one-more before (zeros (length rest)) n))
 
-stacks-at : (issue : ℕ) (rest : List ℕ) (u v : ℕ) (all : Outcome) (s : Seen) (result : Result Outcome Deny) (next : Seen) → u ≡ v → Stacks issue rest u all s result next → Stacks issue rest v all s result next
-stacks-at issue rest u v all s result next e h = subst (λ k. Stacks issue rest k all s result next) e h
+stacks-at : (issue : ℕ) (rest : List ℕ) (u v : ℕ) (all : Outcome) (s : Seen) (result : Result Outcome Deny) (next : Seen) → u ≡ v → StacksFrom issue rest u all s result next → StacksFrom issue rest v all s result next
+stacks-at issue rest u v all s result next e h = subst (λ k. StacksFrom issue rest k all s result next) e h
 
 pub stacks-full : (issue : ℕ) (amounts : List (List ℕ × ℕ)) (rest : List ℕ) (u : ℕ) (before : List ℕ) (all : Outcome) (s : Seen) (result : Result Outcome Deny) (next : Seen)
     → length before ≡ u → u + length rest ≤ 8 → all.failed ≡ false → all.moved.0 ≡ before ++ zeros (length rest)
-    → IsOpenFor s.guard issue amounts (length rest) → IsAhead s.guard amounts (ahead u rest) → IsCalm s next → Stacks issue rest u all s result next
+    → IsOpenFor s.guard issue amounts (length rest) → IsAhead s.guard amounts (ahead u rest) → IsCalm s next → StacksFrom issue rest u all s result next
     → IsStacked s issue amounts u before rest result next
 stacks-full issue amounts [] u before all s result next long few fine was o h calm (is, same) = rw same (record {
   outcome = all;
@@ -100,11 +101,11 @@ stacks-full issue amounts (zero ∷ rest) u before all s result next long few fi
     (more-room s.guard issue (length rest) amounts o) had calm there)
 stacks-full issue amounts (suc n ∷ rest) u before all s result next long few fine was o h calm unit =
     let low : u < 8 = omega (arith, few) in
-    let behind = follows-later (Stacks issue rest (u + 1)) (λ all s result next more. stacks-later issue rest (u + 1) all s result next more) all u unit.one unit.middle result next unit.onward in
+    let behind = follows-later (StacksFrom issue rest (u + 1)) (λ all s result next more. stacks-later issue rest (u + 1) all s result next more) all u unit.one unit.middle result next unit.onward in
     let first = calm-first s unit.middle next behind calm in
     let later = calm-rest s unit.middle next (carries-later s (AskStack issue (u + 1) (suc n)) unit.one unit.middle unit.carried) calm in
     let f = carries-full s (AskStack issue (u + 1) (suc n)) unit.one unit.middle (free-order s.guard issue u (suc n) amounts rest low o h) first unit.carried in
-    let goes : GoesOn (Stacks issue rest (u + 1)) (with_stacked all u f.outcome) unit.middle result next = rw f.is at unit.onward in
+    let goes : GoesOn (StacksFrom issue rest (u + 1)) (with_stacked all u f.outcome) unit.middle result next = rw f.is at unit.onward in
     elim goes [
       | inl stops ↦ absurd (true-false f.outcome.failed stops.0 f.fine)
       | inr on ↦ (

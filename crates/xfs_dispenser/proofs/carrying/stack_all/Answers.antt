@@ -4,7 +4,7 @@ use Rattle.xfs_mix.specs.Asked.{is_none}
 use Rattle.xfs_guard.proofs.KeepsLaws.{Proceeds-same, Proceeds-trans}
 use Rattle.xfs_dispenser.specs.Seen.{seen}
 use Rattle.xfs_dispenser.specs.Carried.{StacksFirst}
-use Rattle.xfs_dispenser.proofs.CarryLaws.{deny-memory, front-first, front-unit, not-disk, stacks-next, stacks-none, stacks-stop}
+use Rattle.xfs_dispenser.proofs.CarryLaws.{deny-memory, front-first, front-unit, not-disk, stacks-next, stacks-none, stacks-over, stacks-stop, stacks-units}
 use Rattle.xfs_dispenser.proofs.carrying.stack_all.Goals as goal
 
 pub loop-place-init : goal.loop-place-init
@@ -13,7 +13,7 @@ loop-place-init g c = record {
   none = c.requires.none;
   fine = refl;
   front = λ more result next h. h;
-  onward = λ result last h. h;
+  onward = λ result last h. stacks-units c.args.issue c.args.counts.now.0 0 _ _ result last h;
 }
 
 pub returns-in_err-outcome-clause-stacked : goal.returns-in_err-outcome-clause-stacked
@@ -23,6 +23,11 @@ returns-in_err-outcome-clause-stacked g c = λ some.
 
 pub returns-in_err-outcome-clause-proceeds : goal.returns-in_err-outcome-clause-proceeds
 returns-in_err-outcome-clause-proceeds g c = Proceeds-trans g.D.Disk _ _ _ g.met.D.Disk.counts_now c.loop-place.invariant.proceeds c.carry_out.ensures.proceeds
+
+pub returns-then-all-clause-stacked : goal.returns-then-all-clause-stacked
+returns-then-all-clause-stacked g c = λ some.
+    c.loop-place.invariant.onward _ _
+    (stacks-over _ _ _ _ _ c.in_ok-outcome.outcome _ _ c.from-at.ensures c.if-count-eq0.false (c.in_ok-outcome.ensures.carried (λ e. cc)) c.if-all.true)
 
 pub returns-then-all-clause-proceeds : goal.returns-then-all-clause-proceeds
 returns-then-all-clause-proceeds g c = Proceeds-trans g.D.Disk _ _ _ g.met.D.Disk.counts_now c.loop-place.invariant.proceeds c.carry_out.ensures.proceeds
