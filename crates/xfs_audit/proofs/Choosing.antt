@@ -15,13 +15,10 @@ use Rattle.xfs_envelope.specs.Replies.{Reply, reply_in, acknowledge, event, comp
 use Rattle.xfs_conversation.specs.Answers.{is_invalid_message}
 use Rattle.xfs_conversation.specs.Parts.{EachFrame}
 use Rattle.xfs_conversation.specs.Pending.{Pending, pending_of}
-use Rattle.xfs_audit.specs.Conversing.{Acknowledges, misread, refused, accepted, Says, completed, told, announced, Converses, ended, posted, heard, IsWithout}
+use Rattle.xfs_audit.specs.Conversing.{Acknowledges, misread, refused, accepted, Says, completed, told, announced, Converses, ended, posted, heard, ids_of, IsWithout}
 use Rattle.xfs_audit.specs.Fitting.{status_in, ended_in, event_id_in, statuses, completions, asked, accepted_by, is_among, unended, Ends, HasOpenId, Fits}
 use Rattle.xfs_audit.proofs.Counting.{split-contains, contains-split}
 use Rattle.xfs_audit.proofs.Unended.{unended-push, unended-without, unended-found, among-other}
-
-abbrev ids_of : List Pending → List ℕ
-ids_of ps = map (λ (p : Pending). p.id) ps
 
 abbrev texts_are : List (List ℕ) → List Bool
 texts_are texts = map (λ text. is_err (command_in text)) texts

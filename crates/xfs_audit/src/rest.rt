@@ -150,7 +150,8 @@ impl Rest {
 
     fn answer_refused(&mut self, refuse: Refuse, status: Option<Status>) -> Result<(), Memory>
         ensures left { self.new.left ≡ self.old.left }
-        ensures ways { OnOk result ((refuse.why ≢ Why.Memory) × ((ids : List ℕ) → AnswersText ids (Err refuse) status self.old.ways.items self.new.ways.items)) }
+        ensures known { OnOk result (refuse.why ≢ Why.Memory) }
+        ensures ways { OnOk result ((ids : List ℕ) → AnswersText ids (Err refuse) status self.old.ways.items self.new.ways.items) }
     {
         if let Why::Memory = refuse.why {
             return Err(Memory);

@@ -106,7 +106,7 @@ known_of h texts unread frames later frame pending hearing talk =
     ]
 
 pub remembered_of : (h : List Entry) (texts unread frames : List (List ℕ)) (pending : List Pending) (d : Remembered)
-    → Hearing h (texts ++ unread) frames → Conversation texts frames pending → Keeps d h → Remembers d pending (length texts) (length (texts ++ unread))
+    → Hearing h (texts ++ unread) frames → Conversation texts frames pending → Keeps d h → Remembers d texts unread pending
 remembered_of h texts unread frames pending d hearing talk keeps =
     let asks_ = asks_of hearing in
     let a = agreed hearing texts pending talk (front_asks 1 texts unread asks_.0) in

@@ -1,5 +1,5 @@
 -- What a desk asked and heard, by the texts that it sent and by the frames that it took, each the oldest first.
-use Rattle.std.specs.Prelude.{◌≡◌, ◌+◌, ◌&&◌, ℕ, List, [], ◌∷◌, ◌++◌, nat_le, nat_lt, Option, IfSome, Ok}
+use Rattle.std.specs.Prelude.{◌≡◌, ◌+◌, ◌&&◌, ℕ, List, [], ◌∷◌, ◌++◌, length, nat_le, nat_lt, Option, IfSome, Ok}
 use Rattle.xfs_conversation.specs.Answers.{heading_of}
 use Rattle.xfs_conversation.specs.Conversation.{Conversation}
 use Rattle.xfs_conversation.specs.Pending.{Pending, is_pending}
@@ -54,10 +54,14 @@ pub record HeardAll (d : Remembered) (texts unread : List (List ℕ)) (pending :
   pub hears : Hearing history (texts ++ unread) frames
   pub talk : Conversation texts frames pending
 
--- A desk that made so many asks remembers what is pending, where the service acknowledged so many of them.
-pub record Remembers (d : Remembered) (pending : List Pending) (acknowledged made : ℕ) : Type 0 where
+-- P holds wherever a desk heard every frame of a lawful conversation
+abbrev pub WhereHeardAll : (Remembered → List (List ℕ) → List (List ℕ) → List Pending → Type 0) → Type 0
+WhereHeardAll P = (d : Remembered) (texts unread : List (List ℕ)) (pending : List Pending) → HeardAll d texts unread pending → P d texts unread pending
+
+-- A desk remembers what is pending in the conversation of these texts, and the asks that it has not come to.
+pub record Remembers (d : Remembered) (texts unread : List (List ℕ)) (pending : List Pending) : Type 0 where
   -- those that are acknowledged and not over are the pending commands
   pub running : (id : ℕ) → has d.acknowledged id ≡ is_pending pending id
   -- those that wait for their acknowledge are the texts that the service hasn't answered yet
-  pub waiting : (id : ℕ) → has d.unacknowledged id ≡ (nat_lt acknowledged id && nat_le id made)
-  pub asked : d.asked ≡ made
+  pub waiting : (id : ℕ) → has d.unacknowledged id ≡ (nat_lt (length texts) id && nat_le id (length (texts ++ unread)))
+  pub asked : d.asked ≡ length (texts ++ unread)

@@ -1,11 +1,12 @@
 -- What a withdrawal asked, by the frames that it heard.
 use Rattle.xfs_conversation.specs.Conversation.{Conversation}
 use Rattle.xfs_conversation.specs.Pending.{Pending}
-use Rattle.std.specs.Prelude.{◌≡◌, ℕ, List, [], ◌∷◌, ◌++◌, codes, None, Ok}
+use Rattle.std.specs.Prelude.{◌≡◌, ℕ, List, [], ◌∷◌, ◌++◌, codes, None, Ok, Err}
 use Rattle.serde_json.specs.Data.{Data}
 use Rattle.xfs_client.specs.Commands.{ReadsAs, command_text}
 use Rattle.xfs_client.specs.History.{Entry, asks, completed, told_in}
 use Rattle.xfs_client.specs.Withdrawals.{Terms, IsMove, conversation, nonce_of, step_in}
+use Rattle.xfs_client.specs.declared.heard.HearFault.{HearFault}
 use Rattle.xfs_client.specs.declared.withdrawal.Move.{Move}
 use Rattle.xfs_client.specs.declared.withdrawal.Move.TheVariants.{Ask, Wait, Done, Ended, Refused}
 use Rattle.xfs_envelope.specs.Fields.{empty}
@@ -48,3 +49,12 @@ pub record LacksNonce (h : List Entry) (frame : List ℕ) : Type 0 where
   pub alone : asks h ≡ 1
   pub succeeded : told_in h frame ≡ Ok (completed 1 Success payload)
   pub none : nonce_of payload ≡ None
+
+-- the withdrawal refuses the frame behind these
+pub record IsUnheard (before : List (List ℕ)) (frame : List ℕ) : Type 0 where
+  pub why : HearFault
+  pub refuses : step_in (conversation before) frame ≡ Err why
+
+-- of a frame that comes next in a lawful conversation nothing is missing but the nonce
+abbrev pub LacksNonceAlone : Terms → List (List ℕ) → List ℕ → Type 0
+LacksNonceAlone terms before frame = ComesTo terms before frame → LacksNonce (conversation before) frame

@@ -12,7 +12,7 @@ ghost use Rattle.xfs_client.specs.Desks.{GrowsBy, OfKept};
 ghost use Rattle.xfs_client.specs.History.{told, told_in};
 ghost use Rattle.xfs_client.specs.Hearings.{AsksOn, ComesNext, Hearing, OfHearing};
 ghost use Rattle.xfs_client.specs.Withdrawals.{HasHeard, IsMove, OfHeard, conversation, step_in};
-ghost use Rattle.xfs_client.specs.Withdraws.{ComesTo, LacksNonce, WithdrawsOn};
+ghost use Rattle.xfs_client.specs.Withdraws.{LacksNonceAlone, WithdrawsOn};
 ghost use Rattle.xfs_client.specs.History as history;
 ghost use Rattle.xfs_client.specs.declared.desk.AskFault.TheVariants as AskFault;
 ghost use Rattle.xfs_client.specs.declared.heard.HearFault.TheVariants as HearFault;
@@ -54,8 +54,7 @@ pub fn hear(desk: &mut Desk, frame: &[u8]) -> Result<Heard, HearFault>
 pub fn next(withdrawal: &mut Withdrawal, frame: &[u8]) -> Result<Move, HearFault>
     ensures moved { IfOk result (λ m. OfHeard withdrawal.old (λ before. IsMove withdrawal.old.terms (step_in (conversation before) frame.now) m)) }
     ensures refused { IfErr result (λ e. e ≢ HearFault.Memory → OfHeard withdrawal.old (λ before. step_in (conversation before) frame.now ≡ Err e)) }
-    ensures known { IfErr result (λ e. e ≢ HearFault.Memory → OfHeard withdrawal.old (λ before. ComesTo withdrawal.old.terms before frame.now
-        → LacksNonce (conversation before) frame.now)) }
+    ensures known { IfErr result (λ e. e ≢ HearFault.Memory → OfHeard withdrawal.old (λ before. LacksNonceAlone withdrawal.old.terms before frame.now)) }
     ensures heard { OnOk result (OfHeard withdrawal.old (λ before. HasHeard withdrawal.new (before ++ frame.now ∷ []))) }
     ensures withdraws { IfOk result (λ m. OfHeard withdrawal.old (λ before. WithdrawsOn withdrawal.old.terms withdrawal.new.terms m before frame.now)) }
     ensures terms { withdrawal.new.terms ≡ withdrawal.old.terms }

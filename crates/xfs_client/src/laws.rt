@@ -1,13 +1,10 @@
 //! What a client knows of a lawful conversation.
 
-ghost use Rattle.std.specs.Prelude.{◌≡◌, ◌++◌, ℕ, List, length, Ok, Err};
-ghost use Rattle.xfs_client.specs.Desks.{Remembered};
+ghost use Rattle.std.specs.Prelude.{◌≡◌, ℕ, List, Ok};
 ghost use Rattle.xfs_client.specs.History.{Entry, Told, told_in};
-ghost use Rattle.xfs_client.specs.Withdrawals.{Terms, conversation, step_in};
-ghost use Rattle.xfs_client.specs.declared.heard.HearFault.{HearFault};
-ghost use Rattle.xfs_conversation.specs.Pending.{Pending};
-ghost use Rattle.xfs_client.specs.Hearings.{ComesNext, HeardAll, Remembers};
-ghost use Rattle.xfs_client.specs.Withdraws.{ComesTo, LacksNonce};
+ghost use Rattle.xfs_client.specs.Withdrawals.{Terms};
+ghost use Rattle.xfs_client.specs.Hearings.{ComesNext, Remembers, WhereHeardAll};
+ghost use Rattle.xfs_client.specs.Withdraws.{IsUnheard, LacksNonceAlone};
 
 /// A desk that hears the first frames of a lawful conversation, whose texts are the first of its
 /// asks, is told something by the next of them: no stranger, and no other shape.
@@ -18,13 +15,11 @@ pub fn desks_know_what_they_hear()
 /// What a desk remembers is what is pending in the conversation whose frames it heard, and the asks
 /// that the conversation has not come to.
 pub fn desks_remember_what_is_pending()
-    ensures { (d : Remembered) (texts unread : List (List ℕ)) (pending : List Pending)
-        → HeardAll d texts unread pending → Remembers d pending (length texts) (length (texts ++ unread)) }
+    ensures { WhereHeardAll Remembers }
 {}
 
 /// A withdrawal knows each frame of a lawful conversation too: only a success of GetCommandNonce that
 /// gives no nonce is not heard.
 pub fn withdrawals_know_what_they_hear()
-    ensures { (terms : Terms) (before : List (List ℕ)) (frame : List ℕ) (e : HearFault) → ComesTo terms before frame
-        → step_in (conversation before) frame ≡ Err e → LacksNonce (conversation before) frame }
+    ensures { (terms : Terms) (before : List (List ℕ)) (frame : List ℕ) → IsUnheard before frame → LacksNonceAlone terms before frame }
 {}

@@ -2,10 +2,10 @@
 //! every such conversation.
 #![tactic(auto)]
 
-ghost use Rattle.std.specs.Prelude.{ℕ, ◌≡◌, ◌∷◌, ◌++◌, List, [], All};
+ghost use Rattle.std.specs.Prelude.{ℕ, ◌≡◌, ◌++◌, List, [], All};
 ghost use Rattle.xfs_conversation.specs.Conversation.{Conversation};
 ghost use Rattle.xfs_conversation.specs.Fronts.{IsFront, WasPosted};
-ghost use Rattle.xfs_conversation.specs.Immediate.{IsImmediate};
+ghost use Rattle.xfs_conversation.specs.Immediate.{IsKeptByImmediate};
 ghost use Rattle.xfs_conversation.specs.Once.{IsOnce};
 ghost use Rattle.xfs_conversation.specs.Parts.{HasParts};
 ghost use Rattle.xfs_conversation.specs.Pending as pending;
@@ -50,7 +50,5 @@ pub fn pending_commands_were_posted()
 /// A command that the frame behind its acknowledge completes leaves the pending commands as they
 /// were.
 pub fn immediate_commands_keep_what_is_pending()
-    ensures { (texts frames : List (List ℕ)) (pending : List Pending) (text first second : List ℕ)
-        → Conversation texts frames pending → IsImmediate pending text first second
-        → Conversation (texts ++ text ∷ []) (frames ++ first ∷ second ∷ []) pending }
+    ensures { (texts frames : List (List ℕ)) (pending : List Pending) → Conversation texts frames pending → IsKeptByImmediate texts frames pending }
 {}

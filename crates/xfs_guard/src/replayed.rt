@@ -3,7 +3,7 @@
 ghost use Rattle.std.specs.Prelude.{◌≡◌, ◌+◌, ◌-◌, ◌<◌, ◌≤◌, ◌^◌, List, ◌++◌, length, IfOk, OnOk};
 ghost use Rattle.xfs_mech.specs.declared.motion.Motion.{Motion};
 ghost use Rattle.xfs_guard.specs.Agrees.{Agrees};
-ghost use Rattle.xfs_guard.specs.Replayed.{AgreesFrom, CanReplay, left_of, taken_of, nothing_replayed, renumbered, replay_after, replay_done, replayed};
+ghost use Rattle.xfs_guard.specs.Replayed.{AgreesFrom, CanReplay, left_of, taken_of, renumbered, replay_after, replay_done, replayed};
 
 use std::alloc::Global;
 use std::marker::Model;
@@ -26,7 +26,12 @@ pub fn motions_of(alloc: Global, base: u64, records: &[Rec]) -> Result<Vec<Motio
     ensures agrees { IfOk result (λ list. CanReplay records.now → AgreesFrom base records.now list.items) }
     ensures possible { IfOk result (λ list. (motions : List Motion) → Agrees records.now motions → AgreesFrom base records.now list.items) }
 {
-    let mut replay = Replay::new(alloc, base);
+    let mut replay = Replay {
+        count: base,
+        ordered: None,
+        outlet: Counts([0; 8]),
+        motions: Vec::new(alloc),
+    };
     for entry in records {
         replay.read(entry)?;
     }
@@ -51,17 +56,6 @@ impl Model for Replay {
 }
 
 impl Replay {
-    fn new(alloc: Global, base: u64) -> Replay
-        ensures { result ≡ record nothing_replayed { count = base } }
-    {
-        Replay {
-            count: base,
-            ordered: None,
-            outlet: Counts([0; 8]),
-            motions: Vec::new(alloc),
-        }
-    }
-
     // One more record is read.
     fn read(&mut self, entry: &Rec) -> Result<(), Memory>
         requires room { self.old.count < 2 ^ 64 - 1 }

@@ -1,10 +1,11 @@
 -- The law of conversations: what a client posted, what it was handed and what waits for it, and its pending commands are a conversation; each step keeps it.
-use Rattle.std.specs.Prelude.{◌&&◌, ℕ, ◌==◌, List, [], ◌∷◌, ◌++◌, Bool, IfSome, if◌then◌else◌}
+use Rattle.std.specs.Prelude.{◌≡◌, ◌&&◌, ℕ, ◌==◌, List, [], ◌∷◌, ◌++◌, Bool, Some, IfSome, if◌then◌else◌}
 use Rattle.xfs_base.specs.declared.moment.ClientId.{ClientId}
 use Rattle.xfs_conversation.specs.Conversation.{Conversation}
+use Rattle.xfs_conversation.specs.Once.{IsOnce}
 use Rattle.xfs_model.specs.Connections.{connection_at}
 use Rattle.xfs_model.specs.Events.{Event, join, post, outbox, Answer, joined, done, handed}
-use Rattle.xfs_model.specs.Pendings.{pending_in}
+use Rattle.xfs_model.specs.Pendings.{pending_at, pending_in}
 use Rattle.xfs_model.specs.State.{Connection, Pass, State, queue_at}
 
 -- a connection's texts, its frames and then those that wait, and its pending commands are a conversation
@@ -14,6 +15,10 @@ Talks s texts frames k = Conversation texts (frames ++ k.waiting) (pending_in k.
 -- where the client's connection is open
 abbrev pub IsTalk : State → ClientId → List (List ℕ) → List (List ℕ) → Type 0
 IsTalk s client texts frames = IfSome (connection_at s client) (Talks s texts frames)
+
+-- over the client's open connection each text has one acknowledge, and each accepted command at most one completion
+abbrev pub CompletesOnce : State → ClientId → List (List ℕ) → List (List ℕ) → Type 0
+CompletesOnce s client texts frames = (k : Connection) → connection_at s client ≡ Some k → IsOnce texts (frames ++ k.waiting) (pending_at s k)
 
 -- whether a pass is that of a client in this boot
 abbrev pub is_pass_of : State → ClientId → Pass → Bool

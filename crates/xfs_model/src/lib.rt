@@ -2,26 +2,23 @@
 //! with the laws of these definitions.
 #![tactic(auto)]
 
-ghost use Rattle.std.specs.Prelude.{◌≡◌, ◌++◌, ℕ, List, Some};
+ghost use Rattle.std.specs.Prelude.{◌≡◌, ℕ, List};
 ghost use Rattle.xfs_base.specs.declared.moment.ClientId.{ClientId};
-ghost use Rattle.xfs_conversation.specs.Once.{IsOnce};
 ghost use Rattle.xfs_dispenser.specs.Seen.{Seen};
 ghost use Rattle.xfs_guard.specs.declared.open.Open.TheVariants.{No};
 ghost use Rattle.xfs_queue.specs.declared.command.Ticket.{Ticket};
 ghost use Rattle.xfs_model.specs.Advances.{Advances};
 ghost use Rattle.xfs_model.specs.Causes.{HasCauses, MarksHaveCauses};
-ghost use Rattle.xfs_model.specs.Connections.{connection_at};
-ghost use Rattle.xfs_model.specs.Conversations.{IsTalk, Keeps};
+ghost use Rattle.xfs_model.specs.Conversations.{CompletesOnce, IsTalk, Keeps};
 ghost use Rattle.xfs_model.specs.Events.{Answer, Event};
 ghost use Rattle.xfs_model.specs.Faults.{FaultsHaveCauses, RefusalsHaveCauses};
 ghost use Rattle.xfs_model.specs.GuardCalls.{AtMostOneCall, IsPlain};
 ghost use Rattle.xfs_model.specs.Kept.{IsMachine};
 ghost use Rattle.xfs_model.specs.Moved.{RunsSince, SucceedsInFull};
-ghost use Rattle.xfs_model.specs.Pendings.{pending_at};
 ghost use Rattle.xfs_model.specs.Laws.{EachFirmRun, EachHanding, EachStep};
 ghost use Rattle.xfs_model.specs.Runs.{IsReached};
 ghost use Rattle.xfs_model.specs.Sound.{IsSound};
-ghost use Rattle.xfs_model.specs.State.{Connection, State, bare};
+ghost use Rattle.xfs_model.specs.State.{State, bare};
 ghost use Rattle.xfs_model.specs.Step.{Step};
 ghost use Rattle.xfs_model.specs.Successes.{OrdersFollow, SuccessesHaveCauses};
 ghost use Rattle.xfs_model.specs.Told.{AllTell, HasToldTruly, IsTold, KeepsTold};
@@ -54,8 +51,7 @@ pub fn runs_are_sound()
 /// accepted at most one completion. A later state of the run is such a state too, with more frames:
 /// no step adds a second completion.
 pub fn commands_complete_once()
-    ensures { (mine : ClientId) (now : State) (texts frames : List (List ℕ)) (k : Connection) → IsReached mine now texts frames
-        → connection_at now mine ≡ Some k → IsOnce texts (frames ++ k.waiting) (pending_at now k) }
+    ensures { (mine : ClientId) (now : State) (texts frames : List (List ℕ)) → IsReached mine now texts frames → CompletesOnce now mine texts frames }
 {}
 
 /// A step that is no restart and no finish makes at most one call of the guard, so that what each of

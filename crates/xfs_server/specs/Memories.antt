@@ -19,6 +19,10 @@ pub record LinkPlan : Type 0 where
   pub takes : ℕ
   pub gives : ℕ
 
+-- before any call
+abbrev pub begun_plan : Bool → List ℕ → List ℕ → LinkPlan
+begun_plan closes failing_takes failing_gives = record { closes = closes; failing_takes = failing_takes; failing_gives = failing_gives; takes = 0; gives = 0 }
+
 pub record LinkInMemory : Type 0 where
   pub log : LinkLog
   pub plan : LinkPlan

@@ -1,7 +1,7 @@
 ghost use Rattle.std.specs.Prelude.{◌≡◌, ◌↔◌, IsTrue, Contains, Some, IfOk, Err};
 ghost use Rattle.xfs_base.specs.Causes.{next_count};
 ghost use Rattle.xfs_server.specs.Links.{after_take, after_give, IsFresh};
-ghost use Rattle.xfs_server.specs.Memories.{begun_link, Takes};
+ghost use Rattle.xfs_server.specs.Memories.{begun_link, begun_plan, Takes};
 
 use crate::{GiveFault, Link, Taking};
 use std::alloc::Global;
@@ -51,7 +51,7 @@ impl MemLink {
         failing_gives: Vec<u64>,
     ) -> MemLink
         ensures log { result.log ≡ begun_link texts.items }
-        ensures plan { result.plan ≡ record { closes = closed; failing_takes = failing_takes.items; failing_gives = failing_gives.items; takes = 0; gives = 0 } }
+        ensures plan { result.plan ≡ begun_plan closed failing_takes.items failing_gives.items }
     {
         MemLink {
             alloc,

@@ -3,12 +3,14 @@ use Rattle.std.specs.Prelude.{◌≡◌, ◌⊎◌, ◌≤◌, ℕ, false, All, 
 use Rattle.std.proofs.Common.{inl, inr}
 use Rattle.std.specs.declared.option.Option.{Option}
 use Rattle.std.specs.Io.KnownBytes.{Appends}
+use Rattle.xfs_base.specs.Causes.{IfTold}
 use Rattle.xfs_script.specs.Answered.{AnswersEach, IsAnswerText, lines_text}
 use Rattle.xfs_script.specs.Commands.{Command}
 use Rattle.xfs_script.specs.FleetLines.{IsOf, letter_a, letter_b, side}
 use Rattle.xfs_script.specs.Lines.{behind, first_lines, has_line_feed}
 use Rattle.xfs_script.specs.Words.{IsSkipped}
 use Rattle.xfs_script.specs.declared.feed.TheConstants.{LONGEST_LINE}
+use Rattle.xfs_sides.specs.declared.two_sides.TwoSides.{TwoSides}
 
 -- what there is at each side
 pub record Sides (S : Type 0) : Type 0 where
@@ -103,3 +105,7 @@ pub record AreAlone {S E : Type 0} (c : Command S E) (start end : Sides S) (befo
   pub written : Appends before after (lines_text output)
   pub at_a : IsAlone c.Answers letter_a start.a (first_lines many text) output end.a
   pub at_b : IsAlone c.Answers letter_b start.b (first_lines many text) output end.b
+
+-- an input that is told was read to its end, with each side as if it were alone
+abbrev pub AnswersAlone : {A S E : Type 0} → Command S E → (A → S) → TwoSides A E → TwoSides A E → Option (List ℕ) → Option (List ℕ) → Option (List ℕ) → Type 0
+AnswersAlone c see old new input before after = IfTold input (AreAlone c (both see old.a old.b) (both see new.a new.b) before after)

@@ -2,9 +2,8 @@ ghost use Rattle.std.specs.Prelude.{◌≡◌, ◌≤◌, IfOk, IfErr, length};
 ghost use Rattle.xfs_script.specs.Answered.{IsUnanswered};
 ghost use Rattle.xfs_script.specs.declared.feed.TheConstants.{LONGEST_LINE};
 ghost use Rattle.xfs_script.specs.declared.answerer.Ending.TheVariants as Ending;
-ghost use Rattle.xfs_base.specs.Causes.{IfTold};
 ghost use Rattle.xfs_sides.specs.ReadLines.{HasFleetLines, HasReplayLines};
-ghost use Rattle.xfs_sides.specs.Sides.{AreAlone, IsMarkedText, both, unwritten};
+ghost use Rattle.xfs_sides.specs.Sides.{AnswersAlone, IsMarkedText, unwritten};
 
 use crate::mark::mark_lines;
 use std::alloc::Global;
@@ -72,8 +71,7 @@ pub fn answer_sides<S: Source, K: Sink, A: Answerer>(
     requires b { A.IsReady two.old.b }
     ensures keeps_a { A.Keeps two.old.a two.new.a }
     ensures keeps_b { A.Keeps two.old.b two.new.b }
-    ensures alone { result ≡ Ending.AtEnd → IfTold (S.left source.old)
-        (AreAlone A.command (both A.state two.old.a two.old.b) (both A.state two.new.a two.new.b) (K.held sink.old) (K.held sink.new)) }
+    ensures alone { result ≡ Ending.AtEnd → AnswersAlone A.command A.state two.old two.new (S.left source.old) (K.held sink.old) (K.held sink.new) }
     ensures fleet { HasReplayLines A.command → HasFleetLines A.command }
 {
     answer_lines(alloc, two, source, sink)

@@ -3,6 +3,8 @@ use Rattle.std.specs.Prelude.{ℕ, List}
 use Rattle.std.specs.declared.option.Option.{Option}
 use Rattle.xfs_disk.specs.declared.disk.Disk.{Ghosts as Disks}
 use Rattle.xfs_guard.specs.declared.machine_core.Core.{Core}
+use Rattle.xfs_mech.specs.declared.sim.SimMech.{SimMech}
+use Rattle.xfs_simulated.specs.Resumed.{IsResumed, OfJournal}
 use Rattle.xfs_start.specs.declared.either_disk.EitherDisk.{EitherDisk}
 use Rattle.xfs_start.specs.declared.either_disk.EitherDisk.TheVariants.{File, Memory}
 
@@ -30,6 +32,10 @@ was_image f m (Memory disk) = m.images_since disk
 abbrev pub faults_of_either : {F M : Type 0} → Disks F → Disks M → EitherDisk F M → ℕ
 faults_of_either f m (File disk) = f.faults disk
 faults_of_either f m (Memory disk) = m.faults disk
+
+-- the core goes on where the journal of a disk leaves it, or that disk failed
+abbrev pub ResumesFrom : {F M : Type 0} → Disks F → Disks M → F → Core SimMech (EitherDisk F M) → Type 0
+ResumesFrom f m disk core = OfJournal (f.held disk) (f.faults disk) (faults_of_either f m core.disk) (λ records. IsResumed records core.mech)
 
 -- a core with another disk
 abbrev pub with_disk : {M D E : Type 0} → Core M D → E → Core M E

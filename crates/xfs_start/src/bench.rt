@@ -4,9 +4,8 @@ ghost use Rattle.std.specs.Prelude.{◌≡◌, None, IfOk};
 ghost use Rattle.xfs_guard.specs.Starts.{Starts};
 ghost use Rattle.xfs_mech.specs.Sim.{failures_of, faults_of, units_of};
 ghost use Rattle.xfs_simulated.specs.News.{HasNews};
-ghost use Rattle.xfs_simulated.specs.Resumed.{IsResumed, OfJournal};
 ghost use Rattle.xfs_simulated.specs.Simulated.{four_units, full_limits};
-ghost use Rattle.xfs_start.specs.EitherDisks.{faults_of_either, with_disk};
+ghost use Rattle.xfs_start.specs.EitherDisks.{ResumesFrom, with_disk};
 ghost use Rattle.xfs_start.specs.declared.either_disk.EitherDisk.TheVariants as Kind;
 
 use crate::either_disk::EitherDisk;
@@ -28,8 +27,7 @@ pub fn server_bench<D: Disk>(
     ensures secrets { IfOk result (λ bench. (bench.core.key ≡ secrets.key) × (bench.core.seed ≡ secrets.seed)) }
     ensures set { IfOk result (λ bench. (bench.core.units ≡ four_units) × (bench.core.limits ≡ full_limits) × (bench.core.life ≡ 600000)) }
     ensures table { IfOk result (λ bench. units_of bench.core.mech ≡ bench.core.units) }
-    ensures resumed { IfOk result (λ bench. OfJournal (D.held disk) (D.faults disk) (faults_of_either D.Disk ⟦<FailDisk as Disk>⟧ bench.core.disk)
-        (λ records. IsResumed records bench.core.mech)) }
+    ensures resumed { IfOk result (λ bench. ResumesFrom D.Disk ⟦<FailDisk as Disk>⟧ disk bench.core) }
     ensures faults { IfOk result (λ bench. (faults_of bench.core.mech ≡ setup.faults.items) × (failures_of bench.core.mech ≡ 0)) }
     ensures news { IfOk result (λ bench. HasNews setup.cards.items bench.cards × HasNews setup.keys.items bench.keys) }
     ensures untold { IfOk result (λ bench. ((d : D) → D.held d ≡ None) → Starts ⟦<SimMech as Mechanism>⟧ ⟦<EitherDisk<D, FailDisk> as Disk>⟧ bench.core) }
