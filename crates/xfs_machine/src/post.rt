@@ -1,23 +1,27 @@
 //! What becomes of a text that a client says.
 
-ghost use Rattle.std.specs.Prelude.{◌≡◌, ◌≤◌, OnOk, OnErr};
+ghost use Rattle.std.specs.Prelude.{◌≡◌, ◌≤◌, List, OnOk, OnErr};
+ghost use Rattle.xfs_base.specs.declared.moment.ClientId.{ClientId};
 ghost use Rattle.xfs_base.specs.declared.moment.TheConstants.{LAST_MOMENT};
+ghost use Rattle.xfs_conversation.specs.Pending.{is_wrong_id};
 ghost use Rattle.xfs_envelope.specs.Commands.{command_in, said};
 ghost use Rattle.xfs_traffic.specs.Senders.{IsSeen, with_both};
+ghost use Rattle.xfs_model.specs.Pendings.{pending_in};
 ghost use Rattle.xfs_model.specs.Posts.{TakesText};
-ghost use Rattle.xfs_model.specs.State.{Connection as ConnectionView, State};
+ghost use Rattle.xfs_model.specs.State.{Connection as ConnectionView, Job, State};
+ghost use Rattle.xfs_queue.specs.Queue.{offer_fault};
+ghost use Rattle.xfs_queue.specs.declared.command.Command.{Command as PendingCommand};
 
 use crate::immediate::do_at_once;
 use std::alloc::Global;
 use xfs_base::{Memory, Moment};
+use xfs_conversation::is_request_id;
 use xfs_disk::Disk;
 use xfs_envelope::{Envelope, Status, Why};
 use xfs_guard::Guard;
 use xfs_mech::Mechanism;
-use xfs_traffic::{
-    Connections, Queues, Reading, Sender, accept, is_crowded, is_wrong_id, line_of, refuse,
-    refuse_text,
-};
+use xfs_queue::OfferFault;
+use xfs_traffic::{Connections, Queues, Reading, Sender, accept, known_of, refuse, refuse_text};
 
 // Takes a text. Where memory runs out nothing has changed.
 pub(crate) fn take<M: Mechanism, D: Disk>(
@@ -61,7 +65,10 @@ fn take_command<M: Mechanism, D: Disk>(
     ensures connections { OnErr result (connections.new ≡ connections.old) }
     ensures queues { OnErr result (queues.new ≡ queues.old) }
 {
-    if is_wrong_id(queues.at(sender.service), sender.client, command.id) {
+    let fault = queues
+        .at(sender.service)
+        .fault_of(sender.client, command.id);
+    if is_wrong_id(command.id, fault) {
         return refuse(
             alloc,
             connections,
@@ -70,17 +77,33 @@ fn take_command<M: Mechanism, D: Disk>(
             Status::InvalidRequestId,
         );
     }
-    let Some(line) = line_of(sender.service, command.name.as_str()) else {
+    let Some(known) = known_of(sender.service, command.name.as_str()) else {
         return do_at_once(alloc, guard, connections, queues, sender, &command);
     };
-    if is_crowded(queues.at(sender.service), sender.client) {
-        return refuse(
+    match fault {
+        Some(_) => refuse(
             alloc,
             connections,
             sender,
             &command,
             Status::TooManyRequests,
-        );
+        ),
+        None => accept(alloc, connections, queues, sender, known, command, now),
     }
-    accept(alloc, connections, queues, sender, line, command, now)
+}
+
+// Whether an id is none that a command may have, or is pending already.
+fn is_wrong_id(id: u64, fault: Option<OfferFault>) -> bool
+    ensures { (q : List (PendingCommand Job)) (client : ClientId) → fault ≡ offer_fault q client id
+        → result ≡ is_wrong_id (pending_in client q) id }
+{
+    if !is_request_id(id) {
+        return true;
+    }
+    match fault {
+        Some(OfferFault::Busy) => true,
+        Some(OfferFault::TooMany) => false,
+        Some(OfferFault::Memory) => false,
+        None => false,
+    }
 }

@@ -16,11 +16,9 @@ mod reading;
 mod running_plan;
 mod stopping;
 
-pub use accepting::{
-    Sender, accept, acceptance_reply, is_crowded, is_wrong_id, refuse, refuse_text,
-};
+pub use accepting::{Sender, accept, acceptance_reply, refuse, refuse_text};
 pub use answering::answer_first;
-pub use asks::line_of;
+pub use asks::known_of;
 pub use connection::Connection;
 pub use connections::{Connections, is_service};
 pub use devices::{fail_card, fail_keys, press_key, put_card, take_card};
