@@ -12,10 +12,11 @@ use Rattle.xfs_base.specs.declared.moment.TheConstants.{LAST_MOMENT}
 use Rattle.xfs_envelope.specs.Commands.{command_in}
 use Rattle.xfs_machine.specs.Answers.{posted}
 use Rattle.xfs_machine.specs.MachineView.{IsWhole}
-use Rattle.xfs_traffic.specs.Senders.{IsSeen, with_both}
+use Rattle.xfs_machine.specs.Changes.{TextIsTaken}
+use Rattle.xfs_traffic.specs.Parts.{with_traffic}
+use Rattle.xfs_traffic.specs.declared.traffic.Traffic.{Traffic}
 use Rattle.xfs_model.specs.Connections.{connection_of, is_client, without_mail}
 use Rattle.xfs_model.specs.Events.{Answer, Event, join, post, outbox, leave, joined, full, done, handed, memory}
-use Rattle.xfs_model.specs.Posts.{TakesText}
 use Rattle.xfs_model.specs.State.{Connection, Pass, Queues, State, queue_of, with_queue}
 use Rattle.xfs_model.specs.Step.{IsFull, Step, happens, wanting}
 use Rattle.xfs_queue.specs.Queue.{without_client}
@@ -122,15 +123,17 @@ pub leaves : (s : State) (pass : Pass) (service : Service) (ks : List Connection
     → Step s (leave pass) done (record s { connections = ks; queues = qs })
 leaves s pass service ks qs whole sender e f = happens (whole.there) (rw (sender.open_) (rw (sender.named, sender.at, e, f) refl))
 
+abbrev pub traffic_of : State → Traffic
+traffic_of s = record { connections = s.connections; queues = s.queues }
+
 pub posts_none : (s : State) (pass : Pass) (text : List ℕ) (now : Moment) → IsWhole s → connection_of s pass ≡ None → Step s (post pass text now) done s
 posts_none s pass text now whole none = happens (whole.there) (rw none refl)
 
-pub posts : (s : State) (pass : Pass) (text : List ℕ) (now later : Moment) (service : Service) (ks : List Connection) (qs : Queues) → IsWhole s → Seated s pass service
+pub posts : (s : State) (pass : Pass) (text : List ℕ) (now later : Moment) (service : Service) (traffic : Traffic) → IsWhole s → Seated s pass service
     → later ≡ cond (nat_le s.now.0 now.0) now s.now
-    → ((t : State) (k : Connection) → IsSeen later (record { client = pass.client; service = service }) t k → t.seen.guard ≡ s.seen.guard
-    → TakesText (with_both t s.connections s.queues) k (command_in text) (with_both t ks qs))
-    → Step s (post pass text now) done (record s { now = later; connections = ks; queues = qs })
-posts s pass text now later service ks qs whole sender moment takes =
+    → TextIsTaken later (record { client = pass.client; service = service }) s.seen.guard (command_in text) (traffic_of s) traffic
+    → Step s (post pass text now) done (record (with_traffic s traffic) { now = later })
+posts s pass text now later service traffic whole sender moment takes =
     let at = takes (record s { now = later }) sender.connection (record { now_is = refl; client = sender.named; service = sender.at }) refl in
     happens (whole.there) (rw (sender.open_) (rw (← moment) at))
 

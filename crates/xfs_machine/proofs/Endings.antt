@@ -1,8 +1,10 @@
 -- A restart in place, and the end of a machine, are steps of it.
-use Rattle.std.proofs.Common.{◌≡◌, ◌≢◌, ℕ, List, length, Result, Ok, Err, ◌∷◌, [], refl, ap, sym, subst, ◌∙◌, arith, length-append}
+use Rattle.std.proofs.Common.{◌≡◌, ◌≢◌, ℕ, false, List, length, None, Result, Ok, Err, ◌∷◌, [], refl, ap, sym, subst, ◌∙◌, arith, length-append}
 use Rattle.std.specs.Prelude.{IfErr, OnErr, OnOk, is_ok}
-use Rattle.xfs_dispenser.specs.Seen.{Becomes, Seen}
-use Rattle.xfs_guard.specs.View.{View}
+use Rattle.xfs_card.specs.Slot.{empty}
+use Rattle.xfs_disk.specs.declared.disk.Disk.{Ghosts}
+use Rattle.xfs_dispenser.specs.Seen.{Becomes, Seen, seen}
+use Rattle.xfs_guard.specs.View.{GuardView, View}
 use Rattle.xfs_guard.specs.declared.deny.Deny.{Deny}
 use Rattle.xfs_guard.specs.declared.fail.BootFault.{BootFault}
 use Rattle.xfs_guard.specs.declared.fail.BootFault.TheVariants.{Memory}
@@ -14,10 +16,11 @@ use Rattle.xfs_journal.specs.Journal.{boot_of, with_boot}
 use Rattle.xfs_journal.proofs.StartLaws.{boot-mark, boot_of-places}
 use Rattle.xfs_machine.specs.Answers.{finished}
 use Rattle.xfs_machine.specs.Endings.{RefusesAs}
-use Rattle.xfs_machine.specs.MachineView.{IsWhole}
+use Rattle.xfs_machine.specs.MachineView.{IsWhole, of_parts}
+use Rattle.xfs_machine.specs.declared.dispenser.Dispenser.{Dispenser}
 use Rattle.xfs_model.specs.Events.{restart, restarted, unrestarted, finish, memory}
 use Rattle.xfs_model.specs.Guards.{Closes, Reboots}
-use Rattle.xfs_model.specs.State.{State, bare}
+use Rattle.xfs_model.specs.State.{State, bare, no_commands}
 use Rattle.xfs_model.specs.Step.{Step, gone, happens, wanting}
 use Rattle.xfs_model.specs.Told.{HasMark}
 use Rattle.xfs_machine.proofs.GuardLaws.{unbooted_as}
@@ -25,6 +28,16 @@ use Rattle.xfs_model.proofs.Advancing.{advances}
 use Rattle.xfs_model.proofs.RunsTell.{mark_kept}
 use Rattle.xfs_model.proofs.Sounds.{sound_bare, unbooted_closed}
 use Rattle.xfs_model.proofs.Telling.{bare_told}
+use Rattle.xfs_traffic.specs.declared.devices.Devices.{Devices}
+use Rattle.xfs_traffic.specs.declared.traffic.Traffic.{Traffic}
+
+-- a machine over this guard that has forgotten what was before its boot
+abbrev pub forgotten : {M D : Type 0} → Ghosts D → Dispenser M D → GuardView D → ℕ → Devices → Traffic → State
+forgotten g before guard boot devices traffic = of_parts g (record before { guard = guard; issued = record { 0 = 0 }; exchange = false }) boot (record { 0 = 0 }) 0 devices traffic
+
+pub is_bare : {M D : Type 0} (g : Ghosts D) (before : Dispenser M D) (guard : GuardView D) (boot : ℕ) (devices : Devices) (traffic : Traffic)
+    → devices ≡ record { slot = empty; keypad = None } → traffic ≡ record { connections = []; queues = no_commands } → forgotten g before guard boot devices traffic ≡ bare (seen g guard) before.life boot
+is_bare g before guard boot devices traffic a b = rw (a, b) refl
 
 -- a list that ends with its boot record has a mark
 pub boot_marks : (seen : Seen) (records : List Rec) (places : Places) → seen.guard.records ≡ with_boot records places → HasMark seen

@@ -18,8 +18,10 @@ use Rattle.xfs_envelope.specs.declared.code.Status.{Status}
 use Rattle.xfs_envelope.specs.declared.code.Status.TheVariants.{InvalidMessage, InvalidRequestId, TooManyRequests}
 use Rattle.xfs_envelope.specs.declared.command.Refuse.{Refuse}
 use Rattle.xfs_json.specs.declared.members.Shape.{Shape}
-use Rattle.xfs_traffic.specs.Senders.{IsCompleted, IsTurnedAway, with_both}
+use Rattle.xfs_traffic.specs.Parts.{with_traffic}
+use Rattle.xfs_traffic.specs.Senders.{IsCompleted, IsTurnedAway}
 use Rattle.xfs_traffic.specs.declared.accepting.Sender.{Sender}
+use Rattle.xfs_traffic.specs.declared.traffic.Traffic.{Traffic}
 use Rattle.xfs_model.specs.Commands.{known_of}
 use Rattle.xfs_model.specs.declared.known.Known.{Known}
 use Rattle.xfs_model.specs.Immediate.{AtOnce, ComesTo, ResultsIn, canceling, done_at_once, done_by, ids_of, stopped, told_of}
@@ -27,7 +29,7 @@ use Rattle.xfs_model.specs.PresentStatus.{TellsPresented, nonce_in}
 use Rattle.xfs_model.specs.Pendings.{pending_in}
 use Rattle.xfs_model.specs.Posts.{Accepts, DoesAtOnce, Refuses, TakesText}
 use Rattle.xfs_model.specs.Results.{error, plain, success}
-use Rattle.xfs_model.specs.State.{Connection, Job, Outcome, Queues, State, queue_at, queue_of, with_queue}
+use Rattle.xfs_model.specs.State.{Connection, Job, Outcome, State, queue_at, queue_of, with_queue}
 use Rattle.xfs_queue.specs.Queue.{is_crowded, is_named, offer_fault}
 use Rattle.xfs_queue.specs.declared.command.Command.{Command}
 use Rattle.xfs_queue.specs.declared.command.OfferFault.{OfferFault}
@@ -92,96 +94,99 @@ module _ (q : List (Command Job)) (client : ClientId) (id : ℕ) (right : is_wro
       go false e = refl
 
 module _ (s : State) (k : Connection) (sender : Sender) (client : k.client ≡ sender.client) (service : k.service ≡ sender.service) where
-  pub refuses : (id : Option ℕ) (name : Option (List ℕ)) (why : Status) (ks ks' : List Connection) (qs : Queues) → IsTurnedAway sender id name why ks ks'
-      → Refuses (with_both s ks qs) k id name why (with_both s ks' qs)
-  refuses id name why ks ks' qs is = record {
+  pub refuses : (id : Option ℕ) (name : Option (List ℕ)) (why : Status) (old : Traffic) (ks : List Connection) → IsTurnedAway sender id name why old.connections ks
+      → Refuses (with_traffic s old) k id name why (with_traffic s (record old { connections = ks }))
+  refuses id name why old ks is = record {
     reply = is.reply;
     acknowledges = is.acknowledges;
-    is = rw (client, service) (ap (λ l. with_both s l qs) is.is);
+    is = rw (client, service) (ap (λ l. with_traffic s (record old { connections = l })) is.is);
   }
 
-  pub misread : (refuse : Refuse) (ks ks' : List Connection) (qs : Queues) → IsTurnedAway sender refuse.id None InvalidMessage ks ks'
-      → TakesText (with_both s ks qs) k (Err refuse) (with_both s ks' qs)
-  misread refuse ks ks' qs is = refuses refuse.id None InvalidMessage ks ks' qs is
+  pub misread : (refuse : Refuse) (old : Traffic) (ks : List Connection) → IsTurnedAway sender refuse.id None InvalidMessage old.connections ks
+      → TakesText (with_traffic s old) k (Err refuse) (with_traffic s (record old { connections = ks }))
+  misread refuse old ks is = refuses refuse.id None InvalidMessage old ks is
 
-  pub misnumbered : (c : envelope.Command) (ks ks' : List Connection) (qs : Queues) → is_wrong_id (pending_in sender.client (queue_of qs sender.service)) c.id ≡ true
-      → IsTurnedAway sender (Some c.id) (Some c.name) InvalidRequestId ks ks' → TakesText (with_both s ks qs) k (Ok c) (with_both s ks' qs)
-  misnumbered c ks ks' qs wrong is = (let here : is_wrong_id (pending_in k.client (queue_of qs k.service)) c.id ≡ true = rw (client, service) wrong in rw here (refuses (Some c.id) (Some c.name) InvalidRequestId ks ks' qs is))
+  pub misnumbered : (c : envelope.Command) (old : Traffic) (ks : List Connection) → is_wrong_id (pending_in sender.client (queue_of old.queues sender.service)) c.id ≡ true
+      → IsTurnedAway sender (Some c.id) (Some c.name) InvalidRequestId old.connections ks → TakesText (with_traffic s old) k (Ok c) (with_traffic s (record old { connections = ks }))
+  misnumbered c old ks wrong is =
+      let here : is_wrong_id (pending_in k.client (queue_of old.queues k.service)) c.id ≡ true = rw (client, service) wrong in
+      rw here (refuses (Some c.id) (Some c.name) InvalidRequestId old ks is)
 
-  pub at_once : (c : envelope.Command) (ks ks' : List Connection) (qs qs' : Queues) → is_wrong_id (pending_in sender.client (queue_of qs sender.service)) c.id ≡ false
-      → known_of sender.service c.name ≡ None → DoesAtOnce (with_both s ks qs) k c (with_both s ks' qs') → TakesText (with_both s ks qs) k (Ok c) (with_both s ks' qs')
-  at_once c ks ks' qs qs' right none does =
-      let fine : is_wrong_id (pending_in k.client (queue_of qs k.service)) c.id ≡ false = rw (client, service) right in
+  pub at_once : (c : envelope.Command) (old new : Traffic) → is_wrong_id (pending_in sender.client (queue_of old.queues sender.service)) c.id ≡ false
+      → known_of sender.service c.name ≡ None → DoesAtOnce (with_traffic s old) k c (with_traffic s new) → TakesText (with_traffic s old) k (Ok c) (with_traffic s new)
+  at_once c old new right none does =
+      let fine : is_wrong_id (pending_in k.client (queue_of old.queues k.service)) c.id ≡ false = rw (client, service) right in
       let unknown : known_of k.service c.name ≡ None = rw service none in
       rw fine (rw unknown does)
 
-  pub crowded : (c : envelope.Command) (command : Known) (ks ks' : List Connection) (qs : Queues) → is_wrong_id (pending_in sender.client (queue_of qs sender.service)) c.id ≡ false
-      → known_of sender.service c.name ≡ Some command → is_crowded (queue_of qs sender.service) sender.client ≡ true
-      → IsTurnedAway sender (Some c.id) (Some c.name) TooManyRequests ks ks' → TakesText (with_both s ks qs) k (Ok c) (with_both s ks' qs)
-  crowded c command ks ks' qs right named many is =
-      let fine : is_wrong_id (pending_in k.client (queue_of qs k.service)) c.id ≡ false = rw (client, service) right in
+  pub crowded : (c : envelope.Command) (command : Known) (old : Traffic) (ks : List Connection) → is_wrong_id (pending_in sender.client (queue_of old.queues sender.service)) c.id ≡ false
+      → known_of sender.service c.name ≡ Some command → is_crowded (queue_of old.queues sender.service) sender.client ≡ true
+      → IsTurnedAway sender (Some c.id) (Some c.name) TooManyRequests old.connections ks → TakesText (with_traffic s old) k (Ok c) (with_traffic s (record old { connections = ks }))
+  crowded c command old ks right named many is =
+      let fine : is_wrong_id (pending_in k.client (queue_of old.queues k.service)) c.id ≡ false = rw (client, service) right in
       let on : known_of k.service c.name ≡ Some command = rw service named in
-      let full : is_crowded (queue_of qs k.service) k.client ≡ true = rw (client, service) many in
-      rw fine (rw on (rw full (refuses (Some c.id) (Some c.name) TooManyRequests ks ks' qs is)))
+      let full : is_crowded (queue_of old.queues k.service) k.client ≡ true = rw (client, service) many in
+      rw fine (rw on (rw full (refuses (Some c.id) (Some c.name) TooManyRequests old ks is)))
 
-  pub accepted : (c : envelope.Command) (command : Known) (ks ks' : List Connection) (qs qs' : Queues) → is_wrong_id (pending_in sender.client (queue_of qs sender.service)) c.id ≡ false
-      → known_of sender.service c.name ≡ Some command → is_crowded (queue_of qs sender.service) sender.client ≡ false
-      → Accepts (with_both s ks qs) k command c (with_both s ks' qs') → TakesText (with_both s ks qs) k (Ok c) (with_both s ks' qs')
-  accepted c command ks ks' qs qs' right named few is =
-      let fine : is_wrong_id (pending_in k.client (queue_of qs k.service)) c.id ≡ false = rw (client, service) right in
+  pub accepted : (c : envelope.Command) (command : Known) (old new : Traffic) → is_wrong_id (pending_in sender.client (queue_of old.queues sender.service)) c.id ≡ false
+      → known_of sender.service c.name ≡ Some command → is_crowded (queue_of old.queues sender.service) sender.client ≡ false
+      → Accepts (with_traffic s old) k command c (with_traffic s new) → TakesText (with_traffic s old) k (Ok c) (with_traffic s new)
+  accepted c command old new right named few is =
+      let fine : is_wrong_id (pending_in k.client (queue_of old.queues k.service)) c.id ≡ false = rw (client, service) right in
       let on : known_of k.service c.name ≡ Some command = rw service named in
-      let room : is_crowded (queue_of qs k.service) k.client ≡ false = rw (client, service) few in
+      let room : is_crowded (queue_of old.queues k.service) k.client ≡ false = rw (client, service) few in
       rw fine (rw on (rw room is))
 
   -- the result, whatever it rests on, and the pending commands then
-  comes_ : (c : envelope.Command) (did : AtOnce) (result : Outcome) (ks ks' : List Connection) (qs qs' : Queues) → done_at_once (with_both s ks qs) k c ≡ did → ComesTo (with_both s ks qs) k c result
-      → IsCompleted sender c result ks ks' → qs' ≡ with_queue qs sender.service did.queue → DoesAtOnce (with_both s ks qs) k c (with_both s ks' qs')
-  comes_ c did result ks ks' qs qs' does comes is f = record {
+  comes_ : (c : envelope.Command) (did : AtOnce) (result : Outcome) (old new : Traffic) → done_at_once (with_traffic s old) k c ≡ did → ComesTo (with_traffic s old) k c result
+      → IsCompleted sender c result old.connections new.connections → new.queues ≡ with_queue old.queues sender.service did.queue → DoesAtOnce (with_traffic s old) k c (with_traffic s new)
+  comes_ c did result old new does comes is f = record {
     reply = is.reply;
     last = is.last;
     result = result;
     comes = comes;
     acknowledges = is.acknowledges;
     completes = is.completes;
-    is = rw (does, client, service) (ap (λ l. with_both s l qs') is.is ∙ ap (λ q. with_both s (mailed sender (is.reply ∷ is.last ∷ []) ks) q) f);
+    is = rw (does, client, service) (ap (λ l. with_traffic s (record new { connections = l })) is.is ∙ ap (λ q. with_traffic s (record { connections = mailed sender (is.reply ∷ is.last ∷ []) old.connections; queues = q })) f);
   }
 
-  pub tells : (c : envelope.Command) (command : Option Immediate) (result : Outcome) (ks ks' : List Connection) (qs : Queues) → immediate_of sender.service c.name ≡ command → is_told command ≡ true
-      → result ≡ told_of (with_both s ks qs) sender.service command → IsCompleted sender c result ks ks' → DoesAtOnce (with_both s ks qs) k c (with_both s ks' qs)
-  tells c command result ks ks' qs named tell told is =
+  pub tells : (c : envelope.Command) (command : Option Immediate) (result : Outcome) (old : Traffic) (ks : List Connection) → immediate_of sender.service c.name ≡ command → is_told command ≡ true
+      → result ≡ told_of (with_traffic s old) sender.service command → IsCompleted sender c result old.connections ks → DoesAtOnce (with_traffic s old) k c (with_traffic s (record old { connections = ks }))
+  tells c command result old ks named tell told is =
       let here : immediate_of k.service c.name ≡ command = rw service named in
-      let same : result ≡ told_of (with_both s ks qs) k.service command = rw service told in
-      comes_ c (record { result = told_of (with_both s ks qs) k.service command; queue = queue_of qs k.service }) result ks ks' qs qs
-      (rw here (does_tell (with_both s ks qs) k c.payload command tell)) (rw here (results_in (with_both s ks qs) k c.payload command tell result same)) is
-      (rw service (sym (with_same_queue qs sender.service)))
+      let same : result ≡ told_of (with_traffic s old) k.service command = rw service told in
+      comes_ c (record { result = told_of (with_traffic s old) k.service command; queue = queue_of old.queues k.service }) result old (record old { connections = ks })
+      (rw here (does_tell (with_traffic s old) k c.payload command tell)) (rw here (results_in (with_traffic s old) k c.payload command tell result same)) is
+      (rw service (sym (with_same_queue old.queues sender.service)))
 
-  pub tells_presents : (c : envelope.Command) (result : Outcome) (ks ks' : List Connection) (qs : Queues) → immediate_of sender.service c.name ≡ Some immediate.GetPresentStatus
-      → TellsPresented s.seen.guard (nonce_in c.payload) result → IsCompleted sender c result ks ks' → DoesAtOnce (with_both s ks qs) k c (with_both s ks' qs)
-  tells_presents c result ks ks' qs named tells is =
+  pub tells_presents : (c : envelope.Command) (result : Outcome) (old : Traffic) (ks : List Connection) → immediate_of sender.service c.name ≡ Some immediate.GetPresentStatus
+      → TellsPresented s.seen.guard (nonce_in c.payload) result → IsCompleted sender c result old.connections ks → DoesAtOnce (with_traffic s old) k c (with_traffic s (record old { connections = ks }))
+  tells_presents c result old ks named tells is =
       let here : immediate_of k.service c.name ≡ Some immediate.GetPresentStatus = rw service named in
-      comes_ c (record { result = plain InvalidCommand; queue = queue_of qs k.service }) result ks ks' qs qs (rw here refl) (rw here tells) is (rw service (sym (with_same_queue qs sender.service)))
+      comes_ c (record { result = plain InvalidCommand; queue = queue_of old.queues k.service }) result old (record old { connections = ks }) (rw here refl) (rw here tells) is
+      (rw service (sym (with_same_queue old.queues sender.service)))
 
-  cancels : (c : envelope.Command) (ids : Result (Option (List ℕ)) Shape) (did : AtOnce) (ks ks' : List Connection) (qs qs' : Queues) → immediate_of sender.service c.name ≡ Some immediate.Cancel → request_ids c.payload ≡ ids
-      → canceling (queue_of qs sender.service) sender.client ids ≡ did
-      → IsCompleted sender c did.result ks ks' → qs' ≡ with_queue qs sender.service did.queue → DoesAtOnce (with_both s ks qs) k c (with_both s ks' qs')
-  cancels c ids did ks ks' qs qs' name asks comes is f =
+  cancels : (c : envelope.Command) (ids : Result (Option (List ℕ)) Shape) (did : AtOnce) (old new : Traffic) → immediate_of sender.service c.name ≡ Some immediate.Cancel → request_ids c.payload ≡ ids
+      → canceling (queue_of old.queues sender.service) sender.client ids ≡ did
+      → IsCompleted sender c did.result old.connections new.connections → new.queues ≡ with_queue old.queues sender.service did.queue → DoesAtOnce (with_traffic s old) k c (with_traffic s new)
+  cancels c ids did old new name asks comes is f =
       let here : immediate_of k.service c.name ≡ Some immediate.Cancel = rw service name in
-      let does : canceling (queue_of qs k.service) k.client (request_ids c.payload) ≡ did = rw (asks, client, service) comes in
-      comes_ c did did.result ks ks' qs qs' (rw here does) (rw here (ap (λ (d : AtOnce). d.result) (sym does))) is f
+      let does : canceling (queue_of old.queues k.service) k.client (request_ids c.payload) ≡ did = rw (asks, client, service) comes in
+      comes_ c did did.result old new (rw here does) (rw here (ap (λ (d : AtOnce). d.result) (sym does))) is f
 
-  pub cancels_badly : (c : envelope.Command) (shape : Shape) (ks ks' : List Connection) (qs : Queues) → immediate_of sender.service c.name ≡ Some immediate.Cancel → request_ids c.payload ≡ Err shape
-      → IsCompleted sender c (plain InvalidData) ks ks' → DoesAtOnce (with_both s ks qs) k c (with_both s ks' qs)
-  cancels_badly c shape ks ks' qs name asks is =
-      cancels c (Err shape) (record { result = plain InvalidData; queue = queue_of qs sender.service }) ks ks' qs qs name asks refl is (sym (with_same_queue qs sender.service))
+  pub cancels_badly : (c : envelope.Command) (shape : Shape) (old : Traffic) (ks : List Connection) → immediate_of sender.service c.name ≡ Some immediate.Cancel → request_ids c.payload ≡ Err shape
+      → IsCompleted sender c (plain InvalidData) old.connections ks → DoesAtOnce (with_traffic s old) k c (with_traffic s (record old { connections = ks }))
+  cancels_badly c shape old ks name asks is =
+      cancels c (Err shape) (record { result = plain InvalidData; queue = queue_of old.queues sender.service }) old (record old { connections = ks }) name asks refl is (sym (with_same_queue old.queues sender.service))
 
-  pub cancels_none : (c : envelope.Command) (ids : Option (List ℕ)) (ks ks' : List Connection) (qs : Queues) → immediate_of sender.service c.name ≡ Some immediate.Cancel → request_ids c.payload ≡ Ok ids
-      → list_any (is_named sender.client (ids_of ids)) (queue_of qs sender.service) ≡ false
-      → IsCompleted sender c (error NoMatchingRequestIds) ks ks' → DoesAtOnce (with_both s ks qs) k c (with_both s ks' qs)
-  cancels_none c ids ks ks' qs name asks none is =
-      cancels c (Ok ids) (record { result = error NoMatchingRequestIds; queue = queue_of qs sender.service }) ks ks' qs qs name asks (rw none refl) is (sym (with_same_queue qs sender.service))
+  pub cancels_none : (c : envelope.Command) (ids : Option (List ℕ)) (old : Traffic) (ks : List Connection) → immediate_of sender.service c.name ≡ Some immediate.Cancel → request_ids c.payload ≡ Ok ids
+      → list_any (is_named sender.client (ids_of ids)) (queue_of old.queues sender.service) ≡ false
+      → IsCompleted sender c (error NoMatchingRequestIds) old.connections ks → DoesAtOnce (with_traffic s old) k c (with_traffic s (record old { connections = ks }))
+  cancels_none c ids old ks name asks none is =
+      cancels c (Ok ids) (record { result = error NoMatchingRequestIds; queue = queue_of old.queues sender.service }) old (record old { connections = ks }) name asks (rw none refl) is (sym (with_same_queue old.queues sender.service))
 
-  pub cancels_some : (c : envelope.Command) (ids : Option (List ℕ)) (ks ks' : List Connection) (qs qs' : Queues) → immediate_of sender.service c.name ≡ Some immediate.Cancel → request_ids c.payload ≡ Ok ids
-      → list_any (is_named sender.client (ids_of ids)) (queue_of qs sender.service) ≡ true
-      → IsCompleted sender c (success nothing) ks ks' → qs' ≡ with_queue qs sender.service (stopped (queue_of qs sender.service) sender.client (ids_of ids)) → DoesAtOnce (with_both s ks qs) k c (with_both s ks' qs')
-  cancels_some c ids ks ks' qs qs' name asks some is f =
-      cancels c (Ok ids) (record { result = success nothing; queue = stopped (queue_of qs sender.service) sender.client (ids_of ids) }) ks ks' qs qs' name asks (rw some refl) is f
+  pub cancels_some : (c : envelope.Command) (ids : Option (List ℕ)) (old new : Traffic) → immediate_of sender.service c.name ≡ Some immediate.Cancel → request_ids c.payload ≡ Ok ids
+      → list_any (is_named sender.client (ids_of ids)) (queue_of old.queues sender.service) ≡ true
+      → IsCompleted sender c (success nothing) old.connections new.connections → new.queues ≡ with_queue old.queues sender.service (stopped (queue_of old.queues sender.service) sender.client (ids_of ids)) → DoesAtOnce (with_traffic s old) k c (with_traffic s new)
+  cancels_some c ids old new name asks some is f =
+      cancels c (Ok ids) (record { result = success nothing; queue = stopped (queue_of old.queues sender.service) sender.client (ids_of ids) }) old new name asks (rw some refl) is f

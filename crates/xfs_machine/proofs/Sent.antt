@@ -9,7 +9,6 @@ use Rattle.xfs_base.proofs.counts.Counts.TheSendSync as counts
 use Rattle.xfs_base.proofs.counts.Places.TheSendSync as places
 use Rattle.xfs_base.proofs.money.UnitTable.TheSendSync as units
 use Rattle.xfs_base.proofs.moment.Moment.TheSendSync as moment
-use Rattle.xfs_card.proofs.state.CardState.TheSendSync as card
 use Rattle.xfs_disk.specs.declared.disk.Disk as Disk
 use Rattle.xfs_guard.proofs.bound.Bound.TheSendSync as bound
 use Rattle.xfs_guard.proofs.bound.Live.TheSendSync as live
@@ -26,9 +25,9 @@ use Rattle.xfs_journal.proofs.recent.Recent.TheLaws.TheKnot as recent
 use Rattle.xfs_journal.proofs.record.Rec.TheSendSync as rec
 use Rattle.xfs_journal.specs.contracts.journal.Journal as journal
 use Rattle.xfs_journal.specs.contracts.journal.Journal.TheInside as in_journal
-use Rattle.xfs_keyboard.proofs.state.KeyState.TheSendSync as keys
-use Rattle.xfs_traffic.proofs.Sent.{queues_send}
-use Rattle.xfs_traffic.proofs.connections.Connections.TheSendSync as connections
+use Rattle.xfs_traffic.proofs.Sent.{traffic_send}
+use Rattle.xfs_traffic.proofs.devices.Devices.TheSendSync as devices
+use Rattle.xfs_machine.specs.contracts.dispenser.Dispenser as dispenser
 use Rattle.xfs_machine.specs.contracts.machine.Machine as machine
 use Rattle.xfs_machine.specs.contracts.machine.Machine.TheInside as in_machine
 use Rattle.xfs_mech.specs.declared.mechanism.Mechanism as Mechanism
@@ -135,6 +134,9 @@ guard_send M D m d sm sd =
       ),
     )))
 
+dispenser_send : (M D : RattleType) (m : Mechanism.Ghosts M.Denot) (d : Disk.Ghosts D.Denot) → IsSend M → IsSend D → IsSend (dispenser.the_field M D m d).row
+dispenser_send M D m d sm sd = struct_send (shape (dispenser.the_type M D m d)) (guard_send M D m d sm sd, (plain_send _ _ _ _ _, (moment.the_field_send, (plain_send _ _ _ _ _, tt))))
+
 pub machine_send : (M D : RattleType) (m : Mechanism.Ghosts M.Denot) (d : Disk.Ghosts D.Denot) → IsSend M → IsSend D → IsSend (machine.the_row M D m d)
 machine_send M D m d sm sd =
     let fields = in_machine.the_type M D m d in
@@ -143,7 +145,7 @@ machine_send M D m d sm sd =
     (struct_send (shape fields) (
       heap.the_field_send,
       (
-        guard_send M D m d sm sd,
+        dispenser_send M D m d sm sd,
         (
           plain_send _ _ _ _ _,
           (
@@ -151,25 +153,10 @@ machine_send M D m d sm sd =
             (
               plain_send _ _ _ _ _,
               (
-                plain_send _ _ _ _ _,
+                devices.the_field_send,
                 (
-                  moment.the_field_send,
-                  (
-                    card.the_send,
-                    (
-                      keys.the_send,
-                      (
-                        plain_send _ _ _ _ _,
-                        (
-                          connections.the_send,
-                          (
-                            queues_send,
-                            tt,
-                          ),
-                        ),
-                      ),
-                    ),
-                  ),
+                  traffic_send,
+                  tt,
                 ),
               ),
             ),

@@ -1,5 +1,5 @@
 -- What a case of the work finds, where it is the first that applies to a machine that keeps what every call keeps.
-use Rattle.std.proofs.Common.{◌≡◌, ◌≢◌, ◌≤◌, nat_le, cond, ◌&&◌, not, Bool, true, false, List, [], ◌∷◌, Option, None, Some, Result, Ok, Err, find, All, refl, sym, subst, ◌∙◌, ap, inl, inr}
+use Rattle.std.proofs.Common.{◌≡◌, ◌≢◌, ◌≤◌, ℕ, nat_le, cond, ◌&&◌, not, Bool, true, false, List, [], ◌∷◌, Option, None, Some, Result, Ok, Err, find, All, refl, sym, subst, ◌∙◌, ap, inl, inr}
 use Rattle.std.specs.Prelude.{IsErrAnd, OnErr, ◌⊎◌, ◌+◌, ◌==◌, MatchOption, is_none, is_some}
 use Rattle.std.specs.List.{list_any}
 use Rattle.std.proofs.lemmas.Bool.{cases_Bool, false≢true}
@@ -9,6 +9,7 @@ use Rattle.xfs_base.specs.declared.moment.Moment.{Moment}
 use Rattle.xfs_base.specs.declared.moment.Service.{Service}
 use Rattle.xfs_base.specs.declared.moment.Service.TheVariants.{Publisher, Card, Keys, Cash}
 use Rattle.xfs_dispenser.specs.Plans.{IsPlanned}
+use Rattle.xfs_dispenser.specs.Seen.{seen}
 use Rattle.xfs_dispenser.specs.declared.ask.CashAsk.{CashAsk}
 use Rattle.xfs_dispenser.specs.declared.plan.Plan.{Plan}
 use Rattle.xfs_guard.specs.Fits.{unfit}
@@ -30,19 +31,20 @@ use Rattle.xfs_model.proofs.Changes.{same_some}
 use Rattle.xfs_model.proofs.Lists.{found_passes}
 use Rattle.xfs_traffic.specs.Parts.{HasResult}
 use Rattle.xfs_machine.specs.Parts.{HasDeviceAsk, HasNonceAsk, HasPlan}
-use Rattle.xfs_card.specs.Slot.{Slot}
-use Rattle.xfs_dispenser.specs.Seen.{Seen}
-use Rattle.xfs_keyboard.specs.Entries.{Entry}
+use Rattle.xfs_disk.specs.declared.disk.Disk.{Ghosts}
 use Rattle.xfs_base.specs.declared.faults.Memory.{Memory}
 use Rattle.xfs_machine.specs.Answers.{worked}
-use Rattle.xfs_machine.specs.MachineView.{IsWhole}
+use Rattle.xfs_machine.specs.Changes.{IsOnlyRead}
+use Rattle.xfs_machine.specs.MachineView.{IsWhole, of_parts}
 use Rattle.xfs_machine.specs.declared.answer.Work.{Work}
-use Rattle.xfs_machine.specs.Working.{CanDo, MayAdd, MayAddAt, at_work}
+use Rattle.xfs_machine.specs.declared.dispenser.Dispenser.{Dispenser}
+use Rattle.xfs_machine.specs.Working.{CanDo, MayAdd, MayAddAt}
 use Rattle.xfs_mech.specs.declared.motion.Motion.{Motion}
 use Rattle.xfs_model.specs.Cases.{Does, told_by}
 use Rattle.xfs_model.specs.Events.{Answer, work}
-use Rattle.xfs_model.specs.State.{Connection, Queues}
 use Rattle.xfs_model.specs.Step.{Step, at_moment, happens, wanting}
+use Rattle.xfs_traffic.specs.declared.devices.Devices.{Devices}
+use Rattle.xfs_traffic.specs.declared.traffic.Traffic.{Traffic}
 
 -- the first command that passes a test, of a queue whose commands all have a property
 record IsFirst (p : Command Job → Bool) (P : Command Job → Type 0) (q : List (Command Job)) : Type 0 where
@@ -268,25 +270,27 @@ same_case : (s : State) (now moment : Moment) (service : Service) (case : Case) 
 same_case s now moment service case is at = at ∙ ap (λ m. case_of (record s { now = m }) service) is
 
 -- a case that is done at the later moment is a step of work
-pub works : (s : State) (service : Service) (now moment : Moment) (case : Case) (told : Answer) (next : Seen) (issued : Moment) (exchange : Bool) (slot : Slot) (keypad : Option Entry) (connections : List Connection) (queues : Queues)
+pub works : (s : State) (service : Service) (now moment : Moment) (case : Case) (told : Answer) (new : State)
     → IsWhole s → moment ≡ cond (nat_le s.now.0 now.0) now s.now → case ≡ case_of (later s moment) service → told ≡ told_by case
-    → Does case (at_work s s.seen s.issued s.exchange moment s.slot s.keypad s.connections s.queues) service (at_work s next issued exchange moment slot keypad connections queues)
-    → Step s (work service now) told (at_work s next issued exchange moment slot keypad connections queues)
-works s service now moment case told next issued exchange slot keypad connections queues whole is at tells does =
-    let new = at_work s next issued exchange moment slot keypad connections queues in
+    → Does case (later s moment) service new → Step s (work service now) told new
+works s service now moment case told new whole is at tells does =
     let its = same_case s now moment service case is at in
     happens (whole.there) (
       tells ∙ ap told_by its,
-      subst (λ m. Does (case_of (at_moment s now) service) (record s { now = m }) service new) is (subst (λ k. Does k (record s { now = moment }) service new) its does),
+      subst (λ m. Does (case_of (at_moment s now) service) (record s { now = m }) service new) is (subst (λ k. Does k (later s moment) service new) its does),
     )
 
 -- want of memory leaves all as it was, but that the journal may have been read
-pub work_wants : (r : Result Work Memory) (why : Memory) (s : State) (service : Service) (now : Moment) (next : Seen) (issued : Moment) (exchange : Bool) (slot : Slot) (keypad : Option Entry) (connections : List Connection) (queues : Queues)
-    → IsErrAnd r (λ e. e ≡ why) → next.guard ≡ s.seen.guard → issued ≡ s.issued → exchange ≡ s.exchange → slot ≡ s.slot → keypad ≡ s.keypad → connections ≡ s.connections → queues ≡ s.queues → s.seen.disk_faults ≤ next.disk_faults
-    → Step s (work service now) (worked r) (at_work s next issued exchange s.now slot keypad connections queues)
-work_wants (Ok done) why s service now next issued exchange slot keypad connections queues err guard a b c d e f later_ = absurd err
-work_wants (Err wants) why s service now next issued exchange slot keypad connections queues err guard a b c d e f later_ =
-    wanting refl (record { next = next; becomes = record { guard_is = guard; later = later_ }; is = rw (a, b, c, d, e, f) refl })
+pub work_wants : {M D : Type 0} (g : Ghosts D) (r : Result Work Memory) (why : Memory) (service : Service) (now : Moment) (boot : ℕ) (moment : Moment) (given : ℕ) (old new : Dispenser M D) (devices devices' : Devices) (traffic traffic' : Traffic)
+    → IsErrAnd r (λ e. e ≡ why) → IsOnlyRead old new → devices' ≡ devices → traffic' ≡ traffic → g.faults old.guard.disk ≤ g.faults new.guard.disk
+    → Step (of_parts g old boot moment given devices traffic) (work service now) (worked r) (of_parts g new boot moment given devices' traffic')
+work_wants g (Ok done) why service now boot moment given old new devices devices' traffic traffic' err read a b later_ = absurd err
+work_wants g (Err wants) why service now boot moment given old new devices devices' traffic traffic' err read a b later_ =
+    wanting refl (record {
+      next = seen g new.guard;
+      becomes = record { guard_is = ap (λ d. d.guard.state) read; later = later_ };
+      is = rw (a, b) (ap (λ d. of_parts g (record d { guard = new.guard }) boot moment given devices traffic) read);
+    })
 
 -- what a case may add is what the step may
 pub step_adds : (s : State) (service : Service) (now moment : Moment) (case : Case) → moment ≡ cond (nat_le s.now.0 now.0) now s.now → case ≡ case_of (later s moment) service

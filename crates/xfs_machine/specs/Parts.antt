@@ -1,26 +1,38 @@
--- A machine with another guard beside other parts. What a call does to some parts of a machine is said for every machine that has them.
+-- A machine with another dispenser beside other parts. What a call does to some parts of a machine is said for every machine that has them.
 use Rattle.std.specs.Prelude.{◌≡◌, ◌≢◌, ◌⊎◌, ◌||◌, List, Bool, Option, Some, find}
 use Rattle.xfs_base.specs.declared.moment.Moment.{Moment}
-use Rattle.xfs_card.specs.Slot.{Slot}
+use Rattle.xfs_disk.specs.declared.disk.Disk.{Ghosts}
 use Rattle.xfs_dispenser.specs.Answers.{Went, more, done}
 use Rattle.xfs_dispenser.specs.Plans.{IsPlanned}
-use Rattle.xfs_dispenser.specs.Seen.{Seen}
+use Rattle.xfs_dispenser.specs.Seen.{Seen, seen}
 use Rattle.xfs_dispenser.specs.Steps.{MayWork}
 use Rattle.xfs_dispenser.specs.declared.plan.Plan.{Plan}
 use Rattle.xfs_guard.specs.View.{View}
-use Rattle.xfs_keyboard.specs.Entries.{Entry}
+use Rattle.xfs_machine.specs.declared.dispenser.Dispenser.{Dispenser}
 use Rattle.xfs_mech.specs.declared.motion.Motion.{Motion}
 use Rattle.xfs_queue.specs.Commands.{is_running, waits_on}
 use Rattle.xfs_queue.specs.declared.command.Line.TheVariants.{Nonce, Device}
 use Rattle.xfs_queue.specs.declared.command.Command.{Command}
 use Rattle.xfs_model.specs.Results.{outcome, with_result}
-use Rattle.xfs_model.specs.State.{issue, clear, Connection, Job, Queues, State}
+use Rattle.xfs_model.specs.State.{issue, clear, Job, Queues, State}
+use Rattle.xfs_traffic.specs.Parts.{with_devices, with_traffic}
+use Rattle.xfs_traffic.specs.declared.devices.Devices.{Devices}
+use Rattle.xfs_traffic.specs.declared.traffic.Traffic.{Traffic}
+
+-- a machine at a moment, with this dispenser and these pending commands
+abbrev pub at_dispenser : {M D : Type 0} → Ghosts D → State → Moment → Dispenser M D → Queues → State
+at_dispenser g s now dispenser queues = record s { seen = seen g dispenser.guard; life = dispenser.life; issued = dispenser.issued; exchange = dispenser.exchange; now = now; queues = queues }
+
+-- a machine with these devices and this traffic
+abbrev pub at_devices : State → Devices → Traffic → State
+at_devices s devices traffic = with_traffic (with_devices s devices) traffic
+
+-- a machine at a moment, with all that a step of work changes
+abbrev pub at_work : {M D : Type 0} → Ghosts D → State → Moment → Dispenser M D → Devices → Traffic → State
+at_work g s now dispenser devices traffic = at_devices (at_dispenser g s now dispenser s.queues) devices traffic
 
 abbrev pub at_cash : State → Seen → Queues → State
 at_cash s next queues = record s { seen = next; queues = queues }
-
-abbrev pub at_nonce : State → Seen → List Connection → State
-at_nonce s next connections = record s { seen = next; connections = connections }
 
 -- the command with another plan, or none
 abbrev pub with_job_plan : Option Plan → Command Job → Command Job
@@ -59,12 +71,3 @@ pub record HasDeviceAsk (q : List (Command Job)) : Type 0 where
   pub first : find (waits_on Device) q ≡ Some command
   pub no_issue : command.job.ask ≢ issue
   pub no_clear : command.job.ask ≢ clear
-
-abbrev pub at_begin : State → Seen → Bool → Slot → Option Entry → List Connection → Queues → State
-at_begin s next exchange slot keypad connections queues = record s { seen = next; exchange = exchange; slot = slot; keypad = keypad; connections = connections; queues = queues }
-
-abbrev pub at_devices : State → Slot → Option Entry → List Connection → Queues → State
-at_devices s slot keypad connections queues = record s { slot = slot; keypad = keypad; connections = connections; queues = queues }
-
-abbrev pub at_nonce_line : State → Seen → Moment → Moment → Queues → State
-at_nonce_line s next issued now queues = record s { seen = next; issued = issued; now = now; queues = queues }

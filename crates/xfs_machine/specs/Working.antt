@@ -1,29 +1,25 @@
 -- A step of work: when its case can be done, and what it may add to the mechanism's list.
-use Rattle.std.specs.Prelude.{◌≡◌, ◌≢◌, ◌&&◌, ◌||◌, ⊤, Bool, true, List, Option, None, find, All}
+use Rattle.std.specs.Prelude.{◌≡◌, ◌≢◌, ◌&&◌, ◌||◌, ⊤, true, None, find, All}
 use Rattle.std.specs.List.{list_any}
 use Rattle.xfs_base.specs.declared.moment.Moment.{Moment}
 use Rattle.xfs_base.specs.declared.moment.Service.{Service}
 use Rattle.xfs_base.specs.declared.moment.Service.TheVariants.{Cash}
-use Rattle.xfs_card.specs.Slot.{Slot}
-use Rattle.xfs_dispenser.specs.Seen.{Seen}
+use Rattle.xfs_disk.specs.declared.disk.Disk.{Ghosts}
 use Rattle.xfs_guard.specs.Fits.{unfit}
 use Rattle.xfs_guard.specs.Nonce.{live_in}
-use Rattle.xfs_guard.specs.View.{View}
+use Rattle.xfs_guard.specs.Keeps.{Keeps}
+use Rattle.xfs_guard.specs.View.{GuardView, View}
 use Rattle.xfs_guard.specs.declared.open.Open.TheVariants.{No}
-use Rattle.xfs_keyboard.specs.Entries.{Entry}
 use Rattle.xfs_mech.specs.declared.motion.Motion.{Motion}
 use Rattle.xfs_queue.specs.Commands.{is_due, is_running, waits_on}
 use Rattle.xfs_queue.specs.declared.command.Line.TheVariants.{Device}
 use Rattle.xfs_model.specs.Sound.{IsFitting}
-use Rattle.xfs_model.specs.State.{Connection, Queues, State, queue_of}
+use Rattle.xfs_model.specs.State.{Queues, State, queue_of}
 use Rattle.xfs_model.specs.Work.{Case, order, expire, answer, nonce, overdue, stop, go_on, begin, rest, case_of}
 use Rattle.xfs_traffic.specs.Parts.{HasResult}
+use Rattle.xfs_machine.specs.Chosen.{case_seen}
 use Rattle.xfs_machine.specs.Parts.{HasDeviceAsk, HasNonceAsk, HasPlan, MayStep}
-
--- the machine at a moment, with other parts
-abbrev pub at_work : State → Seen → Moment → Bool → Moment → Slot → Option Entry → List Connection → Queues → State
-at_work s next issued exchange now slot keypad connections queues =
-    record s { seen = next; issued = issued; exchange = exchange; now = now; slot = slot; keypad = keypad; connections = connections; queues = queues }
+use Rattle.xfs_machine.specs.declared.cases.Case.{Case as Chosen}
 
 -- no order is open, a nonce lives, and the journal takes more records
 pub record CanExpire (v : View) : Type 0 where
@@ -60,6 +56,10 @@ abbrev pub MayAdd : Case → View → Queues → Motion → Type 0
 MayAdd order v qs entry = MayStep v qs.cash entry
 MayAdd go_on v qs entry = MayStep v qs.cash entry
 MayAdd other v qs entry = ⊥
+
+-- what a crash finds inside a case that is done between calls: the guard gained no more than such an entry
+abbrev pub CaseKeeps : {D : Type 0} → Ghosts D → Chosen → Queues → GuardView D → GuardView D → Type 0
+CaseKeeps g case qs old new = Keeps g (MayAdd (case_seen case) old.state qs) old new
 
 -- an entry that the step of work of a service may add to the mechanism's list
 abbrev pub MayAddAt : State → Service → Motion → Type 0

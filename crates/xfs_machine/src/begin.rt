@@ -3,23 +3,23 @@
 ghost use Rattle.std.specs.Prelude.{◌≡◌, None, false, IfSome, OnErr, OnOk, find, option_map, All};
 ghost use Rattle.xfs_card.specs.declared.ask.CardAsk.TheVariants as CardAsk;
 ghost use Rattle.xfs_dispenser.specs.Answers.{start_of, start_payload};
-ghost use Rattle.xfs_dispenser.specs.Seen.{seen};
 ghost use Rattle.xfs_envelope.specs.Messages.{IsPayload};
 ghost use Rattle.xfs_guard.specs.Keeps.{Keeps, NoEntry, Proceeds};
 ghost use Rattle.xfs_guard.specs.Upheld.{IsUpheld};
 ghost use Rattle.xfs_guard.specs.declared.open.Open.TheVariants.{No};
-ghost use Rattle.xfs_machine.specs.Changes.{CardBegins, EntryBegins};
+ghost use Rattle.xfs_machine.specs.Changes.{CardBegins, EntryBegins, FirstBegins};
 ghost use Rattle.xfs_traffic.specs.Jobs.{changed_at};
-ghost use Rattle.xfs_machine.specs.Parts.{HasDeviceAsk, at_begin};
-ghost use Rattle.xfs_model.specs.Cases.{BeginsFirst, with_start};
+ghost use Rattle.xfs_machine.specs.Parts.{HasDeviceAsk};
+ghost use Rattle.xfs_model.specs.Cases.{with_start};
 ghost use Rattle.xfs_model.specs.Results.{running, with_plan};
 ghost use Rattle.xfs_model.specs.Sound.{IsFitting};
 ghost use Rattle.xfs_base.specs.declared.moment.Service.TheVariants as Service;
-ghost use Rattle.xfs_model.specs.State.{State, card, queue_of, with_queue};
+ghost use Rattle.xfs_model.specs.State.{card, queue_of, with_queue};
 ghost use Rattle.xfs_queue.specs.Commands.{is_running, ticket_of, waits_on};
 ghost use Rattle.xfs_queue.specs.Queue.{IsWaiting};
 ghost use Rattle.xfs_queue.specs.declared.command.Line.TheVariants as Line;
 
+use crate::dispenser::Dispenser;
 use std::alloc::Global;
 use xfs_base::{Memory, Service};
 use xfs_card::{CardAsk, CardEffect, CardEvent, CardState};
@@ -27,57 +27,56 @@ use xfs_common::nothing;
 use xfs_disk::Disk;
 use xfs_dispenser::{Begun, begin};
 use xfs_envelope::Code;
-use xfs_guard::Guard;
 use xfs_keyboard::{EntryAsk, KeyEvent, KeyState};
 use xfs_mech::Mechanism;
 use xfs_queue::{Command, Line, Queue, Stage, Ticket};
-use xfs_traffic::{Ask, Connections, Job, Outcome, Queues, RunningPlan, insert_card};
+use xfs_traffic::{Ask, Devices, Job, Outcome, Queues, RunningPlan, Traffic, insert_card};
 
 /// Begins it, by what it asks. None runs.
 pub(crate) fn begin_first<M: Mechanism, D: Disk>(
     alloc: Global,
-    guard: &mut Guard<M, D>,
-    exchange: &mut bool,
-    slot: &mut CardState,
-    keypad: &mut KeyState,
-    connections: &mut Connections,
-    queues: &mut Queues,
+    dispenser: &mut Dispenser<M, D>,
+    devices: &mut Devices,
+    traffic: &mut Traffic,
     service: Service,
 ) -> Result<(), Memory>
-    requires none { service ≡ Service.Cash → guard.old.state.open_order ≡ No }
-    requires asks { HasDeviceAsk (queue_of queues.old service) }
-    requires fitting { All (IsFitting service) (queue_of queues.old service) }
-    requires idle { find (λ a. is_running a.stage) (queue_of queues.old service) ≡ None }
-    ensures begins { OnOk result ((s : State) → BeginsFirst
-        (at_begin s (seen D.Disk guard.old) exchange.old slot.old keypad.old connections.old queues.old)
-        service
-        (at_begin s (seen D.Disk guard.new) exchange.new slot.new keypad.new connections.new queues.new)) }
-    ensures memory { OnErr result ((guard.new ≡ guard.old) × (exchange.new ≡ exchange.old) × (slot.new ≡ slot.old)
-        × (keypad.new ≡ keypad.old) × (connections.new ≡ connections.old) × (queues.new ≡ queues.old)) }
-    ensures proceeds { Proceeds D.Disk guard.old guard.new }
-    ensures keeps { IsUpheld D.Disk guard.old → Keeps D.Disk NoEntry guard.old guard.new }
+    requires none { service ≡ Service.Cash → dispenser.old.guard.state.open_order ≡ No }
+    requires asks { HasDeviceAsk (queue_of traffic.old.queues service) }
+    requires fitting { All (IsFitting service) (queue_of traffic.old.queues service) }
+    requires idle { find (λ a. is_running a.stage) (queue_of traffic.old.queues service) ≡ None }
+    ensures begins { OnOk result (FirstBegins D.Disk service dispenser.old dispenser.new devices.old devices.new traffic.old traffic.new) }
+    ensures memory { OnErr result ((dispenser.new ≡ dispenser.old) × (devices.new ≡ devices.old) × (traffic.new ≡ traffic.old)) }
+    ensures proceeds { Proceeds D.Disk dispenser.old.guard dispenser.new.guard }
+    ensures keeps { IsUpheld D.Disk dispenser.old.guard → Keeps D.Disk NoEntry dispenser.old.guard dispenser.new.guard }
 {
-    let Some(command) = first_waiting(queues.at(service)) else {
+    let Some(command) = first_waiting(traffic.queues.at(service)) else {
         unreachable!()
     };
     let ticket = command.ticket();
     match command.job.ask() {
         Ask::Cash(ask) => {
             let room = RunningPlan::room(alloc)?;
-            let begun = begin(alloc, guard, exchange, ask)?;
-            start_cash(queues, service, ticket, begun, room);
+            let begun = begin(alloc, &mut dispenser.guard, &mut dispenser.exchange, ask)?;
+            start_cash(&mut traffic.queues, service, ticket, begun, room);
             Ok(())
         }
         Ask::Card(ask) => {
             let ask = *ask;
-            begin_card(alloc, slot, connections, queues, service, ticket, ask)
+            begin_card(alloc, &mut devices.slot, traffic, service, ticket, ask)
         }
         Ask::Entry(ask) => {
             let ask = ask.copy();
-            begin_entry(alloc, keypad, queues, service, ticket, ask)
+            begin_entry(
+                alloc,
+                &mut devices.keypad,
+                &mut traffic.queues,
+                service,
+                ticket,
+                ask,
+            )
         }
         Ask::Bad => {
-            queues.set_result(
+            traffic.queues.set_result(
                 service,
                 ticket,
                 Outcome::new(Code::InvalidData, nothing(alloc)),
@@ -140,23 +139,24 @@ fn start(queues: &mut Queues, service: Service, ticket: Ticket)
 fn begin_card(
     alloc: Global,
     slot: &mut CardState,
-    connections: &mut Connections,
-    queues: &mut Queues,
+    traffic: &mut Traffic,
     service: Service,
     ticket: Ticket,
     ask: CardAsk,
 ) -> Result<(), Memory>
-    requires waiting { IsWaiting (queue_of queues.old service) ticket }
-    requires idle { find (λ a. is_running a.stage) (queue_of queues.old service) ≡ None }
-    ensures begins { OnOk result (CardBegins ask service ticket slot.old slot.new connections.old connections.new queues.old queues.new) }
-    ensures memory { OnErr result ((slot.new ≡ slot.old) × (connections.new ≡ connections.old) × (queues.new ≡ queues.old)) }
+    requires waiting { IsWaiting (queue_of traffic.old.queues service) ticket }
+    requires idle { find (λ a. is_running a.stage) (queue_of traffic.old.queues service) ≡ None }
+    ensures begins { OnOk result (CardBegins ask service ticket slot.old slot.new traffic.old traffic.new) }
+    ensures memory { OnErr result ((slot.new ≡ slot.old) × (traffic.new ≡ traffic.old)) }
 {
     if let CardAsk::Read { tracks } = ask {
-        return begin_read(alloc, slot, connections, queues, service, ticket, tracks);
+        return begin_read(alloc, slot, traffic, service, ticket, tracks);
     }
     match xfs_card::step(alloc, slot, CardEvent::Begin(ask))? {
         CardEffect::Done(code, payload) => {
-            queues.set_result(service, ticket, Outcome::new(code, payload));
+            traffic
+                .queues
+                .set_result(service, ticket, Outcome::new(code, payload));
             Ok(())
         }
         _ => unreachable!(),
@@ -166,32 +166,32 @@ fn begin_card(
 fn begin_read(
     alloc: Global,
     slot: &mut CardState,
-    connections: &mut Connections,
-    queues: &mut Queues,
+    traffic: &mut Traffic,
     service: Service,
     ticket: Ticket,
     tracks: [bool; 3],
 ) -> Result<(), Memory>
-    requires waiting { IsWaiting (queue_of queues.old service) ticket }
-    requires idle { find (λ a. is_running a.stage) (queue_of queues.old service) ≡ None }
-    ensures begins { OnOk result (CardBegins (CardAsk.Read tracks) service ticket slot.old slot.new
-        connections.old connections.new queues.old queues.new) }
-    ensures memory { OnErr result ((slot.new ≡ slot.old) × (connections.new ≡ connections.old) × (queues.new ≡ queues.old)) }
+    requires waiting { IsWaiting (queue_of traffic.old.queues service) ticket }
+    requires idle { find (λ a. is_running a.stage) (queue_of traffic.old.queues service) ≡ None }
+    ensures begins { OnOk result (CardBegins (CardAsk.Read tracks) service ticket slot.old slot.new traffic.old traffic.new) }
+    ensures memory { OnErr result ((slot.new ≡ slot.old) × (traffic.new ≡ traffic.old)) }
 {
     let frame = insert_card(alloc, ticket.id)?;
-    connections.send(service, ticket.client, frame)?;
+    traffic.connections.send(service, ticket.client, frame)?;
     let Ok(effect) = xfs_card::step(alloc, slot, CardEvent::Begin(CardAsk::Read { tracks })) else {
-        connections.unsend(service, ticket.client);
+        traffic.connections.unsend(service, ticket.client);
         return Err(Memory);
     };
     match effect {
         CardEffect::AskInsert => {
-            start(queues, service, ticket);
+            start(&mut traffic.queues, service, ticket);
             Ok(())
         }
         CardEffect::Done(code, payload) => {
-            connections.unsend(service, ticket.client);
-            queues.set_result(service, ticket, Outcome::new(code, payload));
+            traffic.connections.unsend(service, ticket.client);
+            traffic
+                .queues
+                .set_result(service, ticket, Outcome::new(code, payload));
             Ok(())
         }
         _ => unreachable!(),

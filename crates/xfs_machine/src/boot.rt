@@ -10,15 +10,14 @@ ghost use Rattle.xfs_machine.specs.MachineView.{guard_of};
 ghost use Rattle.xfs_model.specs.State.{bare};
 ghost use Rattle.xfs_model.specs.Told.{HasMark};
 
+use crate::dispenser::Dispenser;
 use crate::machine::Machine;
 use std::alloc::Global;
 use xfs_base::Moment;
-use xfs_card::CardState;
 use xfs_disk::Disk;
 use xfs_guard::{BootFail, Core, Guard};
-use xfs_keyboard::KeyState;
 use xfs_mech::Mechanism;
-use xfs_traffic::{Connections, Queues};
+use xfs_traffic::{Devices, Traffic};
 
 impl<M: Mechanism, D: Disk> Machine<M, D> {
     /// A machine over this mechanism and the journal of this disk, which gets a boot record, with no connection,
@@ -58,17 +57,17 @@ impl<M: Mechanism, D: Disk> Machine<M, D> {
         let boot = newest(&guard);
         Machine {
             alloc,
-            guard,
-            life,
-            issued: Moment(0),
+            dispenser: Dispenser {
+                guard,
+                life,
+                issued: Moment(0),
+                exchange: false,
+            },
             boot,
-            exchange: false,
             moment: Moment(0),
-            slot: CardState::new(),
-            keypad: KeyState::new(),
             given: 0,
-            connections: Connections::new(alloc),
-            queues: Queues::new(alloc),
+            devices: Devices::new(),
+            traffic: Traffic::new(alloc),
         }
     }
 }

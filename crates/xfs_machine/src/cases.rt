@@ -3,13 +3,14 @@
 ghost use Rattle.std.specs.Prelude.{◌≡◌, ◌≤◌, ◌&&◌, ◌||◌};
 ghost use Rattle.std.specs.List.{list_any};
 ghost use Rattle.xfs_base.specs.declared.moment.TheConstants.{LAST_MOMENT};
-ghost use Rattle.xfs_dispenser.specs.Seen.{seen};
 ghost use Rattle.xfs_guard.specs.Upheld.{IsUpheld};
 ghost use Rattle.xfs_machine.specs.Chosen.{case_seen, device_case};
+ghost use Rattle.xfs_machine.specs.Parts.{at_dispenser};
 ghost use Rattle.xfs_model.specs.State.{State};
 ghost use Rattle.xfs_model.specs.Work.{case_of, is_ordered};
 ghost use Rattle.xfs_queue.specs.Commands.{is_due, is_running};
 
+use crate::dispenser::Dispenser;
 use crate::life::is_life_over;
 use xfs_base::{Moment, Service};
 use xfs_disk::Disk;
@@ -42,22 +43,19 @@ pub(crate) enum Case {
 
 /// The first case that applies.
 pub(crate) fn case_of<M: Mechanism, D: Disk>(
-    guard: &Guard<M, D>,
-    life: u32,
-    issued: Moment,
-    now: Moment,
+    dispenser: &Dispenser<M, D>,
     queues: &Queues,
     service: Service,
+    now: Moment,
 ) -> Case
     requires { now.0 ≤ LAST_MOMENT }
-    ensures case { (s : State) → case_seen result
-        ≡ case_of (record s { seen = seen D.Disk guard.now; life = life; issued = issued; now = now; queues = queues.now }) service }
-    ensures upheld { IsUpheld D.Disk guard.now }
+    ensures case { (s : State) → case_seen result ≡ case_of (at_dispenser D.Disk s now dispenser.now queues.now) service }
+    ensures upheld { IsUpheld D.Disk dispenser.now.guard }
 {
     let is_cash = is_service(Service::Cash, service);
     let queue = queues.at(service);
-    let over = is_life_over(guard, life, issued, now);
-    if is_cash & is_ordered(guard) {
+    let over = is_life_over(dispenser, now);
+    if is_cash & is_ordered(&dispenser.guard) {
         return Case::Order;
     }
     if is_cash & over {

@@ -1,29 +1,27 @@
 //! How a machine ends, or begins anew.
 
-ghost use Rattle.std.specs.Prelude.{◌≡◌, ◌≢◌, ℕ, false, List, None, IfOk, IfErr, OnOk, OnErr, Err, length, is_ok, is_some};
-ghost use Rattle.xfs_dispenser.specs.Seen.{Seen, seen};
+ghost use Rattle.std.specs.Prelude.{◌≡◌, ◌≢◌, false, List, None, IfOk, IfErr, OnOk, OnErr, Err, length, is_ok, is_some};
+ghost use Rattle.xfs_dispenser.specs.Seen.{seen};
 ghost use Rattle.xfs_guard.specs.Keeps.{Keeps, NoEntry};
 ghost use Rattle.xfs_guard.specs.Booting.{LeavesListOf, LeavesRecorded};
 ghost use Rattle.xfs_base.specs.Causes.{Rose};
 ghost use Rattle.xfs_guard.specs.declared.fail.BootFault.TheVariants.{Disk as BootDisk, Memory as BootMemory};
 ghost use Rattle.xfs_machine.specs.Endings.{Finishes, IsFinishedThrough, IsHandedBack, IsRefused, IsRefusedThrough, RefusesAs};
 ghost use Rattle.xfs_machine.specs.Laws.{IsLawful};
-ghost use Rattle.xfs_machine.specs.MachineView.{guard_of, of_parts};
+ghost use Rattle.xfs_machine.specs.MachineView.{guard_of};
 ghost use Rattle.xfs_model.specs.Events.{restart, restarted, unrestarted, end_, ended, memory};
 ghost use Rattle.xfs_model.specs.State.{State, bare};
 ghost use Rattle.xfs_model.specs.Step.{Step, gone};
 
 use crate::boot::newest;
+use crate::dispenser::Dispenser;
 use crate::machine::Machine;
 use crate::reboot::{close, reboot};
-use std::alloc::Global;
 use xfs_base::Moment;
-use xfs_card::CardState;
 use xfs_disk::Disk;
 use xfs_guard::{BootFail, BootFault, Deny, Guard};
-use xfs_keyboard::KeyState;
 use xfs_mech::Mechanism;
-use xfs_traffic::{Connections, Queues};
+use xfs_traffic::{Devices, Traffic};
 
 impl<M: Mechanism, D: Disk> Machine<M, D> {
     /// Boots again in place, on the same mechanism and disk: every connection, command, card, entry and
@@ -39,22 +37,18 @@ impl<M: Mechanism, D: Disk> Machine<M, D> {
         ensures disk { result ≡ Err BootDisk → Rose (D.faults self.old.disk) (D.faults self.new.disk) }
         ensures keeps { Keeps D.Disk NoEntry (guard_of self.old) (guard_of self.new) }
     {
-        let outcome = reboot(&mut self.guard);
+        let outcome = reboot(&mut self.dispenser.guard);
         if outcome == Err(BootFault::Memory) {
             return outcome;
         }
-        self.boot = boot_after(&self.guard, &outcome, self.boot);
-        forget(
-            self.alloc,
-            &mut self.issued,
-            &mut self.exchange,
-            &mut self.moment,
-            &mut self.slot,
-            &mut self.keypad,
-            &mut self.given,
-            &mut self.connections,
-            &mut self.queues,
-        );
+        self.boot = boot_after(&self.dispenser.guard, &outcome, self.boot);
+        // Nothing of before the boot is left: no card, entry, exchange, connection or command.
+        self.dispenser.issued = Moment(0);
+        self.dispenser.exchange = false;
+        self.moment = Moment(0);
+        self.given = 0;
+        self.devices = Devices::new();
+        self.traffic = Traffic::new(self.alloc);
         outcome
     }
 
@@ -109,47 +103,10 @@ impl<M: Mechanism, D: Disk> Machine<M, D> {
         ensures seen { seen D.Disk result ≡ self.state.seen }
         ensures there { self.state.boot ≢ 0 }
     {
-        let Machine {
-            alloc: _,
-            guard,
-            life: _,
-            issued: _,
-            boot: _,
-            exchange: _,
-            moment: _,
-            slot: _,
-            keypad: _,
-            given: _,
-            connections: _,
-            queues: _,
-        } = self;
+        let Machine { dispenser, .. } = self;
+        let Dispenser { guard, .. } = dispenser;
         guard
     }
-}
-
-// Nothing of before a boot is left: no card, entry, exchange, connection or command.
-fn forget(
-    alloc: Global,
-    issued: &mut Moment,
-    exchange: &mut bool,
-    moment: &mut Moment,
-    slot: &mut CardState,
-    keypad: &mut KeyState,
-    given: &mut u32,
-    connections: &mut Connections,
-    queues: &mut Queues,
-)
-    ensures { (seen : Seen) (life boot : ℕ) → of_parts seen life issued.new boot exchange.new moment.new
-        slot.new keypad.new given.new connections.new queues.new ≡ bare seen life boot }
-{
-    *issued = Moment(0);
-    *exchange = false;
-    *moment = Moment(0);
-    *slot = CardState::new();
-    *keypad = KeyState::new();
-    *given = 0;
-    *connections = Connections::new(alloc);
-    *queues = Queues::new(alloc);
 }
 
 // The number of the boot's boot record, where there is a new one.

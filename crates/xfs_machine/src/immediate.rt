@@ -10,7 +10,8 @@ ghost use Rattle.xfs_common.specs.declared.payloads.Fit2.TheVariants as fit;
 ghost use Rattle.xfs_envelope.specs.Commands.{said};
 ghost use Rattle.xfs_envelope.specs.Messages.{IsPayload};
 ghost use Rattle.xfs_guard.specs.Fits.{unfit};
-ghost use Rattle.xfs_traffic.specs.Senders.{IsCompleted, IsSeen, with_both};
+ghost use Rattle.xfs_machine.specs.Changes.{CancelIsDone, IsDoneAtOnce};
+ghost use Rattle.xfs_traffic.specs.Senders.{IsCompleted};
 ghost use Rattle.xfs_model.specs.Frames.{IsAcknowledge, IsCompletion};
 ghost use Rattle.xfs_common.specs.Payloads.{capabilities_payload, status_payload};
 ghost use Rattle.xfs_common.specs.declared.error.ErrorCode.TheVariants.{NoMatchingRequestIds};
@@ -19,8 +20,7 @@ ghost use Rattle.xfs_model.specs.Results.{error, plain, success};
 ghost use Rattle.xfs_envelope.specs.declared.code.Code.TheVariants.{InvalidCommand};
 ghost use Rattle.xfs_machine.specs.Immediate.{is_told};
 ghost use Rattle.xfs_units.specs.Payloads.{storage_payload};
-ghost use Rattle.xfs_model.specs.Posts.{DoesAtOnce};
-ghost use Rattle.xfs_model.specs.State.{Connection as ConnectionView, Queues as QueuesView, State};
+ghost use Rattle.xfs_model.specs.State.{State};
 ghost use Rattle.xfs_queue.specs.Commands.{names};
 ghost use Rattle.xfs_queue.specs.Queue.{is_named};
 
@@ -36,36 +36,32 @@ use xfs_envelope::{Code, Envelope, completion};
 use xfs_guard::Guard;
 use xfs_mech::Mechanism;
 use xfs_queue::{Command, Ids, Queue};
-use xfs_traffic::{Connections, Job, Outcome, Queues, Sender, acceptance_reply};
+use xfs_traffic::{Connections, Job, Outcome, Sender, Traffic, acceptance_reply};
 use xfs_units::storage;
 
 // Accepts a command and completes it. Where memory runs out nothing has changed.
 pub(crate) fn do_at_once<M: Mechanism, D: Disk>(
     alloc: Global,
     guard: &Guard<M, D>,
-    connections: &mut Connections,
-    queues: &mut Queues,
+    traffic: &mut Traffic,
     sender: Sender,
     command: &Envelope,
 ) -> Result<(), Memory>
-    ensures ok { OnOk result ((s : State) (k : ConnectionView) → k.client ≡ sender.client → k.service ≡ sender.service
-        → s.seen.guard ≡ guard.now.state
-        → DoesAtOnce (with_both s connections.old queues.old) k (said command.now) (with_both s connections.new queues.new)) }
-    ensures connections { OnErr result (connections.new ≡ connections.old) }
-    ensures queues { OnErr result (queues.new ≡ queues.old) }
+    ensures ok { OnOk result (IsDoneAtOnce sender guard.now.state (said command.now) traffic.old traffic.new) }
+    ensures err { OnErr result (traffic.new ≡ traffic.old) }
 {
     let asked = Immediate::named(sender.service, command.name.as_str());
     match asked {
-        Some(Immediate::Cancel) => cancel(alloc, connections, queues, sender, command),
+        Some(Immediate::Cancel) => cancel(alloc, traffic, sender, command),
         Some(Immediate::GetPresentStatus) => {
             let outcome = told_present_status(alloc, guard, &command.payload)?;
-            complete(alloc, connections, sender, command, &outcome)
+            complete(alloc, &mut traffic.connections, sender, command, &outcome)
         }
-        Some(Immediate::Status) => answer(alloc, guard, connections, sender, command, asked),
-        Some(Immediate::Capabilities) => answer(alloc, guard, connections, sender, command, asked),
-        Some(Immediate::GetServices) => answer(alloc, guard, connections, sender, command, asked),
-        Some(Immediate::GetStorage) => answer(alloc, guard, connections, sender, command, asked),
-        None => answer(alloc, guard, connections, sender, command, asked),
+        Some(Immediate::Status) => answer(alloc, guard, traffic, sender, command, asked),
+        Some(Immediate::Capabilities) => answer(alloc, guard, traffic, sender, command, asked),
+        Some(Immediate::GetServices) => answer(alloc, guard, traffic, sender, command, asked),
+        Some(Immediate::GetStorage) => answer(alloc, guard, traffic, sender, command, asked),
+        None => answer(alloc, guard, traffic, sender, command, asked),
     }
 }
 
@@ -73,20 +69,18 @@ pub(crate) fn do_at_once<M: Mechanism, D: Disk>(
 fn answer<M: Mechanism, D: Disk>(
     alloc: Global,
     guard: &Guard<M, D>,
-    connections: &mut Connections,
+    traffic: &mut Traffic,
     sender: Sender,
     command: &Envelope,
     asked: Option<Immediate>,
 ) -> Result<(), Memory>
     requires told { is_told asked ≡ true }
     requires named { immediate_of sender.service command.now.name ≡ asked }
-    ensures ok { OnOk result ((s : State) (k : ConnectionView) (queues : QueuesView) → k.client ≡ sender.client → k.service ≡ sender.service
-        → s.seen.guard ≡ guard.now.state
-        → DoesAtOnce (with_both s connections.old queues) k (said command.now) (with_both s connections.new queues)) }
-    ensures connections { OnErr result (connections.new ≡ connections.old) }
+    ensures ok { OnOk result (IsDoneAtOnce sender guard.now.state (said command.now) traffic.old traffic.new) }
+    ensures err { OnErr result (traffic.new ≡ traffic.old) }
 {
     let outcome = tell(alloc, guard, sender.service, asked)?;
-    complete(alloc, connections, sender, command, &outcome)
+    complete(alloc, &mut traffic.connections, sender, command, &outcome)
 }
 
 // The acknowledge and the completion are sent, or neither.
@@ -174,32 +168,31 @@ fn tell_storage<M: Mechanism, D: Disk>(
 // A Cancel stops the named commands of its client, where one of them is pending.
 fn cancel(
     alloc: Global,
-    connections: &mut Connections,
-    queues: &mut Queues,
+    traffic: &mut Traffic,
     sender: Sender,
     command: &Envelope,
 ) -> Result<(), Memory>
     requires { immediate_of sender.service command.now.name ≡ Some Cancel }
-    ensures ok { OnOk result ((s : State) (k : ConnectionView) → k.client ≡ sender.client → k.service ≡ sender.service
-        → DoesAtOnce (with_both s connections.old queues.old) k (said command.now) (with_both s connections.new queues.new)) }
-    ensures connections { OnErr result (connections.new ≡ connections.old) }
-    ensures queues { OnErr result (queues.new ≡ queues.old) }
+    ensures ok { OnOk result (CancelIsDone sender (said command.now) traffic.old traffic.new) }
+    ensures err { OnErr result (traffic.new ≡ traffic.old) }
 {
     let ids = match read_cancel(alloc, &command.payload) {
         Ok(what) => ids_of(what),
         Err(ReadFail::Shape) => {
             let outcome = Outcome::new(Code::InvalidData, nothing(alloc));
-            return complete(alloc, connections, sender, command, &outcome);
+            return complete(alloc, &mut traffic.connections, sender, command, &outcome);
         }
         Err(ReadFail::Memory) => return Err(Memory),
     };
-    if !names_one(queues.at(sender.service), sender.client, &ids) {
+    if !names_one(traffic.queues.at(sender.service), sender.client, &ids) {
         let outcome = no_matching(alloc)?;
-        return complete(alloc, connections, sender, command, &outcome);
+        return complete(alloc, &mut traffic.connections, sender, command, &outcome);
     }
     let outcome = Outcome::new(Code::Success, nothing(alloc));
-    complete(alloc, connections, sender, command, &outcome)?;
-    queues.stop(alloc, sender.service, sender.client, &ids);
+    complete(alloc, &mut traffic.connections, sender, command, &outcome)?;
+    traffic
+        .queues
+        .stop(alloc, sender.service, sender.client, &ids);
     Ok(())
 }
 

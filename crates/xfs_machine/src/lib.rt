@@ -5,6 +5,7 @@ mod answer;
 mod begin;
 mod boot;
 mod cases;
+mod dispenser;
 mod ending;
 mod immediate;
 mod life;

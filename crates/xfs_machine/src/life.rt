@@ -8,9 +8,11 @@ ghost use Rattle.xfs_guard.specs.Nonce.{live_in};
 ghost use Rattle.xfs_guard.specs.Upheld.{IsUpheld};
 ghost use Rattle.xfs_guard.specs.declared.open.Open.TheVariants.{No};
 ghost use Rattle.xfs_machine.specs.Changes.{LifeEnds};
+ghost use Rattle.xfs_machine.specs.Parts.{at_dispenser};
 ghost use Rattle.xfs_model.specs.State.{State};
 ghost use Rattle.xfs_model.specs.Work.{is_life_over};
 
+use crate::dispenser::Dispenser;
 use std::alloc::Global;
 use xfs_base::{Memory, Moment, Service};
 use xfs_disk::Disk;
@@ -20,19 +22,14 @@ use xfs_traffic::{Connections, Ending, nonce_ended};
 
 /// Whether a nonce lives whose life is over, and the journal takes more records. Most lives have no end, so that
 /// the life is looked at first.
-pub(crate) fn is_life_over<M: Mechanism, D: Disk>(
-    guard: &Guard<M, D>,
-    life: u32,
-    issued: Moment,
-    now: Moment,
-) -> bool
-    ensures { (s : State) → result ≡ is_life_over (record s { seen = seen D.Disk guard.now; life = life; issued = issued; now = now }) }
+pub(crate) fn is_life_over<M: Mechanism, D: Disk>(dispenser: &Dispenser<M, D>, now: Moment) -> bool
+    ensures { (s : State) → result ≡ is_life_over (at_dispenser D.Disk s now dispenser.now s.queues) }
 {
-    if !is_long_ago(life, issued, now) {
+    if !is_long_ago(dispenser.life, dispenser.issued, now) {
         return false;
     }
-    let lives = guard.live().is_some();
-    let fits = guard.unfit().is_none();
+    let lives = dispenser.guard.live().is_some();
+    let fits = dispenser.guard.unfit().is_none();
     lives & fits
 }
 

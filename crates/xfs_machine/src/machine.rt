@@ -13,6 +13,7 @@ ghost use Rattle.xfs_model.specs.Step.{Step};
 ghost use Rattle.xfs_model.specs.Told.{AllTell};
 
 use crate::boot::newest;
+use crate::dispenser::Dispenser;
 use crate::notes_taken::is_shutter_closed;
 use crate::pass::{JoinFault, Pass};
 use crate::post::take;
@@ -20,37 +21,30 @@ use crate::tally::Tally;
 use std::alloc::Global;
 use std::marker::Model;
 use xfs_base::{ClientId, Memory, Moment, Places, Service, UnitTable};
-use xfs_card::CardState;
 use xfs_disk::Disk;
-use xfs_guard::{Guard, Nonce};
+use xfs_guard::Nonce;
 use xfs_journal::Rec;
-use xfs_keyboard::KeyState;
 use xfs_mech::Mechanism;
-use xfs_traffic::{Connection, Connections, Frames, Queues, Reading, Sender};
+use xfs_traffic::{Connection, Devices, Frames, Reading, Sender, Traffic};
 
 // So many connections may be open.
 const MOST_OPEN: usize = 64;
 
-/// The machine: its guard and devices, its connections, and the pending commands of each service.
+/// The machine: its dispenser and other devices, its connections, and the pending commands of each service.
 /// Each call is one event of it, and in its clause `step` one step of the definitions.
 #[derive(Drop)]
 pub struct Machine<M: Mechanism, D: Disk> {
     pub(crate) alloc: Global,
-    pub(crate) guard: Guard<M, D>,
-    pub(crate) life: u32,
-    pub(crate) issued: Moment,
+    pub(crate) dispenser: Dispenser<M, D>,
     pub(crate) boot: u64,
-    pub(crate) exchange: bool,
     pub(crate) moment: Moment,
-    pub(crate) slot: CardState,
-    pub(crate) keypad: KeyState,
     pub(crate) given: u32,
-    pub(crate) connections: Connections,
-    pub(crate) queues: Queues,
+    pub(crate) devices: Devices,
+    pub(crate) traffic: Traffic,
 }
 
 impl<M: Mechanism, D: Disk> Model for Machine<M, D> {
-    ghost use Rattle.xfs_machine.specs.MachineView.{MachineView, IsWhole, over};
+    ghost use Rattle.xfs_machine.specs.MachineView.{MachineView, IsWhole, of_parts};
     ghost use Rattle.std.specs.Coded.{codes};
     ghost use Rattle.xfs_traffic.specs.DataCodes.{data_code};
 
@@ -59,11 +53,11 @@ impl<M: Mechanism, D: Disk> Model for Machine<M, D> {
     ghost coded = { Prim.hlevel (codes, data_code) };
 
     ghost view = { λ m. record {
-      state = over D.Disk m.guard m.life m.issued m.boot m.exchange m.moment m.slot m.keypad m.given m.connections m.queues;
-      disk = m.guard.disk;
+      state = of_parts D.Disk m.dispenser m.boot m.moment m.given m.devices m.traffic;
+      disk = m.dispenser.guard.disk;
     } };
 
-    ghost invariant = { λ m. IsWhole (over D.Disk m.guard m.life m.issued m.boot m.exchange m.moment m.slot m.keypad m.given m.connections m.queues) };
+    ghost invariant = { λ m. IsWhole (of_parts D.Disk m.dispenser m.boot m.moment m.given m.devices m.traffic) };
 }
 
 impl<M: Mechanism, D: Disk> Machine<M, D> {
@@ -73,12 +67,12 @@ impl<M: Mechanism, D: Disk> Machine<M, D> {
         ensures laws { IsLawful self.old.state (join service) (joined_as result) self.new.state }
         ensures guard { guard_of self.new ≡ guard_of self.old }
     {
-        if self.connections.len() >= MOST_OPEN || self.given == u32::MAX {
+        if self.traffic.connections.len() >= MOST_OPEN || self.given == u32::MAX {
             return Err(JoinFault::Full);
         }
         let client = ClientId(self.given + 1);
         let connection = Connection::new(self.alloc, client, service);
-        if self.connections.push(connection).is_err() {
+        if self.traffic.connections.push(connection).is_err() {
             return Err(JoinFault::Memory);
         }
         self.given += 1;
@@ -132,9 +126,8 @@ impl<M: Mechanism, D: Disk> Machine<M, D> {
         let now = later(self.moment, now);
         take(
             self.alloc,
-            &self.guard,
-            &mut self.connections,
-            &mut self.queues,
+            &self.dispenser.guard,
+            &mut self.traffic,
             sender,
             reading,
             now,
@@ -156,7 +149,7 @@ impl<M: Mechanism, D: Disk> Machine<M, D> {
         if self.boot != pass.boot {
             return Frames::new(Vec::new(self.alloc));
         }
-        Frames::new(self.connections.fetch(self.alloc, pass.client))
+        Frames::new(self.traffic.connections.fetch(self.alloc, pass.client))
     }
 
     /// Drops a connection with its commands, but for its running one, which is marked. A pass that isn't open
@@ -169,8 +162,8 @@ impl<M: Mechanism, D: Disk> Machine<M, D> {
         let Some(service) = self.service_of(&pass) else {
             return;
         };
-        self.connections.remove(pass.client);
-        self.queues.drop_client(service, pass.client);
+        self.traffic.connections.remove(pass.client);
+        self.traffic.queues.drop_client(service, pass.client);
     }
 
     /// Whether a pass is of this boot and its connection open.
@@ -184,28 +177,28 @@ impl<M: Mechanism, D: Disk> Machine<M, D> {
     pub fn open_count(&self) -> u32
         ensures { result ≡ length self.now.state.connections }
     {
-        self.connections.len() as u32
+        self.traffic.connections.len() as u32
     }
 
     /// The live nonce.
     pub fn live(&self) -> Option<Nonce>
         ensures { result ≡ live_in self.now.state.seen.guard.boot_missing self.now.state.seen.guard.records }
     {
-        self.guard.live()
+        self.dispenser.guard.live()
     }
 
     /// Where the notes lie.
     pub fn places(&self) -> Places
         ensures { result ≡ self.now.state.seen.guard.places }
     {
-        self.guard.places()
+        self.dispenser.guard.places()
     }
 
     /// The kinds of notes of the units.
     pub fn units(&self) -> &UnitTable
         ensures { result.now ≡ self.now.state.seen.guard.units }
     {
-        self.guard.units()
+        self.dispenser.guard.units()
     }
 
     /// Whether a touch of the world is waited for at a service.
@@ -214,9 +207,11 @@ impl<M: Mechanism, D: Disk> Machine<M, D> {
     {
         match service {
             Service::Publisher => false,
-            Service::Card => self.slot.awaits_card() || self.slot.at_exit(),
-            Service::Keys => self.keypad.active(),
-            Service::Cash => self.places().outlet.notes() != 0 && !is_shutter_closed(&self.guard),
+            Service::Card => self.devices.slot.awaits_card() || self.devices.slot.at_exit(),
+            Service::Keys => self.devices.keypad.active(),
+            Service::Cash => {
+                self.places().outlet.notes() != 0 && !is_shutter_closed(&self.dispenser.guard)
+            }
         }
     }
 
@@ -224,7 +219,7 @@ impl<M: Mechanism, D: Disk> Machine<M, D> {
     pub fn records(&self) -> &[Rec]
         ensures { result.now ≡ drop self.now.state.seen.guard.base self.now.state.seen.guard.records }
     {
-        self.guard.records()
+        self.dispenser.guard.records()
     }
 
     /// How many records of the journal memory doesn't have: those in front of the boot record of this machine's boot.
@@ -234,14 +229,14 @@ impl<M: Mechanism, D: Disk> Machine<M, D> {
         ensures within { self.now.state.seen.guard.base ≤ length self.now.state.seen.guard.records }
         ensures few { length self.now.state.seen.guard.records < 2 ^ 62 }
     {
-        self.guard.base()
+        self.dispenser.guard.base()
     }
 
     /// The number of the newest record.
     pub fn newest(&self) -> u64
         ensures { result ≡ length self.now.state.seen.guard.records }
     {
-        newest(&self.guard)
+        newest(&self.dispenser.guard)
     }
 
     // The service of the open connection of a pass.
@@ -251,7 +246,7 @@ impl<M: Mechanism, D: Disk> Machine<M, D> {
         if self.boot != pass.boot {
             return None;
         }
-        self.connections.service_of(pass.client)
+        self.traffic.connections.service_of(pass.client)
     }
 }
 

@@ -17,6 +17,7 @@ ghost use Rattle.xfs_queue.specs.Commands.{ticket_of, waits_on};
 ghost use Rattle.xfs_queue.specs.Queue.{IsQueue, IsWaiting};
 ghost use Rattle.xfs_queue.specs.declared.command.Line.TheVariants as Line;
 
+use crate::dispenser::Dispenser;
 use std::alloc::Global;
 use xfs_base::{Memory, Moment, Service};
 use xfs_common::{nonce, nothing};
@@ -30,18 +31,17 @@ use xfs_traffic::{Ask, Ending, Job, Outcome, Queues};
 /// Does the first command of the line. Where its deadline has come it has the result `timeOut`.
 pub(crate) fn take_first<M: Mechanism, D: Disk>(
     alloc: Global,
-    guard: &mut Guard<M, D>,
-    issued: &mut Moment,
+    dispenser: &mut Dispenser<M, D>,
     queues: &mut Queues,
     now: Moment,
 ) -> Result<(), Memory>
-    requires none { guard.old.state.open_order ≡ No }
+    requires none { dispenser.old.guard.state.open_order ≡ No }
     requires moment { now.0 ≤ LAST_MOMENT }
     requires asks { HasNonceAsk queues.old.cash }
-    ensures takes { OnOk result (FirstOfNonces now (seen D.Disk guard.old) (seen D.Disk guard.new) issued.old issued.new queues.old queues.new) }
-    ensures memory { OnErr result ((guard.new ≡ guard.old) × (issued.new ≡ issued.old) × (queues.new ≡ queues.old)) }
-    ensures proceeds { Proceeds D.Disk guard.old guard.new }
-    ensures keeps { IsUpheld D.Disk guard.old → Keeps D.Disk NoEntry guard.old guard.new }
+    ensures takes { OnOk result (FirstOfNonces D.Disk now dispenser.old dispenser.new queues.old queues.new) }
+    ensures memory { OnErr result ((dispenser.new ≡ dispenser.old) × (queues.new ≡ queues.old)) }
+    ensures proceeds { Proceeds D.Disk dispenser.old.guard dispenser.new.guard }
+    ensures keeps { IsUpheld D.Disk dispenser.old.guard → Keeps D.Disk NoEntry dispenser.old.guard dispenser.new.guard }
 {
     let Some(command) = first_asking(queues.at(Service::Cash)) else {
         unreachable!()
@@ -50,7 +50,13 @@ pub(crate) fn take_first<M: Mechanism, D: Disk>(
     let outcome = if queues.at(Service::Cash).due(ticket, now) {
         Outcome::new(Code::TimeOut, nothing(alloc))
     } else {
-        do_ask(alloc, guard, issued, now, command.job.ask())?
+        do_ask(
+            alloc,
+            &mut dispenser.guard,
+            &mut dispenser.issued,
+            now,
+            command.job.ask(),
+        )?
     };
     queues.set_result(Service::Cash, ticket, outcome);
     Ok(())

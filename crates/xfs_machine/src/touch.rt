@@ -2,18 +2,15 @@
 
 ghost use Rattle.std.specs.Prelude.{◌≡◌, ◌≢◌, IfOk, OnErr, OnOk};
 ghost use Rattle.xfs_base.specs.Causes.{next_count};
-ghost use Rattle.xfs_guard.specs.CrashOutcomes.{MayTake};
-ghost use Rattle.xfs_guard.specs.Keeps.{Keeps, Proceeds};
+ghost use Rattle.xfs_guard.specs.Keeps.{Proceeds};
 ghost use Rattle.xfs_machine.specs.Answers.{touched_as};
+ghost use Rattle.xfs_machine.specs.Changes.{DevicesAreTouched, KeepsTouched};
 ghost use Rattle.xfs_machine.specs.Laws.{IsLawful};
 ghost use Rattle.xfs_machine.specs.MachineView.{guard_of};
-ghost use Rattle.xfs_machine.specs.Parts.{at_devices};
 ghost use Rattle.xfs_machine.specs.declared.answer.Touched.TheVariants as Touched;
 ghost use Rattle.xfs_mech.specs.declared.touch.Touch.TheVariants as Touch;
-ghost use Rattle.xfs_model.specs.Events.{touch as touches, touched};
-ghost use Rattle.xfs_model.specs.State.{State};
+ghost use Rattle.xfs_model.specs.Events.{touch as touches};
 ghost use Rattle.xfs_model.specs.Step.{Step};
-ghost use Rattle.xfs_model.specs.Touches.{Touches};
 
 use crate::answer::Touched;
 use crate::machine::Machine;
@@ -21,11 +18,9 @@ use crate::notes_taken::take_notes;
 use crate::tally::Tally;
 use std::alloc::Global;
 use xfs_base::Memory;
-use xfs_card::CardState;
 use xfs_disk::Disk;
-use xfs_keyboard::KeyState;
 use xfs_mech::{Mechanism, Touch};
-use xfs_traffic::{Connections, Queues, fail_card, fail_keys, press_key, put_card, take_card};
+use xfs_traffic::{Devices, Traffic, fail_card, fail_keys, press_key, put_card, take_card};
 
 impl<M: Mechanism, D: Disk> Machine<M, D> {
     /// Takes one event of the world: of the card slot, of the key pad, or that the customer takes the notes
@@ -33,8 +28,7 @@ impl<M: Mechanism, D: Disk> Machine<M, D> {
     pub fn touch(&mut self, touch: Touch, tally: &mut Tally) -> Result<Touched, Memory>
         ensures step { Step self.old.state (touches touch) (touched_as result) self.new.state }
         ensures laws { IsLawful self.old.state (touches touch) (touched_as result) self.new.state }
-        ensures keeps { IfOk result (λ t. touch ≡ Touch.NotesTaken → t ≢ Touched.Closed
-            → Keeps D.Disk (MayTake self.old.state.seen.guard) (guard_of self.old) (guard_of self.new)) }
+        ensures keeps { IfOk result (λ t. KeepsTouched D.Disk touch t (guard_of self.old) (guard_of self.new)) }
         ensures closed { result ≡ Ok Touched.Closed → guard_of self.new ≡ guard_of self.old }
         ensures other { touch ≢ Touch.NotesTaken → guard_of self.new ≡ guard_of self.old }
         ensures memory { OnErr result (guard_of self.new ≡ guard_of self.old) }
@@ -43,16 +37,9 @@ impl<M: Mechanism, D: Disk> Machine<M, D> {
     {
         tally.count_touch();
         if let Touch::NotesTaken = touch {
-            return take_notes(&mut self.guard);
+            return take_notes(&mut self.dispenser.guard);
         }
-        touch_device(
-            self.alloc,
-            &mut self.slot,
-            &mut self.keypad,
-            &mut self.connections,
-            &mut self.queues,
-            touch,
-        )?;
+        touch_device(self.alloc, &mut self.devices, &mut self.traffic, touch)?;
         Ok(Touched::Other)
     }
 }
@@ -60,26 +47,20 @@ impl<M: Mechanism, D: Disk> Machine<M, D> {
 // An event of the card slot or of the key pad.
 fn touch_device(
     alloc: Global,
-    slot: &mut CardState,
-    keypad: &mut KeyState,
-    connections: &mut Connections,
-    queues: &mut Queues,
+    devices: &mut Devices,
+    traffic: &mut Traffic,
     touch: Touch,
 ) -> Result<(), Memory>
     requires { touch ≢ Touch.NotesTaken }
-    ensures touches { OnOk result ((s : State) → Touches
-        (at_devices s slot.old keypad.old connections.old queues.old)
-        touch touched
-        (at_devices s slot.new keypad.new connections.new queues.new)) }
-    ensures memory { OnErr result ((slot.new ≡ slot.old) × (keypad.new ≡ keypad.old)
-        × (connections.new ≡ connections.old) × (queues.new ≡ queues.old)) }
+    ensures touches { OnOk result (DevicesAreTouched touch devices.old devices.new traffic.old traffic.new) }
+    ensures memory { OnErr result ((devices.new ≡ devices.old) × (traffic.new ≡ traffic.old)) }
 {
     match touch {
-        Touch::CardIn(card) => put_card(alloc, slot, connections, queues, card),
-        Touch::CardTaken => take_card(alloc, slot, connections, queues),
-        Touch::CardFault => fail_card(alloc, slot, queues),
-        Touch::Key(key) => press_key(alloc, keypad, connections, queues, key),
-        Touch::KeyFault => fail_keys(alloc, keypad, queues),
+        Touch::CardIn(card) => put_card(alloc, &mut devices.slot, traffic, card),
+        Touch::CardTaken => take_card(alloc, &mut devices.slot, traffic),
+        Touch::CardFault => fail_card(alloc, &mut devices.slot, &mut traffic.queues),
+        Touch::Key(key) => press_key(alloc, &mut devices.keypad, traffic, key),
+        Touch::KeyFault => fail_keys(alloc, &mut devices.keypad, &mut traffic.queues),
         Touch::NotesTaken => unreachable!(),
     }
 }

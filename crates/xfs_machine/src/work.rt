@@ -3,22 +3,22 @@
 ghost use Rattle.std.specs.Prelude.{◌≡◌, ◌≤◌, Ok, OnErr, OnOk};
 ghost use Rattle.xfs_base.specs.Causes.{next_count};
 ghost use Rattle.xfs_base.specs.declared.moment.TheConstants.{LAST_MOMENT};
-ghost use Rattle.xfs_dispenser.specs.Seen.{seen};
 ghost use Rattle.xfs_guard.specs.Keeps.{Keeps, NoEntry, Proceeds};
 ghost use Rattle.xfs_guard.specs.Upheld.{IsUpheld};
 ghost use Rattle.xfs_machine.specs.Answers.{worked};
+ghost use Rattle.xfs_machine.specs.Changes.{CaseIsDone, IsOnlyRead};
 ghost use Rattle.xfs_machine.specs.Chosen.{case_seen};
 ghost use Rattle.xfs_machine.specs.Laws.{IsLawful};
 ghost use Rattle.xfs_machine.specs.MachineView.{guard_of};
-ghost use Rattle.xfs_machine.specs.Working.{CanDo, MayAdd, MayAddAt, at_work};
-ghost use Rattle.xfs_model.specs.Cases.{Does, told_by};
+ghost use Rattle.xfs_machine.specs.Working.{CanDo, CaseKeeps, MayAddAt};
+ghost use Rattle.xfs_model.specs.Cases.{told_by};
 ghost use Rattle.xfs_model.specs.Events.{work};
-ghost use Rattle.xfs_model.specs.State.{State};
 ghost use Rattle.xfs_model.specs.Step.{Step, at_moment};
 
 use crate::answer::Work;
 use crate::begin::begin_first;
 use crate::cases::{Case, case_of};
+use crate::dispenser::Dispenser;
 use crate::life::expire;
 use crate::machine::{Machine, later};
 use crate::nonce::take_first;
@@ -26,12 +26,9 @@ use crate::plan::work_on_plan;
 use crate::tally::Tally;
 use std::alloc::Global;
 use xfs_base::{Memory, Moment, Service};
-use xfs_card::CardState;
 use xfs_disk::Disk;
-use xfs_guard::Guard;
-use xfs_keyboard::KeyState;
 use xfs_mech::Mechanism;
-use xfs_traffic::{Connections, Queues, answer_first, stop_running, time_out};
+use xfs_traffic::{Devices, Traffic, answer_first, stop_running, time_out};
 
 impl<M: Mechanism, D: Disk> Machine<M, D> {
     /// Does one step of a service's work: the first case that applies. It is `Idle` exactly where none does.
@@ -47,24 +44,13 @@ impl<M: Mechanism, D: Disk> Machine<M, D> {
     {
         tally.count_work();
         let now = later(self.moment, now);
-        let case = case_of(
-            &self.guard,
-            self.life,
-            self.issued,
-            now,
-            &self.queues,
-            service,
-        );
+        let case = case_of(&self.dispenser, &self.traffic.queues, service, now);
         carry_out(
             self.alloc,
             case,
-            &mut self.guard,
-            &mut self.issued,
-            &mut self.exchange,
-            &mut self.slot,
-            &mut self.keypad,
-            &mut self.connections,
-            &mut self.queues,
+            &mut self.dispenser,
+            &mut self.devices,
+            &mut self.traffic,
             service,
             now,
         )?;
@@ -77,49 +63,32 @@ impl<M: Mechanism, D: Disk> Machine<M, D> {
 fn carry_out<M: Mechanism, D: Disk>(
     alloc: Global,
     case: Case,
-    guard: &mut Guard<M, D>,
-    issued: &mut Moment,
-    exchange: &mut bool,
-    slot: &mut CardState,
-    keypad: &mut KeyState,
-    connections: &mut Connections,
-    queues: &mut Queues,
+    dispenser: &mut Dispenser<M, D>,
+    devices: &mut Devices,
+    traffic: &mut Traffic,
     service: Service,
     now: Moment,
 ) -> Result<(), Memory>
     requires moment { now.0 ≤ LAST_MOMENT }
-    requires can { CanDo (case_seen case) guard.old.state now queues.old service }
-    ensures does { OnOk result ((s : State) → Does (case_seen case)
-        (at_work s (seen D.Disk guard.old) issued.old exchange.old now slot.old keypad.old connections.old queues.old)
-        service
-        (at_work s (seen D.Disk guard.new) issued.new exchange.new now slot.new keypad.new connections.new queues.new)) }
-    ensures memory { OnErr result ((guard.new.state ≡ guard.old.state) × (issued.new ≡ issued.old) × (exchange.new ≡ exchange.old)
-        × (slot.new ≡ slot.old) × (keypad.new ≡ keypad.old) × (connections.new ≡ connections.old) × (queues.new ≡ queues.old)) }
-    ensures proceeds { Proceeds D.Disk guard.old guard.new }
-    ensures keeps { IsUpheld D.Disk guard.old → OnOk result (Keeps D.Disk (MayAdd (case_seen case) guard.old.state queues.old) guard.old guard.new) }
-    ensures still { IsUpheld D.Disk guard.old → OnErr result (Keeps D.Disk NoEntry guard.old guard.new) }
+    requires can { CanDo (case_seen case) dispenser.old.guard.state now traffic.old.queues service }
+    ensures does { OnOk result (CaseIsDone D.Disk case service now dispenser.old dispenser.new devices.old devices.new traffic.old traffic.new) }
+    ensures memory { OnErr result (IsOnlyRead dispenser.old dispenser.new × (devices.new ≡ devices.old) × (traffic.new ≡ traffic.old)) }
+    ensures proceeds { Proceeds D.Disk dispenser.old.guard dispenser.new.guard }
+    ensures keeps { IsUpheld D.Disk dispenser.old.guard → OnOk result (CaseKeeps D.Disk case traffic.old.queues dispenser.old.guard dispenser.new.guard) }
+    ensures still { IsUpheld D.Disk dispenser.old.guard → OnErr result (Keeps D.Disk NoEntry dispenser.old.guard dispenser.new.guard) }
 {
     match case {
-        Case::Order => work_on_plan(alloc, guard, queues),
-        Case::GoOn => work_on_plan(alloc, guard, queues),
-        Case::Expire => expire(alloc, guard, connections),
-        Case::Answer => answer_first(alloc, connections, queues, service),
-        Case::Nonce => take_first(alloc, guard, issued, queues, now),
+        Case::Order => work_on_plan(alloc, &mut dispenser.guard, &mut traffic.queues),
+        Case::GoOn => work_on_plan(alloc, &mut dispenser.guard, &mut traffic.queues),
+        Case::Expire => expire(alloc, &mut dispenser.guard, &mut traffic.connections),
+        Case::Answer => answer_first(alloc, traffic, service),
+        Case::Nonce => take_first(alloc, dispenser, &mut traffic.queues, now),
         Case::Overdue => {
-            time_out(alloc, queues, service, now);
+            time_out(alloc, &mut traffic.queues, service, now);
             Ok(())
         }
-        Case::Stop => stop_running(alloc, queues, slot, keypad, service, now),
-        Case::Begin => begin_first(
-            alloc,
-            guard,
-            exchange,
-            slot,
-            keypad,
-            connections,
-            queues,
-            service,
-        ),
+        Case::Stop => stop_running(alloc, devices, &mut traffic.queues, service, now),
+        Case::Begin => begin_first(alloc, dispenser, devices, traffic, service),
         Case::Rest => Ok(()),
     }
 }

@@ -1,4 +1,4 @@
--- A machine with other connections and pending commands, and other devices. What a call does to some parts of a machine is said for every machine that has them.
+-- A machine with other traffic and other devices. What a call does to some parts of a machine is said for every machine that has them.
 use Rattle.std.specs.Prelude.{◌≡◌, ℕ, List, [], ◌∷◌, Option, Some, None, find, map}
 use Rattle.xfs_base.specs.declared.moment.ClientId.{ClientId}
 use Rattle.xfs_base.specs.declared.moment.Service.{Service}
@@ -7,13 +7,23 @@ use Rattle.xfs_keyboard.specs.Entries.{Entry}
 use Rattle.xfs_queue.specs.Commands.{is_ready}
 use Rattle.xfs_queue.specs.declared.command.Command.{Command}
 use Rattle.xfs_model.specs.Connections.{is_at, is_service, with_mail}
-use Rattle.xfs_model.specs.State.{Connection, Job, Outcome, Queues, State}
+use Rattle.xfs_model.specs.State.{Connection, Job, Outcome, State}
+use Rattle.xfs_traffic.specs.declared.devices.Devices.{Devices}
+use Rattle.xfs_traffic.specs.declared.traffic.Traffic.{Traffic}
 
-abbrev pub at_card : State → Slot → List Connection → Queues → State
-at_card s slot connections queues = record s { slot = slot; connections = connections; queues = queues }
+-- a machine with this traffic
+abbrev pub with_traffic : State → Traffic → State
+with_traffic s traffic = record s { connections = traffic.connections; queues = traffic.queues }
 
-abbrev pub at_keys : State → Option Entry → List Connection → Queues → State
-at_keys s keypad connections queues = record s { keypad = keypad; connections = connections; queues = queues }
+-- a machine with these devices
+abbrev pub with_devices : State → Devices → State
+with_devices s devices = record s { slot = devices.slot; keypad = devices.keypad }
+
+abbrev pub at_card : State → Slot → Traffic → State
+at_card s slot traffic = record (with_traffic s traffic) { slot = slot }
+
+abbrev pub at_keys : State → Option Entry → Traffic → State
+at_keys s keypad traffic = record (with_traffic s traffic) { keypad = keypad }
 
 -- a command is ready, and the first that is has its result
 pub record HasResult (q : List (Command Job)) : Type 0 where

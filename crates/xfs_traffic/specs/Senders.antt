@@ -1,4 +1,4 @@
--- What is done to connections and queues, told of every machine that has them.
+-- What is done to traffic, told of every machine that has it.
 use Rattle.std.specs.Prelude.{◌≡◌, ℕ, List, [], ◌∷◌, map, Option, None, Some}
 use Rattle.xfs_base.specs.declared.moment.Moment.{Moment}
 use Rattle.xfs_envelope.specs.Commands as envelope
@@ -6,11 +6,11 @@ use Rattle.xfs_envelope.specs.declared.code.Status.{Status}
 use Rattle.xfs_traffic.specs.declared.accepting.Sender.{Sender}
 use Rattle.xfs_model.specs.Connections.{is_at, with_mail}
 use Rattle.xfs_model.specs.Frames.{IsAcknowledge, IsCompletion}
-use Rattle.xfs_model.specs.State.{Connection, Outcome, Queues, State}
-
--- a machine with these connections and pending commands
-abbrev pub with_both : State → List Connection → Queues → State
-with_both s ks qs = record s { connections = ks; queues = qs }
+use Rattle.xfs_model.specs.Posts.{Accepts}
+use Rattle.xfs_model.specs.State.{Connection, Outcome, State}
+use Rattle.xfs_model.specs.declared.known.Known.{Known}
+use Rattle.xfs_traffic.specs.Parts.{with_traffic}
+use Rattle.xfs_traffic.specs.declared.traffic.Traffic.{Traffic}
 
 -- the connection of the sender has these frames behind those that wait
 abbrev pub mailed : Sender → List (List ℕ) → List Connection → List Connection
@@ -21,6 +21,10 @@ pub record IsSeen (now : Moment) (sender : Sender) (s : State) (k : Connection) 
   pub now_is : s.now ≡ now
   pub client : k.client ≡ sender.client
   pub service : k.service ≡ sender.service
+
+-- the command of the sender is pending, as the machine's definitions say, and is acknowledged
+abbrev pub IsAccepted : Moment → Sender → Known → envelope.Command → Traffic → Traffic → Type 0
+IsAccepted now sender command c old new = (s : State) (k : Connection) → IsSeen now sender s k → Accepts (with_traffic s old) k command c (with_traffic s new)
 
 -- the connection of the sender is sent the acknowledge alone
 pub record IsTurnedAway (sender : Sender) (id : Option ℕ) (name : Option (List ℕ)) (why : Status) (old new : List Connection) : Type 0 where

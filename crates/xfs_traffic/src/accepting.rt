@@ -4,16 +4,15 @@ ghost use Rattle.std.specs.Prelude.{◌≡◌, ◌≤◌, IfOk, OnOk, OnErr, Non
 ghost use Rattle.xfs_base.specs.declared.moment.TheConstants.{LAST_MOMENT};
 ghost use Rattle.xfs_envelope.specs.Commands.{said};
 ghost use Rattle.xfs_envelope.specs.declared.code.Status.TheVariants.{InvalidMessage};
-ghost use Rattle.xfs_traffic.specs.Senders.{IsTurnedAway, IsSeen, with_both};
+ghost use Rattle.xfs_traffic.specs.Senders.{IsAccepted, IsTurnedAway};
 ghost use Rattle.xfs_model.specs.Frames.{IsAcknowledge};
-ghost use Rattle.xfs_model.specs.Posts.{Accepts};
-ghost use Rattle.xfs_model.specs.State.{Connection as ConnectionView, State, queue_of};
+ghost use Rattle.xfs_model.specs.State.{queue_of};
 ghost use Rattle.xfs_queue.specs.Queue.{offer_fault};
 
 use crate::asks::{ask_of, line_of};
 use crate::connections::Connections;
 use crate::job::Job;
-use crate::queues::Queues;
+use crate::traffic::Traffic;
 use std::alloc::Global;
 use xfs_base::{Bytes, ClientId, Memory, Moment, Service};
 use xfs_envelope::{Envelope, Refuse, Status, acknowledge};
@@ -88,19 +87,16 @@ pub fn acceptance_reply(alloc: Global, command: &Envelope) -> Result<Bytes, Memo
 /// The command is pending from now on. Where its acknowledge can't be sent, it is taken out again.
 pub fn accept(
     alloc: Global,
-    connections: &mut Connections,
-    queues: &mut Queues,
+    traffic: &mut Traffic,
     sender: Sender,
     known: Known,
     command: Envelope,
     now: Moment,
 ) -> Result<(), Memory>
     requires moment { now.0 ≤ LAST_MOMENT }
-    requires free { offer_fault (queue_of queues.old sender.service) sender.client command.id ≡ None }
-    ensures ok { OnOk result ((s : State) (k : ConnectionView) → IsSeen now sender s k
-        → Accepts (with_both s connections.old queues.old) k known (said command) (with_both s connections.new queues.new)) }
-    ensures connections { OnErr result (connections.new ≡ connections.old) }
-    ensures queues { OnErr result (queues.new ≡ queues.old) }
+    requires free { offer_fault (queue_of traffic.old.queues sender.service) sender.client command.id ≡ None }
+    ensures ok { OnOk result (IsAccepted now sender known (said command) traffic.old traffic.new) }
+    ensures err { OnErr result (traffic.new ≡ traffic.old) }
 {
     let reply = acceptance_reply(alloc, &command)?;
     let ask = ask_of(alloc, known, &command.payload)?;
@@ -109,7 +105,7 @@ pub fn accept(
         id: command.id,
     };
     let job = Job::new(command.name, ask);
-    queues.offer(
+    traffic.queues.offer(
         sender.service,
         ticket,
         line_of(known),
@@ -117,10 +113,13 @@ pub fn accept(
         now,
         job,
     )?;
-    match connections.send(sender.service, sender.client, reply) {
+    match traffic
+        .connections
+        .send(sender.service, sender.client, reply)
+    {
         Ok(()) => Ok(()),
         Err(Memory) => {
-            queues.remove(sender.service, ticket);
+            traffic.queues.remove(sender.service, ticket);
             Err(Memory)
         }
     }

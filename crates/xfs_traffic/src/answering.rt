@@ -10,24 +10,19 @@ ghost use Rattle.xfs_queue.specs.Commands.{is_ready};
 use crate::connections::Connections;
 use crate::job::{Job, Outcome};
 use crate::notices::nonce_ended;
-use crate::queues::Queues;
+use crate::traffic::Traffic;
 use std::alloc::Global;
 use xfs_base::{Bytes, ClientId, Memory, Service};
 use xfs_envelope::{Name, completion};
 use xfs_queue::{Command, Queue, Stage};
 
 /// Answers it, and takes it out. Where a nonce ended with it, that is announced before.
-pub fn answer_first(
-    alloc: Global,
-    connections: &mut Connections,
-    queues: &mut Queues,
-    service: Service,
-) -> Result<(), Memory>
-    requires { HasResult (queue_of queues.old service) }
-    ensures answers { OnOk result (FirstIsAnswered service connections.old connections.new queues.old queues.new) }
-    ensures memory { OnErr result ((connections.new ≡ connections.old) × (queues.new ≡ queues.old)) }
+pub fn answer_first(alloc: Global, traffic: &mut Traffic, service: Service) -> Result<(), Memory>
+    requires { HasResult (queue_of traffic.old.queues service) }
+    ensures answers { OnOk result (FirstIsAnswered service traffic.old traffic.new) }
+    ensures memory { OnErr result (traffic.new ≡ traffic.old) }
 {
-    let Some(command) = first_ready(queues.at(service)) else {
+    let Some(command) = first_ready(traffic.queues.at(service)) else {
         unreachable!()
     };
     let Some(outcome) = &command.job.outcome else {
@@ -35,8 +30,15 @@ pub fn answer_first(
     };
     let (before, last) = frames_of(alloc, &command.job.name, command.id, outcome)?;
     let ticket = command.ticket();
-    mail(alloc, connections, service, ticket.client, before, last)?;
-    queues.remove(service, ticket);
+    mail(
+        alloc,
+        &mut traffic.connections,
+        service,
+        ticket.client,
+        before,
+        last,
+    )?;
+    traffic.queues.remove(service, ticket);
     Ok(())
 }
 

@@ -1,15 +1,16 @@
 //! What touches of the world do to the card reader and the keyboard, and what their running command hears.
 
-ghost use Rattle.std.specs.Prelude.{◌≡◌, OnErr, OnOk, Some, find, option_map};
+ghost use Rattle.std.specs.Prelude.{◌≡◌, None, OnErr, OnOk, Some, find, option_map};
 ghost use Rattle.xfs_queue.specs.Commands.{is_running, ticket_of};
+ghost use Rattle.xfs_card.specs.Slot.{empty};
 ghost use Rattle.xfs_card.specs.declared.state.CardEvent.TheVariants as CardEvent;
 ghost use Rattle.xfs_keyboard.specs.declared.state.KeyEvent.TheVariants as KeyEvent;
 ghost use Rattle.xfs_traffic.specs.Changes.{CardFails, CardTakes, KeysFail, KeysTake, RunningHas};
 
-use crate::connections::Connections;
 use crate::job::Outcome;
 use crate::notices::{card_inserted, card_removed, key_pressed};
 use crate::queues::Queues;
+use crate::traffic::Traffic;
 use std::alloc::Global;
 use xfs_base::{Memory, Service};
 use xfs_card::{CardEffect, CardEvent, CardState};
@@ -19,19 +20,37 @@ use xfs_keyboard::{KeyEffect, KeyEvent, KeyState};
 use xfs_mech::{KeyName, Tracks};
 use xfs_queue::Ticket;
 
+/// The card slot and the key pad.
+#[derive(Drop)]
+pub struct Devices {
+    pub slot: CardState,
+    pub keypad: KeyState,
+}
+
+impl Devices {
+    /// No card, and no entry.
+    pub fn new() -> Devices
+        ensures { result ≡ record { slot = empty; keypad = None } }
+    {
+        Devices {
+            slot: CardState::new(),
+            keypad: KeyState::new(),
+        }
+    }
+}
+
 /// A card is put in. The event that tells it is sent first, and taken back where nothing is told.
 pub fn put_card(
     alloc: Global,
     slot: &mut CardState,
-    connections: &mut Connections,
-    queues: &mut Queues,
+    traffic: &mut Traffic,
     card: Tracks,
 ) -> Result<(), Memory>
-    ensures touches { OnOk result (CardTakes (CardEvent.Inserted card) slot.old slot.new connections.old connections.new queues.old queues.new) }
-    ensures memory { OnErr result ((slot.new ≡ slot.old) × (connections.new ≡ connections.old) × (queues.new ≡ queues.old)) }
+    ensures touches { OnOk result (CardTakes (CardEvent.Inserted card) slot.old slot.new traffic.old traffic.new) }
+    ensures memory { OnErr result ((slot.new ≡ slot.old) × (traffic.new ≡ traffic.old)) }
 {
-    match queues.at(Service::Card).running() {
-        Some(ticket) => put_card_for(alloc, slot, connections, queues, ticket, card),
+    match traffic.queues.at(Service::Card).running() {
+        Some(ticket) => put_card_for(alloc, slot, traffic, ticket, card),
         None => {
             xfs_card::step(alloc, slot, CardEvent::Inserted(card))?;
             Ok(())
@@ -43,31 +62,32 @@ pub fn put_card(
 fn put_card_for(
     alloc: Global,
     slot: &mut CardState,
-    connections: &mut Connections,
-    queues: &mut Queues,
+    traffic: &mut Traffic,
     ticket: Ticket,
     card: Tracks,
 ) -> Result<(), Memory>
-    requires { Some ticket ≡ option_map ticket_of (find (λ a. is_running a.stage) queues.old.card) }
-    ensures touches { OnOk result (CardTakes (CardEvent.Inserted card) slot.old slot.new connections.old connections.new queues.old queues.new) }
-    ensures memory { OnErr result ((slot.new ≡ slot.old) × (connections.new ≡ connections.old) × (queues.new ≡ queues.old)) }
+    requires { Some ticket ≡ option_map ticket_of (find (λ a. is_running a.stage) traffic.old.queues.card) }
+    ensures touches { OnOk result (CardTakes (CardEvent.Inserted card) slot.old slot.new traffic.old traffic.new) }
+    ensures memory { OnErr result ((slot.new ≡ slot.old) × (traffic.new ≡ traffic.old)) }
 {
     // The clause of `commands` tells that the ids differ.
-    let _kept = queues.at(Service::Card).commands();
+    let _kept = traffic.queues.at(Service::Card).commands();
     let frame = card_inserted(alloc, ticket.id)?;
-    connections.send(Service::Card, ticket.client, frame)?;
+    traffic
+        .connections
+        .send(Service::Card, ticket.client, frame)?;
     let Ok(effect) = xfs_card::step(alloc, slot, CardEvent::Inserted(card)) else {
-        connections.unsend(Service::Card, ticket.client);
+        traffic.connections.unsend(Service::Card, ticket.client);
         return Err(Memory);
     };
     match effect {
         CardEffect::Inserted(payload) => {
             let outcome = Outcome::new(Code::Success, payload);
-            queues.set_result(Service::Card, ticket, outcome);
+            traffic.queues.set_result(Service::Card, ticket, outcome);
             Ok(())
         }
         CardEffect::Nothing => {
-            connections.unsend(Service::Card, ticket.client);
+            traffic.connections.unsend(Service::Card, ticket.client);
             Ok(())
         }
         _ => unreachable!(),
@@ -75,27 +95,25 @@ fn put_card_for(
 }
 
 /// The card is taken from the exit. What announces it is sent first.
-pub fn take_card(
-    alloc: Global,
-    slot: &mut CardState,
-    connections: &mut Connections,
-    queues: &Queues,
-) -> Result<(), Memory>
-    ensures touches { OnOk result (CardTakes CardEvent.Removed slot.old slot.new connections.old connections.new queues.now queues.now) }
-    ensures memory { OnErr result ((slot.new ≡ slot.old) × (connections.new ≡ connections.old)) }
+pub fn take_card(alloc: Global, slot: &mut CardState, traffic: &mut Traffic) -> Result<(), Memory>
+    ensures touches { OnOk result (CardTakes CardEvent.Removed slot.old slot.new traffic.old traffic.new) }
+    ensures queues { traffic.new.queues ≡ traffic.old.queues }
+    ensures memory { OnErr result ((slot.new ≡ slot.old) × (traffic.new ≡ traffic.old)) }
 {
     // The clause of `commands` tells that the ids differ.
-    let _kept = queues.at(Service::Card).commands();
+    let _kept = traffic.queues.at(Service::Card).commands();
     if !slot.at_exit() {
         xfs_card::step(alloc, slot, CardEvent::Removed)?;
         return Ok(());
     }
     let frame = card_removed(alloc)?;
-    connections.announce(alloc, Service::Card, frame.list())?;
+    traffic
+        .connections
+        .announce(alloc, Service::Card, frame.list())?;
     match xfs_card::step(alloc, slot, CardEvent::Removed) {
         Ok(_) => Ok(()),
         Err(Memory) => {
-            connections.take_back(Service::Card);
+            traffic.connections.take_back(Service::Card);
             Err(Memory)
         }
     }
@@ -122,15 +140,14 @@ pub fn fail_card(alloc: Global, slot: &mut CardState, queues: &mut Queues) -> Re
 pub fn press_key(
     alloc: Global,
     keypad: &mut KeyState,
-    connections: &mut Connections,
-    queues: &mut Queues,
+    traffic: &mut Traffic,
     key: KeyName,
 ) -> Result<(), Memory>
-    ensures touches { OnOk result (KeysTake (KeyEvent.Key key) keypad.old keypad.new connections.old connections.new queues.old queues.new) }
-    ensures memory { OnErr result ((keypad.new ≡ keypad.old) × (connections.new ≡ connections.old) × (queues.new ≡ queues.old)) }
+    ensures touches { OnOk result (KeysTake (KeyEvent.Key key) keypad.old keypad.new traffic.old traffic.new) }
+    ensures memory { OnErr result ((keypad.new ≡ keypad.old) × (traffic.new ≡ traffic.old)) }
 {
-    match queues.at(Service::Keys).running() {
-        Some(ticket) => press_key_for(alloc, keypad, connections, queues, ticket, key),
+    match traffic.queues.at(Service::Keys).running() {
+        Some(ticket) => press_key_for(alloc, keypad, traffic, ticket, key),
         None => {
             xfs_keyboard::step(alloc, keypad, KeyEvent::Key(key))?;
             Ok(())
@@ -142,32 +159,33 @@ pub fn press_key(
 fn press_key_for(
     alloc: Global,
     keypad: &mut KeyState,
-    connections: &mut Connections,
-    queues: &mut Queues,
+    traffic: &mut Traffic,
     ticket: Ticket,
     key: KeyName,
 ) -> Result<(), Memory>
-    requires { Some ticket ≡ option_map ticket_of (find (λ a. is_running a.stage) queues.old.keys) }
-    ensures touches { OnOk result (KeysTake (KeyEvent.Key key) keypad.old keypad.new connections.old connections.new queues.old queues.new) }
-    ensures memory { OnErr result ((keypad.new ≡ keypad.old) × (connections.new ≡ connections.old) × (queues.new ≡ queues.old)) }
+    requires { Some ticket ≡ option_map ticket_of (find (λ a. is_running a.stage) traffic.old.queues.keys) }
+    ensures touches { OnOk result (KeysTake (KeyEvent.Key key) keypad.old keypad.new traffic.old traffic.new) }
+    ensures memory { OnErr result ((keypad.new ≡ keypad.old) × (traffic.new ≡ traffic.old)) }
 {
     // The clause of `commands` tells that the ids differ.
-    let _kept = queues.at(Service::Keys).commands();
+    let _kept = traffic.queues.at(Service::Keys).commands();
     let frame = key_pressed(alloc, ticket.id, key)?;
-    connections.send(Service::Keys, ticket.client, frame)?;
+    traffic
+        .connections
+        .send(Service::Keys, ticket.client, frame)?;
     let Ok(effect) = xfs_keyboard::step(alloc, keypad, KeyEvent::Key(key)) else {
-        connections.unsend(Service::Keys, ticket.client);
+        traffic.connections.unsend(Service::Keys, ticket.client);
         return Err(Memory);
     };
     match effect {
         KeyEffect::Told(_) => Ok(()),
         KeyEffect::Ended(_, payload) => {
             let outcome = Outcome::new(Code::Success, payload);
-            queues.set_result(Service::Keys, ticket, outcome);
+            traffic.queues.set_result(Service::Keys, ticket, outcome);
             Ok(())
         }
         KeyEffect::Nothing => {
-            connections.unsend(Service::Keys, ticket.client);
+            traffic.connections.unsend(Service::Keys, ticket.client);
             Ok(())
         }
         KeyEffect::Failed => unreachable!(),

@@ -1,7 +1,7 @@
-ghost use Rattle.std.specs.Prelude.{◌≡◌, ◌≤◌, ◌++◌, ◌∷◌, [], None, OnOk, OnErr};
+ghost use Rattle.std.specs.Prelude.{◌≡◌, ◌≤◌, None, OnOk, OnErr};
 ghost use Rattle.std.specs.Borrow.{sem};
 ghost use Rattle.xfs_base.specs.declared.moment.TheConstants.{LAST_MOMENT};
-ghost use Rattle.xfs_traffic.specs.Jobs.{changed_at};
+ghost use Rattle.xfs_traffic.specs.Jobs.{changed_at, with_last};
 ghost use Rattle.xfs_traffic.specs.Lending.{LendsQueue};
 ghost use Rattle.xfs_model.specs.Immediate.{stopped};
 ghost use Rattle.xfs_model.specs.Results.{plain, with_result, with_plan, running};
@@ -87,8 +87,7 @@ impl Queues {
     ) -> Result<(), Memory>
         requires moment { now.0 ≤ LAST_MOMENT }
         requires free { offer_fault (queue_of self.old service) ticket.client ticket.id ≡ None }
-        ensures ok { OnOk result (self.new ≡ with_queue self.old service
-            (queue_of self.old service ++ offered ticket.client ticket.id line timeout now job ∷ [])) }
+        ensures ok { OnOk result (self.new ≡ with_last self.old service (offered ticket.client ticket.id line timeout now job)) }
         ensures err { OnErr result (self.new ≡ self.old) }
     {
         match self

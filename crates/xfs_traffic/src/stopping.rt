@@ -9,14 +9,15 @@ ghost use Rattle.xfs_queue.specs.Commands.{is_due, is_running, ticket_of, waits_
 ghost use Rattle.xfs_queue.specs.Queue.{IsPending, IsQueue};
 ghost use Rattle.xfs_queue.specs.declared.command.Line.TheVariants as Line;
 
+use crate::devices::Devices;
 use crate::job::{Job, Outcome};
 use crate::queues::Queues;
 use std::alloc::Global;
 use xfs_base::{Memory, Moment, Service};
-use xfs_card::{CardEvent, CardState};
+use xfs_card::CardEvent;
 use xfs_common::nothing;
 use xfs_envelope::Code;
-use xfs_keyboard::{KeyEvent, KeyState};
+use xfs_keyboard::KeyEvent;
 use xfs_queue::{Command, Queue, Stage};
 
 /// The first waiting command of the device line whose deadline has come.
@@ -34,15 +35,14 @@ pub fn time_out(alloc: Global, queues: &mut Queues, service: Service, now: Momen
 /// The running command, and its device forgets it.
 pub fn stop_running(
     alloc: Global,
+    devices: &mut Devices,
     queues: &mut Queues,
-    slot: &mut CardState,
-    keypad: &mut KeyState,
     service: Service,
     now: Moment,
 ) -> Result<(), Memory>
     requires { list_any (λ a. is_running a.stage && (a.marked || is_due now a)) (queue_of queues.old service) ≡ true }
-    ensures stops { OnOk result (DeviceStops now service slot.old slot.new keypad.old keypad.new queues.old queues.new) }
-    ensures memory { OnErr result ((slot.new ≡ slot.old) × (keypad.new ≡ keypad.old) × (queues.new ≡ queues.old)) }
+    ensures stops { OnOk result (DeviceStops now service devices.old devices.new queues.old queues.new) }
+    ensures memory { OnErr result ((devices.new ≡ devices.old) × (queues.new ≡ queues.old)) }
 {
     let Some(command) = running_command(queues.at(service)) else {
         unreachable!()
@@ -53,7 +53,7 @@ pub fn stop_running(
     } else {
         Code::TimeOut
     };
-    forget(alloc, slot, keypad, service)?;
+    forget(alloc, devices, service)?;
     queues.set_result(service, ticket, Outcome::new(code, nothing(alloc)));
     Ok(())
 }
@@ -71,21 +71,16 @@ pub fn running_command(queue: &Queue<Job>) -> Option<&Command<Job>>
 }
 
 // The device of a service forgets the command that runs.
-fn forget(
-    alloc: Global,
-    slot: &mut CardState,
-    keypad: &mut KeyState,
-    service: Service,
-) -> Result<(), Memory>
-    ensures ok { OnOk result (WaitEnds service slot.old slot.new keypad.old keypad.new) }
-    ensures memory { OnErr result ((slot.new ≡ slot.old) × (keypad.new ≡ keypad.old)) }
+fn forget(alloc: Global, devices: &mut Devices, service: Service) -> Result<(), Memory>
+    ensures ok { OnOk result (WaitEnds service devices.old devices.new) }
+    ensures err { OnErr result (devices.new ≡ devices.old) }
 {
     match service {
         Service::Card => {
-            xfs_card::step(alloc, slot, CardEvent::Stop)?;
+            xfs_card::step(alloc, &mut devices.slot, CardEvent::Stop)?;
         }
         Service::Keys => {
-            xfs_keyboard::step(alloc, keypad, KeyEvent::Stop)?;
+            xfs_keyboard::step(alloc, &mut devices.keypad, KeyEvent::Stop)?;
         }
         Service::Publisher | Service::Cash => {}
     }

@@ -13,7 +13,7 @@ use Rattle.xfs_model.specs.Cases.{BeginsAs, BeginsCash, BeginsFirst, with_start}
 use Rattle.xfs_model.specs.State.{Ask, cash, card, entry, Job, Queues, State, queue_at, queue_of, with_queue}
 use Rattle.xfs_model.specs.Touches.{running_at}
 use Rattle.xfs_traffic.specs.Jobs.{ask_seen, changed_at}
-use Rattle.xfs_machine.specs.Parts.{at_begin}
+use Rattle.xfs_machine.specs.Parts.{at_work}
 use Rattle.xfs_traffic.proofs.ChangeLaws.{waits_there}
 use Rattle.xfs_machine.proofs.WorkLaws.{at_cash}
 use Rattle.xfs_machine.proofs.begin.begin_first.Goals as goal
@@ -33,16 +33,16 @@ begun_cash s service a ask next exchange start queues begins at = record {
 
 pub begin-requires : goal.begin-requires
 begin-requires g c =
-    c.requires.none (at_cash c.args.service (queue_of c.args.queues.now c.args.service) c.in-Some.command.now c.in-Cash.ask c.requires.fitting (rw c.at.ensures at (sym c.in-Some.ensures.first)) (sym c.ask.ensures ∙ ap ask_seen c.in-Cash.is))
+    c.requires.none (at_cash c.args.service (queue_of c.args.traffic.now.queues c.args.service) c.in-Some.command.now c.in-Cash.ask c.requires.fitting (rw c.at.ensures at (sym c.in-Some.ensures.first)) (sym c.ask.ensures ∙ ap ask_seen c.in-Cash.is))
 
 pub set_result-requires : goal.set_result-requires
 set_result-requires g c =
-    rw c.ticket-ticket.ensures (waits_there (λ b. is_waiting b.stage) (ticket_of c.in-Some.command.now) (queue_of c.args.queues.now c.args.service) (rw c.at.ensures at c.in-Some.ensures.waiting))
+    rw c.ticket-ticket.ensures (waits_there (λ b. is_waiting b.stage) (ticket_of c.in-Some.command.now) (queue_of c.args.traffic.now.queues c.args.service) (rw c.at.ensures at c.in-Some.ensures.waiting))
 
 pub returns-in_ok-begun-in-Cash-clause-begins : goal.returns-in_ok-begun-in-Cash-clause-begins
 returns-in_ok-begun-in-Cash-clause-begins g c = λ s.
-    let before = at_begin s (seen g.D.Disk c.args.guard.now) c.args.exchange.now c.args.slot.now c.args.keypad.now c.args.connections.now c.args.queues.now in
-    begun before (at_begin s (seen g.D.Disk c.begin.new.guard) c.begin.new.exchange c.args.slot.now c.args.keypad.now c.args.connections.now c.start_cash.new.queues) c.args.service c.in-Some.command.now (cash c.in-Cash.ask)
+    let before = at_work g.D.Disk s s.now c.args.dispenser.now c.args.devices.now c.args.traffic.now in
+    begun before (at_work g.D.Disk s s.now (record c.args.dispenser.now { guard = c.begin.new.guard; exchange = c.begin.new.exchange }) c.args.devices.now (record c.args.traffic.now { queues = c.start_cash.new.queues })) c.args.service c.in-Some.command.now (cash c.in-Cash.ask)
     (rw c.at.ensures at (sym c.in-Some.ensures.first)) c.requires.idle (sym c.ask.ensures ∙ ap ask_seen c.in-Cash.is)
     (begun_cash before c.args.service c.in-Some.command.now c.in-Cash.ask (seen g.D.Disk c.begin.new.guard) c.begin.new.exchange (start_of c.in_ok-begun-in-Cash.begun) c.start_cash.new.queues
     c.in_ok-begun-in-Cash.ensures.begins (rw c.ticket-ticket.ensures at c.start_cash.ensures))
@@ -55,8 +55,8 @@ returns-in_err-room-in-Cash-clause-keeps g c = λ upheld. Keeps-same g.D.Disk _ 
 
 pub returns-in-Card-clause-begins : goal.returns-in-Card-clause-begins
 returns-in-Card-clause-begins g c = on_ok_weaker c.begin_card.result (λ begins s.
-    let before = at_begin s (seen g.D.Disk c.args.guard.now) c.args.exchange.now c.args.slot.now c.args.keypad.now c.args.connections.now c.args.queues.now in
-    begun before (at_begin s (seen g.D.Disk c.args.guard.now) c.args.exchange.now c.begin_card.new.slot c.args.keypad.now c.begin_card.new.connections c.begin_card.new.queues) c.args.service c.in-Some.command.now (card c.in-Card.ask)
+    let before = at_work g.D.Disk s s.now c.args.dispenser.now c.args.devices.now c.args.traffic.now in
+    begun before (at_work g.D.Disk s s.now c.args.dispenser.now (record c.args.devices.now { slot = c.begin_card.new.slot }) c.begin_card.new.traffic) c.args.service c.in-Some.command.now (card c.in-Card.ask)
     (rw c.at.ensures at (sym c.in-Some.ensures.first)) c.requires.idle (sym c.ask.ensures ∙ ap ask_seen c.in-Card.is)
     (begins before c.in-Some.command.now c.ticket-ticket.ensures)) c.begin_card.ensures.begins
 
@@ -68,8 +68,8 @@ returns-in-Card-clause-keeps g c = λ upheld. Keeps-same g.D.Disk _ g.met.D.Disk
 
 pub returns-in-Entry-clause-begins : goal.returns-in-Entry-clause-begins
 returns-in-Entry-clause-begins g c = on_ok_weaker c.begin_entry.result (λ begins s.
-    let before = at_begin s (seen g.D.Disk c.args.guard.now) c.args.exchange.now c.args.slot.now c.args.keypad.now c.args.connections.now c.args.queues.now in
-    begun before (at_begin s (seen g.D.Disk c.args.guard.now) c.args.exchange.now c.args.slot.now c.begin_entry.new.keypad c.args.connections.now c.begin_entry.new.queues) c.args.service c.in-Some.command.now (entry c.copy-ask.result)
+    let before = at_work g.D.Disk s s.now c.args.dispenser.now c.args.devices.now c.args.traffic.now in
+    begun before (at_work g.D.Disk s s.now c.args.dispenser.now (record c.args.devices.now { keypad = c.begin_entry.new.keypad }) (record c.args.traffic.now { queues = c.begin_entry.new.queues })) c.args.service c.in-Some.command.now (entry c.copy-ask.result)
     (rw c.at.ensures at (sym c.in-Some.ensures.first)) c.requires.idle (sym c.ask.ensures ∙ ap ask_seen c.in-Entry.is ∙ ap entry (sym c.copy-ask.ensures))
     (begins before c.in-Some.command.now c.ticket-ticket.ensures)) c.begin_entry.ensures.begins
 

@@ -3,6 +3,7 @@ use Rattle.std.specs.Prelude.{if◌then◌else◌}
 use Rattle.xfs_envelope.specs.declared.code.Code.TheVariants.{Canceled, TimeOut}
 use Rattle.xfs_queue.specs.Commands.{is_due}
 use Rattle.xfs_model.specs.State.{State, queue_of}
+use Rattle.xfs_traffic.specs.Parts.{with_devices}
 use Rattle.xfs_traffic.proofs.AnswerLaws.{stops}
 use Rattle.xfs_traffic.proofs.QueueTests.{none_runs}
 use Rattle.std.proofs.lemmas.Bool.{false≢true}
@@ -15,12 +16,12 @@ unreachable-requires c =
 
 pub returns-clause-stops : goal.returns-clause-stops
 returns-clause-stops c = λ s.
-    let before : State = record s { now = c.args.now; slot = c.args.slot.now; keypad = c.args.keypad.now; queues = c.args.queues.now } in
+    let before : State = record (with_devices s c.args.devices.now) { now = c.args.now; queues = c.args.queues.now } in
     let code : c.if-command.code ≡ (if c.in-Some.command.now.marked then Canceled else TimeOut) = elim c.if-command.branch [
       | then-command w ↦ rw (w.if-command.true) (w.code-is)
       | else-command w ↦ rw (w.if-command.false) (w.code-is)
     ] in
-    stops before (record before { slot = c.forget.new.slot; keypad = c.forget.new.keypad; queues = c.set_result.new.self }) c.args.service c.in-Some.command.now c.set_result.new.self
+    stops before (record (with_devices before c.forget.new.devices) { queues = c.set_result.new.self }) c.args.service c.in-Some.command.now c.set_result.new.self
     (rw c.at.ensures at (sym c.in-Some.ensures.first)) (rw c.at.ensures at c.in-Some.ensures.valid) c.requires
     (rw (c.new.ensures, c.nothing.ensures, c.ticket-ticket.ensures, code) at c.set_result.ensures)
     (c.in_ok-forget.ensures.ok (record before { queues = c.set_result.new.self }))

@@ -7,12 +7,12 @@ use Rattle.xfs_dispenser.specs.Seen.{seen}
 use Rattle.xfs_guard.specs.Keeps.{Keeps, NoEntry}
 use Rattle.xfs_guard.specs.declared.fail.BootFault.{BootFault}
 use Rattle.xfs_guard.specs.declared.fail.BootFault.TheVariants.{Disk, Memory}
-use Rattle.xfs_machine.proofs.Endings.{emptied, refuses, restart_wants, restarts_to, whole_after}
+use Rattle.xfs_machine.proofs.Endings.{emptied, forgotten, is_bare, refuses, restart_wants, restarts_to, whole_after}
 use Rattle.xfs_machine.proofs.Laws.{lawful}
 use Rattle.xfs_machine.proofs.machine.Machine.reboot.Goals as goal
 use Rattle.xfs_machine.specs.Endings.{RefusesAs}
 use Rattle.xfs_machine.specs.Laws.{IsLawful}
-use Rattle.xfs_machine.specs.MachineView.{MachineView, IsWhole, guard_of, over}
+use Rattle.xfs_machine.specs.MachineView.{MachineView, IsWhole, guard_of, of_parts}
 use Rattle.xfs_model.specs.Events.{restart, restarted, unrestarted}
 use Rattle.xfs_model.specs.State.{bare}
 use Rattle.xfs_model.specs.Step.{Step, gone}
@@ -23,12 +23,13 @@ returns-then-eq-clause-memory g c = λ e. rw (← c.self.view_is) (restart_wants
 pub invariant_of-self-2 : goal.invariant_of-self-2
 invariant_of-self-2 g c =
     let m = c.self.inside in
-    let before = over g.D.Disk m.guard m.life m.issued m.boot m.exchange m.moment m.slot m.keypad m.given m.connections m.queues in
+    let before = of_parts g.D.Disk m.dispenser m.boot m.moment m.given m.devices m.traffic in
     let next = seen g.D.Disk c.reboot-outcome.new.guard in
     let boot = c.boot_after-self-inside.result in
+    let empty = is_bare g.D.Disk m.dispenser c.reboot-outcome.new.guard boot c.new.result c.new-2.result c.new.ensures c.new-2.ensures in
     let is = c.reboot-outcome.ensures in
     let number = c.boot_after-self-inside.ensures in
-    subst IsWhole (sym (c.forget.ensures next m.life boot))
+    subst IsWhole (sym empty)
     (whole_after before c.reboot-outcome.result next boot c.self.invariant (λ e. false≢true (sym c.if-eq.false ∙ (rw e at c.eq.ensures))) is.ok is.cause number.ok number.err)
 
 pub returns-clause-ok : goal.returns-clause-ok
@@ -36,19 +37,21 @@ returns-clause-ok g c =
     let m = c.self.inside in
     let next = seen g.D.Disk c.reboot-outcome.new.guard in
     let boot = c.boot_after-self-inside.result in
-    let after = over g.D.Disk c.reboot-outcome.new.guard m.life c.forget.new.issued boot c.forget.new.exchange c.forget.new.moment c.forget.new.slot c.forget.new.keypad c.forget.new.given c.forget.new.connections c.forget.new.queues in
+    let after = forgotten g.D.Disk m.dispenser c.reboot-outcome.new.guard boot c.new.result c.new-2.result in
+    let empty = is_bare g.D.Disk m.dispenser c.reboot-outcome.new.guard boot c.new.result c.new-2.result c.new.ensures c.new-2.ensures in
     subst (λ (v : MachineView g.row.D.Denot). OnOk c.reboot-outcome.result (Step v.state restart restarted after)) c.self.view_is
-    (restarts_to _ _ c.reboot-outcome.result next boot (c.forget.ensures next m.life boot) c.self.invariant.there c.reboot-outcome.ensures.ok c.boot_after-self-inside.ensures.ok)
+    (restarts_to _ _ c.reboot-outcome.result next boot empty c.self.invariant.there c.reboot-outcome.ensures.ok c.boot_after-self-inside.ensures.ok)
 
 pub returns-clause-laws : goal.returns-clause-laws
 returns-clause-laws g c =
     let m = c.self.inside in
     let next = seen g.D.Disk c.reboot-outcome.new.guard in
     let boot = c.boot_after-self-inside.result in
-    let after = over g.D.Disk c.reboot-outcome.new.guard m.life c.forget.new.issued boot c.forget.new.exchange c.forget.new.moment c.forget.new.slot c.forget.new.keypad c.forget.new.given c.forget.new.connections c.forget.new.queues in
+    let after = forgotten g.D.Disk m.dispenser c.reboot-outcome.new.guard boot c.new.result c.new-2.result in
+    let empty = is_bare g.D.Disk m.dispenser c.reboot-outcome.new.guard boot c.new.result c.new-2.result c.new.ensures c.new-2.ensures in
     subst (λ (v : MachineView g.row.D.Denot). OnOk c.reboot-outcome.result (IsLawful v.state restart restarted after)) c.self.view_is
     (on_ok_weaker c.reboot-outcome.result (λ step. lawful _ _ restart restarted c.self.invariant step)
-    (restarts_to _ _ c.reboot-outcome.result next boot (c.forget.ensures next m.life boot) c.self.invariant.there c.reboot-outcome.ensures.ok c.boot_after-self-inside.ensures.ok))
+    (restarts_to _ _ c.reboot-outcome.result next boot empty c.self.invariant.there c.reboot-outcome.ensures.ok c.boot_after-self-inside.ensures.ok))
 
 pub returns-clause-refused : goal.returns-clause-refused
 returns-clause-refused g c =
@@ -61,9 +64,10 @@ returns-clause-emptied g c =
     let m = c.self.inside in
     let next = seen g.D.Disk c.reboot-outcome.new.guard in
     let boot = c.boot_after-self-inside.result in
-    let after = over g.D.Disk c.reboot-outcome.new.guard m.life c.forget.new.issued boot c.forget.new.exchange c.forget.new.moment c.forget.new.slot c.forget.new.keypad c.forget.new.given c.forget.new.connections c.forget.new.queues in
+    let after = forgotten g.D.Disk m.dispenser c.reboot-outcome.new.guard boot c.new.result c.new-2.result in
+    let empty = is_bare g.D.Disk m.dispenser c.reboot-outcome.new.guard boot c.new.result c.new-2.result c.new.ensures c.new-2.ensures in
     subst (λ (v : MachineView g.row.D.Denot). IfErr c.reboot-outcome.result (λ f. f ≢ Memory → after ≡ bare next v.state.life v.state.boot)) c.self.view_is
-    (emptied _ c.reboot-outcome.result next m.life m.boot boot (c.forget.ensures next m.life boot) c.boot_after-self-inside.ensures.err)
+    (emptied _ c.reboot-outcome.result next m.dispenser.life m.boot boot empty c.boot_after-self-inside.ensures.err)
 
 pub returns-clause-memory : goal.returns-clause-memory
 returns-clause-memory g c = λ e. absurd (false≢true (sym c.if-eq.false ∙ (rw e at c.eq.ensures)))
