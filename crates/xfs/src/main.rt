@@ -23,7 +23,7 @@ use xfs_server::{Doors, OpenGate};
 use xfs_simulated::{
     LIMITS, Secrets, Setup, core_failing, empty, mechanism, quiet_bench, second_core, units,
 };
-use xfs_sockets::{OpenFault, Origins, PORTS, Ports, TcpDoors};
+use xfs_sockets::{OpenFault, Origins, Ports, TcpDoors};
 use xfs_start::{Folder, StartFault, server_bench};
 use xfs_words::{Command, name_command};
 
@@ -86,7 +86,7 @@ fn ports_of(setup: &Setup) -> Ports {
     setup
         .first_port
         .and_then(Ports::from_first)
-        .unwrap_or(PORTS)
+        .unwrap_or_else(Ports::usual)
 }
 
 fn start_fault(fault: OpenFault) -> StartFault {

@@ -14,7 +14,7 @@ use std::thread::Threads;
 use std::{io, thread};
 use xfs_base::{Moment, Service};
 use xfs_server::{DialFault, Door, Doors, GiveFault, Link, Taking};
-use xfs_sockets::{Entrance, Origins, PORTS, Port, Ports, is_broken};
+use xfs_sockets::{Entrance, Origins, Port, Ports, is_broken};
 
 // "Hello", masked and not, as RFC 6455, section 5.7, has them.
 const MASKED: &[u8] = b"\x81\x85\x37\xfa\x21\x3d\x7f\x9f\x4d\x51\x58";
@@ -165,10 +165,10 @@ fn a_text_is_found_wherever_its_frame_is_cut_and_however_long_it_is(rt: HostRunt
 
 #[test]
 fn each_service_has_its_port(rt: HostRuntime) {
-    assert_eq!(rt; PORTS.of(Service::Publisher), 5846);
-    assert_eq!(rt; PORTS.of(Service::Card), 5847);
-    assert_eq!(rt; PORTS.of(Service::Keys), 5848);
-    assert_eq!(rt; PORTS.of(Service::Cash), 5849);
+    assert_eq!(rt; Ports::usual().of(Service::Publisher), 5846);
+    assert_eq!(rt; Ports::usual().of(Service::Card), 5847);
+    assert_eq!(rt; Ports::usual().of(Service::Keys), 5848);
+    assert_eq!(rt; Ports::usual().of(Service::Cash), 5849);
 }
 
 // Whether a link has failed once its peer wrote the front of a frame and no more, and finds a whole one before.

@@ -4,7 +4,7 @@ use crate::tables::halves;
 use std::alloc::Global;
 use std::test::Fail;
 use xfs_base::Bytes;
-use xfs_dispenser::{CashAsk, CashFail, Named, Notes, read_ask};
+use xfs_dispenser::{CashAsk, CashCommand, CashFail, Named, Notes, read_ask};
 use xfs_json::parse;
 
 // A command and its payload, and what is read: the notes of a mix are an amount, or a count for each of eight units.
@@ -202,9 +202,11 @@ fn told(alloc: Global, ask: &CashAsk) -> Result<String, Fail> {
 
 fn read(alloc: Global, name: &str, text: &str) -> Result<String, Fail> {
     let payload = parse(alloc, text.as_bytes()).ok().ok_or("JSON")?;
-    match read_ask(alloc, name, &payload) {
+    let Some(command) = CashCommand::named(name) else {
+        return Ok(String::from_str(alloc, "unknown")?);
+    };
+    match read_ask(alloc, command, &payload) {
         Ok(ask) => told(alloc, &ask),
-        Err(CashFail::Unknown) => Ok(String::from_str(alloc, "unknown")?),
         Err(CashFail::Shape) => Ok(String::from_str(alloc, "bad")?),
         Err(CashFail::Memory) => Err("memory".into()),
     }

@@ -1,4 +1,5 @@
 pub mod Asks
+pub mod Commands
 pub mod Slot
 pub mod Table
 pub mod Tracks

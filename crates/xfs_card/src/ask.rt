@@ -1,8 +1,9 @@
-ghost use Rattle.std.specs.Prelude.{◌≡◌, codes};
+ghost use Rattle.std.specs.Prelude.{◌≡◌};
 ghost use Rattle.serde_json.specs.View.{view};
 ghost use Rattle.xfs_card.specs.Asks.{ask_of, read_ask, asked_in};
 
-use xfs_json::{Value, truth};
+use crate::CardCommand;
+use xfs_json::{Shape, Value, truth};
 
 /// What a command asks of the card reader.
 #[derive(Clone, Copy, Debug, PartialEq, Eq)]
@@ -15,29 +16,19 @@ pub enum CardAsk {
     Reset,
 }
 
-/// Why a command isn't taken.
-#[derive(Clone, Copy, Debug, PartialEq, Eq)]
-pub enum CardFail {
-    /// The card reader has no command of this name.
-    Unknown,
-    /// A read whose `track1`, `track2` and `track3` aren't truth values, at least one true.
-    Shape,
-}
-
-/// Reads a command of the card reader (XFS4IoT, CEN CWA), by its name and payload. It takes no
-/// memory.
-pub fn read_card(message: &str, payload: &Value) -> Result<CardAsk, CardFail>
-    ensures { result ≡ ask_of message.now (view payload.now) }
+/// Reads the payload of a command. It is refused where it is a read's whose `track1`, `track2` and
+/// `track3` aren't truth values, at least one true. It takes no memory.
+pub fn read_card(command: CardCommand, payload: &Value) -> Result<CardAsk, Shape>
+    ensures { result ≡ ask_of command (view payload.now) }
 {
-    match message {
-        "CardReader.ReadRawData" => read_ask(payload),
-        "CardReader.Move" => Ok(CardAsk::Move),
-        "CardReader.Reset" => Ok(CardAsk::Reset),
-        _ => Err(CardFail::Unknown),
+    match command {
+        CardCommand::ReadRawData => read_ask(payload),
+        CardCommand::Move => Ok(CardAsk::Move),
+        CardCommand::Reset => Ok(CardAsk::Reset),
     }
 }
 
-fn read_ask(payload: &Value) -> Result<CardAsk, CardFail>
+fn read_ask(payload: &Value) -> Result<CardAsk, Shape>
     ensures { result ≡ read_ask (view payload.now) }
 {
     let (Some(one), Some(two), Some(three)) = (
@@ -45,14 +36,14 @@ fn read_ask(payload: &Value) -> Result<CardAsk, CardFail>
         flag_in(payload, "track2"),
         flag_in(payload, "track3"),
     ) else {
-        return Err(CardFail::Shape);
+        return Err(Shape);
     };
     if one || two || three {
         Ok(CardAsk::Read {
             tracks: [one, two, three],
         })
     } else {
-        Err(CardFail::Shape)
+        Err(Shape)
     }
 }
 

@@ -2,9 +2,11 @@
 #![tactic(auto)]
 
 mod ask;
+mod command;
 mod payload;
 mod place;
 mod state;
 
-pub use ask::{CardAsk, CardFail, read_card};
+pub use ask::{CardAsk, read_card};
+pub use command::CardCommand;
 pub use state::{CardEffect, CardEvent, CardState, step};

@@ -4,6 +4,7 @@ use Rattle.std.specs.Int.{is_in_range}
 use Rattle.serde_json.specs.Data.{Data, number, unsigned, string, array, object, no_items, item, no_members, member}
 use Rattle.xfs_base.specs.declared.moment.Service.{Service}
 use Rattle.xfs_base.specs.declared.moment.Service.TheVariants.{Publisher, Card, Keys, Cash}
+use Rattle.xfs_common.specs.Addresses.{uri_of}
 use Rattle.xfs_common.specs.declared.payloads.Fit2.{Fit2}
 use Rattle.xfs_common.specs.declared.payloads.Fit2.TheVariants.{Online, HardwareError}
 
@@ -39,15 +40,15 @@ capabilities_payload Card = only (codes "common") nothing
 capabilities_payload Keys = only (codes "common") nothing
 capabilities_payload Cash = only (codes "common") dispenser_security
 
-abbrev pub service_entry : List ℕ → Data
-service_entry uri = only (codes "serviceURI") (string uri)
+abbrev pub service_entry : Service → Data
+service_entry service = only (codes "serviceURI") (string (uri_of service))
 
 abbrev pub services_payload : Data
 services_payload = object
     (member (codes "services") (array
-    (item (service_entry (codes "ws://localhost:5847/xfs4iot/v1.0/cardreader"))
-    (item (service_entry (codes "ws://localhost:5848/xfs4iot/v1.0/keyboard"))
-    (item (service_entry (codes "ws://localhost:5849/xfs4iot/v1.0/cashdispenser")) no_items))))
+    (item (service_entry Card)
+    (item (service_entry Keys)
+    (item (service_entry Cash) no_items))))
     (member (codes "vendorName") (string (codes "xfs bench")) no_members))
 
 -- an upper-case hexadecimal digit, 0 to 9 or A to F

@@ -5,6 +5,7 @@ ghost use Rattle.serde_json.specs.Data.{object, member, no_members};
 ghost use Rattle.serde_json.specs.View.{view};
 ghost use Rattle.xfs_common.specs.Payloads.{status_payload, device_state, capabilities_payload, dispenser_security, services_payload, service_entry, is_upper_hex, nonce_payload, present_status_payload, record_payload, error_payload};
 
+use crate::address::uri;
 use serde_json::{Value, json, put};
 use std::alloc::{AllocError, Global};
 use xfs_base::{Memory, Service};
@@ -82,19 +83,20 @@ pub fn services(alloc: Global) -> Result<Value, Memory>
 {
     let vendor = Value::try_from_str(alloc, "xfs bench")?;
     let mut services = Vec::with_capacity(alloc, 3)?;
-    services.push(service(alloc, "ws://localhost:5847/xfs4iot/v1.0/cardreader")?)?;
-    services.push(service(alloc, "ws://localhost:5848/xfs4iot/v1.0/keyboard")?)?;
-    services.push(service(alloc, "ws://localhost:5849/xfs4iot/v1.0/cashdispenser")?)?;
+    services.push(entry(alloc, Service::Card)?)?;
+    services.push(entry(alloc, Service::Keys)?)?;
+    services.push(entry(alloc, Service::Cash)?)?;
     let mut members = Map::new(alloc);
     put(&mut members, alloc, "services", Value::Array(services))?;
     put(&mut members, alloc, "vendorName", vendor)?;
     Ok(Value::Object(members))
 }
 
-fn service(alloc: Global, uri: &str) -> Result<Value, AllocError>
-    ensures { IfOk result (λ v. view v ≡ service_entry uri.now) }
+fn entry(alloc: Global, service: Service) -> Result<Value, AllocError>
+    ensures { IfOk result (λ v. view v ≡ service_entry service) }
 {
-    json!(in alloc; {"serviceURI": uri})
+    let uri = uri(alloc, service)?;
+    json!(in alloc; {"serviceURI": uri.as_str()})
 }
 
 /// The payload of Common.GetCommandNonce: the nonce's text, which is of the digits 0 to 9 and A to F.

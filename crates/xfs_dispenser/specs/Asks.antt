@@ -1,14 +1,15 @@
--- The commands of the cash dispenser, by name and payload.
-use Rattle.std.specs.Prelude.{ℕ, List, codes, if◌then◌else◌, Option, option_map, option_and_then, ok_or, Result, Ok, Err}
+-- What the commands of the cash dispenser ask for, by their payloads.
+use Rattle.std.specs.Prelude.{ℕ, List, codes, Option, option_map, option_and_then, ok_or, Result, Ok}
 use Rattle.std.specs.Result.{result_ok}
-use Rattle.std.specs.Str.{bytes_eq}
 use Rattle.serde_json.specs.Data.{Data}
 use Rattle.serde_json.specs.Find.{as_str}
 use Rattle.xfs_json.specs.Members.{member_of, member_as}
 use Rattle.xfs_dispenser.specs.declared.ask.CashAsk.{CashAsk}
 use Rattle.xfs_dispenser.specs.declared.ask.CashAsk.TheVariants as ask
 use Rattle.xfs_dispenser.specs.declared.ask.CashFail.{CashFail}
-use Rattle.xfs_dispenser.specs.declared.ask.CashFail.TheVariants.{Unknown, Shape}
+use Rattle.xfs_dispenser.specs.declared.ask.CashFail.TheVariants.{Shape}
+use Rattle.xfs_dispenser.specs.declared.command.CashCommand.{CashCommand}
+use Rattle.xfs_dispenser.specs.declared.command.CashCommand.TheVariants as command
 use Rattle.xfs_dispenser.specs.Named.{storage_in}
 use Rattle.xfs_dispenser.specs.Notes.{notes_in}
 
@@ -26,16 +27,14 @@ dispense_of payload = ok_or (option_and_then (λ notes. option_map (ask.Dispense
 abbrev pub set_storage_of : Data → Result CashAsk CashFail
 set_storage_of payload = ok_or (option_map ask.SetStorage (storage_in payload)) Shape
 
--- what a command asks for, by its name and payload
-abbrev pub ask_of : List ℕ → Data → Result CashAsk CashFail
-ask_of name payload =
-    if bytes_eq name (codes "CashDispenser.Denominate") then denominate_of payload
-    else if bytes_eq name (codes "CashDispenser.Dispense") then dispense_of payload
-    else if bytes_eq name (codes "CashDispenser.Present") then Ok ask.Present
-    else if bytes_eq name (codes "CashDispenser.Reject") then Ok ask.Reject
-    else if bytes_eq name (codes "CashManagement.Reset") then Ok ask.Reset
-    else if bytes_eq name (codes "CashManagement.Retract") then Ok ask.Retract
-    else if bytes_eq name (codes "Storage.StartExchange") then Ok ask.StartExchange
-    else if bytes_eq name (codes "Storage.SetStorage") then set_storage_of payload
-    else if bytes_eq name (codes "Storage.EndExchange") then Ok ask.EndExchange
-    else Err Unknown
+-- what a command asks for, by its payload
+abbrev pub ask_of : CashCommand → Data → Result CashAsk CashFail
+ask_of command.Denominate payload = denominate_of payload
+ask_of command.Dispense payload = dispense_of payload
+ask_of command.Present payload = Ok ask.Present
+ask_of command.Reject payload = Ok ask.Reject
+ask_of command.Reset payload = Ok ask.Reset
+ask_of command.Retract payload = Ok ask.Retract
+ask_of command.StartExchange payload = Ok ask.StartExchange
+ask_of command.SetStorage payload = set_storage_of payload
+ask_of command.EndExchange payload = Ok ask.EndExchange

@@ -3,6 +3,7 @@ pub mod Asks
 pub mod Begins
 pub mod Carried
 pub mod Checks
+pub mod Commands
 pub mod Complete
 pub mod Denominations
 pub mod Named

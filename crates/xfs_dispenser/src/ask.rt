@@ -1,8 +1,10 @@
-ghost use Rattle.std.specs.Prelude.{◌≡◌, ◌≢◌, codes, Ok, Err, Some, None, IfOk};
+ghost use Rattle.std.specs.Prelude.{◌≡◌, Ok, Err, Some, None, IfOk};
 ghost use Rattle.serde_json.specs.View.{view};
 ghost use Rattle.xfs_dispenser.specs.Asks.{ask_of, denominate_of, dispense_of, set_storage_of, token_in};
 ghost use Rattle.xfs_dispenser.specs.declared.ask.CashFail.TheVariants as CashFail;
+ghost use Rattle.xfs_dispenser.specs.declared.command.CashCommand.TheVariants as CashCommand;
 
+use crate::CashCommand;
 use crate::named::{Named, read_storage};
 use crate::notes::{Notes, read_notes};
 use std::alloc::{AllocError, Global};
@@ -36,8 +38,6 @@ pub enum CashAsk {
 /// Why a command isn't taken.
 #[derive(Clone, Copy, Debug, PartialEq, Eq)]
 pub enum CashFail {
-    /// The dispenser has no command of this name.
-    Unknown,
     /// A member that the command needs is absent, or one that it has is of another shape.
     Shape,
     Memory,
@@ -54,26 +54,23 @@ impl From<AllocError> for CashFail {
     }
 }
 
-/// Reads a command of the cash dispenser (XFS4IoT, CEN CWA: CashDispenser, CashManagement and
-/// Storage), by its name and payload. Only the members that a command has are looked at. Memory is
+/// Reads the payload of a command. Only the members that the command has are looked at. Memory is
 /// taken for a token's text alone.
-pub fn read_ask(alloc: Global, name: &str, payload: &Value) -> Result<CashAsk, CashFail>
-    ensures ok { IfOk result (λ ask. ask_of name.now (view payload.now) ≡ Ok ask) }
-    ensures unknown { result ≡ Err CashFail.Unknown → ask_of name.now (view payload.now) ≡ Err CashFail.Unknown }
-    ensures shape { result ≡ Err CashFail.Shape → ask_of name.now (view payload.now) ≡ Err CashFail.Shape }
-    ensures memory { result ≡ Err CashFail.Memory → name.now ≡ codes "CashDispenser.Dispense" }
+pub fn read_ask(alloc: Global, command: CashCommand, payload: &Value) -> Result<CashAsk, CashFail>
+    ensures ok { IfOk result (λ ask. ask_of command (view payload.now) ≡ Ok ask) }
+    ensures shape { result ≡ Err CashFail.Shape → ask_of command (view payload.now) ≡ Err CashFail.Shape }
+    ensures memory { result ≡ Err CashFail.Memory → command ≡ CashCommand.Dispense }
 {
-    match name {
-        "CashDispenser.Denominate" => read_denominate(payload),
-        "CashDispenser.Dispense" => read_dispense(alloc, payload),
-        "CashDispenser.Present" => Ok(CashAsk::Present),
-        "CashDispenser.Reject" => Ok(CashAsk::Reject),
-        "CashManagement.Reset" => Ok(CashAsk::Reset),
-        "CashManagement.Retract" => Ok(CashAsk::Retract),
-        "Storage.StartExchange" => Ok(CashAsk::StartExchange),
-        "Storage.SetStorage" => read_set_storage(payload),
-        "Storage.EndExchange" => Ok(CashAsk::EndExchange),
-        _ => Err(CashFail::Unknown),
+    match command {
+        CashCommand::Denominate => read_denominate(payload),
+        CashCommand::Dispense => read_dispense(alloc, payload),
+        CashCommand::Present => Ok(CashAsk::Present),
+        CashCommand::Reject => Ok(CashAsk::Reject),
+        CashCommand::Reset => Ok(CashAsk::Reset),
+        CashCommand::Retract => Ok(CashAsk::Retract),
+        CashCommand::StartExchange => Ok(CashAsk::StartExchange),
+        CashCommand::SetStorage => read_set_storage(payload),
+        CashCommand::EndExchange => Ok(CashAsk::EndExchange),
     }
 }
 
@@ -89,7 +86,6 @@ fn read_denominate(payload: &Value) -> Result<CashAsk, CashFail>
 fn read_dispense(alloc: Global, payload: &Value) -> Result<CashAsk, CashFail>
     ensures ok { IfOk result (λ ask. dispense_of (view payload.now) ≡ Ok ask) }
     ensures shape { result ≡ Err CashFail.Shape → dispense_of (view payload.now) ≡ Err CashFail.Shape }
-    ensures known { result ≢ Err CashFail.Unknown }
 {
     let Some(notes) = read_notes(payload) else {
         return Err(CashFail::Shape);
@@ -101,7 +97,6 @@ fn read_dispense(alloc: Global, payload: &Value) -> Result<CashAsk, CashFail>
 fn read_token(alloc: Global, payload: &Value) -> Result<Option<Bytes>, CashFail>
     ensures ok { IfOk result (λ token. token_in (view payload.now) ≡ Some token) }
     ensures shape { result ≡ Err CashFail.Shape → token_in (view payload.now) ≡ None }
-    ensures known { result ≢ Err CashFail.Unknown }
 {
     match words(payload, "token") {
         Ok(Some(text)) => Ok(Some(Bytes::new(text.as_bytes().to_vec(alloc)?))),

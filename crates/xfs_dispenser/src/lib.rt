@@ -4,6 +4,7 @@
 mod ask;
 mod begun;
 mod carrying;
+mod command;
 mod commands;
 mod denominate;
 mod grant;
@@ -20,6 +21,7 @@ mod steps;
 pub use ask::{CashAsk, CashFail, read_ask};
 pub use begun::Begun;
 pub use carrying::{carry_out, stack_all};
+pub use command::CashCommand;
 pub use commands::begin;
 pub use grant::{Grant, grant_to_stack};
 pub use laws::dispenses_are_complete;

@@ -2,11 +2,13 @@
 #![tactic(auto)]
 
 mod ask;
+mod command;
 mod entry;
 mod keys;
 mod payload;
 mod state;
 
 pub use ask::{EntryAsk, read_entry};
+pub use command::KeysCommand;
 pub use keys::KeySet;
 pub use state::{KeyEffect, KeyEvent, KeyState, step};

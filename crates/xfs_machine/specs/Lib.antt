@@ -2,6 +2,7 @@ pub mod Answers
 pub mod Changes
 pub mod Chosen
 pub mod Endings
+pub mod Immediate
 pub mod Laws
 pub mod MachineView
 pub mod Parts

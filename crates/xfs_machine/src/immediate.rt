@@ -1,9 +1,11 @@
 //! The commands that are done at once.
 
-ghost use Rattle.std.specs.Prelude.{◌≡◌, codes, IfOk, OnOk, OnErr, None, Some, is_none, if◌then◌else◌};
+ghost use Rattle.std.specs.Prelude.{◌≡◌, true, IfOk, OnOk, OnErr, Some, is_none, if◌then◌else◌};
 ghost use Rattle.std.specs.List.{list_any};
 ghost use Rattle.serde_json.specs.View.{view};
 ghost use Rattle.xfs_common.specs.Cancel.{named_by};
+ghost use Rattle.xfs_common.specs.Commands.{immediate_of};
+ghost use Rattle.xfs_common.specs.declared.command.Immediate.TheVariants.{Cancel};
 ghost use Rattle.xfs_common.specs.declared.payloads.Fit2.TheVariants as fit;
 ghost use Rattle.xfs_envelope.specs.Commands.{said};
 ghost use Rattle.xfs_envelope.specs.Messages.{IsPayload};
@@ -14,25 +16,27 @@ ghost use Rattle.xfs_model.specs.Frames.{IsAcknowledge, IsCompletion};
 ghost use Rattle.xfs_common.specs.Payloads.{capabilities_payload, status_payload};
 ghost use Rattle.xfs_common.specs.declared.error.ErrorCode.TheVariants.{NoMatchingRequestIds};
 ghost use Rattle.xfs_model.specs.Immediate.{ids_of, told_of};
-ghost use Rattle.xfs_model.specs.Results.{error, success};
+ghost use Rattle.xfs_model.specs.Results.{error, plain, success};
+ghost use Rattle.xfs_envelope.specs.declared.code.Code.TheVariants.{InvalidCommand};
+ghost use Rattle.xfs_machine.specs.Immediate.{is_told};
 ghost use Rattle.xfs_units.specs.Payloads.{storage_payload};
 ghost use Rattle.xfs_model.specs.State.{State};
 ghost use Rattle.xfs_queue.specs.Commands.{names};
 ghost use Rattle.xfs_queue.specs.Queue.{is_named};
 
-use crate::present_status::{is_present_status, told_present_status};
+use crate::present_status::told_present_status;
 use std::alloc::Global;
 use xfs_base::{Bytes, ClientId, Memory, Service};
 use xfs_common::{
-    CancelWhat, ErrorCode, Fit2, ReadFail, capabilities, error_code, nothing, read_cancel,
-    services, status,
+    CancelWhat, ErrorCode, Fit2, Immediate, ReadFail, capabilities, error_code, nothing,
+    read_cancel, services, status,
 };
 use xfs_disk::Disk;
 use xfs_envelope::{Code, Envelope, completion};
 use xfs_guard::Guard;
 use xfs_mech::Mechanism;
 use xfs_queue::{Command, Ids, Queue};
-use xfs_traffic::{Connections, Job, Outcome, Sender, Traffic, acceptance_reply, is_service};
+use xfs_traffic::{Connections, Job, Outcome, Sender, Traffic, acceptance_reply};
 use xfs_units::storage;
 
 // Accepts a command and completes it. Where memory runs out nothing has changed.
@@ -46,14 +50,36 @@ pub(crate) fn do_at_once<M: Mechanism, D: Disk>(
     ensures ok { OnOk result (IsDoneAtOnce sender guard.now.state (said command.now) traffic.old traffic.new) }
     ensures err { OnErr result (traffic.new ≡ traffic.old) }
 {
-    if command.name.as_str() == "Common.Cancel" {
-        return cancel(alloc, traffic, sender, command);
+    let asked = Immediate::named(sender.service, command.name.as_str());
+    match asked {
+        Some(Immediate::Cancel) => cancel(alloc, traffic, sender, command),
+        Some(Immediate::GetPresentStatus) => {
+            let outcome = told_present_status(alloc, guard, &command.payload)?;
+            complete(alloc, &mut traffic.connections, sender, command, &outcome)
+        }
+        Some(Immediate::Status) => answer(alloc, guard, traffic, sender, command, asked),
+        Some(Immediate::Capabilities) => answer(alloc, guard, traffic, sender, command, asked),
+        Some(Immediate::GetServices) => answer(alloc, guard, traffic, sender, command, asked),
+        Some(Immediate::GetStorage) => answer(alloc, guard, traffic, sender, command, asked),
+        None => answer(alloc, guard, traffic, sender, command, asked),
     }
-    if is_present_status(sender.service, command.name.as_str()) {
-        let outcome = told_present_status(alloc, guard, &command.payload)?;
-        return complete(alloc, &mut traffic.connections, sender, command, &outcome);
-    }
-    let outcome = tell(alloc, guard, sender.service, command.name.as_str())?;
+}
+
+// Answers a command by what is told of the machine.
+fn answer<M: Mechanism, D: Disk>(
+    alloc: Global,
+    guard: &Guard<M, D>,
+    traffic: &mut Traffic,
+    sender: Sender,
+    command: &Envelope,
+    asked: Option<Immediate>,
+) -> Result<(), Memory>
+    requires told { is_told asked ≡ true }
+    requires named { immediate_of sender.service command.now.name ≡ asked }
+    ensures ok { OnOk result (IsDoneAtOnce sender guard.now.state (said command.now) traffic.old traffic.new) }
+    ensures err { OnErr result (traffic.new ≡ traffic.old) }
+{
+    let outcome = tell(alloc, guard, sender.service, asked)?;
     complete(alloc, &mut traffic.connections, sender, command, &outcome)
 }
 
@@ -85,19 +111,25 @@ fn tell<M: Mechanism, D: Disk>(
     alloc: Global,
     guard: &Guard<M, D>,
     service: Service,
-    name: &str,
+    asked: Option<Immediate>,
 ) -> Result<Outcome, Memory>
-    ensures { IfOk result (λ o. (s : State) → s.seen.guard ≡ guard.now.state → o ≡ told_of s service name.now) }
+    ensures { IfOk result (λ o. (s : State) → s.seen.guard ≡ guard.now.state → o ≡ told_of s service asked) }
 {
-    match name {
-        "Common.Status" => tell_health(alloc, service, health(guard)),
-        "Common.Capabilities" => tell_capabilities(alloc, service),
-        "ServicePublisher.GetServices" if is_service(Service::Publisher, service) => Ok(
-            Outcome::new(Code::Success, services(alloc)?),
-        ),
-        "Storage.GetStorage" if is_service(Service::Cash, service) => tell_storage(alloc, guard),
-        _ => Ok(Outcome::new(Code::InvalidCommand, nothing(alloc))),
+    match asked {
+        Some(Immediate::Status) => tell_health(alloc, service, health(guard)),
+        Some(Immediate::Capabilities) => tell_capabilities(alloc, service),
+        Some(Immediate::GetServices) => Ok(Outcome::new(Code::Success, services(alloc)?)),
+        Some(Immediate::GetStorage) => tell_storage(alloc, guard),
+        Some(Immediate::Cancel) => Ok(invalid(alloc)),
+        Some(Immediate::GetPresentStatus) => Ok(invalid(alloc)),
+        None => Ok(invalid(alloc)),
     }
+}
+
+fn invalid(alloc: Global) -> Outcome
+    ensures { result ≡ plain InvalidCommand }
+{
+    Outcome::new(Code::InvalidCommand, nothing(alloc))
 }
 
 // The dispenser is out of order while its journal takes no more records.
@@ -140,7 +172,7 @@ fn cancel(
     sender: Sender,
     command: &Envelope,
 ) -> Result<(), Memory>
-    requires { command.now.name ≡ codes "Common.Cancel" }
+    requires { immediate_of sender.service command.now.name ≡ Some Cancel }
     ensures ok { OnOk result (CancelIsDone sender (said command.now) traffic.old traffic.new) }
     ensures err { OnErr result (traffic.new ≡ traffic.old) }
 {

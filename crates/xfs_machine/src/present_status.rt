@@ -10,7 +10,7 @@ ghost use Rattle.xfs_model.specs.Results.{error, success};
 ghost use Rattle.xfs_token.specs.Token as token;
 
 use std::alloc::Global;
-use xfs_base::{Memory, Service};
+use xfs_base::Memory;
 use xfs_common::{ErrorCode, error_code, nothing, present_status};
 use xfs_disk::Disk;
 use xfs_envelope::Code;
@@ -18,13 +18,7 @@ use xfs_evidence::{EvidenceFault, evidence_under, is_nonce};
 use xfs_guard::Guard;
 use xfs_json::{Value, words};
 use xfs_mech::Mechanism;
-use xfs_traffic::{Outcome, is_service};
-
-pub(crate) fn is_present_status(service: Service, name: &str) -> bool
-    ensures { result ≡ presents.is_present_status service name.now }
-{
-    is_service(Service::Cash, service) && name == "CashDispenser.GetPresentStatus"
-}
+use xfs_traffic::Outcome;
 
 /// What is told of the presents under the last nonce, with the nonce that the members name.
 pub(crate) fn told_present_status<M: Mechanism, D: Disk>(

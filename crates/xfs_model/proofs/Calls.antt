@@ -19,17 +19,18 @@ use Rattle.xfs_keyboard.specs.declared.state.KeyEvent.TheVariants as key_event
 use Rattle.xfs_mech.specs.declared.touch.Touch.{Touch}
 use Rattle.xfs_mech.specs.declared.touch.Touch.TheVariants.{CardIn, CardTaken, CardFault, Key, KeyFault, NotesTaken}
 use Rattle.xfs_queue.specs.declared.command.Command.{Command}
-use Rattle.xfs_queue.specs.declared.command.Line.{Line}
 use Rattle.xfs_queue.specs.Commands.{is_due}
+use Rattle.xfs_queue.specs.Queue.{is_crowded}
 use Rattle.xfs_model.specs.Cases.{AnswersFirst, BeginsAs, Does, DoesNonce, Stops, TakesNonce, resulting}
-use Rattle.xfs_model.specs.Commands.{line_of}
+use Rattle.xfs_model.specs.declared.known.Known.{Known}
+use Rattle.xfs_model.specs.Commands.{known_of}
 use Rattle.xfs_model.specs.Connections.{announced, connection_of, left, without_mail}
 use Rattle.xfs_model.specs.Devices.{Saying, card_says, device_stopped, keyboard_says, with_keypad, with_slot}
 use Rattle.xfs_model.specs.Events.{Answer, Event, join, post, touch, work, outbox, leave, restart, end_, finish, joined, full, done, handed, ended}
 use Rattle.xfs_model.specs.GuardCalls.{AtMostOneCall, IsPlain, checked, marked, missed, read, took as taken_, worked}
 use Rattle.xfs_model.specs.Guards.{Expires, NonceCommand, cleared_, ended as over, issued, none_to_clear, refused, uncleared, unended, unissued}
 use Rattle.xfs_model.specs.Pendings.{pending_in}
-use Rattle.xfs_model.specs.Posts.{Accepts, Refuses, TakesText, TakesOn, is_crowded}
+use Rattle.xfs_model.specs.Posts.{Accepts, Refuses, TakesText, TakesOn}
 use Rattle.xfs_model.specs.Results.{plain}
 use Rattle.xfs_model.specs.State.{Ask, issue, clear, cash, card, entry, bad, Connection, Ending, Job, Outcome, Pass, State, queue_at}
 use Rattle.xfs_model.specs.Step.{Happens, HandsOver, DropsClient, Posts, Step, at_moment, happens, wanting}
@@ -108,17 +109,17 @@ module _ (s new : State) where
   takes k (Err refuse) is = rw (is.is) refl
   takes k (Ok c) is = of_id (is_wrong_id (pending_in k.client (queue_at s k.service)) c.id) is
     where
-      of_room : (line : Line) (b : Bool) → MatchBool b (Refuses s k (Some c.id) (Some c.name) TooManyRequests new) (Accepts s k line c new) → new.seen ≡ s.seen
-      of_room line true is = rw (is.is) refl
-      of_room line false is = rw (is.is) refl
+      of_room : (known : Known) (b : Bool) → MatchBool b (Refuses s k (Some c.id) (Some c.name) TooManyRequests new) (Accepts s k known c new) → new.seen ≡ s.seen
+      of_room known true is = rw (is.is) refl
+      of_room known false is = rw (is.is) refl
 
-      of_line : (line : Option Line) → TakesOn s k c line new → new.seen ≡ s.seen
-      of_line None is = rw (is.is) refl
-      of_line (Some line) is = of_room line (is_crowded (queue_at s k.service) k.client) is
+      of_known : (known : Option Known) → TakesOn s k c known new → new.seen ≡ s.seen
+      of_known None is = rw (is.is) refl
+      of_known (Some known) is = of_room known (is_crowded (queue_at s k.service) k.client) is
 
-      of_id : (b : Bool) → MatchBool b (Refuses s k (Some c.id) (Some c.name) InvalidRequestId new) (TakesOn s k c (line_of k.service c.name) new) → new.seen ≡ s.seen
+      of_id : (b : Bool) → MatchBool b (Refuses s k (Some c.id) (Some c.name) InvalidRequestId new) (TakesOn s k c (known_of k.service c.name) new) → new.seen ≡ s.seen
       of_id true is = rw (is.is) refl
-      of_id false is = of_line (line_of k.service c.name) is
+      of_id false is = of_known (known_of k.service c.name) is
 
 takes_notes : (s : State) (told_ : Answer) (new : State) → TakesNotes s told_ new → AtMostOneCall s.seen new.seen
 takes_notes s told_ new (shut closed) = inl refl

@@ -11,7 +11,7 @@ use Rattle.xfs_base.specs.declared.moment.Service.TheVariants.{Publisher, Card, 
 use Rattle.xfs_envelope.specs.declared.code.Code.TheVariants.{Canceled, TimeOut}
 use Rattle.xfs_queue.specs.declared.command.Command.{Command}
 use Rattle.xfs_queue.specs.Commands.{ticket_of, is_at, is_due, deadline}
-use Rattle.xfs_queue.specs.Queue.{IsQueue}
+use Rattle.xfs_queue.specs.Queue.{IsQueue, is_crowded}
 use Rattle.xfs_queue.proofs.Places.{AreApart}
 use Rattle.xfs_model.specs.Causes.{HasCauses, IsCaused}
 use Rattle.xfs_card.specs.Slot.{Slot}
@@ -36,12 +36,13 @@ use Rattle.xfs_keyboard.specs.declared.state.KeyEvent.TheVariants as key_event
 use Rattle.xfs_mech.specs.declared.touch.Touch.{Touch}
 use Rattle.xfs_mech.specs.declared.touch.Touch.TheVariants.{CardIn, CardTaken, CardFault, Key, KeyFault, NotesTaken}
 use Rattle.xfs_queue.specs.declared.command.Ids.{Ids}
-use Rattle.xfs_queue.specs.declared.command.Line.{Line}
 use Rattle.xfs_queue.specs.declared.command.Line.TheVariants.{Nonce, Device}
 use Rattle.xfs_queue.specs.Commands.{is_of, is_ready, is_running, is_waiting, waits_on}
 use Rattle.xfs_queue.specs.Queue.{canceled, is_named, mark, without, without_client}
 use Rattle.xfs_model.specs.Cases.{AnswersFirst, BeginsAs, Does, DoesNonce, Stops, TakesNonce, WorksOnPlan, resulting, with_start, with_went}
-use Rattle.xfs_model.specs.Commands.{line_of}
+use Rattle.xfs_common.specs.Commands.{immediate_of}
+use Rattle.xfs_model.specs.declared.known.Known.{Known}
+use Rattle.xfs_model.specs.Commands.{known_of}
 use Rattle.xfs_model.specs.Connections.{announced, connection_of, is_service, left, sent, with_queue_at, without_mail}
 use Rattle.xfs_model.specs.Devices.{Hears, Saying, card_says, device_stopped, keyboard_says, with_keypad, with_saying, with_slot}
 use Rattle.xfs_model.specs.Events.{Answer, Event, join, post, touch, work, outbox, leave, restart, end_, finish, joined, full, done, handed, restarted, unrestarted, ended, unsettled}
@@ -49,7 +50,7 @@ use Rattle.xfs_model.specs.Guards.{NonceCommand, cleared_, issued, none_to_clear
 use Rattle.xfs_model.specs.Immediate.{AtOnce, canceling, done_at_once, ids_of, stop, stopped, told_of}
 use Rattle.xfs_model.specs.Kept.{IsMachine}
 use Rattle.xfs_model.specs.Pendings.{pending_in}
-use Rattle.xfs_model.specs.Posts.{Accepts, Refuses, TakesText, TakesOn, is_crowded}
+use Rattle.xfs_model.specs.Posts.{Accepts, Refuses, TakesText, TakesOn}
 use Rattle.xfs_model.specs.Results.{changed, closing, error, plain, success, with_plan, with_result}
 use Rattle.xfs_model.specs.State.{Ask, issue, clear, cash, card, entry, bad, Connection, Job, Outcome, Pass, State, bare, queue_at}
 use Rattle.xfs_model.specs.Step.{Happens, HandsOver, DropsClient, Posts, Step, at_moment, happens, wanting}
@@ -61,6 +62,7 @@ use Rattle.xfs_model.proofs.Machines.{aside as same_machine}
 use Rattle.xfs_model.proofs.Queues.{queue_here, queue_there}
 use Rattle.xfs_model.proofs.Changes.{each, found_all, head_pairs, same_some, tail_pairs, turned}
 use Rattle.xfs_model.proofs.Codes.{EffectOwn, IsOwn, StartOwn, WentOwn, begins_own, card_own, is_stopping, works_own}
+use Rattle.xfs_model.proofs.AtOnce.{by_command}
 use Rattle.xfs_model.proofs.Wanting.{unmoved}
 
 -- the command that is found stands alone at its ticket
@@ -281,8 +283,8 @@ module _ (s new : State) (machine : IsMachine s) (h : HasCauses s) where
   card_says_ (card_reader.inserted payload) own is = is_heard Card (running_at s Card) refl (card_says (card_reader.inserted payload)) refl is
   card_says_ (card_reader.done code payload) own is = is_heard Card (running_at s Card) refl (card_says (card_reader.done code payload)) own is
 
-  takes_on : (k : Connection) (c : envelope.Command) (line : Option Line) → TakesOn s k c line new → HasCauses new
-  takes_on k c None is = rw (is.is) (with_queue_ s k.service (done_at_once s k c).queue (at_once_caused (bytes_eq c.name (codes "Common.Cancel"))) h)
+  takes_on : (k : Connection) (c : envelope.Command) (known : Option Known) → TakesOn s k c known new → HasCauses new
+  takes_on k c None is = rw (is.is) (with_queue_ s k.service (done_at_once s k c).queue at_once_caused h)
     where
       stop_caused : (a : Command Job) (b : Bool) → (b ≡ true → a.marked ≡ true) → IsCaused s.now a → IsCaused s.now (cond b (with_result (plain Canceled) a) a)
       stop_caused a true marked is = canceled_result s.now a (marked refl)
@@ -301,12 +303,11 @@ module _ (s new : State) (machine : IsMachine s) (h : HasCauses s) where
       canceling_caused (Err shape) = h k.service
       canceling_caused (Ok ids) = if_named (ids_of ids) (list_any (is_named k.client (ids_of ids)) (queue_at s k.service))
 
-      at_once_caused : (b : Bool) → All (IsCaused s.now) (cond {A = AtOnce} b (canceling (queue_at s k.service) k.client (request_ids c.payload)) (record { result = told_of s k.service c.name; queue = queue_at s k.service })).queue
-      at_once_caused true = canceling_caused (request_ids c.payload)
-      at_once_caused false = h k.service
-  takes_on k c (Some line) is = of_room (is_crowded (queue_at s k.service) k.client) is
+      at_once_caused : All (IsCaused s.now) (done_at_once s k c).queue
+      at_once_caused = by_command s k c.payload (λ did. All (IsCaused s.now) did.queue) (immediate_of k.service c.name) (λ is. canceling_caused (request_ids c.payload)) (h k.service)
+  takes_on k c (Some known) is = of_room (is_crowded (queue_at s k.service) k.client) is
     where
-      of_room : (b : Bool) → MatchBool b (Refuses s k (Some c.id) (Some c.name) TooManyRequests new) (Accepts s k line c new) → HasCauses new
+      of_room : (b : Bool) → MatchBool b (Refuses s k (Some c.id) (Some c.name) TooManyRequests new) (Accepts s k known c new) → HasCauses new
       of_room true is = rw (is.is) h
       of_room false is = rw (is.is) (with_queue_ s k.service _ (All-push (IsCaused s.now) (queue_at s k.service) _ (h k.service) (record { ready = λ y. absurd (false≢true y); canceled = λ r has code. absurd (none_some r has); late = λ r has code. absurd (none_some r has) })) h)
 
@@ -314,9 +315,9 @@ module _ (s new : State) (machine : IsMachine s) (h : HasCauses s) where
   takes k (Err refuse) is = rw (is.is) h
   takes k (Ok c) is = of_id (is_wrong_id (pending_in k.client (queue_at s k.service)) c.id) is
     where
-      of_id : (b : Bool) → MatchBool b (Refuses s k (Some c.id) (Some c.name) InvalidRequestId new) (TakesOn s k c (line_of k.service c.name) new) → HasCauses new
+      of_id : (b : Bool) → MatchBool b (Refuses s k (Some c.id) (Some c.name) InvalidRequestId new) (TakesOn s k c (known_of k.service c.name) new) → HasCauses new
       of_id true is = rw (is.is) h
-      of_id false is = takes_on k c (line_of k.service c.name) is
+      of_id false is = takes_on k c (known_of k.service c.name) is
 
 touches_card : (s : State) (event : CardEvent) (new : State) → TouchesCard s event new → IsMachine (with_slot s (card_reader.row_of s.slot event).next) → HasCauses s → HasCauses new
 touches_card s event new is machine h = card_says_ (with_slot s (card_reader.row_of s.slot event).next) new machine h (card_reader.row_of s.slot event).effect (card_own s.slot event) is

@@ -17,16 +17,16 @@ use Rattle.xfs_envelope.specs.Replies.{reply_in}
 use Rattle.xfs_envelope.specs.declared.code.Status.TheVariants.{InvalidRequestId, TooManyRequests}
 use Rattle.xfs_envelope.specs.declared.command.Refuse.{Refuse}
 use Rattle.xfs_queue.specs.declared.command.Command.{Command}
-use Rattle.xfs_queue.specs.declared.command.Line.{Line}
-use Rattle.xfs_queue.specs.Queue.{offered, without_client}
-use Rattle.xfs_model.specs.Commands.{line_of}
+use Rattle.xfs_queue.specs.Queue.{offered, without_client, is_crowded}
+use Rattle.xfs_model.specs.declared.known.Known.{Known}
+use Rattle.xfs_model.specs.Commands.{known_of, line_of}
 use Rattle.xfs_model.specs.Connections.{connection_at, connection_of, is_at, is_client, is_service, left, sent, with_queue_at, without_mail}
 use Rattle.xfs_model.specs.Conversations.{Talks, IsTalk, Keeps, texts_after, frames_after, is_pass_of}
 use Rattle.xfs_model.specs.Events.{join, post, outbox, joined, done, handed}
 use Rattle.xfs_model.specs.Immediate.{done_at_once}
 use Rattle.xfs_model.specs.Kept.{IsMachine}
 use Rattle.xfs_model.specs.Pendings.{pending_in}
-use Rattle.xfs_model.specs.Posts.{Accepts, TakesText, TakesOn, Refuses, DoesAtOnce, is_crowded, job_of}
+use Rattle.xfs_model.specs.Posts.{Accepts, TakesText, TakesOn, Refuses, DoesAtOnce, job_of}
 use Rattle.xfs_model.specs.State.{Connection, Job, Pass, State, queue_at}
 use Rattle.xfs_model.specs.Step.{HandsOver, Joins, DropsClient, Posts, at_moment}
 use Rattle.xfs_model.proofs.Lists.{found_passes, find-filter, find-dropped, IfSome-same}
@@ -113,9 +113,9 @@ module _ (s : State) (pass : Pass) (text : List ℕ) (k : Connection) (found : c
       })))
       (λ me other. pending_at_once me s k c) h)
 
-  accepts_ : (line : Line) (c : envelope.Command) → command_in text ≡ Ok c → is_wrong_id (pending_in k.client q) c.id ≡ false → (new : State) → Accepts s k line c new → IsTalk new mine texts fs
-  accepts_ line c reads right new is =
-      let a : Command Job = offered k.client c.id line c.timeout s.now (job_of c.name is.ask) in
+  accepts_ : (known : Known) (c : envelope.Command) → command_in text ≡ Ok c → is_wrong_id (pending_in k.client q) c.id ≡ false → (new : State) → Accepts s k known c new → IsTalk new mine texts fs
+  accepts_ known c reads right new is =
+      let a : Command Job = offered k.client c.id (line_of known) c.timeout s.now (job_of c.name is.ask) in
       rw (is.is) (post_desk s pass text k found named (is.reply ∷ []) (q ++ a ∷ []) mine ts fs
       (λ me same heard talks.
       let right_ : is_wrong_id (pending_in me q) c.id ≡ false = rw (pending_same me k.client q same) right in
@@ -123,22 +123,22 @@ module _ (s : State) (pass : Pass) (text : List ℕ) (k : Connection) (found : c
       rw (pending_push_mine me q a (eq-eqb k.client.0 me.0 (sym same))) (posted talks text is.reply says))
       (λ me other. pending_push_other me q a other) h)
 
-  takes_on : (c : envelope.Command) → command_in text ≡ Ok c → is_wrong_id (pending_in k.client q) c.id ≡ false → (line : Option Line) (new : State) → TakesOn s k c line new → IsTalk new mine texts fs
+  takes_on : (c : envelope.Command) → command_in text ≡ Ok c → is_wrong_id (pending_in k.client q) c.id ≡ false → (known : Option Known) (new : State) → TakesOn s k c known new → IsTalk new mine texts fs
   takes_on c reads right None new is = at_once c reads right new is
-  takes_on c reads right (Some line) new is = of_room (is_crowded q k.client) is
+  takes_on c reads right (Some known) new is = of_room (is_crowded q k.client) is
     where
-      of_room : (b : Bool) → MatchBool b (Refuses s k (Some c.id) (Some c.name) TooManyRequests new) (Accepts s k line c new) → IsTalk new mine texts fs
+      of_room : (b : Bool) → MatchBool b (Refuses s k (Some c.id) (Some c.name) TooManyRequests new) (Accepts s k known c new) → IsTalk new mine texts fs
       of_room true is = rw (is.is) (acknowledged is.reply (λ me same. rw (reads, is.acknowledges.reads_back) (crowded c (rw (pending_same me k.client q same) right))))
-      of_room false is = accepts_ line c reads right new is
+      of_room false is = accepts_ known c reads right new is
 
   pub takes : (says : Result envelope.Command Refuse) → command_in text ≡ says → (new : State) → TakesText s k says new → IsTalk new mine texts fs
   takes (Err refuse) reads new is = rw (is.is) (acknowledged is.reply (λ me same. rw (reads, is.acknowledges.reads_back) (misread refuse)))
   takes (Ok c) reads new is = of_id (is_wrong_id (pending_in k.client q) c.id) refl is
     where
       of_id : (b : Bool) → is_wrong_id (pending_in k.client q) c.id ≡ b
-          → MatchBool b (Refuses s k (Some c.id) (Some c.name) InvalidRequestId new) (TakesOn s k c (line_of k.service c.name) new) → IsTalk new mine texts fs
+          → MatchBool b (Refuses s k (Some c.id) (Some c.name) InvalidRequestId new) (TakesOn s k c (known_of k.service c.name) new) → IsTalk new mine texts fs
       of_id true wrong is = rw (is.is) (acknowledged is.reply (λ me same. rw (reads, is.acknowledges.reads_back) (misnumbered c (rw (pending_same me k.client q same) wrong))))
-      of_id false right is = takes_on c reads right (line_of k.service c.name) new is
+      of_id false right is = takes_on c reads right (known_of k.service c.name) new is
 
 -- where a pass has no connection, its client has none, or it is of another boot
 shut_pass : (s : State) (pass : Pass) (mine : ClientId) (b : Bool) → (s.boot == pass.boot) ≡ b → cond b (connection_at s pass.client) None ≡ None

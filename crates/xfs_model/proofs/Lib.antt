@@ -1,5 +1,6 @@
 pub mod Advancing
 pub mod Asking
+pub mod AtOnce
 pub mod Calls
 pub mod Caused
 pub mod Changes

@@ -35,19 +35,20 @@ use Rattle.xfs_mech.specs.declared.touch.Touch.{Touch}
 use Rattle.xfs_mech.specs.declared.touch.Touch.TheVariants.{CardIn, CardTaken, CardFault, Key, KeyFault, NotesTaken}
 use Rattle.xfs_queue.specs.declared.command.Command.{Command}
 use Rattle.xfs_queue.specs.declared.command.Ids.{Ids}
-use Rattle.xfs_queue.specs.declared.command.Line.{Line}
 use Rattle.xfs_queue.specs.Commands.{is_at, is_due, is_of, is_running, is_waiting, ticket_of}
-use Rattle.xfs_queue.specs.Queue.{IsQueue, canceled, is_named, offer_fault, offered, without, without_client}
+use Rattle.xfs_queue.specs.Queue.{IsQueue, canceled, is_named, offer_fault, offered, without, without_client, is_crowded}
 use Rattle.xfs_queue.proofs.Kept.{queue_after_filter, queue_after_push, queue_canceled, queue_without_client}
 use Rattle.xfs_model.specs.Cases.{AnswersFirst, BeginsAs, Does, DoesNonce, EndsLife, Stops, TakesNonce, WorksOnPlan, resulting, with_start, with_went}
-use Rattle.xfs_model.specs.Commands.{line_of}
+use Rattle.xfs_common.specs.Commands.{immediate_of}
+use Rattle.xfs_model.specs.declared.known.Known.{Known}
+use Rattle.xfs_model.specs.Commands.{known_of, line_of}
 use Rattle.xfs_model.specs.Connections.{announced, connection_at, connection_of, is_at as is_at_, is_client, is_service, left, sent, with_mail, with_queue_at, without_mail}
 use Rattle.xfs_model.specs.Devices.{Hears, Saying, card_says, device_stopped, keyboard_says, with_keypad, with_saying, with_slot}
 use Rattle.xfs_model.specs.Events.{Answer, Event, join, post, touch, work, outbox, leave, restart, end_, finish, joined, full, done, handed, restarted, unrestarted, ended, unsettled}
 use Rattle.xfs_model.specs.Immediate.{AtOnce, canceling, done_at_once, ids_of, stop, stopped, told_of}
 use Rattle.xfs_model.specs.Kept.{IsMachine}
 use Rattle.xfs_model.specs.Pendings.{pending_in}
-use Rattle.xfs_model.specs.Posts.{Accepts, Refuses, TakesText, TakesOn, is_crowded, job_of}
+use Rattle.xfs_model.specs.Posts.{Accepts, Refuses, TakesText, TakesOn, job_of}
 use Rattle.xfs_model.specs.Results.{changed, error, plain, success, with_result}
 use Rattle.xfs_model.specs.State.{Ask, issue, clear, cash, card, entry, bad, Connection, Job, Outcome, Pass, State, bare, queue_at}
 use Rattle.xfs_model.specs.Step.{Happens, HandsOver, Joins, DropsClient, Posts, Step, at_moment, happens, wanting}
@@ -58,6 +59,7 @@ use Rattle.xfs_model.proofs.Changes.{AllPairs-map, KeepsTicket, NotBoth, changed
 use Rattle.xfs_model.proofs.Pendings.{is_pending_there}
 use Rattle.xfs_model.proofs.Queues.{queue_here, queue_there}
 use Rattle.xfs_model.proofs.Talks.{client_with_mail}
+use Rattle.xfs_model.proofs.AtOnce.{by_command}
 use Rattle.xfs_model.proofs.Wanting.{unmoved}
 
 abbrev Rising : Connection → Connection → Type 0
@@ -278,11 +280,8 @@ kept_canceling given client q (Err shape) is = is
 kept_canceling given client q (Ok ids) is = kept_if given client (ids_of ids) q (list_any (is_named client (ids_of ids)) q) is
 
 kept_at_once : (given : ℕ) (s : State) (k : Connection) (c : envelope.Command) → IsKept given (queue_at s k.service) → IsKept given (done_at_once s k c).queue
-kept_at_once given s k c is = by_name (bytes_eq c.name (codes "Common.Cancel"))
-  where
-    by_name : (b : Bool) → IsKept given (cond {A = AtOnce} b (canceling (queue_at s k.service) k.client (request_ids c.payload)) (record { result = told_of s k.service c.name; queue = queue_at s k.service })).queue
-    by_name true = kept_canceling given k.client (queue_at s k.service) (request_ids c.payload) is
-    by_name false = is
+kept_at_once given s k c is = by_command s k c.payload (λ did. IsKept given did.queue) (immediate_of k.service c.name)
+    (λ cancels. kept_canceling given k.client (queue_at s k.service) (request_ids c.payload) is) is
 
 -- a command that is neither of a wrong id nor one too many
 offered_fault : (q : List (Command Job)) (client : ClientId) (id : ℕ) → is_wrong_id (pending_in client q) id ≡ false → is_crowded q client ≡ false → offer_fault q client id ≡ None
@@ -295,17 +294,17 @@ module _ (s : State) (k : Connection) (within : k.client.0 ≤ s.given) (h : IsM
   abbrev q : List (Command Job)
   q = queue_at s k.service
 
-  takes_on : (c : envelope.Command) → is_wrong_id (pending_in k.client q) c.id ≡ false → (line : Option Line) (new : State) → TakesOn s k c line new → IsMachine new
+  takes_on : (c : envelope.Command) → is_wrong_id (pending_in k.client q) c.id ≡ false → (known : Option Known) (new : State) → TakesOn s k c known new → IsMachine new
   takes_on c right None new is =
       let kept = kept_at_once s.given s k c (record { is_queue = h.queues k.service; clients = h.commands k.service }) in
       rw (is.is) (with_queue_ (sent s k.service k.client (is.reply ∷ is.last ∷ [])) k.service (done_at_once s k c).queue kept.is_queue kept.clients
       (with_sent s k.service k.client (is.reply ∷ is.last ∷ []) h))
-  takes_on c right (Some line) new is = of_room (is_crowded q k.client) refl is
+  takes_on c right (Some known) new is = of_room (is_crowded q k.client) refl is
     where
-      of_room : (b : Bool) → is_crowded q k.client ≡ b → MatchBool b (Refuses s k (Some c.id) (Some c.name) TooManyRequests new) (Accepts s k line c new) → IsMachine new
+      of_room : (b : Bool) → is_crowded q k.client ≡ b → MatchBool b (Refuses s k (Some c.id) (Some c.name) TooManyRequests new) (Accepts s k known c new) → IsMachine new
       of_room true full_ is = rw (is.is) (with_sent s k.service k.client (is.reply ∷ []) h)
       of_room false room is =
-          let a : Command Job = offered k.client c.id line c.timeout s.now (job_of c.name is.ask) in
+          let a : Command Job = offered k.client c.id (line_of known) c.timeout s.now (job_of c.name is.ask) in
           rw (is.is) (with_queue_ (sent s k.service k.client (is.reply ∷ [])) k.service (q ++ a ∷ [])
           (queue_after_push q a (offered_fault q k.client c.id right room) refl (h.queues k.service))
           (All-push (λ b. b.client.0 ≤ s.given) q a (h.commands k.service) within)
@@ -316,9 +315,9 @@ module _ (s : State) (k : Connection) (within : k.client.0 ≤ s.given) (h : IsM
   takes (Ok c) new is = of_id (is_wrong_id (pending_in k.client q) c.id) refl is
     where
       of_id : (b : Bool) → is_wrong_id (pending_in k.client q) c.id ≡ b
-          → MatchBool b (Refuses s k (Some c.id) (Some c.name) InvalidRequestId new) (TakesOn s k c (line_of k.service c.name) new) → IsMachine new
+          → MatchBool b (Refuses s k (Some c.id) (Some c.name) InvalidRequestId new) (TakesOn s k c (known_of k.service c.name) new) → IsMachine new
       of_id true wrong is = rw (is.is) (with_sent s k.service k.client (is.reply ∷ []) h)
-      of_id false right is = takes_on c right (line_of k.service c.name) new is
+      of_id false right is = takes_on c right (known_of k.service c.name) new is
 
 none_some : {X : Type 0} (x : X) → None ≡ Some x → ⊥
 none_some x e = cc

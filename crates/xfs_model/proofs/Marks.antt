@@ -30,17 +30,19 @@ use Rattle.xfs_keyboard.specs.declared.state.KeyEvent.TheVariants as key_event
 use Rattle.xfs_mech.specs.declared.touch.Touch.{Touch}
 use Rattle.xfs_mech.specs.declared.touch.Touch.TheVariants.{CardIn, CardTaken, CardFault, Key, KeyFault, NotesTaken}
 use Rattle.xfs_queue.specs.declared.command.Ids.{Ids}
-use Rattle.xfs_queue.specs.declared.command.Line.{Line}
 use Rattle.xfs_queue.specs.Commands.{is_of, is_ready, is_running, is_waiting}
-use Rattle.xfs_queue.specs.Queue.{canceled, is_named, mark, offered, without, without_client}
+use Rattle.xfs_queue.specs.Queue.{canceled, is_named, mark, offered, without, without_client, is_crowded}
 use Rattle.xfs_model.specs.Cases.{AnswersFirst, BeginsAs, Does, DoesNonce, Stops, TakesNonce, WorksOnPlan, resulting, with_start, with_went}
-use Rattle.xfs_model.specs.Commands.{line_of}
+use Rattle.xfs_common.specs.Commands.{immediate_of}
+use Rattle.xfs_common.specs.declared.command.Immediate.TheVariants.{Cancel}
+use Rattle.xfs_model.specs.declared.known.Known.{Known}
+use Rattle.xfs_model.specs.Commands.{known_of, line_of}
 use Rattle.xfs_model.specs.Connections.{announced, connection_of, is_service, left, sent, with_queue_at, without_mail}
 use Rattle.xfs_model.specs.Devices.{Hears, Saying, card_says, device_stopped, keyboard_says, with_keypad, with_saying, with_slot}
 use Rattle.xfs_model.specs.Events.{Answer, Event, join, post, touch, work, outbox, leave, restart, end_, finish, joined, full, done, handed, restarted, unrestarted, ended, unsettled}
 use Rattle.xfs_model.specs.Immediate.{AtOnce, canceling, done_at_once, ids_of, stop, stopped, told_of}
 use Rattle.xfs_model.specs.Pendings.{pending_in}
-use Rattle.xfs_model.specs.Posts.{Accepts, Refuses, TakesText, TakesOn, is_crowded, job_of}
+use Rattle.xfs_model.specs.Posts.{Accepts, Refuses, TakesText, TakesOn, job_of}
 use Rattle.xfs_model.specs.Results.{changed, error, plain, success, with_result}
 use Rattle.xfs_model.specs.State.{Ask, issue, clear, cash, card, entry, bad, Connection, Job, Outcome, Pass, State, bare, queue_at}
 use Rattle.xfs_model.specs.Step.{Happens, HandsOver, DropsClient, Posts, Step, at_moment, happens, wanting}
@@ -51,6 +53,7 @@ use Rattle.xfs_model.proofs.Queues.{itself, queue_here, queue_same, queue_there,
 use Rattle.xfs_dispenser.specs.Answers.{Start, told, planned, Went, more, done as over}
 use Rattle.xfs_model.specs.Causes.{IsCancelOf, IsMarked, IsOwnPass, MarksHaveCauses, before, canceled_by, left_by, was_marked, was_pending}
 use Rattle.xfs_model.proofs.Changes.{each}
+use Rattle.xfs_model.proofs.AtOnce.{by_command}
 use Rattle.xfs_model.proofs.Wanting.{unmoved}
 use Rattle.std.proofs.lemmas.Slice.Eq.{bytes_eq-Decides}
 use Rattle.xfs_queue.specs.declared.command.Ticket.{Ticket}
@@ -237,7 +240,7 @@ same_reason : (old : State) (event : Event) (service : Service) (a b : Command J
 same_reason old event service a b same (before was) = before (subst (λ t. was_marked old service t ≡ true) (sym same) was)
 same_reason old event service a b same (canceled_by pass text now is mine there cancels) =
     canceled_by pass text now is (subst (λ (t : Ticket). IsOwnPass old pass service t.client) (sym same) mine) (subst (λ (t : Ticket). was_pending old service t ≡ true) (sym same) there)
-    (subst (λ (t : Ticket). IsCancelOf text t.id) (sym same) cancels)
+    (subst (λ (t : Ticket). IsCancelOf service text t.id) (sym same) cancels)
 same_reason old event service a b same (left_by pass is mine there) =
     left_by pass is (subst (λ (t : Ticket). IsOwnPass old pass service t.client) (sym same) mine) (subst (λ (t : Ticket). was_pending old service t ≡ true) (sym same) there)
 
@@ -275,7 +278,7 @@ module _ (old : State) (pass : Pass) (text : List ℕ) (now : Moment) (k : Conne
   stays = each (λ a. a.marked ≡ true → has_mark (queue_at old k.service) (ticket_of a) ≡ true) (λ a. a.marked ≡ true → IsMarked old event k.service a) (λ a was m. before (was m)) (queue_at old k.service) (marked_same (queue_at old k.service))
 
   -- the commands that a Cancel names
-  canceled_marks : (ids : Ids) → ((id : ℕ) → names ids id ≡ true → IsCancelOf text id) → All (λ b. b.marked ≡ true → IsMarked old event k.service b) (stopped (queue_at old k.service) k.client ids)
+  canceled_marks : (ids : Ids) → ((id : ℕ) → names ids id ≡ true → IsCancelOf k.service text id) → All (λ b. b.marked ≡ true → IsMarked old event k.service b) (stopped (queue_at old k.service) k.client ids)
   canceled_marks ids cancels = All-map (λ b. b.marked ≡ true → IsMarked old event k.service b) stop (canceled (queue_at old k.service) k.client ids)
       (each (λ a. a.marked ≡ true → IsMarked old event k.service a) (λ a. (stop a).marked ≡ true → IsMarked old event k.service (stop a))
       (λ a why m. same_reason old event k.service a (stop a) (stop_ticket (is_waiting a.stage && a.marked) a) (why (sym (stop_mark (is_waiting a.stage && a.marked) a) ∙ m)))
@@ -291,39 +294,34 @@ module _ (old : State) (pass : Pass) (text : List ℕ) (now : Moment) (k : Conne
       ])))
 
   at_once_marks : (c : envelope.Command) → command_in text ≡ Ok c → All (λ b. b.marked ≡ true → IsMarked old event k.service b) (done_at_once s k c).queue
-  at_once_marks c reads = by_name (bytes_eq c.name (codes "Common.Cancel")) refl
+  at_once_marks c reads = by_command s k c.payload (λ did. All (λ b. b.marked ≡ true → IsMarked old event k.service b) did.queue) (immediate_of k.service c.name) (of_ids (request_ids c.payload) refl) stays
     where
-      if_named : (ids : Option (List ℕ)) → request_ids c.payload ≡ Ok ids → c.name ≡ codes "Common.Cancel" → (b : Bool)
+      if_named : (ids : Option (List ℕ)) → request_ids c.payload ≡ Ok ids → immediate_of k.service c.name ≡ Some Cancel → (b : Bool)
           → All (λ b. b.marked ≡ true → IsMarked old event k.service b) (cond {A = AtOnce} b (record { result = success nothing; queue = stopped (queue_at old k.service) k.client (ids_of ids) }) (record { result = error NoMatchingRequestIds; queue = queue_at old k.service })).queue
       if_named ids asks name true = canceled_marks (ids_of ids) (λ id its. record { command = c; ids = ids; reads = reads; name = name; asks = asks; names_it = its })
       if_named ids asks name false = stays
 
-      of_ids : (ids : Result (Option (List ℕ)) Shape) → request_ids c.payload ≡ ids → c.name ≡ codes "Common.Cancel" → All (λ b. b.marked ≡ true → IsMarked old event k.service b) (canceling (queue_at old k.service) k.client ids).queue
+      of_ids : (ids : Result (Option (List ℕ)) Shape) → request_ids c.payload ≡ ids → immediate_of k.service c.name ≡ Some Cancel → All (λ b. b.marked ≡ true → IsMarked old event k.service b) (canceling (queue_at old k.service) k.client ids).queue
       of_ids (Err shape) asks name = stays
       of_ids (Ok ids) asks name = if_named ids asks name (list_any (is_named k.client (ids_of ids)) (queue_at old k.service))
-
-      by_name : (b : Bool) → bytes_eq c.name (codes "Common.Cancel") ≡ b
-          → All (λ b. b.marked ≡ true → IsMarked old event k.service b) (cond {A = AtOnce} b (canceling (queue_at old k.service) k.client (request_ids c.payload)) (record { result = told_of s k.service c.name; queue = queue_at old k.service })).queue
-      by_name true is = of_ids (request_ids c.payload) refl ((bytes_eq-Decides c.name (codes "Common.Cancel")).0 is)
-      by_name false is = stays
 
   takes : (says : Result envelope.Command Refuse) → command_in text ≡ says → TakesText s k says new → MarksHaveCauses old event new
   takes (Err refuse) reads is = unmarked (rw (is.is) (same_state old))
   takes (Ok c) reads is = of_id (is_wrong_id (pending_in k.client (queue_at s k.service)) c.id) is
     where
-      of_room : (line : Line) (b : Bool) → MatchBool b (Refuses s k (Some c.id) (Some c.name) TooManyRequests new) (Accepts s k line c new) → MarksHaveCauses old event new
-      of_room line true is = unmarked (rw (is.is) (same_state old))
-      of_room line false is =
-          let a : Command Job = offered k.client c.id line c.timeout s.now (job_of c.name is.ask) in
+      of_room : (known : Known) (b : Bool) → MatchBool b (Refuses s k (Some c.id) (Some c.name) TooManyRequests new) (Accepts s k known c new) → MarksHaveCauses old event new
+      of_room known true is = unmarked (rw (is.is) (same_state old))
+      of_room known false is =
+          let a : Command Job = offered k.client c.id (line_of known) c.timeout s.now (job_of c.name is.ask) in
           rw (is.is) (with_marks (queue_at old k.service ++ a ∷ []) (All-push (λ b. b.marked ≡ true → IsMarked old event k.service b) (queue_at old k.service) a stays (λ m. absurd (false≢true m))) (is.reply ∷ []))
 
-      of_line : (line : Option Line) → TakesOn s k c line new → MarksHaveCauses old event new
-      of_line None is = rw (is.is) (with_marks (done_at_once s k c).queue (at_once_marks c reads) (is.reply ∷ is.last ∷ []))
-      of_line (Some line) is = of_room line (is_crowded (queue_at s k.service) k.client) is
+      of_known : (known : Option Known) → TakesOn s k c known new → MarksHaveCauses old event new
+      of_known None is = rw (is.is) (with_marks (done_at_once s k c).queue (at_once_marks c reads) (is.reply ∷ is.last ∷ []))
+      of_known (Some known) is = of_room known (is_crowded (queue_at s k.service) k.client) is
 
-      of_id : (b : Bool) → MatchBool b (Refuses s k (Some c.id) (Some c.name) InvalidRequestId new) (TakesOn s k c (line_of k.service c.name) new) → MarksHaveCauses old event new
+      of_id : (b : Bool) → MatchBool b (Refuses s k (Some c.id) (Some c.name) InvalidRequestId new) (TakesOn s k c (known_of k.service c.name) new) → MarksHaveCauses old event new
       of_id true is = unmarked (rw (is.is) (same_state old))
-      of_id false is = of_line (line_of k.service c.name) is
+      of_id false is = of_known (known_of k.service c.name) is
 
 posts : (old : State) (pass : Pass) (text : List ℕ) (now : Moment) (new : State) → Posts old pass text now new → MarksHaveCauses old (post pass text now) new
 posts old pass text now new is = go (connection_of old pass) refl is

@@ -19,6 +19,8 @@ use Rattle.xfs_common.specs.declared.error.ErrorCode.TheVariants.{NoMatchingRequ
 use Rattle.xfs_envelope.specs.Commands as envelope
 use Rattle.xfs_envelope.specs.declared.code.Code.TheVariants.{Canceled}
 use Rattle.xfs_json.specs.declared.members.Shape.{Shape}
+use Rattle.xfs_common.specs.Commands.{immediate_of}
+use Rattle.xfs_model.proofs.AtOnce.{by_command}
 use Rattle.xfs_model.specs.State.{Connection, Job, State, queue_at}
 use Rattle.xfs_model.specs.Pendings.{job_pending, known_to, pending_in}
 use Rattle.xfs_model.specs.Results.{changed, error, plain, success, with_result}
@@ -53,11 +55,8 @@ pending_canceling mine q client (Ok ids) = canceling_if mine q client (ids_of id
 
 -- what is done at once leaves the pending commands as they were
 pub pending_at_once : (mine : ClientId) (s : State) (k : Connection) (c : envelope.Command) → pending_in mine (done_at_once s k c).queue ≡ pending_in mine (queue_at s k.service)
-pending_at_once mine s k c = by_name (bytes_eq c.name (codes "Common.Cancel"))
-  where
-    by_name : (b : Bool) → pending_in mine (cond {A = AtOnce} b (canceling (queue_at s k.service) k.client (request_ids c.payload)) (record { result = told_of s k.service c.name; queue = queue_at s k.service })).queue ≡ pending_in mine (queue_at s k.service)
-    by_name true = pending_canceling mine (queue_at s k.service) k.client (request_ids c.payload)
-    by_name false = refl
+pending_at_once mine s k c = by_command s k c.payload (λ did. pending_in mine did.queue ≡ pending_in mine (queue_at s k.service)) (immediate_of k.service c.name)
+    (λ is. pending_canceling mine (queue_at s k.service) k.client (request_ids c.payload)) refl
 
 -- a new command
 pub pending_push_mine : (mine : ClientId) (q : List (Command Job)) (a : Command Job) → is_of mine a ≡ true → pending_in mine (q ++ a ∷ []) ≡ pending_in mine q ++ job_pending a ∷ []

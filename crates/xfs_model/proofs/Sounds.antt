@@ -56,7 +56,7 @@ fitting_saying service (Some result) a fits = fits
 turn_fits : (s : State) (event : Event) (new : State) (service : Service) (b : Command Job) → Turn s event new (IsFitting service) service b → IsFitting service b
 turn_fits s event new service b (stays a fits still) = fits
 turn_fits s event new service b (marks a holds fits still) = fits
-turn_fits s event new service b (accepted client id line timeout name payload ask has asks) = may_ask service name payload ask line has asks
+turn_fits s event new service b (accepted client id known timeout name payload ask has asks) = may_ask service name payload ask known has asks
 turn_fits s event new service b (stopped_waiting a holds fits waits marked) = fits
 turn_fits s event new service b (late a fits waits due) = fits
 turn_fits s event new service b (stopped_running a fits runs stops) = fits

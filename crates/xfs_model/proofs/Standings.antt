@@ -46,9 +46,11 @@ use Rattle.xfs_queue.specs.declared.command.Line.TheVariants.{Nonce, Device}
 use Rattle.xfs_queue.specs.declared.command.Stage.{Stage}
 use Rattle.xfs_queue.specs.declared.command.Stage.TheVariants.{Waiting, Running, Ready}
 use Rattle.xfs_queue.specs.Commands.{is_at, is_due, is_of, is_ready, is_running, is_waiting, ticket_of, waits_on}
-use Rattle.xfs_queue.specs.Queue.{canceled, is_named, mark, without, without_client}
+use Rattle.xfs_queue.specs.Queue.{canceled, is_named, mark, without, without_client, is_crowded}
 use Rattle.xfs_model.specs.Cases.{AnswersFirst, BeginsAs, BeginsCash, Does, DoesNonce, EndsLife, IsTooLate, Stops, TakesNonce, WorksOnPlan, has_ended, resulting, with_went}
-use Rattle.xfs_model.specs.Commands.{line_of}
+use Rattle.xfs_common.specs.Commands.{immediate_of}
+use Rattle.xfs_model.specs.declared.known.Known.{Known}
+use Rattle.xfs_model.specs.Commands.{known_of}
 use Rattle.xfs_model.specs.Connections.{announced, connection_of, is_service, left, sent, with_queue_at, without_mail}
 use Rattle.xfs_model.specs.Devices.{card_says, device_stopped, keyboard_says, with_keypad, with_saying, with_slot}
 use Rattle.xfs_model.specs.Events.{Answer, Event, join, post, touch, work, outbox, leave, restart, end_, finish, joined, full, done, handed, restarted, unrestarted, ended, unsettled}
@@ -56,7 +58,7 @@ use Rattle.xfs_model.specs.Guards.{Expires, NonceCommand, cleared_, ended as ove
 use Rattle.xfs_model.specs.Immediate.{AtOnce, canceling, done_at_once, ids_of, stop, stopped, told_of}
 use Rattle.xfs_model.specs.Kept.{IsMachine}
 use Rattle.xfs_model.specs.Pendings.{pending_in}
-use Rattle.xfs_model.specs.Posts.{Accepts, Refuses, TakesText, TakesOn, is_crowded}
+use Rattle.xfs_model.specs.Posts.{Accepts, Refuses, TakesText, TakesOn}
 use Rattle.xfs_model.specs.Results.{changed, error, plain, success, with_result}
 use Rattle.xfs_model.specs.Sound.{AreTied, IsFitting, MayAsk}
 use Rattle.xfs_model.specs.State.{Ask, issue, clear, cash, card, entry, bad, Connection, Ending, Job, Outcome, Pass, State, bare, queue_at, with_queue}
@@ -71,6 +73,7 @@ use Rattle.xfs_model.proofs.Machines.{aside as same_machine}
 use Rattle.xfs_model.proofs.Queues.{queue_itself, queue_there, same_service}
 use Rattle.xfs_model.proofs.Runnings.{all_rest, none_runs, others_rest, runs, runs_beside, runs_changed, runs_filter, runs_map, runs_push, some_runs}
 use Rattle.xfs_model.proofs.StillPlanned.{begins_closed}
+use Rattle.xfs_model.proofs.AtOnce.{by_command}
 use Rattle.xfs_model.proofs.Wanting.{unmoved}
 
 -- what this file keeps
@@ -515,8 +518,8 @@ module _ (s new : State) (machine : IsMachine s) (h : IsStanding s) where
   touches KeyFault told_ is = keys_heard key_event.Fault tt (running_at s Keys) refl is.1
   touches NotesTaken told_ is = takes_notes s told_ new is h
 
-  takes_on : (k : Connection) (c : envelope.Command) (line : Option Line) → TakesOn s k c line new → IsStanding new
-  takes_on k c None is = rw (is.is) (beside s _ k.service (done_at_once s k c).queue refl refl refl refl h.issued refl (at_once (bytes_eq c.name (codes "Common.Cancel"))) h)
+  takes_on : (k : Connection) (c : envelope.Command) (known : Option Known) → TakesOn s k c known new → IsStanding new
+  takes_on k c None is = rw (is.is) (beside s _ k.service (done_at_once s k c).queue refl refl refl refl h.issued refl at_once h)
     where
       if_named : (ids : Ids) (b : Bool)
           → runs (cond {A = AtOnce} b (record { result = success nothing; queue = stopped (queue_at s k.service) k.client ids }) (record { result = error NoMatchingRequestIds; queue = queue_at s k.service })).queue ≡ has_running s k.service
@@ -527,12 +530,11 @@ module _ (s new : State) (machine : IsMachine s) (h : IsStanding s) where
       canceling_all (Err shape) = refl
       canceling_all (Ok ids) = if_named (ids_of ids) (list_any (is_named k.client (ids_of ids)) (queue_at s k.service))
 
-      at_once : (b : Bool) → runs (cond {A = AtOnce} b (canceling (queue_at s k.service) k.client (request_ids c.payload)) (record { result = told_of s k.service c.name; queue = queue_at s k.service })).queue ≡ has_running s k.service
-      at_once true = canceling_all (request_ids c.payload)
-      at_once false = refl
-  takes_on k c (Some line) is = of_room (is_crowded (queue_at s k.service) k.client) is
+      at_once : runs (done_at_once s k c).queue ≡ has_running s k.service
+      at_once = by_command s k c.payload (λ did. runs did.queue ≡ has_running s k.service) (immediate_of k.service c.name) (λ is. canceling_all (request_ids c.payload)) refl
+  takes_on k c (Some known) is = of_room (is_crowded (queue_at s k.service) k.client) is
     where
-      of_room : (b : Bool) → MatchBool b (Refuses s k (Some c.id) (Some c.name) TooManyRequests new) (Accepts s k line c new) → IsStanding new
+      of_room : (b : Bool) → MatchBool b (Refuses s k (Some c.id) (Some c.name) TooManyRequests new) (Accepts s k known c new) → IsStanding new
       of_room true is = rw (is.is) (apart_from s _ refl refl refl refl h.issued refl h)
       of_room false is = rw (is.is) (beside s _ k.service _ refl refl refl refl h.issued refl (runs_push (queue_at s k.service) _ refl) h)
 
@@ -540,9 +542,9 @@ module _ (s new : State) (machine : IsMachine s) (h : IsStanding s) where
   takes k (Err refuse) is = rw (is.is) (apart_from s _ refl refl refl refl h.issued refl h)
   takes k (Ok c) is = of_id (is_wrong_id (pending_in k.client (queue_at s k.service)) c.id) is
     where
-      of_id : (b : Bool) → MatchBool b (Refuses s k (Some c.id) (Some c.name) InvalidRequestId new) (TakesOn s k c (line_of k.service c.name) new) → IsStanding new
+      of_id : (b : Bool) → MatchBool b (Refuses s k (Some c.id) (Some c.name) InvalidRequestId new) (TakesOn s k c (known_of k.service c.name) new) → IsStanding new
       of_id true is = rw (is.is) (apart_from s _ refl refl refl refl h.issued refl h)
-      of_id false is = takes_on k c (line_of k.service c.name) is
+      of_id false is = takes_on k c (known_of k.service c.name) is
 
 -- a later moment
 later : (s : State) (now : Moment) → IsStanding s → IsStanding (at_moment s now)

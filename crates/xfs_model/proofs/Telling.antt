@@ -38,26 +38,29 @@ use Rattle.xfs_keyboard.specs.declared.state.KeyEvent.TheVariants as key_event
 use Rattle.xfs_mech.specs.declared.touch.Touch.{Touch}
 use Rattle.xfs_mech.specs.declared.touch.Touch.TheVariants.{CardIn, CardTaken, CardFault, Key, KeyFault, NotesTaken}
 use Rattle.xfs_queue.specs.declared.command.Command.{Command}
-use Rattle.xfs_queue.specs.declared.command.Line.{Line}
 use Rattle.xfs_queue.specs.Commands.{is_due, is_ready}
-use Rattle.xfs_queue.specs.Queue.{is_named}
+use Rattle.xfs_queue.specs.Queue.{is_named, is_crowded}
 use Rattle.xfs_units.specs.Payloads.{storage_payload}
 use Rattle.xfs_guard.specs.Lives.{BeginsWith}
 use Rattle.xfs_model.specs.Cases.{AnswersFirst, BeginsAs, Does, DoesNonce, Stops, TakesNonce, resulting, with_start, with_went}
-use Rattle.xfs_model.specs.Commands.{line_of}
+use Rattle.xfs_common.specs.Commands.{immediate_of}
+use Rattle.xfs_common.specs.declared.command.Immediate.{Immediate}
+use Rattle.xfs_common.specs.declared.command.Immediate.TheVariants as immediate
+use Rattle.xfs_model.specs.declared.known.Known.{Known}
+use Rattle.xfs_model.specs.Commands.{known_of}
 use Rattle.xfs_model.specs.Connections.{announced, connection_at, connection_of, is_at, is_client, is_service, left, sent, with_mail, without_mail}
 use Rattle.xfs_model.specs.Devices.{Hears, Saying, card_says, device_stopped, keyboard_says, with_keypad, with_saying, with_slot}
 use Rattle.xfs_model.specs.Events.{Answer, Event, join, post, touch, work, outbox, leave, restart, end_, finish, joined, full, done, handed, restarted, unrestarted, ended, unsettled}
 use Rattle.xfs_model.specs.Frames.{Announces, AreEvents, IsAcknowledge, IsCompletion, IsUnsolicited, Notice}
 use Rattle.xfs_model.specs.Guards.{NonceCommand, cleared_, issued, none_to_clear, refused, uncleared, unissued}
-use Rattle.xfs_model.specs.Immediate.{AtOnce, ComesTo, canceling, done_at_once, health_of, ids_of, told_of}
-use Rattle.xfs_model.specs.PresentStatus.{TellsPresented, TellsUnless, is_present_status, nonce_in}
+use Rattle.xfs_model.specs.Immediate.{AtOnce, ComesTo, ResultsIn, canceling, done_by, health_of, ids_of, told_of}
+use Rattle.xfs_model.specs.PresentStatus.{TellsPresented, TellsUnless, nonce_in}
 use Rattle.xfs_evidence.specs.Evidence.{evidence_refusal}
 use Rattle.xfs_evidence.specs.declared.faults.EvidenceFault.{EvidenceFault}
 use Rattle.xfs_evidence.specs.declared.faults.EvidenceFault.TheVariants.{NoIssue, Unsettled, Memory}
 use Rattle.xfs_model.specs.Kept.{IsMachine}
 use Rattle.xfs_model.specs.Pendings.{pending_in}
-use Rattle.xfs_model.specs.Posts.{Accepts, Refuses, TakesText, TakesOn, is_crowded}
+use Rattle.xfs_model.specs.Posts.{Accepts, Refuses, TakesText, TakesOn}
 use Rattle.xfs_model.specs.Results.{error, plain, success}
 use Rattle.xfs_model.specs.State.{Ask, issue, clear, cash, card, entry, bad, Connection, Ending, Job, Outcome, Pass, State, bare, queue_at}
 use Rattle.xfs_model.specs.Step.{Happens, HandsOver, DropsClient, Posts, Step, at_moment, happens, wanting}
@@ -69,6 +72,7 @@ use Rattle.xfs_model.proofs.Advancing.{advances}
 use Rattle.xfs_model.proofs.Changes.{each, found_all}
 use Rattle.xfs_model.proofs.Payloads.{SayingStands, StartStands, WentStands, begins_stands, card_stands, error_stands, keys_stand, longer_stands, nothing_stands, silent, works_stands}
 use Rattle.xfs_model.proofs.Turns.{AllFit, Speaks, Turn, accepted, at_event, begun, card_begins, card_touched, heard, keys_begin, keys_touched, late, marks, misasked, nonce, seen_at, stays, stopped_running, stopped_waiting, turns, worked}
+use Rattle.xfs_model.proofs.AtOnce.{by_command}
 use Rattle.xfs_model.proofs.Wanting.{unmoved}
 
 -- the results
@@ -166,17 +170,14 @@ module _ (records : List Rec) where
   capabilities_stands Keys = silent records _ refl refl
   capabilities_stands Cash = silent records _ refl refl
 
-  told_stands : (s : State) (service : Service) (name : List ℕ) → Stands records (told_of s service name).payload
-  told_stands s service name =
-      go (bytes_eq name (codes "Common.Status")) (bytes_eq name (codes "Common.Capabilities"))
-      (is_service Publisher service && bytes_eq name (codes "ServicePublisher.GetServices")) (is_service Cash service && bytes_eq name (codes "Storage.GetStorage"))
-    where
-      go : (a b c d : Bool) → Stands records (cond {A = Outcome} a (success (status_payload service (health_of s))) (cond b (success (capabilities_payload service)) (cond c (success services_payload) (cond d (success (storage_payload s.seen.guard.units s.seen.guard.places)) (plain InvalidCommand))))).payload
-      go true b c d = status_stands service (health_of s)
-      go false true c d = capabilities_stands service
-      go false false true d = silent records services_payload refl refl
-      go false false false true = silent records (storage_payload s.seen.guard.units s.seen.guard.places) refl refl
-      go false false false false = nothing_stands records
+  told_stands : (s : State) (service : Service) (command : Option Immediate) → Stands records (told_of s service command).payload
+  told_stands s service None = nothing_stands records
+  told_stands s service (Some immediate.Status) = status_stands service (health_of s)
+  told_stands s service (Some immediate.Capabilities) = capabilities_stands service
+  told_stands s service (Some immediate.Cancel) = nothing_stands records
+  told_stands s service (Some immediate.GetServices) = silent records services_payload refl refl
+  told_stands s service (Some immediate.GetStorage) = silent records (storage_payload s.seen.guard.units s.seen.guard.places) refl refl
+  told_stands s service (Some immediate.GetPresentStatus) = nothing_stands records
 
   canceling_stands : (q : List (Command Job)) (client : ClientId) (ids : Result (Option (List ℕ)) Shape) → Stands records (canceling q client ids).result.payload
   canceling_stands q client (Err shape) = nothing_stands records
@@ -186,12 +187,9 @@ module _ (records : List Rec) where
       go true x y = nothing_stands records
       go false x y = error_stands records _
 
-  at_once_stands : (s : State) (k : Connection) (c : envelope.Command) → Stands records (done_at_once s k c).result.payload
-  at_once_stands s k c = go (bytes_eq c.name (codes "Common.Cancel"))
-    where
-      go : (b : Bool) → Stands records (cond {A = AtOnce} b (canceling (queue_at s k.service) k.client (request_ids c.payload)) (record { result = told_of s k.service c.name; queue = queue_at s k.service })).result.payload
-      go true = canceling_stands (queue_at s k.service) k.client (request_ids c.payload)
-      go false = told_stands s k.service c.name
+  at_once_stands : (s : State) (k : Connection) (payload : Data) (command : Option Immediate) → Stands records (done_by s k payload command).result.payload
+  at_once_stands s k payload command = by_command s k payload (λ did. Stands records did.result.payload) command
+      (λ is. canceling_stands (queue_at s k.service) k.client (request_ids payload)) (told_stands s k.service command)
 
   presented_stands : (v : View) (text : List ℕ) (result : Outcome) (why : Option EvidenceFault) → TellsUnless v text result why → Stands records result.payload
   presented_stands v text result None tells = rw (tells.is) (silent records (present_status_payload tells.token) refl refl)
@@ -204,11 +202,16 @@ module _ (records : List Rec) where
   status_of_present_stands v (Some text) result tells = presented_stands v text result (evidence_refusal v.base (drop v.base v.records)) tells
 
   comes_stands : (s : State) (k : Connection) (c : envelope.Command) (result : Outcome) → ComesTo s k c result → Stands records result.payload
-  comes_stands s k c result comes = go (is_present_status k.service c.name) comes
+  comes_stands s k c result comes = go (immediate_of k.service c.name) comes
     where
-      go : (b : Bool) → MatchBool b (TellsPresented s.seen.guard (nonce_in c.payload) result) (result ≡ (done_at_once s k c).result) → Stands records result.payload
-      go true tells = status_of_present_stands s.seen.guard (nonce_in c.payload) result tells
-      go false is = rw is (at_once_stands s k c)
+      go : (command : Option Immediate) → ResultsIn s k c.payload command result → Stands records result.payload
+      go None is = rw is (at_once_stands s k c.payload None)
+      go (Some immediate.Status) is = rw is (at_once_stands s k c.payload (Some immediate.Status))
+      go (Some immediate.Capabilities) is = rw is (at_once_stands s k c.payload (Some immediate.Capabilities))
+      go (Some immediate.Cancel) is = rw is (at_once_stands s k c.payload (Some immediate.Cancel))
+      go (Some immediate.GetServices) is = rw is (at_once_stands s k c.payload (Some immediate.GetServices))
+      go (Some immediate.GetStorage) is = rw is (at_once_stands s k c.payload (Some immediate.GetStorage))
+      go (Some immediate.GetPresentStatus) tells = status_of_present_stands s.seen.guard (nonce_in c.payload) result tells
 
   -- all that waits tells what stands
   abbrev FramesTell : State → Type 0
@@ -296,14 +299,14 @@ module _ (records : List Rec) (s new : State) (h : FramesTell records s) (result
   refuses : (k : Connection) (id : Option ℕ) (name : Option (List ℕ)) (why : Status) → Refuses s k id name why new → FramesTell records new
   refuses k id name why is = rw (is.is) (sent_tell records s k.service k.client (is.reply ∷ []) (one_frame is.reply (acknowledge_tells records id name (Some why) is.reply is.acknowledges)) h)
 
-  takes_on : (k : Connection) (c : envelope.Command) (line : Option Line) → TakesOn s k c line new → FramesTell records new
+  takes_on : (k : Connection) (c : envelope.Command) (known : Option Known) → TakesOn s k c known new → FramesTell records new
   takes_on k c None is =
       let last = completion_tells records c.id c.name _ _ is.last is.completes (comes_stands records s k c is.result is.comes) in
       rw (is.is) (sent_tell records s k.service k.client (is.reply ∷ is.last ∷ [])
       (All-cons (TellsRecords records) is.reply (is.last ∷ []) (acknowledge_tells records _ _ _ is.reply is.acknowledges) (one_frame is.last last)) h)
-  takes_on k c (Some line) is = of_room (is_crowded (queue_at s k.service) k.client) is
+  takes_on k c (Some known) is = of_room (is_crowded (queue_at s k.service) k.client) is
     where
-      of_room : (b : Bool) → MatchBool b (Refuses s k (Some c.id) (Some c.name) TooManyRequests new) (Accepts s k line c new) → FramesTell records new
+      of_room : (b : Bool) → MatchBool b (Refuses s k (Some c.id) (Some c.name) TooManyRequests new) (Accepts s k known c new) → FramesTell records new
       of_room true is = refuses k _ _ _ is
       of_room false is = rw (is.is) (sent_tell records s k.service k.client (is.reply ∷ []) (one_frame is.reply (acknowledge_tells records _ _ _ is.reply is.acknowledges)) h)
 
@@ -311,9 +314,9 @@ module _ (records : List Rec) (s new : State) (h : FramesTell records s) (result
   takes k (Err refuse) is = refuses k _ _ _ is
   takes k (Ok c) is = of_id (is_wrong_id (pending_in k.client (queue_at s k.service)) c.id) is
     where
-      of_id : (b : Bool) → MatchBool b (Refuses s k (Some c.id) (Some c.name) InvalidRequestId new) (TakesOn s k c (line_of k.service c.name) new) → FramesTell records new
+      of_id : (b : Bool) → MatchBool b (Refuses s k (Some c.id) (Some c.name) InvalidRequestId new) (TakesOn s k c (known_of k.service c.name) new) → FramesTell records new
       of_id true is = refuses k _ _ _ is
-      of_id false is = takes_on k c (line_of k.service c.name) is
+      of_id false is = takes_on k c (known_of k.service c.name) is
 
 notes_taken : (records : List Rec) (s : State) (told_ : Answer) (new : State) → TakesNotes s told_ new → FramesTell records s → FramesTell records new
 notes_taken records s told_ new (shut closed) h = h

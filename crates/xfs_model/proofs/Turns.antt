@@ -43,10 +43,12 @@ use Rattle.xfs_queue.specs.declared.command.Ids.{Ids}
 use Rattle.xfs_queue.specs.declared.command.Line.{Line}
 use Rattle.xfs_queue.specs.declared.command.Line.TheVariants.{Nonce, Device}
 use Rattle.xfs_queue.specs.Commands.{is_at, is_due, is_of, is_ready, is_running, is_waiting, ticket_of, waits_on}
-use Rattle.xfs_queue.specs.Queue.{IsQueue, canceled, is_named, mark, offered, without, without_client}
+use Rattle.xfs_queue.specs.Queue.{IsQueue, canceled, is_named, mark, offered, without, without_client, is_crowded}
 use Rattle.xfs_queue.proofs.Places.{AreApart}
 use Rattle.xfs_model.specs.Cases.{AnswersFirst, BeginsAs, Does, DoesNonce, Stops, TakesNonce, WorksOnPlan, has_ended, resulting, with_start, with_went}
-use Rattle.xfs_model.specs.Commands.{Asks, line_of}
+use Rattle.xfs_common.specs.Commands.{immediate_of}
+use Rattle.xfs_model.specs.declared.known.Known.{Known}
+use Rattle.xfs_model.specs.Commands.{Asks, known_of, line_of}
 use Rattle.xfs_model.specs.Connections.{announced, connection_of, is_service, left, sent, with_queue_at, without_mail}
 use Rattle.xfs_model.specs.Devices.{Hears, Saying, card_says, device_stopped, keyboard_says, with_keypad, with_saying, with_slot}
 use Rattle.xfs_model.specs.Events.{Answer, Event, join, post, touch, work, outbox, leave, restart, end_, finish, joined, full, done, handed, restarted, unrestarted, ended, unsettled}
@@ -54,7 +56,7 @@ use Rattle.xfs_model.specs.Guards.{Expires, NonceCommand, cleared_, ended as ove
 use Rattle.xfs_model.specs.Immediate.{AtOnce, canceling, done_at_once, ids_of, stop, stopped, told_of}
 use Rattle.xfs_model.specs.Kept.{IsMachine}
 use Rattle.xfs_model.specs.Pendings.{pending_in}
-use Rattle.xfs_model.specs.Posts.{Accepts, Refuses, TakesText, TakesOn, is_crowded, job_of}
+use Rattle.xfs_model.specs.Posts.{Accepts, Refuses, TakesText, TakesOn, job_of}
 use Rattle.xfs_model.specs.Results.{changed, error, plain, success, with_result}
 use Rattle.xfs_model.specs.Sound.{IsFitting, MayAsk}
 use Rattle.xfs_model.specs.State.{Ask, issue, clear, cash, card, entry, bad, Connection, Ending, Job, Outcome, Pass, Queues, State, bare, queue_at, queue_of, with_queue}
@@ -71,6 +73,7 @@ use Rattle.xfs_model.proofs.Queues.{queue_itself, queue_there, same_service}
 use Rattle.xfs_model.proofs.Runnings.{OthersRest, all_rest, others_rest}
 use Rattle.xfs_model.proofs.Standings.{asked_of_card, asked_of_cash, asked_of_keys, not_begin, other_case}
 use Rattle.xfs_model.proofs.StillPlanned.{StillWorks, marked_still, missed_still, same_still, taken_still}
+use Rattle.xfs_model.proofs.AtOnce.{by_command}
 use Rattle.xfs_model.proofs.Wanting.{unmoved}
 
 -- what a device says to a command in a step: as it begins, or as the world touches the device while it runs
@@ -87,8 +90,8 @@ StaysPlanned s new service b = service ≡ Cash → is_running b.stage ≡ true 
 pub data Turn (s : State) (event : Event) (new : State) (P : Command Job → Type 0) (service : Service) : Command Job → Type 0 where
   stays : (a : Command Job) → P a → StaysPlanned s new service a → Turn s event new P service a
   marks : (a : Command Job) (holds : Bool) → P a → StaysPlanned s new service a → Turn s event new P service (mark holds a)
-  accepted : (client : ClientId) (id : ℕ) (line : Line) (timeout : ℕ) (name : List ℕ) (payload : Data) (ask : Ask) → line_of service name ≡ Some line → Asks name payload ask
-      → Turn s event new P service (offered client id line timeout s.now (job_of name ask))
+  accepted : (client : ClientId) (id : ℕ) (known : Known) (timeout : ℕ) (name : List ℕ) (payload : Data) (ask : Ask) → known_of service name ≡ Some known → Asks known payload ask
+      → Turn s event new P service (offered client id (line_of known) timeout s.now (job_of name ask))
   stopped_waiting : (a : Command Job) (holds : Bool) → P a → is_waiting a.stage ≡ true → (mark holds a).marked ≡ true → Turn s event new P service (with_result (plain Canceled) (mark holds a))
   late : (a : Command Job) → P a → is_waiting a.stage ≡ true → is_due s.now a ≡ true → Turn s event new P service (with_result (plain TimeOut) a)
   stopped_running : (a : Command Job) → P a → is_running a.stage ≡ true → (a.marked || is_due s.now a) ≡ true → Turn s event new P service (with_result (plain (cond a.marked Canceled TimeOut)) a)
@@ -315,8 +318,8 @@ module _ (P : Service → Command Job → Type 0) (s : State) (event : Event) (n
   touches_keys : (touched : KeyEvent) → (touched ≡ key_event.Fault → event ≡ touch KeyFault) → TouchesKeys s touched new → Turned P s event new
   touches_keys touched fault is = let row = keyboard.row_of s.keypad touched in is_heard (with_keypad s row.next) refl refl Keys keys_not_cash (running_at s Keys) refl (keyboard_says row.effect) (λ a runs. keys_touched refl runs touched fault) is
 
-  takes_on : (k : Connection) (c : envelope.Command) (line : Option Line) → line_of k.service c.name ≡ line → TakesOn s k c line new → Turned P s event new
-  takes_on k c None none is = rw (is.is) (turned_at P s event _ k.service (done_at_once s k c).queue refl (λ b other at. same_still _ _ refl) (at_once _ (same_still _ _ refl) (bytes_eq c.name (codes "Common.Cancel"))) h)
+  takes_on : (k : Connection) (c : envelope.Command) (known : Option Known) → known_of k.service c.name ≡ known → TakesOn s k c known new → Turned P s event new
+  takes_on k c None none is = rw (is.is) (turned_at P s event _ k.service (done_at_once s k c).queue refl (λ b other at. same_still _ _ refl) (at_once _ (same_still _ _ refl)) h)
     where
       stop_turned : (t : State) → StillWorks s.seen.guard t.seen.guard → (a : Command Job) (holds b : Bool) → (is_waiting a.stage && (mark holds a).marked) ≡ b → P k.service a
           → Turn s event t (P k.service) k.service (cond b (with_result (plain Canceled) (mark holds a)) (mark holds a))
@@ -339,25 +342,24 @@ module _ (P : Service → Command Job → Type 0) (s : State) (event : Event) (n
       canceling_all t still (Err shape) = stay_all P s event t k.service (queue_at s k.service) (λ at. still) (h k.service)
       canceling_all t still (Ok ids) = if_named t still (ids_of ids) (list_any (is_named k.client (ids_of ids)) (queue_at s k.service))
 
-      at_once : (t : State) → StillWorks s.seen.guard t.seen.guard → (b : Bool)
-          → All (Turn s event t (P k.service) k.service) (cond {A = AtOnce} b (canceling (queue_at s k.service) k.client (request_ids c.payload)) (record { result = told_of s k.service c.name; queue = queue_at s k.service })).queue
-      at_once t still true = canceling_all t still (request_ids c.payload)
-      at_once t still false = stay_all P s event t k.service (queue_at s k.service) (λ at. still) (h k.service)
-  takes_on k c (Some line) has is = of_room (is_crowded (queue_at s k.service) k.client) is
+      at_once : (t : State) → StillWorks s.seen.guard t.seen.guard → All (Turn s event t (P k.service) k.service) (done_at_once s k c).queue
+      at_once t still = by_command s k c.payload (λ did. All (Turn s event t (P k.service) k.service) did.queue) (immediate_of k.service c.name)
+          (λ is. canceling_all t still (request_ids c.payload)) (stay_all P s event t k.service (queue_at s k.service) (λ at. still) (h k.service))
+  takes_on k c (Some known) has is = of_room (is_crowded (queue_at s k.service) k.client) is
     where
-      of_room : (b : Bool) → MatchBool b (Refuses s k (Some c.id) (Some c.name) TooManyRequests new) (Accepts s k line c new) → Turned P s event new
+      of_room : (b : Bool) → MatchBool b (Refuses s k (Some c.id) (Some c.name) TooManyRequests new) (Accepts s k known c new) → Turned P s event new
       of_room true is = rw (is.is) (unchanged P s event _ refl (same_still _ _ refl) h)
       of_room false is = rw (is.is) (turned_at P s event _ k.service _ refl (λ b other at. same_still _ _ refl)
           (All-push (Turn s event _ (P k.service) k.service) (queue_at s k.service) _ (stay_all P s event _ k.service (queue_at s k.service) (λ at. same_still _ _ refl) (h k.service))
-          (accepted k.client c.id line c.timeout c.name c.payload is.ask has is.asks)) h)
+          (accepted k.client c.id known c.timeout c.name c.payload is.ask has is.asks)) h)
 
   takes : (k : Connection) (says : Result envelope.Command Refuse) → TakesText s k says new → Turned P s event new
   takes k (Err refuse) is = rw (is.is) (unchanged P s event _ refl (same_still _ _ refl) h)
   takes k (Ok c) is = of_id (is_wrong_id (pending_in k.client (queue_at s k.service)) c.id) is
     where
-      of_id : (b : Bool) → MatchBool b (Refuses s k (Some c.id) (Some c.name) InvalidRequestId new) (TakesOn s k c (line_of k.service c.name) new) → Turned P s event new
+      of_id : (b : Bool) → MatchBool b (Refuses s k (Some c.id) (Some c.name) InvalidRequestId new) (TakesOn s k c (known_of k.service c.name) new) → Turned P s event new
       of_id true is = rw (is.is) (unchanged P s event _ refl (same_still _ _ refl) h)
-      of_id false is = takes_on k c (line_of k.service c.name) refl is
+      of_id false is = takes_on k c (known_of k.service c.name) refl is
 
   touches : (touched : Touch) → event ≡ touch touched → (told_ : Answer) → Touches s touched told_ new → Turned P s event new
   touches (CardIn tracks) at told_ is = touches_card (card_event.Inserted tracks) (λ e. absurd (no_fault_in tracks e)) is.1

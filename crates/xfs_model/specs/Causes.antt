@@ -1,10 +1,12 @@
 -- Why a command has its result, and why it is marked.
-use Rattle.std.specs.Prelude.{◌≡◌, ◌&&◌, ℕ, Bool, true, List, All, codes, Option, Some, is_some, Ok}
+use Rattle.std.specs.Prelude.{◌≡◌, ◌&&◌, ℕ, Bool, true, List, All, Option, Some, is_some, Ok}
 use Rattle.std.specs.List.{list_any}
 use Rattle.xfs_base.specs.declared.moment.ClientId.{ClientId}
 use Rattle.xfs_base.specs.declared.moment.Moment.{Moment}
 use Rattle.xfs_base.specs.declared.moment.Service.{Service}
 use Rattle.xfs_common.specs.Cancel.{request_ids}
+use Rattle.xfs_common.specs.Commands.{immediate_of}
+use Rattle.xfs_common.specs.declared.command.Immediate.TheVariants.{Cancel}
 use Rattle.xfs_envelope.specs.Commands.{command_in}
 use Rattle.xfs_envelope.specs.Commands as envelope
 use Rattle.xfs_envelope.specs.declared.code.Code.TheVariants.{Canceled, TimeOut}
@@ -25,12 +27,12 @@ pub record IsCaused (now : Moment) (a : Command Job) : Type 0 where
 abbrev pub HasCauses : State → Type 0
 HasCauses s = (service : Service) → All (IsCaused s.now) (queue_at s service)
 
--- a text is a Cancel that names this request id
-pub record IsCancelOf (text : List ℕ) (id : ℕ) : Type 0 where
+-- a text is a Cancel at the service that names this request id
+pub record IsCancelOf (service : Service) (text : List ℕ) (id : ℕ) : Type 0 where
   pub command : envelope.Command
   pub ids : Option (List ℕ)
   pub reads : command_in text ≡ Ok command
-  pub name : command.name ≡ codes "Common.Cancel"
+  pub name : immediate_of service command.name ≡ Some Cancel
   pub asks : request_ids command.payload ≡ Ok ids
   pub names_it : names (ids_of ids) id ≡ true
 
@@ -52,7 +54,7 @@ pub record IsOwnPass (old : State) (pass : Pass) (service : Service) (client : C
 -- why a command is marked behind an event: it was so before; or it was pending, and its own client canceled it, or has left
 pub data IsMarked (old : State) (event : Event) (service : Service) (a : Command Job) : Type 0 where
   before : was_marked old service (ticket_of a) ≡ true → IsMarked old event service a
-  canceled_by : (pass : Pass) (text : List ℕ) (now : Moment) → event ≡ post pass text now → IsOwnPass old pass service a.client → was_pending old service (ticket_of a) ≡ true → IsCancelOf text a.id
+  canceled_by : (pass : Pass) (text : List ℕ) (now : Moment) → event ≡ post pass text now → IsOwnPass old pass service a.client → was_pending old service (ticket_of a) ≡ true → IsCancelOf service text a.id
       → IsMarked old event service a
   left_by : (pass : Pass) → event ≡ leave pass → IsOwnPass old pass service a.client → was_pending old service (ticket_of a) ≡ true → IsMarked old event service a
 

@@ -1,55 +1,48 @@
--- The commands that a service knows by name: which are pending until they are answered, and what each asks.
-use Rattle.std.specs.Prelude.{◌≡◌, ℕ, List, [], ◌∷◌, codes, Bool, Option, Some, None, Ok, if◌then◌else◌}
-use Rattle.std.specs.List.{list_any}
-use Rattle.std.specs.Str.{bytes_eq}
+-- The commands that a service knows by name and that are pending until they are answered: the line of each, and what it asks.
+use Rattle.std.specs.Prelude.{◌≡◌, ℕ, List, ⊤, Option, None, option_map, Ok}
+use Rattle.std.specs.Option.{option_or}
 use Rattle.serde_json.specs.Data.{Data}
 use Rattle.xfs_base.specs.declared.moment.Service.{Service}
 use Rattle.xfs_base.specs.declared.moment.Service.TheVariants.{Publisher, Card, Keys, Cash}
 use Rattle.xfs_card.specs.Asks as card_reader
+use Rattle.xfs_card.specs.Commands.{command_of as card_command}
+use Rattle.xfs_common.specs.Commands.{command_of as nonce_command}
+use Rattle.xfs_common.specs.declared.command.CommonCommand.TheVariants.{GetCommandNonce, ClearCommandNonce}
 use Rattle.xfs_dispenser.specs.Asks as dispenser
+use Rattle.xfs_dispenser.specs.Commands.{command_of as cash_command}
 use Rattle.xfs_keyboard.specs.Asks as keyboard
+use Rattle.xfs_keyboard.specs.Commands.{command_of as keys_command}
+use Rattle.xfs_keyboard.specs.declared.command.KeysCommand.TheVariants.{DataEntry}
 use Rattle.xfs_queue.specs.declared.command.Line.{Line}
 use Rattle.xfs_queue.specs.declared.command.Line.TheVariants.{Nonce, Device}
+use Rattle.xfs_model.specs.declared.known.Known.{Known}
+use Rattle.xfs_model.specs.declared.known.Known.TheVariants as known
 use Rattle.xfs_model.specs.State.{Ask, issue, clear, cash, card, entry, bad}
 
-abbrev pub nonce_names : List (List ℕ)
-nonce_names = codes "Common.GetCommandNonce" ∷ codes "Common.ClearCommandNonce" ∷ []
+-- the command of a name at a service; every other name is done at once
+abbrev pub known_of : Service → List ℕ → Option Known
+known_of Publisher name = None
+known_of Card name = option_map known.Card (card_command name)
+known_of Keys name = option_map known.Keys (keys_command name)
+known_of Cash name = option_or (option_map known.Nonce (nonce_command name)) (option_map known.Cash (cash_command name))
 
-abbrev pub cash_names : List (List ℕ)
-cash_names =
-    codes "CashDispenser.Denominate" ∷ codes "CashDispenser.Dispense" ∷ codes "CashDispenser.Present" ∷ codes "CashDispenser.Reject"
-    ∷ codes "CashManagement.Reset" ∷ codes "CashManagement.Retract"
-    ∷ codes "Storage.StartExchange" ∷ codes "Storage.SetStorage" ∷ codes "Storage.EndExchange" ∷ []
+-- the line on which a command waits
+abbrev pub line_of : Known → Line
+line_of (known.Nonce command) = Nonce
+line_of (known.Card command) = Device
+line_of (known.Keys command) = Device
+line_of (known.Cash command) = Device
 
-abbrev pub card_names : List (List ℕ)
-card_names = codes "CardReader.ReadRawData" ∷ codes "CardReader.Move" ∷ codes "CardReader.Reset" ∷ []
-
-abbrev pub keys_names : List (List ℕ)
-keys_names = codes "Keyboard.DataEntry" ∷ []
-
-abbrev pub is_one_of : List (List ℕ) → List ℕ → Bool
-is_one_of names name = list_any (bytes_eq name) names
-
-abbrev pub device_line : List (List ℕ) → List ℕ → Option Line
-device_line names name = if is_one_of names name then Some Device else None
-
--- the line of a command that is pending until it is answered; every other name is done at once
-abbrev pub line_of : Service → List ℕ → Option Line
-line_of Publisher name = None
-line_of Card name = device_line card_names name
-line_of Keys name = device_line keys_names name
-line_of Cash name = if is_one_of nonce_names name then Some Nonce else device_line cash_names name
-
--- a name and a payload mean this
-abbrev pub Means : List ℕ → Data → Ask → Type 0
-Means name payload issue = name ≡ codes "Common.GetCommandNonce"
-Means name payload clear = name ≡ codes "Common.ClearCommandNonce"
-Means name payload (cash ask) = dispenser.ask_of name payload ≡ Ok ask
-Means name payload (card ask) = card_reader.ask_of name payload ≡ Ok ask
-Means name payload (entry ask) = (name ≡ codes "Keyboard.DataEntry") × keyboard.Asks payload ask
-Means name payload bad = ⊥
+-- a command and its payload mean this
+abbrev pub Means : Known → Data → Ask → Type 0
+Means (known.Nonce GetCommandNonce) payload issue = ⊤
+Means (known.Nonce ClearCommandNonce) payload clear = ⊤
+Means (known.Card command) payload (card ask) = card_reader.ask_of command payload ≡ Ok ask
+Means (known.Keys DataEntry) payload (entry ask) = keyboard.Asks payload ask
+Means (known.Cash command) payload (cash ask) = dispenser.ask_of command payload ≡ Ok ask
+Means command payload ask = ⊥
 
 -- what a command asks: what it means, or its members are bad
-abbrev pub Asks : List ℕ → Data → Ask → Type 0
-Asks name payload bad = (ask : Ask) → ¬ Means name payload ask
-Asks name payload ask = Means name payload ask
+abbrev pub Asks : Known → Data → Ask → Type 0
+Asks command payload bad = (ask : Ask) → ¬ Means command payload ask
+Asks command payload ask = Means command payload ask

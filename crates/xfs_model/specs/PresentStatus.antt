@@ -1,10 +1,7 @@
 -- The command GetPresentStatus: a token tells what was presented under the last nonce. It looks at the nonce, the Issue and the orders to present, and at nothing else.
-use Rattle.std.specs.Prelude.{◌≡◌, ◌&&◌, ℕ, Bool, List, codes, drop, Option, None, Some, Result, Ok, Err, if◌then◌else◌}
-use Rattle.std.specs.Str.{bytes_eq}
+use Rattle.std.specs.Prelude.{◌≡◌, ℕ, List, codes, drop, Option, None, Some, Result, Ok, Err, if◌then◌else◌}
 use Rattle.serde_json.specs.Data.{Data}
 use Rattle.serde_json.specs.Find.{as_str}
-use Rattle.xfs_base.specs.declared.moment.Service.{Service}
-use Rattle.xfs_base.specs.declared.moment.Service.TheVariants.{Cash}
 use Rattle.xfs_common.specs.Payloads.{present_status_payload}
 use Rattle.xfs_common.specs.declared.error.ErrorCode.TheVariants as errors
 use Rattle.xfs_envelope.specs.declared.code.Code.TheVariants.{InvalidData}
@@ -15,12 +12,8 @@ use Rattle.xfs_guard.specs.View.{View}
 use Rattle.xfs_json.specs.Members.{member_as, member_of}
 use Rattle.xfs_json.specs.declared.members.Shape.{Shape}
 use Rattle.xfs_token.specs.Token.{is_nonce}
-use Rattle.xfs_model.specs.Connections.{is_service}
 use Rattle.xfs_model.specs.Results.{error, plain, success}
 use Rattle.xfs_model.specs.State.{Outcome}
-
-abbrev pub is_present_status : Service → List ℕ → Bool
-is_present_status service name = is_service Cash service && bytes_eq name (codes "CashDispenser.GetPresentStatus")
 
 -- a text, where it is a nonce
 abbrev pub nonce_where : Result (Option (List ℕ)) Shape → Option (List ℕ)

@@ -23,6 +23,10 @@ ghost use Rattle.xfs_model.specs.Step.{Step};
 ghost use Rattle.xfs_model.specs.Successes.{OrdersFollow, SuccessesHaveCauses};
 ghost use Rattle.xfs_model.specs.Told.{AllTell, HasToldTruly, IsTold, KeepsTold};
 
+mod known;
+
+pub use known::Known;
+
 /// Each step keeps the conversation of every connection, and begins that of a connection that joins.
 pub fn steps_keep_conversations()
     ensures { (old new : State) (event : Event) (answer : Answer) → IsMachine old → Step old event answer new → Keeps old event answer new }

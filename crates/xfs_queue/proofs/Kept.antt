@@ -1,5 +1,5 @@
 -- What a queue keeps: ids that differ, one command that runs, and the limits.
-use Rattle.std.proofs.Common.{◌≡◌, ℕ, suc, ◌≤◌, ◌<◌, ◌==◌, ◌&&◌, not, Bool, true, false, cond, List, [], ◌∷◌, ◌++◌, None, Some, length, get_or, map, filter, find, count_by, All, AllPairs, refl, ap, sym, ◌∙◌, inl, inr, arith}
+use Rattle.std.proofs.Common.{◌≡◌, ◌||◌, ℕ, suc, ◌≤◌, ◌<◌, ◌==◌, ◌&&◌, not, Bool, true, false, cond, List, [], ◌∷◌, ◌++◌, None, Some, length, get_or, map, filter, find, count_by, All, AllPairs, refl, ap, sym, ◌∙◌, inl, inr, arith}
 use Rattle.std.specs.List.{list_any}
 use Rattle.std.proofs.lemmas.Bool.{cases_Bool, or_parts, and_left, and_right, leb-false, eqb-true, ne_eqb, cases_eq}
 use Rattle.std.proofs.lemmas.List.{length-map, get_or-map, length-append}
@@ -67,7 +67,7 @@ none_from_find p (x ∷ xs) h = elim (cases_Bool (p x)) [
 ]
 
 -- no refusal: the id isn't pending, and there is room
-no_faults : (a b c : Bool) → cond a (Some Busy) (cond b (Some TooMany) (cond c (Some TooMany) None)) ≡ None → (a ≡ false) × (b ≡ false) × (c ≡ false)
+no_faults : (a b c : Bool) → cond a (Some Busy) (cond (b || c) (Some TooMany) None) ≡ None → (a ≡ false) × (b ≡ false) × (c ≡ false)
 no_faults true b c e = absurd cc
 no_faults false true c e = absurd cc
 no_faults false false true e = absurd cc

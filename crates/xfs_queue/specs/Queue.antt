@@ -36,12 +36,15 @@ module _ {J : Type 0} where
   abbrev pub IsWaiting : List (Command J) → Ticket → Type 0
   IsWaiting q t = IsTrue (list_any (λ a. is_at t a && is_waiting a.stage) q)
 
+  -- the client has 32 commands pending, or the service 256
+  abbrev pub is_crowded : List (Command J) → ClientId → Bool
+  is_crowded q client = nat_le 32 (count_by (is_of client) q) || nat_le 256 (length q)
+
   -- why a command with this client and id isn't taken
   abbrev pub offer_fault : List (Command J) → ClientId → ℕ → Option OfferFault
   offer_fault q client id =
       if list_any (is_at record { client = client; id = id }) q then Some Busy
-      else if nat_le 32 (count_by (is_of client) q) then Some TooMany
-      else if nat_le 256 (length q) then Some TooMany
+      else if is_crowded q client then Some TooMany
       else None
 
   -- the list with the ticket's command at another stage

@@ -2,7 +2,7 @@ ghost use Rattle.std.specs.Prelude.{◌≡◌, ◌++◌, ◌≤◌, List, Some, 
 ghost use Rattle.std.specs.Option.{option_to_list};
 ghost use Rattle.std.specs.List.{list_any};
 ghost use Rattle.xfs_queue.specs.Commands.{is_at, is_of, ticket_of};
-ghost use Rattle.xfs_queue.specs.Queue.{IsPending, with_stage, offer_fault, is_named, canceled, marked_of};
+ghost use Rattle.xfs_queue.specs.Queue.{IsPending, with_stage, is_crowded, is_named, canceled, marked_of};
 ghost use Rattle.xfs_queue.specs.Deadlines.{IsIndex};
 ghost use Rattle.xfs_queue.specs.declared.deadlines.Entry.{Entry};
 
@@ -163,8 +163,21 @@ impl<J> Queue<J> {
             .any(|command| command.is_at(ticket) && command.marked)
     }
 
-    /// Adds a command at the end. `Busy` comes where the client has this id pending, else `TooMany`
-    /// where the client has 32 pending or the service 256. A refused job comes back.
+    /// Why a command of the client with this id isn't taken, memory aside: `Busy` where the client has
+    /// the id pending, else `TooMany` where the client has 32 pending or the service 256.
+    pub fn fault_of(&self, client: ClientId, id: u64) -> Option<OfferFault>
+        ensures { result ≡ offer_fault self.now client id }
+    {
+        if is_pending(&self.commands, Ticket { client, id }) {
+            return Some(OfferFault::Busy);
+        }
+        if is_crowded(&self.commands, client) {
+            return Some(OfferFault::TooMany);
+        }
+        None
+    }
+
+    /// Adds a command at the end, where `fault_of` has nothing against it. A refused job comes back.
     pub fn offer(
         &mut self,
         client: ClientId,
@@ -179,7 +192,7 @@ impl<J> Queue<J> {
         ensures err { IfErr result (λ e. (e.0 ≡ job) × (self.new ≡ self.old)) }
         ensures refused { MatchOption (offer_fault self.old client id) (IfErr result (λ e. e.1 ≡ Memory)) (λ f. result ≡ Err (job, f)) }
     {
-        match fault_of(&self.commands, client, id) {
+        match self.fault_of(client, id) {
             Some(fault) => return Err((job, fault)),
             None => {}
         }
@@ -287,25 +300,16 @@ impl<J: Drop> Queue<J> {
     }
 }
 
-fn fault_of<J>(commands: &[Command<J>], client: ClientId, id: u64) -> Option<OfferFault>
-    ensures { result ≡ offer_fault commands.now client id }
-{
-    if is_pending(commands, Ticket { client, id }) {
-        return Some(OfferFault::Busy);
-    }
-    if count_of(commands, client) >= 32 {
-        return Some(OfferFault::TooMany);
-    }
-    if commands.len() >= 256 {
-        return Some(OfferFault::TooMany);
-    }
-    None
-}
-
 fn is_pending<J>(commands: &[Command<J>], ticket: Ticket) -> bool
     ensures { result ≡ list_any (is_at ticket) commands.now }
 {
     commands.iter().any(|command| command.is_at(ticket))
+}
+
+fn is_crowded<J>(commands: &[Command<J>], client: ClientId) -> bool
+    ensures { result ≡ is_crowded commands.now client }
+{
+    count_of(commands, client) >= 32 || commands.len() >= 256
 }
 
 fn count_of<J>(commands: &[Command<J>], client: ClientId) -> usize

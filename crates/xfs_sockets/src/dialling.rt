@@ -8,6 +8,7 @@ use std::random::RandomSource;
 use tungstenite::handshake::client::request_of;
 use tungstenite::{ClientHandshake, Error, HandshakeError, RandomKeys, WebSocket, client};
 use xfs_base::{Clock, Service};
+use xfs_common::Address;
 use xfs_server::DialFault;
 
 // How long the handshake may last, and in how many reads of a few milliseconds each.
@@ -18,16 +19,6 @@ const MOST_READS: u32 = 1_000;
 type Dialled<S: RandomSource + Drop> = WebSocket<PeerStream, RandomKeys<S>>;
 
 type Fault<S: RandomSource + Drop> = HandshakeError<ClientHandshake<PeerStream, RandomKeys<S>>>;
-
-// The paths of the services, as the publisher's GetServices tells them.
-fn path_of(service: Service) -> &'static str {
-    match service {
-        Service::Publisher => "/xfs4iot/v1.0",
-        Service::Card => "/xfs4iot/v1.0/cardreader",
-        Service::Keys => "/xfs4iot/v1.0/keyboard",
-        Service::Cash => "/xfs4iot/v1.0/cashdispenser",
-    }
-}
 
 /// Does a client's handshake with a service on a connected stream.
 pub fn shake_dialled<S: RandomSource + Drop, C: Clock>(
@@ -41,7 +32,7 @@ pub fn shake_dialled<S: RandomSource + Drop, C: Clock>(
     let Ok(stream) = PeerStream::new(stream) else {
         return Err(DialFault::Failed);
     };
-    let Ok(url) = format!(in alloc; "ws://127.0.0.1:{port}{}", path_of(service)) else {
+    let Ok(url) = format!(in alloc; "ws://127.0.0.1:{port}{}", Address::of(service).path) else {
         return Err(DialFault::Memory);
     };
     let request = match request_of(alloc, &url) {

@@ -1,5 +1,6 @@
 ghost use Rattle.std.specs.Prelude.{◌≡◌, ◌+◌, IfOk, IfSome};
 ghost use Rattle.xfs_base.specs.declared.moment.Service.TheVariants as Service;
+ghost use Rattle.xfs_common.specs.Addresses.{port_of};
 ghost use Rattle.xfs_server.specs.Links.{IsFresh};
 
 use crate::SocketLink;
@@ -13,15 +14,8 @@ use std::io::ErrorKind;
 use std::net::{Net, TcpListener, TcpStream};
 use std::random::RandomSource;
 use xfs_base::{Clock, Service};
+use xfs_common::Address;
 use xfs_server::{DialFault, Door, Doors};
-
-/// The ports of the services where nothing else is asked for.
-pub const PORTS: Ports = Ports {
-    publisher: 5846,
-    card: 5847,
-    keys: 5848,
-    cash: 5849,
-};
 
 /// A port for each service.
 #[derive(Clone, Copy, Debug, PartialEq, Eq)]
@@ -33,6 +27,21 @@ pub struct Ports {
 }
 
 impl Ports {
+    /// The ports where nothing else is asked for.
+    pub fn usual() -> Ports
+        ensures publisher { result.publisher ≡ port_of Service.Publisher }
+        ensures card { result.card ≡ port_of Service.Card }
+        ensures keys { result.keys ≡ port_of Service.Keys }
+        ensures cash { result.cash ≡ port_of Service.Cash }
+    {
+        Ports {
+            publisher: Address::of(Service::Publisher).port,
+            card: Address::of(Service::Card).port,
+            keys: Address::of(Service::Keys).port,
+            cash: Address::of(Service::Cash).port,
+        }
+    }
+
     /// Four ports one behind the other, the publisher's first. None where there are no four from there on.
     pub fn from_first(first: u16) -> Option<Ports>
         ensures publisher { IfSome result (λ ports. ports.publisher ≡ first) }

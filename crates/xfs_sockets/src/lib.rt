@@ -11,7 +11,7 @@ mod stream;
 mod visitors;
 mod wire;
 
-pub use doors::{OpenFault, PORTS, Ports, TcpDoors};
+pub use doors::{OpenFault, Ports, TcpDoors};
 pub use entrance::{Entrance, Port, is_broken};
 pub use link::SocketLink;
 pub use visitors::{Origins, is_own_host};

@@ -8,7 +8,7 @@ use Rattle.xfs_model.specs.Connections.{is_at, with_mail}
 use Rattle.xfs_model.specs.Frames.{IsAcknowledge, IsCompletion}
 use Rattle.xfs_model.specs.Posts.{Accepts}
 use Rattle.xfs_model.specs.State.{Connection, Outcome, State}
-use Rattle.xfs_queue.specs.declared.command.Line.{Line}
+use Rattle.xfs_model.specs.declared.known.Known.{Known}
 use Rattle.xfs_traffic.specs.Parts.{with_traffic}
 use Rattle.xfs_traffic.specs.declared.traffic.Traffic.{Traffic}
 
@@ -22,9 +22,9 @@ pub record IsSeen (now : Moment) (sender : Sender) (s : State) (k : Connection) 
   pub client : k.client ≡ sender.client
   pub service : k.service ≡ sender.service
 
--- the command of the sender is pending on this line, as the machine's definitions say, and is acknowledged
-abbrev pub IsAccepted : Moment → Sender → Line → envelope.Command → Traffic → Traffic → Type 0
-IsAccepted now sender line c old new = (s : State) (k : Connection) → IsSeen now sender s k → Accepts (with_traffic s old) k line c (with_traffic s new)
+-- the command of the sender is pending, as the machine's definitions say, and is acknowledged
+abbrev pub IsAccepted : Moment → Sender → Known → envelope.Command → Traffic → Traffic → Type 0
+IsAccepted now sender command c old new = (s : State) (k : Connection) → IsSeen now sender s k → Accepts (with_traffic s old) k command c (with_traffic s new)
 
 -- the connection of the sender is sent the acknowledge alone
 pub record IsTurnedAway (sender : Sender) (id : Option ℕ) (name : Option (List ℕ)) (why : Status) (old new : List Connection) : Type 0 where

@@ -1,27 +1,23 @@
 //! Whether a command is taken in, and the acknowledge that tells it.
 
-ghost use Rattle.std.specs.Prelude.{◌≡◌, ◌≤◌, ◌||◌, count_by, false, IfOk, OnOk, OnErr, None, Some};
+ghost use Rattle.std.specs.Prelude.{◌≡◌, ◌≤◌, IfOk, OnOk, OnErr, None, Some};
 ghost use Rattle.xfs_base.specs.declared.moment.TheConstants.{LAST_MOMENT};
-ghost use Rattle.xfs_conversation.specs.Pending.{is_wrong_id};
 ghost use Rattle.xfs_envelope.specs.Commands.{said};
 ghost use Rattle.xfs_envelope.specs.declared.code.Status.TheVariants.{InvalidMessage};
 ghost use Rattle.xfs_traffic.specs.Senders.{IsAccepted, IsTurnedAway};
-ghost use Rattle.xfs_model.specs.Commands.{line_of};
 ghost use Rattle.xfs_model.specs.Frames.{IsAcknowledge};
-ghost use Rattle.xfs_model.specs.Pendings.{pending_in};
-ghost use Rattle.xfs_model.specs.Posts.{is_crowded};
 ghost use Rattle.xfs_model.specs.State.{queue_of};
-ghost use Rattle.xfs_queue.specs.Commands.{is_of};
+ghost use Rattle.xfs_queue.specs.Queue.{offer_fault};
 
-use crate::asks::ask_of;
+use crate::asks::{ask_of, line_of};
 use crate::connections::Connections;
 use crate::job::Job;
 use crate::traffic::Traffic;
 use std::alloc::Global;
 use xfs_base::{Bytes, ClientId, Memory, Moment, Service};
-use xfs_conversation::is_request_id;
 use xfs_envelope::{Envelope, Refuse, Status, acknowledge};
-use xfs_queue::{Command, Line, Queue, Ticket};
+use xfs_model::Known;
+use xfs_queue::Ticket;
 
 /// A client, and the service that it is connected to.
 #[derive(Clone, Copy)]
@@ -81,30 +77,6 @@ fn refusal_reply(alloc: Global, command: &Envelope, why: Status) -> Result<Bytes
     Ok(Bytes::new(acknowledge(alloc, Some(&command.name), Some(command.id), Some(why))?))
 }
 
-/// Whether an id is none that a command may have, or is pending already.
-pub fn is_wrong_id(queue: &Queue<Job>, client: ClientId, id: u64) -> bool
-    ensures { result ≡ is_wrong_id (pending_in client queue.now) id }
-{
-    !is_request_id(id) || queue.holds(client, id)
-}
-
-/// 32 commands of the client are pending, or 256 at the service.
-pub fn is_crowded(queue: &Queue<Job>, client: ClientId) -> bool
-    ensures { result ≡ is_crowded queue.now client }
-{
-    let commands = queue.commands();
-    count_of(commands, client) >= 32 || commands.len() >= 256
-}
-
-fn count_of(commands: &[Command<Job>], client: ClientId) -> usize
-    ensures { result ≡ count_by (is_of client) commands.now }
-{
-    commands
-        .iter()
-        .filter(|command| command.client.0 == client.0)
-        .count()
-}
-
 /// The acknowledge of a command that is taken in.
 pub fn acceptance_reply(alloc: Global, command: &Envelope) -> Result<Bytes, Memory>
     ensures { IfOk result (λ f. IsAcknowledge (Some command.now.id) (Some command.now.name) None f) }
@@ -117,33 +89,30 @@ pub fn accept(
     alloc: Global,
     traffic: &mut Traffic,
     sender: Sender,
-    line: Line,
+    known: Known,
     command: Envelope,
     now: Moment,
 ) -> Result<(), Memory>
     requires moment { now.0 ≤ LAST_MOMENT }
-    requires line { line_of sender.service command.name ≡ Some line }
-    requires free { is_wrong_id (pending_in sender.client (queue_of traffic.old.queues sender.service)) command.id ≡ false }
-    requires roomy { is_crowded (queue_of traffic.old.queues sender.service) sender.client ≡ false }
-    ensures ok { OnOk result (IsAccepted now sender line (said command) traffic.old traffic.new) }
+    requires free { offer_fault (queue_of traffic.old.queues sender.service) sender.client command.id ≡ None }
+    ensures ok { OnOk result (IsAccepted now sender known (said command) traffic.old traffic.new) }
     ensures err { OnErr result (traffic.new ≡ traffic.old) }
 {
     let reply = acceptance_reply(alloc, &command)?;
-    let ask = ask_of(
-        alloc,
-        sender.service,
-        line,
-        command.name.as_str(),
-        &command.payload,
-    )?;
+    let ask = ask_of(alloc, known, &command.payload)?;
     let ticket = Ticket {
         client: sender.client,
         id: command.id,
     };
     let job = Job::new(command.name, ask);
-    traffic
-        .queues
-        .offer(sender.service, ticket, line, command.timeout, now, job)?;
+    traffic.queues.offer(
+        sender.service,
+        ticket,
+        line_of(known),
+        command.timeout,
+        now,
+        job,
+    )?;
     match traffic
         .connections
         .send(sender.service, sender.client, reply)

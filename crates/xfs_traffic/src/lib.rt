@@ -17,11 +17,9 @@ mod running_plan;
 mod stopping;
 mod traffic;
 
-pub use accepting::{
-    Sender, accept, acceptance_reply, is_crowded, is_wrong_id, refuse, refuse_text,
-};
+pub use accepting::{Sender, accept, acceptance_reply, refuse, refuse_text};
 pub use answering::answer_first;
-pub use asks::line_of;
+pub use asks::known_of;
 pub use connection::Connection;
 pub use connections::{Connections, is_service};
 pub use devices::{Devices, fail_card, fail_keys, press_key, put_card, take_card};

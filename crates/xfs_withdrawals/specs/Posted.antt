@@ -4,7 +4,9 @@ use Rattle.xfs_base.specs.declared.moment.Moment.{Moment}
 use Rattle.xfs_base.specs.declared.moment.Service.TheVariants.{Cash}
 use Rattle.xfs_conversation.specs.Pending.{is_request_id}
 use Rattle.xfs_dispenser.specs.Asks.{ask_of}
+use Rattle.xfs_dispenser.specs.Commands.{command_of}
 use Rattle.xfs_dispenser.specs.declared.ask.CashAsk.{CashAsk}
+use Rattle.xfs_dispenser.specs.declared.command.CashCommand.{CashCommand}
 use Rattle.xfs_envelope.specs.Commands as envelope
 use Rattle.xfs_envelope.specs.Commands.{command_in}
 use Rattle.xfs_model.specs.Connections.{connection_of}
@@ -27,7 +29,9 @@ pub record IsPosted (ask : CashAsk) (s new : State) : Type 0 where
   pub command : envelope.Command
   pub reads : command_in text ≡ Ok command
   pub id : is_request_id command.id ≡ true
-  pub asks : ask_of command.name command.payload ≡ Ok ask
+  pub kind : CashCommand
+  pub named : command_of command.name ≡ Some kind
+  pub asks : ask_of kind command.payload ≡ Ok ask
 
 -- a command that was posted is accepted, and is next: its acknowledge waits behind what waited before, and what is seen of the guard stays
 pub record IsAccepted (ask : CashAsk) (s new : State) (posted : IsPosted ask s new) : Type 0 where

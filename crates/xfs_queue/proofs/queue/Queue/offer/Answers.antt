@@ -8,4 +8,4 @@ invariant_of-self-2 g c =
     let q = c.self.inside.commands.items in
     let a = offered c.args.client c.args.id c.args.line c.args.timeout c.args.now c.args.job in
     rw (c.push_reserved.ensures.items, c.reserve.ensures.items)
-    (whole_offered q a c.self.inside.deadlines c.add_entry.new.deadlines (sym (rw c.deref.ensures.value at c.in-None.ensures)) refl c.self.invariant (rw c.entry.ensures at c.in-Ok.ensures.ok))
+    (whole_offered q a c.self.inside.deadlines c.add_entry.new.deadlines (sym (rw (sym c.self.view_is) at c.in-None.ensures)) refl c.self.invariant (rw c.entry.ensures at c.in-Ok.ensures.ok))

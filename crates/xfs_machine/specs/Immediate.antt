@@ -1,0 +1,14 @@
+-- Which of the commands that are done at once are told of the machine alone.
+use Rattle.std.specs.Prelude.{Bool, true, false, Option, None, Some}
+use Rattle.xfs_common.specs.declared.command.Immediate.{Immediate}
+use Rattle.xfs_common.specs.declared.command.Immediate.TheVariants.{Status, Capabilities, Cancel, GetServices, GetStorage, GetPresentStatus}
+
+-- a Cancel does something, and what a GetPresentStatus tells is a token; a name that is not known is told too
+abbrev pub is_told : Option Immediate → Bool
+is_told None = true
+is_told (Some Status) = true
+is_told (Some Capabilities) = true
+is_told (Some Cancel) = false
+is_told (Some GetServices) = true
+is_told (Some GetStorage) = true
+is_told (Some GetPresentStatus) = false
