@@ -15,9 +15,8 @@ ghost use Rattle.xfs_model.specs.Frames.{IsAcknowledge, IsCompletion};
 ghost use Rattle.xfs_common.specs.Payloads.{capabilities_payload, status_payload};
 ghost use Rattle.xfs_common.specs.declared.error.ErrorCode.TheVariants.{NoMatchingRequestIds};
 ghost use Rattle.xfs_model.specs.Immediate.{ids_of, told_of};
-ghost use Rattle.xfs_model.specs.Results.{error, plain, success};
-ghost use Rattle.xfs_envelope.specs.declared.code.Code.TheVariants.{InvalidCommand};
 ghost use Rattle.xfs_machine.specs.Immediate.{is_told};
+ghost use Rattle.xfs_model.specs.Results.{error, success};
 ghost use Rattle.xfs_units.specs.Payloads.{storage_payload};
 ghost use Rattle.xfs_model.specs.Posts.{DoesAtOnce};
 ghost use Rattle.xfs_model.specs.State.{Connection as ConnectionView, Queues as QueuesView, State};
@@ -61,11 +60,13 @@ pub(crate) fn do_at_once<M: Mechanism, D: Disk>(
             let outcome = told_present_status(alloc, guard, &command.payload)?;
             complete(alloc, connections, sender, command, &outcome)
         }
-        Some(Immediate::Status) => answer(alloc, guard, connections, sender, command, asked),
-        Some(Immediate::Capabilities) => answer(alloc, guard, connections, sender, command, asked),
-        Some(Immediate::GetServices) => answer(alloc, guard, connections, sender, command, asked),
-        Some(Immediate::GetStorage) => answer(alloc, guard, connections, sender, command, asked),
-        None => answer(alloc, guard, connections, sender, command, asked),
+        Some(
+            Immediate::Status
+            | Immediate::Capabilities
+            | Immediate::GetServices
+            | Immediate::GetStorage,
+        )
+        | None => answer(alloc, guard, connections, sender, command, asked),
     }
 }
 
@@ -126,16 +127,10 @@ fn tell<M: Mechanism, D: Disk>(
         Some(Immediate::Capabilities) => tell_capabilities(alloc, service),
         Some(Immediate::GetServices) => Ok(Outcome::new(Code::Success, services(alloc)?)),
         Some(Immediate::GetStorage) => tell_storage(alloc, guard),
-        Some(Immediate::Cancel) => Ok(invalid(alloc)),
-        Some(Immediate::GetPresentStatus) => Ok(invalid(alloc)),
-        None => Ok(invalid(alloc)),
+        Some(Immediate::Cancel | Immediate::GetPresentStatus) | None => {
+            Ok(Outcome::new(Code::InvalidCommand, nothing(alloc)))
+        }
     }
-}
-
-fn invalid(alloc: Global) -> Outcome
-    ensures { result ≡ plain InvalidCommand }
-{
-    Outcome::new(Code::InvalidCommand, nothing(alloc))
 }
 
 // The dispenser is out of order while its journal takes no more records.
