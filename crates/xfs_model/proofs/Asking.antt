@@ -1,5 +1,5 @@
 -- A command that is accepted asks what its service does on its line.
-use Rattle.std.proofs.Common.{◌≡◌, Bool, true, false, ℕ, List, [], ◌∷◌, Option, None, Some, option_map, is_none, refl, subst, inl, inr}
+use Rattle.std.proofs.Common.{◌≡◌, true, ℕ, List, [], ◌∷◌, Option, None, Some, option_map, is_none, refl, subst, inl, inr}
 use Rattle.std.specs.List.{list_all}
 use Rattle.std.specs.Map.{lookup}
 use Rattle.std.specs.Option.{option_or}

@@ -1,7 +1,6 @@
 -- A command is marked for a reason.
-use Rattle.std.proofs.Common.{◌≡◌, ◌⊎◌, ℕ, zero, suc, ◌<◌, ◌==◌, ◌&&◌, ◌||◌, not, Bool, true, false, cond, MatchBool, MatchOption, List, [], ◌∷◌, ◌++◌, Option, None, Some, Result, Ok, Err, length, get_or, map, filter, All, codes, subst, refl, sym, ◌∙◌, inl, inr, arith}
+use Rattle.std.proofs.Common.{◌≡◌, ◌⊎◌, ℕ, zero, suc, ◌<◌, ◌==◌, ◌&&◌, ◌||◌, not, Bool, true, false, cond, MatchBool, MatchOption, List, [], ◌∷◌, ◌++◌, Option, None, Some, Result, Ok, Err, length, get_or, map, filter, All, subst, refl, sym, ◌∙◌, inl, inr, arith}
 use Rattle.std.specs.List.{list_any}
-use Rattle.std.specs.Str.{bytes_eq}
 use Rattle.std.proofs.lemmas.Bool.{cases_Bool, and_parts, eq-eqb, eqb-true, false≢true}
 use Rattle.std.proofs.lemmas.List.Elements.{All-filter, All-map, All-nil, All-push}
 use Rattle.xfs_base.specs.declared.moment.Moment.{Moment}
@@ -40,7 +39,7 @@ use Rattle.xfs_model.specs.Commands.{known_of, line_of}
 use Rattle.xfs_model.specs.Connections.{announced, connection_of, is_service, left, sent, with_queue_at, without_mail}
 use Rattle.xfs_model.specs.Devices.{Hears, Saying, card_says, device_stopped, keyboard_says, with_keypad, with_saying, with_slot}
 use Rattle.xfs_model.specs.Events.{Answer, Event, join, post, touch, work, outbox, leave, restart, end_, finish, joined, full, done, handed, restarted, unrestarted, ended, unsettled}
-use Rattle.xfs_model.specs.Immediate.{AtOnce, canceling, done_at_once, ids_of, stop, stopped, told_of}
+use Rattle.xfs_model.specs.Immediate.{AtOnce, canceling, done_at_once, ids_of, stop, stopped}
 use Rattle.xfs_model.specs.Pendings.{pending_in}
 use Rattle.xfs_model.specs.Posts.{Accepts, Refuses, TakesText, TakesOn, job_of}
 use Rattle.xfs_model.specs.Results.{changed, error, plain, success, with_result}
@@ -55,7 +54,6 @@ use Rattle.xfs_model.specs.Causes.{IsCancelOf, IsMarked, IsOwnPass, MarksHaveCau
 use Rattle.xfs_model.proofs.Changes.{each}
 use Rattle.xfs_model.proofs.AtOnce.{by_command}
 use Rattle.xfs_model.proofs.Wanting.{unmoved}
-use Rattle.std.proofs.lemmas.Slice.Eq.{bytes_eq-Decides}
 use Rattle.xfs_queue.specs.declared.command.Ticket.{Ticket}
 use Rattle.xfs_queue.specs.Commands.{is_ticket, names}
 

@@ -1,7 +1,6 @@
 -- The pending commands of a client, after each change of its service's queue.
-use Rattle.std.proofs.Common.{◌≡◌, ℕ, zero, ◌==◌, ◌&&◌, ◌||◌, not, Bool, true, false, cond, codes, List, [], ◌∷◌, ◌++◌, Option, Some, Result, Ok, Err, map, filter, find, Contains, refl, ap, ◌∙◌, inl, inr, arith}
+use Rattle.std.proofs.Common.{◌≡◌, ℕ, zero, ◌==◌, ◌&&◌, ◌||◌, not, Bool, true, false, cond, List, [], ◌∷◌, ◌++◌, Option, Some, Result, Ok, Err, map, filter, find, Contains, refl, ap, ◌∙◌, inl, inr, arith}
 use Rattle.std.specs.List.{list_any, cons_option}
-use Rattle.std.specs.Str.{bytes_eq}
 use Rattle.std.proofs.lemmas.Bool.{cases_Bool, and_parts, eqb-true}
 use Rattle.std.proofs.lemmas.List.{append-nil}
 use Rattle.std.proofs.lemmas.List.Elements.{filter_map-append, Contains-append_right}
@@ -24,7 +23,7 @@ use Rattle.xfs_model.proofs.AtOnce.{by_command}
 use Rattle.xfs_model.specs.State.{Connection, Job, State, queue_at}
 use Rattle.xfs_model.specs.Pendings.{job_pending, known_to, pending_in}
 use Rattle.xfs_model.specs.Results.{changed, error, plain, success, with_result}
-use Rattle.xfs_model.specs.Immediate.{AtOnce, canceling, done_at_once, ids_of, stop, stopped, told_of}
+use Rattle.xfs_model.specs.Immediate.{AtOnce, canceling, done_at_once, ids_of, stop, stopped}
 
 -- a change that keeps client, id and name
 pub pending-map : (mine : ClientId) (f : Command Job → Command Job) → ((a : Command Job) → known_to mine (f a) ≡ known_to mine a) → (q : List (Command Job)) → pending_in mine (map f q) ≡ pending_in mine q

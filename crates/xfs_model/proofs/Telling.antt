@@ -1,9 +1,8 @@
 -- Each frame that a step sends, and each result that it makes, tells what stands in the journal.
-use Rattle.std.proofs.Common.{◌≡◌, ℕ, ◌+◌, ◌==◌, ◌&&◌, not, Bool, true, false, cond, MatchBool, MatchOption, List, [], ◌∷◌, Option, None, Some, Result, Ok, Err, length, map, All, codes, refl, ap, sym, subst}
+use Rattle.std.proofs.Common.{◌≡◌, ℕ, ◌+◌, ◌==◌, not, Bool, true, false, cond, MatchBool, MatchOption, List, [], ◌∷◌, Option, None, Some, Result, Ok, Err, length, map, All, refl, ap, sym, subst}
 use Rattle.std.specs.Prelude.{⊤, drop}
 use Rattle.std.specs.List.{list_any}
 use Rattle.std.specs.Option.{IfSome, option_and_then}
-use Rattle.std.specs.Str.{bytes_eq}
 use Rattle.std.proofs.lemmas.List.Elements.{All-append, All-cons, All-filter, All-map, All-nil, All-push}
 use Rattle.std.proofs.lemmas.Option.{none-some}
 use Rattle.serde_json.specs.Data.{Data}
@@ -26,7 +25,7 @@ use Rattle.xfs_envelope.specs.Commands as envelope
 use Rattle.xfs_envelope.specs.Replies.{Reply, acknowledge, completion, event as event_reply, reply_in, unsolicited}
 use Rattle.xfs_envelope.specs.declared.code.Code.{Code}
 use Rattle.xfs_envelope.specs.declared.code.Status.{Status}
-use Rattle.xfs_envelope.specs.declared.code.Code.TheVariants.{InvalidCommand, TimeOut}
+use Rattle.xfs_envelope.specs.declared.code.Code.TheVariants.{TimeOut}
 use Rattle.xfs_envelope.specs.declared.code.Status.TheVariants.{InvalidRequestId, TooManyRequests}
 use Rattle.xfs_envelope.specs.declared.command.Refuse.{Refuse}
 use Rattle.xfs_guard.specs.View.{View}

@@ -1,7 +1,6 @@
 -- What a step makes of each pending command: whatever holds of the commands before it, each command after it came of one of them in one of these ways, or was accepted.
-use Rattle.std.proofs.Common.{◌≡◌, ℕ, ◌&&◌, ◌||◌, not, Bool, true, false, cond, MatchBool, MatchOption, List, [], ◌∷◌, Option, None, Some, Result, Ok, Err, length, get_or, map, filter, find, All, AllPairs, codes, refl, ap, sym, subst, ◌∙◌, inl, inr}
+use Rattle.std.proofs.Common.{◌≡◌, ℕ, ◌&&◌, ◌||◌, not, Bool, true, false, cond, MatchBool, MatchOption, List, [], ◌∷◌, Option, None, Some, Result, Ok, Err, length, get_or, map, filter, find, All, AllPairs, refl, ap, sym, subst, ◌∙◌, inl, inr}
 use Rattle.std.specs.List.{list_any}
-use Rattle.std.specs.Str.{bytes_eq}
 use Rattle.std.proofs.lemmas.Bool.{cases_Bool, and_parts, false≢true}
 use Rattle.std.proofs.lemmas.List.Elements.{All-filter, All-map, All-nil, All-push}
 use Rattle.serde_json.specs.Data.{Data}
@@ -53,7 +52,7 @@ use Rattle.xfs_model.specs.Connections.{announced, connection_of, is_service, le
 use Rattle.xfs_model.specs.Devices.{Hears, Saying, card_says, device_stopped, keyboard_says, with_keypad, with_saying, with_slot}
 use Rattle.xfs_model.specs.Events.{Answer, Event, join, post, touch, work, outbox, leave, restart, end_, finish, joined, full, done, handed, restarted, unrestarted, ended, unsettled}
 use Rattle.xfs_model.specs.Guards.{Expires, NonceCommand, cleared_, ended as over, issued, none_to_clear, refused, uncleared, unended, unissued}
-use Rattle.xfs_model.specs.Immediate.{AtOnce, canceling, done_at_once, ids_of, stop, stopped, told_of}
+use Rattle.xfs_model.specs.Immediate.{AtOnce, canceling, done_at_once, ids_of, stop, stopped}
 use Rattle.xfs_model.specs.Kept.{IsMachine}
 use Rattle.xfs_model.specs.Pendings.{pending_in}
 use Rattle.xfs_model.specs.Posts.{Accepts, Refuses, TakesText, TakesOn, job_of}

@@ -14,7 +14,7 @@ pub returns-in_ok-outcome-in-Some-GetPresentStatus-clause-ok : goal.returns-in_o
 returns-in_ok-outcome-in-Some-GetPresentStatus-clause-ok g c =
     let arm = c.in-Some-GetPresentStatus in
     let named : immediate_of c.args.sender.service c.args.command.now.name ≡ Some GetPresentStatus =
-        ap (immediate_of c.args.sender.service) (sym c.as_str.ensures.text) ∙ sym c.named-asked.ensures ∙ arm.is ∙ ap (λ (a : Immediate). Some a) (rw arm.is at arm.field-0-is) in
+    ap (immediate_of c.args.sender.service) (sym c.as_str.ensures.text) ∙ sym c.named-asked.ensures ∙ arm.is ∙ ap (λ (a : Immediate). Some a) (rw arm.is at arm.field-0-is) in
     on_ok_weaker c.complete.result (λ completed s k client service guard.
     tells_presents s k c.args.sender client service (said c.args.command.now) c.in_ok-outcome-in-Some-GetPresentStatus.outcome c.args.traffic.now c.complete.new.connections
     named (rw guard c.in_ok-outcome-in-Some-GetPresentStatus.ensures) completed) c.complete.ensures.ok
