@@ -1,3 +1,4 @@
 pub mod Next
+pub mod Offer
 pub mod Received
 pub mod Timeout

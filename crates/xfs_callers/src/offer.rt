@@ -1,7 +1,7 @@
 //! A caller of xfs_mix.
 
-ghost use Rattle.std.specs.Prelude.{◌≡◌, ◌≤◌, ◌<◌, IfOk, IfSome, None, Ok, sum};
-ghost use Rattle.xfs_base.specs.declared.counts.Counts.{Counts};
+ghost use Rattle.std.specs.Prelude.{◌≡◌, ◌≤◌, IfOk, IfSome, None, Ok, sum};
+ghost use Rattle.xfs_callers.specs.Offer.{TakesTooMany};
 ghost use Rattle.xfs_mix.specs.Mix.{IsLeast, IsMix};
 
 use std::alloc::Global;
@@ -20,8 +20,7 @@ pub fn notes_for(
     ensures mix { IfOk result (λ found. IfSome found (IsMix units.now have.now currency amount)) }
     ensures least { IfOk result (λ found. IfSome found (IsLeast units.now have.now currency amount)) }
     ensures notes { IfOk result (λ found. IfSome found (λ notes. sum notes.0 ≤ 60)) }
-    ensures none { result ≡ Ok None → 1 ≤ amount → amount ≤ 1000000
-        → (notes : Counts) → IsMix units.now have.now currency amount notes → 60 < sum notes.0 }
+    ensures none { result ≡ Ok None → TakesTooMany units.now have.now currency amount }
 {
     if amount == 0 || amount > 1_000_000 {
         return Ok(None);
