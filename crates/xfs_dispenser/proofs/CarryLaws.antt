@@ -18,6 +18,7 @@ use Rattle.xfs_guard.specs.declared.deny.Deny.TheVariants.{Disk, Memory}
 use Rattle.xfs_dispenser.specs.Carried.{CarriesOut, FollowsUnit, IsStopped, Stacks, StacksFirst, StacksUnit, nothing_stacked, with_stacked}
 use Rattle.xfs_dispenser.specs.Seen.{Seen, seen}
 use Rattle.xfs_dispenser.specs.Steps.{order_record, refusal_of}
+use Rattle.xfs_dispenser.specs.Units.{units_with}
 use Rattle.xfs_dispenser.proofs.DenyLaws.{due-disk, due-some, is_disk}
 use Rattle.xfs_dispenser.proofs.PlanLaws.{units_from, units-some}
 
@@ -79,12 +80,16 @@ stacks-units issue (suc n ∷ counts) u all s result next h = subst (λ us. Stac
     (unit-as (StacksFrom issue counts (u + 1)) (Stacks issue (units_from (u + 1 + 1) counts)) (λ all s result next more. stacks-units issue counts (u + 1) all s result next more)
     s (Stack issue (u + 1) (suc n)) all u (u + 1 - 1) result next (unit-before u) h)
 
-pub stacks-from-units : (issue : ℕ) (counts : List ℕ) (u : ℕ) (all : Outcome) (s : Seen) (result : Result Outcome Deny) (next : Seen) → Stacks issue (units_from (u + 1) counts) all s result next → StacksFrom issue counts u all s result next
+stacks-from-units : (issue : ℕ) (counts : List ℕ) (u : ℕ) (all : Outcome) (s : Seen) (result : Result Outcome Deny) (next : Seen) → Stacks issue (units_from (u + 1) counts) all s result next → StacksFrom issue counts u all s result next
 stacks-from-units issue [] u all s result next h = h
 stacks-from-units issue (zero ∷ counts) u all s result next h = stacks-from-units issue counts (u + 1) all s result next h
 stacks-from-units issue (suc n ∷ counts) u all s result next h =
     unit-as (Stacks issue (units_from (u + 1 + 1) counts)) (StacksFrom issue counts (u + 1)) (λ all s result next more. stacks-from-units issue counts (u + 1) all s result next more)
     s (Stack issue (u + 1) (suc n)) all (u + 1 - 1) u result next (sym (unit-before u)) (subst (λ us. Stacks issue us all s result next) (units-some (u + 1) n counts) h)
+
+-- stacking the units of which there are notes is stacking the counts from the first unit on
+pub stacks-counts : (issue : ℕ) (counts : List ℕ) (all : Outcome) (s : Seen) (result : Result Outcome Deny) (next : Seen) → Stacks issue (units_with counts) all s result next → StacksFrom issue counts 0 all s result next
+stacks-counts issue counts all s result next h = stacks-from-units issue counts 0 all s result next h
 
 -- the units of the first counts are the first units
 units-first : (unit k : ℕ) (counts : List ℕ) → units_from unit (take k counts) ≡ take (length (units_from unit (take k counts))) (units_from unit counts)

@@ -1,5 +1,5 @@
 pub mod BeginLaws
-mod CarryLaws
+pub mod CarryLaws
 mod CommandLaws
 pub mod CompleteLaws
 mod CurrencyLaws

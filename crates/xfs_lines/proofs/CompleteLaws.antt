@@ -44,7 +44,7 @@ use Rattle.xfs_dispenser.specs.declared.refusal.Refusal.{Refusal}
 use Rattle.xfs_dispenser.specs.declared.refusal.Refusal.TheVariants.{Deny as Denied}
 use Rattle.xfs_lines.proofs.DispenseLaws.{IsLet, is-let}
 use Rattle.xfs_lines.proofs.GuardStateLaws.{told-some}
-use Rattle.xfs_dispenser.proofs.CarryLaws.{stacks-from-units}
+use Rattle.xfs_dispenser.proofs.CarryLaws.{stacks-counts}
 use Rattle.xfs_dispenser.proofs.CompleteLaws.{fault-none, some-gained, some-nonce}
 use Rattle.xfs_dispenser.proofs.StackLaws.{present-places}
 use Rattle.xfs_dispenser.proofs.TurnLaws.{IsLater, calm-rest}
@@ -153,7 +153,7 @@ ordered-full s next token bytes line counts eight is c calm o =
     let calm-on = calm-rest (guard_of s) (guard_of o.bound) (guard_of next) (bound-later c.binding) calm in
     let stacked = rw l.counts_are at o.stacked in
     let all = stacks-full o.grant.issue c.amounts counts.0 0 [] nothing_stacked (guard_of o.bound) o.result (guard_of next) refl (omega (arith, eight)) refl (rw eight refl)
-    (rw eight ready.0) ready.1 calm-on (stacks-from-units o.grant.issue counts.0 0 nothing_stacked (guard_of o.bound) o.result (guard_of next) stacked) in
+    (rw eight ready.0) ready.1 calm-on (stacks-counts o.grant.issue counts.0 nothing_stacked (guard_of o.bound) o.result (guard_of next) stacked) in
     let told : IsOrderLine (codes "moved") (Ok all.outcome) line = rw all.is at o.told in
     let lives = some-nonce (live_nonce next.guard.records) o.grant.issue all.open_for.lives in
     let gained : (u : ℕ) → at next.guard.places.transport u ≡ at s.guard.places.transport u + at counts u = (λ u. rw ready.2 at (all.transport u)) in
