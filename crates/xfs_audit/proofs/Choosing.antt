@@ -15,7 +15,7 @@ use Rattle.xfs_envelope.specs.Replies.{Reply, reply_in, acknowledge, event, comp
 use Rattle.xfs_conversation.specs.Answers.{is_invalid_message}
 use Rattle.xfs_conversation.specs.Parts.{EachFrame}
 use Rattle.xfs_conversation.specs.Pending.{Pending, pending_of}
-use Rattle.xfs_audit.specs.Conversing.{Acknowledges, misread, refused, accepted, Says, completed, told, announced, Converses, ended, posted, heard, ids_of, IsWithout}
+use Rattle.xfs_audit.specs.Conversing.{Acknowledges, misread, refused, accepted, Says, completed, told, announced, Converses, ended, posted, heard, pending_ids, IsWithout}
 use Rattle.xfs_audit.specs.Fitting.{status_in, ended_in, event_id_in, statuses, completions, asked, accepted_by, is_among, unended, Ends, HasOpenId, Fits}
 use Rattle.xfs_audit.proofs.Counting.{split-contains, contains-split}
 use Rattle.xfs_audit.proofs.Unended.{unended-push, unended-without, unended-found, among-other}
@@ -47,7 +47,7 @@ record FitsFrom (acc : List Pending) (done : List ℕ) (ids : List ℕ) (texts f
   acknowledges : map is_invalid_message (statuses frames) ≡ texts_are texts
   ends : EachFrame frames (λ before frame. IfSome (ended_in (reply_in frame)) (EndsAt (all_by acc texts before) (ended_by done choice before) (pick_at choice before)))
   tells : EachFrame frames (λ before frame. IfSome (event_id_in (reply_in frame)) (TellsAt (all_by acc texts before) (ended_by done choice before)))
-  left : ids_of (unended 0 (done ++ choice) (all_by acc texts frames)) ≡ ids
+  left : pending_ids (unended 0 (done ++ choice) (all_by acc texts frames)) ≡ ids
   answers : EachFrame frames (λ before frame. IsSome (reply_in frame))
 
 -- behind one frame what was accepted and ended is the same, told from there
@@ -134,7 +134,7 @@ tail-of {acc = acc} {next = next} {done = done} {gone = gone} {ids = ids} {texts
   acknowledges = acknowledges;
   ends = λ before after g is. move-ends _ (moves.all before) (moves.ended before) (moves.pick before) (f.ends (frame ∷ before) after g (ap (λ l. frame ∷ l) is));
   tells = λ before after g is. move-tells _ (moves.all before) (moves.ended before) (f.tells (frame ∷ before) after g (ap (λ l. frame ∷ l) is));
-  left = subst (λ ps. ids_of (unended 0 (gone ++ rest) ps) ≡ ids) (moves.all frames) (subst (λ l. ids_of (unended 0 l (all_by acc texts (frame ∷ frames))) ≡ ids) moves.whole f.left);
+  left = subst (λ ps. pending_ids (unended 0 (gone ++ rest) ps) ≡ ids) (moves.all frames) (subst (λ l. pending_ids (unended 0 l (all_by acc texts (frame ∷ frames))) ≡ ids) moves.whole f.left);
   answers = λ before after g is. f.answers (frame ∷ before) after g (ap (λ l. frame ∷ l) is);
 }
 
@@ -157,7 +157,7 @@ head-of {acc = acc} {next = next} {done = done} {gone = gone} {ids = ids} {texts
       (λ before after g is. move-ends _ (sym (moves.all before)) (sym (moves.ended before)) (sym (moves.pick before)) (f.ends before after g is));
   tells = each-cons (λ before g. IfSome (event_id_in (reply_in g)) (TellsAt (all_by acc texts before) (ended_by done choice before))) frame frames tells
       (λ before after g is. move-tells _ (sym (moves.all before)) (sym (moves.ended before)) (f.tells before after g is));
-  left = subst (λ ps. ids_of (unended 0 (done ++ choice) ps) ≡ ids) (sym (moves.all frames)) (subst (λ l. ids_of (unended 0 l (all_by next later frames)) ≡ ids) (sym moves.whole) f.left);
+  left = subst (λ ps. pending_ids (unended 0 (done ++ choice) ps) ≡ ids) (sym (moves.all frames)) (subst (λ l. pending_ids (unended 0 l (all_by next later frames)) ≡ ids) (sym moves.whole) f.left);
   answers = each-cons (λ before g. IsSome (reply_in g)) frame frames some f.answers;
 }
 
@@ -253,7 +253,7 @@ none-more acc done ids (text ∷ texts) bound f = let e = f.acknowledges in absu
 none-more acc done ids [] bound f =
     let nothing : f.choice ≡ [] = no-items f.choice f.each in
     let over : done ++ f.choice ≡ done = ap (λ l. done ++ l) nothing ∙ append-nil done in
-    ended (subst (λ l. ids_of (unended 0 l acc) ≡ ids) over (subst (λ l. ids_of (unended 0 (done ++ f.choice) l) ≡ ids) (append-nil acc) f.left))
+    ended (subst (λ l. pending_ids (unended 0 l acc) ≡ ids) over (subst (λ l. pending_ids (unended 0 (done ++ f.choice) l) ≡ ids) (append-nil acc) f.left))
 
 speaks : (frames : List (List ℕ)) → Speaks frames
 speaks [] = none-more
@@ -286,14 +286,14 @@ nothing-said : (P : List (List ℕ) → List ℕ → Type 0) → EachFrame [] P
 nothing-said P [] later f is = absurd cc
 nothing-said P (b ∷ before) later f is = absurd cc
 
-fits-end : (ids : List ℕ) (pending : List Pending) → ids_of pending ≡ ids → FitsWhere ids pending [] []
+fits-end : (ids : List ℕ) (pending : List Pending) → pending_ids pending ≡ ids → FitsWhere ids pending [] []
 fits-end ids pending same acc done bound is = record {
   choice = [];
   each = refl;
   acknowledges = refl;
   ends = nothing-said _;
   tells = nothing-said _;
-  left = subst (λ l. ids_of (unended 0 l (acc ++ [])) ≡ ids) (sym (append-nil done)) (subst (λ l. ids_of (unended 0 done l) ≡ ids) (sym (append-nil acc)) (ap ids_of (sym is) ∙ same));
+  left = subst (λ l. pending_ids (unended 0 l (acc ++ [])) ≡ ids) (sym (append-nil done)) (subst (λ l. pending_ids (unended 0 done l) ≡ ids) (sym (append-nil acc)) (ap pending_ids (sym is) ∙ same));
   answers = nothing-said _;
 }
 

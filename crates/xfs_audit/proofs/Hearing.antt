@@ -11,7 +11,7 @@ use Rattle.xfs_conversation.proofs.Once.{differ_of}
 use Rattle.xfs_conversation.specs.Conversation as lawful
 use Rattle.xfs_conversation.specs.Conversation.{Conversation}
 use Rattle.xfs_conversation.specs.Pending.{Pending, has_id, without_id}
-use Rattle.xfs_audit.specs.Conversing.{Acknowledges, misread, refused, accepted, Says, completed, told, announced, Converses, ended, posted, heard, ids_of, IsWithout}
+use Rattle.xfs_audit.specs.Conversing.{Acknowledges, misread, refused, accepted, Says, completed, told, announced, Converses, ended, posted, heard, pending_ids, IsWithout}
 
 abbrev Differ : Pending → Pending → Type 0
 Differ p q = has_id q.id p ≡ false
@@ -60,8 +60,8 @@ goes_on ids (lawful.posted {texts = ts} {frames = fs} talk text frame answers) l
 goes_on ids (lawful.heard {texts = ts} {frames = fs} talk frame tells) later ahead h =
     rw (append_assoc fs (frame ∷ []) ahead) (goes_on ids talk later (frame ∷ ahead) (heard frame (says (differ_of talk) tells) h))
 
-pub converses : (texts frames : List (List ℕ)) (pending : List Pending) → Conversation texts frames pending → Converses (ids_of pending) [] texts frames
+pub converses : (texts frames : List (List ℕ)) (pending : List Pending) → Conversation texts frames pending → Converses (pending_ids pending) [] texts frames
 converses texts frames pending talk =
-    let ids : List ℕ = ids_of pending in
+    let ids : List ℕ = pending_ids pending in
     let whole : Converses ids [] (texts ++ []) (frames ++ []) = goes_on ids talk [] [] (ended refl) in
     subst (λ l. Converses ids [] l frames) (append-nil texts) (subst (λ l. Converses ids [] (texts ++ []) l) (append-nil frames) whole)

@@ -37,12 +37,12 @@ pub data Says (pending : List Pending) : Option Reply → List Pending → Type 
   announced : (name : List ℕ) (payload : Data) → Says pending (Some (unsolicited name payload)) pending
 
 -- the ids of these commands
-abbrev pub ids_of : List Pending → List ℕ
-ids_of pending = map (λ (p : Pending). p.id) pending
+abbrev pub pending_ids : List Pending → List ℕ
+pending_ids pending = map (λ (p : Pending). p.id) pending
 
 -- what is said from some frame on, where these commands are pending before it: the texts are acknowledged in their order, each frame says one of the above, and at the end the pending commands have these ids, in the order in which they were accepted
 pub data Converses (ids : List ℕ) : List Pending → List (List ℕ) → List (List ℕ) → Type 0 where
-  ended : {pending : List Pending} → ids_of pending ≡ ids → Converses ids pending [] []
+  ended : {pending : List Pending} → pending_ids pending ≡ ids → Converses ids pending [] []
   posted : {before after : List Pending} {texts frames : List (List ℕ)} (text frame : List ℕ) → Acknowledges before (command_in text) (reply_in frame) after
       → Converses ids after texts frames → Converses ids before (text ∷ texts) (frame ∷ frames)
   heard : {before after : List Pending} {texts frames : List (List ℕ)} (frame : List ℕ) → Says before (reply_in frame) after

@@ -1,5 +1,5 @@
 ghost use Rattle.std.specs.Prelude.{◌≡◌};
-ghost use Rattle.xfs_card.specs.Commands.{command_of};
+ghost use Rattle.xfs_card.specs.Commands.{card_command};
 
 /// The commands of the card reader, as XFS4IoT (CEN CWA) names them.
 #[derive(Clone, Copy)]
@@ -12,7 +12,7 @@ pub enum CardCommand {
 impl CardCommand {
     /// The command of this name.
     pub fn named(name: &str) -> Option<CardCommand>
-        ensures { result ≡ command_of name.now }
+        ensures { result ≡ card_command name.now }
     {
         match name {
             "CardReader.ReadRawData" => Some(CardCommand::ReadRawData),

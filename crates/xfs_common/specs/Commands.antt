@@ -10,8 +10,8 @@ use Rattle.xfs_common.specs.declared.command.Immediate.TheVariants.{Status, Capa
 use Rattle.xfs_common.specs.declared.command.CommonCommand.{CommonCommand}
 use Rattle.xfs_common.specs.declared.command.CommonCommand.TheVariants.{GetCommandNonce, ClearCommandNonce}
 
-abbrev pub commands : List (List ℕ × CommonCommand)
-commands =
+abbrev pub nonce_commands : List (List ℕ × CommonCommand)
+nonce_commands =
     (codes "Common.GetCommandNonce", GetCommandNonce)
     ∷ (codes "Common.ClearCommandNonce", ClearCommandNonce) ∷ []
 
@@ -32,8 +32,8 @@ own_immediates Cash =
     ∷ (codes "CashDispenser.GetPresentStatus", GetPresentStatus) ∷ []
 
 -- the command of a name
-abbrev pub command_of : List ℕ → Option CommonCommand
-command_of name = lookup (bytes_eq name) commands
+abbrev pub nonce_command : List ℕ → Option CommonCommand
+nonce_command name = lookup (bytes_eq name) nonce_commands
 
 abbrev pub own_immediate_of : Service → List ℕ → Option Immediate
 own_immediate_of service name = lookup (bytes_eq name) (own_immediates service)

@@ -1,5 +1,5 @@
 ghost use Rattle.std.specs.Prelude.{◌≡◌};
-ghost use Rattle.xfs_common.specs.Commands.{command_of, immediate_of, own_immediate_of};
+ghost use Rattle.xfs_common.specs.Commands.{nonce_command, immediate_of, own_immediate_of};
 
 use xfs_base::Service;
 
@@ -25,7 +25,7 @@ pub enum Immediate {
 impl CommonCommand {
     /// The command of this name.
     pub fn named(name: &str) -> Option<CommonCommand>
-        ensures { result ≡ command_of name.now }
+        ensures { result ≡ nonce_command name.now }
     {
         match name {
             "Common.GetCommandNonce" => Some(CommonCommand::GetCommandNonce),

@@ -5,8 +5,8 @@ use Rattle.std.specs.Str.{bytes_eq}
 use Rattle.xfs_dispenser.specs.declared.command.CashCommand.{CashCommand}
 use Rattle.xfs_dispenser.specs.declared.command.CashCommand.TheVariants.{Denominate, Dispense, Present, Reject, Reset, Retract, StartExchange, SetStorage, EndExchange}
 
-abbrev pub commands : List (List ℕ × CashCommand)
-commands =
+abbrev pub cash_commands : List (List ℕ × CashCommand)
+cash_commands =
     (codes "CashDispenser.Denominate", Denominate)
     ∷ (codes "CashDispenser.Dispense", Dispense)
     ∷ (codes "CashDispenser.Present", Present)
@@ -18,5 +18,5 @@ commands =
     ∷ (codes "Storage.EndExchange", EndExchange) ∷ []
 
 -- the command of a name
-abbrev pub command_of : List ℕ → Option CashCommand
-command_of name = lookup (bytes_eq name) commands
+abbrev pub cash_command : List ℕ → Option CashCommand
+cash_command name = lookup (bytes_eq name) cash_commands

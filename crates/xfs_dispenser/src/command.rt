@@ -1,5 +1,5 @@
 ghost use Rattle.std.specs.Prelude.{◌≡◌};
-ghost use Rattle.xfs_dispenser.specs.Commands.{command_of};
+ghost use Rattle.xfs_dispenser.specs.Commands.{cash_command};
 
 /// The commands of the cash dispenser that wait for it, as XFS4IoT (CEN CWA) names them in
 /// CashDispenser, CashManagement and Storage.
@@ -19,7 +19,7 @@ pub enum CashCommand {
 impl CashCommand {
     /// The command of this name.
     pub fn named(name: &str) -> Option<CashCommand>
-        ensures { result ≡ command_of name.now }
+        ensures { result ≡ cash_command name.now }
     {
         match name {
             "CashDispenser.Denominate" => Some(CashCommand::Denominate),

@@ -5,9 +5,9 @@ use Rattle.std.specs.Str.{bytes_eq}
 use Rattle.xfs_keyboard.specs.declared.command.KeysCommand.{KeysCommand}
 use Rattle.xfs_keyboard.specs.declared.command.KeysCommand.TheVariants.{DataEntry}
 
-abbrev pub commands : List (List ℕ × KeysCommand)
-commands = (codes "Keyboard.DataEntry", DataEntry) ∷ []
+abbrev pub keys_commands : List (List ℕ × KeysCommand)
+keys_commands = (codes "Keyboard.DataEntry", DataEntry) ∷ []
 
 -- the command of a name
-abbrev pub command_of : List ℕ → Option KeysCommand
-command_of name = lookup (bytes_eq name) commands
+abbrev pub keys_command : List ℕ → Option KeysCommand
+keys_command name = lookup (bytes_eq name) keys_commands

@@ -1,5 +1,5 @@
 ghost use Rattle.std.specs.Prelude.{◌≡◌};
-ghost use Rattle.xfs_keyboard.specs.Commands.{command_of};
+ghost use Rattle.xfs_keyboard.specs.Commands.{keys_command};
 
 /// The commands of the keyboard, as XFS4IoT (CEN CWA) names them.
 #[derive(Clone, Copy)]
@@ -10,7 +10,7 @@ pub enum KeysCommand {
 impl KeysCommand {
     /// The command of this name.
     pub fn named(name: &str) -> Option<KeysCommand>
-        ensures { result ≡ command_of name.now }
+        ensures { result ≡ keys_command name.now }
     {
         match name {
             "Keyboard.DataEntry" => Some(KeysCommand::DataEntry),

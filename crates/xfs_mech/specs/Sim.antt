@@ -20,8 +20,8 @@ abbrev pub motions_of : SimMech → List Motion
 motions_of m = m.motions.items
 
 -- its list, which it tells
-abbrev pub told : SimMech → Option (List Motion)
-told m = Some (motions_of m)
+abbrev pub list_of : SimMech → Option (List Motion)
+list_of m = Some (motions_of m)
 
 abbrev pub room_of : SimMech → ℕ
 room_of m = m.room

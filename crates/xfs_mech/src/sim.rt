@@ -113,9 +113,9 @@ impl Mechanism for SimMech {
     ghost use Rattle.xfs_mech.specs.Motions.{PlacesOf};
     ghost use Rattle.xfs_mech.specs.Mechanism.{source_of, PlacesFit, MayCarry, Reports, MayReport, UsesRoom, CanLoad, Loads, AddsEntry};
     ghost use Rattle.xfs_mech.specs.Faults.{StopsAt};
-    ghost use Rattle.xfs_mech.specs.Sim.{units_of, places_of, motions_of, told, room_of, failures_of, due, Counted, Uncounted};
+    ghost use Rattle.xfs_mech.specs.Sim.{units_of, places_of, motions_of, list_of, room_of, failures_of, due, Counted, Uncounted};
 
-    ghost motions = { told };
+    ghost motions = { list_of };
 
     ghost places = { places_of };
 
@@ -170,7 +170,7 @@ impl Mechanism for SimMech {
         requires room { 0 < room_of self.old }
         ensures lie { LiesIn result.moved (places_of self.old).outlet }
         ensures moved { MayReport result.moved result.diverted result.failed }
-        ensures reported { Reports (Taken result.moved) result.failed (told self.old) (told self.new) (places_of self.old) (places_of self.new) }
+        ensures reported { Reports (Taken result.moved) result.failed (list_of self.old) (list_of self.new) (places_of self.old) (places_of self.new) }
         ensures room { UsesRoom result.failed (room_of self.old) (room_of self.new) }
         ensures units { units_of self.new ≡ units_of self.old }
         ensures later { failures_of self.old ≤ failures_of self.new }
@@ -193,7 +193,7 @@ impl Mechanism for SimMech {
         requires fits { CanLoad (units_of self.old) (places_of self.old) unit count }
         ensures loaded { Loads unit count result.moved result.failed }
         ensures moved { MayReport result.moved result.diverted result.failed }
-        ensures reported { Reports (Loaded unit count) result.failed (told self.old) (told self.new) (places_of self.old) (places_of self.new) }
+        ensures reported { Reports (Loaded unit count) result.failed (list_of self.old) (list_of self.new) (places_of self.old) (places_of self.new) }
         ensures room { UsesRoom result.failed (room_of self.old) (room_of self.new) }
         ensures units { units_of self.new ≡ units_of self.old }
         ensures later { failures_of self.old ≤ failures_of self.new }

@@ -9,14 +9,14 @@ use Rattle.std.proofs.lemmas.Slice.Eq.{bytes_eq-Decides}
 use Rattle.serde_json.specs.Data.{Data}
 use Rattle.xfs_base.specs.declared.moment.Service.{Service}
 use Rattle.xfs_base.specs.declared.moment.Service.TheVariants.{Publisher, Card, Keys, Cash}
-use Rattle.xfs_card.specs.Commands.{command_of as card_command}
+use Rattle.xfs_card.specs.Commands.{card_command}
 use Rattle.xfs_card.specs.declared.command.CardCommand.{CardCommand}
-use Rattle.xfs_common.specs.Commands.{command_of as nonce_command, commands as nonce_commands}
+use Rattle.xfs_common.specs.Commands.{nonce_command, nonce_commands}
 use Rattle.xfs_common.specs.declared.command.CommonCommand.{CommonCommand}
 use Rattle.xfs_common.specs.declared.command.CommonCommand.TheVariants.{GetCommandNonce, ClearCommandNonce}
-use Rattle.xfs_dispenser.specs.Commands.{command_of as cash_command, commands as cash_commands}
+use Rattle.xfs_dispenser.specs.Commands.{cash_command, cash_commands}
 use Rattle.xfs_dispenser.specs.declared.command.CashCommand.{CashCommand}
-use Rattle.xfs_keyboard.specs.Commands.{command_of as keys_command}
+use Rattle.xfs_keyboard.specs.Commands.{keys_command}
 use Rattle.xfs_keyboard.specs.declared.command.KeysCommand.{KeysCommand}
 use Rattle.xfs_keyboard.specs.declared.command.KeysCommand.TheVariants.{DataEntry}
 use Rattle.xfs_queue.specs.declared.command.Line.TheVariants.{Nonce, Device}

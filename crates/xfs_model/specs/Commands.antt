@@ -5,13 +5,13 @@ use Rattle.serde_json.specs.Data.{Data}
 use Rattle.xfs_base.specs.declared.moment.Service.{Service}
 use Rattle.xfs_base.specs.declared.moment.Service.TheVariants.{Publisher, Card, Keys, Cash}
 use Rattle.xfs_card.specs.Asks as card_reader
-use Rattle.xfs_card.specs.Commands.{command_of as card_command}
-use Rattle.xfs_common.specs.Commands.{command_of as nonce_command}
+use Rattle.xfs_card.specs.Commands.{card_command}
+use Rattle.xfs_common.specs.Commands.{nonce_command}
 use Rattle.xfs_common.specs.declared.command.CommonCommand.TheVariants.{GetCommandNonce, ClearCommandNonce}
 use Rattle.xfs_dispenser.specs.Asks as dispenser
-use Rattle.xfs_dispenser.specs.Commands.{command_of as cash_command}
+use Rattle.xfs_dispenser.specs.Commands.{cash_command}
 use Rattle.xfs_keyboard.specs.Asks as keyboard
-use Rattle.xfs_keyboard.specs.Commands.{command_of as keys_command}
+use Rattle.xfs_keyboard.specs.Commands.{keys_command}
 use Rattle.xfs_keyboard.specs.declared.command.KeysCommand.TheVariants.{DataEntry}
 use Rattle.xfs_queue.specs.declared.command.Line.{Line}
 use Rattle.xfs_queue.specs.declared.command.Line.TheVariants.{Nonce, Device}

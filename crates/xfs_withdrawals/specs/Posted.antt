@@ -4,7 +4,7 @@ use Rattle.xfs_base.specs.declared.moment.Moment.{Moment}
 use Rattle.xfs_base.specs.declared.moment.Service.TheVariants.{Cash}
 use Rattle.xfs_conversation.specs.Pending.{is_request_id}
 use Rattle.xfs_dispenser.specs.Asks.{ask_of}
-use Rattle.xfs_dispenser.specs.Commands.{command_of}
+use Rattle.xfs_dispenser.specs.Commands.{cash_command}
 use Rattle.xfs_dispenser.specs.declared.ask.CashAsk.{CashAsk}
 use Rattle.xfs_dispenser.specs.declared.command.CashCommand.{CashCommand}
 use Rattle.xfs_envelope.specs.Commands as envelope
@@ -30,7 +30,7 @@ pub record IsPosted (ask : CashAsk) (s new : State) : Type 0 where
   pub reads : command_in text ≡ Ok command
   pub id : is_request_id command.id ≡ true
   pub kind : CashCommand
-  pub named : command_of command.name ≡ Some kind
+  pub named : cash_command command.name ≡ Some kind
   pub asks : ask_of kind command.payload ≡ Ok ask
 
 -- a command that was posted is accepted, and is next: its acknowledge waits behind what waited before, and what is seen of the guard stays
