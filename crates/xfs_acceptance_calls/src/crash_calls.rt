@@ -1,7 +1,8 @@
 //! A machine that is switched off behind an order that was carried out and not settled.
 
 ghost use Rattle.std.specs.Prelude.{◌≡◌, Some, IfOk, IfErr};
-ghost use Rattle.xfs_guard.specs.Booting.{LeavesRecorded};
+ghost use Rattle.xfs_guard.specs.Recorded.{IsRecorded};
+ghost use Rattle.xfs_guard.specs.Stored.{EachLeft};
 ghost use Rattle.xfs_guard.specs.declared.open.Open.TheVariants.{No};
 ghost use Rattle.xfs_mech.specs.Sim.{units_of, motions_of};
 
@@ -26,7 +27,7 @@ const TOKEN: &[u8] =
 /// The simulated machine over an empty disk.
 pub fn fresh(alloc: Global) -> Result<Core<SimMech, MemDisk>, Fail>
     ensures units { IfOk result (λ core. units_of core.mech ≡ core.units) }
-    ensures starts { IfOk result (λ core. LeavesRecorded ⟦<MemDisk as Disk>⟧ core.disk core.key core.units (Some (motions_of core.mech))) }
+    ensures starts { IfOk result (λ core. EachLeft ⟦<MemDisk as Disk>⟧ core.disk (IsRecorded core.key core.units (Some (motions_of core.mech)))) }
 {
     let units = units().ok_or("the units")?;
     let mech = mechanism(alloc, &units, Vec::new(alloc)).ok_or("the mechanism")?;
@@ -39,10 +40,10 @@ pub fn begun<M: Mechanism, D: Disk>(
     core: Core<M, D>,
 ) -> Result<Guard<M, D>, Core<M, D>>
     requires units { M.units core.mech ≡ core.units }
-    requires starts { LeavesRecorded D.Disk core.disk core.key core.units (M.motions core.mech) }
+    requires starts { EachLeft D.Disk core.disk (IsRecorded core.key core.units (M.motions core.mech)) }
     ensures ok { IfOk result (λ g. (g.state.open_order ≡ No) × (g.state.key ≡ core.key)) }
     ensures units { IfErr result (λ c. M.units c.mech ≡ c.units) }
-    ensures starts { IfErr result (λ c. LeavesRecorded D.Disk c.disk c.key c.units (M.motions c.mech)) }
+    ensures starts { IfErr result (λ c. EachLeft D.Disk c.disk (IsRecorded c.key c.units (M.motions c.mech))) }
     ensures key { IfErr result (λ c. c.key ≡ core.key) }
 {
     let Core {
@@ -72,7 +73,7 @@ pub fn begun<M: Mechanism, D: Disk>(
 fn ended<M: Mechanism, D: Disk>(guard: Guard<M, D>, key: [u8; 32]) -> Core<M, D>
     requires key { guard.state.key ≡ key }
     ensures units { M.units result.mech ≡ result.units }
-    ensures starts { LeavesRecorded D.Disk result.disk result.key result.units (M.motions result.mech) }
+    ensures starts { EachLeft D.Disk result.disk (IsRecorded result.key result.units (M.motions result.mech)) }
 {
     let units = guard.units().copied();
     let (mech, disk) = guard.end();

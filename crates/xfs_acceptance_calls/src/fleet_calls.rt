@@ -3,8 +3,8 @@
 ghost use Rattle.std.specs.Prelude.{◌≡◌, ℕ, List, IfOk, Some};
 ghost use Rattle.xfs_disk.specs.MemDisk.{IsImage as MayBe};
 ghost use Rattle.xfs_disk.specs.Wrapped.{inner_of};
-ghost use Rattle.xfs_guard.specs.Booting.{LeavesRecorded};
 ghost use Rattle.xfs_guard.specs.Recorded.{IsRecorded};
+ghost use Rattle.xfs_guard.specs.Stored.{EachLeft};
 ghost use Rattle.xfs_journal.specs.Image.{StandsFor};
 ghost use Rattle.xfs_journal.specs.declared.record.Rec.{Rec};
 ghost use Rattle.xfs_mech.specs.Sim.{units_of, motions_of};
@@ -27,7 +27,7 @@ const TWO_BOOTS: usize = 417;
 // A machine's core with a key of its own, over an empty disk whose calls at these places fail.
 fn core(alloc: Global, key: u8, failing: &[u64]) -> Result<Core<SimMech, FailDisk>, Fail>
     ensures units { IfOk result (λ core. units_of core.mech ≡ core.units) }
-    ensures starts { IfOk result (λ core. LeavesRecorded ⟦<FailDisk as Disk>⟧ core.disk core.key core.units (Some (motions_of core.mech))) }
+    ensures starts { IfOk result (λ core. EachLeft ⟦<FailDisk as Disk>⟧ core.disk (IsRecorded core.key core.units (Some (motions_of core.mech)))) }
 {
     let secrets = Secrets {
         key: [key; 32],
@@ -47,9 +47,9 @@ fn begun<M: Mechanism, D: Disk>(
     restart: Option<Side>,
 ) -> Result<Fleet<M, D>, FleetFail<M, D>>
     requires a_units { M.units a.mech ≡ a.units }
-    requires a_starts { LeavesRecorded D.Disk a.disk a.key a.units (M.motions a.mech) }
+    requires a_starts { EachLeft D.Disk a.disk (IsRecorded a.key a.units (M.motions a.mech)) }
     requires b_units { M.units b.mech ≡ b.units }
-    requires b_starts { LeavesRecorded D.Disk b.disk b.key b.units (M.motions b.mech) }
+    requires b_starts { EachLeft D.Disk b.disk (IsRecorded b.key b.units (M.motions b.mech)) }
 {
     match (Fleet::boot(alloc, a, b), restart) {
         (Ok(fleet), Some(side)) => fleet.restart(side),

@@ -16,7 +16,7 @@ use Rattle.xfs_conversation.specs.Answers.{is_invalid_message}
 use Rattle.xfs_conversation.specs.Parts.{EachFrame}
 use Rattle.xfs_conversation.specs.Pending.{Pending, pending_of}
 use Rattle.xfs_audit.specs.Conversing.{Acknowledges, misread, refused, accepted, Says, completed, told, announced, Converses, ended, posted, heard, pending_ids, IsWithout}
-use Rattle.xfs_audit.specs.Fitting.{status_in, ended_in, event_id_in, statuses, completions, asked, accepted_by, is_among, unended, Ends, HasOpenId, Fits}
+use Rattle.xfs_audit.specs.Fitting.{status_in, ended_in, event_id_in, statuses, completions, asked, accepted_by, is_among, unended, EndsChosen, HasOpenId, Fits}
 use Rattle.xfs_audit.proofs.Counting.{split-contains, contains-split}
 use Rattle.xfs_audit.proofs.Unended.{unended-push, unended-without, unended-found, among-other}
 
@@ -270,7 +270,7 @@ converses-where-it-fits ids texts frames f = speaks frames [] [] ids texts (λ m
   answers = f.answers;
 }
   where
-    ends_at : (o : Option Pending) (before : List (List ℕ)) → IfSome o (Ends f.choice texts before) → IfSome o (EndsAt (all_by [] texts before) (ended_by [] f.choice before) (pick_at f.choice before))
+    ends_at : (o : Option Pending) (before : List (List ℕ)) → IfSome o (EndsChosen f.choice texts before) → IfSome o (EndsAt (all_by [] texts before) (ended_by [] f.choice before) (pick_at f.choice before))
     ends_at None before h = h
     ends_at (Some p) before h = (h.number, h.chosen, h.is_open.accepted, h.is_open.not_ended)
 
@@ -372,7 +372,7 @@ fits-where-it-converses ids texts frames talk =
       answers = f.answers;
     }
   where
-    ends_at : (choice : List ℕ) (o : Option Pending) (before : List (List ℕ)) → IfSome o (EndsAt (all_by [] texts before) (ended_by [] choice before) (pick_at choice before)) → IfSome o (Ends choice texts before)
+    ends_at : (choice : List ℕ) (o : Option Pending) (before : List (List ℕ)) → IfSome o (EndsAt (all_by [] texts before) (ended_by [] choice before) (pick_at choice before)) → IfSome o (EndsChosen choice texts before)
     ends_at choice None before h = h
     ends_at choice (Some p) before h = record { number = h.0; chosen = h.1; is_open = record { accepted = h.2; not_ended = h.3 } }
 

@@ -16,7 +16,7 @@ use Rattle.xfs_journal.specs.declared.record.Rec.{Rec}
 use Rattle.xfs_journal.specs.declared.record.Rec.TheVariants.{Order, Done}
 use Rattle.xfs_journal.specs.Journal.{record_at}
 use Rattle.xfs_guard.specs.Agrees.{RisesFrom}
-use Rattle.xfs_audit.specs.Told.{BeginsAt, IsEndFrom, IsTold}
+use Rattle.xfs_audit.specs.Told.{BeginsAt, IsEndFrom, IsMovedAsDone}
 
 -- a list that rises from a number rises from a lower one
 pub rises-lower : (a b : ℕ) (ms : List Motion) → b ≤ a → RisesFrom a ms → RisesFrom b ms
@@ -97,9 +97,9 @@ first-is x [] e = absurd (cc)
 first-is x (y ∷ ms) e = let same : x ≡ y = cc in rw same refl
 
 -- one more order that has its motion
-pub told-more : (records : List Rec) (motions : List Motion) (count : ℕ) → IsTold records motions count
+pub told-more : (records : List Rec) (motions : List Motion) (count : ℕ) → IsMovedAsDone records motions count
     → ((kind : Kind) (counts moved diverted : Counts) → record_at records count ≡ Some (Order kind counts) → record_at records (count + 1) ≡ Some (Done moved diverted) → Contains motions (Moved count kind moved diverted))
-    → IsTold records motions (count + 1)
+    → IsMovedAsDone records motions (count + 1)
 told-more records motions count told own n kind counts moved diverted le order done = elim (cases_eq n count) [
   | inl here ↦ rw here (own kind counts moved diverted (rw here at order) (rw here at done))
   | inr away ↦ told n kind counts moved diverted (omega arith) order done

@@ -22,7 +22,7 @@ use Rattle.xfs_guard.specs.Within.{shown, shown_by, IsPaidFor, IsWithin, Within}
 use Rattle.xfs_guard.proofs.WithinLaws.{Within-present, Within-quiet, shown-motion, shown_by-own}
 use Rattle.xfs_audit.specs.Reading.{IsRead}
 use Rattle.xfs_audit.specs.Claims.{IsClaimOf, Spends, allowed, IsUnder}
-use Rattle.xfs_audit.specs.Paying.{IsPaying, IsCharged, IsClaimed, IsPresented, IsQuiet, PutsOut, SpendsThere}
+use Rattle.xfs_audit.specs.Paying.{IsPaying, IsCharged, IsClaimed, IsPresentOrder, IsQuiet, PutsOut, SpendsThere}
 use Rattle.xfs_audit.specs.Told.{low_after}
 use Rattle.xfs_guard.specs.Agrees.{IsAsked, IsOrdered, RisesFrom}
 use Rattle.xfs_mech.specs.Motions.{NumberIs}
@@ -83,7 +83,7 @@ shown_by-later u J p n q c m d e ne = rw (e, eqb-no p q ne) refl
 
 -- notes are put out on a claim that covers them
 pub spent : (k : List ℕ) (u : List NoteKind) (J : List Rec) (done : List Motion) (old : Payer) (claim now : Claim) (n : ℕ) (counts moved diverted : Counts) → IsPaying k u J done old → old.claim ≡ Some claim
-    → old.read.count + 1 ≡ n → IsPresented J n counts → Spends u moved claim now true → IsPaying k u J (done ++ Moved n Present moved diverted ∷ []) (record { read = old.read; claim = Some now })
+    → old.read.count + 1 ≡ n → IsPresentOrder J n counts → Spends u moved claim now true → IsPaying k u J (done ++ Moved n Present moved diverted ∷ []) (record { read = old.read; claim = Some now })
 spent k u J done old claim now n counts moved diverted paying there next ordered spends =
     let charged : IsCharged k u J done old.read.live claim = rw there at paying.claimed in
     let p : ℕ = charged.issue in
@@ -185,7 +185,7 @@ quiet-more k u J done m payer quiet paying = record {
     of live (Some claim) charged = record { issue = charged.issue; lives = charged.lives; token = charged.token; sums = λ i kind there. charged.sums i kind there ∙ sym (same-shown u J done m quiet charged.issue kind.currency) }
 
 pub spent-there : (k : List ℕ) (u : List NoteKind) (J : List Rec) (done : List Motion) (old : Payer) (r : Reader) (claim : Option Claim) (n : ℕ) (counts moved diverted : Counts) → IsPaying k u J done old → r ≡ old.read
-    → old.read.count + 1 ≡ n → IsPresented J n counts → SpendsThere u moved old.claim claim true → IsPaying k u J (done ++ Moved n Present moved diverted ∷ []) (record { read = r; claim = claim })
+    → old.read.count + 1 ≡ n → IsPresentOrder J n counts → SpendsThere u moved old.claim claim true → IsPaying k u J (done ++ Moved n Present moved diverted ∷ []) (record { read = r; claim = claim })
 spent-there k u J done old r claim n counts moved diverted paying same next ordered spends = rw same (by old.claim claim refl spends)
   where
     by : (a b : Option Claim) → old.claim ≡ a → SpendsThere u moved a b true → IsPaying k u J (done ++ Moved n Present moved diverted ∷ []) (record { read = old.read; claim = b })
@@ -206,7 +206,7 @@ unpaid-there k u J done rest old claim n moved diverted paying next spends withi
 
 -- an entry that puts notes out is a moved one
 pub paid-entry : (k : List ℕ) (u : List NoteKind) (J : List Rec) (done : List Motion) (entry : Motion) (n : ℕ) (moved : Counts) (now : Payer) → PutsOut entry n moved → IsAsked J entry
-    → ((counts diverted : Counts) → IsPresented J n counts → IsPaying k u J (done ++ Moved n Present moved diverted ∷ []) now) → IsPaying k u J (done ++ entry ∷ []) now
+    → ((counts diverted : Counts) → IsPresentOrder J n counts → IsPaying k u J (done ++ Moved n Present moved diverted ∷ []) now) → IsPaying k u J (done ++ entry ∷ []) now
 paid-entry k u J done entry n moved now out asked pays =
     let order : IsOrdered J n Present moved out.diverted = rw out.is at asked in
     rw out.is (pays order.counts out.diverted order.ordered)

@@ -51,9 +51,9 @@ IsClaimOf key records issue (Some claim) = HasClaim key records issue claim.amou
 IsClaimOf key records issue None = (amounts : Option (List (List ℕ × ℕ))) → ¬ (HasClaim key records issue amounts)
 
 -- nothing was put out on a claim that was just made
-abbrev pub IsFresh : Option Claim → Type 0
-IsFresh (Some claim) = (u : ℕ) → slice_index claim.shown u ≡ 0
-IsFresh None = ⊤
+abbrev pub IsUnspent : Option Claim → Type 0
+IsUnspent (Some claim) = (u : ℕ) → slice_index claim.shown u ≡ 0
+IsUnspent None = ⊤
 
 -- the sums of a claim stay far within their type
 abbrev pub IsUnder : Claim → Type 0

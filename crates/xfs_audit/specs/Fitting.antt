@@ -55,7 +55,7 @@ pub record IsOpen (choice : List ℕ) (texts before : List (List ℕ)) (k : ℕ)
   pub not_ended : is_among (take (length (completions before)) choice) k ≡ false
 
 -- a completion ends a command that is open before it, by its id and name: the one that was chosen
-pub record Ends (choice : List ℕ) (texts before : List (List ℕ)) (p : Pending) : Type 0 where
+pub record EndsChosen (choice : List ℕ) (texts before : List (List ℕ)) (p : Pending) : Type 0 where
   pub number : ℕ
   pub chosen : slice_get choice (length (completions before)) ≡ Some number
   pub is_open : IsOpen choice texts before number p
@@ -73,7 +73,7 @@ pub record Fits (ids : List ℕ) (texts frames : List (List ℕ)) : Type 0 where
   pub each : length choice ≡ length (completions frames)
   -- the acknowledges are as many as the texts, and each says invalidMessage exactly where its text is no command
   pub acknowledges : map is_invalid_message (statuses frames) ≡ map (λ text. is_err (command_in text)) texts
-  pub ends : EachFrame frames (λ before frame. IfSome (ended_in (reply_in frame)) (Ends choice texts before))
+  pub ends : EachFrame frames (λ before frame. IfSome (ended_in (reply_in frame)) (EndsChosen choice texts before))
   pub tells : EachFrame frames (λ before frame. IfSome (event_id_in (reply_in frame)) (HasOpenId choice texts before))
   -- the accepted commands that no completion ends have these ids, in their order
   pub left : map (λ (p : Pending). p.id) (unended 0 choice (accepted_by (statuses frames) texts)) ≡ ids

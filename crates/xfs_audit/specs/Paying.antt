@@ -17,8 +17,8 @@ use Rattle.xfs_audit.specs.declared.claim.Claim.{Claim}
 use Rattle.xfs_audit.specs.declared.payer.Payer.{Payer}
 
 -- the record of this number is an order to present these notes
-abbrev pub IsPresented : List Rec → ℕ → Counts → Type 0
-IsPresented records number counts = record_at records number ≡ Some (Order Present counts)
+abbrev pub IsPresentOrder : List Rec → ℕ → Counts → Type 0
+IsPresentOrder records number counts = record_at records number ≡ Some (Order Present counts)
 
 -- an entry put these notes out, on the order with this number; or it put none out
 pub record PutsOut (entry : Motion) (number : ℕ) (moved : Counts) : Type 0 where
@@ -60,7 +60,7 @@ SpendsThere units moved old new paid = ⊥
 -- notes that were put out on an order are paid for, whatever was read before
 abbrev pub Pays : List ℕ → List NoteKind → List Rec → ℕ → Counts → Payer → Payer → Type 0
 Pays key units records number moved old new = (done : List Motion) (counts diverted : Counts) → IsPaying key units records done old
-    → IsPresented records number counts → IsPaying key units records (done ++ Moved number Present moved diverted ∷ []) new
+    → IsPresentOrder records number counts → IsPaying key units records (done ++ Moved number Present moved diverted ∷ []) new
 
 -- no list with these notes is within its tokens, whatever stands behind them
 abbrev pub IsUnpaid : List ℕ → List NoteKind → List Rec → ℕ → Counts → Payer → Type 0
@@ -68,8 +68,8 @@ IsUnpaid key units records number moved old = (done rest : List Motion) (diverte
     → ¬ (Within key units records (done ++ Moved number Present moved diverted ∷ rest))
 
 -- what was paid for stays so
-abbrev pub Keeps : List Rec → Payer → Payer → Type 0
-Keeps records old new = (k : List ℕ) (units : List NoteKind) (done : List Motion) → IsPaying k units records done old → IsPaying k units records done new
+abbrev pub StaysPaid : List Rec → Payer → Payer → Type 0
+StaysPaid records old new = (k : List ℕ) (units : List NoteKind) (done : List Motion) → IsPaying k units records done old → IsPaying k units records done new
 
 -- what was paid for under this key stays so
 abbrev pub KeepsUnder : List ℕ → List Rec → Payer → Payer → Type 0

@@ -26,8 +26,8 @@ IsOrderThere true before = IsOrder before
 IsOrderThere false before = IsNoOrder before
 
 -- each order whose Done stands among the first so many records has its motion in the list, as the Done tells it
-abbrev pub IsTold : List Rec → List Motion → ℕ → Type 0
-IsTold records motions count = (n : ℕ) (kind : Kind) (counts moved diverted : Counts) → n + 1 ≤ count → record_at records n ≡ Some (Order kind counts)
+abbrev pub IsMovedAsDone : List Rec → List Motion → ℕ → Type 0
+IsMovedAsDone records motions count = (n : ℕ) (kind : Kind) (counts moved diverted : Counts) → n + 1 ≤ count → record_at records n ≡ Some (Order kind counts)
     → record_at records (n + 1) ≡ Some (Done moved diverted) → Contains motions (Moved n kind moved diverted)
 
 -- the list begins with a moved entry of this number or a greater one, or is empty

@@ -50,14 +50,14 @@ pub record HasId (id : ℕ) (pending : List Pending) : Type 0 where
   pub its : command.id ≡ id
 
 -- which commands are pending behind a step
-abbrev pub Leads : Step → List Pending → List Pending → Type 0
-Leads (Accepted p) pending after = after ≡ pending ++ p ∷ []
-Leads (Completed p) pending after = IsWithout p pending after
-Leads (Told id) pending after = (after ≡ pending) × HasId id pending
+abbrev pub PendsBehind : Step → List Pending → List Pending → Type 0
+PendsBehind (Accepted p) pending after = after ≡ pending ++ p ∷ []
+PendsBehind (Completed p) pending after = IsWithout p pending after
+PendsBehind (Told id) pending after = (after ≡ pending) × HasId id pending
 
 -- a step leads from the pending commands to some that one of the ways splits
 abbrev pub LeadsToSplit : List ℕ → Step → List Way → List Pending → Type 0
-LeadsToSplit ids step ways pending = (after : List Pending) × Leads step pending after × IsSplit ids ways after
+LeadsToSplit ids step ways pending = (after : List Pending) × PendsBehind step pending after × IsSplit ids ways after
 
 -- the ways before a step split just the commands that it leads from to some that the ways behind it split
 abbrev pub LeadsBack : List ℕ → Step → List Way → List Way → Type 0
@@ -65,7 +65,7 @@ LeadsBack ids step behind ways = (pending : List Pending) → IsSplit ids ways p
 
 -- the ways have besides those that a step leads into this one from
 abbrev pub Adds : List ℕ → Step → Way → List Way → List Way → Type 0
-Adds ids step way old new = (pending : List Pending) → IsSplit ids new pending ↔ (IsSplit ids old pending ⊎ ((after : List Pending) × Leads step pending after × Splits ids way.stays way.due.items after))
+Adds ids step way old new = (pending : List Pending) → IsSplit ids new pending ↔ (IsSplit ids old pending ⊎ ((after : List Pending) × PendsBehind step pending after × Splits ids way.stays way.due.items after))
 
 -- the ways have besides this one without a command like this, where one is due
 abbrev pub AddsWithout : Pending → Way → List Way → List Way → Type 0

@@ -6,7 +6,7 @@ ghost use Rattle.std.specs.Option.{option_map};
 ghost use Rattle.std.specs.Bool.{OnTrue, OnFalse};
 ghost use Rattle.xfs_base.specs.declared.money.NoteKind.{NoteKind as Kind};
 ghost use Rattle.xfs_journal.specs.Journal.{token_of};
-ghost use Rattle.xfs_audit.specs.Claims.{IsIssueAt, IsIssue, IsClaimOf, IsFresh, HasToken, IsTokenOf, IsUnder, allowed, IsPaidAt, IsOver};
+ghost use Rattle.xfs_audit.specs.Claims.{IsIssueAt, IsIssue, IsClaimOf, IsUnspent, HasToken, IsTokenOf, IsUnder, allowed, IsPaidAt, IsOver};
 
 use crate::nonce::nonce_text;
 use crate::reader::is_mark;
@@ -33,7 +33,7 @@ impl Claim {
         issue: usize,
     ) -> Result<Option<Claim>, Memory>
         ensures claim { IfOk result (λ claim. IsClaimOf key.now records.now issue claim) }
-        ensures fresh { IfOk result IsFresh }
+        ensures fresh { IfOk result IsUnspent }
     {
         let Some((number, word)) = issue_at(records, issue) else {
             return Ok(None);

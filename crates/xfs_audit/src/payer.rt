@@ -6,7 +6,7 @@ ghost use Rattle.std.specs.Bool.{OnTrue, OnFalse};
 ghost use Rattle.xfs_base.specs.declared.money.NoteKind.{NoteKind as NotesOf};
 ghost use Rattle.xfs_audit.specs.Reading.{IsRead};
 ghost use Rattle.xfs_audit.specs.Claims.{IsClaimOf, IsUnder};
-ghost use Rattle.xfs_audit.specs.Paying.{IsPaying, IsPutOut, SpendsThere, Pays, IsUnpaid, Reads, Breaks, Keeps, KeepsUnder};
+ghost use Rattle.xfs_audit.specs.Paying.{IsPaying, IsPutOut, SpendsThere, Pays, IsUnpaid, Reads, Breaks, StaysPaid, KeepsUnder};
 ghost use Rattle.xfs_audit.specs.Told.{low_after};
 ghost use Rattle.xfs_mech.specs.Motions.{NumberIs};
 
@@ -100,7 +100,7 @@ impl Payer {
         ensures read { IsRead records.now self.new.read }
         ensures count { self.new.read.count + 1 ≡ number }
         ensures small { IfSome self.new.claim IsUnder }
-        ensures same { Keeps records.now self.old self.new }
+        ensures same { StaysPaid records.now self.old self.new }
     {
         let before = self.read.live;
         self.read.advance(records, number - 1);

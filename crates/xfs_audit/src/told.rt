@@ -6,7 +6,7 @@ ghost use Rattle.xfs_journal.specs.declared.record.Rec.TheVariants.{Done};
 ghost use Rattle.xfs_mech.specs.declared.motion.Motion.TheVariants.{Moved};
 ghost use Rattle.xfs_mech.specs.Motions.{NumberIs};
 ghost use Rattle.xfs_guard.specs.Agrees.{RisesFrom};
-ghost use Rattle.xfs_audit.specs.Told.{IsTold, BeginsAt, IsEndFrom};
+ghost use Rattle.xfs_audit.specs.Told.{IsMovedAsDone, BeginsAt, IsEndFrom};
 
 use xfs_base::{Counts, Kind};
 use xfs_journal::Rec;
@@ -16,7 +16,7 @@ use xfs_mech::Motion;
 /// motions are read once, side by side.
 pub fn are_told(records: &[Rec], motions: &[Motion]) -> bool
     requires { RisesFrom 0 motions.now }
-    ensures { IsTrue result ↔ IsTold records.now motions.now (length records.now) }
+    ensures { IsTrue result ↔ IsMovedAsDone records.now motions.now (length records.now) }
 {
     let mut rest = motions;
     for place in 1..records.len() {

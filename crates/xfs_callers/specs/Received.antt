@@ -6,9 +6,9 @@ use Rattle.xfs_envelope.specs.declared.code.Status.TheVariants.{InvalidMessage}
 use Rattle.xfs_envelope.specs.declared.command.Refuse.{Refuse}
 
 -- the answer acknowledges the command by its name and id
-abbrev pub Acknowledges : List ℕ → Command → Type 0
-Acknowledges answer command = reply_in answer ≡ Some (acknowledge (Some command.id) (Some command.name) None)
+abbrev pub IsAcknowledgeOf : List ℕ → Command → Type 0
+IsAcknowledgeOf answer command = reply_in answer ≡ Some (acknowledge (Some command.id) (Some command.name) None)
 
 -- the answer says that the text is no command, with the id where it tells one
-abbrev pub Refuses : List ℕ → Refuse → Type 0
-Refuses answer refuse = reply_in answer ≡ Some (acknowledge refuse.id None (Some InvalidMessage))
+abbrev pub IsRefusalOf : List ℕ → Refuse → Type 0
+IsRefusalOf answer refuse = reply_in answer ≡ Some (acknowledge refuse.id None (Some InvalidMessage))

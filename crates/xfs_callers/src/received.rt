@@ -1,7 +1,7 @@
 //! A caller of xfs_envelope.
 
 ghost use Rattle.std.specs.Prelude.{MatchResult, IfOk};
-ghost use Rattle.xfs_callers.specs.Received.{Acknowledges, Refuses};
+ghost use Rattle.xfs_callers.specs.Received.{IsAcknowledgeOf, IsRefusalOf};
 ghost use Rattle.xfs_envelope.specs.Commands.{command_in};
 
 use std::alloc::Global;
@@ -10,7 +10,7 @@ use xfs_envelope::{Status, Why, acknowledge, read};
 
 /// What a service says at once to a text: that its command was received, or that it is none.
 pub fn answer(alloc: Global, text: &[u8]) -> Result<Vec<u8>, Memory>
-    ensures { IfOk result (λ answer. MatchResult (command_in text.now) (Acknowledges answer.items) (Refuses answer.items)) }
+    ensures { IfOk result (λ answer. MatchResult (command_in text.now) (IsAcknowledgeOf answer.items) (IsRefusalOf answer.items)) }
 {
     match read(alloc, text) {
         Ok(command) => acknowledge(alloc, Some(&command.name), Some(command.id), None),

@@ -1,5 +1,5 @@
 -- The payload of ReadRawData: each track that was asked for, in base64 (RFC 4648, standard alphabet, padded).
-use Rattle.std.specs.Prelude.{ℕ, List, codes, Bool, false, Option, Some, None, slice_index_or, if◌then◌else◌}
+use Rattle.std.specs.Prelude.{ℕ, List, codes, Bool, true, false, Option, Some, None, slice_index_or, if◌then◌else◌}
 use Rattle.base64.specs.GeneralPurpose.{encode_of}
 use Rattle.base64.specs.Engines.{standard}
 use Rattle.serde_json.specs.Data.{Data, string, object, Members, no_members, member, put}
@@ -18,10 +18,10 @@ is_asked asked place = slice_index_or asked place false
 abbrev pub told_if : Bool → Option (List ℕ) → Option Data
 told_if asked track = if asked then Some (track_data track) else None
 
--- a member that may be absent, put into others
-abbrev pub put_if : List ℕ → Option Data → Members → Members
-put_if name None members = members
-put_if name (Some d) members = put name d members
+-- a track's data put into other members, where it was asked for
+abbrev pub put_track : List ℕ → Bool → Option (List ℕ) → Members → Members
+put_track name false track members = members
+put_track name true track members = put name (track_data track) members
 
 abbrev pub tracks_payload : List Bool → CardTracks → Data
 tracks_payload asked card = object

@@ -1,6 +1,6 @@
 ghost use Rattle.std.specs.Prelude.{◌≡◌, Some, OnOk, IfOk, option_copied};
 ghost use Rattle.serde_json.specs.View.{view, members_view};
-ghost use Rattle.xfs_card.specs.Tracks.{track_data, told_if, put_if, tracks_payload};
+ghost use Rattle.xfs_card.specs.Tracks.{track_data, put_track, tracks_payload};
 
 use base64::engine::general_purpose::STANDARD;
 use serde_json::{Value, json, put};
@@ -17,21 +17,20 @@ pub(crate) fn tracks_payload(
     ensures { IfOk result (λ v. view v ≡ tracks_payload asked card.now) }
 {
     let mut members = Map::new(alloc);
-    put_if(&mut members, alloc, "track1", asked[0], card.track(1))?;
-    put_if(&mut members, alloc, "track2", asked[1], card.track(2))?;
-    put_if(&mut members, alloc, "track3", asked[2], card.track(3))?;
+    put_track(&mut members, alloc, "track1", asked[0], card.track(1))?;
+    put_track(&mut members, alloc, "track2", asked[1], card.track(2))?;
+    put_track(&mut members, alloc, "track3", asked[2], card.track(3))?;
     Ok(Value::Object(members))
 }
 
-fn put_if(
+fn put_track(
     members: &mut Map,
     alloc: Global,
     name: &str,
     asked: bool,
     track: Option<&[u8]>,
 ) -> Result<(), AllocError>
-    ensures { OnOk result (members_view members.new.entries
-        ≡ put_if name.now (told_if asked (option_copied track.entry)) (members_view members.old.entries)) }
+    ensures { OnOk result (members_view members.new.entries ≡ put_track name.now asked (option_copied track.entry) (members_view members.old.entries)) }
 {
     if asked {
         put(members, alloc, name, track_data(alloc, track)?)?;

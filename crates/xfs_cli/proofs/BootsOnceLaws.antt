@@ -5,7 +5,7 @@ use Rattle.xfs_mech.specs.declared.mechanism.Mechanism.{Ghosts as Mechanisms}
 use Rattle.xfs_guard.specs.View.{GuardView}
 use Rattle.xfs_guard.specs.declared.fail.BootFault.{BootFault}
 use Rattle.xfs_guard.specs.declared.machine_core.Core.{Core}
-use Rattle.xfs_lines.specs.Boots.{IsNoJournal, WritesBoot, boot_status}
+use Rattle.xfs_lines.specs.Boots.{WritesBoot, boot_status}
 use Rattle.xfs_cli.specs.BootsOnce.{BootsOnce}
 use Rattle.xfs_lines.specs.Returns.{Return}
 use Rattle.xfs_script.specs.Streams.{Streams}
@@ -14,6 +14,7 @@ use Rattle.xfs_lines.proofs.RunLaws.{due-full, due-unread, ends-unread, fits-run
 use Rattle.xfs_lines.proofs.UnreadLaws.{unwritten-quiet}
 use Rattle.xfs_guard.specs.Outcomes.{BootsGuard, RefusesBoot}
 use Rattle.xfs_guard.specs.Entries.{at_entry}
+use Rattle.xfs_journal.specs.Held.{StandsForNone}
 
 -- where the boot was refused
 pub boots-refused : {M D : Type 0} (m : Mechanisms M) (d : Disks D) (core : Core M D) (why : BootFault) (result : Return M D) (io : Streams)
@@ -23,7 +24,7 @@ boots-refused m d core why result io same f status written = record {
   full = λ twelve. ends-full _ _ _ _ _ _ status written f.full twelve;
   unread = due-unread _ _ _ status f.full;
   unwritten = unwritten-quiet d core.disk result.disk f.unlisted;
-  unmoved = told-any (d.held core.disk) (λ bytes. IsNoJournal bytes → result.mech ≡ core.mech) (λ bytes none. same);
+  unmoved = told-any (d.held core.disk) (λ bytes. StandsForNone bytes → result.mech ≡ core.mech) (λ bytes none. same);
   overfull = due-full _ _ _ _ _ status f.not_journal;
 }
 

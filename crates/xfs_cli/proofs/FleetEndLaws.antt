@@ -10,11 +10,12 @@ use Rattle.xfs_guard.specs.declared.fail.BootFault.{BootFault}
 use Rattle.xfs_guard.specs.declared.fail.BootFault.TheVariants.{NotJournal, Disk, Full, Memory as NoMemory}
 use Rattle.xfs_script.specs.Lines.{AllLines, StopsAtLine}
 use Rattle.xfs_script.specs.Reading.{GaveAll}
-use Rattle.xfs_lines.specs.Boots.{IsNoJournal, boot_status}
+use Rattle.xfs_lines.specs.Boots.{boot_status}
 use Rattle.xfs_lines.specs.Output.Statuses.{IsFinished, IsStatus}
 use Rattle.xfs_lines.proofs.BootedLaws.{told-any}
 use Rattle.xfs_lines.proofs.EndLaws.{lines-all, short-all}
 use Rattle.xfs_lines.proofs.EndingLaws.{boot-least, status-boot}
+use Rattle.xfs_journal.specs.Held.{StandsForNone}
 
 -- what each status of a run has as its cause
 pub record HasCausesOf (IsLineOf NoRoomAt : List ℕ → Type 0) (status : ℕ) (left left' : Option (List ℕ)) (source sink disk journal : Type 0) : Type 0 where
@@ -85,6 +86,6 @@ finishes-of IsLineOf NoRoomAt empty status (Some text) left' source sink disk jo
     by_status no_journal lines short room (inr (inr (inr (inr (inr (inr (inr (inr (inr (inr none)))))))))) = absurd none
 
 -- where the disk's bytes stand for a list, they are a journal, and what was found of them is that list
-pub at-list : (held : Option (List ℕ)) (Over P : List Rec → Type 0) → ((J : List Rec) → ¬ (IfTold held IsNoJournal) → (IsFound held Over → Over J) → P J) → IfTold held (λ bytes. (J : List Rec) → StandsFor bytes J → P J)
+pub at-list : (held : Option (List ℕ)) (Over P : List Rec → Type 0) → ((J : List Rec) → ¬ (IfTold held StandsForNone) → (IsFound held Over → Over J) → P J) → IfTold held (λ bytes. (J : List Rec) → StandsFor bytes J → P J)
 at-list None Over P then = tt
 at-list (Some bytes) Over P then = λ J stands. then J (λ none. none J stands) (λ found. subst Over (sym (stands_for_one bytes J found.0 stands found.1)) found.2)

@@ -24,14 +24,14 @@ use Rattle.xfs_script.specs.Lines.{behind, first_line, first_lines}
 use Rattle.xfs_script.specs.declared.answerer.Ending.TheVariants.{AtEnd, Ended}
 use Rattle.xfs_sides.proofs.SideLaws.{are-alone, empty-line}
 use Rattle.xfs_sides.specs.Sides.{AreAlone, Sides}
-use Rattle.xfs_lines.specs.Boots.{BootExceeds, IsNoJournal, WritesBoot, boot_status}
+use Rattle.xfs_lines.specs.Boots.{BootExceeds, WritesBoot, boot_status}
 use Rattle.xfs_cli.specs.FleetRuns.{AreUnhindered, BeginsBoth, IsFirstUnbooted, RunsFleet, fleet_lines, restart_of, state_a, state_b}
 use Rattle.xfs_cli.specs.Replay.Command.{Progresses, replay_lines}
 use Rattle.xfs_cli.specs.Replay.Runs.{Begins}
 use Rattle.xfs_cli.specs.Replay.States.{Played, begun, guard_state_of}
 use Rattle.xfs_lines.specs.Guard.Restarts.{EndsRestart, IsFull}
 use Rattle.xfs_lines.specs.Returns.{Return, ComesBack}
-use Rattle.xfs_lines.specs.Runs.{AtEntryList, IsEnd, IsFullAtEnd, IsStillAt, NothingFailed}
+use Rattle.xfs_lines.specs.Runs.{IsEnd, IsStillAt, NothingFailed}
 use Rattle.xfs_lines.specs.Output.InputEnds.{EndsInput, ending_status, IsAnswered}
 use Rattle.xfs_lines.specs.Output.Statuses.{HasFullRestart, IsFinished}
 use Rattle.xfs_script.specs.Streams.{Streams, output_of}
@@ -45,6 +45,7 @@ use Rattle.xfs_lines.proofs.EndsLaws.{HasEnded}
 use Rattle.xfs_cli.proofs.MachineLaws.{machine-ended}
 use Rattle.xfs_script.specs.LastLines.{WritesLast}
 use Rattle.xfs_guard.specs.Outcomes.{BootsGuard}
+use Rattle.xfs_journal.specs.Held.{StandsForNone, OfJournal}
 
 -- ---- one machine of a run whose lines were answered
 
@@ -94,7 +95,7 @@ module _ {M D A : Type 0} (m : Mechanisms M) (d : Disks D) (Keeps : A → A → 
         let told = ap (λ (v : View). v.disk_told) (p.is before) in
         none-told (d.held core.disk) (sym (ap (λ (v : View). v.disk_told) p.booted.begins.2) ∙ (sym (p.keeps start before kept).continues.disk_told ∙ (sym told ∙ quiet)))
 
-    played-full : ((disk : D) (all : List ℕ) → d.held disk ≡ Some all → d.images disk all) → status ≡ 12 → IsFullAtEnd core.limits (m.places r.mech) (d.held r.disk)
+    played-full : ((disk : D) (all : List ℕ) → d.held disk ≡ Some all → d.images disk all) → status ≡ 12 → LacksRoom (d.held r.disk) core.limits (m.places r.mech)
     played-full as_read twelve =
         let limits = (p.keeps start end p.kept).continues.limits ∙ ap (λ (v : View). v.limits) p.booted.begins.2 in
         let full : IsFull (guard end).state = rw (p.is end) at ((full-then status why (guard_state_of (see before)) (guard_state_of (see end)) is at.fails.cause twelve).1) in
@@ -163,13 +164,13 @@ module _ {M D : Type 0} (m : Mechanisms M) (d : Disks D) (core second : Core M D
   DiskRose = Rose (d.faults core.disk) (d.faults a.disk) ⊎ Rose (d.faults second.disk) (d.faults b.disk)
 
   abbrev HasNoJournal : Type 0
-  HasNoJournal = IfTold (d.held core.disk) IsNoJournal ⊎ IfTold (d.held second.disk) IsNoJournal
+  HasNoJournal = IfTold (d.held core.disk) StandsForNone ⊎ IfTold (d.held second.disk) StandsForNone
 
   abbrev HasItsCauses : Type 0
   HasItsCauses = HasCausesOf fleet_lines.IsLine NoRoom a.status io.input io.left (Rose io.read_faults io.read_faults_now) (Rose io.write_faults io.write_faults_now) DiskRose HasNoJournal
 
   finishing : HasItsCauses → NothingFailed io (d.faults core.disk) (d.faults a.disk) → ¬ (Rose (d.faults second.disk) (d.faults b.disk))
-      → IfTold io.input (λ text. AtEntryList d core.disk (λ records. AtEntryList d second.disk (λ others. AreUnhindered m d core second a b text records others → IsFinished a.status)))
+      → IfTold io.input (λ text. OfJournal (d.held core.disk) (λ records. OfJournal (d.held second.disk) (λ others. AreUnhindered m d core second a b text records others → IsFinished a.status)))
   finishing causes none unfailed =
       told-more io.input _ _ (λ text ends. at-list (d.held core.disk) (BootExceeds core.limits (m.places core.mech)) _ (λ J journal lacks.
       at-list (d.held second.disk) (BootExceeds second.limits (m.places second.mech)) _ (λ K other_journal other_lacks free.
@@ -260,7 +261,7 @@ module _ {M D A : Type 0} (m : Mechanisms M) (d : Disks D) (core second : Core M
         | inr at ↦ inr (played-untold m d Keeps (λ x. (state x).b) guard_b second b start end q u.after.before u.after.keeps at.0.behind u.why at.0.is a.status u.status_is seven)
       ]
 
-  overfull : a.status ≡ 12 → IsFullAtEnd core.limits (m.places a.mech) (d.held a.disk) ⊎ IsFullAtEnd second.limits (m.places b.mech) (d.held b.disk)
+  overfull : a.status ≡ 12 → LacksRoom (d.held a.disk) core.limits (m.places a.mech) ⊎ LacksRoom (d.held b.disk) second.limits (m.places b.mech)
   overfull twelve =
       let u = s.unbooted (inr (inr twelve)) in
       elim u.after.ends [

@@ -11,7 +11,6 @@ use Rattle.xfs_journal.specs.Journal.{with_boot}
 use Rattle.xfs_machine.specs.MachineView.{MachineView, guard_of}
 use Rattle.xfs_fleet.specs.Boots.{IsBooted, IsRefusedBoot}
 use Rattle.xfs_fleet.specs.Endings.{Ends}
-use Rattle.xfs_lines.specs.Boots.{IsNoJournal}
 use Rattle.xfs_lines.specs.Headlines.{HasHeadline}
 use Rattle.xfs_lines.specs.Returns.{ComesBack, Return}
 use Rattle.xfs_lines.proofs.BootedLaws.{told-any}
@@ -20,6 +19,7 @@ use Rattle.xfs_cli.proofs.MachineLaws.{machine-ended}
 use Rattle.xfs_lines.proofs.NumberLaws.{newer-run, newer-same}
 use Rattle.xfs_lines.proofs.RunLaws.{journal-run}
 use Rattle.xfs_lines.proofs.UnreadLaws.{unwritten-quiet}
+use Rattle.xfs_journal.specs.Held.{StandsForNone}
 
 module _ {M D : Type 0} (m : Mechanisms M) (d : Disks D) (core : Core M D) (r : Return M D)
     (as_read : (disk : D) (all : List ℕ) → d.held disk ≡ Some all → d.images disk all) (starts : Starts m d core) where
@@ -27,7 +27,7 @@ module _ {M D : Type 0} (m : Mechanisms M) (d : Disks D) (core : Core M D) (r : 
   headline-kept only_now kept = record {
     ends = ends-kept m d core r as_read starts only_now kept;
     unwritten = told-any (d.held core.disk) _ (λ bytes none. rw kept.disk (record { same = refl; adds_none = λ image is. is }));
-    unmoved = told-any (d.held core.disk) (λ bytes. IsNoJournal bytes → r.mech ≡ core.mech) (λ bytes none. kept.mech);
+    unmoved = told-any (d.held core.disk) (λ bytes. StandsForNone bytes → r.mech ≡ core.mech) (λ bytes none. kept.mech);
     newer = rw kept.mech (newer-same _ _);
   }
 
@@ -35,7 +35,7 @@ module _ {M D : Type 0} (m : Mechanisms M) (d : Disks D) (core : Core M D) (r : 
   headline-refused why f = record {
     ends = ends-refused m d core r as_read starts why f.mech_is f.refuses;
     unwritten = unwritten-quiet d core.disk r.disk f.refuses.unlisted;
-    unmoved = told-any (d.held core.disk) (λ bytes. IsNoJournal bytes → r.mech ≡ core.mech) (λ bytes none. f.mech_is);
+    unmoved = told-any (d.held core.disk) (λ bytes. StandsForNone bytes → r.mech ≡ core.mech) (λ bytes none. f.mech_is);
     newer = rw f.mech_is (newer-same _ _);
   }
 

@@ -17,7 +17,7 @@ use Rattle.xfs_guard.specs.declared.fail.BootFault.TheVariants.{NotJournal, Disk
 use Rattle.xfs_guard.specs.declared.machine_core.Core.{Core}
 use Rattle.xfs_machine.specs.MachineView.{MachineView, guard_of}
 use Rattle.xfs_model.specs.State.{State, bare}
-use Rattle.xfs_lines.specs.Boots.{BootExceeds, IsNoJournal, WritesBoot, boot_status}
+use Rattle.xfs_lines.specs.Boots.{BootExceeds, WritesBoot, boot_status}
 use Rattle.xfs_guard.specs.Entries.{at_entry, opened}
 use Rattle.xfs_load.specs.Summaries.{IsSummary, summary_line}
 use Rattle.xfs_load.specs.declared.summary.Summary.{Summary}
@@ -34,10 +34,11 @@ use Rattle.xfs_lines.proofs.NumberLaws.{newer-run, newer-same}
 use Rattle.xfs_lines.proofs.RunLaws.{Starts}
 use Rattle.xfs_lines.proofs.EndsLaws.{HasEnded}
 use Rattle.xfs_guard.specs.Outcomes.{BootsGuard, RefusesBoot}
+use Rattle.xfs_journal.specs.JournalView.{IsNoJournal}
 
 -- a boot that nothing hinders is refused for want of memory alone
 pub refused-finishes : (why : BootFault) (held : Option (List ℕ)) (limits : Limits) (places : Places) (status faults now : ℕ) → status ≡ boot_status why
-    → ((at : ℕ) → why ≡ NotJournal at → IfTold held (λ bytes. CeasesAt bytes at × IsNoJournal bytes)) → (why ≡ Disk → Rose faults now)
+    → ((at : ℕ) → why ≡ NotJournal at → IsNoJournal held at) → (why ≡ Disk → Rose faults now)
     → (why ≡ Full → (J : List Rec) × IfTold held (λ bytes. StandsFor bytes J) × BootExceeds limits places J) → ¬ (Rose faults now)
     → IfTold held (λ bytes. (J : List Rec) → StandsFor bytes J → ¬ (BootExceeds limits places J) → IsFinished status)
 refused-finishes why None limits places status faults now is ceases failed full fine = tt

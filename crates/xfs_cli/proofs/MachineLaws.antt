@@ -4,7 +4,6 @@ use Rattle.std.specs.Prelude.{IsErrAnd}
 use Rattle.xfs_disk.specs.declared.disk.Disk.{Ghosts as Disks}
 use Rattle.xfs_mech.specs.declared.mechanism.Mechanism.{Ghosts as Mechanisms}
 use Rattle.xfs_dispenser.specs.Seen as Of
-use Rattle.xfs_guard.specs.Booting.{LeavesRecorded}
 use Rattle.xfs_guard.specs.declared.fail.BootFault.{BootFault}
 use Rattle.xfs_guard.specs.declared.fail.BootFault.TheVariants.{NotJournal, Disk, Full, Memory}
 use Rattle.xfs_machine.specs.Endings.{IsHandedBack, RefusesAs}
@@ -15,9 +14,11 @@ use Rattle.xfs_lines.specs.declared.commands.guard.player.NoAnswer.{NoAnswer}
 use Rattle.xfs_lines.specs.declared.commands.guard.player.NoAnswer.TheVariants.{Unbooted}
 use Rattle.xfs_lines.proofs.EndsLaws.{HasEnded}
 use Rattle.xfs_lines.proofs.RestartLaws.{at, refused_disk, refused_full, refused_memory, refused_untold, restart-refused}
+use Rattle.xfs_guard.specs.Stored.{EachLeft}
+use Rattle.xfs_guard.specs.Recorded.{IsRecorded}
 
 pub machine-ended : {M D : Type 0} (m : Mechanisms M) (d : Disks D) (machine : MachineView D) (r : Return M D) → IsHandedBack m d machine.state.seen r.mech r.disk
-    → LeavesRecorded d r.disk machine.state.seen.guard.key machine.state.seen.guard.units machine.state.seen.guard.motions → r.disk ≡ machine.disk → HasEnded m d (guard_of machine) r
+    → EachLeft d r.disk (IsRecorded machine.state.seen.guard.key machine.state.seen.guard.units machine.state.seen.guard.motions) → r.disk ≡ machine.disk → HasEnded m d (guard_of machine) r
 machine-ended m d machine r back recorded disk = record {
   motions = back.motions;
   places = back.places;

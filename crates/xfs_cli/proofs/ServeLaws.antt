@@ -38,7 +38,7 @@ use Rattle.xfs_serving.specs.declared.ending.Ending.{Ending}
 use Rattle.xfs_serving.specs.declared.ending.Ending.TheVariants as taking
 use Rattle.xfs_lines.specs.Boots.{WritesBoot, boot_status}
 use Rattle.xfs_lines.specs.Returns.{Return}
-use Rattle.xfs_cli.specs.ServeRuns.{ClosesBehind, RunsServe, StandsForMore, served_line, served_status}
+use Rattle.xfs_cli.specs.ServeRuns.{ClosesBehind, RunsServe, served_line, served_status}
 use Rattle.xfs_lines.specs.Output.Statuses.{IsFinished, IsOneOf}
 use Rattle.xfs_script.specs.Streams.{Output, unread_io}
 use Rattle.xfs_lines.specs.declared.output.status.TheConstants.{DISK_FAULT, JOURNAL_FULL, LINK_FAILED, NOT_A_JOURNAL, NO_MEMORY, READ_TO_END}
@@ -48,15 +48,16 @@ use Rattle.xfs_lines.proofs.EndingLaws.{boot-least}
 use Rattle.xfs_cli.proofs.LoadLaws.{refused-finishes}
 use Rattle.xfs_script.specs.LastLines.{WritesLast}
 use Rattle.xfs_guard.specs.Outcomes.{BootsGuard, RefusesBoot}
+use Rattle.xfs_journal.specs.Held.{StandsForSome}
 
 -- ---- the records at the end begin with those of the boot
 
 stands-more : (held' : Option (List ℕ)) (images' : List ℕ → Type 0) (from records : List Rec) (doubt : Option Rec) → BeginsWith records from
-    → IfTold held' (λ _. (image : List ℕ) → images' image → HasPossible records doubt image) → IfTold held' (λ _. (image : List ℕ) → images' image → StandsForMore from image)
+    → IfTold held' (λ _. (image : List ℕ) → images' image → HasPossible records doubt image) → IfTold held' (λ _. (image : List ℕ) → images' image → StandsForSome (λ list. BeginsWith list from) image)
 stands-more None images' from records doubt begins stored = tt
 stands-more (Some now) images' from records doubt begins stored = λ image left.
     let kept = stored image left in
-    record { list = kept.0; stands = inl kept.2; begins = begins-trans from records kept.0 begins (begins-possible records doubt kept.0 kept.1) }
+    record { records = kept.0; stands = inl kept.2; such = begins-trans from records kept.0 begins (begins-possible records doubt kept.0 kept.1) }
 
 -- ---- an open order isn't settled only where the disk failed
 

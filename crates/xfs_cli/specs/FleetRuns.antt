@@ -20,7 +20,7 @@ use Rattle.xfs_cli.specs.Replay.Runs.{Begins}
 use Rattle.xfs_cli.specs.Replay.States.{Played, guard_state_of}
 use Rattle.xfs_lines.specs.Returns.{Return, back, second_back, ComesBack}
 use Rattle.xfs_lines.specs.Run.{IsFleet}
-use Rattle.xfs_lines.specs.Runs.{AtEntryList, FromStart, IsEnd, IsFullAtEnd, IsStillAt, IsUnbooted, NothingFailed, WhereNoJournal}
+use Rattle.xfs_lines.specs.Runs.{FromStart, IsEnd, IsStillAt, IsUnbooted, NothingFailed}
 use Rattle.xfs_lines.specs.Output.InputEnds.{EndsInput}
 use Rattle.xfs_lines.specs.Output.Statuses.{HasFullRestart, IsFinished}
 use Rattle.xfs_script.specs.Streams.{Streams}
@@ -28,6 +28,8 @@ use Rattle.xfs_lines.specs.Headlines.{HasHeadline}
 use Rattle.xfs_lines.specs.declared.ended.Ended.{Ended}
 use Rattle.xfs_lines.specs.declared.output.status.TheConstants.{DISK_FAULT, JOURNAL_FULL, NOT_A_JOURNAL, NOT_A_LINE, READ_TO_END}
 use Rattle.xfs_guard.specs.declared.bench.Bench.{Bench}
+use Rattle.xfs_journal.specs.Held.{OfJournal, WhereNoJournal}
+use Rattle.xfs_guard.specs.Booting.{LacksRoom}
 
 -- the lines of `replay`, each at the machine of its letter
 abbrev pub fleet_lines : Command (Sides Played) BootFault
@@ -105,15 +107,15 @@ module _ {M D : Type 0} (m : Mechanisms M) (d : Disks D) (core second : Core M D
         ⊎ FromStart BeginsBoth (λ _. AtEither (λ c r. Rose (d.faults c.disk) (d.faults r.disk)))
     pub not_journal : a.status ≡ NOT_A_JOURNAL → AtEither (λ c r. EndsUnread (d.held c.disk) io) ⊎ FromStart BeginsBoth (λ _. AtEither (λ c r. d.held c.disk ≡ None))
     pub full : a.status ≡ JOURNAL_FULL → AtEither (λ c r. EndsFull c.limits (m.places c.mech) (d.held c.disk) io)
-        ⊎ FromStart BeginsBoth (λ _. AtEither (λ c r. IsFullAtEnd c.limits (m.places r.mech) (d.held r.disk)))
+        ⊎ FromStart BeginsBoth (λ _. AtEither (λ c r. LacksRoom (d.held r.disk) c.limits (m.places r.mech)))
     -- a disk that is no journal is due its status, and a journal that has no room for the boot record is due its own
-    pub unread : WhereNoJournal d core.disk (IsDue NOT_A_JOURNAL a.status)
-    pub second_unread : WhereNoJournal d second.disk (WhereFirstBoots io (IsDue NOT_A_JOURNAL a.status))
-    pub overfull : AtEntryList d core.disk (λ records. BootExceeds core.limits (m.places core.mech) records → IsDue JOURNAL_FULL a.status)
-    pub second_overfull : AtEntryList d second.disk (λ others. BootExceeds second.limits (m.places second.mech) others → WhereFirstBoots io (IsDue JOURNAL_FULL a.status))
+    pub unread : WhereNoJournal (d.held core.disk) (IsDue NOT_A_JOURNAL a.status)
+    pub second_unread : WhereNoJournal (d.held second.disk) (WhereFirstBoots io (IsDue NOT_A_JOURNAL a.status))
+    pub overfull : OfJournal (d.held core.disk) (λ records. BootExceeds core.limits (m.places core.mech) records → IsDue JOURNAL_FULL a.status)
+    pub second_overfull : OfJournal (d.held second.disk) (λ others. BootExceeds second.limits (m.places second.mech) others → WhereFirstBoots io (IsDue JOURNAL_FULL a.status))
     -- a run that nothing hinders ends with its input
     pub finishes : NothingFailed io (d.faults core.disk) (d.faults a.disk) → ¬ (Rose (d.faults second.disk) (d.faults b.disk)) → IfTold io.input (λ text.
-        AtEntryList d core.disk (λ records. AtEntryList d second.disk (λ others. AreUnhindered text records others → IsFinished a.status)))
+        OfJournal (d.held core.disk) (λ records. OfJournal (d.held second.disk) (λ others. AreUnhindered text records others → IsFinished a.status)))
 
 -- the machines of a bench have a run of `fleet`
 abbrev pub RunsBoth : {M D P Q L : Type 0} → Mechanisms M → Disks D → Bench M D P Q → Ended M D L → Streams → Type 0

@@ -11,7 +11,7 @@ pub use Rattle.xfs_script.specs.Streams.{Output, output}
 use Rattle.xfs_lines.specs.declared.output.status.TheConstants.{NO_MEMORY, READ_TO_END, WRITE_FAULT}
 
 -- the whole text was written, or the sink failed and took a prefix of it
-pub record IsWritten (text : List ℕ) (status : ℕ) (o : Output) : Type 0 where
+pub record WritesOrFails (text : List ℕ) (status : ℕ) (o : Output) : Type 0 where
   pub status_is : status ≡ READ_TO_END
   pub appends : Appends o.held o.held_now text
 
@@ -21,7 +21,7 @@ pub record IsCutOff (text : List ℕ) (status : ℕ) (o : Output) : Type 0 where
   pub took : TookPrefix o.held o.held_now text
 
 abbrev pub WritesText : List ℕ → ℕ → Output → Type 0
-WritesText text status o = IsWritten text status o ⊎ IsCutOff text status o
+WritesText text status o = WritesOrFails text status o ⊎ IsCutOff text status o
 
 -- memory ran out before, and nothing is written
 pub record IsSilent (status : ℕ) (o : Output) : Type 0 where

@@ -13,13 +13,14 @@ use Rattle.xfs_guard.specs.Entries.{AtEntry, at_entry}
 use Rattle.xfs_lines.specs.Guard.Starts.{IsStart}
 use Rattle.xfs_cli.specs.LoadEnds.{EndsLoad}
 use Rattle.xfs_lines.specs.Run.{IsLoadOf}
-use Rattle.xfs_lines.specs.Runs.{AtEntryList, FromStart, IsEnd, IsUnbooted}
+use Rattle.xfs_lines.specs.Runs.{FromStart, IsEnd, IsUnbooted}
 use Rattle.xfs_lines.specs.Guard.States.{GuardState}
 use Rattle.xfs_lines.specs.Output.Statuses.{IsFinished}
 use Rattle.xfs_script.specs.Streams.{Streams, output_of}
 use Rattle.xfs_lines.specs.Returns.{Return, back}
 use Rattle.xfs_lines.specs.declared.ended.Ended.{Ended}
 use Rattle.xfs_lines.specs.declared.output.status.TheConstants.{DISK_FAULT, INPUT_TOO_LONG, NOT_A_LINE, READ_FAULT, WRITE_FAULT}
+use Rattle.xfs_journal.specs.Held.{OfJournal}
 
 -- what a run of `guard` would see of a machine, with no token minted
 abbrev pub guard_state_of : State → GuardState
@@ -50,10 +51,10 @@ pub record RunsLoad {M D : Type 0} (m : Mechanisms M) (d : Disks D) (core : Core
   pub disk_fault : result.status ≡ DISK_FAULT → EndsFailed (d.faults core.disk) (d.faults result.disk) io
   pub boots_once : BootsOnce m d core result io
   -- the mechanism's new numbers lie behind the journal's
-  pub newer : AtEntryList d core.disk (λ records. IsNewer (length records) (m.motions core.mech) (m.motions result.mech))
+  pub newer : OfJournal (d.held core.disk) (λ records. IsNewer (length records) (m.motions core.mech) (m.motions result.mech))
   -- a run that nothing hinders is done
   pub finishes : ¬ (Rose io.write_faults io.write_faults_now) → ¬ (Rose (d.faults core.disk) (d.faults result.disk))
-      → AtEntryList d core.disk (λ records. ¬ (BootExceeds core.limits (m.places core.mech) records) → IsFinished result.status)
+      → OfJournal (d.held core.disk) (λ records. ¬ (BootExceeds core.limits (m.places core.mech) records) → IsFinished result.status)
 
 -- the words `load N` have a run of `load` with N rounds
 abbrev pub RunsLoadOf : {M D L : Type 0} → List (String Global) → Mechanisms M → Disks D → Core M D → Ended M D L → Streams → Type 0

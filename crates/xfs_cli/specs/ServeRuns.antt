@@ -27,12 +27,14 @@ use Rattle.xfs_guard.specs.Entries.{at_entry}
 use Rattle.xfs_cli.specs.LoadRuns.{Begins}
 use Rattle.xfs_lines.specs.Returns.{Return, back}
 use Rattle.xfs_lines.specs.Run.{IsServeOf}
-use Rattle.xfs_lines.specs.Runs.{AtEntryList, FromStart, IsUnbooted}
+use Rattle.xfs_lines.specs.Runs.{FromStart, IsUnbooted}
 use Rattle.xfs_lines.specs.Output.Statuses.{IsFinished, IsOneOf}
 use Rattle.xfs_script.specs.Streams.{Output, unread_io}
 use Rattle.xfs_lines.specs.declared.ended.Ended.{Ended}
 use Rattle.xfs_lines.specs.declared.output.status.TheConstants.{DISK_FAULT, JOURNAL_FULL, LINK_FAILED, NOT_A_JOURNAL, NO_MEMORY, READ_TO_END}
 use Rattle.xfs_script.specs.LastLines.{WritesLast}
+use Rattle.xfs_journal.specs.Held.{StandsForSome, OfJournal}
+use Rattle.xfs_disk.specs.Moments.{EachImage}
 
 -- the status of a server whose taking ended so, unless the disk failed at the settling of an open order
 abbrev pub served_status : Ending → Result Unit Deny → ℕ
@@ -45,12 +47,6 @@ served_status Memory (Ok done) = NO_MEMORY
 abbrev pub served_line : Result Unit Deny → List (List ℕ)
 served_line (Err deny) = boot_line Disk
 served_line (Ok done) = []
-
--- the bytes stand for a list that begins with these records
-pub record StandsForMore (records : List Rec) (bytes : List ℕ) : Type 0 where
-  pub list : List Rec
-  pub stands : StandsFor bytes list
-  pub begins : BeginsWith list records
 
 -- Mechanism and disk are handed back by a guard that went on from that of the boot: from the base of the boot on its issues are numbered, and where no moved entry of the mechanism was in reach of that base, its list is recorded there with that of the mechanism that comes back. So it is also where the disk tells nothing.
 pub record ClosesBehind {M D : Type 0} (m : Mechanisms M) (d : Disks D) (start : View) (mech : M) (disk : D) : Type 0 where
@@ -74,7 +70,7 @@ pub record ServesUntil {M D : Type 0} (m : Mechanisms M) (d : Disks D) (connecti
   pub line : WritesLast (served_line settled) o
   pub closes : ClosesBehind m d start.seen.guard result.mech result.disk
   -- every image of the disk begins with the records of the boot
-  pub begins : IfTold (d.held result.disk) (λ _. (image : List ℕ) → d.images result.disk image → StandsForMore start.seen.guard.records image)
+  pub begins : EachImage d result.disk (StandsForSome (λ list. BeginsWith list start.seen.guard.records))
 
 -- nothing was taken
 pub record IsUnserved {M D : Type 0} (core : Core M D) (result : Return M D) (before now : DoorLog) (o : Output) : Type 0 where
@@ -94,7 +90,7 @@ pub record RunsServe {M D : Type 0} (m : Mechanisms M) (d : Disks D) (core : Cor
   pub boots_once : BootsOnce m d core result (unread_io o)
   -- a run that nothing hinders takes all its connections, or memory runs out
   pub finishes : ¬ (Rose before.faults now.faults) → ¬ (Rose (d.faults core.disk) (d.faults result.disk))
-      → AtEntryList d core.disk (λ records. ¬ (BootExceeds core.limits (m.places core.mech) records) → IsFinished result.status)
+      → OfJournal (d.held core.disk) (λ records. ¬ (BootExceeds core.limits (m.places core.mech) records) → IsFinished result.status)
 
 -- the words `serve N` have a run of `serve` with N connections
 abbrev pub RunsServeOf : {M D L : Type 0} → List (String Global) → Mechanisms M → Disks D → Core M D → Ended M D L → DoorLog → DoorLog → Output → Type 0

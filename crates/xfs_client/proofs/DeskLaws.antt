@@ -6,11 +6,11 @@ use Rattle.std.specs.List.{range_with_len}
 use Rattle.std.proofs.lemmas.Bool.{false≢true, eqb-true, leb-true, lt-leb, and_parts, and_left, and_right, or_from, or_parts, false_from_ne_true}
 use Rattle.std.proofs.lemmas.Map.Keys.{le_from_not_gt}
 use Rattle.xfs_client.specs.History.{Told, Entry, ask, heard, asks, acknowledges, ends, was_heard, is_asked, is_open, is_acknowledged, first_unacknowledged}
-use Rattle.xfs_client.specs.Desks.{Remembered, Keeps, IsEndOf, has}
+use Rattle.xfs_client.specs.Desks.{Remembered, Recalls, IsEndOf, has}
 use Rattle.xfs_client.proofs.Histories.{asks-heard, asks-ask, was_heard-heard, was_heard-ask, is_asked-heard, is_asked-ask, is_open-ask, is_acknowledged-ask, is_open-heard, is_acknowledged-heard}
 use Rattle.xfs_client.proofs.Numbers.{is_eq-nat_cmp, find-none, find-least, waits_never, runs_never, waits_anew, runs_as_before}
 
-pub keeps-nothing : Keeps record { asked = 0; unacknowledged = []; acknowledged = [] } []
+pub keeps-nothing : Recalls record { asked = 0; unacknowledged = []; acknowledged = [] } []
 keeps-nothing = record {
   count = refl;
   waiting = λ id. nothing id (not (is_acknowledged [] id));
@@ -25,7 +25,7 @@ pub has-none : (ids : List ℕ) → (0 < length ids → ⊥) → (q : ℕ) → h
 has-none [] none q = refl
 has-none (id ∷ ids) none q = absurd (none (omega arith))
 
-module _ (d : Remembered) (h : List Entry) (keeps : Keeps d h) where
+module _ (d : Remembered) (h : List Entry) (keeps : Recalls d h) where
   same_open : (id q : ℕ) → is_open h id ≡ true → (id == q) ≡ true → is_open h q ≡ true
   same_open id q was_open same = ap (is_open h) (sym (eqb-true id q same)) ∙ was_open
 
@@ -44,7 +44,7 @@ module _ (d : Remembered) (h : List Entry) (keeps : Keeps d h) where
   pub keeps-closed : (id : ℕ) (t : Told) (unacknowledged acknowledged' : List ℕ) → is_open h id ≡ true → IsEndOf id t
       → ((q : ℕ) → has unacknowledged q ≡ cond (is_at (nat_cmp id) q) false (has d.unacknowledged q))
       → ((q : ℕ) → has acknowledged' q ≡ cond (is_at (nat_cmp id) q) false (has d.acknowledged q))
-      → Keeps record { asked = d.asked; unacknowledged = unacknowledged; acknowledged = acknowledged' } (h ++ heard t ∷ [])
+      → Recalls record { asked = d.asked; unacknowledged = unacknowledged; acknowledged = acknowledged' } (h ++ heard t ∷ [])
   keeps-closed id t u a was_open end taken gone = record {
     count = keeps.count ∙ sym (asks-heard h t);
     waiting = λ q. taken q ∙ rw (is_eq-nat_cmp id q, keeps.waiting q, is_open-heard h t, is_acknowledged-heard h t, end.over q, end.other q) (waits_never (id == q) (is_open h q) (is_acknowledged h q));
@@ -62,7 +62,7 @@ module _ (d : Remembered) (h : List Entry) (keeps : Keeps d h) where
   -- one ask more
   pub keeps-asked : (unacknowledged : List ℕ)
       → ((q : ℕ) → has unacknowledged q ≡ cond (is_at (nat_cmp (d.asked + 1)) q) true (has d.unacknowledged q))
-      → Keeps record { asked = d.asked + 1; unacknowledged = unacknowledged; acknowledged = d.acknowledged } (h ++ ask ∷ [])
+      → Recalls record { asked = d.asked + 1; unacknowledged = unacknowledged; acknowledged = d.acknowledged } (h ++ ask ∷ [])
   keeps-asked u put = record {
     count = ap (λ n. n + 1) keeps.count ∙ sym (asks-ask h);
     waiting = λ q. put q ∙ rw (is_eq-nat_cmp (d.asked + 1) q, keeps.waiting q, keeps.count, is_open-ask h q, is_acknowledged-ask h q) (waits_anew (asks h + 1 == q) (is_asked h q) (was_heard (ends q) h) (is_acknowledged h q) (never_told q));

@@ -3,7 +3,7 @@ use Rattle.std.specs.Prelude.{⊤}
 use Rattle.std.proofs.Common.{◌≡◌, ◌≢◌, Result, is_ok, ℕ, ◌+◌, List, [], ◌∷◌, ◌++◌, length, Ok, Err, append_assoc, refl, sym, ◌∙◌, ap, subst, arith, inl, inr}
 use Rattle.std.proofs.lemmas.Bool.{cases_lt, false≢true}
 use Rattle.std.proofs.lemmas.List.{length-append, length_push}
-use Rattle.xfs_client.specs.Desks.{Remembered, Keeps}
+use Rattle.xfs_client.specs.Desks.{Remembered, Recalls}
 use Rattle.xfs_client.specs.History.{Told, Entry, heard, asks, told_in}
 use Rattle.xfs_client.specs.declared.heard.HearFault.{HearFault}
 use Rattle.xfs_client.specs.declared.heard.HearFault.TheVariants.{Stranger, Shape, Memory}
@@ -106,7 +106,7 @@ known_of h texts unread frames later frame pending hearing talk =
     ]
 
 pub remembered_of : (h : List Entry) (texts unread frames : List (List ℕ)) (pending : List Pending) (d : Remembered)
-    → Hearing h (texts ++ unread) frames → Conversation texts frames pending → Keeps d h → Remembers d texts unread pending
+    → Hearing h (texts ++ unread) frames → Conversation texts frames pending → Recalls d h → Remembers d texts unread pending
 remembered_of h texts unread frames pending d hearing talk keeps =
     let asks_ = asks_of hearing in
     let a = agreed hearing texts pending talk (front_asks 1 texts unread asks_.0) in

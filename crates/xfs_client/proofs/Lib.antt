@@ -8,5 +8,4 @@ mod Lasts
 pub mod Numbers
 pub mod Openings
 mod Outcomes
-mod TokenTexts
 mod Withdrawals

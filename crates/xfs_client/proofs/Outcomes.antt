@@ -5,12 +5,12 @@ use Rattle.std.proofs.lemmas.Bool.{and_parts, and_from, or_right, ne_eqb}
 use Rattle.serde_json.specs.Data.{Data}
 use Rattle.xfs_client.specs.History as history
 use Rattle.xfs_client.specs.History.{Told, Entry, ask, heard, asks, acknowledges, was_heard, is_asked, is_open, is_acknowledged, told_in}
-use Rattle.xfs_client.specs.Desks.{Remembered, Keeps}
+use Rattle.xfs_client.specs.Desks.{Remembered, Recalls}
 use Rattle.xfs_client.specs.Withdrawals.{ends, dispenses_for, goes_on, hears, after_success, step_of, conversation}
 use Rattle.xfs_client.proofs.Histories.{asks-heard, asks-ask, was_heard-heard, was_heard-ask, is_open-ask}
 
 module _ (x y : List Entry) (asks_same : asks y ≡ asks x) (heard_same : (p : Told → Bool) → was_heard p y ≡ was_heard p x) where
-  pub keeps-same : (d : Remembered) → Keeps d x → Keeps d y
+  pub keeps-same : (d : Remembered) → Recalls d x → Recalls d y
   keeps-same d keeps = record {
     count = keeps.count ∙ sym asks_same;
     waiting = λ id. rw (asks_same, heard_same (history.ends id), heard_same (acknowledges id)) (keeps.waiting id);
@@ -19,8 +19,8 @@ module _ (x y : List Entry) (asks_same : asks y ≡ asks x) (heard_same : (p : T
   }
 
 module _ (h : List Entry) (t : Told) where
-  pub keeps-swapped : (d : Remembered) → Keeps d ((h ++ ask ∷ []) ++ heard t ∷ []) → Keeps d (h ++ heard t ∷ ask ∷ [])
-  keeps-swapped d keeps = subst (Keeps d) (append_assoc h (heard t ∷ []) (ask ∷ [])) (keeps-same ((h ++ ask ∷ []) ++ heard t ∷ []) ((h ++ heard t ∷ []) ++ ask ∷ [])
+  pub keeps-swapped : (d : Remembered) → Recalls d ((h ++ ask ∷ []) ++ heard t ∷ []) → Recalls d (h ++ heard t ∷ ask ∷ [])
+  keeps-swapped d keeps = subst (Recalls d) (append_assoc h (heard t ∷ []) (ask ∷ [])) (keeps-same ((h ++ ask ∷ []) ++ heard t ∷ []) ((h ++ heard t ∷ []) ++ ask ∷ [])
       (asks-ask (h ++ heard t ∷ []) ∙ ap (λ n. n + 1) (asks-heard h t) ∙ sym (asks-heard (h ++ ask ∷ []) t ∙ asks-ask h))
       (λ p. was_heard-ask (h ++ heard t ∷ []) p ∙ was_heard-heard h t p ∙ sym (was_heard-heard (h ++ ask ∷ []) t p ∙ ap (λ b. b || p t) (was_heard-ask h p)))
       d keeps)

@@ -80,7 +80,7 @@ module _ (terms : Terms) (h : List Entry) (texts frames : List (List ℕ)) (hear
       let both = asked (told hearing frame t is) text (rw (asks-heard h t) numbered) in
       subst (λ l. Hearing l (texts ++ text ∷ []) (frames ++ frame ∷ [])) (append_assoc h (heard t ∷ []) (ask ∷ [])) both
 
-  asks_text : (t : Told) → told_in h frame ≡ Ok t → (P : List ℕ → Type 0) → ((text : List ℕ) → P text → IsAskAt (asks h + 1) text) → (m : Move) → withdrawals.IsAsk P m
+  asks_text : (t : Told) → told_in h frame ≡ Ok t → (P : List ℕ → Type 0) → ((text : List ℕ) → P text → IsAskAt (asks h + 1) text) → (m : Move) → withdrawals.IsAskMove P m
       → Hearing (h ++ heard t ∷ ask ∷ []) (texts ++ asked_by m) (frames ++ frame ∷ [])
   asks_text t is P numbered (Ask text) a = followed t is text (numbered text a)
   asks_text t is P numbered Wait a = absurd a

@@ -14,7 +14,7 @@ abbrev pub has : List ℕ → ℕ → Bool
 has ids id = list_any (is_at (nat_cmp id)) ids
 
 -- a desk that asked and heard this
-pub record Keeps (d : Remembered) (h : List Entry) : Type 0 where
+pub record Recalls (d : Remembered) (h : List Entry) : Type 0 where
   pub count : d.asked ≡ asks h
   pub waiting : (id : ℕ) → has d.unacknowledged id ≡ (is_open h id && not (is_acknowledged h id))
   pub running : (id : ℕ) → has d.acknowledged id ≡ (is_open h id && is_acknowledged h id)
@@ -22,11 +22,11 @@ pub record Keeps (d : Remembered) (h : List Entry) : Type 0 where
 
 -- P holds of every history that the desk keeps
 abbrev pub OfKept : Remembered → (List Entry → Type 0) → Type 0
-OfKept d P = (h : List Entry) → Keeps d h → P h
+OfKept d P = (h : List Entry) → Recalls d h → P h
 
 -- the desk keeps every history that it kept, with this entry behind it
 abbrev pub GrowsBy : Entry → Remembered → Remembered → Type 0
-GrowsBy e old new = OfKept old (λ h. Keeps new (h ++ e ∷ []))
+GrowsBy e old new = OfKept old (λ h. Recalls new (h ++ e ∷ []))
 
 -- the ask that this is for is open
 abbrev pub IsOpenTo : List Entry → Told → Type 0

@@ -4,7 +4,7 @@ use Rattle.xfs_conversation.specs.Answers.{heading_of}
 use Rattle.xfs_conversation.specs.Conversation.{Conversation}
 use Rattle.xfs_conversation.specs.Pending.{Pending, is_pending}
 use Rattle.xfs_envelope.specs.Commands.{command_in}
-use Rattle.xfs_client.specs.Desks.{GrowsBy, Keeps, Remembered, has}
+use Rattle.xfs_client.specs.Desks.{GrowsBy, Recalls, Remembered, has}
 use Rattle.xfs_client.specs.History.{Entry, Told, ask, asks, heard, told_in}
 
 -- the id that a service finds in a text, where it finds one
@@ -29,7 +29,7 @@ pub data Hearing : List Entry → List (List ℕ) → List (List ℕ) → Type 0
 
 -- P holds of every history that the desk keeps, with what it asked and what it heard
 abbrev pub OfHearing : Remembered → (List Entry → List (List ℕ) → List (List ℕ) → Type 0) → Type 0
-OfHearing d P = (h : List Entry) (texts frames : List (List ℕ)) → Keeps d h → Hearing h texts frames → P h texts frames
+OfHearing d P = (h : List Entry) (texts frames : List (List ℕ)) → Recalls d h → Hearing h texts frames → P h texts frames
 
 -- the desk keeps one ask more, and asked this text
 pub record AsksOn (text : List ℕ) (old new : Remembered) : Type 0 where
@@ -49,7 +49,7 @@ pub record ComesNext (h : List Entry) (frame : List ℕ) : Type 0 where
 -- every frame of a lawful conversation was heard, whose texts are the first of those that the desk asked
 pub record HeardAll (d : Remembered) (texts unread : List (List ℕ)) (pending : List Pending) : Type 0 where
   pub history : List Entry
-  pub keeps : Keeps d history
+  pub keeps : Recalls d history
   pub frames : List (List ℕ)
   pub hears : Hearing history (texts ++ unread) frames
   pub talk : Conversation texts frames pending

@@ -11,7 +11,7 @@ use Rattle.xfs_envelope.specs.declared.code.Status.{Status}
 use Rattle.xfs_token.specs.Token.{is_nonce}
 use Rattle.xfs_token.specs.Amounts.{IsMade}
 use Rattle.xfs_client.specs.Commands.{ReadsAs, command_text}
-use Rattle.xfs_client.specs.Desks.{Remembered, Keeps, OfKept, IsOpenTo, IsEndOf}
+use Rattle.xfs_client.specs.Desks.{Remembered, Recalls, OfKept, IsOpenTo, IsEndOf}
 use Rattle.xfs_client.specs.History as history
 use Rattle.xfs_client.specs.History.{Told, Entry, asks, told_in, is_open}
 use Rattle.xfs_client.specs.declared.heard.HearFault.{HearFault}
@@ -100,7 +100,7 @@ conversation texts = fold (λ h text. hears h (told_in h text)) (history.ask ∷
 
 -- a withdrawal that was started and has heard these texts
 abbrev pub HasHeard : Withdrawing → List (List ℕ) → Type 0
-HasHeard w texts = Keeps w.desk (conversation texts)
+HasHeard w texts = Recalls w.desk (conversation texts)
 
 -- P holds of all texts that a withdrawal may have heard since its start
 abbrev pub OfHeard : Withdrawing → (List (List ℕ) → Type 0) → Type 0
@@ -108,11 +108,11 @@ OfHeard w P = (texts : List (List ℕ)) → HasHeard w texts → P texts
 
 -- the desk keeps what it kept, with what was told and the ask that follows
 abbrev pub HearsThen : Told → Result Step HearFault → Remembered → Remembered → Type 0
-HearsThen t step old new = OfKept old (λ h. IsOpenTo h t → Keeps new (goes_on h t step))
+HearsThen t step old new = OfKept old (λ h. IsOpenTo h t → Recalls new (goes_on h t step))
 
 -- the desk keeps what it kept, with whatever ended the open ask of the id and the ask that follows
 abbrev pub EndsThen : ℕ → Result Step HearFault → Remembered → Remembered → Type 0
-EndsThen id step old new = (h : List Entry) (t : Told) → Keeps old h → is_open h id ≡ true → IsEndOf id t → Keeps new (goes_on h t step)
+EndsThen id step old new = (h : List Entry) (t : Told) → Recalls old h → is_open h id ≡ true → IsEndOf id t → Recalls new (goes_on h t step)
 
 abbrev pub denomination : List ℕ → ℕ → Data
 denomination currency amount = object (member (codes "currencies") (object (member currency (numbered amount) no_members)) no_members)
@@ -135,19 +135,19 @@ pub record IsPresent (text : List ℕ) : Type 0 where
   pub is : text ≡ command_text (codes "CashDispenser.Present") 3 empty
   pub reads_back : ReadsAs text (codes "CashDispenser.Present") 3 empty
 
-abbrev pub IsAsk : (List ℕ → Type 0) → Move → Type 0
-IsAsk P (Ask text) = P text
-IsAsk P Wait = ⊥
-IsAsk P Done = ⊥
-IsAsk P (Ended code) = ⊥
-IsAsk P (Refused status) = ⊥
+abbrev pub IsAskMove : (List ℕ → Type 0) → Move → Type 0
+IsAskMove P (Ask text) = P text
+IsAskMove P Wait = ⊥
+IsAskMove P Done = ⊥
+IsAskMove P (Ended code) = ⊥
+IsAskMove P (Refused status) = ⊥
 
 -- the move of a step
 abbrev pub IsMove : Terms → Result Step HearFault → Move → Type 0
 IsMove terms (Err e) m = ⊥
 IsMove terms (Ok waits) m = m ≡ Wait
-IsMove terms (Ok (dispenses nonce)) m = IsAsk (IsDispense terms nonce) m
-IsMove terms (Ok presents) m = IsAsk IsPresent m
+IsMove terms (Ok (dispenses nonce)) m = IsAskMove (IsDispense terms nonce) m
+IsMove terms (Ok presents) m = IsAskMove IsPresent m
 IsMove terms (Ok ends) m = m ≡ Done
 IsMove terms (Ok (fails code)) m = m ≡ Ended code
 IsMove terms (Ok (gives_up status)) m = m ≡ Refused status

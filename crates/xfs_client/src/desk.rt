@@ -7,7 +7,7 @@ ghost use Rattle.xfs_envelope.specs.Replies as replies;
 ghost use Rattle.xfs_client.specs.Commands.{ReadsAs, command_text};
 ghost use Rattle.xfs_client.specs.History as history;
 ghost use Rattle.xfs_client.specs.History.{Entry, Told, addressee, first_unacknowledged, is_open, of_ask, open_ask, told, told_by, told_in, with_status};
-ghost use Rattle.xfs_client.specs.Desks.{GrowsBy, IsEndOf, IsOpenTo, Keeps, OfKept};
+ghost use Rattle.xfs_client.specs.Desks.{GrowsBy, IsEndOf, IsOpenTo, Recalls, OfKept};
 ghost use Rattle.xfs_client.specs.declared.desk.AskFault.TheVariants as AskFault;
 ghost use Rattle.xfs_client.specs.declared.heard.HearFault.TheVariants as HearFault;
 
@@ -75,7 +75,7 @@ impl Model for Desk {
 impl Desk {
     /// A desk that asked and heard nothing.
     pub fn new(alloc: Global) -> Desk
-        ensures { Keeps result [] }
+        ensures { Recalls result [] }
     {
         Desk {
             asked: 0,
@@ -225,7 +225,7 @@ impl Desk {
     }
 
     pub(crate) fn note(&mut self, heard: &Heard) -> Result<(), Memory>
-        ensures grown { OnOk result (OfKept self.old (λ h. IsOpenTo h (told heard.now) → Keeps self.new (h ++ history.heard (told heard.now) ∷ []))) }
+        ensures grown { OnOk result (OfKept self.old (λ h. IsOpenTo h (told heard.now) → Recalls self.new (h ++ history.heard (told heard.now) ∷ []))) }
         ensures same { OnErr result (self.new ≡ self.old) }
     {
         match heard {
@@ -239,7 +239,7 @@ impl Desk {
     }
 
     fn acknowledge(&mut self, id: u64) -> Result<(), Memory>
-        ensures grown { OnOk result (OfKept self.old (λ h. is_open h id ≡ true → Keeps self.new (h ++ history.heard (history.acknowledged id) ∷ []))) }
+        ensures grown { OnOk result (OfKept self.old (λ h. is_open h id ≡ true → Recalls self.new (h ++ history.heard (history.acknowledged id) ∷ []))) }
         ensures same { OnErr result (self.new ≡ self.old) }
     {
         self.acknowledged.insert(id)?;
@@ -249,8 +249,8 @@ impl Desk {
 
     /// The ask is over; no memory is taken.
     pub(crate) fn close(&mut self, id: u64)
-        ensures { (h : List Entry) (t : Told) → Keeps self.old h → is_open h id ≡ true → IsEndOf id t
-            → Keeps self.new (h ++ history.heard t ∷ []) }
+        ensures { (h : List Entry) (t : Told) → Recalls self.old h → is_open h id ≡ true → IsEndOf id t
+            → Recalls self.new (h ++ history.heard t ∷ []) }
     {
         self.unacknowledged.remove(&id);
         self.acknowledged.remove(&id);

@@ -3,7 +3,7 @@ ghost use Rattle.std.specs.Str.{IsUtf8};
 ghost use Rattle.serde_json.specs.View.{view};
 ghost use Rattle.xfs_envelope.specs.Fields.{empty};
 ghost use Rattle.xfs_client.specs.Commands.{ReadsAs, command_text};
-ghost use Rattle.xfs_client.specs.Desks.{Keeps, IsOpenTo, IsEndOf, GrowsBy};
+ghost use Rattle.xfs_client.specs.Desks.{Recalls, IsOpenTo, IsEndOf, GrowsBy};
 ghost use Rattle.xfs_client.specs.History as history;
 ghost use Rattle.xfs_client.specs.History.{Entry, Told, is_open, told};
 ghost use Rattle.xfs_client.specs.Withdrawals.{HasHeard, IsDispense, IsMove, IsPresent, after_completion, after_success, conversation, dispense_payload, goes_on, is_success, nonce_of, step_in, step_of, EndsThen, HearsThen, OfHeard};
@@ -60,7 +60,7 @@ impl Withdrawal {
         requires low { 1 ≤ amount }
         requires high { amount ≤ 1000000 }
         ensures terms { result.terms ≡ record { currency = currency; amount = amount; key = key } }
-        ensures fresh { Keeps result.desk [] }
+        ensures fresh { Recalls result.desk [] }
     {
         Withdrawal {
             desk: Desk::new(alloc),
@@ -74,7 +74,7 @@ impl Withdrawal {
     /// The text that is to be sent first: it asks for a nonce. Where memory runs out it may be
     /// tried again.
     pub fn start(&mut self) -> Result<Vec<u8>, Memory>
-        requires fresh { Keeps self.old.desk [] }
+        requires fresh { Recalls self.old.desk [] }
         ensures text { IfOk result (λ t. t.items ≡ command_text (codes "Common.GetCommandNonce") 1 empty) }
         ensures reads_back { IfOk result (λ t. ReadsAs t.items (codes "Common.GetCommandNonce") 1 empty) }
         ensures heard { OnOk result (HasHeard self.new []) }

@@ -1,5 +1,5 @@
 mod Changes
-mod Crash
+pub mod Crash
 mod Outcomes
 mod Settled
 mod Written

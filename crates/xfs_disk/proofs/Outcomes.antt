@@ -3,7 +3,7 @@ use Rattle.std.proofs.Common.{◌≡◌, ◌⊎◌, inl, inr, ℕ, ◌-◌, ◌�
 use Rattle.std.specs.Prelude.{IsTrue, OnOk, OnErr, Ok, Err}
 use Rattle.std.specs.declared.result.Result.{Result}
 use Rattle.xfs_disk.specs.Disk.{Torn, Cut, Elapses, ImagesFollow, AddsNone, overlaid, resized}
-use Rattle.xfs_disk.specs.Steps.{LeftNow, LeftSince, history, is_sound}
+use Rattle.xfs_disk.specs.Steps.{LeftNow, LeftSince, NotesWrite, history, is_sound}
 use Rattle.xfs_disk.specs.declared.step.Step.{Step}
 use Rattle.xfs_disk.specs.declared.step.Step.TheVariants.{Write, Resize}
 use Rattle.xfs_disk.proofs.Changes.{Noted, elapses, elapses_same, follows, keeps_sound, unchanged}
@@ -23,7 +23,7 @@ abbrev pub IsSame : List ℕ → List Step → List ℕ → List Step → Type 0
 IsSame b ss new ns = (new ≡ b) × (ns ≡ ss)
 
 abbrev pub Wrote : List ℕ → List Step → List ℕ → List Step → ℕ → List ℕ → Type 0
-Wrote b ss new ns at bytes = (new ≡ overlaid b at bytes) × ((was : Vec ℕ Global) × (was.items ≡ take (min (length bytes) (length b - at)) (drop at b)) × (ns ≡ ss ++ Write at (length bytes) was ∷ []))
+Wrote b ss new ns at bytes = (new ≡ overlaid b at bytes) × NotesWrite at (length bytes) b ss ns
 
 abbrev pub Resized : List ℕ → List Step → List ℕ → List Step → ℕ → Type 0
 Resized b ss new ns len = (new ≡ resized b len) × ((was : Vec ℕ Global) × (was.items ≡ b) × (ns ≡ ss ++ Resize len was ∷ []))

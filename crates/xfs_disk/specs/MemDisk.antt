@@ -1,5 +1,6 @@
 -- What a disk in memory shows.
-use Rattle.std.specs.Prelude.{◌≡◌, ℕ, List, length, reverse}
+use Rattle.std.specs.Prelude.{◌≡◌, ℕ, max, List, length, reverse}
+use Rattle.xfs_base.specs.Causes.{next_count}
 use Rattle.xfs_disk.specs.declared.memory.MemDisk.{MemDisk}
 use Rattle.xfs_disk.specs.declared.step.Step.{Step}
 use Rattle.xfs_disk.specs.Disk.{Elapses}
@@ -44,6 +45,11 @@ reads_of m = m.reads
 -- the length of the longest buffer that a read was handed
 abbrev pub widest_of : MemDisk → ℕ
 widest_of m = m.widest
+
+-- a call that reads into a buffer of this length: one read more, and the longest buffer so far
+pub record CountsRead (old new : MemDisk) (len : ℕ) : Type 0 where
+  pub reads : reads_of new ≡ next_count (reads_of old)
+  pub widest : widest_of new ≡ max (widest_of old) len
 
 -- a call that reads nothing
 pub record IsUnread (old new : MemDisk) : Type 0 where

@@ -1,5 +1,5 @@
 -- The images of each moment of a disk in memory, from its bytes and the steps that led to them, of which the newest comes first.
-use Rattle.std.specs.Prelude.{◌≡◌, ◌⊎◌, ℕ, zero, suc, ◌+◌, ◌≤◌, ◌%◌, ◌==◌, nat_le, Bool, true, false, ◌&&◌, ◌||◌, if◌then◌else◌, List, [], ◌∷◌, ◌++◌, length, take, drop, replicate}
+use Rattle.std.specs.Prelude.{◌≡◌, ◌⊎◌, ℕ, zero, suc, ◌+◌, ◌-◌, ◌≤◌, ◌%◌, ◌==◌, nat_le, min, Bool, true, false, ◌&&◌, ◌||◌, if◌then◌else◌, List, [], ◌∷◌, ◌++◌, length, take, drop, replicate}
 use Rattle.std.specs.declared.snapshot.Snapshot.{Snapshot}
 use Rattle.std.specs.Prelude.{Vec}
 use Rattle.std.specs.Global.{Global}
@@ -11,6 +11,10 @@ use Rattle.xfs_disk.specs.declared.step.Step.TheVariants.{Write, Resize, Sync}
 abbrev pub history : List (Snapshot (Vec Step Global)) → List Step → List Step
 history [] since = since
 history (s ∷ newer) since = s.value.items ++ Sync ∷ history newer since
+
+-- a write of so many bytes at a place was noted behind the steps, with the bytes that it covers
+abbrev pub NotesWrite : ℕ → ℕ → List ℕ → List Step → List Step → Type 0
+NotesWrite at len all old new = (was : Vec ℕ Global) × (was.items ≡ take (min len (length all - at)) (drop at all)) × (new ≡ old ++ Write at len was ∷ [])
 
 -- the bytes before a step
 abbrev pub before : Step → List ℕ → List ℕ

@@ -1,10 +1,10 @@
 //! A disk in memory. It keeps what each call since the last sync changed, so a crash may leave all that the contract allows.
 //! What changed before is kept for proofs alone.
-ghost use Rattle.std.specs.Prelude.{◌≡◌, ◌+◌, ◌-◌, ◌<◌, ◌≤◌, min, ◌++◌, [], ◌∷◌, Some, length, take, drop, replicate, reverse, IsTrue, IfOk, OnOk, OnErr};
+ghost use Rattle.std.specs.Prelude.{◌≡◌, ◌+◌, ◌-◌, ◌<◌, ◌≤◌, ◌++◌, [], ◌∷◌, Some, length, take, drop, replicate, reverse, IsTrue, IfOk, OnOk, OnErr};
 ghost use Rattle.xfs_base.specs.Causes.{Rose};
-ghost use Rattle.xfs_disk.specs.declared.step.Step.TheVariants.{Write, Resize, Sync};
+ghost use Rattle.xfs_disk.specs.declared.step.Step.TheVariants.{Resize, Sync};
 ghost use Rattle.xfs_disk.specs.Disk.{overlaid, resized};
-ghost use Rattle.xfs_disk.specs.Steps.{LeftNow, LeftSince, history, is_sound, synced, blotted, crashed};
+ghost use Rattle.xfs_disk.specs.Steps.{LeftNow, LeftSince, NotesWrite, history, is_sound, synced, blotted, crashed};
 ghost use Rattle.xfs_disk.specs.Images.{as_read, counts_now, only_now};
 
 use crate::Disk;
@@ -88,11 +88,11 @@ impl MemDisk {
 }
 
 impl Disk for MemDisk {
-    ghost use Rattle.std.specs.Prelude.{◌≡◌, ◌+◌, ◌-◌, ◌^◌, ◌≤◌, min, max, Some, length, IfOk, OnOk, OnErr};
+    ghost use Rattle.std.specs.Prelude.{◌≡◌, ◌≤◌, Some, length, IfOk, OnOk, OnErr};
     ghost use Rattle.std.specs.Io.{ReadsAtMost};
     ghost use Rattle.xfs_base.specs.Causes.{HasCause};
     ghost use Rattle.xfs_disk.specs.Disk.{overlaid, resized, Gives, Torn, Cut, ImagesFollow, AddsNone, Only};
-    ghost use Rattle.xfs_disk.specs.MemDisk.{bytes_of, reads_of, widest_of, faults_of, IsImage, TimeGoesOn, IsUnread, IsUndone};
+    ghost use Rattle.xfs_disk.specs.MemDisk.{bytes_of, faults_of, IsImage, TimeGoesOn, CountsRead, IsUnread, IsUndone};
 
     ghost held = { λ m. Some m.bytes.items };
 
@@ -129,8 +129,7 @@ impl Disk for MemDisk {
         ensures crash { AddsNone (IsImage self.old) (IsImage self.new) }
         ensures time { TimeGoesOn self.old self.new }
         ensures cause { HasCause (faults_of self.old) (faults_of self.new) result }
-        ensures counted { reads_of self.new ≡ min (reads_of self.old + 1) (2 ^ 64 - 1) }
-        ensures widest { widest_of self.new ≡ max (widest_of self.old) (length into.old) }
+        ensures counted { CountsRead self.old self.new (length into.old) }
         ensures passed { OnErr result ⊥ }
     {
         self.reads = self.reads.saturating_add(1);
@@ -235,8 +234,7 @@ fn overwrite(
 ) -> Result<(), AllocError>
     requires { at ≤ length all.old.items }
     ensures written { OnOk result (all.new.items ≡ overlaid all.old.items at bytes.now) }
-    ensures noted { OnOk result ((was : _) × (was.items ≡ take (min (length bytes.now) (length all.old.items - at)) (drop at all.old.items))
-        × (steps.new.items ≡ steps.old.items ++ Write at (length bytes.now) was ∷ [])) }
+    ensures noted { OnOk result (NotesWrite at (length bytes.now) all.old.items steps.old.items steps.new.items) }
     ensures err { OnErr result ((all.new.items ≡ all.old.items) × (steps.new.items ≡ steps.old.items)) }
 {
     let over = bytes.len().min(all.len() - at);

@@ -19,7 +19,7 @@ use Rattle.xfs_guard.specs.Refusals.{Binds, bound_token, over_budget}
 use Rattle.xfs_guard.specs.declared.deny.Deny.{Deny as Denial}
 use Rattle.xfs_guard.specs.declared.open.Open.TheVariants.{No}
 use Rattle.xfs_dispenser.specs.Answers.{CashAnswer, told, planned}
-use Rattle.xfs_dispenser.specs.Begins.{IsDispensed, IsStorageSet, IsTold, RoomChecks, StartsWith, StorageChecks, added_refusal, are_few, unit_refusal}
+use Rattle.xfs_dispenser.specs.Begins.{IsDispensed, IsStorageSet, StartsRefused, RoomChecks, StartsWith, StorageChecks, added_refusal, are_few, unit_refusal}
 use Rattle.xfs_dispenser.specs.Checks.{Passed, Permits, TokenChecks, active_refusal, inactive_refusal, unfit_refusal, passed_unless, within_budget}
 use Rattle.xfs_dispenser.specs.Denominations.{FirstOf, MixGiven, NotesGiven, count_refusal, currency_refusal, given_unless, members_refusal}
 use Rattle.xfs_dispenser.specs.Plans.{AreEight, CanBeginAll, IsPlanned, dispense_plan, storage_plan}
@@ -153,7 +153,7 @@ ok-err : {T : Type 0} (x : T) (r : Refusal) (a : Result T Refusal) → a ≡ Ok 
 ok-err {T} x r a e f = (let g : ◌≡◌ {A = Result T Refusal} (Ok x) (Err r) = sym e ∙ f in cc)
 
 -- a plan is no answer
-told-plan : (refusal : Refusal) (plan : Plan) → IsTold refusal (planned plan) → ⊥
+told-plan : (refusal : Refusal) (plan : Plan) → StartsRefused refusal (planned plan) → ⊥
 told-plan refusal plan t = (let e = t.is in cc)
 
 answer-plan : (answer : CashAnswer) (plan : Plan) → planned plan ≡ told answer → ⊥

@@ -22,11 +22,11 @@ use Rattle.xfs_dispenser.specs.Units.{units_with}
 use Rattle.xfs_dispenser.proofs.DenyLaws.{due-disk, due-some, is_disk}
 use Rattle.xfs_dispenser.proofs.PlanLaws.{units_from, units-some}
 
-err-same : {T : Type 0} {a b : Deny} → ◌≡◌ {A = Result T Deny} (Err a) (Err b) → a ≡ b
+pub err-same : {T : Type 0} {a b : Deny} → ◌≡◌ {A = Result T Deny} (Err a) (Err b) → a ≡ b
 err-same e = cc
 
 -- a call failed since the disk did
-abbrev IsDiskFault : Type 0 → Deny → Type 0
+abbrev pub IsDiskFault : Type 0 → Deny → Type 0
 IsDiskFault T deny = ◌≡◌ {A = Result T Deny} (Err deny) (Err Disk)
 
 -- an order is refused, or the disk failed at its record

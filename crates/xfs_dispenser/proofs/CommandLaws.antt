@@ -5,7 +5,7 @@ use Rattle.std.specs.declared.option.Option.{Option}
 use Rattle.std.specs.declared.result.Result.{Result}
 use Rattle.xfs_base.specs.declared.faults.Memory.{Memory}
 use Rattle.xfs_dispenser.specs.Answers.{Start, answer_of, planned, start_of}
-use Rattle.xfs_dispenser.specs.Begins.{IsDispensed, IsTold}
+use Rattle.xfs_dispenser.specs.Begins.{IsDispensed, StartsRefused}
 use Rattle.xfs_dispenser.specs.Checks.{Passed, IsGrant, GrantChecks, active_refusal}
 use Rattle.xfs_dispenser.specs.Denominations.{FirstOf, members_refusal}
 use Rattle.xfs_dispenser.specs.Seen.{Seen}
@@ -16,7 +16,7 @@ use Rattle.xfs_dispenser.specs.declared.plan.Plan.{Plan}
 use Rattle.xfs_dispenser.specs.declared.refusal.Refusal.{Refusal}
 
 -- the amount of a dispense is out of its range
-pub dispense-invalid : (s : Seen) (exchange : Bool) (notes : Notes) (token : Option (List ℕ)) (refusal : Refusal) (start : Start) → members_refusal notes ≡ Some refusal → IsTold refusal start → IsDispensed s exchange notes token s start
+pub dispense-invalid : (s : Seen) (exchange : Bool) (notes : Notes) (token : Option (List ℕ)) (refusal : Refusal) (start : Start) → members_refusal notes ≡ Some refusal → StartsRefused refusal start → IsDispensed s exchange notes token s start
 dispense-invalid s exchange notes token refusal start e t = record {
   checked = Err refusal;
   checks = subst (λ o. FirstOf {T = Passed} o (FirstOf (active_refusal exchange) (GrantChecks s.guard notes token)) (Err refusal)) (sym e) refl;
@@ -27,7 +27,7 @@ dispense-invalid s exchange notes token refusal start e t = record {
 }
 
 -- an exchange is active
-pub dispense-active : (s : Seen) (exchange : Bool) (notes : Notes) (token : Option (List ℕ)) (refusal : Refusal) (start : Start) → members_refusal notes ≡ None → active_refusal exchange ≡ Some refusal → IsTold refusal start
+pub dispense-active : (s : Seen) (exchange : Bool) (notes : Notes) (token : Option (List ℕ)) (refusal : Refusal) (start : Start) → members_refusal notes ≡ None → active_refusal exchange ≡ Some refusal → StartsRefused refusal start
     → IsDispensed s exchange notes token s start
 dispense-active s exchange notes token refusal start e f t = record {
   checked = Err refusal;
@@ -39,12 +39,12 @@ dispense-active s exchange notes token refusal start e f t = record {
   starts = t;
 }
 
-told-some : (refusal : Refusal) (start : Start) → IsTold refusal start → refusal ≢ Refusal.Memory
+told-some : (refusal : Refusal) (start : Start) → StartsRefused refusal start → refusal ≢ Refusal.Memory
 told-some refusal start t e = (let f : None ≡ Some t.answer = sym (ap answer_of e) ∙ t.due in cc)
 
 -- there is no grant
 pub dispense-refused : (s : Seen) (exchange : Bool) (notes : Notes) (token text : Option (List ℕ)) (next : Seen) (refusal : Refusal) (start : Start) → members_refusal notes ≡ None → active_refusal exchange ≡ None → text ≡ token
-    → (◌≢◌ {A = Result Grant Refusal} (Err refusal) (Err Refusal.Memory) → IsGrant s notes text (Err refusal) next) → IsTold refusal start → IsDispensed s exchange notes token next start
+    → (◌≢◌ {A = Result Grant Refusal} (Err refusal) (Err Refusal.Memory) → IsGrant s notes text (Err refusal) next) → StartsRefused refusal start → IsDispensed s exchange notes token next start
 dispense-refused s exchange notes token text next refusal start e f same grant t =
     let l = subst (λ x. IsGrant s notes x (Err refusal) next) same (grant (λ g. told-some refusal start t (let h : refusal ≡ Refusal.Memory = cc in h))) in
     record {

@@ -37,9 +37,9 @@ use Rattle.xfs_guard.proofs.PresentedLaws.{presented_in-push}
 use Rattle.xfs_guard.proofs.RecordLaws.{length-pushed}
 use Rattle.xfs_guard.proofs.SizeLaws.{size-longer}
 use Rattle.xfs_dispenser.specs.Answers.{CashAnswer, Start, Went, denial, done, planned}
-use Rattle.xfs_dispenser.specs.Begins.{IsDispensed, IsTold, StartsWith}
+use Rattle.xfs_dispenser.specs.Begins.{IsDispensed, StartsRefused, StartsWith}
 use Rattle.xfs_dispenser.specs.Checks.{Passed, DispenseChecks, IsPermitted, IsTokenPassed, IsUnbound, Permits, TokenChecks, active_refusal, passed_unless, unfit_refusal, within_budget}
-use Rattle.xfs_dispenser.specs.Complete.{AreAsked, CanGive, IsBegunInFull, IsCalm, IsComplete, IsGiven, IsPresented, Turns}
+use Rattle.xfs_dispenser.specs.Complete.{AreAsked, CanGive, IsBegunInFull, IsCalm, IsComplete, IsGiven, IsPresented, WorksTurns}
 use Rattle.xfs_dispenser.specs.Plans.{dispense_plan, order_plan, stacks}
 use Rattle.xfs_dispenser.specs.Seen.{Seen}
 use Rattle.xfs_dispenser.specs.declared.grant.Grant.{Grant}
@@ -298,7 +298,7 @@ dispense-left s bound notes token start c calm d = elim (checked-granted s.guard
 ]
   where
     refused : (deny : Deny) → ((answer : CashAnswer) → denial deny ≡ Some answer → ⊥) → (d.grant ≡ Err (Refused deny)) × (bound ≡ s) → ⊥
-    refused deny none (is, same) = (let t : IsTold (Refused deny) start = subst (λ r. StartsWith r (λ (l : Grant). planned (dispense_plan l.issue l.counts)) start) is d.starts in none t.answer t.due)
+    refused deny none (is, same) = (let t : StartsRefused (Refused deny) start = subst (λ r. StartsWith r (λ (l : Grant). planned (dispense_plan l.issue l.counts)) start) is d.starts in none t.answer t.due)
 
     permits : (passed : Passed) → passed.token ≡ token → passed.amounts ≡ c.can.amounts → NotesGiven s.guard.units s.guard.places.units notes (Ok passed.counts) → IsCoveredBy s.guard c.can.amounts passed.counts
         → IsPermitted s passed d.grant bound ⊎ IsUnbound s passed d.grant bound → IsLeft s notes token c.can.amounts bound start
@@ -364,7 +364,7 @@ bound-open s bound notes token start c l = go c.can.binding
 pub less-room : (v : View) (issue many few : ℕ) (amounts : List (List ℕ × ℕ)) → few ≤ many → IsOpenFor v issue amounts many → IsOpenFor v issue amounts few
 less-room v issue many few amounts le o = record { open_still = o.open_still; booted = o.booted; records = (let e = o.records in omega (arith, e, le)); bytes = (let e = o.bytes in omega (arith, e, le)); lives = o.lives; bound = o.bound }
 
-turns-of : (parts : List Part) (s : Seen) (plan : Plan) (notes : Option CountsOf) (next : Seen) (went : Went) → parts ≢ [] → Turns (3 * length parts) s plan next went → TurnsOf parts s plan notes next went
+turns-of : (parts : List Part) (s : Seen) (plan : Plan) (notes : Option CountsOf) (next : Seen) (went : Went) → parts ≢ [] → WorksTurns (3 * length parts) s plan next went → TurnsOf parts s plan notes next went
 turns-of [] s plan notes next went some t = absurd (some refl)
 turns-of (part ∷ parts) s plan notes next went some t = t
 
@@ -373,14 +373,14 @@ some-nonce None issue e = cc
 some-nonce (Some n) issue e = (n, refl)
 
 given-full : (s bound : Seen) (notes : Notes) (token : List ℕ) (start : Start) (c : CanGive s.guard notes token) (l : IsLeft s notes token c.can.amounts bound start) (next : Seen) (went : Went) → s.guard.open_order ≡ No
-    → length l.passed.counts.0 ≡ 8 → IsCalm bound next → Turns (3 * length (stacks l.issue l.passed.counts.0)) bound (dispense_plan l.issue l.passed.counts) next went → IsGiven s l.passed.counts next went
+    → length l.passed.counts.0 ≡ 8 → IsCalm bound next → WorksTurns (3 * length (stacks l.issue l.passed.counts.0)) bound (dispense_plan l.issue l.passed.counts) next went → IsGiven s l.passed.counts next went
 given-full s bound notes token start c l next went none eight calm turns =
     let ready = bound-open s bound notes token start c l in
     let some = stacks-left l.issue 1 l.passed.counts.0 (some-notes l.passed.counts.0 l.covered.low) in
     let all = stacks-full l.issue c.can.amounts (Some l.passed.counts) l.passed.counts.0 0 bound (dispense_plan l.issue l.passed.counts) next went (omega (arith, eight)) (ready.4 ∙ none) refl (stacks-all l.issue l.passed.counts.0)
     (less-room bound.guard l.issue 8 (length l.passed.counts.0) c.can.amounts (omega (arith, eight)) ready.0) ready.1 calm
     (turns-of (stacks_from l.issue 1 l.passed.counts.0) bound (dispense_plan l.issue l.passed.counts) (Some l.passed.counts) next went some
-    (subst (λ parts. Turns (3 * length parts) bound (dispense_plan l.issue l.passed.counts) next went) (stacks-all l.issue l.passed.counts.0) turns)) in
+    (subst (λ parts. WorksTurns (3 * length parts) bound (dispense_plan l.issue l.passed.counts) next went) (stacks-all l.issue l.passed.counts.0) turns)) in
     let lives = some-nonce (live_nonce next.guard.records) l.issue all.open_for.lives in
     let gained : (u : ℕ) → at next.guard.places.transport u ≡ at s.guard.places.transport u + at l.passed.counts u = (λ u. rw ready.2 at (all.transport u)) in
     record {
@@ -410,7 +410,7 @@ dispense-full s bound notes token start none c calm d =
       done = λ next went still turns. given-full s bound notes token start c l next went none l.eight still turns;
     }
 
-presented-full : (s next : Seen) (went : Went) → s.guard.open_order ≡ No → CanPresent s.guard → IsCalm s next → Turns 3 s (order_plan Ask.Present) next went → IsPresented s next went
+presented-full : (s next : Seen) (went : Went) → s.guard.open_order ≡ No → CanPresent s.guard → IsCalm s next → WorksTurns 3 s (order_plan Ask.Present) next went → IsPresented s next went
 presented-full s next went none can calm turns =
     let c = carried-full s (order_plan Ask.Present) Ask.Present [] 0 next went none refl (present-free s.guard can) calm turns in
     let places = present-places s.guard.places c.middle.guard.places c.full.number c.full.diverted c.full.places in
@@ -421,6 +421,6 @@ pub complete : IsComplete
 complete = record {
   dispense = λ s bound notes token after start none can calm begins. dispense-full s bound notes token start none can calm begins.1;
   present = λ s begun next after start went none can calm begins turns.
-      let t : Turns 3 s (order_plan Ask.Present) next went = subst (λ x. Turns 3 x (order_plan Ask.Present) next went) begins.0 turns in
+      let t : WorksTurns 3 s (order_plan Ask.Present) next went = subst (λ x. WorksTurns 3 x (order_plan Ask.Present) next went) begins.0 turns in
       (begins.2, begins.0, presented-full s next went none can calm t);
 }

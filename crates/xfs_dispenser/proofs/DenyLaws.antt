@@ -13,7 +13,7 @@ use Rattle.xfs_guard.specs.declared.deny.Deny.{Deny}
 use Rattle.xfs_guard.specs.declared.deny.Deny.TheVariants.{Disk, Memory}
 use Rattle.xfs_dispenser.specs.Answers.{IsDenial, CashAnswer, Went, denial, done, plain_answer}
 use Rattle.xfs_dispenser.specs.Seen.{seen}
-use Rattle.xfs_dispenser.specs.Steps.{IsDenied, IsUnwritten}
+use Rattle.xfs_dispenser.specs.Steps.{IsDenied, FailsToWrite}
 
 -- whether a refusal is the disk's
 pub is_disk : (deny : Deny) → (deny ≡ Disk) ⊎ (deny ≢ Disk)
@@ -41,7 +41,7 @@ told-disk deny answer due is = (let e : Some (plain_answer DeviceNotReady) ≡ S
 -- a record is refused, or the disk fails at it
 pub refused-or-unwritten : (T : Type 0) {D : Type 0} (g : Ghosts D) (old new : GuardView D) (refusal : Option Deny) (r : Rec) (deny : Deny) (went : Went)
     → Answers {T = T} (Err deny) refusal → (deny ≡ Disk → new.state ≡ shut_at r old.state) → g.faults old.disk ≤ g.faults new.disk → (deny ≡ Disk → Rose (g.faults old.disk) (g.faults new.disk))
-    → (deny ≢ Disk → new ≡ old) → IsDenial deny went → IsDenied (seen g old) refusal (seen g new) went ⊎ IsUnwritten (seen g old) refusal r (seen g new) went
+    → (deny ≢ Disk → new ≡ old) → IsDenial deny went → IsDenied (seen g old) refusal (seen g new) went ⊎ FailsToWrite (seen g old) refusal r (seen g new) went
 refused-or-unwritten T g old new refusal r deny went answers disk later cause same told = elim (is_disk deny) [
   | inl is ↦ inr (record {
     free = due-disk T deny refusal answers is;

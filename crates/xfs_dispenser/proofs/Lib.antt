@@ -3,10 +3,10 @@ pub mod CarryLaws
 mod CommandLaws
 pub mod CompleteLaws
 mod CurrencyLaws
-mod DenyLaws
+pub mod DenyLaws
 mod GrantLaws
 mod PayloadLaws
-mod PlanLaws
+pub mod PlanLaws
 mod SendLaws
 pub mod StackLaws
 pub mod StepLaws

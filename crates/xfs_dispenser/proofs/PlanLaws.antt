@@ -36,7 +36,7 @@ stacks_from issue unit [] = []
 stacks_from issue unit (zero ∷ counts) = stacks_from issue (unit + 1) counts
 stacks_from issue unit (suc n ∷ counts) = Order (Stack issue unit (suc n)) ∷ stacks_from issue (unit + 1) counts
 
-stacks-from : (issue unit : ℕ) (counts : List ℕ) → map (λ (u : ℕ × ℕ). Order (Stack issue u.0 u.1)) (units_from unit counts) ≡ stacks_from issue unit counts
+pub stacks-from : (issue unit : ℕ) (counts : List ℕ) → map (λ (u : ℕ × ℕ). Order (Stack issue u.0 u.1)) (units_from unit counts) ≡ stacks_from issue unit counts
 stacks-from issue unit [] = refl
 stacks-from issue unit (zero ∷ counts) = stacks-from issue (unit + 1) counts
 stacks-from issue unit (suc n ∷ counts) = ap (map (λ (u : ℕ × ℕ). Order (Stack issue u.0 u.1))) (units-some unit n counts) ∙ ap (λ l. Order (Stack issue unit (suc n)) ∷ l) (stacks-from issue (unit + 1) counts)

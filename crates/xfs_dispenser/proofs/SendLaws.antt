@@ -19,7 +19,7 @@ use Rattle.xfs_guard.specs.declared.deny.Deny.TheVariants.{Shut, Full, TooLong, 
 use Rattle.xfs_guard.specs.declared.open.Open.{Open}
 use Rattle.xfs_guard.specs.declared.open.Open.TheVariants.{No, Written, Acted}
 use Rattle.xfs_dispenser.specs.Answers.{CashAnswer, Start, Went, done, denial, answer_of, start_payload, went_payload}
-use Rattle.xfs_dispenser.specs.Begins.{Begins, IsTold, StartsUnless, StartsWith}
+use Rattle.xfs_dispenser.specs.Begins.{Begins, StartsRefused, StartsUnless, StartsWith}
 use Rattle.xfs_dispenser.specs.Checks.{active_refusal, inactive_refusal}
 use Rattle.xfs_dispenser.specs.Denominations.{currencies_of, denomination_payload, values_of, with_count, with_currency}
 use Rattle.xfs_dispenser.specs.Units.{kinds_with, units_with}
@@ -127,7 +127,7 @@ refusal-IsPayload refusal.Memory answer e = absurd (let f : None ≡ Some answer
 abbrev CanStart : Start → Type 0
 CanStart start = IfSome (start_payload start) IsPayload
 
-told-start : (r : Refusal) (start : Start) → IsTold r start → CanStart start
+told-start : (r : Refusal) (start : Start) → StartsRefused r start → CanStart start
 told-start r start t = subst CanStart (sym t.is) (refusal-IsPayload r t.answer t.due)
 
 -- a command that is refused, or starts so, can be answered

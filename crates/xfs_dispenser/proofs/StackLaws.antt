@@ -23,7 +23,7 @@ use Rattle.xfs_guard.specs.declared.open.Open.TheVariants.{No}
 use Rattle.xfs_guard.proofs.CoveredLaws.{ahead, ahead-zero, ahead-none, ahead-split, IsAhead, IsOpenFor, nonce-push, free-order, done-short, presented-after}
 use Rattle.xfs_guard.proofs.SizeLaws.{size-longer, order-short}
 use Rattle.xfs_dispenser.specs.Answers.{Went, done}
-use Rattle.xfs_dispenser.specs.Complete.{IsCalm, Turns, FollowsTurn}
+use Rattle.xfs_dispenser.specs.Complete.{IsCalm, WorksTurns, FollowsTurn}
 use Rattle.xfs_dispenser.specs.Seen.{Seen}
 use Rattle.xfs_dispenser.specs.Steps.{onward, success_of}
 use Rattle.xfs_dispenser.specs.declared.part.Part.{Part}
@@ -134,7 +134,7 @@ stacks-at issue u v rest e = ap (λ k. stacks_from issue k rest) e
 
 -- what follows a plan of which these orders are left
 abbrev pub TurnsOf : List Part → Seen → Plan → Option Counts → Seen → Went → Type 0
-TurnsOf parts s plan notes next went = FollowsTurn (Turns (3 * length parts)) s plan (onward s.guard.units notes parts) next went
+TurnsOf parts s plan notes next went = FollowsTurn (WorksTurns (3 * length parts)) s plan (onward s.guard.units notes parts) next went
 
 three-more : (n : ℕ) → 3 * suc n ≡ suc (suc (suc (3 * n)))
 three-more n = omega arith
@@ -152,7 +152,7 @@ stacks-full issue amounts notes (zero ∷ rest) u s plan next went few none aske
 stacks-full issue amounts notes (suc n ∷ rest) u s plan next went few none asked parts o h calm t =
     let low : u < 8 = omega (arith, few) in
     let left = stacks_from issue (u + 1 + 1) rest in
-    let turns = subst (λ k. Turns k s plan next went) (three-more (length left)) t in
+    let turns = subst (λ k. WorksTurns k s plan next went) (three-more (length left)) t in
     let c = carried-full s plan (AskStack issue (u + 1) (suc n)) left (3 * length left) next went none parts (free-order s.guard issue u (suc n) amounts rest low o h) calm turns in
     let e = stacks-at issue (u + 1 + 1) (suc u + 1) rest (omega arith) in
     let on : TurnsOf left c.middle c.after notes next went = rw (c.full.units, ← asked) c.later in

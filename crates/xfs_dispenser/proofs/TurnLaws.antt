@@ -19,10 +19,10 @@ use Rattle.xfs_guard.specs.declared.deny.Deny.{Deny}
 use Rattle.xfs_guard.specs.declared.open.Open.{Open}
 use Rattle.xfs_guard.specs.declared.open.Open.TheVariants.{No, Written, Acted}
 use Rattle.xfs_dispenser.specs.Answers.{Went, more, done}
-use Rattle.xfs_dispenser.specs.Complete.{IsCalm, Turns, FollowsTurn}
+use Rattle.xfs_dispenser.specs.Complete.{IsCalm, WorksTurns, FollowsTurn}
 use Rattle.xfs_dispenser.specs.Plans.{with_parts}
 use Rattle.xfs_dispenser.specs.Seen.{Seen, Becomes}
-use Rattle.xfs_dispenser.specs.Steps.{Works, WorksOn, DoesFirst, DoesPart, Orders, Restores, Notes, IsActed, IsSettled, IsUnsettled, IsDenied, IsUnwritten, IsWritten, onward, order_record, ordered, refusal_of}
+use Rattle.xfs_dispenser.specs.Steps.{Works, WorksOn, DoesFirst, DoesPart, Orders, Restores, Notes, IsActed, IsSettled, IsUnsettled, IsDenied, FailsToWrite, IsWritten, onward, order_record, ordered, refusal_of}
 use Rattle.xfs_dispenser.specs.declared.part.Part.{Part}
 use Rattle.xfs_dispenser.specs.declared.part.Part.TheVariants.{Order, Restore, Load, Note}
 use Rattle.xfs_dispenser.specs.declared.plan.Plan.{Plan}
@@ -49,7 +49,7 @@ later-becomes s next now same b = (let e = ap (λ (v : View). v.faults) b.guard_
 later-written : (s next : Seen) (refusal : Option Deny) (now : View) → now.faults ≡ s.guard.faults → IsWritten s refusal now next → IsLater s next
 later-written s next refusal now same w = later-becomes s next now same w.becomes
 
-later-refused : (s next : Seen) (refusal : Option Deny) (r : Rec) (went : Went) → IsDenied s refusal next went ⊎ IsUnwritten s refusal r next went → IsLater s next
+later-refused : (s next : Seen) (refusal : Option Deny) (r : Rec) (went : Went) → IsDenied s refusal next went ⊎ FailsToWrite s refusal r next went → IsLater s next
 later-refused s next refusal r went (inl d) = later-same s next d.same
 later-refused s next refusal r went (inr u) = later-becomes s next _ refl u.fails.becomes
 
@@ -95,13 +95,13 @@ follows-by Later s plan more next went each l = each s plan next went l
 follows-by Later s plan (done a) next went each l = later-same s next l.0
 
 -- and several
-pub turns-later : (n : ℕ) (s : Seen) (plan : Plan) (next : Seen) (went : Went) → Turns n s plan next went → IsLater s next
+pub turns-later : (n : ℕ) (s : Seen) (plan : Plan) (next : Seen) (went : Went) → WorksTurns n s plan next went → IsLater s next
 turns-later zero s plan next went t = later-same s next t.0
 turns-later (suc n) s plan next went t =
-    later-trans s t.middle next (works-later s plan t.middle t.after t.first t.works) (follows-by (Turns n) t.middle t.after t.first next went (λ r p x w l. turns-later n r p x w l) t.later)
+    later-trans s t.middle next (works-later s plan t.middle t.after t.first t.works) (follows-by (WorksTurns n) t.middle t.after t.first next went (λ r p x w l. turns-later n r p x w l) t.later)
 
-pub follows-later : (n : ℕ) (s : Seen) (plan : Plan) (first : Went) (next : Seen) (went : Went) → FollowsTurn (Turns n) s plan first next went → IsLater s next
-follows-later n s plan first next went l = follows-by (Turns n) s plan first next went (λ r p x w t. turns-later n r p x w t) l
+pub follows-later : (n : ℕ) (s : Seen) (plan : Plan) (first : Went) (next : Seen) (went : Went) → FollowsTurn (WorksTurns n) s plan first next went → IsLater s next
+follows-later n s plan first next went l = follows-by (WorksTurns n) s plan first next went (λ r p x w t. turns-later n r p x w t) l
 
 -- a calm while is calm in its first part and in the rest
 pub calm-first : (r s t : Seen) → IsLater s t → IsCalm r t → IsCalm r s
@@ -140,7 +140,7 @@ pub record IsCarried (s : Seen) (plan : Plan) (ask : Ask) (rest : List Part) (n 
   pub after : Plan
   pub notes : after.notes ≡ plan.notes
   pub parts : after.parts.items ≡ rest
-  pub later : FollowsTurn (Turns n) middle after (onward s.guard.units plan.notes rest) next went
+  pub later : FollowsTurn (WorksTurns n) middle after (onward s.guard.units plan.notes rest) next went
 
 pub written-kind : (k j : Kind) (a b : Counts) → Written k a ≡ Written j b → (j ≡ k) × (b ≡ a)
 written-kind k j a b e = (cc, cc)
@@ -187,7 +187,7 @@ full-of s ask written acted next moved diverted failed w fine a t =
 -- the step that settles an acted order
 settles-full : (s : Seen) (ask : Ask) (plan : Plan) (rest : List Part) (n : ℕ) (written acted next : Seen) (acted_plan : Plan) (moved diverted : Counts) (failed : Bool) (went : Went)
     → written.guard ≡ ordered s.guard ask → IsLater s acted → failed ≡ false → Acts written.guard acted.guard moved diverted failed
-    → acted_plan.notes ≡ plan.notes → acted_plan.parts.items ≡ rest → IsCalm acted next → Turns (suc n) acted acted_plan next went → IsCarried s plan ask rest n next went
+    → acted_plan.notes ≡ plan.notes → acted_plan.parts.items ≡ rest → IsCalm acted next → WorksTurns (suc n) acted acted_plan next went → IsCarried s plan ask rest n next went
 settles-full s ask plan rest n written acted next acted_plan moved diverted failed went w since fine a notes parts calm t =
     go (subst (λ o. WorksOn o acted acted_plan t.middle t.after t.first) (ap (λ (v : View). v.open_order) a.same) t.works)
   where
@@ -212,12 +212,12 @@ settles-full s ask plan rest n written acted next acted_plan moved diverted fail
 
 -- the step that acts a written order
 acts-full : (s : Seen) (ask : Ask) (plan : Plan) (rest : List Part) (n : ℕ) (written next : Seen) (written_plan : Plan) (went : Went)
-    → written.guard ≡ ordered s.guard ask → IsLater s written → written_plan ≡ with_parts plan rest → IsCalm written next → Turns (suc (suc n)) written written_plan next went → IsCarried s plan ask rest n next went
+    → written.guard ≡ ordered s.guard ask → IsLater s written → written_plan ≡ with_parts plan rest → IsCalm written next → WorksTurns (suc (suc n)) written written_plan next went → IsCarried s plan ask rest n next went
 acts-full s ask plan rest n written next written_plan went w since is calm t = go (subst (λ o. WorksOn o written written_plan t.middle t.after t.first) (ap (λ (v : View). v.open_order) w) t.works)
   where
     go : IsActed written written_plan t.middle t.after t.first → IsCarried s plan ask rest n next went
     go a =
-        let on : Turns (suc n) t.middle t.after next went = rw a.is at t.later in
+        let on : WorksTurns (suc n) t.middle t.after next went = rw a.is at t.later in
         let later = turns-later (suc n) t.middle t.after next went on in
         let fine = sound a.outcome.failed (λ e. calm.mech (rose-within written.guard.faults next.guard.faults written.guard.faults t.middle.guard.faults (omega arith) later.mech (a.called.cause e))) in
         let here : IsLater written t.middle = record { mech = a.called.later; disk = (let e = a.called.disk_same in omega (arith, e)) } in
@@ -227,12 +227,12 @@ acts-full s ask plan rest n written next written_plan went w since is calm t = g
 
 -- the three steps of an order that isn't refused
 pub carried-full : (s : Seen) (plan : Plan) (ask : Ask) (rest : List Part) (n : ℕ) (next : Seen) (went : Went) → s.guard.open_order ≡ No → plan.parts.items ≡ Order ask ∷ rest → refusal_of s.guard ask ≡ None
-    → IsCalm s next → Turns (suc (suc (suc n))) s plan next went → IsCarried s plan ask rest n next went
+    → IsCalm s next → WorksTurns (suc (suc (suc n))) s plan next went → IsCarried s plan ask rest n next went
 carried-full s plan ask rest n next went none is free calm t = go (subst (λ ps. DoesFirst ps s plan t.middle t.after t.first) is (subst (λ o. WorksOn o s plan t.middle t.after t.first) none t.works))
   where
     go : Orders ask rest s plan t.middle t.after t.first → IsCarried s plan ask rest n next went
     go (inl w) =
-        let on : Turns (suc (suc n)) t.middle t.after next went = rw w.2 at t.later in
+        let on : WorksTurns (suc (suc n)) t.middle t.after next went = rw w.2 at t.later in
         let here = later-written s t.middle _ _ refl w.0 in
         acts-full s ask plan rest n t.middle next t.after went w.0.becomes.guard_is here w.1 (calm-rest s t.middle next here calm) on
     go (inr (kept, inl d)) = (let e : None ≡ Some d.deny = sym free ∙ d.first in cc)

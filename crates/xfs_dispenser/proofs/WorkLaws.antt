@@ -106,7 +106,7 @@ loads-planned : (s : Seen) (plan : Plan) (next : Seen) (after : Plan) (unit coun
 loads-planned s plan next after unit count rest none can eight l =
     let on = loaded-on s.guard.units plan.notes rest _ l.outcome.failed l.is in
     closed next.guard after rest (with-parts after plan rest l.left) (ap (λ (v : View). v.open_order) l.reported.same ∙ none) on.1
-    (begin-loaded s.guard next.guard unit count rest (ap (λ (v : View). v.units) l.reported.same) (l.reported.reported.places on.0) can.1 can.2)
+    (begin-loaded s.guard next.guard unit count rest (ap (λ (v : View). v.units) l.reported.same) (l.reported.reported.moves on.0).reached can.1 can.2)
     (with-notes after plan rest l.left eight)
 
 notes-planned : (s : Seen) (plan : Plan) (next : Seen) (after : Plan) (r : Rec) (rest : List Part) → s.guard.open_order ≡ No → CanBeginAll s.guard rest → AreEight plan.notes → Notes r rest s plan next after more → IsPlanned next.guard after

@@ -28,19 +28,19 @@ use Rattle.xfs_dispenser.specs.declared.refusal.Refusal.{Refusal}
 use Rattle.xfs_dispenser.specs.declared.refusal.Refusal.TheVariants.{InvalidData, Error}
 
 -- the answer is the refusal's
-pub record IsTold (refusal : Refusal) (start : Start) : Type 0 where
+pub record StartsRefused (refusal : Refusal) (start : Start) : Type 0 where
   pub answer : CashAnswer
   pub due : answer_of refusal ≡ Some answer
   pub is : start ≡ told answer
 
 -- a refusal is told; where there is none, the command starts as it would otherwise
 abbrev pub StartsUnless : Option Refusal → Start → Start → Type 0
-StartsUnless (Some refusal) otherwise start = IsTold refusal start
+StartsUnless (Some refusal) otherwise start = StartsRefused refusal start
 StartsUnless None otherwise start = start ≡ otherwise
 
 -- the checks end in a refusal, which is told, or in a value, with which the command starts
 abbrev pub StartsWith : {T : Type 0} → Result T Refusal → (T → Start) → Start → Type 0
-StartsWith (Err refusal) begun start = IsTold refusal start
+StartsWith (Err refusal) begun start = StartsRefused refusal start
 StartsWith (Ok value) begun start = start ≡ begun value
 
 -- Denominate: the notes that a Dispense would give

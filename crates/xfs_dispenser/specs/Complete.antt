@@ -51,9 +51,9 @@ pub record Turn (Later : Seen → Plan → Seen → Went → Type 0) (s : Seen) 
   pub later : FollowsTurn Later middle after first next went
 
 -- a plan is worked on so many times, or until it has its answer
-abbrev pub Turns : ℕ → Seen → Plan → Seen → Went → Type 0
-Turns zero s plan next went = (next ≡ s) × (went ≡ more)
-Turns (suc n) s plan next went = Turn (Turns n) s plan next went
+abbrev pub WorksTurns : ℕ → Seen → Plan → Seen → Went → Type 0
+WorksTurns zero s plan next went = (next ≡ s) × (went ≡ more)
+WorksTurns (suc n) s plan next went = Turn (WorksTurns n) s plan next went
 
 -- all notes of a dispense went from the units to the transport, the answer tells them, and where the outlet is empty nothing stands against a present
 pub record IsGiven (s : Seen) (counts : CountsOf) (next : Seen) (went : Went) : Type 0 where
@@ -75,11 +75,11 @@ pub record IsBegunInFull (s : Seen) (notes : Notes) (bound : Seen) (start : Star
   pub counts : CountsOf
   pub given : NotesGiven s.guard.units s.guard.places.units notes (Ok counts)
   pub plan : start ≡ planned (dispense_plan issue counts)
-  pub done : (next : Seen) (went : Went) → IsCalm bound next → Turns (3 * length (dispense_plan issue counts).parts.items) bound (dispense_plan issue counts) next went → IsGiven s counts next went
+  pub done : (next : Seen) (went : Went) → IsCalm bound next → WorksTurns (3 * length (dispense_plan issue counts).parts.items) bound (dispense_plan issue counts) next went → IsGiven s counts next went
 
 -- what is done where nothing stands against it and no count of faults rises
 pub record IsComplete : Type 0 where
   pub dispense : (s bound : Seen) (notes : Notes) (token : List ℕ) (after : Bool) (start : Start) → s.guard.open_order ≡ No → CanGive s.guard notes token → IsCalm s bound
       → Begins s false (Dispense notes (Some token)) bound after start → IsBegunInFull s notes bound start
   pub present : (s begun next : Seen) (after : Bool) (start : Start) (went : Went) → s.guard.open_order ≡ No → CanPresent s.guard → IsCalm s next
-      → Begins s false Present begun after start → Turns 3 begun (order_plan Ask.Present) next went → (start ≡ planned (order_plan Ask.Present)) × (begun ≡ s) × IsPresented s next went
+      → Begins s false Present begun after start → WorksTurns 3 begun (order_plan Ask.Present) next went → (start ≡ planned (order_plan Ask.Present)) × (begun ≡ s) × IsPresented s next went

@@ -73,6 +73,10 @@ Denominates v notes = FirstOf (members_refusal notes) (NotesGiven v.units v.plac
 abbrev pub with_currency : List NoteKind → Counts → Members → NoteKind → Members
 with_currency units counts ms kind = with_member kind.currency (number (unsigned (value units counts kind.currency / 1000))) ms
 
+-- the members have the amount of a kind's currency besides
+abbrev pub PutsCurrency : List NoteKind → Counts → NoteKind → Members → Members → Type 0
+PutsCurrency units counts kind old new = new ≡ with_currency units counts old kind
+
 -- each currency of a unit with notes, with the whole amount of all the notes in it
 abbrev pub currencies_of : List NoteKind → Counts → Members
 currencies_of units counts = fold (with_currency units counts) no_members (kinds_with units counts.0)

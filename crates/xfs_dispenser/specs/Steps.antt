@@ -94,7 +94,7 @@ pub record IsDenied (s : Seen) (refusal : Option Deny) (next : Seen) (went : Wen
   pub is : went ≡ done answer
 
 -- nothing refuses a record, and the disk fails at it
-pub record IsUnwritten (s : Seen) (refusal : Option Deny) (written : Rec) (next : Seen) (went : Went) : Type 0 where
+pub record FailsToWrite (s : Seen) (refusal : Option Deny) (written : Rec) (next : Seen) (went : Went) : Type 0 where
   pub free : refusal ≡ None
   pub fails : Fails s (shut_at written s.guard) next
   pub is : went ≡ done (plain_answer DeviceNotReady)
@@ -108,7 +108,7 @@ pub record IsWritten (s : Seen) (refusal : Option Deny) (now : View) (next : See
 abbrev pub Orders : Ask → List Part → Seen → Plan → Seen → Plan → Went → Type 0
 Orders ask rest s plan next after went =
     (IsWritten s (refusal_of s.guard ask) (ordered s.guard ask) next × (after ≡ with_parts plan rest) × (went ≡ more))
-    ⊎ ((after ≡ plan) × (IsDenied s (refusal_of s.guard ask) next went ⊎ IsUnwritten s (refusal_of s.guard ask) (order_record s.guard ask) next went))
+    ⊎ ((after ≡ plan) × (IsDenied s (refusal_of s.guard ask) next went ⊎ FailsToWrite s (refusal_of s.guard ask) (order_record s.guard ask) next went))
 
 -- the journal is read as a possible list and gets its boot record; what is then left is to empty the places
 pub record IsRestored (s : Seen) (plan : Plan) (next : Seen) (after : Plan) (went : Went) : Type 0 where
@@ -120,14 +120,14 @@ pub record IsRestored (s : Seen) (plan : Plan) (next : Seen) (after : Plan) (wen
   pub is : went ≡ onward s.guard.units plan.notes (emptying s.guard.places)
 
 -- a restore is refused, as its boot record passes a limit
-pub record IsFull (s next : Seen) : Type 0 where
+pub record IsRestoreFull (s next : Seen) : Type 0 where
   pub records : List Rec
   pub possible : IsPossible s.guard.records s.guard.in_doubt records
   pub exceeded : exceeds s.guard.limits s.guard.base (with_boot records s.guard.places) ≡ true
   pub becomes : Becomes s (reread s.guard records) next
 
 -- a restore is refused, as the disk fails, before the list was read or at the boot record
-pub record IsUnread (s next : Seen) : Type 0 where
+pub record FailsRestore (s next : Seen) : Type 0 where
   pub now : View
   pub is : (now ≡ unread s.guard) ⊎ ((records : List Rec) × IsPossible s.guard.records s.guard.in_doubt records × (now ≡ unbooted s.guard records))
   pub fails : Fails s now next
@@ -141,7 +141,7 @@ pub record IsUnknown (s next : Seen) : Type 0 where
 abbrev pub Restores : Seen → Plan → Seen → Plan → Went → Type 0
 Restores s plan next after went =
     IsRestored s plan next after went
-    ⊎ ((after ≡ plan) × (went ≡ done (plain_answer DeviceNotReady)) × (IsFull s next ⊎ (IsUnread s next ⊎ IsUnknown s next)))
+    ⊎ ((after ≡ plan) × (went ≡ done (plain_answer DeviceNotReady)) × (IsRestoreFull s next ⊎ (FailsRestore s next ⊎ IsUnknown s next)))
 
 -- a loading: what the operator added is loaded, or the mechanism fails
 pub record Loads (unit count : ℕ) (rest : List Part) (s : Seen) (plan : Plan) (next : Seen) (after : Plan) (went : Went) : Type 0 where
@@ -155,7 +155,7 @@ pub record Loads (unit count : ℕ) (rest : List Part) (s : Seen) (plan : Plan) 
 abbrev pub Notes : Rec → List Part → Seen → Plan → Seen → Plan → Went → Type 0
 Notes r rest s plan next after went =
     (IsWritten s (unfit s.guard) (record s.guard { records = s.guard.records ++ r ∷ [] }) next × (after ≡ with_parts plan rest) × (went ≡ onward s.guard.units plan.notes rest))
-    ⊎ ((after ≡ plan) × (IsDenied s (unfit s.guard) next went ⊎ IsUnwritten s (unfit s.guard) r next went))
+    ⊎ ((after ≡ plan) × (IsDenied s (unfit s.guard) next went ⊎ FailsToWrite s (unfit s.guard) r next went))
 
 -- a part is done, with those behind it
 abbrev pub DoesPart : Part → List Part → Seen → Plan → Seen → Plan → Went → Type 0

@@ -10,7 +10,7 @@ ghost use Rattle.xfs_envelope.specs.Messages.{IsPayload};
 ghost use Rattle.xfs_envelope.specs.declared.code.Code.TheVariants as Code;
 ghost use Rattle.xfs_mix.specs.Asked.{is_none};
 ghost use Rattle.xfs_dispenser.specs.Answers.{plain_answer, start_of, start_payload, told};
-ghost use Rattle.xfs_dispenser.specs.Begins.{Begins, EndsExchange, UnitsHaveRoom, IsDenominated, IsDispensed, IsStorageSet, IsTold, RoomChecks, StartsExchange, StartsOrder, StartsUnless, StorageChecks, UnitTakes, added_refusal, are_added, are_few, unit_refusal};
+ghost use Rattle.xfs_dispenser.specs.Begins.{Begins, EndsExchange, UnitsHaveRoom, IsDenominated, IsDispensed, IsStorageSet, StartsRefused, RoomChecks, StartsExchange, StartsOrder, StartsUnless, StorageChecks, UnitTakes, added_refusal, are_added, are_few, unit_refusal};
 ghost use Rattle.xfs_dispenser.specs.Checks.{active_refusal, inactive_refusal};
 ghost use Rattle.xfs_dispenser.specs.Denominations.{Denominates};
 ghost use Rattle.xfs_dispenser.specs.Plans.{IsPlanned};
@@ -93,7 +93,7 @@ fn inactive_refusal(exchange: bool) -> Option<Refusal>
 
 // A refusal that applies is told.
 fn tell_refusal(alloc: Global, refusal: &Refusal) -> Result<Begun, Memory>
-    ensures told { IfOk result (λ b. IsTold refusal.now (start_of b)) }
+    ensures told { IfOk result (λ b. StartsRefused refusal.now (start_of b)) }
     ensures disk { OnErr result (refusal.now ≢ Refusal.Deny Disk) }
 {
     let (code, payload) = refusal.answer(alloc)?;

@@ -3,7 +3,7 @@
 ghost use Rattle.std.specs.Prelude.{◌≡◌, ◌≢◌, ◌≤◌, IfOk, OnOk};
 ghost use Rattle.serde_json.specs.View.{view, members_view};
 ghost use Rattle.xfs_dispenser.specs.Answers.{answered};
-ghost use Rattle.xfs_dispenser.specs.Denominations.{currencies_of, denomination_answer, denomination_payload, values_of, with_count, with_currency};
+ghost use Rattle.xfs_dispenser.specs.Denominations.{currencies_of, denomination_answer, denomination_payload, values_of, with_count, PutsCurrency};
 
 use serde_json::{Value, put};
 use std::alloc::Global;
@@ -51,25 +51,19 @@ fn currencies_of(alloc: Global, units: &UnitTable, counts: &Counts) -> Result<Ma
 // The amount in a unit's currency, where there are notes of the unit.
 fn put_currency(
     alloc: Global,
-    members: &mut Map,
+    map: &mut Map,
     units: &UnitTable,
     counts: &Counts,
     kind: &NoteKind,
     count: u32,
 ) -> Result<(), Memory>
-    ensures none { OnOk result (count ≡ 0 → members_view members.new.entries ≡ members_view members.old.entries) }
-    ensures some { OnOk result (count ≢ 0 → members_view members.new.entries
-        ≡ with_currency units.now counts.now (members_view members.old.entries) kind.now) }
+    ensures none { OnOk result (count ≡ 0 → members_view map.new.entries ≡ members_view map.old.entries) }
+    ensures some { OnOk result (count ≢ 0 → PutsCurrency units.now counts.now kind.now (members_view map.old.entries) (members_view map.new.entries)) }
 {
     if count != 0 {
         let amount = counts.value(units, kind.currency) / 1000;
         let letters = kind.currency.letters();
-        put(
-            members,
-            alloc,
-            text_of(&letters),
-            Value::from(amount as u64),
-        )?;
+        put(map, alloc, text_of(&letters), Value::from(amount as u64))?;
     }
     Ok(())
 }

@@ -21,6 +21,10 @@ abbrev pub given : {A B : Type 0} → Option A → Why → (A → Result B Why) 
 given None why next = Err why
 given (Some found) why next = next found
 
+-- the command of these fields, with the payload of a value
+abbrev pub with_payload : List ℕ → ℕ → ℕ → Data → Result Command Why
+with_payload name id timeout d = given (or_else empty (payload_at d)) BadPayload (λ payload. Ok record { name = name; id = id; timeout = timeout; payload = payload })
+
 -- the command of a header and the value that it stands in
 abbrev pub command_of : Data → Data → Result Command Why
 command_of h d =
@@ -28,9 +32,7 @@ command_of h d =
     else given (needed (name_at h)) BadName (λ name.
     given (needed (id_at h)) BadId (λ id.
     given (or_else 0 (timeout_at h)) BadTimeout (λ timeout.
-    given (optional (version_at h)) BadVersion (λ version.
-    given (or_else empty (payload_at d)) BadPayload (λ payload.
-    Ok record { name = name; id = id; timeout = timeout; payload = payload })))))
+    given (optional (version_at h)) BadVersion (λ version. with_payload name id timeout d))))
 
 -- a refusal tells the id, where the header has one that a command can have
 abbrev pub telling : Option ℕ → Result Command Why → Result Command Refuse

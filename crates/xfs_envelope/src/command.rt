@@ -1,9 +1,9 @@
 ghost use Rattle.std.specs.Prelude.{◌≡◌, ◌≢◌, None, Ok, Err, IfOk, IfErr};
 ghost use Rattle.serde_json.specs.Data.{Data};
 ghost use Rattle.serde_json.specs.View.{view};
-ghost use Rattle.xfs_envelope.specs.Commands.{command_in, command_of, given, said};
-ghost use Rattle.xfs_envelope.specs.Fields.{id_at, needed, or_else, payload_at, empty};
-ghost use Rattle.xfs_envelope.specs.declared.command.Why.TheVariants.{BadPayload, Memory};
+ghost use Rattle.xfs_envelope.specs.Commands.{command_in, command_of, said, with_payload};
+ghost use Rattle.xfs_envelope.specs.Fields.{id_at, needed};
+ghost use Rattle.xfs_envelope.specs.declared.command.Why.TheVariants.{Memory};
 
 use crate::fields::{
     has_right_version, header_of, is_of_type, name_at, needed_id_at, take_payload, timeout_at,
@@ -103,9 +103,7 @@ fn without_id(why: Why) -> Refuse
 // The fields of the header, which the payload follows. Its id is already found.
 fn head_of(alloc: Global, header: &Value, id: Option<u64>) -> Result<Head, Why>
     requires id { id ≡ needed (id_at (view header.now)) }
-    ensures ok { IfOk result (λ head. (d : Data) → command_of (view header.now) d
-        ≡ given (or_else empty (payload_at d)) BadPayload (λ payload.
-        Ok record { name = head.name; id = head.id; timeout = head.timeout; payload = payload })) }
+    ensures ok { IfOk result (λ head. (d : Data) → command_of (view header.now) d ≡ with_payload head.name head.id head.timeout d) }
     ensures refused { IfErr result (λ why. why ≢ Memory → (d : Data) → command_of (view header.now) d ≡ Err why) }
 {
     if !is_of_type(header, "command") {

@@ -9,5 +9,4 @@ pub mod Shares
 pub mod Spelling
 pub mod Summing
 pub mod Telling
-pub mod Texts
 pub mod Valued

@@ -1,7 +1,8 @@
 //! How a fleet begins.
 
 ghost use Rattle.std.specs.Prelude.{◌≡◌, IfOk, IfErr};
-ghost use Rattle.xfs_guard.specs.Booting.{LeavesRecorded};
+ghost use Rattle.xfs_guard.specs.Recorded.{IsRecorded};
+ghost use Rattle.xfs_guard.specs.Stored.{EachLeft};
 ghost use Rattle.xfs_fleet.specs.Boots.{BootsBoth, IsBooted, IsRefusedBoot, RefusesFirst, RefusesSecond};
 ghost use Rattle.xfs_fleet.specs.Endings.{Ends};
 ghost use Rattle.xfs_fleet.specs.declared.side.Side.TheVariants.{A, B};
@@ -20,9 +21,9 @@ impl<M: Mechanism, D: Disk> Fleet<M, D> {
     /// back as it was; where the second is, the first machine has got its boot record, and ends.
     pub fn boot(alloc: Global, a: Core<M, D>, b: Core<M, D>) -> Result<Fleet<M, D>, FleetFail<M, D>>
         requires a_units { M.units a.mech ≡ a.units }
-        requires a_recorded { LeavesRecorded D.Disk a.disk a.key a.units (M.motions a.mech) }
+        requires a_recorded { EachLeft D.Disk a.disk (IsRecorded a.key a.units (M.motions a.mech)) }
         requires b_units { M.units b.mech ≡ b.units }
-        requires b_recorded { LeavesRecorded D.Disk b.disk b.key b.units (M.motions b.mech) }
+        requires b_recorded { EachLeft D.Disk b.disk (IsRecorded b.key b.units (M.motions b.mech)) }
         ensures both { IfOk result (BootsBoth M.Mechanism D.Disk a b) }
         ensures first { IfErr result (λ f. f.side ≡ A → RefusesFirst M.Mechanism D.Disk a b f) }
         ensures second { IfErr result (λ f. f.side ≡ B → RefusesSecond M.Mechanism D.Disk a b f) }
@@ -48,7 +49,7 @@ fn boot_one<M: Mechanism, D: Disk>(
     core: Core<M, D>,
 ) -> Result<Machine<M, D>, BootFail<M, D>>
     requires units { M.units core.mech ≡ core.units }
-    requires recorded { LeavesRecorded D.Disk core.disk core.key core.units (M.motions core.mech) }
+    requires recorded { EachLeft D.Disk core.disk (IsRecorded core.key core.units (M.motions core.mech)) }
     ensures ok { IfOk result (IsBooted M.Mechanism D.Disk core) }
     ensures err { IfErr result (λ f. IsRefusedBoot M.Mechanism D.Disk core f.why f.mech f.disk) }
 {
@@ -65,7 +66,7 @@ fn boot_second<M: Mechanism, D: Disk>(
     b: Core<M, D>,
 ) -> Result<Fleet<M, D>, FleetFail<M, D>>
     requires units { M.units b.mech ≡ b.units }
-    requires recorded { LeavesRecorded D.Disk b.disk b.key b.units (M.motions b.mech) }
+    requires recorded { EachLeft D.Disk b.disk (IsRecorded b.key b.units (M.motions b.mech)) }
     ensures a { IfOk result (λ f. f.a ≡ a) }
     ensures b { IfOk result (λ f. IsBooted M.Mechanism D.Disk b f.b) }
     ensures side { IfErr result (λ f. f.side ≡ B) }

@@ -1,7 +1,7 @@
 //! How the machines of a fleet begin anew, and how they end.
 
 ghost use Rattle.std.specs.Prelude.{◌≡◌, IfOk, IfErr};
-ghost use Rattle.xfs_fleet.specs.Endings.{Ends, IsRefusedRestart, Restarts};
+ghost use Rattle.xfs_fleet.specs.Endings.{Ends, IsRefusedRestart, BeginsAnew};
 ghost use Rattle.xfs_fleet.specs.FleetView.{machine_of, with_machine};
 ghost use Rattle.xfs_fleet.specs.declared.side.Side.TheVariants.{A, B};
 
@@ -16,7 +16,7 @@ use xfs_mech::Mechanism;
 impl<M: Mechanism, D: Disk> Fleet<M, D> {
     /// The machine of a side begins anew, and the other goes on. Where it is refused that, both end.
     pub fn restart(self, side: Side) -> Result<Fleet<M, D>, FleetFail<M, D>>
-        ensures ok { IfOk result (λ f. Restarts D.Disk (machine_of self side) (machine_of f side)) }
+        ensures ok { IfOk result (λ f. BeginsAnew D.Disk (machine_of self side) (machine_of f side)) }
         ensures other { IfOk result (λ f. f ≡ with_machine self side (machine_of f side)) }
         ensures side { IfErr result (λ f. f.side ≡ side) }
         ensures a_refused { IfErr result (λ f. side ≡ A → IsRefusedRestart M.Mechanism D.Disk self.a f.why f.a.mech f.a.disk) }
@@ -56,7 +56,7 @@ impl<M: Mechanism, D: Disk> Pair<M, D> {
 fn restart_one<M: Mechanism, D: Disk>(
     machine: Machine<M, D>,
 ) -> Result<Machine<M, D>, BootFail<M, D>>
-    ensures ok { IfOk result (Restarts D.Disk machine) }
+    ensures ok { IfOk result (BeginsAnew D.Disk machine) }
     ensures err { IfErr result (λ f. IsRefusedRestart M.Mechanism D.Disk machine f.why f.mech f.disk) }
 {
     machine.restart()
@@ -66,7 +66,7 @@ fn restart_first<M: Mechanism, D: Disk>(
     a: Machine<M, D>,
     b: Machine<M, D>,
 ) -> Result<Fleet<M, D>, FleetFail<M, D>>
-    ensures ok { IfOk result (λ f. Restarts D.Disk a f.a) }
+    ensures ok { IfOk result (λ f. BeginsAnew D.Disk a f.a) }
     ensures other { IfOk result (λ f. f.b ≡ b) }
     ensures side { IfErr result (λ f. f.side ≡ A) }
     ensures refused { IfErr result (λ f. IsRefusedRestart M.Mechanism D.Disk a f.why f.a.mech f.a.disk) }
@@ -87,7 +87,7 @@ fn restart_second<M: Mechanism, D: Disk>(
     a: Machine<M, D>,
     b: Machine<M, D>,
 ) -> Result<Fleet<M, D>, FleetFail<M, D>>
-    ensures ok { IfOk result (λ f. Restarts D.Disk b f.b) }
+    ensures ok { IfOk result (λ f. BeginsAnew D.Disk b f.b) }
     ensures other { IfOk result (λ f. f.a ≡ a) }
     ensures side { IfErr result (λ f. f.side ≡ B) }
     ensures refused { IfErr result (λ f. IsRefusedRestart M.Mechanism D.Disk b f.why f.b.mech f.b.disk) }

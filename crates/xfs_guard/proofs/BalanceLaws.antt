@@ -75,7 +75,7 @@ balanced-loaded records b l places places' unit count failed before now fine low
   kept = h.kept;
   tells = h.tells;
   eight = length-set l.0 (unit - 1) (at l (unit - 1) + count) ∙ h.eight;
-  sums = λ u. omega (arith, h.sums u, Adds-PlacesOf places places' (Loaded unit count ∷ []) (r.places fine) u, with-here l unit count u low (omega (arith, few, h.eight)));
+  sums = λ u. omega (arith, h.sums u, Adds-PlacesOf places places' (Loaded unit count ∷ []) (r.moves fine).reached u, with-here l unit count u low (omega (arith, few, h.eight)));
 }
 
 -- a report that fails
@@ -87,4 +87,4 @@ balanced-failed records b l places places' e failed before now is r h = rw (r.no
 pub balanced-taking : (records : List Rec) (b : Places) (l : Counts) (places places' : Places) (c : Counts) (failed : Bool) (before now : Option (List Motion))
     → Reports (Taken c) failed before now places places' → IsBalanced records b l places → IsBalanced records b l places'
 balanced-taking records b l places places' c true before now r h = balanced-failed records b l places places' (Taken c) true before now refl r h
-balanced-taking records b l places places' c false before now r h = balanced-taken records b l places places' c (r.places refl) h
+balanced-taking records b l places places' c false before now r h = balanced-taken records b l places places' c (r.moves refl).reached h

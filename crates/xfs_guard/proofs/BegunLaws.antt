@@ -101,7 +101,7 @@ reached-all (Taken c ∷ ms) = rw (reached-all ms) refl
 reached-all (Loaded u c ∷ ms) = rw (reached-all ms) refl
 
 -- so what is recorded behind 0 is recorded
-pub recorded-all : (key : List ℕ) (u : List NoteKind) (records : List Rec) (m : Option (List Motion)) → IsRecordedBehind 0 key u records m → IsRecorded key u records m
+pub recorded-all : (key : List ℕ) (u : List NoteKind) (records : List Rec) (m : Option (List Motion)) → IsRecordedBehind 0 key u records m → IsRecorded key u m records
 recorded-all key u records None h = record { numbered = h.numbered; agrees = tt; within = tt }
 recorded-all key u records (Some motions) h = record { numbered = h.numbered; agrees = rw (reached-all motions) at h.agrees; within = rw (reached-all motions) at h.within }
 

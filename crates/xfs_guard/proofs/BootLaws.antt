@@ -37,7 +37,7 @@ within-boot key u records p None a w = tt
 within-boot key u records p (Some motions) a w = Within-record key u records (boot_of records p) motions (numbers_within records motions a) w
 
 -- a boot record may stand behind any list that is recorded
-pub IsRecorded-boot : (key : List ℕ) (u : List NoteKind) (records : List Rec) (p : Places) (m : Option (List Motion)) → IsRecorded key u records m → IsRecorded key u (with_boot records p) m
+pub IsRecorded-boot : (key : List ℕ) (u : List NoteKind) (records : List Rec) (p : Places) (m : Option (List Motion)) → IsRecorded key u m records → IsRecorded key u m (with_boot records p)
 IsRecorded-boot key u records p m r = record {
   numbered = Walk-push next_number CarriesNumber 1 records (boot_of records p) r.numbered (boot_of-numbered records p);
   agrees = agrees-boot records p m r.agrees;
@@ -49,7 +49,7 @@ no-nonce : (records : List Rec) (p : Places) (q : ℕ) → live_of (with_boot re
 no-nonce records p q lives = let e : None ≡ Some q = sym (live_of-push records (boot_of records p) ∙ boot-ends (boot_of records p) p (boot_of-places records p) (length records) (live_of records)) ∙ lives in cc
 
 -- the journal got a Boot: no nonce lives, and no order is open
-pub IsSound-boot : (v : View) (records : List Rec) (p : Places) → (v.disk_told ≡ true → IsRecorded v.key v.units records v.motions)
+pub IsSound-boot : (v : View) (records : List Rec) (p : Places) → (v.disk_told ≡ true → IsRecorded v.key v.units v.motions records)
     → IsSound (record v { records = with_boot records p; bound = None; open_order = No })
 IsSound-boot v records p recorded = record {
   numbered = λ told. (IsRecorded-boot v.key v.units records p v.motions (recorded told)).numbered;
@@ -62,7 +62,7 @@ IsSound-boot v records p recorded = record {
   told = ties v.disk_told v.motions recorded;
 }
   where
-    ties : (t : Bool) (m : Option (List Motion)) → (t ≡ true → IsRecorded v.key v.units records m) → IfTold (where_told t m) (Ties (record v { records = with_boot records p; bound = None; open_order = No }))
+    ties : (t : Bool) (m : Option (List Motion)) → (t ≡ true → IsRecorded v.key v.units m records) → IfTold (where_told t m) (Ties (record v { records = with_boot records p; bound = None; open_order = No }))
     ties false m r = tt
     ties true None r = tt
     ties true (Some motions) r = let after = IsRecorded-boot v.key v.units records p (Some motions) (r refl) in record {
@@ -88,13 +88,13 @@ pub base_of-boot : (records : List Rec) (p : Places) → base_of (with_boot reco
 base_of-boot records p = base_of-push records (boot_of records p) ∙ rw (is-boot (boot_of records p) p (boot_of-places records p)) refl
 
 -- what a guard is then
-pub IsKept-boot : (v : View) (records : List Rec) (p : Places) (spare left : ℕ) (kinds : List NoteKind) → p ≡ v.places → (v.disk_told ≡ true → IsRecorded v.key v.units records v.motions) → kinds ≡ v.units
+pub IsKept-boot : (v : View) (records : List Rec) (p : Places) (spare left : ℕ) (kinds : List NoteKind) → p ≡ v.places → (v.disk_told ≡ true → IsRecorded v.key v.units v.motions records) → kinds ≡ v.units
     → IsKept (record v { records = with_boot records p; bound = None; open_order = No; booted = p; loaded = no_notes; shut = false; boot_missing = false; in_doubt = None }) spare left kinds
 IsKept-boot v records p spare left kinds there recorded units =
     IsKept-open (record v { records = with_boot records p; bound = None; open_order = No; booted = p; loaded = no_notes; boot_missing = false }) spare left kinds (IsSound-boot (record v { booted = p; loaded = no_notes; boot_missing = false }) records p recorded) (balanced-boot records p v.places there) refl tt tt units
 
 -- a list that was left is recorded, and stays so with the boot record
 pub WasLeft-recorded : {D : Type 0} (key : List ℕ) (u : List NoteKind) (m : Option (List Motion)) (g : Ghosts D) (d : D) (p : Places)
-    → ((records : List Rec) → MayLeave g d records → IsRecorded key u records m) → (records : List Rec) → WasLeft g d p records → IsRecorded key u records m
+    → ((records : List Rec) → MayLeave g d records → IsRecorded key u m records) → (records : List Rec) → WasLeft g d p records → IsRecorded key u m records
 WasLeft-recorded key u m g d p all records was =
     ⊎_elim (λ same. rw same (all was.list was.before)) (λ more. rw more (IsRecorded-boot key u was.list p m (all was.list was.before))) was.grown

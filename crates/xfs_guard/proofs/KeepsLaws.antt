@@ -12,7 +12,7 @@ use Rattle.xfs_guard.specs.Calls.{UsesMechanism, WritesRecord}
 use Rattle.xfs_guard.specs.Continues.{Continues}
 use Rattle.xfs_guard.specs.Crashed.{LeavesBehind}
 use Rattle.xfs_guard.specs.Keeps.{Proceeds, Keeps, NoEntry}
-use Rattle.xfs_guard.specs.CrashOutcomes.{StandsRecorded, StandsThrough}
+use Rattle.xfs_guard.specs.CrashOutcomes.{StandsThrough}
 use Rattle.xfs_guard.specs.Recorded.{IsRecorded}
 use Rattle.xfs_guard.specs.Upheld.{IsUpheld}
 use Rattle.xfs_guard.specs.View.{View, GuardView}
@@ -20,18 +20,18 @@ use Rattle.xfs_guard.specs.declared.deny.Deny.{Deny}
 use Rattle.xfs_guard.proofs.BehindLaws.{behind-still, behind-trans}
 use Rattle.xfs_guard.proofs.ContinueLaws.{Continues-same, Continues-trans}
 use Rattle.xfs_guard.proofs.LeftLaws.{left-same, left-unwritten}
-use Rattle.xfs_guard.specs.Stored.{StandsForPossible}
+use Rattle.xfs_journal.specs.Held.{StandsForSome}
 
 -- bytes that stand for a recorded list do so beside a call that adds no entry
-through-recorded : (v : View) (bytes : List ℕ) → StandsRecorded v.key v.units v.motions bytes → StandsThrough v NoEntry bytes
-through-recorded v bytes s = record { records = s.records; stands = s.stands; before = s.recorded; after = λ entry now may grows. absurd may }
+through-recorded : (v : View) (bytes : List ℕ) → StandsForSome (IsRecorded v.key v.units v.motions) bytes → StandsThrough v NoEntry bytes
+through-recorded v bytes s = record { records = s.records; stands = s.stands; before = s.such; after = λ entry now may grows. absurd may }
 
 pub stays-through : {D : Type 0} (g : Ghosts D) (old new : D) (v : View)
-    → IfTold (g.held old) (λ _. LeavesOnly g old new (StandsRecorded v.key v.units v.motions))
+    → IfTold (g.held old) (λ _. LeavesOnly g old new (StandsForSome (IsRecorded v.key v.units v.motions)))
     → IfTold (g.held old) (λ _. LeavesOnly g old new (StandsThrough v NoEntry))
 stays-through g old new v stays = on_told (g.held old) (λ _. LeavesOnly g old new (StandsThrough v NoEntry)) (λ all told.
-    weaken g old new (StandsRecorded v.key v.units v.motions) (StandsThrough v NoEntry) (through-recorded v)
-    (from_told (g.held old) (λ _. LeavesOnly g old new (StandsRecorded v.key v.units v.motions)) stays all told))
+    weaken g old new (StandsForSome (IsRecorded v.key v.units v.motions)) (StandsThrough v NoEntry) (through-recorded v)
+    (from_told (g.held old) (λ _. LeavesOnly g old new (StandsForSome (IsRecorded v.key v.units v.motions))) stays all told))
 
 -- nothing happened
 pub Proceeds-same : {D : Type 0} (g : Ghosts D) (x : GuardView D) → ((d : D) (c : List ℕ) → g.images_since d (g.moment d) c → g.images d c) → Proceeds g x x
@@ -51,12 +51,12 @@ Proceeds-trans g a b c counts_now one two = record {
 pub Keeps-same : {D : Type 0} (g : Ghosts D) (x : GuardView D) → ((d : D) (c : List ℕ) → g.images_since d (g.moment d) c → g.images d c) → IsUpheld g x → Keeps g NoEntry x x
 Keeps-same g x only_now upheld = record {
   proceeds = Proceeds-same g x only_now;
-  recorded = stays-through g x.disk x.disk x.state (left-same g x.disk (StandsRecorded x.state.key x.state.units x.state.motions) (only_now x.disk) upheld.recorded);
+  recorded = stays-through g x.disk x.disk x.state (left-same g x.disk (StandsForSome (IsRecorded x.state.key x.state.units x.state.motions)) (only_now x.disk) upheld.recorded);
 }
 
 -- a call that did nothing, whose disk leaves one of the possible lists, each of which is recorded
-pub Keeps-still : {D : Type 0} (g : Ghosts D) (x : GuardView D) → ((d : D) (c : List ℕ) → g.images_since d (g.moment d) c → g.images d c) → EachImage g x.disk (StandsForPossible x.state.records x.state.in_doubt)
-    → (is_some (g.held x.disk) ≡ true → (records : List Rec) → IsPossible x.state.records x.state.in_doubt records → IsRecorded x.state.key x.state.units records x.state.motions) → Keeps g NoEntry x x
+pub Keeps-still : {D : Type 0} (g : Ghosts D) (x : GuardView D) → ((d : D) (c : List ℕ) → g.images_since d (g.moment d) c → g.images d c) → EachImage g x.disk (StandsForSome (IsPossible x.state.records x.state.in_doubt))
+    → (is_some (g.held x.disk) ≡ true → (records : List Rec) → IsPossible x.state.records x.state.in_doubt records → IsRecorded x.state.key x.state.units x.state.motions records) → Keeps g NoEntry x x
 Keeps-still g x only_now leaves recorded = record {
   proceeds = Proceeds-same g x only_now;
   recorded = stays-through g x.disk x.disk x.state (left-unwritten g x.disk x.state (only_now x.disk) leaves recorded);
@@ -64,7 +64,7 @@ Keeps-still g x only_now leaves recorded = record {
 
 -- a call that may have written
 pub Keeps-wrote : {D : Type 0} (g : Ghosts D) (old new : GuardView D) → Continues old.state new.state → g.faults old.disk ≤ g.faults new.disk → old.state.faults ≤ new.state.faults → LeavesBehind g old new
-    → IfTold (g.held old.disk) (λ _. LeavesOnly g old.disk new.disk (StandsRecorded old.state.key old.state.units old.state.motions)) → Keeps g NoEntry old new
+    → IfTold (g.held old.disk) (λ _. LeavesOnly g old.disk new.disk (StandsForSome (IsRecorded old.state.key old.state.units old.state.motions))) → Keeps g NoEntry old new
 Keeps-wrote g old new continues disk mech crashes stays = record {
   proceeds = record { continues = continues; disk_faults = disk; mech_faults = mech; crashes = crashes };
   recorded = stays-through g old.disk new.disk old.state stays;

@@ -41,7 +41,7 @@ told-at true v m e t = t
 told-at false v m e t = absurd (true≢false (sym e))
 
 -- the journal's list agrees with one that is tied to it
-pub recorded-ties : (v : View) (m : Option (List Motion)) → Numbered v.records → IfTold m (Ties v) → IsRecorded v.key v.units v.records m
+pub recorded-ties : (v : View) (m : Option (List Motion)) → Numbered v.records → IfTold m (Ties v) → IsRecorded v.key v.units m v.records
 recorded-ties v m numbered told = record { numbered = numbered; agrees = agrees m told; within = within m told }
   where
     agrees : (m : Option (List Motion)) → IfTold m (Ties v) → IfTold m (Agrees v.records)
@@ -53,7 +53,7 @@ recorded-ties v m numbered told = record { numbered = numbered; agrees = agrees 
     within (Some motions) t = t.within
 
 -- and so with the mechanism's
-pub recorded-sound : (v : View) → IsSound v → v.disk_told ≡ true → IsRecorded v.key v.units v.records v.motions
+pub recorded-sound : (v : View) → IsSound v → v.disk_told ≡ true → IsRecorded v.key v.units v.motions v.records
 recorded-sound v s is = recorded-ties v v.motions (s.numbered is) (told-at v.disk_told v v.motions is s.told)
 
 -- whether the journal is shut, and which record is in doubt, changes nothing of what is sound

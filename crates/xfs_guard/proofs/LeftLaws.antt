@@ -17,28 +17,29 @@ use Rattle.xfs_journal.proofs.Emptying.{short_stands}
 use Rattle.xfs_journal.proofs.Moments.{started, weaken, joins}
 use Rattle.xfs_journal.proofs.Told.{on_told, from_told}
 use Rattle.xfs_guard.specs.declared.open.Open.{Open}
-use Rattle.xfs_guard.specs.CrashOutcomes.{EachStands, IsOldOrBooted, IsOldOrFound, MayMove, StandsRecorded, StandsThrough}
+use Rattle.xfs_guard.specs.CrashOutcomes.{EachStands, IsOldOrBooted, IsOldOrFound, MayMove, StandsThrough}
 use Rattle.xfs_guard.specs.Booting.{IsSpared}
 use Rattle.xfs_guard.specs.Recorded.{IsRecorded}
 use Rattle.xfs_guard.specs.Sound.{IsSound}
-use Rattle.xfs_guard.specs.Stored.{StandsForPossible, MayLeave}
+use Rattle.xfs_guard.specs.Stored.{MayLeave}
 use Rattle.xfs_guard.specs.View.{View}
 use Rattle.xfs_guard.proofs.BootLaws.{IsRecorded-boot}
 use Rattle.xfs_guard.proofs.KeptLaws.{recorded-sound, recorded-ties, told-at}
 use Rattle.xfs_guard.proofs.RecordLaws.{longer}
 use Rattle.xfs_guard.proofs.SoundLaws.{acted_view, told-act}
 use Rattle.xfs_guard.proofs.StoredLaws.{tells}
+use Rattle.xfs_journal.specs.Held.{StandsForSome}
 
 -- bytes that stand for one of the possible lists, each of which is recorded
 pub recorded-possible : (key : List ℕ) (u : List NoteKind) (m : Option (List Motion)) (records : List Rec) (d : Option Rec) (c : List ℕ)
-    → ((list : List Rec) → IsPossible records d list → IsRecorded key u list m) → StandsForPossible records d c → StandsRecorded key u m c
-recorded-possible key u m records d c recorded one = record { records = one.0; stands = one.2; recorded = recorded one.0 one.1 }
+    → ((list : List Rec) → IsPossible records d list → IsRecorded key u m list) → StandsForSome (IsPossible records d) c → StandsForSome (IsRecorded key u m) c
+recorded-possible key u m records d c recorded one = record { records = one.records; stands = one.stands; such = recorded one.records one.such }
 
 -- bytes that stand for the list or for that with the record, both of which are recorded
 pub recorded-either : (key : List ℕ) (u : List NoteKind) (m : Option (List Motion)) (records : List Rec) (r : Rec) (c : List ℕ)
-    → IsRecorded key u records m → IsRecorded key u (records ++ r ∷ []) m → StandsForEither records r c → StandsRecorded key u m c
-recorded-either key u m records r c before after (inl was) = record { records = records; stands = was; recorded = before }
-recorded-either key u m records r c before after (inr is) = record { records = records ++ r ∷ []; stands = is; recorded = after }
+    → IsRecorded key u m records → IsRecorded key u m (records ++ r ∷ []) → StandsForEither records r c → StandsForSome (IsRecorded key u m) c
+recorded-either key u m records r c before after (inl was) = record { records = records; stands = was; such = before }
+recorded-either key u m records r c before after (inr is) = record { records = records ++ r ∷ []; stands = is; such = after }
 
 module _ {D : Type 0} (g : Ghosts D) where
   -- a call that called no disk
@@ -48,38 +49,38 @@ module _ {D : Type 0} (g : Ghosts D) where
       started g d Holds (λ c left. from_told (g.held d) (λ _. (c : List ℕ) → g.images d c → Holds c) each all told c (only_now c left)))
 
   -- each image stands for a recorded list, where each of the possible lists is one
-  pub leaves-recorded : (d : D) (v : View) → EachImage g d (StandsForPossible v.records v.in_doubt)
-      → (is_some (g.held d) ≡ true → (records : List Rec) → IsPossible v.records v.in_doubt records → IsRecorded v.key v.units records v.motions)
-      → IfTold (g.held d) (λ _. (c : List ℕ) → g.images d c → StandsRecorded v.key v.units v.motions c)
-  leaves-recorded d v leaves recorded = on_told (g.held d) (λ _. (c : List ℕ) → g.images d c → StandsRecorded v.key v.units v.motions c) (λ all told c left.
-      recorded-possible v.key v.units v.motions v.records v.in_doubt c (recorded (ap is_some told)) (from_told (g.held d) (λ _. (c : List ℕ) → g.images d c → StandsForPossible v.records v.in_doubt c) leaves all told c left))
+  pub leaves-recorded : (d : D) (v : View) → EachImage g d (StandsForSome (IsPossible v.records v.in_doubt))
+      → (is_some (g.held d) ≡ true → (records : List Rec) → IsPossible v.records v.in_doubt records → IsRecorded v.key v.units v.motions records)
+      → IfTold (g.held d) (λ _. (c : List ℕ) → g.images d c → StandsForSome (IsRecorded v.key v.units v.motions) c)
+  leaves-recorded d v leaves recorded = on_told (g.held d) (λ _. (c : List ℕ) → g.images d c → StandsForSome (IsRecorded v.key v.units v.motions) c) (λ all told c left.
+      recorded-possible v.key v.units v.motions v.records v.in_doubt c (recorded (ap is_some told)) (from_told (g.held d) (λ _. (c : List ℕ) → g.images d c → StandsForSome (IsPossible v.records v.in_doubt) c) leaves all told c left))
 
   -- a call that wrote nothing
-  pub left-unwritten : (d : D) (v : View) → ((c : List ℕ) → g.images_since d (g.moment d) c → g.images d c) → EachImage g d (StandsForPossible v.records v.in_doubt)
-      → (is_some (g.held d) ≡ true → (records : List Rec) → IsPossible v.records v.in_doubt records → IsRecorded v.key v.units records v.motions)
-      → IfTold (g.held d) (λ _. LeavesOnly g d d (StandsRecorded v.key v.units v.motions))
-  left-unwritten d v only_now leaves recorded = left-same d (StandsRecorded v.key v.units v.motions) only_now (leaves-recorded d v leaves recorded)
+  pub left-unwritten : (d : D) (v : View) → ((c : List ℕ) → g.images_since d (g.moment d) c → g.images d c) → EachImage g d (StandsForSome (IsPossible v.records v.in_doubt))
+      → (is_some (g.held d) ≡ true → (records : List Rec) → IsPossible v.records v.in_doubt records → IsRecorded v.key v.units v.motions records)
+      → IfTold (g.held d) (λ _. LeavesOnly g d d (StandsForSome (IsRecorded v.key v.units v.motions)))
+  left-unwritten d v only_now leaves recorded = left-same d (StandsForSome (IsRecorded v.key v.units v.motions)) only_now (leaves-recorded d v leaves recorded)
 
   -- a call that wrote this record, or whose disk failed at it
   pub left-written : (old new : D) (v : View) (r : Rec) (w : Option (List (List ℕ × ℕ))) (o : Open) → v.disk_told ≡ is_some (g.held old) → IsSound v → IsSound (longer v r w o)
-      → IfTold (g.held old) (λ _. LeavesOnly g old new (StandsForEither v.records r)) → IfTold (g.held old) (λ _. LeavesOnly g old new (StandsRecorded v.key v.units v.motions))
-  left-written old new v r w o tells before after moments = on_told (g.held old) (λ _. LeavesOnly g old new (StandsRecorded v.key v.units v.motions)) (λ all told.
+      → IfTold (g.held old) (λ _. LeavesOnly g old new (StandsForEither v.records r)) → IfTold (g.held old) (λ _. LeavesOnly g old new (StandsForSome (IsRecorded v.key v.units v.motions)))
+  left-written old new v r w o tells before after moments = on_told (g.held old) (λ _. LeavesOnly g old new (StandsForSome (IsRecorded v.key v.units v.motions))) (λ all told.
       let is : v.disk_told ≡ true = tells ∙ ap is_some told in
-      weaken g old new (StandsForEither v.records r) (StandsRecorded v.key v.units v.motions)
+      weaken g old new (StandsForEither v.records r) (StandsForSome (IsRecorded v.key v.units v.motions))
       (λ c either. recorded-either v.key v.units v.motions v.records r c (recorded-sound v before is) (recorded-sound (longer v r w o) after is) either)
       (from_told (g.held old) (λ _. LeavesOnly g old new (StandsForEither v.records r)) moments all told))
 
   -- a call of the mechanism, which may add such an entry
-  pub left-through : (d : D) (v : View) (MayAdd : Motion → Type 0) → ((c : List ℕ) → g.images_since d (g.moment d) c → g.images d c) → EachImage g d (StandsForPossible v.records v.in_doubt)
-      → (is_some (g.held d) ≡ true → (records : List Rec) → IsPossible v.records v.in_doubt records → IsRecorded v.key v.units records v.motions)
-      → (is_some (g.held d) ≡ true → (records : List Rec) → IsPossible v.records v.in_doubt records → (entry : Motion) (now : Option (List Motion)) → MayAdd entry → AddsEntry v.motions entry now → IsRecorded v.key v.units records now)
+  pub left-through : (d : D) (v : View) (MayAdd : Motion → Type 0) → ((c : List ℕ) → g.images_since d (g.moment d) c → g.images d c) → EachImage g d (StandsForSome (IsPossible v.records v.in_doubt))
+      → (is_some (g.held d) ≡ true → (records : List Rec) → IsPossible v.records v.in_doubt records → IsRecorded v.key v.units v.motions records)
+      → (is_some (g.held d) ≡ true → (records : List Rec) → IsPossible v.records v.in_doubt records → (entry : Motion) (now : Option (List Motion)) → MayAdd entry → AddsEntry v.motions entry now → IsRecorded v.key v.units now records)
       → IfTold (g.held d) (λ _. LeavesOnly g d d (StandsThrough v MayAdd))
   left-through d v MayAdd only_now leaves before after = left-same d (StandsThrough v MayAdd) only_now (on_told (g.held d) (λ _. (c : List ℕ) → g.images d c → StandsThrough v MayAdd c) (λ all told c left.
-      let one = from_told (g.held d) (λ _. (c : List ℕ) → g.images d c → StandsForPossible v.records v.in_doubt c) leaves all told c left in
-      record { records = one.0; stands = one.2; before = before (ap is_some told) one.0 one.1; after = after (ap is_some told) one.0 one.1 }))
+      let one = from_told (g.held d) (λ _. (c : List ℕ) → g.images d c → StandsForSome (IsPossible v.records v.in_doubt) c) leaves all told c left in
+      record { records = one.records; stands = one.stands; before = before (ap is_some told) one.records one.such; after = after (ap is_some told) one.records one.such }))
 
 -- the list of records stays recorded with the entry that the written order adds
-pub recorded-moved : (v : View) (entry : Motion) (now : Option (List Motion)) → IsSound v → v.disk_told ≡ true → MayMove v entry → AddsEntry v.motions entry now → IsRecorded v.key v.units v.records now
+pub recorded-moved : (v : View) (entry : Motion) (now : Option (List Motion)) → IsSound v → v.disk_told ≡ true → MayMove v entry → AddsEntry v.motions entry now → IsRecorded v.key v.units now v.records
 recorded-moved v entry now s is may grows =
     let stands = rw may.written at s.stands in
     let grown = subst (λ (e : Motion). AddsEntry v.motions e now) may.entry_is grows in
@@ -164,19 +165,19 @@ module _ {D : Type 0} (g : Ghosts D) (old mid : D) (p : Places)
 
 -- what a boot leaves is recorded, where each list that was left before it is
 recorded-booted : {D : Type 0} (key : List ℕ) (u : List NoteKind) (m : Option (List Motion)) (g : Ghosts D) (d : D) (all : List ℕ) (p : Places) (c : List ℕ) → is_some (g.held d) ≡ true → g.images d all
-    → EachStands (g.images d) → ((records : List Rec) → MayLeave g d records → IsRecorded key u records m) → IsOldOrBooted (g.images d) all p c → StandsRecorded key u m c
+    → EachStands (g.images d) → ((records : List Rec) → MayLeave g d records → IsRecorded key u m records) → IsOldOrBooted (g.images d) all p c → StandsForSome (IsRecorded key u m) c
 recorded-booted key u m g d all p c told here each recorded (inl was) =
     let list = each c was in
-    record { records = list.0; stands = list.1; recorded = recorded list.0 (record { told = told; bytes = c; left = was; stands = list.1 }) }
+    record { records = list.0; stands = list.1; such = recorded list.0 (record { told = told; bytes = c; left = was; stands = list.1 }) }
 recorded-booted key u m g d all p c told here each recorded (inr (records, found, either)) =
     let before = recorded records (record { told = told; bytes = all; left = here; stands = found }) in
     recorded-either key u m records (boot_of records p) c before (IsRecorded-boot key u records p m before) either
 
 pub left-boot : {D : Type 0} (g : Ghosts D) (old new : D) (key : List ℕ) (u : List NoteKind) (m : Option (List Motion)) (p : Places)
-    → ((d : D) (all : List ℕ) → g.held d ≡ Some all → g.images d all) → ((records : List Rec) → MayLeave g old records → IsRecorded key u records m)
-    → IfTold (g.held old) (λ all. LeavesOnly g old new (IsOldOrBooted (g.images old) all p)) → IfTold (g.held old) (λ _. EachStands (g.images old) → LeavesOnly g old new (StandsRecorded key u m))
-left-boot g old new key u m p as_read recorded moments = on_told (g.held old) (λ _. EachStands (g.images old) → LeavesOnly g old new (StandsRecorded key u m)) (λ all told each.
-    weaken g old new (IsOldOrBooted (g.images old) all p) (StandsRecorded key u m)
+    → ((d : D) (all : List ℕ) → g.held d ≡ Some all → g.images d all) → ((records : List Rec) → MayLeave g old records → IsRecorded key u m records)
+    → IfTold (g.held old) (λ all. LeavesOnly g old new (IsOldOrBooted (g.images old) all p)) → IfTold (g.held old) (λ _. EachStands (g.images old) → LeavesOnly g old new (StandsForSome (IsRecorded key u m)))
+left-boot g old new key u m p as_read recorded moments = on_told (g.held old) (λ _. EachStands (g.images old) → LeavesOnly g old new (StandsForSome (IsRecorded key u m))) (λ all told each.
+    weaken g old new (IsOldOrBooted (g.images old) all p) (StandsForSome (IsRecorded key u m))
     (λ c left. recorded-booted key u m g old all p c (ap is_some told) (as_read old all told) each recorded left)
     (from_told (g.held old) (λ all. LeavesOnly g old new (IsOldOrBooted (g.images old) all p)) moments all told))
 

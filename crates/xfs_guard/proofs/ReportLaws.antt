@@ -163,7 +163,7 @@ sound-failed v f l s = record {
 -- a report keeps what the guard keeps
 pub IsSound-report : (v : View) (e : Motion) (failed : Bool) (now : Option (List Motion)) (places' : Places) (f : ℕ) (l : Counts) → IsSound v → IsReport e
     → Reports e failed v.motions now v.places places' → (PlacesOf v.places (e ∷ []) places' → LeavesSource v.open_order v.places places') → IsSound (reported_view v now places' f l)
-IsSound-report v e false now places' f l s is r leaves = sound-entry v e now places' f l s is (r.grown refl) (r.places refl) (leaves (r.places refl))
+IsSound-report v e false now places' f l s is r leaves = sound-entry v e now places' f l s is (r.moves refl).grown (r.moves refl).reached (leaves (r.moves refl).reached)
 IsSound-report v e true now places' f l s is r leaves = let none = r.nothing refl in rw (none.0, none.1) (sound-failed v f l s)
 
 -- room is left for what an open order still adds
@@ -228,17 +228,17 @@ Continues-report v e false now places' f l is r = record {
   leads = λ records possible. record {
     from = records;
     possible = possible;
-    led = leads-motion v.motions now records e v.places places' (r.grown refl) (number-report (λ n. n ≤ length records) e is) (number-report (λ n. length records ≤ n) e is) (r.places refl);
+    led = leads-motion v.motions now records e v.places places' (r.moves refl).grown (number-report (λ n. n ≤ length records) e is) (number-report (λ n. length records ≤ n) e is) (r.moves refl).reached;
   };
   key = refl;
   seed = refl;
   units = refl;
-  moves = Moves-entry e v.motions now v.places places' (r.grown refl) (r.places refl);
+  moves = Moves-entry e v.motions now v.places places' (r.moves refl).grown (r.moves refl).reached;
   disk_told = refl;
   limits = refl;
   grew = begins-same v.records;
   left = λ records was. was;
-  behind = stands-entry v e now places' f l is (r.grown refl);
+  behind = stands-entry v e now places' f l is (r.moves refl).grown;
 }
 
 -- a taking leaves what an order takes, where that is no retract
@@ -256,7 +256,7 @@ loaded-leaves o unit count was now places Reject is u = omega (arith, places.tra
 loaded-leaves o unit count was now places Retract is u = omega (arith, places.outlet u)
 
 -- a list of records agrees with what the mechanism did, also with an entry more that no order asked for
-pub IsRecorded-entry : (key : List ℕ) (u : List NoteKind) (kept : List Rec) (e : Motion) (was now : Option (List Motion)) → IsReport e → AddsEntry was e now → IsRecorded key u kept was → IsRecorded key u kept now
+pub IsRecorded-entry : (key : List ℕ) (u : List NoteKind) (kept : List Rec) (e : Motion) (was now : Option (List Motion)) → IsReport e → AddsEntry was e now → IsRecorded key u was kept → IsRecorded key u now kept
 IsRecorded-entry key u kept e was now is g h = record { numbered = h.numbered; agrees = agrees was h.agrees g; within = within was h.within g }
   where
     agrees : (was : Option (List Motion)) → IfTold was (Agrees kept) → AddsEntry was e now → IfTold now (Agrees kept)
@@ -269,9 +269,9 @@ IsRecorded-entry key u kept e was now is g h = record { numbered = h.numbered; a
 
 -- so it does after a report
 pub IsRecorded-report : (key : List ℕ) (u : List NoteKind) (records : List Rec) (e : Motion) (failed : Bool) (was now : Option (List Motion)) (places places' : Places) → IsReport e
-    → Reports e failed was now places places' → IsRecorded key u records was → IsRecorded key u records now
+    → Reports e failed was now places places' → IsRecorded key u was records → IsRecorded key u now records
 IsRecorded-report key u records e true was now places places' is r h = let none = r.nothing refl in rw none.0 h
-IsRecorded-report key u records e false was now places places' is r h = IsRecorded-entry key u records e was now is (r.grown refl) h
+IsRecorded-report key u records e false was now places places' is r h = IsRecorded-entry key u records e was now is (r.moves refl).grown h
 
 -- what the limits leave an open order stays
 pub HasLimits-report : (o : Open) (v : View) (now : Option (List Motion)) (places' : Places) (f : ℕ) (l : Counts) → HasLimits o v → HasLimits o (reported_view v now places' f l)

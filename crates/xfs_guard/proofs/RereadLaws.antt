@@ -12,14 +12,13 @@ use Rattle.xfs_journal.specs.Journal.{boot_of, with_boot}
 use Rattle.xfs_journal.proofs.Moments.{weaken, joins}
 use Rattle.xfs_journal.proofs.Told.{on_told, from_told}
 use Rattle.xfs_guard.specs.Crashed.{IsCrashOutcomeAt, StandsLeft, StandsReread, LeavesBehind}
-use Rattle.xfs_guard.specs.CrashOutcomes.{StandsRecorded}
 use Rattle.xfs_guard.specs.Recorded.{IsRecorded}
-use Rattle.xfs_guard.specs.Stored.{StandsForPossible}
 use Rattle.xfs_guard.specs.View.{View, GuardView}
 use Rattle.xfs_guard.proofs.BootLaws.{IsRecorded-boot}
 use Rattle.xfs_guard.proofs.CrashedLaws.{begins-trans, begins-possible}
 use Rattle.xfs_guard.proofs.LeftLaws.{recorded-possible, recorded-either}
 use Rattle.xfs_guard.proofs.StoredLaws.{tells}
+use Rattle.xfs_journal.specs.Held.{StandsForSome}
 
 module _ {D : Type 0} (g : Ghosts D) where
   -- the disk was read, and nothing else
@@ -62,15 +61,15 @@ module _ {D : Type 0} (g : Ghosts D) where
       }
 
   -- and is recorded
-  pub recorded-reread : (old new : D) (v : View) (p : Places) (IsLeftNow : List Rec → Type 0) → EachImage g old (StandsForPossible v.records v.in_doubt)
-      → (is_some (g.held old) ≡ true → (list : List Rec) → IsPossible v.records v.in_doubt list → IsRecorded v.key v.units list v.motions)
+  pub recorded-reread : (old new : D) (v : View) (p : Places) (IsLeftNow : List Rec → Type 0) → EachImage g old (StandsForSome (IsPossible v.records v.in_doubt))
+      → (is_some (g.held old) ≡ true → (list : List Rec) → IsPossible v.records v.in_doubt list → IsRecorded v.key v.units v.motions list)
       → IfTold (g.held old) (λ _. LeavesOnly g old new (λ bytes. g.images old bytes ⊎ StandsReread v.records v.in_doubt p IsLeftNow bytes))
-      → IfTold (g.held old) (λ _. LeavesOnly g old new (StandsRecorded v.key v.units v.motions))
-  recorded-reread old new v p IsLeftNow possible recorded leaves = on_told (g.held old) (λ _. LeavesOnly g old new (StandsRecorded v.key v.units v.motions)) (λ all told.
+      → IfTold (g.held old) (λ _. LeavesOnly g old new (StandsForSome (IsRecorded v.key v.units v.motions)))
+  recorded-reread old new v p IsLeftNow possible recorded leaves = on_told (g.held old) (λ _. LeavesOnly g old new (StandsForSome (IsRecorded v.key v.units v.motions))) (λ all told.
       let each = recorded (ap is_some told) in
-      weaken g old new (λ bytes. g.images old bytes ⊎ StandsReread v.records v.in_doubt p IsLeftNow bytes) (StandsRecorded v.key v.units v.motions)
+      weaken g old new (λ bytes. g.images old bytes ⊎ StandsReread v.records v.in_doubt p IsLeftNow bytes) (StandsForSome (IsRecorded v.key v.units v.motions))
       (λ bytes e. ⊎_elim
-      (λ was. recorded-possible v.key v.units v.motions v.records v.in_doubt bytes each (from_told (g.held old) (λ _. (c : List ℕ) → g.images old c → StandsForPossible v.records v.in_doubt c) possible all told bytes was))
+      (λ was. recorded-possible v.key v.units v.motions v.records v.in_doubt bytes each (from_told (g.held old) (λ _. (c : List ℕ) → g.images old c → StandsForSome (IsPossible v.records v.in_doubt) c) possible all told bytes was))
       (λ read. recorded-either v.key v.units v.motions read.list (boot_of read.list p) bytes (each read.list read.possible) (IsRecorded-boot v.key v.units read.list p v.motions (each read.list read.possible)) read.either)
       e)
       (from_told (g.held old) (λ _. LeavesOnly g old new (λ bytes. g.images old bytes ⊎ StandsReread v.records v.in_doubt p IsLeftNow bytes)) leaves all told))

@@ -10,6 +10,7 @@ use Rattle.xfs_mech.specs.declared.motion.Motion.{Motion}
 use Rattle.xfs_journal.specs.Image.{IsImage, StandsFor, blocks, magic}
 use Rattle.xfs_journal.specs.declared.record.Rec.{Rec}
 use Rattle.xfs_journal.specs.declared.record.Rec.TheVariants.{Order}
+use Rattle.xfs_journal.proofs.Unique.{head_of}
 use Rattle.xfs_journal.proofs.JournalLaws.{record_at-within}
 use Rattle.xfs_guard.specs.Agrees.{Agrees}
 use Rattle.xfs_guard.specs.Recorded.{IsRecorded}
@@ -26,10 +27,6 @@ short-no_image bytes short J image =
     let front = length-append magic (blocks J) in
     absurd (omega (arith, size, joined, front, short))
 
-abbrev pub head_of : List ℕ → ℕ
-head_of [] = 0
-head_of (x ∷ xs) = x
-
 -- what doesn't begin with the X of the magic
 pub other-no_image : (bytes rest : List ℕ) (x : ℕ) → bytes ≡ x ∷ rest → x ≢ 0x58 → HasNoImage bytes
 other-no_image bytes rest x is other J image = other (ap head_of (sym is ∙ image.bytes_are))
@@ -38,7 +35,7 @@ pub at_rest-memory : (m : MemDisk) → steps_of m ≡ [] → Only (bytes_of m) (
 at_rest-memory m settled c is = rw settled at is
 
 -- an empty list is recorded beside a mechanism that did nothing
-recorded-empty : (key : List ℕ) (units : List NoteKind) (L : Option (List Motion)) → IfTold L (λ l. l ≡ []) → IsRecorded key units [] L
+recorded-empty : (key : List ℕ) (units : List NoteKind) (L : Option (List Motion)) → IfTold L (λ l. l ≡ []) → IsRecorded key units L []
 recorded-empty key units L fresh = record { numbered = tt; agrees = agrees L fresh; within = within L fresh }
   where
     agrees : (L : Option (List Motion)) → IfTold L (λ l. l ≡ []) → IfTold L (Agrees [])
@@ -50,6 +47,6 @@ recorded-empty key units L fresh = record { numbered = tt; agrees = agrees L fre
     within (Some l) fresh = rw fresh tt
 
 pub starts-memory : (m : MemDisk) (key : List ℕ) (units : List NoteKind) (L : Option (List Motion)) → steps_of m ≡ [] → HasNoImage (bytes_of m) → IfTold L (λ l. l ≡ [])
-    → (c : List ℕ) → MayBe m c → (J : List Rec) → StandsFor c J → IsRecorded key units J L
+    → (c : List ℕ) → MayBe m c → (J : List Rec) → StandsFor c J → IsRecorded key units L J
 starts-memory m key units L settled none fresh c is J (inl image) = absurd (none J (rw (at_rest-memory m settled c is) at image))
 starts-memory m key units L settled none fresh c is J (inr empty) = rw empty.0 (recorded-empty key units L fresh)

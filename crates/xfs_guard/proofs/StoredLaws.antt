@@ -14,7 +14,6 @@ use Rattle.xfs_journal.specs.declared.record.Rec.{Rec}
 use Rattle.xfs_journal.specs.Journal.{boot_of, with_boot}
 use Rattle.xfs_journal.proofs.Emptying.{short_stands}
 use Rattle.xfs_journal.proofs.Unique.{stands_for_one}
-use Rattle.xfs_guard.specs.Booting.{IsFoundBooted}
 use Rattle.xfs_guard.specs.CrashOutcomes.{IsOldOrFound}
 use Rattle.xfs_guard.specs.Stored.{MayLeave, WasLeft}
 
@@ -133,8 +132,3 @@ unlisted-mount g old new long = go (g.held old) long
 pub unlisted-booted : (held : Option (List ℕ)) (kept : List Rec) (Claim : Type 0) → IfTold held (λ all. StandsFor all kept) → IfTold held (λ all. ((records : List Rec) → ¬ StandsFor all records) → Claim)
 unlisted-booted None kept Claim stands = tt
 unlisted-booted (Some all) kept Claim stands = λ none. absurd (none kept stands)
-
--- a list that was read has its boot record
-pub booted_behind : (held : Option (List ℕ)) (kept now : List Rec) (places : Places) → IfTold held (λ all. StandsFor all kept) → now ≡ with_boot kept places → IsFoundBooted held places now
-booted_behind None kept now places stands is = tt
-booted_behind (Some all) kept now places stands is = (kept, stands, is)

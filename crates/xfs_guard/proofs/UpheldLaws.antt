@@ -18,8 +18,8 @@ use Rattle.xfs_guard.proofs.LeftLaws.{leaves-recorded}
 use Rattle.xfs_guard.proofs.MarkLaws.{boot-marked, mark-there, bound-there, issue-there}
 use Rattle.xfs_guard.proofs.SizeLaws.{neither}
 use Rattle.xfs_disk.specs.Moments.{EachImage}
-use Rattle.xfs_journal.specs.JournalView.{HasPossible}
-use Rattle.xfs_guard.specs.Stored.{StandsForPossible}
+use Rattle.xfs_journal.specs.JournalView.{HasPossible, IsPossible}
+use Rattle.xfs_journal.specs.Held.{StandsForSome}
 
 either : (a b : Bool) (Claim : Type 0) → (a ≡ true → Claim) → (b ≡ true → Claim) → (a || b) ≡ true → Claim
 either true b Claim one two e = one refl
@@ -34,7 +34,7 @@ counted v told = go (where_told v.disk_told v.motions) told
     go None t = tt
     go (Some entries) t = t.counted
 
-pub upheld : {D : Type 0} (g : Ghosts D) (v : View) (d : D) (spare left : ℕ) (kinds : List NoteKind) → v.disk_told ≡ is_some (g.held d) → IsKept v spare left kinds → EachImage g d (HasPossible v.records v.in_doubt) → EachImage g d (StandsForPossible v.records v.in_doubt)
+pub upheld : {D : Type 0} (g : Ghosts D) (v : View) (d : D) (spare left : ℕ) (kinds : List NoteKind) → v.disk_told ≡ is_some (g.held d) → IsKept v spare left kinds → EachImage g d (HasPossible v.records v.in_doubt) → EachImage g d (StandsForSome (IsPossible v.records v.in_doubt))
     → IsUpheld g (record { state = v; disk = d })
 upheld g v d spare left kinds told kept stored leaves = record {
   stored = stored;

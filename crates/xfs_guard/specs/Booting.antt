@@ -32,26 +32,14 @@ HadRoom held limits places now = IsFound held (λ records. (now ≡ with_boot re
 abbrev pub LacksRoom : Option (List ℕ) → Limits → Places → Type 0
 LacksRoom held limits places = IsFound held (λ records. has_no_room_at_boot limits records places ≡ true)
 
--- each list that a crash may leave agrees with the mechanism's list
-abbrev pub LeavesRecorded : {D : Type 0} → Ghosts D → D → List ℕ → List NoteKind → Option (List Motion) → Type 0
-LeavesRecorded g disk key units motions = (records : List Rec) → MayLeave g disk records → IsRecorded key units records motions
-
 -- where each image was that of one list, each is that of this list, with this boot record or without it
 abbrev pub LeavesEither : {D : Type 0} → Ghosts D → D → D → Places → Type 0
 LeavesEither g old new places = IfTold (g.held old) (λ _. (records : List Rec) → ((image : List ℕ) → g.images old image → StandsFor image records)
     → (image : List ℕ) → g.images new image → StandsForEither records (boot_of records places) image)
 
--- a disk that has no list of records is left as it was
-abbrev pub SparesUnlisted : {D : Type 0} → Ghosts D → D → D → Type 0
-SparesUnlisted g old new = IfTold (g.held old) (λ all. ((records : List Rec) → ¬ StandsFor all records) → IsQuiet g old new)
-
 -- an image of before, or of a short file, perhaps with another eighth byte
 abbrev pub IsSpared : (List ℕ → Type 0) → List ℕ → List ℕ → Type 0
 IsSpared images all c = (d : List ℕ) × IsOldOrShort images all d × ((c ≡ d) ⊎ IsButForEighth d c)
-
--- these are the records that the disk has, with a boot record of these places behind them
-abbrev pub IsFoundBooted : Option (List ℕ) → Places → List Rec → Type 0
-IsFoundBooted held places now = IfTold held (λ all. (records : List Rec) × StandsFor all records × (now ≡ with_boot records places))
 
 -- how many of the records memory doesn't have once they are read again: a reboot rebases, and a restore has as many as before
 abbrev pub base_then : Bool → ℕ → List Rec → ℕ
@@ -85,7 +73,3 @@ IsRereadFailed rebases old new = (records : List Rec) × IsPossible old.records 
 -- the journal was not read, and is shut
 abbrev pub IsNotReread : View → View → Type 0
 IsNotReread old new = new ≡ unread old
-
--- each list that a crash may leave is a possible one of this state
-abbrev pub LeavesListOf : {D : Type 0} → Ghosts D → D → View → Type 0
-LeavesListOf g disk v = (records : List Rec) → MayLeave g disk records → IsPossible v.records v.in_doubt records

@@ -21,18 +21,12 @@ use Rattle.xfs_guard.specs.View.{View}
 abbrev pub EachStands : (List ℕ → Type 0) → Type 0
 EachStands images = (c : List ℕ) → images c → (records : List Rec) × StandsFor c records
 
--- the bytes stand for a list of records that is recorded with the mechanism's list
-pub record StandsRecorded (key : List ℕ) (units : List NoteKind) (motions : Option (List Motion)) (bytes : List ℕ) : Type 0 where
-  pub records : List Rec
-  pub stands : StandsFor bytes records
-  pub recorded : IsRecorded key units records motions
-
 -- the bytes stand for a list of records that is recorded with the mechanism's list, and with that list and one such entry more
 pub record StandsThrough (v : View) (MayAdd : Motion → Type 0) (bytes : List ℕ) : Type 0 where
   pub records : List Rec
   pub stands : StandsFor bytes records
-  pub before : IsRecorded v.key v.units records v.motions
-  pub after : (entry : Motion) (now : Option (List Motion)) → MayAdd entry → AddsEntry v.motions entry now → IsRecorded v.key v.units records now
+  pub before : IsRecorded v.key v.units v.motions records
+  pub after : (entry : Motion) (now : Option (List Motion)) → MayAdd entry → AddsEntry v.motions entry now → IsRecorded v.key v.units now records
 
 -- an entry that the mechanism may add when it carries out the written order
 pub record MayMove (v : View) (entry : Motion) : Type 0 where

@@ -31,7 +31,7 @@ pub record IsKept (v : View) (spare left : ℕ) (kinds : List NoteKind) : Type 0
   pub balanced : IsBalanced v.records v.booted v.loaded v.places
   pub closed : v.shut ≡ true → v.open_order ≡ No
   pub missing : v.boot_missing ≡ true → v.open_order ≡ No
-  pub recorded : v.disk_told ≡ true → (records : List Rec) → IsPossible v.records v.in_doubt records → IsRecorded v.key v.units records v.motions
+  pub recorded : v.disk_told ≡ true → (records : List Rec) → IsPossible v.records v.in_doubt records → IsRecorded v.key v.units v.motions records
   pub room : HasRoom v.open_order spare left
   pub limits : HasLimits v.open_order v
   pub units : kinds ≡ v.units

@@ -19,7 +19,7 @@ use Rattle.xfs_journal.specs.Paging.{IsQuiet}
 use Rattle.xfs_journal.specs.declared.limits.Limits.{Limits}
 use Rattle.xfs_journal.specs.declared.record.Rec.{Rec}
 use Rattle.xfs_guard.specs.Balance.{no_notes}
-use Rattle.xfs_guard.specs.Booting.{HadRoom, IsFound, LacksRoom, LeavesEither, SparesUnlisted, base_then, IsSpared}
+use Rattle.xfs_guard.specs.Booting.{HadRoom, IsFound, LacksRoom, LeavesEither, base_then, IsSpared}
 use Rattle.xfs_guard.specs.Crashed.{IsCrashOutcome, StandsReread}
 use Rattle.xfs_guard.specs.LedgerView.{IsWriteFault, LedgerView, Wrote}
 use Rattle.xfs_guard.specs.Presented.{presented_in}
@@ -29,6 +29,7 @@ use Rattle.xfs_guard.specs.declared.deny.Deny.TheVariants as deny
 use Rattle.xfs_guard.specs.declared.fail.BootFault.{BootFault}
 use Rattle.xfs_guard.specs.declared.fail.BootFault.TheVariants.{NotJournal, Disk, Full, Memory}
 use Rattle.xfs_guard.specs.CrashOutcomes.{IsOldOrFound, IsOldOrBooted}
+use Rattle.xfs_journal.specs.Held.{WhereNoJournal}
 
 -- a possible list of the journal was read again, and has a boot record of these places behind it, since which nothing was loaded
 abbrev pub IsBootedNow : {D : Type 0} → Bool → LedgerView D → LedgerView D → Places → Type 0
@@ -98,7 +99,7 @@ pub record RefusesMount {D : Type 0} (g : Ghosts D) (before : D) (why : BootFaul
   pub refused : (at : ℕ) → why ≡ NotJournal at → IsQuiet g before now
   pub disk : why ≡ Disk → Rose (g.faults before) (g.faults now)
   pub not_full : why ≢ Full
-  pub unlisted : SparesUnlisted g before now
+  pub unlisted : WhereNoJournal (g.held before) (IsQuiet g before now)
   pub unwritten : why ≢ Disk → EachMoment g before now (IsSpared (g.images before))
   pub any_moment : EachMoment g before now (IsOldOrFound (g.images before))
   pub goes_on : DiskGoesOn g before now
@@ -135,7 +136,7 @@ pub record RefusesLedger {D : Type 0} (g : Ghosts D) (limits : Limits) (places :
   pub disk : why ≡ Disk → Rose (g.faults before) (g.faults now)
   pub left : (records : List Rec) → MayLeave g now records → WasLeft g before places records
   pub either : LeavesEither g before now places
-  pub unlisted : SparesUnlisted g before now
+  pub unlisted : WhereNoJournal (g.held before) (IsQuiet g before now)
   pub unwritten : why ≢ Disk → EachMoment g before now (IsSpared (g.images before))
   pub told : is_some (g.held now) ≡ is_some (g.held before)
   pub any_moment : EachMoment g before now (λ all. IsOldOrBooted (g.images before) all places)

@@ -6,20 +6,23 @@ use Rattle.xfs_disk.specs.Moments.{LeavesOnly, EachImage, EachMoment}
 use Rattle.xfs_disk.specs.declared.disk.Disk.{Ghosts}
 use Rattle.xfs_mech.specs.declared.mechanism.Mechanism.{Ghosts as Mechanisms}
 use Rattle.xfs_journal.specs.Image.{StandsFor}
-use Rattle.xfs_journal.specs.JournalView.{IsCarriedOver, IsNoJournal, HasPossible}
+use Rattle.xfs_journal.specs.JournalView.{IsCarriedOver, IsNoJournal, HasPossible, IsPossible}
 use Rattle.xfs_journal.specs.Paging.{IsQuiet}
-use Rattle.xfs_guard.specs.Booting.{HadRoom, IsNotReread, IsRereadFailed, IsRereadFull, LacksRoom, LeavesEither, LeavesListOf, LeavesRecorded, SparesUnlisted, IsSpared}
+use Rattle.xfs_guard.specs.Booting.{HadRoom, IsNotReread, IsRereadFailed, IsRereadFull, LacksRoom, LeavesEither, IsSpared}
 use Rattle.xfs_guard.specs.Continues.{ContinuesFound}
-use Rattle.xfs_guard.specs.CrashOutcomes.{EachStands, IsOldOrBooted, StandsRecorded}
+use Rattle.xfs_guard.specs.CrashOutcomes.{EachStands, IsOldOrBooted}
 use Rattle.xfs_guard.specs.Entries.{AtEntry, BeginsFound}
 use Rattle.xfs_guard.specs.Reach.{BeginsBehind}
 use Rattle.xfs_guard.specs.View.{GuardView}
 use Rattle.xfs_guard.specs.declared.fail.BootFault.{BootFault}
 use Rattle.xfs_guard.specs.declared.fail.BootFault.TheVariants.{NotJournal, Disk, Full, Memory}
+use Rattle.xfs_journal.specs.Held.{StandsForSome, WhereNoJournal}
+use Rattle.xfs_guard.specs.Stored.{EachLeft}
+use Rattle.xfs_guard.specs.Recorded.{IsRecorded}
 
 -- What a crash leaves at any moment of a boot: where each image stood for a list, a list that is recorded; and else than an earlier image only the list that was found, with the boot record or without it. No count of the disk's faults fell.
 pub record LeavesBooted {D : Type 0} (d : Ghosts D) (e : AtEntry) (before now : D) : Type 0 where
-  pub any_moment : IfTold e.held (λ _. EachStands (d.images before) → LeavesOnly d before now (StandsRecorded e.key e.units e.motions))
+  pub any_moment : IfTold e.held (λ _. EachStands (d.images before) → LeavesOnly d before now (StandsForSome (IsRecorded e.key e.units e.motions)))
   pub crashes : IfTold e.held (λ all. LeavesOnly d before now (IsOldOrBooted (d.images before) all e.places))
   pub faults : e.disk_faults ≤ d.faults now
 
@@ -39,9 +42,9 @@ pub record RefusesBoot {D : Type 0} (d : Ghosts D) (e : AtEntry) (before : D) (w
   pub refused : (at : ℕ) → why ≡ NotJournal at → IsQuiet d before now
   pub full : why ≡ Full → LacksRoom e.held e.limits e.places
   pub disk : why ≡ Disk → Rose e.disk_faults (d.faults now)
-  pub left : LeavesRecorded d now e.key e.units e.motions
+  pub left : EachLeft d now (IsRecorded e.key e.units e.motions)
   pub either : LeavesEither d before now e.places
-  pub unlisted : SparesUnlisted d before now
+  pub unlisted : WhereNoJournal (d.held before) (IsQuiet d before now)
   pub unwritten : why ≢ Disk → EachMoment d before now (IsSpared (d.images before))
   pub told : is_some (d.held now) ≡ is_some (d.held before)
   pub leaves : LeavesBooted d e before now
@@ -59,8 +62,8 @@ pub record RefusesRestore {D : Type 0} (g : Ghosts D) (rebases : Bool) (result :
 -- The mechanism and the disk come back as the guard had them, and each list that a crash may leave of the disk is recorded.
 pub record HandsBack {M D : Type 0} (m : Mechanisms M) (d : Ghosts D) (guard : GuardView D) (mech : M) (now : D) : Type 0 where
   pub stored : EachImage d now (HasPossible guard.state.records guard.state.in_doubt)
-  pub left : LeavesListOf d now guard.state
-  pub recorded : LeavesRecorded d now guard.state.key guard.state.units guard.state.motions
+  pub left : EachLeft d now (IsPossible guard.state.records guard.state.in_doubt)
+  pub recorded : EachLeft d now (IsRecorded guard.state.key guard.state.units guard.state.motions)
   pub clean : guard.state.shut ≡ false → guard.state.in_doubt ≡ None
   pub told : is_some (d.held now) ≡ guard.state.disk_told
   pub disk : now ≡ guard.disk

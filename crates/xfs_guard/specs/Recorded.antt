@@ -10,7 +10,7 @@ use Rattle.xfs_guard.specs.Agrees.{Agrees}
 use Rattle.xfs_guard.specs.Within.{Within}
 
 -- the issues are numbered, the lists tell the same, and nothing was put out that a token doesn't cover
-pub record IsRecorded (key : List ℕ) (units : List NoteKind) (records : List Rec) (motions : Option (List Motion)) : Type 0 where
+pub record IsRecorded (key : List ℕ) (units : List NoteKind) (motions : Option (List Motion)) (records : List Rec) : Type 0 where
   pub numbered : Numbered records
   pub agrees : IfTold motions (Agrees records)
   pub within : IfTold motions (Within key units records)

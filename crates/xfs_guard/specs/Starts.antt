@@ -12,7 +12,7 @@ use Rattle.xfs_guard.specs.declared.machine_core.Core.{Core}
 
 -- each list of records that an image of the disk stands for is numbered, agrees with the mechanism's list, and puts out no more than its tokens cover
 abbrev pub AllRecorded : {M D : Type 0} → Mechanisms M → Disks D → Core M D → Type 0
-AllRecorded m d core = EachImage d core.disk (λ image. (records : List Rec) → StandsFor image records → IsRecorded core.key core.units records (m.motions core.mech))
+AllRecorded m d core = EachImage d core.disk (λ image. (records : List Rec) → StandsFor image records → IsRecorded core.key core.units (m.motions core.mech) records)
 
 -- a crash leaves what the disk reads as
 abbrev pub AtRest : {D : Type 0} → Disks D → D → Type 0

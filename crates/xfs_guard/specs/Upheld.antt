@@ -10,7 +10,6 @@ use Rattle.xfs_guard.specs.declared.open.Open.TheVariants.{No}
 use Rattle.xfs_guard.specs.Balance.{IsBalanced}
 use Rattle.xfs_guard.specs.Budget.{Budget}
 use Rattle.xfs_guard.specs.Crashed.{is_closed}
-use Rattle.xfs_guard.specs.CrashOutcomes.{StandsRecorded}
 use Rattle.xfs_guard.specs.Nonce.{live_in, nonce_of}
 use Rattle.xfs_guard.specs.Presented.{presented_in, unsettled}
 use Rattle.xfs_guard.specs.Refusals.{bound_number, bound_token}
@@ -19,6 +18,8 @@ use Rattle.xfs_guard.specs.View.{View, GuardView}
 use Rattle.xfs_guard.specs.Within.{shown}
 use Rattle.xfs_disk.specs.Moments.{EachImage}
 use Rattle.xfs_journal.specs.JournalView.{HasPossible}
+use Rattle.xfs_journal.specs.Held.{StandsForSome}
+use Rattle.xfs_guard.specs.Recorded.{IsRecorded}
 
 -- a record of the list is the Issue of this nonce, and has its text
 abbrev pub HasIssue : List Rec → Nonce → Type 0
@@ -40,7 +41,7 @@ IsCounted v = IfTold (where_told v.disk_told v.motions) (λ motions.
 -- The list is stored, and each image of the disk stands for a list that is recorded. While the journal is open and has its boot record, the open order is its newest record, and the budget holds; else no order is open. Whatever the mechanism tells, the notes balance with the last boot record. A live nonce has its Issue, the last mark is one, and the bound token has its Bind.
 pub record IsUpheld {D : Type 0} (g : Ghosts D) (now : GuardView D) : Type 0 where
   pub stored : EachImage g now.disk (HasPossible now.state.records now.state.in_doubt)
-  pub recorded : EachImage g now.disk (StandsRecorded now.state.key now.state.units now.state.motions)
+  pub recorded : EachImage g now.disk (StandsForSome (IsRecorded now.state.key now.state.units now.state.motions))
   pub clean : now.state.shut ≡ false → now.state.in_doubt ≡ None
   pub closed : is_closed now.state ≡ true → now.state.open_order ≡ No
   pub order : is_closed now.state ≡ false → OpenIsNewest now.state.open_order now.state.records now.state.places

@@ -4,7 +4,6 @@ ghost use Rattle.xfs_base.specs.Causes.{Rose};
 ghost use Rattle.xfs_journal.specs.declared.record.Rec.TheVariants.{Issue, Clear, Expire, Order};
 ghost use Rattle.xfs_journal.specs.Journal.{base_of, next_issue};
 ghost use Rattle.xfs_guard.specs.declared.open.Open.TheVariants.{No};
-ghost use Rattle.xfs_guard.specs.Booting.{LeavesRecorded};
 ghost use Rattle.xfs_guard.specs.Calls.{UsesMechanism, WritesRecord};
 ghost use Rattle.xfs_guard.specs.Entries.{entry_of};
 ghost use Rattle.xfs_guard.specs.Nonce.{EndsNonce, live_in, live_nonce};
@@ -18,7 +17,9 @@ ghost use Rattle.xfs_guard.specs.Keeps.{Keeps, NoEntry};
 ghost use Rattle.xfs_guard.specs.LedgerView.{IsWriteFault};
 ghost use Rattle.xfs_guard.specs.Lives.{WasNeverAnswered};
 ghost use Rattle.xfs_guard.specs.Outcomes.{BootsGuard, HandsBack, RefusesBoot};
+ghost use Rattle.xfs_guard.specs.Recorded.{IsRecorded};
 ghost use Rattle.xfs_guard.specs.Segment.{IsTellable};
+ghost use Rattle.xfs_guard.specs.Stored.{EachLeft};
 ghost use Rattle.xfs_guard.specs.Orders.{IsWritten, IsActed, Acts, Settles, Unsettles, kind_unacted};
 ghost use Rattle.xfs_guard.specs.Refusals.{Answers, IsAdmitted, IsAsk, order_refusal, nothing_refusal, notes_of, asked_kind, asked_counts};
 ghost use Rattle.xfs_guard.specs.declared.ask.Ask.TheVariants.{Stack as AskStack, Present as AskPresent};
@@ -58,8 +59,9 @@ impl<M: Mechanism, D: Disk> Model for Guard<M, D> {
     ghost use Rattle.std.specs.Prelude.{is_some};
     ghost use Rattle.xfs_guard.specs.View.{GuardView, over};
     ghost use Rattle.xfs_disk.specs.Moments.{EachImage};
+    ghost use Rattle.xfs_journal.specs.Held.{StandsForSome};
+    ghost use Rattle.xfs_journal.specs.JournalView.{IsPossible};
     ghost use Rattle.xfs_guard.specs.Kept.{IsKept};
-    ghost use Rattle.xfs_guard.specs.Stored.{StandsForPossible};
 
     ghost Value = { GuardView D };
 
@@ -70,7 +72,7 @@ impl<M: Mechanism, D: Disk> Model for Guard<M, D> {
 
     ghost invariant = { λ g. IsKept (over g.key g.words g.open_order (M.motions g.mech) (M.places g.mech) (M.faults g.mech) g.ledger (is_some (D.held g.ledger.disk)))
         (M.room g.mech) g.ledger.room (M.units g.mech)
-        × EachImage D.Disk g.ledger.disk (StandsForPossible g.ledger.records g.ledger.in_doubt) };
+        × EachImage D.Disk g.ledger.disk (StandsForSome (IsPossible g.ledger.records g.ledger.in_doubt)) };
 }
 
 impl<M: Mechanism, D: Disk> Guard<M, D> {
@@ -87,7 +89,7 @@ impl<M: Mechanism, D: Disk> Guard<M, D> {
         limits: Limits,
     ) -> Result<Guard<M, D>, BootFail<M, D>>
         requires units { M.units mech ≡ units }
-        requires recorded { LeavesRecorded D.Disk disk key units (M.motions mech) }
+        requires recorded { EachLeft D.Disk disk (IsRecorded key units (M.motions mech)) }
         ensures ok { IfOk result (BootsGuard D.Disk (entry_of M.Mechanism D.Disk mech disk key seed units limits) disk) }
         ensures mech { IfErr result (λ f. f.mech ≡ mech) }
         ensures refuses { IfErr result (λ f. RefusesBoot D.Disk (entry_of M.Mechanism D.Disk mech disk key seed units limits) disk f.why f.disk) }

@@ -4,9 +4,10 @@ ghost use Rattle.std.specs.Prelude.{◌≡◌, ◌≢◌, ℕ, List, ◌+◌, �
 ghost use Rattle.std.specs.Option.{option_copied, option_map};
 ghost use Rattle.xfs_base.specs.Counts.{at};
 ghost use Rattle.xfs_base.specs.declared.counts.Counts.{Counts};
+ghost use Rattle.xfs_journal.specs.Held.{StandsForSome};
 ghost use Rattle.xfs_journal.specs.Image.{HasUnit, size};
 ghost use Rattle.xfs_journal.specs.Journal.{base_of, boot_of, issues_in, record_at, live_of, last_mark, next_issue, nonce_text, with_boot};
-ghost use Rattle.xfs_journal.specs.JournalView.{exceeds, refusal, HasPossible, StandsForEither};
+ghost use Rattle.xfs_journal.specs.JournalView.{exceeds, refusal, HasPossible, StandsForEither, IsPossible};
 ghost use Rattle.xfs_journal.specs.Outcomes.{DiskGoesOn, FailsAt, IsAppended, IsUnwritten, KeepsJournal, WritesAtMost};
 ghost use Rattle.xfs_journal.specs.declared.record.Rec.TheVariants.{Issue, Bind, Order, Done, Load};
 ghost use Rattle.xfs_guard.specs.declared.fail.BootFault.TheVariants.{NotJournal, Disk as BootDisk, Full as BootFull, Memory as BootMemory};
@@ -16,12 +17,11 @@ ghost use Rattle.xfs_guard.specs.Presented.{presented_in};
 ghost use Rattle.xfs_guard.specs.LedgerBooting.{BootsLedger, IsBootedNow, StaysSmall, RefusesLedger, RefusesReread, WritesLedger, IsOldOrReread};
 ghost use Rattle.xfs_guard.specs.LedgerView.{IsOpenLedger, IsWriteFault, IsSame, IsPresentedBound, write_refusal};
 ghost use Rattle.xfs_guard.specs.Balance.{with_notes};
-ghost use Rattle.xfs_guard.specs.Booting.{HadRoomThen, IsFoundBooted, base_then};
+ghost use Rattle.xfs_guard.specs.Booting.{HadRoomThen, base_then};
 ghost use Rattle.xfs_guard.specs.Ledger.{IsLive, IsDoubted};
 ghost use Rattle.xfs_guard.specs.Pays.{FitsSums, GrowBy, GrowsSums, IsSumOf, StayWithin};
 ghost use Rattle.xfs_guard.specs.Segment.{IsTellable};
 ghost use Rattle.xfs_disk.specs.Moments.{EachImage, EachMoment};
-ghost use Rattle.xfs_guard.specs.Stored.{StandsForPossible};
 
 use crate::bound::{Bound, Live};
 use crate::mounting::mount;
@@ -406,10 +406,9 @@ impl<D: Disk> Ledger<D> {
     pub fn restore(&mut self, places: Survey, rebases: bool) -> Result<(), BootFault>
         ensures ok { OnOk result (IsBootedNow rebases self.old self.new places) }
         ensures fits { OnOk result (HadRoomThen rebases self.old.base (D.held self.old.disk) self.old.limits places self.new.records) }
-        ensures stands { OnOk result (IsFoundBooted (D.held self.old.disk) places self.new.records) }
         ensures refuses { RefusesReread D.Disk rebases places result self.old self.new }
         ensures goes_on { DiskGoesOn D.Disk self.old.disk self.new.disk }
-        ensures left { EachImage D.Disk self.new.disk (StandsForPossible self.new.records self.new.in_doubt) }
+        ensures left { EachImage D.Disk self.new.disk (StandsForSome (IsPossible self.new.records self.new.in_doubt)) }
         ensures any_moment { EachMoment D.Disk self.old.disk self.new.disk (λ _. IsOldOrReread D.Disk self.old self.new places) }
     {
         let before = self.newest();

@@ -1,8 +1,7 @@
 //! Reading the journal again: after the disk failed, and where the machine starts anew.
 
 ghost use Rattle.std.specs.Prelude.{◌≡◌, ◌+◌, true, false, length, OnOk};
-ghost use Rattle.xfs_journal.specs.JournalView.{exceeds};
-ghost use Rattle.xfs_guard.specs.Booting.{HadRoom, HadRoomAgain, IsFoundBooted, IsRereadBooted};
+ghost use Rattle.xfs_guard.specs.Booting.{HadRoom, HadRoomAgain, IsRereadBooted};
 ghost use Rattle.xfs_guard.specs.Keeps.{Keeps, NoEntry};
 ghost use Rattle.xfs_guard.specs.Outcomes.{RefusesRestore};
 ghost use Rattle.xfs_guard.specs.Reach.{BeginsBehind};
@@ -21,8 +20,7 @@ impl<M: Mechanism, D: Disk> Guard<M, D> {
     /// as `NotJournal`.
     pub fn restore(&mut self) -> Result<(), BootFault>
         ensures ok { OnOk result (IsRereadBooted false self.old.state self.new.state) }
-        ensures fits { OnOk result (exceeds self.old.state.limits self.old.state.base self.new.state.records ≡ false) }
-        ensures stands { OnOk result (IsFoundBooted (D.held self.old.disk) self.old.state.places self.new.state.records) }
+        ensures fits { OnOk result (HadRoomAgain false (D.held self.old.disk) self.old.state self.new.state.records) }
         ensures refuses { RefusesRestore D.Disk false result self.old self.new }
         ensures keeps { Keeps D.Disk NoEntry self.old self.new }
     {
@@ -38,7 +36,6 @@ impl<M: Mechanism, D: Disk> Guard<M, D> {
         ensures alone { OnOk result (self.new.state.base + 1 ≡ length self.new.state.records) }
         ensures behind { OnOk result (BeginsBehind self.new.state) }
         ensures fits { OnOk result (HadRoom (D.held self.old.disk) self.old.state.limits self.old.state.places self.new.state.records) }
-        ensures stands { OnOk result (IsFoundBooted (D.held self.old.disk) self.old.state.places self.new.state.records) }
         ensures refuses { RefusesRestore D.Disk true result self.old self.new }
         ensures keeps { Keeps D.Disk NoEntry self.old self.new }
     {
@@ -49,7 +46,6 @@ impl<M: Mechanism, D: Disk> Guard<M, D> {
     fn read_again(&mut self, rebases: bool) -> Result<(), BootFault>
         ensures ok { OnOk result (IsRereadBooted rebases self.old.state self.new.state) }
         ensures fits { OnOk result (HadRoomAgain rebases (D.held self.old.disk) self.old.state self.new.state.records) }
-        ensures stands { OnOk result (IsFoundBooted (D.held self.old.disk) self.old.state.places self.new.state.records) }
         ensures refuses { RefusesRestore D.Disk rebases result self.old self.new }
         ensures keeps { Keeps D.Disk NoEntry self.old self.new }
     {

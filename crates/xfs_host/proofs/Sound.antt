@@ -5,7 +5,7 @@ use Rattle.std.specs.Cmp.Lexicographic.{bytes_decides}
 use Rattle.std.proofs.lemmas.Bool.{eq-eqb, eqb-false, eqb-true, ne_eqb}
 use Rattle.std.proofs.lemmas.List.Sums.{sum_by-cons, sum_by_push}
 use Rattle.xfs_host.specs.Book.{Book, Call, Opened, Asked, Opening, balance_in, book_of, debits, decided, first_ask_in, first_of, is_paid, noted, opening_in, user_in, with_first, with_opening}
-use Rattle.xfs_host.specs.Laws.{IsCovered, IsSound, debits_in, taken, tokens_in, uses, worth}
+use Rattle.xfs_host.specs.Laws.{IsCovered, TokensArePaid, debits_in, taken, tokens_in, uses, worth}
 use Rattle.xfs_host.specs.declared.first.First.{First}
 use Rattle.xfs_host.proofs.Paying.{IsPaying, paying}
 use Rattle.xfs_host.proofs.Steps.{debits_other, debits_paid, debits_refused, found_new, found_same, noted_again, noted_new, noted_open, noted_opening, untouched_opening, untouched_paid}
@@ -219,7 +219,7 @@ whole_from : (b : Book) (calls : List Call) → IsWhole b → IsWhole (fold note
 whole_from b [] k = k
 whole_from b (call ∷ calls) k = whole_from (noted b call) calls (whole_noted b call k)
 
-pub sound : (calls : List Call) → IsSound (book_of calls)
+pub sound : (calls : List Call) → TokensArePaid (book_of calls)
 sound calls =
     let k = whole_from (record { opened = []; asked = [] }) calls (record { untouched = λ q h. refl; alone = λ q. omega arith; covered = λ q. tt; totals = λ c. refl; once = λ n. omega arith }) in
     record { covered = k.covered; totals = k.totals; once = k.once }

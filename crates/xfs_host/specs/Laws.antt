@@ -35,14 +35,14 @@ abbrev pub IsCovered : Book → ℕ → Type 0
 IsCovered b account = IfSome (opening_in b account) (λ o. debits b account ≤ o.balance)
 
 -- in each currency what the tokens are worth was taken from its accounts, and a nonce got one token at most
-pub record IsSound (b : Book) : Type 0 where
+pub record TokensArePaid (b : Book) : Type 0 where
   pub covered : (account : ℕ) → IsCovered b account
   pub totals : (currency : List ℕ) → tokens_in currency b ≡ debits_in currency b
   pub once : (nonce : List ℕ) → count_by (uses nonce) b.asked ≤ 1
 
 -- the book of every history is sound
 abbrev pub AreSound : Type 0
-AreSound = (calls : List Call) → IsSound (book_of calls)
+AreSound = (calls : List Call) → TokensArePaid (book_of calls)
 
 -- a token that is replied is genuine, with the ask's nonce and its one amount
 abbrev pub AreMade : Type 0

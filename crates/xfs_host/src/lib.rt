@@ -13,7 +13,6 @@ mod laws;
 mod ledger;
 mod listing;
 mod reply;
-mod text;
 
 pub use account::Account;
 pub use ask::Ask;
@@ -21,4 +20,5 @@ pub use faults::{AskFault, HostFault, OpenFault};
 pub use host::Host;
 pub use laws::every_history;
 pub use reply::Reply;
-pub use text::Text;
+/// The bytes of a token.
+pub use xfs_base::Bytes as Text;

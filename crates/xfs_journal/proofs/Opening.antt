@@ -3,10 +3,8 @@ use Rattle.std.proofs.Common.{◌≡◌, ◌≢◌, inl, inr, ℕ, ◌+◌, ◌<
 use Rattle.std.proofs.lemmas.List.{take_at, drop_at, drop_more}
 use Rattle.std.proofs.lemmas.Bool.{cases_eq}
 use Rattle.xfs_disk.specs.Disk.{overlaid, Torn, Only}
+use Rattle.xfs_disk.proofs.Crash.{torn_same}
 use Rattle.xfs_journal.specs.Gate.{IsClosed, IsOpened, IsEither, IsEitherOf, MayBecome}
-
-pub torn_same : (at n : ℕ) (d : List ℕ) → Torn at n d d
-torn_same at n d = record { before = refl; after = refl; no_shorter = omega arith; no_longer = omega arith }
 
 module _ (f x : List ℕ) (g : ℕ) (rest : List ℕ) (p : ℕ) (size : length f ≡ p) where
   abbrev file : List ℕ

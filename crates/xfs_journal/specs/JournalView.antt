@@ -4,6 +4,7 @@ use Rattle.std.specs.declared.option.Option.{Option}
 use Rattle.std.specs.List.{AllByRecursion}
 use Rattle.xfs_base.specs.Causes.{IfTold}
 use Rattle.xfs_disk.specs.Disk.{overlaid, Only}
+use Rattle.xfs_journal.specs.Held.{StandsForNone}
 use Rattle.xfs_journal.specs.Image.{IsImage, IsRecord, StandsFor, end_of, magic, size}
 use Rattle.xfs_disk.specs.declared.disk.Disk.{Ghosts}
 use Rattle.xfs_journal.specs.Journal.{base_of}
@@ -83,7 +84,7 @@ IsRenewed g old new = IfTold (g.held old) (λ all. slice_get all 7 ≡ Some 0x31
 
 -- a disk that tells ceases to be a journal there, and stands for no list
 abbrev pub IsNoJournal : Option (List ℕ) → ℕ → Type 0
-IsNoJournal held at = IfTold held (λ all. CeasesAt all at × ((records : List Rec) → ¬ StandsFor all records))
+IsNoJournal held at = IfTold held (λ all. CeasesAt all at × StandsForNone all)
 
 -- A crash leaves one of the possible lists. While the journal isn't shut, no record is in doubt.
 pub record IsInDoubt (held : Option (List ℕ)) (images : List ℕ → Type 0) (records : List Rec) (shut : Bool) (in_doubt : Option Rec) : Type 0 where

@@ -1,5 +1,6 @@
 pub mod Decode
 pub mod Gate
+pub mod Held
 pub mod Holding
 pub mod Image
 pub mod Journal

@@ -42,7 +42,7 @@ abbrev pub terminates : KeyName → Data → Bool
 terminates key keys = unwrap_or (option_and_then (truth_of (codes "terminate")) (entry_of key keys)) false
 
 -- the payload asks for this entry
-pub record Asks (payload : Data) (ask : EntryAsk) : Type 0 where
+pub record AsksEntry (payload : Data) (ask : EntryAsk) : Type 0 where
   pub max_len : member_as (whole_in 1 64) (member_of (codes "maxLen") payload) ≡ Ok (Some ask.max_len)
   pub auto_end : truth_of (codes "autoEnd") payload ≡ Some ask.auto_end
   pub keys : AreKeys (option_and_then as_object (member_of (codes "activeKeys") payload))

@@ -13,13 +13,13 @@ pub record Entry : Type 0 where
   pub digits : List KeyName
 
 -- there are at most as many digits as were asked for
-abbrev pub IsWithin : Entry → Type 0
-IsWithin e = length e.digits ≤ e.ask.max_len
+abbrev pub HasFewDigits : Entry → Type 0
+HasFewDigits e = length e.digits ≤ e.ask.max_len
 
 -- a keyboard has no entry, or one that is within its length
 abbrev pub IsKeyboard : Option Entry → Type 0
 IsKeyboard None = ⊤
-IsKeyboard (Some e) = IsWithin e
+IsKeyboard (Some e) = HasFewDigits e
 
 -- a key that isn't active, or a digit past the last
 abbrev pub is_ignored : KeyName → Entry → Bool

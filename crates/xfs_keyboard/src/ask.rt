@@ -1,6 +1,6 @@
 ghost use Rattle.std.specs.Prelude.{◌≡◌, ◌↔◌, codes, IfOk, OnErr, IsTrue, IsSome, Some};
 ghost use Rattle.serde_json.specs.View.{view, members_view};
-ghost use Rattle.xfs_keyboard.specs.Asks.{Asks, AllKeys, AreKeys, IsKeyEntry, IsKeyName, is_active, terminates, truth_of};
+ghost use Rattle.xfs_keyboard.specs.Asks.{AsksEntry, AllKeys, AreKeys, IsKeyEntry, IsKeyName, is_active, terminates, truth_of};
 ghost use Rattle.xfs_keyboard.specs.Keys.{has};
 ghost use Rattle.xfs_keyboard.specs.declared.ask.EntryAsk.{EntryAsk};
 ghost use Rattle.xfs_mech.specs.declared.key.KeyName.{KeyName};
@@ -58,8 +58,8 @@ const KEYS: [KeyName; 14] = [
 /// Reads the payload of Keyboard.DataEntry (XFS4IoT, CEN CWA): `maxLen`, `autoEnd` and
 /// `activeKeys`. It takes no memory.
 pub fn read_entry(payload: &Value) -> Result<EntryAsk, Shape>
-    ensures ok { IfOk result (Asks (view payload.now)) }
-    ensures shape { OnErr result ((ask : EntryAsk) → ¬ Asks (view payload.now) ask) }
+    ensures ok { IfOk result (AsksEntry (view payload.now)) }
+    ensures shape { OnErr result ((ask : EntryAsk) → ¬ AsksEntry (view payload.now) ask) }
 {
     let Some(max_len) = whole(payload, "maxLen", 1, 64)? else {
         return Err(Shape);

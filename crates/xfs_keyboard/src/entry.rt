@@ -1,7 +1,7 @@
 ghost use Rattle.std.specs.Prelude.{◌≡◌, ◌≤◌, ◌==◌, ◌++◌, [], take, length, false, is_some, IfOk, option_map};
 ghost use Rattle.serde_json.specs.View.{view};
 ghost use Rattle.xfs_envelope.specs.Messages.{IsPayload};
-ghost use Rattle.xfs_keyboard.specs.Entries.{IsWithin, is_ignored, typed, completion, entry_payload, listed};
+ghost use Rattle.xfs_keyboard.specs.Entries.{HasFewDigits, is_ignored, typed, completion, entry_payload, listed};
 ghost use Rattle.xfs_keyboard.specs.Keys.{is_digit};
 
 use crate::EntryAsk;
@@ -85,7 +85,7 @@ impl Entry {
     pub(crate) fn type_key(&mut self, key: KeyName)
         requires { is_ignored key self.old ≡ false }
         ensures typed { self.new ≡ record self.old { digits = typed key self.old.digits } }
-        ensures within { IsWithin self.new }
+        ensures within { HasFewDigits self.new }
     {
         let (kept, added) = self.edit(key);
         self.digits.truncate(kept);

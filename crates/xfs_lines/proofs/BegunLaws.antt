@@ -30,11 +30,9 @@ use Rattle.xfs_dispenser.specs.Carried.{StacksAll, StacksFirst}
 use Rattle.xfs_dispenser.specs.declared.grant.Grant.{Grant}
 use Rattle.xfs_dispenser.specs.declared.refusal.Refusal.{Refusal}
 use Rattle.xfs_dispenser.specs.declared.refusal.Refusal.TheVariants.{Deny as Denied}
-use Rattle.xfs_lines.proofs.GuardStateLaws.{err-same, seen-same, told-some, wrote-kept}
-
-pub on-err : {T E : Type 0} (result : Result T E) (P : Type 0) → P → OnErr result P
-on-err (Ok x) P p = tt
-on-err (Err e) P p = p
+use Rattle.xfs_script.proofs.LastLaws.{on-err}
+use Rattle.xfs_dispenser.proofs.CarryLaws.{err-same, not-disk}
+use Rattle.xfs_lines.proofs.GuardStateLaws.{seen-same, told-some, wrote-kept}
 
 -- a refusal of the guard has no text where it is want of memory, and only there
 no-text : (deny : Deny) → refusal_text (Denied deny) ≡ None → deny ≡ Memory
@@ -59,12 +57,6 @@ refused-or-nothing Answer s end r same told = go (refusal_text r) refl
     go : (text : Option (List ℕ)) → refusal_text r ≡ text → AllOrNothing Answer s end
     go None e = inl (same (not-disk-told r e))
     go (Some line) e = inr (line, told line e)
-
-pub not-disk : (deny : Deny) → deny ≡ Memory → deny ≢ Disk
-not-disk deny memory disk = clash (sym memory ∙ disk)
-  where
-    clash : Memory ≡ Disk → ⊥
-    clash e = cc
 
 -- the same of a refusal by the guard
 pub denied-or-nothing : {D : Type 0} (faults : D → ℕ) (old new : GuardView D) (last : Option (List ℕ)) (Answer : List ℕ → GuardState → Type 0) (deny : Deny)

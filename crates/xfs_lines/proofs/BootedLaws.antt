@@ -18,7 +18,7 @@ use Rattle.xfs_guard.specs.declared.fail.BootFault.TheVariants.{NotJournal, Disk
 use Rattle.xfs_lines.specs.Guard.Restarts.{EndsRestart, HasNoRoom, IsFull, RestartCause}
 use Rattle.xfs_guard.specs.Entries.{AtEntry, opened}
 use Rattle.xfs_lines.specs.Guard.Starts.{IsStart}
-use Rattle.xfs_lines.specs.Runs.{IsEnd, IsFullAtEnd, IsStillAt}
+use Rattle.xfs_lines.specs.Runs.{IsEnd, IsStillAt}
 use Rattle.xfs_script.specs.Streams.{Streams}
 use Rattle.xfs_lines.specs.Returns.{Return}
 use Rattle.xfs_disk.specs.declared.disk.Disk.{Ghosts as Disks}
@@ -30,6 +30,7 @@ use Rattle.xfs_script.specs.declared.answerer.Ending.TheVariants.{Ended}
 use Rattle.xfs_lines.proofs.EndingLaws.{is-boot}
 use Rattle.xfs_lines.specs.Guard.States.{GuardState, IsStill, guard_state}
 use Rattle.xfs_script.specs.Lines.{behind, first_line}
+use Rattle.xfs_guard.specs.Booting.{LacksRoom}
 
 -- the last state is that of a guard which is over
 pub ends-at : {M D : Type 0} (m : Mechanisms M) (d : Disks D) (v : View) (result : Return M D)
@@ -101,8 +102,8 @@ module _ {S A : Type 0} (c : Command S BootFault) (see : S → GuardState) (rest
 
 -- a guard whose boot record has no room leaves a disk that reads as its list
 pub full-end : (v : View) (limits : Limits) (places : Places) (held : Option (List ℕ)) (images : List ℕ → Type 0) → v.limits ≡ limits → places ≡ v.places
-    → ((bytes : List ℕ) → held ≡ Some bytes → images bytes) → IfTold held (λ _. (bytes : List ℕ) → images bytes → HasPossible v.records v.in_doubt bytes) → IsFull v → IsFullAtEnd limits places held
-full-end v limits places held images l p read stored full = record { records = v.records; stands = go held read stored; exceeds_limit = rw (← l, p) full.exceeds_limit }
+    → ((bytes : List ℕ) → held ≡ Some bytes → images bytes) → IfTold held (λ _. (bytes : List ℕ) → images bytes → HasPossible v.records v.in_doubt bytes) → IsFull v → LacksRoom held limits places
+full-end v limits places held images l p read stored full = (v.records, go held read stored, rw (← l, p) full.exceeds_limit)
   where
     go : (held : Option (List ℕ)) → ((bytes : List ℕ) → held ≡ Some bytes → images bytes) → IfTold held (λ _. (bytes : List ℕ) → images bytes → HasPossible v.records v.in_doubt bytes) → IfTold held (λ bytes. StandsFor bytes v.records)
     go None read stored = tt
@@ -139,10 +140,10 @@ ends-failed BootMemory faults now io status is written failed six = absurd (omeg
 
 -- a refused boot whose boot record passes a limit
 pub ends-full : (why : BootFault) (limits : Limits) (places : Places) (held : Option (List ℕ)) (io : Streams) (status : ℕ) → status ≡ boot_status why → WritesBoot why io
-    → (why ≡ Full → (J : List Rec) × IfTold held (λ bytes. StandsFor bytes J) × BootExceeds limits places J) → status ≡ 12 → EndsFull limits places held io
+    → (why ≡ Full → LacksRoom held limits places) → status ≡ 12 → EndsFull limits places held io
 ends-full (NotJournal at) limits places held io status is written full twelve = absurd (omega (arith, is, twelve))
 ends-full Disk limits places held io status is written full twelve = absurd (omega (arith, is, twelve))
-ends-full Full limits places held io status is written full twelve = let f = full refl in record { records = f.0; stands = f.1; exceeds_limit = f.2; written = written }
+ends-full Full limits places held io status is written full twelve = record { lacks = full refl; written = written }
 ends-full BootMemory limits places held io status is written full twelve = absurd (omega (arith, is, twelve))
 
 -- under status 12 a restart found no room for its boot record

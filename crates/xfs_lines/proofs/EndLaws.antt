@@ -13,9 +13,11 @@ use Rattle.xfs_script.specs.Lines.{behind, first_line, rest, AllLines, StopsAtLi
 use Rattle.xfs_script.specs.Reading.{GaveAll}
 use Rattle.xfs_guard.specs.declared.fail.BootFault.{BootFault}
 use Rattle.xfs_guard.specs.declared.fail.BootFault.TheVariants.{NotJournal, Disk, Full, Memory as NoMemory}
-use Rattle.xfs_lines.specs.Boots.{BootExceeds, IsNoJournal, boot_status}
+use Rattle.xfs_lines.specs.Boots.{BootExceeds, boot_status}
 use Rattle.xfs_lines.proofs.EndingLaws.{status-boot}
 use Rattle.xfs_lines.specs.Output.Statuses.{IsStatus, IsUnhindered, IsFinished}
+use Rattle.xfs_journal.specs.Held.{StandsForNone}
+use Rattle.xfs_journal.specs.JournalView.{IsNoJournal}
 
 -- behind the end of a text there is nothing
 behind-end : (many more : ℕ) (text : List ℕ) → behind many text ≡ [] → behind (many + more) text ≡ []
@@ -47,13 +49,13 @@ pub record HasCauses (IsLineOf HasNoRoomAt : List ℕ → Type 0) (status : ℕ)
   pub line : status ≡ 4 → IfTold left (StopsAtLine IsLineOf)
   pub write : status ≡ 5 → sink
   pub disk_fault : status ≡ 6 → disk
-  pub journal : status ≡ 7 → IfTold held IsNoJournal
+  pub journal : status ≡ 7 → IfTold held StandsForNone
   pub quota : status ≡ 10 → GaveAll left left'
   pub full : status ≡ 12 → IfTold left (λ text. IfTold held (λ bytes. (J : List Rec) → StandsFor bytes J → BootExceeds limits places J ⊎ HasNoRoomAt text))
 
 -- a refused boot has the cause of its status
 pub causes-refused : (IsLineOf HasNoRoomAt : List ℕ → Type 0) (why : BootFault) (status : ℕ) (left left' held : Option (List ℕ)) (limits : Limits) (places : Places) (source sink disk : Type 0) → status ≡ boot_status why
-    → ((at : ℕ) → why ≡ NotJournal at → IfTold held (λ bytes. CeasesAt bytes at × IsNoJournal bytes)) → (why ≡ Disk → disk)
+    → ((at : ℕ) → why ≡ NotJournal at → IsNoJournal held at) → (why ≡ Disk → disk)
     → (why ≡ Full → (J : List Rec) × IfTold held (λ bytes. StandsFor bytes J) × BootExceeds limits places J)
     → HasCauses IsLineOf HasNoRoomAt status left left' held limits places source sink disk
 causes-refused IsLineOf HasNoRoomAt why status left left' held limits places source sink disk is none failed full = record {
@@ -89,10 +91,10 @@ causes-refused IsLineOf HasNoRoomAt why status left left' held limits places sou
     six Full e failed = absurd (omega (arith, e))
     six NoMemory e failed = absurd (omega (arith, e))
 
-    seven : (why : BootFault) → boot_status why ≡ 7 → ((at : ℕ) → why ≡ NotJournal at → IfTold held (λ bytes. CeasesAt bytes at × IsNoJournal bytes)) → IfTold held IsNoJournal
+    seven : (why : BootFault) → boot_status why ≡ 7 → ((at : ℕ) → why ≡ NotJournal at → IsNoJournal held at) → IfTold held StandsForNone
     seven (NotJournal at) e none = go held (none at refl)
       where
-        go : (held : Option (List ℕ)) → IfTold held (λ bytes. CeasesAt bytes at × IsNoJournal bytes) → IfTold held IsNoJournal
+        go : (held : Option (List ℕ)) → IsNoJournal held at → IfTold held StandsForNone
         go None h = tt
         go (Some bytes) h = h.1
     seven Disk e none = absurd (omega (arith, e))

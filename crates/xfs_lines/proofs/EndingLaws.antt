@@ -1,12 +1,16 @@
 -- Which ending has which status.
-use Rattle.std.proofs.Common.{◌≡◌, ◌≢◌, ◌≤◌, ℕ, inl, inr, refl, arith}
+use Rattle.std.proofs.Common.{◌≡◌, ◌≢◌, ◌≤◌, ℕ, inl, inr, refl, ap, arith}
 use Rattle.xfs_script.specs.declared.answerer.Ending.{Ending}
 use Rattle.xfs_script.specs.declared.answerer.Ending.TheVariants.{AtEnd, Read, Quota, NotALine, Write, Memory, Ended}
 use Rattle.xfs_guard.specs.declared.fail.BootFault.{BootFault}
 use Rattle.xfs_guard.specs.declared.fail.BootFault.TheVariants.{NotJournal, Disk, Full, Memory as BootMemory}
+use Rattle.xfs_guard.specs.declared.machine_core.Core.{Core}
+use Rattle.xfs_script.specs.Streams.{Streams}
+use Rattle.xfs_lines.specs.Ends.{EndsLines}
 use Rattle.xfs_lines.specs.Output.BootLines.{boot_status, IsOfBoot}
 use Rattle.xfs_lines.specs.Output.InputEnds.{ending_status}
-use Rattle.xfs_lines.specs.Output.Statuses.{IsStatus}
+use Rattle.xfs_lines.specs.Output.Statuses.{IsCaused, IsStatus}
+use Rattle.xfs_lines.specs.Returns.{given_back}
 
 -- the statuses of the endings and of a refused boot are of the table
 pub status-boot : (fault : BootFault) → IsStatus (boot_status fault)
@@ -30,6 +34,30 @@ boot-least (NotJournal at) = (omega arith, λ e. omega (arith, e))
 boot-least Disk = (omega arith, λ e. omega (arith, e))
 boot-least Full = (omega arith, λ e. omega (arith, e))
 boot-least BootMemory = (omega arith, λ e. omega (arith, e))
+
+-- what comes back of a command that answered its lines
+pub answered-ends : {M D L : Type 0} (other second : Core M D) (mech : M) (disk : D) (status : ℕ) (io : Streams) → second ≡ other → status ≢ 2 → IsStatus status → IsCaused status io
+    → EndsLines {L = L} other (given_back status mech disk second) io
+answered-ends {M} {D} other second mech disk status io same usage is cause = record {
+  usage = usage;
+  status = is;
+  cause = cause;
+  second = record { mech = ap (λ (c : Core M D). c.mech) same; disk = ap (λ (c : Core M D). c.disk) same };
+}
+
+-- what comes back of a command whose boot was refused
+pub unbooted-ends : {M D L : Type 0} (other second : Core M D) (mech : M) (disk : D) (why : BootFault) (io : Streams) → second ≡ other
+    → EndsLines {L = L} other (given_back (boot_status why) mech disk second) io
+unbooted-ends other second mech disk why io same =
+    let low = (boot-least why).0 in
+    let many = (boot-least why).1 in
+    answered-ends other second mech disk (boot_status why) io same (λ e. omega (arith, low, e)) (status-boot why) (record {
+      whole = λ e. absurd (omega (arith, low, e));
+      fewer = λ e. absurd (omega (arith, low, e));
+      read = λ e. absurd (omega (arith, low, e));
+      write = λ e. absurd (omega (arith, low, e));
+      quota = λ e. absurd (many e);
+    })
 
 pub no-usage : (ending : Ending BootFault) → ending_status ending ≢ 2
 no-usage AtEnd is = omega (arith, is)

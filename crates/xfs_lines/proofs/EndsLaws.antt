@@ -4,7 +4,6 @@ use Rattle.std.specs.Prelude.{is_some}
 use Rattle.xfs_disk.specs.declared.disk.Disk.{Ghosts as Disks}
 use Rattle.xfs_mech.specs.declared.mechanism.Mechanism.{Ghosts as Mechanisms}
 use Rattle.xfs_mech.proofs.MoveLaws.{AddsUp-Moves, AddsUp-same, told-GrowsBy}
-use Rattle.xfs_guard.specs.Booting.{LeavesRecorded}
 use Rattle.xfs_guard.specs.Entries.{at_entry, opened}
 use Rattle.xfs_guard.specs.Keeps.{Proceeds}
 use Rattle.xfs_guard.specs.Outcomes.{BootsGuard, HandsBack, RefusesBoot}
@@ -20,6 +19,8 @@ use Rattle.xfs_lines.specs.Returns.{ComesBack, Return}
 use Rattle.xfs_lines.proofs.KeptLaws.{moments-kept, upholds-kept}
 use Rattle.xfs_lines.proofs.MomentLaws.{moments-refused, moments-run}
 use Rattle.xfs_lines.proofs.RunLaws.{upholds-refused, upholds-run}
+use Rattle.xfs_guard.specs.Stored.{EachLeft}
+use Rattle.xfs_guard.specs.Recorded.{IsRecorded}
 
 -- the mechanism and the disk of a guard that is over
 pub record HasEnded {M D : Type 0} (m : Mechanisms M) (d : Disks D) (g : GuardView D) (result : Return M D) : Type 0 where
@@ -30,7 +31,7 @@ pub record HasEnded {M D : Type 0} (m : Mechanisms M) (d : Disks D) (g : GuardVi
   pub disk : result.disk ≡ g.disk
   pub told : is_some (d.held result.disk) ≡ g.state.disk_told
   pub stored : EachImage d result.disk (HasPossible g.state.records g.state.in_doubt)
-  pub recorded : LeavesRecorded d result.disk g.state.key g.state.units g.state.motions
+  pub recorded : EachLeft d result.disk (IsRecorded g.state.key g.state.units g.state.motions)
 
 pub guard-ended : {M D : Type 0} (m : Mechanisms M) (d : Disks D) (g : GuardView D) (r : Return M D) → HandsBack m d g r.mech r.disk → HasEnded m d g r
 guard-ended m d g r e = record {

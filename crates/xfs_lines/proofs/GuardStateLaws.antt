@@ -38,6 +38,8 @@ use Rattle.xfs_guard.specs.NextNonce.{next_record}
 use Rattle.xfs_lines.specs.Guard.Verbs.{Issues, Clears}
 use Rattle.xfs_dispenser.specs.declared.refusal.Refusal.{Refusal}
 use Rattle.xfs_dispenser.specs.declared.refusal.Refusal.TheVariants.{Deny as Denied, Memory as Unremembered}
+use Rattle.xfs_dispenser.proofs.CarryLaws.{IsDiskFault, err-same}
+use Rattle.xfs_dispenser.proofs.DenyLaws.{due-some, is_disk}
 
 -- a refusal with a text, which isn't the disk's, is the one that is due
 pub due : (T : Type 0) (deny : Deny) (refusal : Option Deny) (line : List ℕ) → Answers {T = T} (Err deny) refusal → deny ≢ Disk → refusal_text (Denied deny) ≡ Some line → refusal ≡ Some deny
@@ -45,30 +47,12 @@ due T Disk refusal line answers other text = absurd (other refl)
 due T Memory refusal line answers other text = cc
 due T deny refusal line answers other text = answers
 
--- the same of a refusal that isn't want of memory
-pub due-some : (T : Type 0) (deny : Deny) (refusal : Option Deny) → Answers {T = T} (Err deny) refusal → deny ≢ Disk → deny ≢ Memory → refusal ≡ Some deny
-due-some T Disk refusal answers other some = absurd (other refl)
-due-some T Memory refusal answers other some = absurd (some refl)
-due-some T deny refusal answers other some = answers
-
 -- a refusal with a text isn't want of memory
 pub told-some : (refusal : Refusal) (line : List ℕ) → refusal_text refusal ≡ Some line → refusal ≢ Denied Memory
 told-some refusal line text is = (let e : None ≡ Some line = sym (ap refusal_text is) ∙ text in cc)
 
 pub told-kept : (refusal : Refusal) (line : List ℕ) → refusal_text refusal ≡ Some line → refusal ≢ Unremembered
 told-kept refusal line text is = (let e : None ≡ Some line = sym (ap refusal_text is) ∙ text in cc)
-
--- whether a refusal is the disk's
-pub is_disk : (deny : Deny) → (deny ≡ Disk) ⊎ (deny ≢ Disk)
-is_disk Disk = inl refl
-is_disk deny = inr (λ e. cc)
-
--- a call failed since the disk did
-abbrev pub IsDiskFault : Type 0 → Deny → Type 0
-IsDiskFault T deny = ◌≡◌ {A = Result T Deny} (Err deny) (Err Disk)
-
-pub err-same : {T : Type 0} {a b : Deny} → ◌≡◌ {A = Result T Deny} (Err a) (Err b) → a ≡ b
-err-same e = cc
 
 pub wrote-kept : (s next : GuardState) (refusal : Option Deny) (r : Rec) (kept : View) (text line : List ℕ)
     → refusal ≡ None → next.guard ≡ kept → s.disk_faults ≤ next.disk_faults → next.last ≡ s.last → line ≡ text → WritesOne s refusal r kept text line next

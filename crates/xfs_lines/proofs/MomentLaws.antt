@@ -62,7 +62,7 @@ module _ {D : Type 0} (g : Ghosts D)
       → WasOnTheWayAll g old new motions
   moments-refused old new key units motions p starts rest leaves either = on_told (g.held old) (λ bytes. (J : List Rec) → StandsFor bytes J → LeavesOnly g old new (WasOnTheWay J (g.held new) motions)) (λ bytes told J stands.
       let only = from_told (g.held old) (λ b. Only b (g.images old)) rest bytes told in
-      let recorded : IsRecorded key units J motions = from_told (g.held old) (λ _. (c : List ℕ) → g.images old c → (K : List Rec) → StandsFor c K → IsRecorded key units K motions) starts bytes told bytes (as_read old bytes told) J stands in
+      let recorded : IsRecorded key units motions J = from_told (g.held old) (λ _. (c : List ℕ) → g.images old c → (K : List Rec) → StandsFor c K → IsRecorded key units motions K) starts bytes told bytes (as_read old bytes told) J stands in
       let now = from_told (g.held old) (λ _. (K : List Rec) → ((c : List ℕ) → g.images old c → StandsFor c K) → (c : List ℕ) → g.images new c → StandsForEither K (boot_of K p) c) either bytes told J (λ c was. rw (only c was) stands) in
       weaken g old new (IsOldOrBooted (g.images old) bytes p) (WasOnTheWay J (g.held new) motions) (λ c is. on_the_way J c recorded now (booted-either old bytes J p c only stands is))
       (from_told (g.held old) (λ all. LeavesOnly g old new (IsOldOrBooted (g.images old) all p)) leaves bytes told))
@@ -72,19 +72,19 @@ module _ {D : Type 0} (g : Ghosts D)
       possible J R now (inl is) reads = inl (stands_for_one now R J reads is)
       possible J R now (inr is) reads = inr (boot_of J p, refl, stands_for_one now R (with_boot J p) reads is)
 
-      agreed : (J R : List Rec) → IsRecorded key units J motions → IsPossible J (Some (boot_of J p)) R → IsRecorded key units R motions
+      agreed : (J R : List Rec) → IsRecorded key units motions J → IsPossible J (Some (boot_of J p)) R → IsRecorded key units motions R
       agreed J R recorded (inl is) = rw is recorded
       agreed J R recorded (inr (r, doubt, is)) = rw (is, (let e : Some r ≡ Some (boot_of J p) = sym doubt in some_same r (boot_of J p) e)) (IsRecorded-boot key units J p motions recorded)
         where
           some_same : (a b : Rec) → Some a ≡ Some b → a ≡ b
           some_same a b e = cc
 
-      prefix : (J X : List Rec) → IsRecorded key units J motions → ((c : List ℕ) → g.images new c → StandsForEither J (boot_of J p) c) → IsCrashOutcome J (Some (boot_of J p)) true X
+      prefix : (J X : List Rec) → IsRecorded key units motions J → ((c : List ℕ) → g.images new c → StandsForEither J (boot_of J p) c) → IsCrashOutcome J (Some (boot_of J p)) true X
           → IfTold (g.held new) (λ now. (R : List Rec) → StandsFor now R → IsPrefixOrLost R motions X)
       prefix J X recorded each left = on_told (g.held new) (λ now. (R : List Rec) → StandsFor now R → IsPrefixOrLost R motions X) (λ now is R reads.
           let one = possible J R now (each now (as_read new now is)) reads in left-front J (Some (boot_of J p)) true X R motions left one (agreed J R recorded one).agrees)
 
-      on_the_way : (J : List Rec) (c : List ℕ) → IsRecorded key units J motions → ((d : List ℕ) → g.images new d → StandsForEither J (boot_of J p) d) → StandsForEither J (boot_of J p) c → WasOnTheWay J (g.held new) motions c
+      on_the_way : (J : List Rec) (c : List ℕ) → IsRecorded key units motions J → ((d : List ℕ) → g.images new d → StandsForEither J (boot_of J p) d) → StandsForEither J (boot_of J p) c → WasOnTheWay J (g.held new) motions c
       on_the_way J c recorded each (inl is) = record { list = J; stands = is; begins = begins-same J; prefix = prefix J J recorded each (inl (begins-same J)) }
       on_the_way J c recorded each (inr is) = record {
         list = with_boot J p;
@@ -98,7 +98,7 @@ module _ {D : Type 0} (g : Ghosts D)
       → AtRest (g.held old) (g.images old) → first.state.records ≡ with_boot J0 p → IfTold (g.held old) (λ bytes. StandsFor bytes J0) → is_some (g.held first.disk) ≡ is_some (g.held old)
       → IfTold (g.held old) (λ all. LeavesOnly g old first.disk (IsOldOrBooted (g.images old) all p))
       → Continues first.state last.state → LeavesBehind g first last → EachImage g last.disk (HasPossible last.state.records last.state.in_doubt)
-      → ((J : List Rec) → MayLeave g last.disk J → IsRecorded last.state.key last.state.units J last.state.motions) → motions ≡ last.state.motions
+      → ((J : List Rec) → MayLeave g last.disk J → IsRecorded last.state.key last.state.units last.state.motions J) → motions ≡ last.state.motions
       → WasOnTheWayAll g old last.disk motions
   moments-run old first last J0 p motions counts_now rest booted stood same leaves continues behind stored recorded is_motions =
       on_told (g.held old) (λ bytes. (J : List Rec) → StandsFor bytes J → LeavesOnly g old last.disk (WasOnTheWay J (g.held last.disk) motions)) (λ bytes told J stands.

@@ -10,10 +10,10 @@ use Rattle.xfs_guard.specs.View.{View, GuardView}
 use Rattle.xfs_guard.specs.declared.fail.BootFault.{BootFault}
 use Rattle.xfs_guard.specs.declared.machine_core.Core.{Core}
 use Rattle.xfs_script.specs.Commands.{Command}
-use Rattle.xfs_lines.specs.Boots.{IsNoJournal, WritesBoot, boot_status}
+use Rattle.xfs_lines.specs.Boots.{WritesBoot, boot_status}
 use Rattle.xfs_guard.specs.Entries.{at_entry, opened}
 use Rattle.xfs_lines.specs.Guard.Restarts.{IsFull}
-use Rattle.xfs_lines.specs.Runs.{IsEnd, IsFullAtEnd, Runs}
+use Rattle.xfs_lines.specs.Runs.{IsEnd, Runs}
 use Rattle.xfs_lines.specs.Guard.States.{GuardState}
 use Rattle.xfs_lines.specs.Output.InputEnds.{IsAnswered}
 use Rattle.xfs_script.specs.Streams.{Streams}
@@ -26,6 +26,8 @@ use Rattle.xfs_lines.proofs.RunLaws.{Starts, ends-unread, due-full, due-unread, 
 use Rattle.xfs_lines.proofs.UnreadLaws.{unwritten-quiet}
 use Rattle.xfs_guard.specs.Outcomes.{BootsGuard, RefusesBoot}
 use Rattle.xfs_lines.proofs.EndsLaws.{HasEnded}
+use Rattle.xfs_journal.specs.Held.{StandsForNone}
+use Rattle.xfs_guard.specs.Booting.{LacksRoom}
 
 module _ {M D S A : Type 0} (m : Mechanisms M) (d : Disks D) (c : Command S BootFault) (see : S → GuardState) (IsStartOf : S → Type 0) (Keeps : A → A → Type 0) (state : A → S) (guard : A → GuardView D)
     (as_read : (disk : D) (all : List ℕ) → d.held disk ≡ Some all → d.images disk all) (restarts : EndsAtRestarts c see) (empty : c.IsLine [])
@@ -78,7 +80,7 @@ module _ {M D S A : Type 0} (m : Mechanisms M) (d : Disks D) (c : Command S Boot
           let quiet = untold-end c see restarts Keeps state start result.status (state end) still_told (s.unbooted (inr (inl seven))) seven in
           none-told (d.held core.disk) (sym (ap (λ (v : View). v.disk_told) b.begins.2) ∙ (sym (told_is start) ∙ quiet))
 
-      overfull : result.status ≡ 12 → IsFullAtEnd core.limits (m.places result.mech) (d.held result.disk)
+      overfull : result.status ≡ 12 → LacksRoom (d.held result.disk) core.limits (m.places result.mech)
       overfull twelve =
           let limits = continues.limits ∙ ap (λ (v : View). v.limits) b.begins.2 in
           let full : IsFull (guard end).state = rw (guard_is end) at (left-full c see restarts Keeps state start result.status (state end) (s.unbooted (inr (inr twelve))) twelve) in
@@ -96,7 +98,7 @@ runs-refused m d c see IsStartOf empty core why result io same f status written 
   full = λ twelve. inl (ends-full _ _ _ _ _ _ status written f.full twelve);
   unread = due-unread _ _ _ status f.full;
   unwritten = unwritten-quiet d core.disk result.disk f.unlisted;
-  unmoved = told-any (d.held core.disk) (λ bytes. IsNoJournal bytes → result.mech ≡ core.mech) (λ bytes none. same);
+  unmoved = told-any (d.held core.disk) (λ bytes. StandsForNone bytes → result.mech ≡ core.mech) (λ bytes none. same);
   overfull = due-full _ _ _ _ _ status f.not_journal;
   newer = rw same (newer-same _ _);
   finishes = λ none. finishes _ _ empty _ _ io.left _ _ _ _ _ _ (causes-refused _ _ _ _ _ _ _ _ _ _ _ _ status f.not_journal f.disk f.full) none.source none.sink none.disk;

@@ -8,26 +8,23 @@ use Rattle.xfs_journal.specs.Image.{StandsFor}
 use Rattle.xfs_journal.specs.Paging.{CeasesAt}
 use Rattle.xfs_journal.specs.declared.limits.Limits.{Limits}
 use Rattle.xfs_journal.specs.declared.record.Rec.{Rec}
-use Rattle.xfs_guard.specs.Booting.{has_no_room_at_boot}
+use Rattle.xfs_guard.specs.Booting.{has_no_room_at_boot, LacksRoom}
 use Rattle.xfs_guard.specs.declared.fail.BootFault.{BootFault}
 use Rattle.xfs_guard.specs.declared.fail.BootFault.TheVariants.{NotJournal, Disk, Full}
 use Rattle.xfs_script.specs.Streams.{Streams, output_of}
 pub use Rattle.xfs_lines.specs.Output.BootLines.{boot_status, boot_line}
 use Rattle.xfs_lines.specs.declared.output.status.TheConstants.{DISK_FAULT, NO_MEMORY}
 use Rattle.xfs_script.specs.LastLines.{WritesLast}
+use Rattle.xfs_journal.specs.JournalView.{IsNoJournal}
 
 -- the last line of a refused boot is written
 abbrev pub WritesBoot : BootFault → Streams → Type 0
 WritesBoot fault io = WritesLast (boot_line fault) (output_of io)
 
--- no list of records stands for the bytes
-abbrev pub IsNoJournal : List ℕ → Type 0
-IsNoJournal bytes = (records : List Rec) → ¬ StandsFor bytes records
-
 -- the disk's bytes are no journal from a place on, which the last line tells
 pub record EndsUnread (held : Option (List ℕ)) (io : Streams) : Type 0 where
   pub at : ℕ
-  pub ceases : IfTold held (λ bytes. CeasesAt bytes at × IsNoJournal bytes)
+  pub ceases : IsNoJournal held at
   pub written : WritesBoot (NotJournal at) io
 
 -- the disk failed in the boot, and the last line says so
@@ -41,9 +38,7 @@ BootExceeds limits places records = has_no_room_at_boot limits records places �
 
 -- the boot record passes a limit behind the records that the disk has, and the last line says so
 pub record EndsFull (limits : Limits) (places : Places) (held : Option (List ℕ)) (io : Streams) : Type 0 where
-  pub records : List Rec
-  pub stands : IfTold held (λ bytes. StandsFor bytes records)
-  pub exceeds_limit : BootExceeds limits places records
+  pub lacks : LacksRoom held limits places
   pub written : WritesBoot Full io
 
 -- the status is the one that is due, unless the disk failed or memory ran out before it was found

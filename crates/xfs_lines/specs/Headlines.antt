@@ -7,8 +7,8 @@ use Rattle.xfs_guard.specs.declared.machine_core.Core.{Core}
 use Rattle.xfs_lines.specs.Boots.{IsUnwritten}
 use Rattle.xfs_lines.specs.Moments.{WasOnTheWayAll}
 use Rattle.xfs_lines.specs.Returns.{Return}
-use Rattle.xfs_lines.specs.Runs.{AtEntryList, WhereNoJournal}
 use Rattle.xfs_lines.specs.Upholds.{Accounts, UpholdsAll}
+use Rattle.xfs_journal.specs.Held.{OfJournal, WhereNoJournal}
 
 -- what was put out is within the tokens at the end and at each moment of the run, and the notes add up
 pub record EndsWell {M D : Type 0} (m : Mechanisms M) (d : Disks D) (core : Core M D) (result : Return M D) : Type 0 where
@@ -19,7 +19,7 @@ pub record EndsWell {M D : Type 0} (m : Mechanisms M) (d : Disks D) (core : Core
 pub record HasHeadline {M D : Type 0} (m : Mechanisms M) (d : Disks D) (core : Core M D) (result : Return M D) : Type 0 where
   pub ends : EndsWell m d core result
   -- a disk that is no journal stays as it was, and its mechanism too
-  pub unwritten : WhereNoJournal d core.disk (IsUnwritten (d.held core.disk) (d.held result.disk) (d.images core.disk) (d.images result.disk))
-  pub unmoved : WhereNoJournal d core.disk (result.mech ≡ core.mech)
+  pub unwritten : WhereNoJournal (d.held core.disk) (IsUnwritten (d.held core.disk) (d.held result.disk) (d.images core.disk) (d.images result.disk))
+  pub unmoved : WhereNoJournal (d.held core.disk) (result.mech ≡ core.mech)
   -- the mechanism's new numbers lie behind the journal's
-  pub newer : AtEntryList d core.disk (λ records. IsNewer (length records) (m.motions core.mech) (m.motions result.mech))
+  pub newer : OfJournal (d.held core.disk) (λ records. IsNewer (length records) (m.motions core.mech) (m.motions result.mech))

@@ -1,5 +1,6 @@
 pub mod Audit
 pub mod Boots
+pub mod Ends
 pub mod Guard
 pub mod Headlines
 pub mod Host

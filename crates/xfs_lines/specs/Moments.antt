@@ -12,6 +12,7 @@ use Rattle.xfs_guard.specs.Crashed.{IsLost}
 use Rattle.xfs_guard.specs.Lives.{BeginsWith}
 use Rattle.xfs_guard.specs.declared.machine_core.Core.{Core}
 use Rattle.xfs_lines.specs.Returns.{Return}
+use Rattle.xfs_journal.specs.Held.{OfJournal}
 
 -- the list is a prefix of the records, or a prefix without its last record, whose number no motion has
 abbrev pub IsPrefixOrLost : List Rec → Option (List Motion) → List Rec → Type 0
@@ -22,9 +23,8 @@ pub record WasOnTheWay (entry : List Rec) (held : Option (List ℕ)) (motions : 
   pub list : List Rec
   pub stands : StandsFor bytes list
   pub begins : BeginsWith list entry
-  pub prefix : IfTold held (λ now. (records : List Rec) → StandsFor now records → IsPrefixOrLost records motions list)
+  pub prefix : OfJournal held (λ records. IsPrefixOrLost records motions list)
 
 -- each image that a crash leaves in a run was on the way, from the list of records that the disk's bytes stood for
 abbrev pub WasOnTheWayAll : {M D : Type 0} → Mechanisms M → Disks D → Core M D → Return M D → Type 0
-WasOnTheWayAll m d core result = IfTold (d.held core.disk) (λ bytes. (records : List Rec) → StandsFor bytes records
-    → LeavesOnly d core.disk result.disk (WasOnTheWay records (d.held result.disk) (m.motions result.mech)))
+WasOnTheWayAll m d core result = OfJournal (d.held core.disk) (λ records. LeavesOnly d core.disk result.disk (WasOnTheWay records (d.held result.disk) (m.motions result.mech)))

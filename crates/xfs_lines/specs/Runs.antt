@@ -14,13 +14,16 @@ use Rattle.xfs_guard.specs.declared.machine_core.Core.{Core}
 use Rattle.xfs_guard.specs.declared.fail.BootFault.{BootFault}
 use Rattle.xfs_script.specs.Commands.{Command}
 use Rattle.xfs_script.specs.Lines.{AllLines, StopsAtLine}
-use Rattle.xfs_lines.specs.Boots.{BootExceeds, EndsFailed, EndsFull, EndsUnread, IsDue, IsNoJournal, IsUnwritten, WritesBoot, boot_status}
+use Rattle.xfs_lines.specs.Boots.{BootExceeds, EndsFailed, EndsFull, EndsUnread, IsDue, IsUnwritten, WritesBoot, boot_status}
 use Rattle.xfs_lines.specs.Guard.States.{IsStill, GuardState}
 use Rattle.xfs_lines.specs.Output.InputEnds.{EndsInput}
 use Rattle.xfs_lines.specs.Output.Statuses.{HasFullRestart, IsFinished, IsUnhindered}
 use Rattle.xfs_script.specs.Streams.{Streams}
 use Rattle.xfs_lines.specs.Returns.{Return}
 use Rattle.xfs_lines.specs.declared.output.status.TheConstants.{DISK_FAULT, JOURNAL_FULL, NOT_A_JOURNAL, NOT_A_LINE, READ_TO_END}
+use Rattle.xfs_journal.specs.Held.{OfJournal, WhereNoJournal}
+use Rattle.xfs_disk.specs.Moments.{EachImage}
+use Rattle.xfs_guard.specs.Booting.{LacksRoom}
 
 -- the boot begins such a state, and the lines are answered from there on
 pub record FromStart {S : Type 0} (IsStartOf Writes : S → Type 0) : Type 0 where
@@ -35,7 +38,7 @@ pub record IsEnd {M D : Type 0} (m : Mechanisms M) (d : Disks D) (result : Retur
   pub mech_faults : last.guard.faults ≡ m.faults result.mech
   pub disk_faults : last.disk_faults ≡ d.faults result.disk
   -- each image of the disk is that of the last state's list, or of that list with its record in doubt
-  pub stored : IfTold (d.held result.disk) (λ _. (bytes : List ℕ) → d.images result.disk bytes → HasPossible last.guard.records last.guard.in_doubt bytes)
+  pub stored : EachImage d result.disk (HasPossible last.guard.records last.guard.in_doubt)
 
 -- the lines are answered from a state on, until that of the mechanism and the disk that come back
 pub record AnswersUntil {M D S : Type 0} (c : Command S BootFault) (see : S → GuardState) (m : Mechanisms M) (d : Disks D) (result : Return M D) (io : Streams) (text : List ℕ) (start : S) : Type 0 where
@@ -50,20 +53,6 @@ pub record IsUnbooted {M D : Type 0} (core : Core M D) (result : Return M D) (io
   pub unread : io.left ≡ io.input
   pub written : WritesBoot why io
   pub unmoved : result.mech ≡ core.mech
-
--- the disk reads as a list behind which a boot record of these places passes a limit
-pub record IsFullAtEnd (limits : Limits) (places : Places) (held : Option (List ℕ)) : Type 0 where
-  pub records : List Rec
-  pub stands : IfTold held (λ bytes. StandsFor bytes records)
-  pub exceeds_limit : BootExceeds limits places records
-
--- P holds of the list of records that the disk's bytes stand for at entry, where it tells them
-abbrev pub AtEntryList : {D : Type 0} → Disks D → D → (List Rec → Type 0) → Type 0
-AtEntryList d disk P = IfTold (d.held disk) (λ bytes. (records : List Rec) → StandsFor bytes records → P records)
-
--- P holds where the disk's bytes at entry are told and are no journal
-abbrev pub WhereNoJournal : {D : Type 0} → Disks D → D → Type 0 → Type 0
-WhereNoJournal d disk P = IfTold (d.held disk) (λ bytes. IsNoJournal bytes → P)
 
 -- neither the source failed, nor the sink, nor the disk
 pub record NothingFailed (io : Streams) (disk_faults now : ℕ) : Type 0 where
@@ -84,15 +73,15 @@ pub record Runs {M D S : Type 0} (c : Command S BootFault) (see : S → GuardSta
   pub disk_fault : result.status ≡ DISK_FAULT → EndsFailed (d.faults core.disk) (d.faults result.disk) io ⊎ FromStart IsStartOf (λ _. Rose (d.faults core.disk) (d.faults result.disk))
   pub not_journal : result.status ≡ NOT_A_JOURNAL → EndsUnread (d.held core.disk) io ⊎ FromStart IsStartOf (λ _. d.held core.disk ≡ None)
   pub full : result.status ≡ JOURNAL_FULL
-      → EndsFull core.limits (m.places core.mech) (d.held core.disk) io ⊎ FromStart IsStartOf (λ _. IsFullAtEnd core.limits (m.places result.mech) (d.held result.disk))
+      → EndsFull core.limits (m.places core.mech) (d.held core.disk) io ⊎ FromStart IsStartOf (λ _. LacksRoom (d.held result.disk) core.limits (m.places result.mech))
   -- a disk that is no journal is due its status, and stays as it was, and so does the mechanism
-  pub unread : WhereNoJournal d core.disk (IsDue NOT_A_JOURNAL result.status)
-  pub unwritten : WhereNoJournal d core.disk (IsUnwritten (d.held core.disk) (d.held result.disk) (d.images core.disk) (d.images result.disk))
-  pub unmoved : WhereNoJournal d core.disk (result.mech ≡ core.mech)
+  pub unread : WhereNoJournal (d.held core.disk) (IsDue NOT_A_JOURNAL result.status)
+  pub unwritten : WhereNoJournal (d.held core.disk) (IsUnwritten (d.held core.disk) (d.held result.disk) (d.images core.disk) (d.images result.disk))
+  pub unmoved : WhereNoJournal (d.held core.disk) (result.mech ≡ core.mech)
   -- a journal that has no room for the boot record is due its status
-  pub overfull : AtEntryList d core.disk (λ records. BootExceeds core.limits (m.places core.mech) records → IsDue JOURNAL_FULL result.status)
+  pub overfull : OfJournal (d.held core.disk) (λ records. BootExceeds core.limits (m.places core.mech) records → IsDue JOURNAL_FULL result.status)
   -- the mechanism's new numbers lie behind the journal's
-  pub newer : AtEntryList d core.disk (λ records. IsNewer (length records) (m.motions core.mech) (m.motions result.mech))
+  pub newer : OfJournal (d.held core.disk) (λ records. IsNewer (length records) (m.motions core.mech) (m.motions result.mech))
   -- a run that nothing hinders ends with its input
-  pub finishes : NothingFailed io (d.faults core.disk) (d.faults result.disk) → IfTold io.input (λ text. AtEntryList d core.disk (λ records.
+  pub finishes : NothingFailed io (d.faults core.disk) (d.faults result.disk) → IfTold io.input (λ text. OfJournal (d.held core.disk) (λ records.
       IsUnhindered c.IsLine (HasFullRestart (codes "restart") c see IsStartOf (IsStillAt m d result)) text core.limits (m.places core.mech) records → IsFinished result.status))

@@ -14,6 +14,8 @@ use Rattle.xfs_guard.specs.Follows.{Follows}
 use Rattle.xfs_guard.specs.Recorded.{IsRecorded}
 use Rattle.xfs_guard.specs.declared.machine_core.Core.{Core}
 use Rattle.xfs_lines.specs.Returns.{Return}
+use Rattle.xfs_journal.specs.Held.{OfJournal}
+use Rattle.xfs_disk.specs.Moments.{EachImage}
 
 -- the records, the mechanism's list and the places follow those at entry, where the mechanism tells its list
 abbrev pub FollowsWhereTold : List Rec → Option (List Motion) → Places → List Rec → Option (List Motion) → Places → Type 0
@@ -23,13 +25,13 @@ FollowsWhereTold records motions places records' motions' places' = IfTold motio
 pub record Upholds (key : List ℕ) (units : List NoteKind) (entry : List Rec) (motions : Option (List Motion)) (places : Places) (bytes : List ℕ) (motions' : Option (List Motion)) (places' : Places) : Type 0 where
   pub records : List Rec
   pub stands : StandsFor bytes records
-  pub recorded : IsRecorded key units records motions'
+  pub recorded : IsRecorded key units motions' records
   pub follows : FollowsWhereTold entry motions places records motions' places'
 
 -- each image of the disk that comes back upholds the tokens, from the list of records that the disk's bytes stood for
 abbrev pub UpholdsAll : {M D : Type 0} → Mechanisms M → Disks D → Core M D → Return M D → Type 0
-UpholdsAll m d core result = IfTold (d.held core.disk) (λ bytes. (records : List Rec) → StandsFor bytes records → IfTold (d.held result.disk) (λ _. (image : List ℕ) → d.images result.disk image
-    → Upholds core.key core.units records (m.motions core.mech) (m.places core.mech) image (m.motions result.mech) (m.places result.mech)))
+UpholdsAll m d core result = OfJournal (d.held core.disk) (λ records. EachImage d result.disk (λ image.
+    Upholds core.key core.units records (m.motions core.mech) (m.places core.mech) image (m.motions result.mech) (m.places result.mech)))
 
 -- the mechanism's notes add up, its table of units is the core's, and what told its list or its bytes still does
 pub record Accounts {M D : Type 0} (m : Mechanisms M) (d : Disks D) (core : Core M D) (result : Return M D) : Type 0 where

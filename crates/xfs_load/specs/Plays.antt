@@ -17,7 +17,7 @@ abbrev pub at_start : Moment
 at_start = record { 0 = 0 }
 
 -- a client says a text, the machine rests, and the client is handed the frames that wait for it
-pub record Says (pass : Pass) (text : List ℕ) (s : State) (frames : List (List ℕ)) (new : State) : Type 0 where
+pub record SaysAndHears (pass : Pass) (text : List ℕ) (s : State) (frames : List (List ℕ)) (new : State) : Type 0 where
   pub posted : State
   pub post : Step s (post pass text at_start) done posted
   pub many : ℕ
@@ -30,7 +30,7 @@ pub record Asks (ask : Ask) (c : Client) (s : State) (after : Client) (new : Sta
   pub text : List ℕ
   pub text_is : IsText c.key c.nonce ask (c.asked + 1) text
   pub frames : List (List ℕ)
-  pub says : Says c.pass text s frames new
+  pub says : SaysAndHears c.pass text s frames new
   pub hears : after ≡ hears_all ask (asking ask c) frames
 
 -- the customer takes the notes that lie in the outlet, if any do and the mechanism lets them go
@@ -61,7 +61,7 @@ Plays (deed ∷ deeds) c s after new = DoesThen (λ client between. Plays deeds 
 pub data SaysInPart (pass : Pass) (text : List ℕ) (s new : State) : Type 0 where
   posting : Step s (post pass text at_start) memory new → SaysInPart pass text s new
   resting : {posted : State} → Step s (post pass text at_start) done posted → RestsInPart at_start posted new → SaysInPart pass text s new
-  hearing : {frames : List (List ℕ)} → Says pass text s frames new → SaysInPart pass text s new
+  hearing : {frames : List (List ℕ)} → SaysAndHears pass text s frames new → SaysInPart pass text s new
 
 pub record AsksInPart (ask : Ask) (c : Client) (s new : State) : Type 0 where
   pub text : List ℕ

@@ -21,7 +21,7 @@ short_is_no_image bytes records short image =
     let front = length-append magic (blocks records) in
     absurd (omega (arith, size, joined, front, short))
 
-recorded_empty : (key : List ℕ) (units : List NoteKind) (did : Option (List Motion)) → IfTold did (λ l. l ≡ []) → IsRecorded key units [] did
+recorded_empty : (key : List ℕ) (units : List NoteKind) (did : Option (List Motion)) → IfTold did (λ l. l ≡ []) → IsRecorded key units did []
 recorded_empty key units did fresh = record { numbered = tt; agrees = agrees did fresh; within = within did fresh }
   where
     agrees : (d : Option (List Motion)) → IfTold d (λ l. l ≡ []) → IfTold d (Agrees [])
@@ -33,6 +33,6 @@ recorded_empty key units did fresh = record { numbered = tt; agrees = agrees did
     within (Some l) fresh = rw fresh tt
 
 pub starts_empty : (m : MemDisk) (key : List ℕ) (units : List NoteKind) (did : Option (List Motion)) → steps_of m ≡ [] → ((records : List Rec) → ¬ IsImage (bytes_of m) records) → IfTold did (λ l. l ≡ [])
-    → (image : List ℕ) → MayBe m image → (records : List Rec) → StandsFor image records → IsRecorded key units records did
+    → (image : List ℕ) → MayBe m image → (records : List Rec) → StandsFor image records → IsRecorded key units did records
 starts_empty m key units did settled none fresh image is records (inl it) = absurd (none records (rw (rw settled at is) at it))
 starts_empty m key units did settled none fresh image is records (inr empty) = rw empty.0 (recorded_empty key units did fresh)

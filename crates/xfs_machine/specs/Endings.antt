@@ -64,7 +64,7 @@ pub record IsRefusedThrough {D : Type 0} (g : Ghosts D) (old : GuardView D) (dis
   pub disk_is : disk ≡ last.disk
 
 -- A refused restart: why, and mechanism and disk come back as it left them. But for want of memory it is a step of a machine that is gone then.
-pub record IsRefused {M D : Type 0} (m : Mechanisms M) (g : Ghosts D) (old : State) (why : BootFault) (mech : M) (disk : D) : Type 0 where
+pub record HandsBackRefused {M D : Type 0} (m : Mechanisms M) (g : Ghosts D) (old : State) (why : BootFault) (mech : M) (disk : D) : Type 0 where
   pub last : Seen
   pub cause : RefusesAs why old.seen last
   pub step : why ≢ Memory → Step old restart unrestarted (gone old last)

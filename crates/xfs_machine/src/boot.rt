@@ -1,9 +1,10 @@
 //! How a machine begins.
 
 ghost use Rattle.std.specs.Prelude.{◌≡◌, ◌≢◌, length, IfOk, IfErr};
-ghost use Rattle.xfs_guard.specs.Booting.{LeavesRecorded};
 ghost use Rattle.xfs_guard.specs.Entries.{at_entry};
 ghost use Rattle.xfs_guard.specs.Outcomes.{BootsGuard, RefusesBoot};
+ghost use Rattle.xfs_guard.specs.Recorded.{IsRecorded};
+ghost use Rattle.xfs_guard.specs.Stored.{EachLeft};
 ghost use Rattle.xfs_guard.specs.declared.open.Open.TheVariants.{No};
 ghost use Rattle.xfs_dispenser.specs.Seen.{seen};
 ghost use Rattle.xfs_machine.specs.MachineView.{guard_of};
@@ -24,7 +25,7 @@ impl<M: Mechanism, D: Disk> Machine<M, D> {
     /// command, card, entry or exchange. A refused boot hands mechanism and disk back, as the guard's does.
     pub fn boot(alloc: Global, core: Core<M, D>) -> Result<Machine<M, D>, BootFail<M, D>>
         requires units { M.units core.mech ≡ core.units }
-        requires recorded { LeavesRecorded D.Disk core.disk core.key core.units (M.motions core.mech) }
+        requires recorded { EachLeft D.Disk core.disk (IsRecorded core.key core.units (M.motions core.mech)) }
         ensures bare { IfOk result (λ m. m.state ≡ bare m.state.seen core.life (length m.state.seen.guard.records)) }
         ensures tied { IfOk result (λ m. m.state.seen.disk_faults ≡ D.faults m.disk) }
         ensures ok { IfOk result (λ m. BootsGuard D.Disk (at_entry M.Mechanism D.Disk core) core.disk (guard_of m)) }

@@ -3,10 +3,12 @@
 ghost use Rattle.std.specs.Prelude.{◌≡◌, ◌≢◌, false, List, None, IfOk, IfErr, OnOk, OnErr, Err, length, is_ok, is_some};
 ghost use Rattle.xfs_dispenser.specs.Seen.{seen};
 ghost use Rattle.xfs_guard.specs.Keeps.{Keeps, NoEntry};
-ghost use Rattle.xfs_guard.specs.Booting.{LeavesListOf, LeavesRecorded};
+ghost use Rattle.xfs_guard.specs.Recorded.{IsRecorded};
+ghost use Rattle.xfs_guard.specs.Stored.{EachLeft};
+ghost use Rattle.xfs_journal.specs.JournalView.{IsPossible};
 ghost use Rattle.xfs_base.specs.Causes.{Rose};
 ghost use Rattle.xfs_guard.specs.declared.fail.BootFault.TheVariants.{Disk as BootDisk, Memory as BootMemory};
-ghost use Rattle.xfs_machine.specs.Endings.{Finishes, IsFinishedThrough, IsHandedBack, IsRefused, IsRefusedThrough, RefusesAs};
+ghost use Rattle.xfs_machine.specs.Endings.{Finishes, IsFinishedThrough, IsHandedBack, HandsBackRefused, IsRefusedThrough, RefusesAs};
 ghost use Rattle.xfs_machine.specs.Laws.{IsLawful};
 ghost use Rattle.xfs_machine.specs.MachineView.{guard_of};
 ghost use Rattle.xfs_model.specs.Events.{restart, restarted, unrestarted, end_, ended, memory};
@@ -56,10 +58,10 @@ impl<M: Mechanism, D: Disk> Machine<M, D> {
     pub fn restart(mut self) -> Result<Machine<M, D>, BootFail<M, D>>
         ensures step { IfOk result (λ m. Step self.state restart restarted m.state) }
         ensures laws { IfOk result (λ m. IsLawful self.state restart restarted m.state) }
-        ensures refused { IfErr result (λ f. IsRefused M.Mechanism D.Disk self.state f.why f.mech f.disk) }
+        ensures refused { IfErr result (λ f. HandsBackRefused M.Mechanism D.Disk self.state f.why f.mech f.disk) }
         ensures keeps { IfOk result (λ m. Keeps D.Disk NoEntry (guard_of self) (guard_of m)) }
         ensures through { IfErr result (λ f. IsRefusedThrough D.Disk (guard_of self) f.disk) }
-        ensures left { IfErr result (λ f. LeavesRecorded D.Disk f.disk self.state.seen.guard.key self.state.seen.guard.units (M.motions f.mech)) }
+        ensures left { IfErr result (λ f. EachLeft D.Disk f.disk (IsRecorded self.state.seen.guard.key self.state.seen.guard.units (M.motions f.mech))) }
     {
         match self.reboot() {
             Ok(()) => Ok(self),
@@ -75,8 +77,8 @@ impl<M: Mechanism, D: Disk> Machine<M, D> {
     pub fn end(self) -> (M, D)
         ensures step { Step self.state end_ ended (gone self.state self.state.seen) }
         ensures back { IsHandedBack M.Mechanism D.Disk self.state.seen result.0 result.1 }
-        ensures left { LeavesListOf D.Disk result.1 self.state.seen.guard }
-        ensures recorded { LeavesRecorded D.Disk result.1 self.state.seen.guard.key self.state.seen.guard.units self.state.seen.guard.motions }
+        ensures left { EachLeft D.Disk result.1 (IsPossible self.state.seen.guard.records self.state.seen.guard.in_doubt) }
+        ensures recorded { EachLeft D.Disk result.1 (IsRecorded self.state.seen.guard.key self.state.seen.guard.units self.state.seen.guard.motions) }
         ensures clean { self.state.seen.guard.shut ≡ false → self.state.seen.guard.in_doubt ≡ None }
         ensures disk { result.1 ≡ self.disk }
     {
@@ -90,7 +92,7 @@ impl<M: Mechanism, D: Disk> Machine<M, D> {
         ensures tied { self.state.seen.disk_faults ≡ D.faults self.disk }
         ensures err { IfErr result.0 (λ e. e ≡ Deny.Disk) }
         ensures through { IsFinishedThrough M.Mechanism D.Disk (guard_of self) result.1 result.2 }
-        ensures recorded { LeavesRecorded D.Disk result.2 self.state.seen.guard.key self.state.seen.guard.units (M.motions result.1) }
+        ensures recorded { EachLeft D.Disk result.2 (IsRecorded self.state.seen.guard.key self.state.seen.guard.units (M.motions result.1)) }
     {
         let mut guard = self.into_guard();
         let settled = close(&mut guard);

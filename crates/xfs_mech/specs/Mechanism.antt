@@ -1,6 +1,7 @@
 -- What a mechanism does with an order, with the customer's taking and with the operator's loading.
 use Rattle.std.specs.Prelude.{◌≡◌, ◌≢◌, ℕ, ◌+◌, ◌-◌, ◌≤◌, ◌==◌, Bool, true, false, List, [], ◌∷◌, ◌++◌, Some, None, length, if◌then◌else◌}
 use Rattle.std.specs.declared.option.Option.{Option}
+use Rattle.xfs_base.specs.Causes.{Rose}
 use Rattle.xfs_base.specs.Counts.{at, all_notes, IsZero}
 use Rattle.xfs_base.specs.declared.counts.Counts.{Counts}
 use Rattle.xfs_base.specs.declared.counts.Places.{Places}
@@ -34,10 +35,19 @@ pub record MayCarry (kind : Kind) (counts moved diverted : Counts) (failed : Boo
   pub full : failed ≡ false → (moved ≡ counts) × IsZero diverted
   pub straight : kind ≢ Stack → IsZero diverted
 
--- a report that doesn't fail adds this one entry; one that fails adds none and moves nothing
+-- this one entry was added to the list, and leads from the places before to those now
+pub record MovesBy (entry : Motion) (before now : Option (List Motion)) (was is : Places) : Type 0 where
+  pub grown : AddsEntry before entry now
+  pub reached : PlacesOf was (entry ∷ []) is
+
+-- a count of faults didn't fall, and rose where the call failed
+pub record CountsFailure (before now : ℕ) (failed : Bool) : Type 0 where
+  pub later : before ≤ now
+  pub rose : failed ≡ true → Rose before now
+
+-- a report that doesn't fail moves by this one entry; one that fails adds none and moves nothing
 pub record Reports (entry : Motion) (failed : Bool) (before now : Option (List Motion)) (was is : Places) : Type 0 where
-  pub grown : failed ≡ false → AddsEntry before entry now
-  pub places : failed ≡ false → PlacesOf was (entry ∷ []) is
+  pub moves : failed ≡ false → MovesBy entry before now was is
   pub nothing : failed ≡ true → (now ≡ before) × (is ≡ was)
 
 -- what a report may tell: no notes where it fails, and never diverted ones

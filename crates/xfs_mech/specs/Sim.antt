@@ -9,6 +9,7 @@ use Rattle.xfs_mech.specs.declared.motion.Motion.{Motion}
 use Rattle.xfs_mech.specs.declared.sim.SimMech.{SimMech}
 use Rattle.xfs_mech.specs.declared.silent.SilentMech.{SilentMech}
 use Rattle.xfs_mech.specs.Faults.{fault_at}
+use Rattle.xfs_mech.specs.Mechanism.{CountsFailure}
 
 abbrev pub units_of : SimMech → List NoteKind
 units_of m = m.units
@@ -48,6 +49,7 @@ pub record Counted (old new : SimMech) (failed : Bool) : Type 0 where
   pub calls : calls_of new ≡ next_count (calls_of old)
   pub failures : failures_of new ≡ (if failed then next_count (failures_of old) else failures_of old)
   pub faults : faults_of new ≡ faults_of old
+  pub cause : CountsFailure (failures_of old) (failures_of new) failed
 
 -- nothing was counted
 pub record Uncounted (old new : SimMech) : Type 0 where

@@ -1,14 +1,12 @@
-ghost use Rattle.std.specs.Prelude.{◌≡◌, ℕ, List, ◌+◌, ◌<◌, ◌≤◌, [], ◌∷◌, OnOk, OnErr, true};
+ghost use Rattle.std.specs.Prelude.{◌≡◌, ℕ, List, ◌+◌, ◌<◌, ◌≤◌, OnOk, OnErr};
 ghost use Rattle.std.specs.declared.option.Option.{Option};
-ghost use Rattle.xfs_base.specs.Causes.{Rose};
 ghost use Rattle.xfs_base.specs.Counts.{LiesIn};
 ghost use Rattle.xfs_base.specs.declared.money.NoteKind.{NoteKind};
 ghost use Rattle.xfs_base.specs.declared.counts.Places.{Places};
 ghost use Rattle.xfs_mech.specs.declared.motion.Motion.{Motion};
-ghost use Rattle.xfs_mech.specs.declared.motion.Motion.TheVariants.{Moved, Taken, Loaded};
-ghost use Rattle.xfs_mech.specs.Orders.{number_of, kind_of, counts_of};
-ghost use Rattle.xfs_mech.specs.Motions.{PlacesOf};
-ghost use Rattle.xfs_mech.specs.Mechanism.{AddsEntry, source_of, PlacesFit, MayCarry, Reports, MayReport, UsesRoom, CanLoad, Loads};
+ghost use Rattle.xfs_mech.specs.declared.motion.Motion.TheVariants.{Taken, Loaded};
+ghost use Rattle.xfs_mech.specs.Orders.{kind_of, counts_of, moved_by};
+ghost use Rattle.xfs_mech.specs.Mechanism.{source_of, PlacesFit, MayCarry, MovesBy, CountsFailure, Reports, MayReport, UsesRoom, CanLoad, Loads};
 
 use crate::{Order, Outcome};
 use xfs_base::{Memory, Places};
@@ -48,11 +46,9 @@ pub trait Mechanism: Drop {
         requires lie { LiesIn (counts_of order) (source_of (kind_of order) (places self.old)) }
         ensures room { room self.new + 1 ≡ room self.old }
         ensures carried { MayCarry (kind_of order) (counts_of order) result.moved result.diverted result.failed }
-        ensures motions { AddsEntry (motions self.old) (Moved (number_of order) (kind_of order) result.moved result.diverted) (motions self.new) }
-        ensures places { PlacesOf (places self.old) (Moved (number_of order) (kind_of order) result.moved result.diverted ∷ []) (places self.new) }
+        ensures moved { MovesBy (moved_by order result) (motions self.old) (motions self.new) (places self.old) (places self.new) }
         ensures units { units self.new ≡ units self.old }
-        ensures later { faults self.old ≤ faults self.new }
-        ensures cause { result.failed ≡ true → Rose (faults self.old) (faults self.new) };
+        ensures cause { CountsFailure (faults self.old) (faults self.new) result.failed };
 
     /// Reports the notes that the customer took from the outlet.
     fn taken(&mut self) -> Outcome
@@ -62,8 +58,7 @@ pub trait Mechanism: Drop {
         ensures reported { Reports (Taken result.moved) result.failed (motions self.old) (motions self.new) (places self.old) (places self.new) }
         ensures room { UsesRoom result.failed (room self.old) (room self.new) }
         ensures units { units self.new ≡ units self.old }
-        ensures later { faults self.old ≤ faults self.new }
-        ensures cause { result.failed ≡ true → Rose (faults self.old) (faults self.new) };
+        ensures cause { CountsFailure (faults self.old) (faults self.new) result.failed };
 
     /// Reports that the operator added so many notes to a unit.
     fn load(&mut self, unit: u8, count: u32) -> Outcome
@@ -74,8 +69,7 @@ pub trait Mechanism: Drop {
         ensures reported { Reports (Loaded unit count) result.failed (motions self.old) (motions self.new) (places self.old) (places self.new) }
         ensures room { UsesRoom result.failed (room self.old) (room self.new) }
         ensures units { units self.new ≡ units self.old }
-        ensures later { faults self.old ≤ faults self.new }
-        ensures cause { result.failed ≡ true → Rose (faults self.old) (faults self.new) };
+        ensures cause { CountsFailure (faults self.old) (faults self.new) result.failed };
 
     /// Where the notes lie.
     fn survey(&self) -> Places

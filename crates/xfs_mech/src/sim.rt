@@ -106,12 +106,10 @@ impl SimMech {
 
 impl Mechanism for SimMech {
     ghost use Rattle.std.specs.Prelude.{◌≡◌, ℕ, ◌+◌, ◌<◌, ◌≤◌, [], ◌∷◌, ◌++◌, true, false, IfSome, OnOk, OnErr};
-    ghost use Rattle.xfs_base.specs.Causes.{Rose};
     ghost use Rattle.xfs_base.specs.Counts.{LiesIn};
-    ghost use Rattle.xfs_mech.specs.declared.motion.Motion.TheVariants.{Moved, Taken, Loaded};
-    ghost use Rattle.xfs_mech.specs.Orders.{number_of, kind_of, counts_of};
-    ghost use Rattle.xfs_mech.specs.Motions.{PlacesOf};
-    ghost use Rattle.xfs_mech.specs.Mechanism.{source_of, PlacesFit, MayCarry, Reports, MayReport, UsesRoom, CanLoad, Loads, AddsEntry};
+    ghost use Rattle.xfs_mech.specs.declared.motion.Motion.TheVariants.{Taken, Loaded};
+    ghost use Rattle.xfs_mech.specs.Orders.{kind_of, counts_of, moved_by};
+    ghost use Rattle.xfs_mech.specs.Mechanism.{source_of, PlacesFit, MayCarry, Reports, MayReport, UsesRoom, CanLoad, Loads, MovesBy};
     ghost use Rattle.xfs_mech.specs.Faults.{StopsAt};
     ghost use Rattle.xfs_mech.specs.Sim.{units_of, places_of, motions_of, list_of, room_of, failures_of, due, Counted, Uncounted};
 
@@ -144,11 +142,8 @@ impl Mechanism for SimMech {
         requires lie { LiesIn (counts_of order) (source_of (kind_of order) (places_of self.old)) }
         ensures room { room_of self.new + 1 ≡ room_of self.old }
         ensures carried { MayCarry (kind_of order) (counts_of order) result.moved result.diverted result.failed }
-        ensures motions { motions_of self.new ≡ motions_of self.old ++ Moved (number_of order) (kind_of order) result.moved result.diverted ∷ [] }
-        ensures places { PlacesOf (places_of self.old) (Moved (number_of order) (kind_of order) result.moved result.diverted ∷ []) (places_of self.new) }
+        ensures moved { MovesBy (moved_by order result) (list_of self.old) (list_of self.new) (places_of self.old) (places_of self.new) }
         ensures units { units_of self.new ≡ units_of self.old }
-        ensures later { failures_of self.old ≤ failures_of self.new }
-        ensures cause { result.failed ≡ true → Rose (failures_of self.old) (failures_of self.new) }
         ensures counted { Counted self.old self.new result.failed }
         ensures stopped { IfSome (due self.old) (λ f. StopsAt f (kind_of order) (counts_of order) result.moved result.diverted) }
     {
@@ -173,8 +168,6 @@ impl Mechanism for SimMech {
         ensures reported { Reports (Taken result.moved) result.failed (list_of self.old) (list_of self.new) (places_of self.old) (places_of self.new) }
         ensures room { UsesRoom result.failed (room_of self.old) (room_of self.new) }
         ensures units { units_of self.new ≡ units_of self.old }
-        ensures later { failures_of self.old ≤ failures_of self.new }
-        ensures cause { result.failed ≡ true → Rose (failures_of self.old) (failures_of self.new) }
         ensures counted { Counted self.old self.new result.failed }
         ensures whole { result.failed ≡ false → result.moved ≡ (places_of self.old).outlet }
     {
@@ -196,8 +189,6 @@ impl Mechanism for SimMech {
         ensures reported { Reports (Loaded unit count) result.failed (list_of self.old) (list_of self.new) (places_of self.old) (places_of self.new) }
         ensures room { UsesRoom result.failed (room_of self.old) (room_of self.new) }
         ensures units { units_of self.new ≡ units_of self.old }
-        ensures later { failures_of self.old ≤ failures_of self.new }
-        ensures cause { result.failed ≡ true → Rose (failures_of self.old) (failures_of self.new) }
         ensures counted { Counted self.old self.new result.failed }
     {
         if self.count_call().is_some() {

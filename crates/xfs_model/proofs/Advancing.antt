@@ -5,7 +5,7 @@ use Rattle.xfs_dispenser.specs.Answers.{Start, Went}
 use Rattle.xfs_dispenser.specs.Begins.{Begins}
 use Rattle.xfs_dispenser.specs.Checks.{Passed, Permits}
 use Rattle.xfs_dispenser.specs.Seen.{Seen, Becomes, Fails, MechCalled}
-use Rattle.xfs_dispenser.specs.Steps.{DoesFirst, DoesPart, IsDenied, IsFull, IsUnknown, IsUnwritten, Restores, Works, WorksOn}
+use Rattle.xfs_dispenser.specs.Steps.{DoesFirst, DoesPart, IsDenied, IsRestoreFull, IsUnknown, FailsToWrite, Restores, Works, WorksOn}
 use Rattle.xfs_dispenser.specs.declared.ask.CashAsk.{CashAsk}
 use Rattle.xfs_dispenser.specs.declared.ask.CashAsk.TheVariants.{Denominate, Dispense, Present, Reject, Reset, Retract, StartExchange, SetStorage, EndExchange}
 use Rattle.xfs_dispenser.specs.declared.grant.Grant.{Grant}
@@ -131,13 +131,13 @@ closes (Acted kind moved_ diverted failed) old new b is = settled old new b is
 denied : (s : Seen) (refusal : Option Deny) (next : Seen) (went : Went) → IsDenied s refusal next went → Goes s next
 denied s refusal next went is = same s next is.same
 
-unwritten_ : (s : Seen) (refusal : Option Deny) (r : Rec) (next : Seen) (went : Went) → IsUnwritten s refusal r next went → Goes s next
+unwritten_ : (s : Seen) (refusal : Option Deny) (r : Rec) (next : Seen) (went : Went) → FailsToWrite s refusal r next went → Goes s next
 unwritten_ s refusal r next went is = fails s next _ (stays_with s.guard _ refl refl refl refl refl refl (begins-same s.guard.records)) is.fails
 
 booted : (v : View) (records : List Rec) (r : Rec) → IsPossible v.records v.in_doubt records → BeginsWith (records ++ r ∷ []) v.records
 booted v records r is = begins-trans v.records records (records ++ r ∷ []) (possible-begins v.records v.in_doubt records is) (begins-push records r)
 
-full_ : (s next : Seen) → IsFull s next → Goes s next
+full_ : (s next : Seen) → IsRestoreFull s next → Goes s next
 full_ s next is = becomes s next _ (stays_with s.guard _ refl refl refl refl refl refl (possible-begins s.guard.records s.guard.in_doubt is.records is.possible)) is.becomes
 
 unread_ : (s next : Seen) (now : View) → (now ≡ unread s.guard) ⊎ ((records : List Rec) × IsPossible s.guard.records s.guard.in_doubt records × (now ≡ unbooted s.guard records)) → Fails s now next → Goes s next

@@ -9,25 +9,13 @@ use Rattle.xfs_queue.specs.declared.command.Command.{Command}
 use Rattle.xfs_queue.specs.declared.command.Ticket.{Ticket}
 use Rattle.xfs_queue.specs.Commands.{ticket_of, is_ticket, is_at, is_of, is_running}
 use Rattle.xfs_queue.specs.Queue.{IsQueue}
+use Rattle.xfs_queue.proofs.Kept.{AllPairs-map, none_from_find, same_count}
 use Rattle.xfs_queue.proofs.Places.{AreApart, same_ticket}
 use Rattle.xfs_model.specs.Results.{changed}
 use Rattle.xfs_model.specs.State.{Job}
 
 pub each : {X : Type 0} (P Q : X → Type 0) → ((x : X) → P x → Q x) → (xs : List X) → All P xs → All Q xs
 each P Q step xs all = λ k d within. step (get_or xs k d) (all k d within)
-
-pub AllPairs-map : {X : Type 0} (R S : X → X → Type 0) (f : X → X) → ((a b : X) → R a b → S (f a) (f b)) → (xs : List X) → AllPairs R xs → AllPairs S (map f xs)
-AllPairs-map R S f step xs h = λ i j d lt within.
-    let in_list : j < length xs = rw length-map at within in
-    let first_in : i < length xs = omega arith in
-    rw (get_or-map f xs i d d first_in, get_or-map f xs j d d in_list) (step _ _ (h i j d lt in_list))
-
-same_count : {X : Type 0} (p : X → Bool) (f : X → X) → ((a : X) → p (f a) ≡ p a) → (xs : List X) → length (filter p (map f xs)) ≡ length (filter p xs)
-same_count p f same [] = refl
-same_count p f same (a ∷ xs) = rw (same a) (elim (cases_Bool (p a)) [
-  | inl y ↦ rw y (ap suc (same_count p f same xs))
-  | inr n ↦ rw n (same_count p f same xs)
-])
 
 abbrev pub NotBoth : Command Job → Command Job → Type 0
 NotBoth a b = (is_running a.stage && is_running b.stage) ≡ false
@@ -63,13 +51,6 @@ changed_ends f same ends a q is = queue_after_map _ (λ b. ticket_if (is_at (tic
       | inl y ↦ rw y (and_left _ _ (ends b))
       | inr n ↦ rw n (elim (cases_Bool (is_at (ticket_of a) c)) [ inl z ↦ rw z (and_right _ _ (ends c)) | inr m ↦ rw m h ])
     ]) q is.running) is
-
-pub none_from_find : {X : Type 0} (p : X → Bool) (xs : List X) → find p xs ≡ None → All (λ x. p x ≡ false) xs
-none_from_find p [] h = All-nil (λ x. p x ≡ false)
-none_from_find p (x ∷ xs) h = elim (cases_Bool (p x)) [
-  | inl y ↦ absurd (none-some x (sym (rw y at h)))
-  | inr n ↦ All-cons (λ x. p x ≡ false) x xs n (none_from_find p xs (rw n at h))
-]
 
 -- none ran before
 pub changed_begins : (f : Command Job → Command Job) → KeepsTicket f → (a : Command Job) (q : List (Command Job)) → find (λ b. is_running b.stage) q ≡ None → IsQueue q → IsQueue (changed f a q)

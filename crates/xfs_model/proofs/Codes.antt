@@ -9,7 +9,7 @@ use Rattle.xfs_card.specs.declared.ask.CardAsk.TheVariants.{Read, Move, Reset as
 use Rattle.xfs_card.specs.declared.state.CardEvent.{CardEvent}
 use Rattle.xfs_card.specs.declared.state.CardEvent.TheVariants.{Begin, Inserted, Removed, Fault, Stop}
 use Rattle.xfs_dispenser.specs.Answers.{CashAnswer, Start, told, planned, Went, more, done, denial, answer_of, plain_answer}
-use Rattle.xfs_dispenser.specs.Begins.{Begins, IsTold, StartsUnless, StartsWith}
+use Rattle.xfs_dispenser.specs.Begins.{Begins, StartsRefused, StartsUnless, StartsWith}
 use Rattle.xfs_dispenser.specs.Seen.{Seen}
 use Rattle.xfs_dispenser.specs.Steps.{DoesFirst, DoesPart, IsDenied, Works, WorksOn, onward, settled}
 use Rattle.xfs_dispenser.specs.declared.ask.CashAsk.{CashAsk}
@@ -130,7 +130,7 @@ works_own s plan next left went is = works_on_own s.guard.open_order s plan next
 start_is : (start other : Start) → start ≡ other → StartOwn other → StartOwn start
 start_is start other e h = subst StartOwn (sym e) h
 
-told_own : (r : Refusal) (start : Start) → IsTold r start → StartOwn start
+told_own : (r : Refusal) (start : Start) → StartsRefused r start → StartOwn start
 told_own r start is = start_is start (told is.answer) is.is (of_some (answer_of r) is.answer is.due (refused r))
 
 unless_own : (o : Option Refusal) (otherwise start : Start) → StartOwn otherwise → StartsUnless o otherwise start → StartOwn start

@@ -15,7 +15,7 @@ use Rattle.xfs_card.specs.declared.ask.CardAsk.TheVariants as card_ask
 use Rattle.xfs_card.specs.declared.state.CardEvent.{CardEvent}
 use Rattle.xfs_card.specs.declared.state.CardEvent.TheVariants as card_event
 use Rattle.xfs_dispenser.specs.Answers.{CashAnswer, Start, told, planned, Went, more, done, answer_of, denial, plain_answer}
-use Rattle.xfs_dispenser.specs.Begins.{Begins, IsTold, StartsUnless, StartsWith}
+use Rattle.xfs_dispenser.specs.Begins.{Begins, StartsRefused, StartsUnless, StartsWith}
 use Rattle.xfs_dispenser.specs.Plans.{KeepsOutcome}
 use Rattle.xfs_dispenser.specs.Seen.{Seen}
 use Rattle.xfs_dispenser.specs.Steps.{DoesFirst, DoesPart, IsDenied, Works, WorksOn, onward, settled}
@@ -98,7 +98,7 @@ StartOther (planned plan) = plan.failed ≡ false
 start_is : (start other : Start) → start ≡ other → StartOther other → StartOther start
 start_is start other e h = subst StartOther (sym e) h
 
-told_other : (r : Refusal) (start : Start) → IsTold r start → StartOther start
+told_other : (r : Refusal) (start : Start) → StartsRefused r start → StartOther start
 told_other r start is = start_is start (told is.answer) is.is (of_some (answer_of r) is.answer is.due (refused_other r))
 
 unless_other : (o : Option Refusal) (otherwise start : Start) → StartOther otherwise → StartsUnless o otherwise start → StartOther start

@@ -54,7 +54,8 @@ use Rattle.xfs_model.specs.Step.{Happens, HandsOver, Joins, DropsClient, Posts, 
 use Rattle.xfs_model.specs.Touches.{CardSays, IsHeard, TakesNotes, Touches, TouchesCard, TouchesKeys, failed, running_at, shut, took}
 use Rattle.xfs_model.specs.Work as working
 use Rattle.xfs_model.specs.Work.{case_of}
-use Rattle.xfs_model.proofs.Changes.{AllPairs-map, KeepsTicket, NotBoth, changed_begins, changed_ends, changed_runs, clients_changed, each, found_all, queue_after_map}
+use Rattle.xfs_model.proofs.Changes.{KeepsTicket, NotBoth, changed_begins, changed_ends, changed_runs, clients_changed, each, found_all, queue_after_map}
+use Rattle.xfs_queue.proofs.Kept.{AllPairs-map}
 use Rattle.xfs_model.proofs.Pendings.{is_pending_there}
 use Rattle.xfs_model.proofs.Queues.{queue_here, queue_there}
 use Rattle.xfs_model.proofs.Talks.{client_with_mail}

@@ -8,6 +8,7 @@ use Rattle.xfs_base.specs.declared.counts.Counts.{Counts}
 use Rattle.xfs_base.specs.declared.counts.Kind.{Kind}
 use Rattle.xfs_base.specs.declared.counts.Kind.TheVariants as kinds
 use Rattle.xfs_base.specs.declared.counts.Places.{Places}
+use Rattle.xfs_dispenser.proofs.PlanLaws.{stacks_from, stacks-from}
 use Rattle.xfs_dispenser.specs.Answers.{Went, more, done, denial}
 use Rattle.xfs_dispenser.specs.Denominations.{NotesGiven, denomination_payload}
 use Rattle.xfs_dispenser.specs.Plans.{dispense_plan}
@@ -97,24 +98,6 @@ stacking_acts before now later counts some diverted n left p nothing s = record 
   bin = λ u. let a : at later.rejected u ≡ at now.rejected u + ((0 + 0) + (0 + at diverted u)) = p.bin u in let z = nothing u in let e = s.bin u in omega (arith, a, z, e);
 }
 
--- an order for each of these units with notes, unit by unit
-abbrev stacks_from : ℕ → ℕ → List ℕ → List Part
-stacks_from issue unit [] = []
-stacks_from issue unit (zero ∷ counts) = stacks_from issue (unit + 1) counts
-stacks_from issue unit (suc n ∷ counts) = Order (asked.Stack issue unit (suc n)) ∷ stacks_from issue (unit + 1) counts
-
-abbrev units_from : ℕ → List ℕ → List (ℕ × ℕ)
-units_from unit counts = filter (λ (u : ℕ × ℕ). nat_lt 0 u.1) (zip (range_with_len unit (length counts)) counts)
-
-units_some : (unit n : ℕ) (counts : List ℕ) → units_from unit (suc n ∷ counts) ≡ (unit, suc n) ∷ units_from (unit + 1) counts
-units_some unit n counts = (let some : nat_lt 0 (suc n) ≡ true = lt-ltb 0 (suc n) (omega arith) in rw some refl)
-
-stacks_are : (issue unit : ℕ) (counts : List ℕ) → map (λ (u : ℕ × ℕ). Order (asked.Stack issue u.0 u.1)) (units_from unit counts) ≡ stacks_from issue unit counts
-stacks_are issue unit [] = refl
-stacks_are issue unit (zero ∷ counts) = stacks_are issue (unit + 1) counts
-stacks_are issue unit (suc n ∷ counts) =
-    ap (map (λ (u : ℕ × ℕ). Order (asked.Stack issue u.0 u.1))) (units_some unit n counts) ∙ ap (λ l. Order (asked.Stack issue unit (suc n)) ∷ l) (stacks_are issue (unit + 1) counts)
-
 -- a Dispense runs: the orders of these counts from this unit on are left
 pub record Pays (base now : View) (notes : Notes) (plan : Plan) : Type 0 where
   issue : ℕ
@@ -169,7 +152,7 @@ begun_pays base now notes issue counts given units places none eight = record {
   units = units;
   tells = refl;
   few = omega (arith, eight);
-  parts = stacks_are issue 1 counts.0;
+  parts = stacks-from issue 1 counts.0;
   order = subst Stacks (sym none) tt;
   moving = λ fine. subst (λ o. Stacking base.places now.places counts (λ u. opened o u + slice_index (ahead 0 counts.0) u)) (sym none)
       (subst (λ (x : Places). Stacking base.places x counts (λ u. 0 + slice_index counts.0 u)) (sym places) (record {

@@ -14,7 +14,7 @@ use Rattle.xfs_card.specs.declared.state.CardEvent.{CardEvent}
 use Rattle.xfs_card.specs.declared.state.CardEvent.TheVariants as card_event
 use Rattle.xfs_common.specs.Payloads.{error_payload, nothing, only}
 use Rattle.xfs_dispenser.specs.Answers.{CashAnswer, Start, told, planned, Went, more, done, answer_of, denial, plain_answer}
-use Rattle.xfs_dispenser.specs.Begins.{Begins, IsTold, StartsUnless, StartsWith}
+use Rattle.xfs_dispenser.specs.Begins.{Begins, StartsRefused, StartsUnless, StartsWith}
 use Rattle.xfs_dispenser.specs.Seen.{Seen}
 use Rattle.xfs_dispenser.specs.Steps.{DoesFirst, DoesPart, IsDenied, Works, WorksOn, onward, settled}
 use Rattle.xfs_dispenser.specs.declared.ask.CashAsk.{CashAsk}
@@ -180,7 +180,7 @@ marks_good v = record {
 start_is : (records : List Rec) (start other : Start) → start ≡ other → StartStands records other → StartStands records start
 start_is records start other e h = subst (StartStands records) (sym e) h
 
-told_stands : (records : List Rec) → IsMarkAt records (last_mark records) → (r : Refusal) (start : Start) → RefusalMark records r → IsTold r start → StartStands records start
+told_stands : (records : List Rec) → IsMarkAt records (last_mark records) → (r : Refusal) (start : Start) → RefusalMark records r → StartsRefused r start → StartStands records start
 told_stands records mark r start h is = start_is records start (told is.answer) is.is (of_some (λ (a : CashAnswer). Stands records a.payload) (answer_of r) is.answer is.due (refusal_stands records mark r h))
 
 unless_stands : (records : List Rec) → IsMarkAt records (last_mark records) → (o : Option Refusal) (otherwise start : Start) → IfSome o (RefusalMark records) → StartStands records otherwise → StartsUnless o otherwise start → StartStands records start

@@ -15,7 +15,7 @@ use Rattle.xfs_card.specs.declared.ask.CardAsk.TheVariants as card_ask
 use Rattle.xfs_card.specs.declared.state.CardEvent.{CardEvent}
 use Rattle.xfs_card.specs.declared.state.CardEvent.TheVariants as card_event
 use Rattle.xfs_dispenser.specs.Answers.{CashAnswer, Start, told, planned, Went, more, done, answer_of, denial, plain_answer}
-use Rattle.xfs_dispenser.specs.Begins.{Begins, IsTold, StartsUnless, StartsWith}
+use Rattle.xfs_dispenser.specs.Begins.{Begins, StartsRefused, StartsUnless, StartsWith}
 use Rattle.xfs_dispenser.specs.Seen.{Seen}
 use Rattle.xfs_dispenser.specs.Steps.{DoesFirst, DoesPart, IsDenied, Works, WorksOn, onward, settled}
 use Rattle.xfs_dispenser.specs.declared.ask.CashAsk.{CashAsk}
@@ -167,7 +167,7 @@ bars_good s next = record {
 start_is : (s next : Seen) (start other : Start) → start ≡ other → StartBars s next other → StartBars s next start
 start_is s next start other e h = subst (StartBars s next) (sym e) h
 
-told_bars : (s next : Seen) (r : Refusal) (start : Start) → Bars s next r → IsTold r start → StartBars s next start
+told_bars : (s next : Seen) (r : Refusal) (start : Start) → Bars s next r → StartsRefused r start → StartBars s next start
 told_bars s next r start h is = start_is s next start (told is.answer) is.is (of_some (λ (a : CashAnswer). is_not_ready a.code ≡ true → IsBarred s next) (answer_of r) is.answer is.due h)
 
 unless_bars : (s next : Seen) (o : Option Refusal) (otherwise start : Start) → IfSome o (Bars s next) → StartBars s next otherwise → StartsUnless o otherwise start → StartBars s next start

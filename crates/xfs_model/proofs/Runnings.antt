@@ -11,7 +11,8 @@ use Rattle.xfs_queue.proofs.Places.{AreApart}
 use Rattle.xfs_model.specs.Results.{changed}
 use Rattle.xfs_model.specs.State.{Job}
 use Rattle.xfs_model.proofs.Caused.{only_one}
-use Rattle.xfs_model.proofs.Changes.{NotBoth, at_itself, each, found_all, head_pairs, first_of, none_from_find, rest_of, same_some, tail_pairs, turned}
+use Rattle.xfs_model.proofs.Changes.{NotBoth, at_itself, each, found_all, head_pairs, first_of, rest_of, same_some, tail_pairs, turned}
+use Rattle.xfs_queue.proofs.Kept.{none_from_find}
 
 abbrev pub runs : List (Command Job) → Bool
 runs q = list_any (λ a. is_running a.stage) q

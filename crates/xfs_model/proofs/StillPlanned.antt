@@ -59,10 +59,10 @@ taken_still old new moved true is =
     kept_still old.guard new.guard (ap (λ (v : View). v.open_order) is.reported.same) (ap (λ (v : View). v.units) is.reported.same) ((is.reported.reported.nothing refl).1)
 taken_still old new moved false is = record {
   planned = λ plan p. planned-still old.guard new.guard plan (ap (λ (v : View). v.open_order) is.reported.same) (ap (λ (v : View). v.units) is.reported.same)
-      (taken-room old.guard.places new.guard.places moved (is.reported.reported.places refl)) p;
+      (taken-room old.guard.places new.guard.places moved (is.reported.reported.moves refl).reached) p;
   order = ap (λ (v : View). v.open_order) is.reported.same;
   units = ap (λ (v : View). v.units) is.reported.same;
-  places = rests_taken old.guard.places new.guard.places moved (is.reported.reported.places refl);
+  places = rests_taken old.guard.places new.guard.places moved (is.reported.reported.moves refl).reached;
 }
 
 -- a plan is no answer

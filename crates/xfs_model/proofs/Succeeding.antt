@@ -8,7 +8,7 @@ use Rattle.xfs_base.specs.declared.money.NoteKind.{NoteKind}
 use Rattle.xfs_base.specs.declared.moment.Service.{Service}
 use Rattle.xfs_base.specs.declared.moment.Service.TheVariants.{Cash}
 use Rattle.xfs_dispenser.specs.Answers.{CashAnswer, Start, told, planned, Went, more, done, answer_of, denial, plain_answer}
-use Rattle.xfs_dispenser.specs.Begins.{Begins, IsTold, StartsUnless, StartsWith}
+use Rattle.xfs_dispenser.specs.Begins.{Begins, StartsRefused, StartsUnless, StartsWith}
 use Rattle.xfs_dispenser.specs.Checks.{active_refusal}
 use Rattle.xfs_dispenser.specs.Plans.{dispense_plan, order_plan, reset_plan, storage_plan}
 use Rattle.xfs_dispenser.specs.Seen.{Seen}
@@ -75,7 +75,7 @@ abbrev pub IsNoSuccess : Start → Type 0
 IsNoSuccess (told answer) = is_success answer.code ≡ false
 IsNoSuccess (planned plan) = Unit {0}
 
-told_no : (refusal : Refusal) (start : Start) → IsTold refusal start → IsNoSuccess start
+told_no : (refusal : Refusal) (start : Start) → StartsRefused refusal start → IsNoSuccess start
 told_no refusal start is = subst IsNoSuccess (sym is.is) (of_some (answer_of refusal) is.answer is.due (refused_fails refusal))
 
 unless_no : (refusal : Option Refusal) (plan : Plan) (start : Start) → StartsUnless refusal (planned plan) start → IsNoSuccess start

@@ -38,7 +38,7 @@ abbrev pub Means : Known → Data → Ask → Type 0
 Means (known.Nonce GetCommandNonce) payload issue = ⊤
 Means (known.Nonce ClearCommandNonce) payload clear = ⊤
 Means (known.Card command) payload (card ask) = card_reader.ask_of command payload ≡ Ok ask
-Means (known.Keys DataEntry) payload (entry ask) = keyboard.Asks payload ask
+Means (known.Keys DataEntry) payload (entry ask) = keyboard.AsksEntry payload ask
 Means (known.Cash command) payload (cash ask) = dispenser.ask_of command payload ≡ Ok ask
 Means command payload ask = ⊥
 

@@ -8,7 +8,7 @@ use Rattle.xfs_base.specs.declared.counts.Kind.TheVariants.{Retract}
 use Rattle.xfs_base.specs.declared.moment.Moment.{Moment}
 use Rattle.xfs_common.specs.Payloads.{nothing, nonce_payload}
 use Rattle.xfs_dispenser.specs.Seen.{Seen, Becomes, Fails, MechCalled}
-use Rattle.xfs_dispenser.specs.Steps.{IsFull, IsUnread, IsUnknown}
+use Rattle.xfs_dispenser.specs.Steps.{IsRestoreFull, FailsRestore, IsUnknown}
 use Rattle.xfs_envelope.specs.declared.code.Code.TheVariants.{DeviceNotReady}
 use Rattle.xfs_guard.specs.Booting.{IsNotReread, IsRereadFull, IsRereadFailed, has_no_room_at_boot}
 use Rattle.xfs_guard.specs.Fits.{unfit}
@@ -112,7 +112,7 @@ IsUnbooted old new = FindsNoRoom old new ⊎ (FailsToBoot old new ⊎ IsUnknown 
 
 -- a Reset's restore is refused for such a reason, by the room behind the records in memory
 abbrev pub IsUnrestored : Seen → Seen → Type 0
-IsUnrestored old new = IsFull old new ⊎ (IsUnread old new ⊎ IsUnknown old new)
+IsUnrestored old new = IsRestoreFull old new ⊎ (FailsRestore old new ⊎ IsUnknown old new)
 
 -- the open order is acted
 pub record ActsOn (old new : Seen) : Type 0 where

@@ -18,7 +18,7 @@ use Rattle.xfs_queue.specs.Commands.{ticket_of, is_ticket, is_at, is_of, is_runn
 use Rattle.xfs_queue.specs.Queue.{IsQueue, offer_fault, with_stage, with_job, is_named, canceled, without_client, mark}
 use Rattle.xfs_queue.proofs.Places.{AreApart, same_ticket, none≢some}
 
-AllPairs-map : {X : Type 0} (R S : X → X → Type 0) (f : X → X) → ((a b : X) → R a b → S (f a) (f b)) → (xs : List X) → AllPairs R xs → AllPairs S (map f xs)
+pub AllPairs-map : {X : Type 0} (R S : X → X → Type 0) (f : X → X) → ((a b : X) → R a b → S (f a) (f b)) → (xs : List X) → AllPairs R xs → AllPairs S (map f xs)
 AllPairs-map R S f step xs h = λ i j d lt within.
     let in_list : j < length xs = rw length-map at within in
     let first_in : i < length xs = omega arith in
@@ -33,7 +33,7 @@ eqb-comm a b = elim (cases_eq a b) [
 is_ticket-comm : (t u : Ticket) → is_ticket t u ≡ is_ticket u t
 is_ticket-comm t u = rw (eqb-comm u.client.0 t.client.0, eqb-comm u.id t.id) refl
 
-same_count : {X : Type 0} (p : X → Bool) (f : X → X) → ((a : X) → p (f a) ≡ p a) → (xs : List X) → length (filter p (map f xs)) ≡ length (filter p xs)
+pub same_count : {X : Type 0} (p : X → Bool) (f : X → X) → ((a : X) → p (f a) ≡ p a) → (xs : List X) → length (filter p (map f xs)) ≡ length (filter p xs)
 same_count p f same [] = refl
 same_count p f same (a ∷ xs) = rw (same a) (elim (cases_Bool (p a)) [
   | inl y ↦ rw y (ap suc (same_count p f same xs))
@@ -59,7 +59,7 @@ none_from_list_any p (x ∷ xs) h =
     let parts = or_parts (p x) (list_any p xs) h in
     All-cons (λ x. p x ≡ false) x xs parts.0 (none_from_list_any p xs parts.1)
 
-none_from_find : {X : Type 0} (p : X → Bool) (xs : List X) → find p xs ≡ None → All (λ x. p x ≡ false) xs
+pub none_from_find : {X : Type 0} (p : X → Bool) (xs : List X) → find p xs ≡ None → All (λ x. p x ≡ false) xs
 none_from_find p [] h = λ k d w. absurd (omega (arith, w))
 none_from_find p (x ∷ xs) h = elim (cases_Bool (p x)) [
   | inl y ↦ absurd (none≢some x (sym (rw y at h)))

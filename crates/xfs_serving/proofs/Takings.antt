@@ -2,7 +2,7 @@
 use Rattle.std.proofs.Common.{◌≡◌, ◌≢◌, ℕ, ◌+◌, ◌≤◌, ◌<◌, Bool, true, false, refl, ap, ◌∙◌, arith, rules}
 use Rattle.xfs_server.proofs.Counts.{counted-counted}
 use Rattle.xfs_server.specs.Doors.{DoorLog}
-use Rattle.xfs_serving.specs.Takings.{Stops, Takes, faults_in, looked, passed}
+use Rattle.xfs_serving.specs.Takings.{EndsTaking, Takes, faults_in, looked, passed}
 use Rattle.xfs_serving.specs.declared.ending.Ending.{Ending}
 use Rattle.xfs_serving.specs.declared.ending.Ending.TheVariants.{Served, Failed, Memory}
 
@@ -16,10 +16,10 @@ failed_early : Failed ≢ Served
 failed_early e = search rules
 
 -- memory ran out, when a connection had come or none
-pub starved : (came : ℕ) (old new : DoorLog) → came ≤ 1 → new ≡ passed came 0 0 old → Stops Memory old new
+pub starved : (came : ℕ) (old new : DoorLog) → came ≤ 1 → new ≡ passed came 0 0 old → EndsTaking Memory old new
 starved came old new few is = record { early = memory_early; takes = record { came = came; quiets = 0; few = few; all = λ e. absurd (memory_early e); is = is } }
 
-pub failed : (old new : DoorLog) → new ≡ passed 0 0 1 old → Stops Failed old new
+pub failed : (old new : DoorLog) → new ≡ passed 0 0 1 old → EndsTaking Failed old new
 failed old new is = record { early = failed_early; takes = record { came = 0; quiets = 0; few = omega arith; all = λ e. absurd (failed_early e); is = is } }
 
 pub served : (count quiets : ℕ) (old new : DoorLog) → new ≡ passed count quiets 0 old → Takes count Served old new
@@ -37,7 +37,7 @@ quiet_more taken quiets came old between new nobody before is = is ∙ ap (λ c.
     ∙ ap (λ t. passed t (quiets + 1) 0 old) (let e : taken + 0 ≡ taken = omega arith in e)
 
 -- the look that ends the taking, behind those before it
-pub stopped : (count taken quiets : ℕ) (ending : Ending) (old between new : DoorLog) → taken < count → between ≡ passed taken quiets 0 old → Stops ending between new
+pub stopped : (count taken quiets : ℕ) (ending : Ending) (old between new : DoorLog) → taken < count → between ≡ passed taken quiets 0 old → EndsTaking ending between new
     → Takes count ending old new
 stopped count taken quiets ending old between new less before stops = record {
   came = taken + stops.takes.came;

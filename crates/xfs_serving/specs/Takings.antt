@@ -28,6 +28,6 @@ looked true d = passed 1 0 0 d
 looked false d = passed 0 1 0 d
 
 -- a look that ended the taking
-pub record Stops (ending : Ending) (old new : DoorLog) : Type 0 where
+pub record EndsTaking (ending : Ending) (old new : DoorLog) : Type 0 where
   pub early : ending ≢ Served
   pub takes : Takes 1 ending old new

@@ -1,6 +1,6 @@
 ghost use Rattle.std.specs.Prelude.{◌≡◌, IfOk, IfErr};
 ghost use mathlib.Core.List.{IsPrefix};
-ghost use Rattle.xfs_serving.specs.Takings.{Stops, Takes, faults_in, looked};
+ghost use Rattle.xfs_serving.specs.Takings.{EndsTaking, Takes, faults_in, looked};
 ghost use Rattle.xfs_serving.specs.declared.ending.Ending.TheVariants as Ending;
 
 use crate::backend::Backend;
@@ -190,7 +190,7 @@ fn door_turn<
 where
     O::Link: 's,
     ensures ok { IfOk result (λ came. O.log doors.new ≡ looked came (O.log doors.old)) }
-    ensures err { IfErr result (λ ending. Stops ending (O.log doors.old) (O.log doors.new)) }
+    ensures err { IfErr result (λ ending. EndsTaking ending (O.log doors.old) (O.log doors.new)) }
     ensures seen { IsPrefix (H.seen staff.old.backend) (H.seen staff.new.backend) }
 {
     staff.reap(hall.rt);

@@ -8,7 +8,7 @@ use Rattle.xfs_script.specs.Answered.{IsAnswerText, lines_text}
 use Rattle.xfs_script.specs.Lines.{has_line_feed}
 use Rattle.xfs_sides.specs.Sides.{IsMarked}
 use Rattle.xfs_script.proofs.Ends.{none_is}
-use Rattle.xfs_sides.proofs.SideLaws.{lines_text-append}
+use Rattle.xfs_script.proofs.AnswerLaws.{lines_text-append}
 
 -- the first lines of a text are marked, and this is left of it
 pub record IsMarkedUpTo (letter : ℕ) (text rest marked : List ℕ) : Type 0 where

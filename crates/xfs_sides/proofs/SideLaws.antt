@@ -10,6 +10,7 @@ use Rattle.xfs_script.specs.Commands.{Command}
 use Rattle.xfs_script.specs.Endings.{AnswersInput}
 use Rattle.xfs_script.specs.Lines.{first_lines}
 use Rattle.xfs_script.specs.FleetLines.{IsOf, is_of_side, letter_a, letter_b, side}
+use Rattle.xfs_script.proofs.AnswerLaws.{lines_text-append}
 use Rattle.xfs_sides.specs.Sides.{AnswersMarked, AnswersSide, AreAlone, IsAlone, IsPassedOver, IsSideLine, Sides, sides}
 use Rattle.xfs_script.specs.declared.answerer.Ending.TheVariants.{AtEnd}
 use Rattle.xfs_script.specs.Words.{IsSkipped}
@@ -36,10 +37,6 @@ side-marked letter (line ∷ lines) = side-own letter line (map (λ l. letter �
 pub side-unmarked : (letter other : ℕ) (lines : List (List ℕ)) → nat_eq letter other ≡ false → side letter (map (λ line. other ∷ 32 ∷ line) lines) ≡ []
 side-unmarked letter other [] is = refl
 side-unmarked letter other (line ∷ lines) is = side-other letter other line (map (λ l. other ∷ 32 ∷ l) lines) is ∙ side-unmarked letter other lines is
-
-pub lines_text-append : (xs ys : List (List ℕ)) → lines_text (xs ++ ys) ≡ lines_text xs ++ lines_text ys
-lines_text-append [] ys = refl
-lines_text-append (x ∷ xs) ys = ap (λ t. x ++ 10 ∷ t) (lines_text-append xs ys) ∙ sym (append_assoc x (10 ∷ lines_text xs) (lines_text ys))
 
 -- ---- one line, as a side sees it
 

@@ -7,12 +7,12 @@ use Rattle.xfs_base.specs.declared.money.NoteKind.{NoteKind}
 use Rattle.xfs_mech.specs.declared.motion.Motion.{Motion}
 use Rattle.xfs_journal.specs.Image.{StandsFor}
 use Rattle.xfs_journal.specs.Journal.{base_of}
-use Rattle.xfs_journal.specs.JournalView.{IsNoJournal}
 use Rattle.xfs_journal.specs.declared.faults.MountFault.{MountFault}
 use Rattle.xfs_journal.specs.declared.faults.MountFault.TheVariants.{NotJournal, Disk, Memory}
 use Rattle.xfs_journal.specs.declared.record.Rec.{Rec}
 use Rattle.xfs_journal.proofs.Unique.{stands_for_one}
 use Rattle.xfs_simulated.specs.Resumed.{GoesOn, GoesOnFrom}
+use Rattle.xfs_journal.specs.JournalView.{IsNoJournal}
 
 -- of each list that the bytes stand for this is told, where the disk tells them and didn't fail
 abbrev pub TellsOf : Option (List ℕ) → Type 0 → List NoteKind → List Motion → Places → Type 0

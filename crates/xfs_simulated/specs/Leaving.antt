@@ -38,7 +38,7 @@ CanBeMade units p (Taken counts) = LiesIn counts p.outlet
 CanBeMade units p (Loaded unit count) = CanLoad units p unit count
 
 -- a motion that can't be made where those before it lead
-pub record Stops (units : List NoteKind) (start : Places) (motions : List Motion) : Type 0 where
+pub record CantMove (units : List NoteKind) (start : Places) (motions : List Motion) : Type 0 where
   pub before : ℕ
   pub motion : Motion
   pub there : slice_get motions before ≡ Some motion
@@ -48,7 +48,7 @@ pub record Stops (units : List NoteKind) (start : Places) (motions : List Motion
 
 -- the first places are none that a mechanism may have, or some motion can't be made
 abbrev pub LeadsNowhere : List NoteKind → Places → List Motion → Type 0
-LeadsNowhere units start motions = ¬ PlacesFit units start ⊎ Stops units start motions
+LeadsNowhere units start motions = ¬ PlacesFit units start ⊎ CantMove units start motions
 
 -- no places are told, or the motions lead nowhere from them
 abbrev pub LeadsNowhereFrom : List NoteKind → Option Places → List Motion → Type 0

@@ -11,6 +11,7 @@ use Rattle.xfs_journal.specs.declared.record.Rec.{Rec}
 use Rattle.xfs_journal.specs.Image.{StandsFor}
 use Rattle.xfs_journal.specs.Journal.{base_of}
 use Rattle.xfs_guard.specs.Replayed.{renumbered, replayed}
+use Rattle.xfs_simulated.specs.declared.resume.Told.{Told}
 use Rattle.xfs_simulated.specs.Leaving.{IsLeft, IsLost}
 use Rattle.xfs_simulated.specs.Simulated.{hundred_each, four_units}
 
@@ -23,9 +24,9 @@ pub record GoesOnFrom (units : List NoteKind) (base : ℕ) (kept : List Rec) (mo
 abbrev pub GoesOn : List NoteKind → List Rec → List Motion → Places → Type 0
 GoesOn units records motions places = GoesOnFrom units (base_of records) (drop (base_of records) records) motions places
 
+-- the records go on as was told
+abbrev pub GoesOnAs : List NoteKind → Told → List Rec → Type 0
+GoesOnAs units told records = GoesOn units records told.motions.items told.places
+
 abbrev pub IsResumed : List Rec → SimMech → Type 0
 IsResumed records mech = GoesOn four_units records (motions_of mech) (places_of mech)
-
--- P holds of each list of records that the bytes of a disk stand for, or the disk failed
-abbrev pub OfJournal : Option (List ℕ) → ℕ → ℕ → (List Rec → Type 0) → Type 0
-OfJournal held faults now P = IfTold held (λ bytes. (records : List Rec) → StandsFor bytes records → Rose faults now ⊎ P records)

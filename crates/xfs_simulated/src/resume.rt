@@ -1,9 +1,11 @@
 //! The machine that goes on where a journal leaves it.
 
-ghost use Rattle.std.specs.Prelude.{◌≡◌, ◌≢◌, ◌+◌, ◌≤◌, length, IfOk, IfSome};
+ghost use Rattle.std.specs.Prelude.{◌≡◌, ◌≢◌, ◌⊎◌, ◌+◌, ◌≤◌, length, IfOk, IfSome};
+ghost use Rattle.xfs_base.specs.Causes.{Rose};
+ghost use Rattle.xfs_journal.specs.Held.{OfJournal};
 ghost use Rattle.xfs_journal.specs.declared.faults.MountFault.TheVariants.{Memory as NoMemory};
 ghost use Rattle.xfs_mech.specs.Sim.{failures_of, faults_of, motions_of as done_by, places_of, units_of};
-ghost use Rattle.xfs_simulated.specs.Resumed.{GoesOn, GoesOnFrom, IsResumed, OfJournal};
+ghost use Rattle.xfs_simulated.specs.Resumed.{GoesOnAs, GoesOnFrom, IsResumed};
 ghost use Rattle.xfs_simulated.specs.Simulated.{four_units, full_limits};
 
 use crate::leaving::places_left;
@@ -32,7 +34,7 @@ pub fn resume_core<D: Disk>(
     ensures set { IfOk result (λ core. (core.units ≡ four_units) × (core.limits ≡ full_limits) × (core.life ≡ 600000)) }
     ensures units { IfOk result (λ core. units_of core.mech ≡ core.units) }
     ensures faults { IfOk result (λ core. (faults_of core.mech ≡ faults.items) × (failures_of core.mech ≡ 0)) }
-    ensures resumed { IfOk result (λ core. OfJournal (D.held disk) (D.faults disk) (D.faults core.disk) (λ records. IsResumed records core.mech)) }
+    ensures resumed { IfOk result (λ core. OfJournal (D.held disk) (λ records. Rose (D.faults disk) (D.faults core.disk) ⊎ IsResumed records core.mech)) }
 {
     let Secrets { key, seed } = secrets;
     let units = units().ok_or(Memory)?;
@@ -71,8 +73,7 @@ fn resume_mech(units: &UnitTable, told: Told, faults: Vec<Fault>) -> Option<SimM
 
 // Reads the journal of a disk, and hands the disk back.
 fn read_back<D: Disk>(alloc: Global, units: &UnitTable, disk: D) -> Result<(D, Told), Memory>
-    ensures { IfOk result (λ back. OfJournal (D.held disk) (D.faults disk) (D.faults back.0)
-        (λ records. GoesOn units.now records back.1.motions.items back.1.places)) }
+    ensures { IfOk result (λ back. OfJournal (D.held disk) (λ records. Rose (D.faults disk) (D.faults back.0) ⊎ GoesOnAs units.now back.1 records)) }
 {
     match Journal::mount(alloc, disk, LIMITS) {
         Ok(journal) => {

@@ -1,8 +1,9 @@
 pub mod AmountBounds
 pub mod AmountReading
+pub mod AmountText
 pub mod AmountsBehind
 pub mod AmountsLemmas
-pub mod AmountText
+pub mod Ascii
 pub mod Ends
 pub mod Fresh
 pub mod Front

@@ -33,7 +33,7 @@ bad_cash command payload fail e (card ask) is = is
 bad_cash command payload fail e (entry ask) is = is
 bad_cash command payload fail e bad is = is
 
-pub bad_entry : (payload : Data) → ((ask : EntryAsk) → ¬ keyboard.Asks payload ask) → (ask : Ask) → ¬ Means (known.Keys DataEntry) payload ask
+pub bad_entry : (payload : Data) → ((ask : EntryAsk) → ¬ keyboard.AsksEntry payload ask) → (ask : Ask) → ¬ Means (known.Keys DataEntry) payload ask
 bad_entry payload none issue is = is
 bad_entry payload none clear is = is
 bad_entry payload none (cash ask) is = is

@@ -13,7 +13,7 @@ use Rattle.xfs_model.specs.Connections.{is_at, is_client, is_service, with_mail,
 use Rattle.xfs_base.specs.declared.faults.Memory.{Memory}
 use Rattle.xfs_traffic.specs.TakenBack.{all_but_last, taken_back}
 use Rattle.xfs_model.specs.State.{Connection}
-use Rattle.xfs_model.proofs.Changes.{AllPairs-map}
+use Rattle.xfs_queue.proofs.Kept.{AllPairs-map}
 use Rattle.xfs_model.proofs.Talks.{client_with_mail}
 
 some-injective : {X : Type 0} (x y : X) → Some x ≡ Some y → x ≡ y

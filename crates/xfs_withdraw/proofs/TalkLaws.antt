@@ -15,7 +15,7 @@ use Rattle.xfs_server.specs.Links.{LinkLog, IsFresh, after_take, after_give}
 use Rattle.xfs_server.specs.declared.link.GiveFault.{GiveFault}
 use Rattle.xfs_server.specs.declared.link.Taking.{Taking}
 use Rattle.xfs_withdraw.specs.Endings.{ending_of, give_ending, hear_ending}
-use Rattle.xfs_withdraw.specs.Talks.{Asks, started, waited, asked, at_text, waiting, unheard, unsent, LinkTells, GoesOn, HasTaken, Withdraws}
+use Rattle.xfs_withdraw.specs.Talks.{HasAsked, started, waited, asked, at_text, waiting, unheard, unsent, LinkTells, IsUnderWay, HasTaken, Withdraws}
 use Rattle.xfs_withdraw.specs.declared.ending.Ending.TheVariants.{Done, Ended, Refused, BadAnswer, Closed, Quiet, Failed, Memory}
 use Rattle.xfs_withdraw.specs.declared.talk.TheConstants.{MOST_QUIETS}
 
@@ -60,12 +60,12 @@ tells-unsent l m texts asks ask GiveFault.Memory t e = rw e record { taken = t.t
 
 -- the first ask was sent
 pub begun : (w : Withdrawing) (l m : LinkLog) (ask : List ℕ) (x : Unit {0}) → HasHeard w [] → IsFresh l → ask ≡ command_text (codes "Common.GetCommandNonce") 1 empty
-    → m ≡ after_give l ask (Ok x) → GoesOn w 0 m
+    → m ≡ after_give l ask (Ok x) → IsUnderWay w 0 m
 begun w l m ask x heard fresh is e = record {
   texts = [];
   asks = ask ∷ [];
   heard = heard;
-  has_asks = subst (λ text. Asks w.terms [] (text ∷ [])) (sym is) started;
+  has_asks = subst (λ text. HasAsked w.terms [] (text ∷ [])) (sym is) started;
   tells = tells-sent l m [] [] ask x (tells-fresh l fresh) e;
   count = ap (λ k. k.quiets) e ∙ fresh.quiets;
 }
@@ -85,12 +85,12 @@ pub unbegun-unsent : (terms : Terms) (l m : LinkLog) (ask : List ℕ) (fault : G
 unbegun-unsent terms l m ask fault fresh is e = record {
   texts = [];
   asks = [];
-  ends = unsent ask (subst (λ text. Asks terms [] (text ∷ [])) (sym is) started) fault;
+  ends = unsent ask (subst (λ text. HasAsked terms [] (text ∷ [])) (sym is) started) fault;
   tells = tells-unsent l m [] [] ask fault (tells-fresh l fresh) e;
 }
 
 -- one text was taken
-pub text_taken : (w : Withdrawing) (quiets : ℕ) (l m : LinkLog) (text : List ℕ) → GoesOn w quiets l → m ≡ after_take l (Taking.Text text) → HasTaken w quiets text m
+pub text_taken : (w : Withdrawing) (quiets : ℕ) (l m : LinkLog) (text : List ℕ) → IsUnderWay w quiets l → m ≡ after_take l (Taking.Text text) → HasTaken w quiets text m
 text_taken w quiets l m text g e = rw e record {
   texts = g.texts;
   asks = g.asks;
@@ -107,11 +107,11 @@ fewer : (now : ℕ) → now ≤ MOST_QUIETS → now ≢ MOST_QUIETS → now < MO
 fewer now le ne = omega (arith, le, ne)
 
 -- the link was quiet once more
-module _ (w : Withdrawing) (quiets now : ℕ) (l m : LinkLog) (g : GoesOn w quiets l) (e : m ≡ after_take l Taking.Quiet) (one : now ≡ quiets + 1) where
+module _ (w : Withdrawing) (quiets now : ℕ) (l m : LinkLog) (g : IsUnderWay w quiets l) (e : m ≡ after_take l Taking.Quiet) (one : now ≡ quiets + 1) where
   counted_one : m.quiets ≡ now
   counted_one = counts l.quiets m.quiets g.tells.quiets (ap (λ k. k.quiets) e) ∙ ap (λ n. n + 1) g.count ∙ sym one
 
-  pub quiet_again : now ≢ MOST_QUIETS → GoesOn w now m
+  pub quiet_again : now ≢ MOST_QUIETS → IsUnderWay w now m
   quiet_again ne = record {
     texts = g.texts;
     asks = g.asks;
@@ -142,7 +142,7 @@ module _ (w : Withdrawing) (quiets now : ℕ) (l m : LinkLog) (g : GoesOn w quie
   }
 
 -- it is cut off while it waits
-module _ (w : Withdrawing) (quiets : ℕ) (l m : LinkLog) (g : GoesOn w quiets l) where
+module _ (w : Withdrawing) (quiets : ℕ) (l m : LinkLog) (g : IsUnderWay w quiets l) where
   pub closed_end : m ≡ after_take l Taking.Closed → Withdraws w.terms Closed m
   closed_end e = rw e record {
     texts = g.texts;
@@ -199,24 +199,24 @@ move-refused terms (Ok (step.gives_up other)) status m = cc
 module _ (w : Withdrawing) (quiets : ℕ) (l : LinkLog) (text : List ℕ) (t : HasTaken w quiets text l) where
   -- and the withdrawal waits
   pub heard_waits : (v : Withdrawing) → v.terms ≡ w.terms → ((texts : List (List ℕ)) → HasHeard w texts → HasHeard v (texts ++ text ∷ []))
-      → ((texts : List (List ℕ)) → HasHeard w texts → IsMove w.terms (step_in (conversation texts) text) move.Wait) → GoesOn v quiets l
+      → ((texts : List (List ℕ)) → HasHeard w texts → IsMove w.terms (step_in (conversation texts) text) move.Wait) → IsUnderWay v quiets l
   heard_waits v same more moved = record {
     texts = t.texts ++ text ∷ [];
     asks = t.asks;
     heard = more t.texts t.heard;
-    has_asks = subst (λ terms. Asks terms (t.texts ++ text ∷ []) t.asks) (sym same) (waited t.has_asks text (moved t.texts t.heard));
+    has_asks = subst (λ terms. HasAsked terms (t.texts ++ text ∷ []) t.asks) (sym same) (waited t.has_asks text (moved t.texts t.heard));
     tells = t.tells;
     count = t.count;
   }
 
   -- and the ask that follows is sent
   pub heard_asks : (v : Withdrawing) (m : LinkLog) (ask : List ℕ) (x : Unit {0}) → v.terms ≡ w.terms → ((texts : List (List ℕ)) → HasHeard w texts → HasHeard v (texts ++ text ∷ []))
-      → ((texts : List (List ℕ)) → HasHeard w texts → IsMove w.terms (step_in (conversation texts) text) (move.Ask ask)) → m ≡ after_give l ask (Ok x) → GoesOn v quiets m
+      → ((texts : List (List ℕ)) → HasHeard w texts → IsMove w.terms (step_in (conversation texts) text) (move.Ask ask)) → m ≡ after_give l ask (Ok x) → IsUnderWay v quiets m
   heard_asks v m ask x same more moved e = record {
     texts = t.texts ++ text ∷ [];
     asks = t.asks ++ ask ∷ [];
     heard = more t.texts t.heard;
-    has_asks = subst (λ terms. Asks terms (t.texts ++ text ∷ []) (t.asks ++ ask ∷ [])) (sym same) (asked t.has_asks text ask (moved t.texts t.heard));
+    has_asks = subst (λ terms. HasAsked terms (t.texts ++ text ∷ []) (t.asks ++ ask ∷ [])) (sym same) (asked t.has_asks text ask (moved t.texts t.heard));
     tells = tells-sent l m (t.texts ++ text ∷ []) t.asks ask x t.tells e;
     count = ap (λ k. k.quiets) e ∙ t.count;
   }

@@ -17,36 +17,36 @@ abbrev pub terms_of : List ℕ → ℕ → List ℕ → Terms
 terms_of currency amount key = record { currency = currency; amount = amount; key = key }
 
 -- a withdrawal that has heard these texts, none of which ended it, has these asks
-pub data Asks (terms : Terms) : List (List ℕ) → List (List ℕ) → Type 0 where
+pub data HasAsked (terms : Terms) : List (List ℕ) → List (List ℕ) → Type 0 where
   -- at its start it asks for a nonce
-  started : Asks terms [] (command_text (codes "Common.GetCommandNonce") 1 empty ∷ [])
+  started : HasAsked terms [] (command_text (codes "Common.GetCommandNonce") 1 empty ∷ [])
   -- a text after which it waits
-  waited : {texts asks : List (List ℕ)} → Asks terms texts asks
+  waited : {texts asks : List (List ℕ)} → HasAsked terms texts asks
       → (text : List ℕ) → IsMove terms (step_in (conversation texts) text) move.Wait
-      → Asks terms (texts ++ text ∷ []) asks
+      → HasAsked terms (texts ++ text ∷ []) asks
   -- a text after which it asks
-  asked : {texts asks : List (List ℕ)} → Asks terms texts asks
+  asked : {texts asks : List (List ℕ)} → HasAsked terms texts asks
       → (text ask : List ℕ) → IsMove terms (step_in (conversation texts) text) (move.Ask ask)
-      → Asks terms (texts ++ text ∷ []) (asks ++ ask ∷ [])
+      → HasAsked terms (texts ++ text ∷ []) (asks ++ ask ∷ [])
 
 -- a withdrawal that took these texts and sent these asks ended so
-pub data Ends (terms : Terms) : Ending → List (List ℕ) → List (List ℕ) → Type 0 where
+pub data EndsAs (terms : Terms) : Ending → List (List ℕ) → List (List ℕ) → Type 0 where
   -- at its last text
-  at_text : {texts asks : List (List ℕ)} → Asks terms texts asks
+  at_text : {texts asks : List (List ℕ)} → HasAsked terms texts asks
       → (text : List ℕ) (ending : Ending) → ending_of (step_in (conversation texts) text) ≡ Some ending
-      → Ends terms ending (texts ++ text ∷ []) asks
+      → EndsAs terms ending (texts ++ text ∷ []) asks
   -- where it waited for a text
-  waiting : {texts asks : List (List ℕ)} → Asks terms texts asks
+  waiting : {texts asks : List (List ℕ)} → HasAsked terms texts asks
       → (ending : Ending) → is_cut_off ending ≡ true
-      → Ends terms ending texts asks
+      → EndsAs terms ending texts asks
   -- without memory to hear its last text
-  unheard : {texts asks : List (List ℕ)} → Asks terms texts asks
+  unheard : {texts asks : List (List ℕ)} → HasAsked terms texts asks
       → (text : List ℕ)
-      → Ends terms Memory (texts ++ text ∷ []) asks
+      → EndsAs terms Memory (texts ++ text ∷ []) asks
   -- where its last ask wasn't sent
-  unsent : {texts asks : List (List ℕ)} (ask : List ℕ) → Asks terms texts (asks ++ ask ∷ [])
+  unsent : {texts asks : List (List ℕ)} (ask : List ℕ) → HasAsked terms texts (asks ++ ask ∷ [])
       → (fault : GiveFault)
-      → Ends terms (give_ending fault) texts asks
+      → EndsAs terms (give_ending fault) texts asks
 
 -- whether the link told that it is closed
 abbrev pub was_closed : Option Ending → Bool
@@ -96,15 +96,15 @@ pub record LinkTells (l : LinkLog) (ending : Option Ending) (texts asks : List (
 pub record Withdraws (terms : Terms) (ending : Ending) (l : LinkLog) : Type 0 where
   pub texts : List (List ℕ)
   pub asks : List (List ℕ)
-  pub ends : Ends terms ending texts asks
+  pub ends : EndsAs terms ending texts asks
   pub tells : LinkTells l (Some ending) texts asks
 
 -- the withdrawal over the link goes on, and heard a quiet so often
-pub record GoesOn (w : Withdrawing) (quiets : ℕ) (l : LinkLog) : Type 0 where
+pub record IsUnderWay (w : Withdrawing) (quiets : ℕ) (l : LinkLog) : Type 0 where
   pub texts : List (List ℕ)
   pub asks : List (List ℕ)
   pub heard : HasHeard w texts
-  pub has_asks : Asks w.terms texts asks
+  pub has_asks : HasAsked w.terms texts asks
   pub tells : LinkTells l None texts asks
   pub count : l.quiets ≡ quiets
 
@@ -113,6 +113,6 @@ pub record HasTaken (w : Withdrawing) (quiets : ℕ) (text : List ℕ) (l : Link
   pub texts : List (List ℕ)
   pub asks : List (List ℕ)
   pub heard : HasHeard w texts
-  pub has_asks : Asks w.terms texts asks
+  pub has_asks : HasAsked w.terms texts asks
   pub tells : LinkTells l None (texts ++ text ∷ []) asks
   pub count : l.quiets ≡ quiets

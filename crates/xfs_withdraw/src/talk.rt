@@ -1,7 +1,7 @@
 ghost use Rattle.std.specs.Prelude.{◌≡◌, [], OnOk, IfErr};
-ghost use Rattle.xfs_client.specs.Desks.{Keeps};
+ghost use Rattle.xfs_client.specs.Desks.{Recalls};
 ghost use Rattle.xfs_server.specs.Links.{IsFresh};
-ghost use Rattle.xfs_withdraw.specs.Talks.{GoesOn, HasTaken, Withdraws};
+ghost use Rattle.xfs_withdraw.specs.Talks.{IsUnderWay, HasTaken, Withdraws};
 
 use crate::Ending;
 use std::sync::Wait;
@@ -20,7 +20,7 @@ pub fn talk<R: Wait, L: Link, C: Clock>(
     link: &mut L,
     clock: &C,
 ) -> Ending
-    requires desk { Keeps withdrawal.old.desk [] }
+    requires desk { Recalls withdrawal.old.desk [] }
     requires link { IsFresh (L.log link.old) }
     ensures { Withdraws withdrawal.old.terms result (L.log link.new) }
 {
@@ -32,9 +32,9 @@ pub fn talk<R: Wait, L: Link, C: Clock>(
 
 // Sends the first ask.
 fn begin<L: Link>(withdrawal: &mut Withdrawal, link: &mut L) -> Result<(), Ending>
-    requires desk { Keeps withdrawal.old.desk [] }
+    requires desk { Recalls withdrawal.old.desk [] }
     requires link { IsFresh (L.log link.old) }
-    ensures ok { OnOk result (GoesOn withdrawal.new 0 (L.log link.new)) }
+    ensures ok { OnOk result (IsUnderWay withdrawal.new 0 (L.log link.new)) }
     ensures err { IfErr result (λ ending. Withdraws withdrawal.old.terms ending (L.log link.new)) }
     ensures terms { withdrawal.new.terms ≡ withdrawal.old.terms }
 {
@@ -50,7 +50,7 @@ fn go_on<R: Wait, L: Link, C: Clock>(
     link: &mut L,
     clock: &C,
 ) -> Ending
-    requires { GoesOn withdrawal.old 0 (L.log link.old) }
+    requires { IsUnderWay withdrawal.old 0 (L.log link.old) }
     ensures { Withdraws withdrawal.old.terms result (L.log link.new) }
 {
     let mut quiets = 0;
@@ -69,8 +69,8 @@ fn turn<L: Link, C: Clock>(
     link: &mut L,
     clock: &C,
 ) -> Result<(), Ending>
-    requires { GoesOn withdrawal.old quiets.old (L.log link.old) }
-    ensures ok { OnOk result (GoesOn withdrawal.new quiets.new (L.log link.new)) }
+    requires { IsUnderWay withdrawal.old quiets.old (L.log link.old) }
+    ensures ok { OnOk result (IsUnderWay withdrawal.new quiets.new (L.log link.new)) }
     ensures err { IfErr result (λ ending. Withdraws withdrawal.old.terms ending (L.log link.new)) }
     ensures terms { withdrawal.new.terms ≡ withdrawal.old.terms }
 {
@@ -98,7 +98,7 @@ fn hear<L: Link>(
     text: &Bytes,
 ) -> Result<(), Ending>
     requires { HasTaken withdrawal.old quiets text.now (L.log link.old) }
-    ensures ok { OnOk result (GoesOn withdrawal.new quiets (L.log link.new)) }
+    ensures ok { OnOk result (IsUnderWay withdrawal.new quiets (L.log link.new)) }
     ensures err { IfErr result (λ ending. Withdraws withdrawal.old.terms ending (L.log link.new)) }
     ensures terms { withdrawal.new.terms ≡ withdrawal.old.terms }
 {

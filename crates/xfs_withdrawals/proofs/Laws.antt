@@ -1,7 +1,7 @@
 -- A Dispense that its token covers is completed, and a Present.
 use Rattle.std.proofs.Common.{◌≡◌, ◌≤◌, ◌+◌, ◌*◌, ℕ, false, List, [], ◌∷◌, ◌++◌, length, Some, ap, sym, subst, ◌∙◌, arith, append_assoc}
 use Rattle.xfs_dispenser.specs.Answers.{CashAnswer, done, plain_answer, planned}
-use Rattle.xfs_dispenser.specs.Complete.{IsBegunInFull, IsComplete, IsGiven, IsPresented, Turns}
+use Rattle.xfs_dispenser.specs.Complete.{IsBegunInFull, IsComplete, IsGiven, IsPresented, WorksTurns}
 use Rattle.xfs_dispenser.specs.Denominations.{denomination_answer}
 use Rattle.xfs_dispenser.specs.Plans.{dispense_plan, order_plan}
 use Rattle.xfs_dispenser.specs.Seen.{Seen}
@@ -105,7 +105,7 @@ module _ (complete : IsComplete) (t : Turning) where
       let h = b.begun in
       let o = worked_through Present d.next b (order_plan Ask.Present) 3 h.begins.2 h.begins.1 tt enough in
       let calm = calm-first t.start.seen o.next t.last.seen o.later t.calm in
-      let turns : Turns 3 t.start.seen (order_plan Ask.Present) o.next o.went = subst (λ x. Turns 3 x (order_plan Ask.Present) o.next o.went) h.begins.0 o.turns in
+      let turns : WorksTurns 3 t.start.seen (order_plan Ask.Present) o.next o.went = subst (λ x. WorksTurns 3 x (order_plan Ask.Present) o.next o.went) h.begins.0 o.turns in
       let full = complete.present t.start.seen h.bound o.next h.after h.start o.went d.next.at_rest.settled d.ready calm h.begins o.turns in
       let moved = full.2 in
       let answered = o.answers (plain_answer Success) moved.is in

@@ -7,7 +7,7 @@ use Rattle.xfs_dispenser.specs.Plans.{stacks}
 use Rattle.xfs_dispenser.specs.Units.{units_with}
 use Rattle.xfs_guard.specs.declared.ask.Ask.TheVariants.{Stack}
 use Rattle.xfs_dispenser.specs.Seen.{Seen}
-use Rattle.xfs_dispenser.specs.Steps.{DoesFirst, IsDenied, IsUnwritten, Works, WorksOn, order_record, refusal_of}
+use Rattle.xfs_dispenser.specs.Steps.{DoesFirst, IsDenied, FailsToWrite, Works, WorksOn, order_record, refusal_of}
 use Rattle.xfs_dispenser.specs.declared.part.Part.{Part}
 use Rattle.xfs_dispenser.specs.declared.part.Part.TheVariants.{Order, Restore, Load, Note}
 use Rattle.xfs_dispenser.specs.declared.plan.Plan.{Plan}
@@ -45,7 +45,7 @@ pub record KeepsLife (s next : Seen) (left : Plan) : Type 0 where
 same_life : (s next : Seen) (v : View) → next.guard ≡ v → v.boot_missing ≡ s.guard.boot_missing → live_nonce v.records ≡ live_nonce s.guard.records → is_live next ≡ is_live s
 same_life s next v is booted same = rw (is, booted, same) refl
 
-refused_life : (s next : Seen) (ask : Ask) (went : Went) → IsDenied s (refusal_of s.guard ask) next went ⊎ IsUnwritten s (refusal_of s.guard ask) (order_record s.guard ask) next went → is_live next ≡ is_live s
+refused_life : (s next : Seen) (ask : Ask) (went : Went) → IsDenied s (refusal_of s.guard ask) next went ⊎ FailsToWrite s (refusal_of s.guard ask) (order_record s.guard ask) next went → is_live next ≡ is_live s
 refused_life s next ask went (inl d) = ap is_live d.same
 refused_life s next ask went (inr u) = same_life s next _ u.fails.becomes.guard_is refl refl
 

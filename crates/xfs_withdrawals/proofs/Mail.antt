@@ -9,13 +9,11 @@ use Rattle.xfs_model.specs.Conversations.{frames_after, is_pass_of}
 use Rattle.xfs_model.specs.Events.{handed, outbox}
 use Rattle.xfs_model.specs.State.{Connection, Pass, State}
 use Rattle.xfs_model.specs.Step.{HandsOver}
+use Rattle.xfs_model.proofs.Changes.{same_some}
 use Rattle.xfs_model.proofs.Keeping.{IsOpen, is_open, same_client}
 use Rattle.xfs_model.proofs.Lists.{find-map, found_passes}
 use Rattle.xfs_model.proofs.Talks.{client_with_mail}
 use Rattle.xfs_withdrawals.specs.Turning.{IsConnected}
-
-same_some : {X : Type 0} (x y : X) → Some x ≡ Some y → x ≡ y
-same_some x y e = cc
 
 -- a client's connection behind a change of all connections
 found_behind : (s new : State) (mine : ClientId) (f : Connection → Connection) (k : Connection) → ((j : Connection) → (f j).client ≡ j.client) → new.connections ≡ map f s.connections

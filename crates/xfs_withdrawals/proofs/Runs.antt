@@ -3,7 +3,7 @@ use Rattle.std.proofs.Common.{◌≡◌, ◌≤◌, ℕ, zero, suc, ◌&&◌, no
 use Rattle.xfs_base.specs.declared.moment.ClientId.{ClientId}
 use Rattle.xfs_base.specs.declared.moment.Service.TheVariants.{Cash}
 use Rattle.xfs_dispenser.specs.Answers.{CashAnswer, Went, done, more}
-use Rattle.xfs_dispenser.specs.Complete.{Turns}
+use Rattle.xfs_dispenser.specs.Complete.{WorksTurns}
 use Rattle.xfs_dispenser.specs.Begins.{Begins}
 use Rattle.xfs_dispenser.specs.Seen.{Seen}
 use Rattle.xfs_dispenser.specs.Steps.{Works}
@@ -108,7 +108,7 @@ module _ (base : State) where
   pub record IsWorkedOn (m : ℕ) (s : Seen) (plan : Plan) (a : Command Job) (last : State) (waiting frames : List (List ℕ)) : Type 0 where
     pub next : Seen
     pub went : Went
-    pub turns : Turns m s plan next went
+    pub turns : WorksTurns m s plan next went
     pub later : IsLater next last.seen
     pub answers : (answer : CashAnswer) → went ≡ done answer → IsAnswered a answer last waiting frames next
 
@@ -126,7 +126,7 @@ module _ (base : State) where
   heard_on m s next plan a last before frames later waiting joined same o = record {
     next = o.next;
     went = o.went;
-    turns = subst (λ x. Turns m x plan o.next o.went) same o.turns;
+    turns = subst (λ x. WorksTurns m x plan o.next o.went) same o.turns;
     later = o.later;
     answers = λ answer is. answered_heard a answer last before frames later waiting o.next o.next joined refl (o.answers answer is);
   }

@@ -2,7 +2,7 @@
 use Rattle.std.proofs.Common.{◌≡◌, ◌∙◌, ◌<◌, ◌^◌, ℕ, refl, sym, ap, ap₂, subst, arith, List, Option, Some, None, Result, Ok, Err, codes, slice_index}
 use Rattle.clap.specs.Walk.{Row, Text, first_of}
 use Rattle.xfs_base.specs.Values.{IsCurrency}
-use Rattle.xfs_words.specs.Table.{HasNumber, IsMadeOf, IsWithdrawal}
+use Rattle.xfs_words.specs.Table.{HasNumber, IsMadeOf, MakesWithdrawal}
 use Rattle.xfs_words.specs.declared.command.Command.{Command}
 use Rattle.xfs_words.specs.declared.command.Command.TheVariants.{Load, Serve, Client}
 use Rattle.xfs_words.specs.declared.command.WordsFault.{WordsFault}
@@ -47,11 +47,7 @@ serve_made name rows result k is gives found = record {
 
 -- ---- the command `client`
 
--- the answer is the withdrawal of the currency and the number that were found
-abbrev pub Withdraws : List Row → Result Command WordsFault → Type 0
-Withdraws rows result = (letters : List ℕ) (n : ℕ) → first_of (codes "currency") rows ≡ Some letters → HasNumber 1000000 rows n → IsWithdrawal letters n result
-
-pub no_letters : (rows : List Row) → None ≡ first_of (codes "currency") rows → Withdraws rows (Err Usage)
+pub no_letters : (rows : List Row) → None ≡ first_of (codes "currency") rows → MakesWithdrawal rows (Err Usage)
 no_letters rows none letters n found has =
     let clash : ◌≡◌ {A = Option Text} None (Some letters) = none ∙ found in
     cc
@@ -61,11 +57,11 @@ same_letters rows text letters is found =
     let both : ◌≡◌ {A = Option Text} (Some text) (Some letters) = is ∙ found in
     cc
 
-pub other_letters : (rows : List Row) (text : Text) → Some text ≡ first_of (codes "currency") rows → ¬ (IsCurrency text) → Withdraws rows (Err Usage)
+pub other_letters : (rows : List Row) (text : Text) → Some text ≡ first_of (codes "currency") rows → ¬ (IsCurrency text) → MakesWithdrawal rows (Err Usage)
 other_letters rows text is other letters n found has = (refl, λ valid. other (subst IsCurrency (sym (same_letters rows text letters is found)) valid))
 
 pub withdrawal_made : (rows : List Row) (text currency : Text) (result : Result ℕ WordsFault) (k : ℕ) → Some text ≡ first_of (codes "currency") rows → currency ≡ text → IsCurrency text
-    → GivesNumber rows result → result ≡ Ok k → Withdraws rows (Ok (Client currency k))
+    → GivesNumber rows result → result ≡ Ok k → MakesWithdrawal rows (Ok (Client currency k))
 withdrawal_made rows text currency result k is same valid gives got letters n found has =
     let letters_are = same_letters rows text letters is found in
     (subst IsCurrency letters_are valid, ap₂ (λ c i. Client c i) (same ∙ letters_are) (same_number rows result k 1000000 n gives got (omega arith) has))

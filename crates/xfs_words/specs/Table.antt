@@ -99,6 +99,10 @@ abbrev pub IsWithdrawal : Text → ℕ → Result Command WordsFault → Type 0
 IsWithdrawal letters amount result = MatchResult result (λ command. IsCurrency letters × (command ≡ Client letters amount))
     (λ fault. (fault ≡ Usage) × ¬ (IsCurrency letters))
 
+-- the letters and the number that were found make a withdrawal, or a fault
+abbrev pub MakesWithdrawal : List Row → Result Command WordsFault → Type 0
+MakesWithdrawal rows result = (letters : Text) (n : ℕ) → first_of (codes "currency") rows ≡ Some letters → HasNumber 1000000 rows n → IsWithdrawal letters n result
+
 -- the answer is the command of that name, with what was found for it
 pub record IsMadeOf (name : Text) (rows : List Row) (result : Result Command WordsFault) : Type 0 where
   pub guard : name ≡ codes "guard" → result ≡ Ok Guard
@@ -106,8 +110,7 @@ pub record IsMadeOf (name : Text) (rows : List Row) (result : Result Command Wor
   pub replay : name ≡ codes "replay" → result ≡ Ok Replay
   pub load : name ≡ codes "load" → (n : ℕ) → HasNumber 10000 rows n → result ≡ Ok (Load n)
   pub serve : name ≡ codes "serve" → (n : ℕ) → HasNumber 1000000 rows n → result ≡ Ok (Serve n)
-  pub client : name ≡ codes "client" → (letters : Text) (n : ℕ) → first_of (codes "currency") rows ≡ Some letters
-      → HasNumber 1000000 rows n → IsWithdrawal letters n result
+  pub client : name ≡ codes "client" → MakesWithdrawal rows result
   pub host : name ≡ codes "host" → result ≡ Ok Host
   pub audit : name ≡ codes "audit" → result ≡ Ok Audit
   pub fleet : name ≡ codes "fleet" → result ≡ Ok Fleet

@@ -24,7 +24,7 @@ pub record IsNumbered (name : List ℕ) (most : ℕ) (words : List (List ℕ)) (
   pub number : IsNumber most text n
 
 -- the words are `client`, three letters A to Z and an amount
-pub record IsClient (words : List (List ℕ)) (currency : List ℕ) (amount : ℕ) : Type 0 where
+pub record NamesClient (words : List (List ℕ)) (currency : List ℕ) (amount : ℕ) : Type 0 where
   pub text : List ℕ
   pub words_are : words ≡ codes "client" ∷ currency ∷ text ∷ []
   pub letters : IsCurrency currency
@@ -37,7 +37,7 @@ Names Token words = words ≡ codes "token" ∷ []
 Names Replay words = words ≡ codes "replay" ∷ []
 Names (Load rounds) words = IsNumbered (codes "load") 10000 words rounds
 Names (Serve connections) words = IsNumbered (codes "serve") 1000000 words connections
-Names (Client currency amount) words = IsClient words currency amount
+Names (Client currency amount) words = NamesClient words currency amount
 Names Host words = words ≡ codes "host" ∷ []
 Names Audit words = words ≡ codes "audit" ∷ []
 Names Fleet words = words ≡ codes "fleet" ∷ []

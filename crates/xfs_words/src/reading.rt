@@ -2,7 +2,7 @@
 
 ghost use Rattle.std.specs.Prelude.{◌≡◌, ◌↔◌, ◌<◌, ◌^◌, [], ℕ, IfErr, IfOk, IsTrue, List, Ok, Some, codes};
 ghost use Rattle.clap.specs.Words.{fault_of, first_of, found_of, rows_of, subcommand_of, subcommand_rows_of};
-ghost use Rattle.xfs_words.specs.Table.{HasName, HasNumber, IsMadeOf, IsName, IsWithdrawal, begins_with_hyphen, is_plain, table};
+ghost use Rattle.xfs_words.specs.Table.{HasName, HasNumber, IsMadeOf, IsName, MakesWithdrawal, begins_with_hyphen, is_plain, table};
 ghost use Rattle.xfs_words.specs.Words.{Names, texts};
 ghost use Rattle.xfs_words.specs.declared.command.Command.{Command};
 ghost use Rattle.xfs_words.specs.declared.command.WordsFault.TheVariants.{Usage};
@@ -96,8 +96,7 @@ fn command(name: &str, found: &ArgMatches<'_>) -> Result<Command, WordsFault>
 }
 
 fn client(found: &ArgMatches<'_>) -> Result<Command, WordsFault>
-    ensures { (letters : List ℕ) (n : ℕ) → first_of (codes "currency") (rows_of (found_of found.now)) ≡ Some letters
-        → HasNumber 1000000 (rows_of (found_of found.now)) n → IsWithdrawal letters n result }
+    ensures { MakesWithdrawal (rows_of (found_of found.now)) result }
 {
     let Some(letters) = found.get_str("currency") else {
         return Err(WordsFault::Usage);

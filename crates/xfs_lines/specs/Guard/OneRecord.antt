@@ -11,7 +11,7 @@ use Rattle.xfs_dispenser.specs.declared.refusal.Refusal.{Refusal}
 use Rattle.xfs_dispenser.specs.declared.refusal.Refusal.TheVariants.{Deny as Denied}
 
 -- the line is this refusal's, and nothing changes
-pub record IsRefused (s : GuardState) (refusal : Refusal) (line : List ℕ) (next : GuardState) : Type 0 where
+pub record IsRefusalLine (s : GuardState) (refusal : Refusal) (line : List ℕ) (next : GuardState) : Type 0 where
   pub text : refusal_text refusal ≡ Some line
   pub same : next ≡ s
 
@@ -27,10 +27,10 @@ pub record IsDone (s : GuardState) (now : View) (text line : List ℕ) (next : G
 
 -- a line that writes a record: it is refused for this; where nothing refuses it, the disk fails at the record, or the record is kept, and this is the guard then and the line
 abbrev pub WritesOne : GuardState → Option Deny → Rec → View → List ℕ → List ℕ → GuardState → Type 0
-WritesOne s (Some deny) r kept text line next = IsRefused s (Denied deny) line next
+WritesOne s (Some deny) r kept text line next = IsRefusalLine s (Denied deny) line next
 WritesOne s None r kept text line next = IsInDoubt s r line next ⊎ IsDone s kept text line next
 
 -- a line that has nothing to write: it is refused for this, or the line is this text
 abbrev pub WritesNone : GuardState → Option Deny → List ℕ → List ℕ → GuardState → Type 0
-WritesNone s (Some deny) text line next = IsRefused s (Denied deny) line next
+WritesNone s (Some deny) text line next = IsRefusalLine s (Denied deny) line next
 WritesNone s None text line next = (line ≡ text) × (next ≡ s)

@@ -19,7 +19,7 @@ use Rattle.xfs_script.specs.declared.guard_line.GuardLine.{GuardLine}
 use Rattle.xfs_script.specs.declared.guard_line.GuardLine.TheVariants.{Skip, Issue, Clear, Mint, Dispense, Fill, Present, Reject, Retract, Take, Restart, Show}
 use Rattle.xfs_lines.specs.Guard.Texts.{outcome_text, show_lines}
 use Rattle.xfs_lines.specs.Guard.States.{GuardState}
-use Rattle.xfs_lines.specs.Guard.OneRecord.{IsRefused, WritesOne, WritesNone}
+use Rattle.xfs_lines.specs.Guard.OneRecord.{IsRefusalLine, WritesOne, WritesNone}
 use Rattle.xfs_lines.specs.Guard.Moves.{MechCalled, Moves}
 use Rattle.xfs_lines.specs.Guard.Dispenses.{DispensesFor}
 use Rattle.xfs_lines.specs.Guard.Restarts.{Restarts}
@@ -70,7 +70,7 @@ FillRefused v unit count other = ⊥
 pub record IsUnfilled (s : GuardState) (unit count : ℕ) (line : List ℕ) (next : GuardState) : Type 0 where
   pub refusal : Refusal
   pub cause : FillRefused s.guard unit count refusal
-  pub refused : IsRefused s refusal line next
+  pub refused : IsRefusalLine s refusal line next
 
 -- a loading that was noted, or failed
 abbrev pub IsNoted : GuardState → Outcome → ℕ → ℕ → List ℕ → GuardState → Type 0

@@ -38,11 +38,11 @@ reply_text (reply.UsedNonce tx) = codes "refused nonce used " ++ decimal tx
 reply_text (reply.Poor balance) = codes "refused balance " ++ decimal balance.0
 
 -- an account that may be opened is opened; another changes nothing
-abbrev pub IsOpened : State → Option OpenFault → Call → List ℕ → State → Type 0
-IsOpened s None call answer next = (answer ≡ codes "opened") × (next ≡ with_call s call)
-IsOpened s (Some opening.Known) call answer next = (answer ≡ codes "known") × (next ≡ s)
-IsOpened s (Some opening.Limit) call answer next = (answer ≡ codes "full") × (next ≡ s)
-IsOpened s (Some opening.Memory) call answer next = ⊥
+abbrev pub OpensAccount : State → Option OpenFault → Call → List ℕ → State → Type 0
+OpensAccount s None call answer next = (answer ≡ codes "opened") × (next ≡ with_call s call)
+OpensAccount s (Some opening.Known) call answer next = (answer ≡ codes "known") × (next ≡ s)
+OpensAccount s (Some opening.Limit) call answer next = (answer ≡ codes "full") × (next ≡ s)
+OpensAccount s (Some opening.Memory) call answer next = ⊥
 
 -- the answer is the reply that is due after the history, and this ask is behind it then
 pub record IsReplied (s : State) (t : Terms) (answer : List ℕ) (next : State) : Type 0 where
@@ -59,7 +59,7 @@ IsAsked s (Some asking.Memory) t answer next = ⊥
 
 -- the answer to `open`
 abbrev pub AnswersOpen : State → ℕ → List ℕ → ℕ → List ℕ → State → Type 0
-AnswersOpen s account currency balance answer next = IsOpened s (open_refusal (book_of s.calls) account) (Opened account currency balance) answer next
+AnswersOpen s account currency balance answer next = OpensAccount s (open_refusal (book_of s.calls) account) (Opened account currency balance) answer next
 
 -- the answer to `ask`
 abbrev pub AnswersAsk : State → Terms → List ℕ → State → Type 0

@@ -1,10 +1,9 @@
 //! The command `replay`.
 
-ghost use Rattle.std.specs.Prelude.{◌≢◌};
 ghost use Rattle.xfs_guard.specs.Starts.{Starts};
 ghost use Rattle.xfs_cli.specs.Replay.Runs.{RunsReplay};
-ghost use Rattle.xfs_lines.specs.Returns.{back, second_back, ComesBack};
-ghost use Rattle.xfs_lines.specs.Output.Statuses.{IsCaused, IsStatus};
+ghost use Rattle.xfs_lines.specs.Ends.{EndsLines};
+ghost use Rattle.xfs_lines.specs.Returns.{back};
 ghost use Rattle.xfs_script.specs.Streams.{io_of};
 ghost use Rattle.xfs_lines.specs.Headlines.{EndsWell};
 
@@ -13,7 +12,6 @@ use std::alloc::Global;
 use xfs_base::{Sink, Source};
 use xfs_disk::Disk;
 use xfs_guard::Bench;
-use xfs_lines::status::USAGE;
 use xfs_lines::{Ended, answer_input, cores_of, give_back, give_back_unbooted};
 use xfs_machine::Machine;
 use xfs_mech::{Mechanism, Watch};
@@ -28,10 +26,7 @@ pub fn replay<S: Source, K: Sink, M: Mechanism, D: Disk, P: Watch, Q: Watch>(
     requires starts { Starts M.Mechanism D.Disk bench.core }
     ensures ends { EndsWell M.Mechanism D.Disk bench.core (back result) }
     ensures runs { RunsReplay M.Mechanism D.Disk bench.core (back result) (io_of S.Source K.Sink source.old source.new sink.old sink.new) }
-    ensures usage { result.status ≢ USAGE }
-    ensures statuses { IsStatus result.status }
-    ensures causes { IsCaused result.status (io_of S.Source K.Sink source.old source.new sink.old sink.new) }
-    ensures second { ComesBack bench.second (second_back result) }
+    ensures ends_lines { EndsLines bench.second result (io_of S.Source K.Sink source.old source.new sink.old sink.new) }
 {
     let (core, second) = cores_of(bench);
     let key = core.key;

@@ -9,6 +9,6 @@ loop-at-preserved c =
     record {
       long = i.long;
       few = i.few;
-      listed = currencies-step c.args.units.now c.args.counts.now c.loop-at.at _ c.index-kinds-at.result (members_view c.loop-at.members.entries) (members_view c.put_currency.new.members.entries) _
+      listed = currencies-step c.args.units.now c.args.counts.now c.loop-at.at _ c.index-kinds-at.result (members_view c.loop-at.members.entries) (members_view c.put_currency.new.map.entries) _
           (rw c.kinds-kinds.ensures.now at c.loop-at-test.true) (rw c.kinds-kinds.ensures.now at c.index-kinds-at.is) (omega (arith, i.long, i.few, rw c.kinds-kinds.ensures.now at c.loop-at-test.true)) refl c.in_ok-put_currency.ensures.none c.in_ok-put_currency.ensures.some i.listed;
     }

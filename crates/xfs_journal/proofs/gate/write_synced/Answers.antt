@@ -1,7 +1,7 @@
 use Rattle.std.proofs.Common.{length}
 use Rattle.xfs_journal.specs.Gate.{MayBecome}
 use Rattle.xfs_journal.proofs.Moments.{started, goes_on}
-use Rattle.xfs_journal.proofs.Opening.{torn_same}
+use Rattle.xfs_disk.proofs.Crash.{torn_same}
 use Rattle.xfs_journal.proofs.gate.write_synced.Goals as goal
 
 pub returns-in_err-write_at-clause-any_moment : goal.returns-in_err-write_at-clause-any_moment

@@ -5,7 +5,8 @@ ghost use Rattle.xfs_base.specs.Causes.{IfTold, Rose};
 ghost use Rattle.xfs_script.specs.Lines.{AllLines, StopsAtLine};
 ghost use Rattle.xfs_lines.specs.Audit.Runs.{Audits, Judges, RunsAudit};
 ghost use Rattle.xfs_lines.specs.Audit.Verbs.{IsLineOfAudit, handed_of};
-ghost use Rattle.xfs_lines.specs.Returns.{back, second_back, ComesBack};
+ghost use Rattle.xfs_lines.specs.Ends.{EndsLines};
+ghost use Rattle.xfs_lines.specs.Returns.{back, ComesBack};
 ghost use Rattle.xfs_lines.specs.Output.Statuses.{IsCaused, IsStatus};
 ghost use Rattle.xfs_script.specs.Streams.{io_of};
 
@@ -32,10 +33,7 @@ pub fn audit<S: Source, K: Sink, M: Mechanism, D: Disk, P: Watch, Q: Watch>(
 ) -> Ended<M, D, ()>
     ensures kept { ComesBack bench.core (back result) }
     ensures runs { RunsAudit bench.core (back result) (io_of S.Source K.Sink source.old source.new sink.old sink.new) }
-    ensures usage { result.status ≢ USAGE }
-    ensures statuses { IsStatus result.status }
-    ensures causes { IsCaused result.status (io_of S.Source K.Sink source.old source.new sink.old sink.new) }
-    ensures second { ComesBack bench.second (second_back result) }
+    ensures ends_lines { EndsLines bench.second result (io_of S.Source K.Sink source.old source.new sink.old sink.new) }
 {
     let status = judge(alloc, &bench.core.key, &bench.core.units, source, sink);
     give_back_untouched(bench, status, None)

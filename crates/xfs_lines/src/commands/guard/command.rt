@@ -1,18 +1,16 @@
 //! The command `guard`.
 
-ghost use Rattle.std.specs.Prelude.{◌≢◌};
 ghost use Rattle.xfs_guard.specs.Outcomes.{HandsBack};
 ghost use Rattle.xfs_guard.specs.Starts.{Starts};
 ghost use Rattle.xfs_lines.specs.Guard.Runs.{RunsGuard};
-ghost use Rattle.xfs_lines.specs.Returns.{back, second_back, ComesBack};
-ghost use Rattle.xfs_lines.specs.Output.Statuses.{IsCaused, IsStatus};
+ghost use Rattle.xfs_lines.specs.Ends.{EndsLines};
+ghost use Rattle.xfs_lines.specs.Returns.{back};
 ghost use Rattle.xfs_script.specs.Streams.{io_of};
 ghost use Rattle.xfs_lines.specs.Headlines.{EndsWell};
 
 use crate::commands::guard::player::GuardPlayer;
 use crate::ended::{Ended, cores_of, give_back, give_back_unbooted};
 use crate::input::answer_input;
-use crate::output::status::USAGE;
 use std::alloc::Global;
 use xfs_base::{Sink, Source};
 use xfs_disk::Disk;
@@ -30,10 +28,7 @@ pub fn guard<S: Source, K: Sink, M: Mechanism, D: Disk, P: Watch, Q: Watch>(
     requires starts { Starts M.Mechanism D.Disk bench.core }
     ensures ends { EndsWell M.Mechanism D.Disk bench.core (back result) }
     ensures runs { RunsGuard M.Mechanism D.Disk bench.core (back result) (io_of S.Source K.Sink source.old source.new sink.old sink.new) }
-    ensures usage { result.status ≢ USAGE }
-    ensures statuses { IsStatus result.status }
-    ensures causes { IsCaused result.status (io_of S.Source K.Sink source.old source.new sink.old sink.new) }
-    ensures second { ComesBack bench.second (second_back result) }
+    ensures ends_lines { EndsLines bench.second result (io_of S.Source K.Sink source.old source.new sink.old sink.new) }
 {
     let (core, second) = cores_of(bench);
     let Core {

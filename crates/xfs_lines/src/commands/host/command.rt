@@ -1,15 +1,13 @@
 //! The command `host`.
 
-ghost use Rattle.std.specs.Prelude.{◌≢◌};
 ghost use Rattle.xfs_lines.specs.Host.Runs.{RunsHost};
-ghost use Rattle.xfs_lines.specs.Returns.{back, second_back, ComesBack};
-ghost use Rattle.xfs_lines.specs.Output.Statuses.{IsCaused, IsStatus};
+ghost use Rattle.xfs_lines.specs.Ends.{EndsLines};
+ghost use Rattle.xfs_lines.specs.Returns.{back, ComesBack};
 ghost use Rattle.xfs_script.specs.Streams.{io_of};
 
 use crate::commands::host::answer::Bank;
 use crate::ended::{Ended, give_back_untouched};
 use crate::input::answer_input;
-use crate::output::status::USAGE;
 use std::alloc::Global;
 use xfs_base::{Sink, Source};
 use xfs_disk::Disk;
@@ -27,10 +25,7 @@ pub fn host<S: Source, K: Sink, M: Mechanism, D: Disk, P: Watch, Q: Watch>(
 ) -> Ended<M, D, ()>
     ensures kept { ComesBack bench.core (back result) }
     ensures runs { RunsHost bench.core (back result) (io_of S.Source K.Sink source.old source.new sink.old sink.new) }
-    ensures usage { result.status ≢ USAGE }
-    ensures statuses { IsStatus result.status }
-    ensures causes { IsCaused result.status (io_of S.Source K.Sink source.old source.new sink.old sink.new) }
-    ensures second { ComesBack bench.second (second_back result) }
+    ensures ends_lines { EndsLines bench.second result (io_of S.Source K.Sink source.old source.new sink.old sink.new) }
 {
     let mut bank = Bank {
         alloc,

@@ -1,11 +1,11 @@
 use Rattle.std.proofs.Common.{◌≡◌, sym, ◌∙◌}
 use Rattle.std.proofs.lemmas.Result.{IfOk-weaker}
-use Rattle.xfs_evidence.proofs.Texts.{evidence-IsUtf8}
+use Rattle.xfs_token.proofs.Ascii.{spelled-IsUtf8}
 use Rattle.xfs_machine.proofs.Presents.{tells_no_issue, tells_token, tells_unsettled}
 use Rattle.xfs_machine.proofs.present_status.tell_evidence.Goals as goal
 
 pub tell_token-requires : goal.tell_token-requires
-tell_token-requires g c = rw (c.deref.ensures.value) (evidence-IsUtf8 _ _ _ _ _ c.in-Ok.ensures.ok)
+tell_token-requires g c = rw (c.deref.ensures.value) (spelled-IsUtf8 _ _ c.in-Ok.ensures.ok.told.genuine.spelled)
 
 pub returns-in-Ok : goal.returns-in-Ok
 returns-in-Ok g c = IfOk-weaker c.tell_token.result _ _ (λ result told.

@@ -14,7 +14,7 @@ use Rattle.xfs_guard.proofs.StartLaws.{at_rest-memory}
 use Rattle.xfs_scripts.proofs.bench.cut_off.Goals as goal
 
 -- what a run upholds is what the next one starts from
-upheld-starts : (key : List ℕ) (units : List NoteKind) (L L' : Option (List Motion)) (P P' : Places) (c : List ℕ) (J : List Rec) → Upholds key units [] L P c L' P' → StandsFor c J → IsRecorded key units J L'
+upheld-starts : (key : List ℕ) (units : List NoteKind) (L L' : Option (List Motion)) (P P' : Places) (c : List ℕ) (J : List Rec) → Upholds key units [] L P c L' P' → StandsFor c J → IsRecorded key units L' J
 upheld-starts key units L L' P P' c J upheld stands = rw (stands_for_one c J upheld.records stands upheld.stands) upheld.recorded
 
 pub returns : goal.returns

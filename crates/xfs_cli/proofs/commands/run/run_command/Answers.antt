@@ -9,11 +9,11 @@ returns-in-Guard-clause-runs g c =
     rw (c.in-Guard.is, c.linkless.ensures) (record {
       ends = e.ends;
       runs = e.runs;
-      usage = e.usage;
+      usage = e.ends_lines.usage;
       unread = λ reads. absurd reads;
-      statuses = e.statuses;
-      causes = e.causes;
-      second = e.second;
+      statuses = e.ends_lines.status;
+      causes = e.ends_lines.cause;
+      second = e.ends_lines.second;
     })
 
 pub returns-in-Guard-clause-doors : goal.returns-in-Guard-clause-doors
@@ -27,11 +27,11 @@ returns-in-Token-clause-runs g c =
     rw (c.in-Token.is, c.linkless-in-Token.ensures) (record {
       ends = ends-kept g.M.Mechanism g.D.Disk c.args.bench.core (back c.token.result) disk.as_read c.requires.starts disk.only_now e.kept;
       runs = e.runs;
-      usage = e.usage;
+      usage = e.ends_lines.usage;
       unread = λ reads. absurd reads;
-      statuses = e.statuses;
-      causes = e.causes;
-      second = e.second;
+      statuses = e.ends_lines.status;
+      causes = e.ends_lines.cause;
+      second = e.ends_lines.second;
     })
 
 pub returns-in-Token-clause-doors : goal.returns-in-Token-clause-doors
@@ -44,11 +44,11 @@ returns-in-Replay-clause-runs g c =
     rw (c.in-Replay.is, c.linkless-in-Replay.ensures) (record {
       ends = e.ends;
       runs = e.runs;
-      usage = e.usage;
+      usage = e.ends_lines.usage;
       unread = λ reads. absurd reads;
-      statuses = e.statuses;
-      causes = e.causes;
-      second = e.second;
+      statuses = e.ends_lines.status;
+      causes = e.ends_lines.cause;
+      second = e.ends_lines.second;
     })
 
 pub returns-in-Replay-clause-doors : goal.returns-in-Replay-clause-doors
@@ -79,11 +79,11 @@ returns-in-Host-clause-runs g c =
     rw (c.in-Host.is, c.linkless-in-Host.ensures) (record {
       ends = ends-kept g.M.Mechanism g.D.Disk c.args.bench.core (back c.host.result) disk.as_read c.requires.starts disk.only_now e.kept;
       runs = e.runs;
-      usage = e.usage;
+      usage = e.ends_lines.usage;
       unread = λ reads. absurd reads;
-      statuses = e.statuses;
-      causes = e.causes;
-      second = e.second;
+      statuses = e.ends_lines.status;
+      causes = e.ends_lines.cause;
+      second = e.ends_lines.second;
     })
 
 pub returns-in-Host-clause-doors : goal.returns-in-Host-clause-doors
@@ -97,11 +97,11 @@ returns-in-Audit-clause-runs g c =
     rw (c.in-Audit.is, c.linkless-in-Audit.ensures) (record {
       ends = ends-kept g.M.Mechanism g.D.Disk c.args.bench.core (back c.audit.result) disk.as_read c.requires.starts disk.only_now e.kept;
       runs = e.runs;
-      usage = e.usage;
+      usage = e.ends_lines.usage;
       unread = λ reads. absurd reads;
-      statuses = e.statuses;
-      causes = e.causes;
-      second = e.second;
+      statuses = e.ends_lines.status;
+      causes = e.ends_lines.cause;
+      second = e.ends_lines.second;
     })
 
 pub returns-in-Audit-clause-doors : goal.returns-in-Audit-clause-doors

@@ -66,7 +66,7 @@ returns-then-outcome-clause-uses g c = uses-keeping (let reported = rw (c.ready.
     (rw (← c.self.view_is) (Continues-report _ (Loaded c.args.unit c.args.count) c.load-outcome.result.failed
     (g.M.Mechanism.motions c.load-outcome.new.self) (g.M.Mechanism.places c.load-outcome.new.self) (g.M.Mechanism.faults c.load-outcome.new.self) c.self.inside.ledger.loaded
     tt reported))
-    (rw (← c.self.view_is) (rw c.ready.ensures.faults at c.load-outcome.ensures.later))
+    (rw (← c.self.view_is) (rw c.ready.ensures.faults at c.load-outcome.ensures.cause.later))
     (rw (← c.self.view_is) (left-through g.D.Disk c.self.inside.ledger.disk _ (λ entry. entry ≡ Loaded c.args.unit c.args.count) (g.met.D.Disk.only_now c.self.inside.ledger.disk) c.self.invariant.1
     c.self.invariant.0.recorded
     (λ told records p entry now may grows. IsRecorded-entry _ _ records (Loaded c.args.unit c.args.count) _ now tt (rw may at grows) (c.self.invariant.0.recorded told records p))))) (λ keeps. search rules)
@@ -77,7 +77,7 @@ returns-clause-uses g c = uses-keeping (let reported = rw (c.ready.ensures.motio
     (rw (← c.self.view_is) (Continues-report _ (Loaded c.args.unit c.args.count) c.load-outcome.result.failed
     (g.M.Mechanism.motions c.load-outcome.new.self) (g.M.Mechanism.places c.load-outcome.new.self) (g.M.Mechanism.faults c.load-outcome.new.self) (with_notes c.self.inside.ledger.loaded c.args.unit c.args.count)
     tt reported))
-    (rw (← c.self.view_is) (rw c.ready.ensures.faults at c.load-outcome.ensures.later))
+    (rw (← c.self.view_is) (rw c.ready.ensures.faults at c.load-outcome.ensures.cause.later))
     (rw (← c.self.view_is) (left-through g.D.Disk c.self.inside.ledger.disk _ (λ entry. entry ≡ Loaded c.args.unit c.args.count) (g.met.D.Disk.only_now c.self.inside.ledger.disk) c.self.invariant.1
     c.self.invariant.0.recorded
     (λ told records p entry now may grows. IsRecorded-entry _ _ records (Loaded c.args.unit c.args.count) _ now tt (rw may at grows) (c.self.invariant.0.recorded told records p)))))) (λ keeps. search rules)

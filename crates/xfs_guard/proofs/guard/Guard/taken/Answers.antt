@@ -47,7 +47,7 @@ returns-clause-uses g c = uses-keeping (Keeps-moved g.D.Disk _ _ _ g.met.D.Disk.
     rw (← c.self.view_is) (Continues-report _ (Taken c.taken.result.moved) c.taken.result.failed
     (g.M.Mechanism.motions c.taken.new.self) (g.M.Mechanism.places c.taken.new.self) (g.M.Mechanism.faults c.taken.new.self) c.self.inside.ledger.loaded
     tt reported))
-    (rw (← c.self.view_is) (rw c.ready.ensures.faults at c.taken.ensures.later))
+    (rw (← c.self.view_is) (rw c.ready.ensures.faults at c.taken.ensures.cause.later))
     (rw (← c.self.view_is) (left-through g.D.Disk c.self.inside.ledger.disk _ (MayTake _) (g.met.D.Disk.only_now c.self.inside.ledger.disk) c.self.invariant.1
     c.self.invariant.0.recorded
     (λ told records p entry now may grows. IsRecorded-entry _ _ records (Taken may.counts) _ now tt (rw may.entry_is at grows) (c.self.invariant.0.recorded told records p))))) (λ keeps. search rules)

@@ -6,7 +6,6 @@ use Rattle.xfs_guard.proofs.CrashedLaws.{begins-same, begins-push, IsTorn-missin
 use Rattle.xfs_guard.proofs.PossibleLaws.{leaves-list, leaves-either}
 use Rattle.xfs_guard.proofs.RereadLaws.{reread-append}
 use Rattle.xfs_guard.proofs.RestoreLaws.{base_then-within}
-use Rattle.xfs_guard.proofs.StoredLaws.{booted_behind}
 use Rattle.xfs_guard.proofs.TellableLaws.{tells-doubted, tells-missing, tells-restored}
 use Rattle.xfs_guard.proofs.ledger.Ledger.restore.Goals as goal
 
@@ -60,10 +59,6 @@ pub returns-in-Ok-clause-ok : goal.returns-in-Ok-clause-ok
 returns-in-Ok-clause-ok g c = rw (← c.self.view_is)
     (let w = c.in-Ok.ensures in
     (c.remount.new.self.records, c.in_default.ensures.ok.records, rw (w.based, w.ok.records, w.ok.opened.shut, w.ok.opened.in_doubt, w.limits, c.remount.ensures.keeps.base, c.remount.ensures.keeps.limits, c.places-booted.ensures) refl))
-
-pub returns-in-Ok-clause-stands : goal.returns-in-Ok-clause-stands
-returns-in-Ok-clause-stands g c = rw (← c.self.view_is)
-    (booted_behind _ c.remount.new.self.records _ c.args.places c.in_default.ensures.ok.stands c.in-Ok.ensures.ok.records)
 
 pub returns-in-Ok-clause-left : goal.returns-in-Ok-clause-left
 returns-in-Ok-clause-left g c = leaves-list g.D.Disk c.append_boot.new.journal.disk _ _ c.in-Ok.ensures.ok.opened.acknowledged

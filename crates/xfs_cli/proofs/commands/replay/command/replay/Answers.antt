@@ -13,6 +13,7 @@ use Rattle.xfs_cli.specs.Replay.States.{guard_state_of, played}
 use Rattle.xfs_lines.specs.Boots.{boot_status}
 use Rattle.xfs_lines.specs.Returns.{Return}
 use Rattle.xfs_cli.specs.declared.commands.replay.player.Player.{Player}
+use Rattle.xfs_lines.proofs.EndingLaws.{answered-ends, unbooted-ends}
 use Rattle.xfs_lines.proofs.EndsLaws.{ends-refused, ends-run}
 use Rattle.xfs_cli.proofs.MachineLaws.{machine-ended}
 use Rattle.xfs_lines.proofs.RunLaws.{recorded-start}
@@ -73,3 +74,16 @@ returns-in-Err-clause-runs g c =
     let runs : RunsReplay g.M.Mechanism g.D.Disk core over io = runs-refused g.M.Mechanism g.D.Disk replay_lines guard_state_of _ empty core fail.why over _ c.in-Err.ensures.mech c.in-Err.ensures.refuses
     refl c.give_back_unbooted.ensures.written refl in
     rw c.give_back_unbooted.ensures.ended (rw c.cores_of-core.ensures at runs)
+
+pub returns-in-Ok-clause-ends_lines : goal.returns-in-Ok-clause-ends_lines
+returns-in-Ok-clause-ends_lines g c =
+    let s = c.answer_input-status.ensures.ends in
+    let io = io_of g.S.Source g.K.Sink c.args.source.now c.answer_input-status.new.source c.args.sink.now c.answer_input-status.new.sink in
+    rw c.give_back.ensures (answered-ends {L = Unit {0}} c.args.bench.second c.cores_of-core.result.1 c.end-mech.result.0 c.end-mech.result.1 c.answer_input-status.result io
+    (rw c.cores_of-core.ensures refl) s.usage s.statuses s.causes)
+
+pub returns-in-Err-clause-ends_lines : goal.returns-in-Err-clause-ends_lines
+returns-in-Err-clause-ends_lines g c =
+    let fail = c.in-Err.fail in
+    let io = io_of g.S.Source g.K.Sink c.args.source.now c.args.source.now c.args.sink.now c.give_back_unbooted.new.sink in
+    rw c.give_back_unbooted.ensures.ended (unbooted-ends {L = Unit {0}} c.args.bench.second c.cores_of-core.result.1 fail.mech fail.disk fail.why io (rw c.cores_of-core.ensures refl))

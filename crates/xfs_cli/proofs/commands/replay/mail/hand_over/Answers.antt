@@ -1,5 +1,5 @@
 use Rattle.std.proofs.Common.{arith, ◌∙◌}
-use Rattle.xfs_lines.proofs.BegunLaws.{on-err}
+use Rattle.xfs_script.proofs.LastLaws.{on-err}
 use Rattle.xfs_cli.proofs.MailLaws.{mail-frame, mail-more}
 use Rattle.xfs_cli.proofs.commands.replay.mail.hand_over.Goals as goal
 

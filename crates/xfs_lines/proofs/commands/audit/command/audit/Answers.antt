@@ -16,3 +16,8 @@ returns-clause-runs g c =
       unbooted = s.unbooted;
       finishes = unbooted-finishes _ empty-audit _ _ _ _ _ s.statuses s.usage s.unbooted s.causes.read s.causes.write s.causes.quota s.not_a_line;
     })
+
+pub returns-clause-ends_lines : goal.returns-clause-ends_lines
+returns-clause-ends_lines g c =
+    let s = c.judge-status.ensures in
+    rw c.give_back_untouched.ensures (record { usage = s.usage; status = s.statuses; cause = s.causes; second = record { mech = refl; disk = refl } })

@@ -18,3 +18,8 @@ returns-clause-runs g c =
       unbooted = unbooted;
       finishes = unbooted-finishes _ empty-host _ _ _ _ _ s.statuses s.usage unbooted s.causes.read s.causes.write s.causes.quota s.not_a_line;
     })
+
+pub returns-clause-ends_lines : goal.returns-clause-ends_lines
+returns-clause-ends_lines g c =
+    let s = c.answer_input-status.ensures.ends in
+    rw c.give_back_untouched.ensures (record { usage = s.usage; status = s.statuses; cause = s.causes; second = record { mech = refl; disk = refl } })

@@ -2,7 +2,7 @@ use Rattle.std.proofs.Common.{ap, refl, sym, ◌∙◌}
 use Rattle.std.proofs.lemmas.Result.{IfOk-weaker}
 use Rattle.xfs_guard.proofs.KeepsLaws.{Proceeds-same}
 use Rattle.xfs_cli.specs.Replay.States.{played}
-use Rattle.xfs_lines.proofs.BegunLaws.{on-err}
+use Rattle.xfs_script.proofs.LastLaws.{on-err}
 use Rattle.xfs_cli.proofs.VerbLaws.{join-none, join-some, joined-as, part-event, proceeds-kept, tells-event, tells-none}
 use Rattle.xfs_cli.proofs.commands.replay.player.Player.join.Goals as goal
 

@@ -1,7 +1,7 @@
 use Rattle.std.proofs.Common.{◌++◌, ◌∷◌, [], refl}
 use Rattle.std.specs.Prelude.{codes, decimal}
 use Rattle.std.proofs.lemmas.Result.{IfOk-weaker}
-use Rattle.xfs_lines.proofs.BegunLaws.{on-err}
+use Rattle.xfs_script.proofs.LastLaws.{on-err}
 use Rattle.xfs_load.proofs.RestLaws.{rests-part}
 use Rattle.xfs_cli.proofs.commands.replay.player.Player.rest.Goals as goal
 

@@ -1,7 +1,7 @@
 use Rattle.std.proofs.Common.{refl}
 use Rattle.std.proofs.lemmas.Result.{IfOk-weaker}
 use Rattle.xfs_cli.specs.Replay.States.{played}
-use Rattle.xfs_lines.proofs.BegunLaws.{on-err}
+use Rattle.xfs_script.proofs.LastLaws.{on-err}
 use Rattle.xfs_load.proofs.RestLaws.{part-one}
 use Rattle.xfs_cli.proofs.VerbLaws.{tells-touch}
 use Rattle.xfs_cli.proofs.commands.replay.player.Player.touch.Goals as goal

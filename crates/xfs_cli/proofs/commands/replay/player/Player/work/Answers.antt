@@ -1,6 +1,6 @@
 use Rattle.std.proofs.Common.{refl}
 use Rattle.std.proofs.lemmas.Result.{IfOk-weaker}
-use Rattle.xfs_lines.proofs.BegunLaws.{on-err}
+use Rattle.xfs_script.proofs.LastLaws.{on-err}
 use Rattle.xfs_load.proofs.RestLaws.{part-one}
 use Rattle.xfs_cli.proofs.VerbLaws.{tells-event}
 use Rattle.xfs_cli.proofs.commands.replay.player.Player.work.Goals as goal

@@ -5,7 +5,8 @@ use Rattle.std.specs.Prelude.{Ok, codes}
 use Rattle.xfs_guard.specs.Nonce.{live_nonce}
 use Rattle.xfs_lines.specs.Guard.States.{guard_state}
 use Rattle.xfs_lines.specs.Guard.Verbs.{Clears}
-use Rattle.xfs_lines.proofs.BegunLaws.{on-err, clear-done, denied-or-nothing}
+use Rattle.xfs_lines.proofs.BegunLaws.{clear-done, denied-or-nothing}
+use Rattle.xfs_script.proofs.LastLaws.{on-err}
 use Rattle.xfs_lines.proofs.commands.guard.player.GuardPlayer.clear.Goals as goal
 
 pub returns-in-Err-clause-answer : goal.returns-in-Err-clause-answer

@@ -4,11 +4,13 @@ use Rattle.std.proofs.lemmas.Result.{IfOk-weaker}
 use Rattle.xfs_guard.proofs.KeepsLaws.{Proceeds-trans}
 use Rattle.xfs_dispenser.specs.declared.refusal.Refusal.TheVariants.{Deny as Denied}
 use Rattle.xfs_lines.proofs.DispenseLaws.{few-allowed}
-use Rattle.xfs_lines.proofs.GuardStateLaws.{err-same, told-kept, told-some}
+use Rattle.xfs_lines.proofs.GuardStateLaws.{told-kept, told-some}
+use Rattle.xfs_dispenser.proofs.CarryLaws.{err-same}
 use Rattle.xfs_lines.specs.Guard.States.{guard_state}
 use Rattle.xfs_lines.specs.Guard.Dispenses.{Dispenses, named}
 use Rattle.xfs_lines.specs.Guard.Texts.{outcome_text}
-use Rattle.xfs_lines.proofs.BegunLaws.{on-err, ordered-or-part, refused-or-nothing, seen-both}
+use Rattle.xfs_lines.proofs.BegunLaws.{ordered-or-part, refused-or-nothing, seen-both}
+use Rattle.xfs_script.proofs.LastLaws.{on-err}
 use Rattle.xfs_lines.proofs.commands.guard.player.GuardPlayer.dispense.Goals as goal
 
 pub returns-in-Err-clause-answer : goal.returns-in-Err-clause-answer

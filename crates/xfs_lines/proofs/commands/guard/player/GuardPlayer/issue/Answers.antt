@@ -5,7 +5,8 @@ use Rattle.std.proofs.Common.{◌++◌, inr, refl}
 use Rattle.std.specs.Prelude.{codes}
 use Rattle.xfs_lines.specs.Guard.States.{guard_state}
 use Rattle.xfs_lines.specs.Guard.Verbs.{Issues}
-use Rattle.xfs_lines.proofs.BegunLaws.{on-err, denied-or-nothing}
+use Rattle.xfs_lines.proofs.BegunLaws.{denied-or-nothing}
+use Rattle.xfs_script.proofs.LastLaws.{on-err}
 use Rattle.xfs_lines.proofs.commands.guard.player.GuardPlayer.issue.Goals as goal
 
 pub returns-in-Ok-clause-answer : goal.returns-in-Ok-clause-answer

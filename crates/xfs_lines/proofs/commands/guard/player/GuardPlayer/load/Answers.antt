@@ -5,7 +5,9 @@ use Rattle.xfs_guard.specs.View.{View}
 use Rattle.xfs_lines.specs.Guard.States.{guard_state}
 use Rattle.xfs_lines.proofs.GuardStateLaws.{wrote-kept, wrote-err, none-err}
 use Rattle.std.specs.Prelude.{codes}
-use Rattle.xfs_lines.proofs.BegunLaws.{on-err, denied-text, not-disk, part-filled}
+use Rattle.xfs_lines.proofs.BegunLaws.{denied-text, part-filled}
+use Rattle.xfs_script.proofs.LastLaws.{on-err}
+use Rattle.xfs_dispenser.proofs.CarryLaws.{not-disk}
 use Rattle.xfs_lines.proofs.commands.guard.player.GuardPlayer.load.Goals as goal
 
 pub returns-then-outcome-clause-answer : goal.returns-then-outcome-clause-answer

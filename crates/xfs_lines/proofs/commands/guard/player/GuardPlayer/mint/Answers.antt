@@ -2,7 +2,8 @@ use Rattle.std.proofs.Common.{◌++◌, inr, sym, ◌∙◌}
 use Rattle.std.specs.Prelude.{codes}
 use Rattle.xfs_guard.specs.Nonce.{live_in}
 use Rattle.xfs_lines.specs.Guard.States.{guard_state}
-use Rattle.xfs_lines.proofs.BegunLaws.{on-err, mints-none, mints-made}
+use Rattle.xfs_lines.proofs.BegunLaws.{mints-none, mints-made}
+use Rattle.xfs_script.proofs.LastLaws.{on-err}
 use Rattle.xfs_lines.proofs.commands.guard.player.GuardPlayer.mint.Goals as goal
 
 pub returns-in_default-clause-memory : goal.returns-in_default-clause-memory

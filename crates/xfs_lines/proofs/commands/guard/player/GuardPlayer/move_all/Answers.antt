@@ -4,8 +4,10 @@ use Rattle.xfs_lines.specs.Guard.Texts.{outcome_text}
 use Rattle.xfs_lines.specs.Guard.Moves.{Moves}
 use Rattle.xfs_lines.specs.Guard.States.{guard_state}
 use Rattle.xfs_dispenser.specs.declared.refusal.Refusal.TheVariants.{Deny as Denied}
-use Rattle.xfs_lines.proofs.GuardStateLaws.{err-same, told-some}
-use Rattle.xfs_lines.proofs.BegunLaws.{denied-or-nothing, on-err}
+use Rattle.xfs_lines.proofs.GuardStateLaws.{told-some}
+use Rattle.xfs_dispenser.proofs.CarryLaws.{err-same}
+use Rattle.xfs_lines.proofs.BegunLaws.{denied-or-nothing}
+use Rattle.xfs_script.proofs.LastLaws.{on-err}
 use Rattle.xfs_lines.proofs.commands.guard.player.GuardPlayer.move_all.Goals as goal
 
 pub returns-in-Ok-clause-memory : goal.returns-in-Ok-clause-memory

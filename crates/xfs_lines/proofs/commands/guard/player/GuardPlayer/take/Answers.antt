@@ -1,7 +1,7 @@
 use Rattle.std.proofs.Common.{inr, refl, ap}
 use Rattle.std.specs.Prelude.{codes}
 use Rattle.xfs_lines.specs.Guard.Texts.{outcome_text}
-use Rattle.xfs_lines.proofs.BegunLaws.{on-err}
+use Rattle.xfs_script.proofs.LastLaws.{on-err}
 use Rattle.xfs_lines.proofs.commands.guard.player.GuardPlayer.take.Goals as goal
 
 pub returns-in-Ok-clause-memory : goal.returns-in-Ok-clause-memory

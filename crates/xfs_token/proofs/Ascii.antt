@@ -7,8 +7,7 @@ use Rattle.std.proofs.lemmas.Str.{IsUtf8-from_ascii, IsAscii-append}
 use Rattle.std.proofs.lemmas.Str.Ascii.{IsAscii-nil, IsAscii-cons}
 use Rattle.hex.specs.Hex.{upper_digits}
 use Rattle.hex.proofs.HexLemmas.{IsAscii-encode_with}
-use Rattle.xfs_token.specs.Token.{Parts, is_upper_hex, is_key_byte, is_value_byte, is_nonce, is_value, is_free_key, may_follow, four_digits, pairs_text, covered, form, IsWellFormed}
-use Rattle.xfs_token.specs.Amounts.{IsMade}
+use Rattle.xfs_token.specs.Token.{Parts, is_upper_hex, is_key_byte, is_value_byte, is_nonce, is_value, is_free_key, may_follow, four_digits, pairs_text, covered, form, IsWellFormed, Spells}
 
 record Ascii (bs : List ℕ) : Type 0 where
   is : IsAscii bs
@@ -60,7 +59,5 @@ of_form t n formed =
     (literal (codes ",TOKENFORMAT=1,TOKENLENGTH=") refl)) (of_digits n)) (of_pairs [] t.pairs formed.pairs))
     (literal (codes ",HMACSHA256=") refl)) record { is = IsAscii-encode_with upper_digits t.mac (literal upper_digits refl).is }
 
-pub made-IsUtf8 : (key nonce : List ℕ) (amounts : List (List ℕ × ℕ)) (bytes : List ℕ) → IsMade key nonce amounts bytes → IsUtf8 bytes
-made-IsUtf8 key nonce amounts bytes made =
-    let spelled = made.genuine.spelled in
-    IsUtf8-from_ascii bytes (subst IsAscii (sym spelled.text) (of_form made.token (length bytes) spelled.formed).is)
+pub spelled-IsUtf8 : (t : Parts) (bytes : List ℕ) → Spells t bytes → IsUtf8 bytes
+spelled-IsUtf8 t bytes spelled = IsUtf8-from_ascii bytes (subst IsAscii (sym spelled.text) (of_form t (length bytes) spelled.formed).is)
