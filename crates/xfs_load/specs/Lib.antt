@@ -1,3 +1,4 @@
+pub mod Dues
 pub mod Generator
 pub mod Plays
 pub mod Rests

@@ -7,6 +7,15 @@ use Rattle.xfs_token.specs.Token.{is_nonce}
 use Rattle.xfs_load.specs.declared.ask.Ask.{Ask}
 use Rattle.xfs_load.specs.declared.ask.Ask.TheVariants.{Nonce, Dispense, Present, StartExchange, Refill, EndExchange}
 
+-- the name of an ask's command
+abbrev pub ask_name : Ask → List ℕ
+ask_name Nonce = codes "Common.GetCommandNonce"
+ask_name (Dispense amount) = codes "CashDispenser.Dispense"
+ask_name Present = codes "CashDispenser.Present"
+ask_name StartExchange = codes "Storage.StartExchange"
+ask_name Refill = codes "Storage.SetStorage"
+ask_name EndExchange = codes "Storage.EndExchange"
+
 -- the text of a command of this name and request id, up to its payload
 abbrev pub headed_text : List ℕ → ℕ → List ℕ
 headed_text name id = codes "{\"header\":{\"name\":\"" ++ name ++ codes "\",\"requestId\":" ++ decimal id ++ codes ",\"type\":\"command\"},\"payload\":"

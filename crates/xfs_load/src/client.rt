@@ -5,6 +5,7 @@ ghost use Rattle.serde_json.specs.View.{view};
 ghost use Rattle.xfs_client.specs.Withdrawals.{is_success};
 ghost use Rattle.xfs_envelope.specs.Replies.{told};
 ghost use Rattle.xfs_guard.specs.Keeps.{Proceeds};
+ghost use Rattle.xfs_load.specs.Dues.{IsDueTo};
 ghost use Rattle.xfs_load.specs.Generator.{amount_of, asking, completed, after_round, hears, hears_all, hears_reply, is_for_nonce, newcomer, nonce_told, refill, refill_behind, round_of, say, take, withdrawal_of};
 ghost use Rattle.xfs_load.specs.Plays.{DoesDeed, DoesInPart, Plays, PlaysInPart};
 ghost use Rattle.xfs_load.specs.Texts.{GoesWith, IsText};
@@ -12,6 +13,7 @@ ghost use Rattle.xfs_load.specs.declared.ask.Ask.TheVariants as asks;
 ghost use Rattle.xfs_machine.specs.MachineView.{guard_of};
 
 use crate::ask::Ask;
+use crate::due::Due;
 use crate::presented::euro;
 use crate::resting::rest;
 use crate::text::text_of;
@@ -201,19 +203,24 @@ impl Client {
         ensures asked { self.new.asked ≡ self.old.asked }
         ensures refused { self.new.refused ≡ self.old.refused }
     {
+        let due = Due::new(self.alloc, ask, self.asked)?;
         let list = frames.into_list();
         for frame in &list {
-            self.hear(ask, frame.list())?;
+            self.hear(ask, &due, frame.list())?;
         }
         Ok(())
     }
 
-    // Hears a frame. What is no answer tells nothing.
-    fn hear(&mut self, ask: Ask, frame: &[u8]) -> Result<(), Memory>
+    // Hears a frame. What is due is known by its text, and what is no answer tells nothing.
+    fn hear(&mut self, ask: Ask, due: &Due, frame: &[u8]) -> Result<(), Memory>
+        requires { IsDueTo ask due.now }
         ensures heard { OnOk result (self.new ≡ hears ask self.old frame.now) }
         ensures asked { self.new.asked ≡ self.old.asked }
         ensures refused { self.new.refused ≡ self.old.refused }
     {
+        if due.has(frame) {
+            return Ok(());
+        }
         match read_answer(self.alloc, frame) {
             Ok(answer) => self.hear_answer(ask, answer),
             Err(AnswerFault::Shape) => Ok(()),

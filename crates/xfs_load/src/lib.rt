@@ -3,6 +3,7 @@
 
 mod ask;
 mod client;
+mod due;
 mod playing;
 mod presented;
 mod resting;

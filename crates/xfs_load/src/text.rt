@@ -21,12 +21,12 @@ pub(crate) fn text_of(
     ensures { IfOk result (λ text. text.items ≡ text_of ask id token.now) }
 {
     match ask {
-        Ask::Nonce => plain_text(alloc, b"Common.GetCommandNonce", id),
+        Ask::Nonce => plain_text(alloc, ask.name(), id),
         Ask::Dispense(amount) => dispense(alloc, id, amount, token),
-        Ask::Present => plain_text(alloc, b"CashDispenser.Present", id),
-        Ask::StartExchange => plain_text(alloc, b"Storage.StartExchange", id),
+        Ask::Present => plain_text(alloc, ask.name(), id),
+        Ask::StartExchange => plain_text(alloc, ask.name(), id),
         Ask::Refill => refill(alloc, id),
-        Ask::EndExchange => plain_text(alloc, b"Storage.EndExchange", id),
+        Ask::EndExchange => plain_text(alloc, ask.name(), id),
     }
 }
 
