@@ -5,7 +5,7 @@ use Rattle.std.specs.Prelude.{slice_index}
 use Rattle.std.proofs.lemmas.List.{get_or-take, drop-take}
 use Rattle.std.proofs.lemmas.Nat.{from_be_bytes-to_be_bytes_2}
 use Rattle.xfs_journal.specs.Image.{IsRecord, body, framed}
-use Rattle.xfs_journal.specs.Paging.{PageView, Shows, Since, size_in, IsNoBody, IsShut, IsBroken}
+use Rattle.xfs_journal.specs.Paging.{PageView, Shows, Since, size_in, AreSizeBytes, IsNoBody, IsShut, IsBroken}
 use Rattle.xfs_journal.specs.declared.faults.MountFault.{MountFault}
 use Rattle.xfs_journal.specs.declared.faults.MountFault.TheVariants.{NotJournal, Disk, Memory}
 use Rattle.xfs_journal.specs.declared.record.Rec.{Rec}
@@ -77,10 +77,12 @@ block_is (x ∷ y ∷ z ∷ zs) r many opens fits_y fits_z same =
     ap₂ (λ (g : ℕ) (two : List ℕ). g ∷ (two ++ zs)) opens (sym (ap (to_be_bytes w16) size ∙ two_back y z fits_y fits_z))
     ∙ ap (λ (x : List ℕ). 1 ∷ (to_be_bytes w16 (length (body r)) ++ x)) (sym same)
 
-pub whole_of : (l o : List ℕ) (r : Rec) → o ≡ take (length o) l → length o ≡ 3 + size_in l → slice_index l 0 ≡ 1 → slice_index o 1 < 256 → slice_index o 2 < 256 → body r ≡ drop 3 o
+pub whole_of : (l o : List ℕ) (r : Rec) → o ≡ take (length o) l → length o ≡ 3 + size_in l → slice_index l 0 ≡ 1 → AreSizeBytes l → body r ≡ drop 3 o
     → l ≡ (1 ∷ framed r) ++ drop (length o) l
-whole_of l o r is whole opens fits_y fits_z same =
+whole_of l o r is whole opens fits same =
     let at_gate : slice_index o 0 ≡ 1 = sym (front_at l o (length o) is 0 (omega (arith, whole))) ∙ opens in
+    let fits_y : slice_index o 1 < 256 = subst (λ (n : ℕ). n < 256) (front_at l o (length o) is 1 (omega (arith, whole))) fits.0 in
+    let fits_z : slice_index o 2 < 256 = subst (λ (n : ℕ). n < 256) (front_at l o (length o) is 2 (omega (arith, whole))) fits.1 in
     let size : length o ≡ 3 + size_in o = whole ∙ ap (λ (n : ℕ). 3 + n) (front_size l o (length o) is (omega (arith, whole))) in
     sym (take-append-drop (length o) l) ∙ ap (λ (x : List ℕ). x ++ drop (length o) l) (sym is ∙ block_is o r size at_gate fits_y fits_z same)
 
@@ -98,9 +100,9 @@ same_place a b same = sym (ap place_in same)
 -- a whole block was read from the gate on
 module _ (h : Option (List ℕ)) (b : List ℕ) (known : h ≡ Some b) (p : PageView) (gate at : ℕ) (o : List ℕ) (since : Since h p gate o) (is : gate ≡ at)
     (whole : length o ≡ 3 + size_in (drop gate b)) (opens : slice_index (drop gate b) 0 ≡ 1) where
-  pub found : (r : Rec) → slice_index o 1 < 256 → slice_index o 2 < 256 → body r ≡ drop 3 o → (drop at b ≡ (1 ∷ framed r) ++ drop p.at b) × Shows b p
-  found r fits_y fits_z same = (
-    ap (λ (n : ℕ). drop n b) (sym is) ∙ whole_of (drop gate b) o r (since_front h p gate o since b known) whole opens fits_y fits_z same
+  pub found : (r : Rec) → AreSizeBytes (drop gate b) → body r ≡ drop 3 o → (drop at b ≡ (1 ∷ framed r) ++ drop p.at b) × Shows b p
+  found r fits same = (
+    ap (λ (n : ℕ). drop n b) (sym is) ∙ whole_of (drop gate b) o r (since_front h p gate o since b known) whole opens fits same
         ∙ ap (λ (l : List ℕ). (1 ∷ framed r) ++ l) (drop-drop (length o) gate b ∙ ap (λ (n : ℕ). drop n b) (sym since.at_is)),
     from_told h (λ c. Shows c p) (since_shows h p gate o since) b known,
   )

@@ -18,6 +18,11 @@ pub record DiskGoesOn {D : Type 0} (g : Ghosts D) (old new : D) : Type 0 where
   pub faults : g.faults old ≤ g.faults new
   pub told : is_some (g.held new) ≡ is_some (g.held old)
 
+-- a disk goes on, and its count of faults rose where a call of it failed
+pub record DiskMayFail {D : Type 0} (g : Ghosts D) (old new : D) (Fails : Type 0) : Type 0 where
+  pub goes_on : DiskGoesOn g old new
+  pub cause : Fails → Rose (g.faults old) (g.faults new)
+
 -- a call keeps a journal's base and limits, and its disk goes on
 pub record KeepsJournal {D : Type 0} (g : Ghosts D) (old new : JournalView D) : Type 0 where
   pub base : new.base ≡ old.base

@@ -3,7 +3,7 @@ use Rattle.std.specs.Prelude.{◌≡◌, ◌⊎◌, ◌≢◌, ℕ, ◌+◌, ◌
 use Rattle.std.specs.Int.{from_be_bytes, w16}
 use Rattle.std.specs.declared.option.Option.{Option}
 use Rattle.std.specs.List.{AllByRecursion}
-use Rattle.xfs_base.specs.Causes.{IfTold}
+use Rattle.xfs_base.specs.Causes.{IfTold, Rose}
 use Rattle.xfs_disk.specs.Disk.{AddsNone}
 use Rattle.xfs_disk.specs.Moments.{EachMoment, LeavesOnly}
 use Rattle.xfs_disk.specs.declared.disk.Disk.{Ghosts}
@@ -43,9 +43,18 @@ pub record IsQuiet {D : Type 0} (g : Ghosts D) (old new : D) : Type 0 where
   pub moments : LeavesOnly g old new (g.images old)
   pub later : g.faults old ≤ g.faults new
 
+-- a disk was read and synced, but not written, and its count of faults rose where that failed
+pub record OnlyReads {D : Type 0} (g : Ghosts D) (old new : D) (Fails : Type 0) : Type 0 where
+  pub quiet : IsQuiet g old new
+  pub cause : Fails → Rose (g.faults old) (g.faults new)
+
 -- the length that a block behind a gate byte tells
 abbrev pub size_in : List ℕ → ℕ
 size_in block = from_be_bytes w16 (slice_index block 1 ∷ slice_index block 2 ∷ [])
+
+-- the two of them are bytes
+abbrev pub AreSizeBytes : List ℕ → Type 0
+AreSizeBytes block = (slice_index block 1 < 256) × (slice_index block 2 < 256)
 
 -- no record has these bytes as its body
 abbrev pub IsNoBody : List ℕ → Type 0

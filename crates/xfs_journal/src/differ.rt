@@ -1,34 +1,30 @@
 //! Comparing the list that a disk has with those that it may have.
-ghost use Rattle.std.specs.Prelude.{◌≡◌, ◌≢◌, ◌<◌, ◌≤◌, ◌+◌, ◌^◌, true, false, None, length, take, slice_get, vec_capacity, IfSome};
+ghost use Rattle.std.specs.Prelude.{◌≡◌, ◌≢◌, ◌<◌, ◌≤◌, ◌+◌, ◌^◌, true, false, None, length, take, slice_get, IfSome};
 ghost use Rattle.std.specs.List.{AllByRecursion};
-ghost use Rattle.xfs_journal.specs.declared.body.TheConstants.{MOST};
 ghost use Rattle.xfs_journal.specs.Image.{IsRecord, blocks};
 ghost use Rattle.xfs_journal.specs.JournalView.{IsPossible, PartsAt};
 
 use crate::Rec;
 use crate::body::fill;
+use crate::buffer::Buffer;
 
 // Whether two records have the same bytes.
-fn is_same(one: &Rec, other: &Rec, first: &mut Vec<u8>, second: &mut Vec<u8>) -> bool
+fn is_same(one: &Rec, other: &Rec, first: &mut Buffer, second: &mut Buffer) -> bool
     requires of_table { IsRecord one.now × IsRecord other.now }
-    requires room { (MOST ≤ vec_capacity first.old) × (MOST ≤ vec_capacity second.old) }
     ensures yes { result ≡ true → one.now ≡ other.now }
     ensures no { result ≡ false → one.now ≢ other.now }
-    ensures capacity { (MOST ≤ vec_capacity first.new) × (MOST ≤ vec_capacity second.new) }
 {
     fill(first, one);
     fill(second, other);
-    first.as_slice() == second.as_slice()
+    first.bytes() == second.bytes()
 }
 
 // How many records two lists begin with in common.
-fn common(found: &[Rec], kept: &[Rec], first: &mut Vec<u8>, second: &mut Vec<u8>) -> usize
+fn common(found: &[Rec], kept: &[Rec], first: &mut Buffer, second: &mut Buffer) -> usize
     requires of_table { AllByRecursion IsRecord found.now × AllByRecursion IsRecord kept.now }
-    requires room { (MOST ≤ vec_capacity first.old) × (MOST ≤ vec_capacity second.old) }
     ensures within { (result ≤ length found.now) × (result ≤ length kept.now) }
     ensures same { take result found.now ≡ take result kept.now }
     ensures differs { result < length found.now → result < length kept.now → slice_get found.now result ≢ slice_get kept.now result }
-    ensures capacity { (MOST ≤ vec_capacity first.new) × (MOST ≤ vec_capacity second.new) }
 {
     let mut count = 0;
     while count < found.len() && count < kept.len() {
@@ -45,17 +41,15 @@ fn parts_behind(
     found: &[Rec],
     kept: &[Rec],
     in_doubt: &Option<Rec>,
-    first: &mut Vec<u8>,
-    second: &mut Vec<u8>,
+    first: &mut Buffer,
+    second: &mut Buffer,
 ) -> Option<usize>
     requires of_table { AllByRecursion IsRecord found.now × IfSome in_doubt.now IsRecord }
     requires begins { (length kept.now ≤ length found.now) × (take (length kept.now) found.now ≡ kept.now) }
-    requires room { (MOST ≤ vec_capacity first.old) × (MOST ≤ vec_capacity second.old) }
     ensures possible { result ≡ None → IsPossible kept.now in_doubt.now found.now }
     ensures other { IfSome result (λ _. ¬ IsPossible kept.now in_doubt.now found.now) }
     ensures parts { IfSome result (PartsAt kept.now in_doubt.now found.now) }
     ensures within { IfSome result (λ n. n ≤ length found.now) }
-    ensures capacity { MOST ≤ vec_capacity first.new }
 {
     let Some(next) = found.get(kept.len()) else {
         return None;
@@ -78,16 +72,14 @@ pub(crate) fn parts_at(
     found: &[Rec],
     kept: &[Rec],
     in_doubt: &Option<Rec>,
-    first: &mut Vec<u8>,
-    second: &mut Vec<u8>,
+    first: &mut Buffer,
+    second: &mut Buffer,
 ) -> Option<usize>
     requires of_table { AllByRecursion IsRecord found.now × AllByRecursion IsRecord kept.now × IfSome in_doubt.now IsRecord }
-    requires room { (MOST ≤ vec_capacity first.old) × (MOST ≤ vec_capacity second.old) }
     ensures possible { result ≡ None → IsPossible kept.now in_doubt.now found.now }
     ensures other { IfSome result (λ _. ¬ IsPossible kept.now in_doubt.now found.now) }
     ensures parts { IfSome result (PartsAt kept.now in_doubt.now found.now) }
     ensures within { IfSome result (λ n. n ≤ length found.now) }
-    ensures capacity { MOST ≤ vec_capacity first.new }
 {
     let count = common(found, kept, first, second);
     if count < kept.len() {
@@ -97,12 +89,10 @@ pub(crate) fn parts_at(
 }
 
 // How many bytes the records have.
-pub(crate) fn size_of(records: &[Rec], block: &mut Vec<u8>) -> u64
+pub(crate) fn size_of(records: &[Rec], block: &mut Buffer) -> u64
     requires of_table { AllByRecursion IsRecord records.now }
     requires small { length (blocks records.now) < 2 ^ 64 }
-    requires room { MOST ≤ vec_capacity block.old }
     ensures size { result ≡ length (blocks records.now) }
-    ensures capacity { MOST ≤ vec_capacity block.new }
 {
     let mut size = 0;
     for i in 0..records.len() {

@@ -1,12 +1,12 @@
 //! Writing behind a closed gate byte, and then opening it.
-ghost use Rattle.std.specs.Prelude.{◌≡◌, List, ℕ, ◌+◌, ◌<◌, ◌≤◌, ◌^◌, [], ◌∷◌, ◌++◌, true, false, Some, None, is_some, option_map, length, take, OnOk};
+ghost use Rattle.std.specs.Prelude.{◌≡◌, List, ℕ, ◌+◌, ◌<◌, ◌≤◌, ◌^◌, [], ◌∷◌, ◌++◌, true, false, Some, None, option_map, length, take, IsErr, OnOk};
 ghost use Rattle.std.specs.declared.option.Option.{Option};
-ghost use Rattle.xfs_base.specs.Causes.{HasCause, IfTold};
+ghost use Rattle.xfs_base.specs.Causes.{IfTold};
 ghost use Rattle.xfs_disk.specs.Disk.{overlaid, Torn, ImagesFollow, Only};
 ghost use Rattle.xfs_disk.specs.Moments.{LeavesOnly, EachImage};
 ghost use Rattle.xfs_journal.specs.Image.{IsRecord, end_of, framed, StandsFor};
 ghost use Rattle.xfs_journal.specs.JournalView.{HasVersion, IsKept, IsInDoubt};
-ghost use Rattle.xfs_journal.specs.Outcomes.{WritesAtMost};
+ghost use Rattle.xfs_journal.specs.Outcomes.{DiskMayFail, WritesAtMost};
 ghost use Rattle.xfs_journal.specs.Gate.{HasOpened, IsClosed, IsEitherOf, MayBecome};
 
 use crate::Rec;
@@ -19,10 +19,9 @@ pub(crate) fn write_synced<D: Disk>(disk: &mut D, at: u64, bytes: &[u8]) -> Resu
     requires within { IfTold (D.held disk.old) (λ all. at ≤ length all) }
     ensures written { OnOk result (D.held disk.new ≡ option_map (λ all. overlaid all at bytes.now) (D.held disk.old)) }
     ensures durable { OnOk result (IfTold (D.held disk.new) (λ all. Only all (D.images disk.new))) }
-    ensures told { is_some (D.held disk.new) ≡ is_some (D.held disk.old) }
     ensures crash { ImagesFollow (Torn at (length bytes.now)) (D.images disk.old) (D.images disk.new) }
     ensures any_moment { LeavesOnly D.Disk disk.old disk.new (MayBecome (D.images disk.old) at (length bytes.now)) }
-    ensures cause { HasCause (D.faults disk.old) (D.faults disk.new) result }
+    ensures tries { DiskMayFail D.Disk disk.old disk.new (IsErr result) }
 {
     disk.write_at(at, bytes)?;
     disk.sync()
@@ -34,10 +33,9 @@ pub(crate) fn write_behind<D: Disk>(disk: &mut D, gate: u64, bytes: &[u8]) -> Re
     requires closed { IfTold (D.held disk.old) (λ all. (gate < length all) × IsClosed (take gate all) all) }
     requires images { IfTold (D.held disk.old) (λ _. (d : List ℕ) → D.images disk.old d → (gate < length d) × IsClosed (take gate d) d) }
     ensures ok { OnOk result (HasOpened (D.held disk.old) (D.held disk.new) (D.images disk.new) gate bytes.now) }
-    ensures told { is_some (D.held disk.new) ≡ is_some (D.held disk.old) }
     ensures any_moment { IfTold (D.held disk.old) (λ _. LeavesOnly D.Disk disk.old disk.new (IsEitherOf (D.images disk.old) gate bytes.now)) }
     ensures images { IfTold (D.held disk.old) (λ _. (c : _) → D.images disk.new c → IsEitherOf (D.images disk.old) gate bytes.now c) }
-    ensures cause { HasCause (D.faults disk.old) (D.faults disk.new) result }
+    ensures tries { DiskMayFail D.Disk disk.old disk.new (IsErr result) }
 {
     write_synced(disk, gate + 1, bytes)?;
     write_synced(disk, gate, &[1])
@@ -70,12 +68,11 @@ pub(crate) fn write_record<D: Disk>(
     requires small { next + 1 < 2 ^ 64 }
     ensures ok { OnOk result (IsKept (D.held disk.new) (D.images disk.new) (recent.now.all ++ rec.now ∷ []) false next) }
     ensures version { OnOk result ((v : Option ℕ) → HasVersion (D.held disk.old) v → HasVersion (D.held disk.new) v) }
-    ensures told { is_some (D.held disk.new) ≡ is_some (D.held disk.old) }
     ensures crashes { WritesAtMost D.Disk disk.old disk.new recent.now.all rec.now }
     ensures in_doubt { IsInDoubt (D.held disk.new) (D.images disk.new) recent.now.all true (Some rec.now) }
     ensures none_in_doubt { OnOk result (IsInDoubt (D.held disk.new) (D.images disk.new) (recent.now.all ++ rec.now ∷ []) false None) }
     ensures acknowledged { OnOk result (EachImage D.Disk disk.new (λ c. StandsFor c (recent.now.all ++ rec.now ∷ []))) }
-    ensures cause { HasCause (D.faults disk.old) (D.faults disk.new) result }
+    ensures tries { DiskMayFail D.Disk disk.old disk.new (IsErr result) }
 {
     write_behind(disk, gate, bytes)
 }

@@ -1,7 +1,6 @@
 //! The journal on a disk: a list of records, each on the disk before it counts.
-ghost use Rattle.std.specs.Prelude.{MatchResult, ◌≡◌, ◌≢◌, ◌⊎◌, ◌↔◌, ℕ, ◌+◌, ◌-◌, ◌≤◌, ◌<◌, ◌||◌, nat_lt, [], ◌∷◌, ◌++◌, length, drop, take, ◌^◌, slice_get, true, false, Some, None, Err, IfOk, IfErr, OnOk, IfSome, vec_capacity};
+ghost use Rattle.std.specs.Prelude.{MatchResult, ◌≡◌, ◌≢◌, ◌⊎◌, ◌↔◌, ℕ, ◌+◌, ◌-◌, ◌≤◌, ◌<◌, ◌||◌, nat_lt, [], ◌∷◌, ◌++◌, length, drop, take, ◌^◌, slice_get, true, false, Some, None, Err, IfOk, IfErr, OnOk, IfSome};
 ghost use Rattle.xfs_base.specs.Causes.{IfTold, Rose};
-ghost use Rattle.xfs_journal.specs.declared.body.TheConstants.{MOST};
 ghost use Rattle.xfs_journal.specs.Image.{HasUnit, framed, end_of, size, IsRecord};
 ghost use Rattle.xfs_journal.specs.Journal.{base_of, issues_in};
 ghost use Rattle.xfs_journal.specs.JournalView.{exceeds, refusal, stops, IsNoJournal, HasVersion, HasPossible};
@@ -13,7 +12,8 @@ ghost use Rattle.xfs_journal.specs.declared.faults.MountFault.TheVariants.{NotJo
 ghost use Rattle.xfs_journal.specs.declared.record.Rec.{Rec};
 ghost use Rattle.xfs_disk.specs.Moments.{EachImage};
 
-use crate::body::{MOST, fill};
+use crate::body::fill;
+use crate::buffer::Buffer;
 use crate::gate::{next_gate, write_record};
 use crate::migrate::carry_over;
 use crate::mount::{Listed, load};
@@ -31,7 +31,7 @@ pub struct Journal<D: Disk> {
     alloc: Global,
     disk: D,
     recent: Recent,
-    buffer: Vec<u8>,
+    buffer: Buffer,
     // Where the list ends, and where it would end with the record in doubt.
     end: u64,
     far: u64,
@@ -52,9 +52,7 @@ pub struct MountFail<D: Disk> {
 }
 
 impl<D: Disk> Model for Journal<D> {
-    ghost use Rattle.std.specs.Prelude.{◌≤◌, vec_capacity};
     ghost use Rattle.xfs_journal.specs.JournalView.{JournalView, HasVersion, IsInDoubt, IsKept, IsMeasured};
-    ghost use Rattle.xfs_journal.specs.declared.body.TheConstants.{MOST};
 
     ghost Value = { JournalView D };
 
@@ -69,7 +67,7 @@ impl<D: Disk> Model for Journal<D> {
     } };
 
     ghost invariant = { λ j. IsKept (D.held j.disk) (D.images j.disk) j.recent.all j.shut j.gate
-        × IsInDoubt (D.held j.disk) (D.images j.disk) j.recent.all j.shut j.in_doubt × (MOST ≤ vec_capacity j.buffer)
+        × IsInDoubt (D.held j.disk) (D.images j.disk) j.recent.all j.shut j.in_doubt
         × HasVersion (D.held j.disk) j.version × IsMeasured j.recent.all j.recent.base j.in_doubt j.end j.far };
 }
 
@@ -92,7 +90,7 @@ impl<D: Disk> Journal<D> {
         ensures any_moment { MatchResult result (λ j. LeavesOldOrShort D.Disk disk j.disk) (λ f. LeavesOldOrShort D.Disk disk f.disk) }
     {
         let mut disk = disk;
-        let Ok(mut buffer) = Vec::with_capacity(alloc, MOST) else {
+        let Ok(mut buffer) = Buffer::new(alloc) else {
             return Err(MountFail {
                 why: MountFault::Memory,
                 disk,
@@ -294,7 +292,16 @@ impl<D: Disk> Journal<D> {
         let end = self.end + self.buffer.len() as u64;
         let gate = next_gate(self.gate, self.buffer.len());
         let recent = &self.recent;
-        if write_record(&mut self.disk, recent, &rec, self.gate, gate, &self.buffer).is_err() {
+        if write_record(
+            &mut self.disk,
+            recent,
+            &rec,
+            self.gate,
+            gate,
+            self.buffer.bytes(),
+        )
+        .is_err()
+        {
             self.far = end;
             self.shut = true;
             self.in_doubt = Some(rec);
@@ -335,29 +342,27 @@ fn prepare(
     recent: &mut Recent,
     rec: &Rec,
     end: u64,
-    buffer: &mut Vec<u8>,
+    buffer: &mut Buffer,
 ) -> Result<(), AppendFault>
     requires unit { HasUnit rec.now }
     requires place { end ≡ end_of recent.old.all }
-    requires capacity { MOST ≤ vec_capacity buffer.old }
     ensures refused { IfSome (stops shut limits recent.old.base recent.old.all rec.now) (λ f. result ≡ Err f) }
     ensures only { IfErr result (λ f. (stops shut limits recent.old.base recent.old.all rec.now ≡ Some f) ⊎ (f ≡ NoMemory)) }
     ensures not_disk { IfErr result (λ f. f ≢ DiskFault) }
     ensures reserved { 1 ≤ recent.old.room → IfErr result (λ f. f ≢ NoMemory) }
     ensures open { OnOk result (shut ≡ false) }
     ensures room { OnOk result (1 ≤ recent.new.room) }
-    ensures bytes { OnOk result (buffer.new.items ≡ framed rec.now ++ 0 ∷ []) }
+    ensures bytes { OnOk result (buffer.new ≡ framed rec.now ++ 0 ∷ []) }
     ensures of_table { OnOk result (IsRecord rec.now) }
-    ensures small { OnOk result (end + length buffer.new.items < limits.bytes) }
+    ensures small { OnOk result (end + length buffer.new < limits.bytes) }
     ensures same { (recent.new.all ≡ recent.old.all) × (recent.new.base ≡ recent.old.base) }
     ensures kept { recent.old.room ≤ recent.new.room }
-    ensures capacity { MOST ≤ vec_capacity buffer.new }
 {
     if shut {
         return Err(AppendFault::Shut);
     }
     fill(buffer, rec);
-    if is_full(limits, recent, rec, end, buffer) {
+    if is_full(limits, recent, rec, end, buffer.bytes()) {
         return Err(AppendFault::Full);
     }
     if recent.reserve(1).is_err() {

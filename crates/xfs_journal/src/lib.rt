@@ -3,6 +3,7 @@
 
 mod block;
 mod body;
+mod buffer;
 mod differ;
 mod faults;
 mod gate;

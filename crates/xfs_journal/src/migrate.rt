@@ -1,10 +1,10 @@
 //! Carrying a file of version 1 over to version 2, by its eighth byte.
-ghost use Rattle.std.specs.Prelude.{◌≡◌, ◌≢◌, ◌<◌, [], ◌∷◌, false, None, Some, is_some, option_map, length, slice_get, IfOk, OnOk};
-ghost use Rattle.xfs_base.specs.Causes.{HasCause, IfTold};
+ghost use Rattle.std.specs.Prelude.{◌≡◌, ◌≢◌, ◌<◌, [], ◌∷◌, false, None, Some, option_map, length, slice_get, IfOk, IsErr, OnOk};
+ghost use Rattle.xfs_base.specs.Causes.{IfTold};
 ghost use Rattle.xfs_disk.specs.Disk.{overlaid, Only};
 ghost use Rattle.xfs_journal.specs.JournalView.{HasVersion, IsKept, IsInDoubt, IsRenewed};
-ghost use Rattle.xfs_journal.specs.Outcomes.{SparesList};
-ghost use Rattle.xfs_journal.specs.Paging.{IsQuiet};
+ghost use Rattle.xfs_journal.specs.Outcomes.{DiskMayFail, SparesList};
+ghost use Rattle.xfs_journal.specs.Paging.{IsQuiet, OnlyReads};
 ghost use Rattle.xfs_disk.specs.Moments.{EachImage};
 ghost use Rattle.xfs_journal.specs.Image.{StandsFor};
 
@@ -22,8 +22,7 @@ fn version_of<D: Disk>(disk: &mut D, known: Option<u8>) -> Result<u8, Failed>
     requires known { HasVersion (D.held disk.old) known }
     requires long { IfTold (D.held disk.old) (λ all. 7 < length all) }
     ensures version { IfOk result (λ v. HasVersion (D.held disk.old) (Some v)) }
-    ensures quiet { IsQuiet D.Disk disk.old disk.new }
-    ensures cause { HasCause (D.faults disk.old) (D.faults disk.new) result }
+    ensures reads { OnlyReads D.Disk disk.old disk.new (IsErr result) }
 {
     if let Some(version) = known {
         return Ok(version);
@@ -41,10 +40,9 @@ fn renew<D: Disk>(disk: &mut D, recent: &Recent, gate: u64) -> Result<(), Failed
     ensures written { OnOk result (D.held disk.new ≡ option_map (λ all. overlaid all 7 (0x32 ∷ [])) (D.held disk.old)) }
     ensures durable { OnOk result (IfTold (D.held disk.new) (λ all. Only all (D.images disk.new))) }
     ensures version { OnOk result (HasVersion (D.held disk.new) (Some 0x32)) }
-    ensures told { is_some (D.held disk.new) ≡ is_some (D.held disk.old) }
     ensures crashes { SparesList D.Disk disk.old disk.new recent.now.all }
     ensures list { EachImage D.Disk disk.new (λ c. StandsFor c recent.now.all) }
-    ensures cause { HasCause (D.faults disk.old) (D.faults disk.new) result }
+    ensures tries { DiskMayFail D.Disk disk.old disk.new (IsErr result) }
 {
     write_synced(disk, 7, &[VERSION])
 }
@@ -64,10 +62,9 @@ pub(crate) fn carry_over<D: Disk>(
     ensures other { IfOk result (λ v. v ≢ 0x31) }
     ensures renewed { OnOk result (IsRenewed D.Disk disk.old disk.new) }
     ensures quiet { IfTold (D.held disk.old) (λ all. slice_get all 7 ≢ Some 0x31 → IsQuiet D.Disk disk.old disk.new) }
-    ensures told { is_some (D.held disk.new) ≡ is_some (D.held disk.old) }
     ensures crashes { SparesList D.Disk disk.old disk.new recent.now.all }
     ensures list { EachImage D.Disk disk.new (λ c. StandsFor c recent.now.all) }
-    ensures cause { HasCause (D.faults disk.old) (D.faults disk.new) result }
+    ensures tries { DiskMayFail D.Disk disk.old disk.new (IsErr result) }
 {
     let version = version_of(disk, known)?;
     if version != OLD {

@@ -1,18 +1,19 @@
 //! Reading a disk as a journal, and making an empty one.
-ghost use Rattle.std.specs.Prelude.{◌≡◌, ◌≢◌, ◌<◌, ◌≤◌, ◌+◌, ◌^◌, ℕ, [], length, false, is_some, vec_capacity, Some, IfOk, IfErr, OnOk};
+ghost use Rattle.std.specs.Prelude.{◌≡◌, ◌≢◌, ◌<◌, ◌≤◌, ◌+◌, ◌^◌, ℕ, [], length, false, Err, Some, IfOk, IfErr, IsErr, OnOk};
 ghost use Rattle.std.specs.List.{AllByRecursion};
-ghost use Rattle.xfs_base.specs.Causes.{IfTold, Rose};
+ghost use Rattle.xfs_base.specs.Causes.{IfTold};
 ghost use Rattle.xfs_disk.specs.Disk.{Only};
 ghost use Rattle.xfs_disk.specs.Moments.{LeavesOnly};
-ghost use Rattle.xfs_journal.specs.declared.body.TheConstants.{MOST};
 ghost use Rattle.xfs_journal.specs.Holding.{IsHeld};
 ghost use Rattle.xfs_journal.specs.declared.keep.Keep.TheVariants.{SinceBoot};
 ghost use Rattle.xfs_journal.specs.Image.{IsImage, IsRecord, StandsFor, end_of};
 ghost use Rattle.xfs_journal.specs.JournalView.{HasVersion, IsKept};
-ghost use Rattle.xfs_journal.specs.Paging.{IsQuiet, CeasesAt, CeasesLongAt, LeavesOldOrShort, MayCease};
+ghost use Rattle.xfs_journal.specs.Outcomes.{DiskMayFail};
+ghost use Rattle.xfs_journal.specs.Paging.{IsQuiet, OnlyReads, CeasesAt, CeasesLongAt, LeavesOldOrShort, MayCease};
 ghost use Rattle.xfs_journal.specs.declared.faults.MountFault.TheVariants.{NotJournal, Disk as DiskFault};
 
 use crate::MountFault;
+use crate::buffer::Buffer;
 use crate::gate::write_synced;
 use crate::keep::Keep;
 use crate::page::Page;
@@ -34,10 +35,9 @@ pub(crate) fn read_all<D: Disk>(
     alloc: Global,
     disk: &mut D,
     len: u64,
-    block: &mut Vec<u8>,
+    block: &mut Buffer,
     keep: Keep,
 ) -> Result<Listed, MountFault>
-    requires room { MOST ≤ vec_capacity block.old }
     requires len { IfTold (D.held disk.old) (λ all. length all ≡ len) }
     ensures held { IfOk result (λ l. IsHeld keep l.recent) }
     ensures small { IfOk result (λ l. l.end + 1 < 2 ^ 64) }
@@ -46,11 +46,9 @@ pub(crate) fn read_all<D: Disk>(
     ensures version { IfOk result (λ l. HasVersion (D.held disk.old) (Some l.version)) }
     ensures broken { IfErr result (λ f. (x : ℕ) → f ≡ NotJournal x → IfTold (D.held disk.old) (λ all. CeasesAt all x)) }
     ensures ceases { IfErr result (λ f. (x : ℕ) → f ≡ NotJournal x → MayCease x) }
-    ensures disk { IfErr result (λ f. f ≡ DiskFault → Rose (D.faults disk.old) (D.faults disk.new)) }
-    ensures capacity { MOST ≤ vec_capacity block.new }
-    ensures quiet { IsQuiet D.Disk disk.old disk.new }
+    ensures reads { OnlyReads D.Disk disk.old disk.new (result ≡ Err DiskFault) }
 {
-    let Ok(mut spare) = Vec::with_capacity(alloc, 1025) else {
+    let Ok(mut spare) = Buffer::new(alloc) else {
         return Err(MountFault::Memory);
     };
     let mut page = Page::new(len);
@@ -67,8 +65,8 @@ pub(crate) fn read_all<D: Disk>(
 pub(crate) fn sync_len<D: Disk>(disk: &mut D) -> Result<u64, MountFault>
     ensures len { IfOk result (λ n. IfTold (D.held disk.old) (λ all. length all ≡ n)) }
     ensures durable { OnOk result (IfTold (D.held disk.new) (λ all. Only all (D.images disk.new))) }
-    ensures err { IfErr result (λ f. (f ≡ DiskFault) × Rose (D.faults disk.old) (D.faults disk.new)) }
-    ensures quiet { IsQuiet D.Disk disk.old disk.new }
+    ensures err { IfErr result (λ f. f ≡ DiskFault) }
+    ensures reads { OnlyReads D.Disk disk.old disk.new (IsErr result) }
 {
     if disk.sync().is_err() {
         return Err(MountFault::Disk);
@@ -82,10 +80,9 @@ pub(crate) fn make_empty<D: Disk>(alloc: Global, disk: &mut D) -> Result<Listed,
     ensures ok { IfOk result (λ l. (l.recent.all ≡ []) × (l.recent.base ≡ 0) × (l.end ≡ 8)) }
     ensures kept { IfOk result (λ l. IsKept (D.held disk.new) (D.images disk.new) l.recent.all false l.end) }
     ensures version { IfOk result (λ l. HasVersion (D.held disk.new) (Some l.version)) }
-    ensures err { IfErr result (λ f. (f ≡ DiskFault) × Rose (D.faults disk.old) (D.faults disk.new)) }
+    ensures err { IfErr result (λ f. f ≡ DiskFault) }
     ensures any_moment { IfTold (D.held disk.old) (λ _. LeavesOnly D.Disk disk.old disk.new (λ c. length c ≤ 9)) }
-    ensures told { is_some (D.held disk.new) ≡ is_some (D.held disk.old) }
-    ensures faults { D.faults disk.old ≤ D.faults disk.new }
+    ensures tries { DiskMayFail D.Disk disk.old disk.new (result ≡ Err DiskFault) }
 {
     let [a, b, c, d, e, f, g] = MAGIC;
     if write_synced(disk, 0, &[a, b, c, d, e, f, g, VERSION, 0]).is_err() {
@@ -103,9 +100,8 @@ fn read_or_empty<D: Disk>(
     alloc: Global,
     disk: &mut D,
     len: u64,
-    block: &mut Vec<u8>,
+    block: &mut Buffer,
 ) -> Result<Listed, MountFault>
-    requires room { MOST ≤ vec_capacity block.old }
     requires len { IfTold (D.held disk.old) (λ all. length all ≡ len) }
     requires durable { IfTold (D.held disk.old) (λ all. Only all (D.images disk.old)) }
     ensures kept { IfOk result (λ l. IsKept (D.held disk.new) (D.images disk.new) l.recent.all false l.end) }
@@ -116,11 +112,8 @@ fn read_or_empty<D: Disk>(
     ensures refused { IfErr result (λ f. (at : ℕ) → f ≡ NotJournal at → CeasesLongAt (D.held disk.old) at) }
     ensures unwritten { IfErr result (λ f. f ≢ DiskFault → IsQuiet D.Disk disk.old disk.new) }
     ensures long { IfTold (D.held disk.old) (λ all. 9 < length all → IsQuiet D.Disk disk.old disk.new) }
-    ensures disk { IfErr result (λ f. f ≡ DiskFault → Rose (D.faults disk.old) (D.faults disk.new)) }
     ensures any_moment { LeavesOldOrShort D.Disk disk.old disk.new }
-    ensures told { is_some (D.held disk.new) ≡ is_some (D.held disk.old) }
-    ensures faults { D.faults disk.old ≤ D.faults disk.new }
-    ensures capacity { MOST ≤ vec_capacity block.new }
+    ensures tries { DiskMayFail D.Disk disk.old disk.new (result ≡ Err DiskFault) }
 {
     match read_all(alloc, disk, len, block, Keep::SinceBoot) {
         Err(MountFault::NotJournal { .. }) if len <= 9 => make_empty(alloc, disk),
@@ -132,9 +125,8 @@ fn read_or_empty<D: Disk>(
 pub(crate) fn load<D: Disk>(
     alloc: Global,
     disk: &mut D,
-    block: &mut Vec<u8>,
+    block: &mut Buffer,
 ) -> Result<Listed, MountFault>
-    requires room { MOST ≤ vec_capacity block.old }
     ensures kept { IfOk result (λ l. IsKept (D.held disk.new) (D.images disk.new) l.recent.all false l.end) }
     ensures held { IfOk result (λ l. IsHeld SinceBoot l.recent) }
     ensures end { IfOk result (λ l. l.end ≡ end_of l.recent.all) }
@@ -143,11 +135,8 @@ pub(crate) fn load<D: Disk>(
     ensures refused { IfErr result (λ f. (at : ℕ) → f ≡ NotJournal at → CeasesLongAt (D.held disk.old) at) }
     ensures unwritten { IfErr result (λ f. f ≢ DiskFault → IsQuiet D.Disk disk.old disk.new) }
     ensures long { IfTold (D.held disk.old) (λ all. 9 < length all → IsQuiet D.Disk disk.old disk.new) }
-    ensures disk { IfErr result (λ f. f ≡ DiskFault → Rose (D.faults disk.old) (D.faults disk.new)) }
     ensures any_moment { LeavesOldOrShort D.Disk disk.old disk.new }
-    ensures told { is_some (D.held disk.new) ≡ is_some (D.held disk.old) }
-    ensures faults { D.faults disk.old ≤ D.faults disk.new }
-    ensures capacity { MOST ≤ vec_capacity block.new }
+    ensures tries { DiskMayFail D.Disk disk.old disk.new (result ≡ Err DiskFault) }
 {
     let len = sync_len(disk)?;
     read_or_empty(alloc, disk, len, block)

@@ -1,8 +1,10 @@
 //! Reading a disk's bytes in their order, through one page.
-ghost use Rattle.std.specs.Prelude.{◌≡◌, ◌+◌, ◌<◌, ◌≤◌, min, true, false, [], ◌++◌, length, take, drop, vec_capacity, IfOk, OnOk};
-ghost use Rattle.xfs_base.specs.Causes.{HasCause, IfTold};
-ghost use Rattle.xfs_journal.specs.Paging.{Shows, Took, IsQuiet};
+ghost use Rattle.std.specs.Prelude.{◌≡◌, ◌+◌, ◌<◌, ◌≤◌, min, true, false, [], ◌++◌, length, take, drop, IfOk, IsErr, OnOk};
+ghost use Rattle.xfs_base.specs.Causes.{IfTold};
+ghost use Rattle.xfs_journal.specs.declared.buffer.TheConstants.{MOST};
+ghost use Rattle.xfs_journal.specs.Paging.{Shows, Took, OnlyReads};
 
+use crate::buffer::Buffer;
 use std::marker::Model;
 use xfs_base::Failed;
 use xfs_disk::Disk;
@@ -56,17 +58,16 @@ impl Page {
     }
 
     // Hands over what it has, at most so many bytes.
-    fn give(&mut self, out: &mut Vec<u8>, most: usize) -> usize
-        requires room { length out.old.items + most ≤ vec_capacity out.old }
+    fn give(&mut self, out: &mut Buffer, most: usize) -> usize
+        requires room { length out.old + most ≤ MOST }
         ensures count { result ≡ min most (length self.old.window) }
-        ensures out { out.new.items ≡ out.old.items ++ take result self.old.window }
-        ensures capacity { vec_capacity out.old ≤ vec_capacity out.new }
+        ensures out { out.new ≡ out.old ++ take result self.old.window }
         ensures window { self.new.window ≡ drop result self.old.window }
         ensures at { self.new.at ≡ self.old.at + result }
         ensures len { self.new.len ≡ self.old.len }
     {
         let count = most.min(self.to - self.from);
-        let _ = out.extend_from_slice(&self.bytes[self.from..self.from + count]);
+        out.put(&self.bytes[self.from..self.from + count]);
         self.from += count;
         self.at += count as u64;
         count
@@ -79,8 +80,7 @@ impl Page {
         ensures end { OnOk result (self.new.window ≡ [] → IfTold (D.held disk.old) (λ all. length all ≤ self.old.at)) }
         ensures at { self.new.at ≡ self.old.at }
         ensures len { self.new.len ≡ self.old.len }
-        ensures quiet { IsQuiet D.Disk disk.old disk.new }
-        ensures cause { HasCause (D.faults disk.old) (D.faults disk.new) result }
+        ensures reads { OnlyReads D.Disk disk.old disk.new (IsErr result) }
     {
         if self.from < self.to || self.at == self.len {
             return Ok(());
@@ -107,18 +107,16 @@ fn at_most(count: usize, left: u64) -> usize
 fn read_some<D: Disk>(
     disk: &mut D,
     page: &mut Page,
-    out: &mut Vec<u8>,
+    out: &mut Buffer,
     most: usize,
 ) -> Result<usize, Failed>
     requires some { 1 ≤ most }
-    requires room { length out.old.items + most ≤ vec_capacity out.old }
+    requires room { length out.old + most ≤ MOST }
     requires shows { IfTold (D.held disk.old) (λ all. Shows all page.old) }
-    ensures took { IfOk result (λ n. Took (D.held disk.old) page.old page.new out.old.items out.new.items n) }
+    ensures took { IfOk result (λ n. Took (D.held disk.old) page.old page.new out.old out.new n) }
     ensures most { IfOk result (λ n. n ≤ most) }
     ensures end { IfOk result (λ n. n ≡ 0 → IfTold (D.held disk.old) (λ all. length all ≤ page.old.at)) }
-    ensures capacity { vec_capacity out.old ≤ vec_capacity out.new }
-    ensures quiet { IsQuiet D.Disk disk.old disk.new }
-    ensures cause { HasCause (D.faults disk.old) (D.faults disk.new) result }
+    ensures reads { OnlyReads D.Disk disk.old disk.new (IsErr result) }
 {
     page.refill(disk)?;
     Ok(page.give(out, most))
@@ -128,16 +126,14 @@ fn read_some<D: Disk>(
 pub(crate) fn read_on<D: Disk>(
     disk: &mut D,
     page: &mut Page,
-    out: &mut Vec<u8>,
+    out: &mut Buffer,
     count: usize,
 ) -> Result<bool, Failed>
-    requires room { length out.old.items + count ≤ vec_capacity out.old }
+    requires room { length out.old + count ≤ MOST }
     requires shows { IfTold (D.held disk.old) (λ all. Shows all page.old) }
-    ensures took { IfOk result (λ whole. whole ≡ true → Took (D.held disk.old) page.old page.new out.old.items out.new.items count) }
+    ensures took { IfOk result (λ whole. whole ≡ true → Took (D.held disk.old) page.old page.new out.old out.new count) }
     ensures end { IfOk result (λ whole. whole ≡ false → IfTold (D.held disk.old) (λ all. length all < page.old.at + count)) }
-    ensures capacity { vec_capacity out.old ≤ vec_capacity out.new }
-    ensures quiet { IsQuiet D.Disk disk.old disk.new }
-    ensures cause { HasCause (D.faults disk.old) (D.faults disk.new) result }
+    ensures reads { OnlyReads D.Disk disk.old disk.new (IsErr result) }
 {
     let mut missing = count;
     while missing > 0 {

@@ -1,5 +1,5 @@
 //! Reading one record's body: it is decoded by its letter, and what that record would be written as is compared.
-ghost use Rattle.std.specs.Prelude.{◌≡◌, ◌≢◌, ◌≤◌, ◌+◌, true, false, drop, length, vec_capacity, IfOk, IfErr};
+ghost use Rattle.std.specs.Prelude.{◌≡◌, ◌≢◌, ◌≤◌, ◌+◌, true, false, drop, length, IfOk, IfErr};
 ghost use Rattle.std.specs.Int.{from_be_bytes, w32, w64};
 ghost use Rattle.xfs_journal.specs.Decode.{counts_in, places_in, kind_in, record_in, record_of, has_size};
 ghost use Rattle.xfs_journal.specs.Image.{HasUnit, IsRecord, body};
@@ -8,6 +8,7 @@ ghost use Rattle.xfs_journal.specs.declared.record.Rec.{Rec};
 ghost use Rattle.xfs_journal.specs.declared.record.Rec.TheVariants.{Bind};
 
 use crate::body::put_body;
+use crate::buffer::Buffer;
 use crate::{BodyFault, Rec, Survey, Text};
 use std::alloc::Global;
 use xfs_base::{Counts, Kind, Places};
@@ -214,16 +215,14 @@ fn has_unit(rec: &Rec) -> bool
 }
 
 // Reads a body with the help of a buffer.
-pub(crate) fn read_with(alloc: Global, bytes: &[u8], buffer: &mut Vec<u8>) -> Result<Rec, BodyFault>
-    requires room { 1025 ≤ vec_capacity buffer.old }
+pub(crate) fn read_with(alloc: Global, bytes: &[u8], buffer: &mut Buffer) -> Result<Rec, BodyFault>
     ensures ok { IfOk result (λ r. IsRecord r × (body r ≡ bytes.now)) }
     ensures form { IfErr result (λ f. f ≡ Form → (r : Rec) → IsRecord r → body r ≢ bytes.now) }
-    ensures capacity { vec_capacity buffer.old ≤ vec_capacity buffer.new }
 {
     let rec = decode(alloc, bytes)?;
     buffer.clear();
     put_body(buffer, &rec);
-    if buffer.as_slice() == bytes {
+    if buffer.bytes() == bytes {
         Ok(rec)
     } else {
         Err(BodyFault::Form)
@@ -235,7 +234,7 @@ pub fn read_body(alloc: Global, bytes: &[u8]) -> Result<Rec, BodyFault>
     ensures ok { IfOk result (λ r. IsRecord r × (body r ≡ bytes.now)) }
     ensures form { IfErr result (λ f. f ≡ Form → (r : Rec) → IsRecord r → body r ≢ bytes.now) }
 {
-    match Vec::with_capacity(alloc, 1025) {
+    match Buffer::new(alloc) {
         Ok(mut buffer) => read_with(alloc, bytes, &mut buffer),
         Err(_) => Err(BodyFault::Memory),
     }

@@ -1,20 +1,20 @@
 //! Reading a disk's journal again, and comparing it with the list that was kept.
-ghost use Rattle.std.specs.Prelude.{◌≡◌, ◌≢◌, ◌≤◌, ◌<◌, ◌^◌, List, ℕ, false, None, length, is_some, vec_capacity, Some, IfOk, IfErr, IfSome};
+ghost use Rattle.std.specs.Prelude.{◌≡◌, ◌≢◌, ◌≤◌, ◌<◌, ◌^◌, List, ℕ, false, None, length, Err, Some, IfOk, IfErr, IfSome};
 ghost use Rattle.std.specs.List.{AllByRecursion};
-ghost use Rattle.xfs_base.specs.Causes.{IfTold, Rose};
+ghost use Rattle.xfs_base.specs.Causes.{IfTold};
 ghost use Rattle.xfs_disk.specs.Disk.{Only};
 ghost use Rattle.xfs_journal.specs.Holding.{IsHeld, with_front};
 ghost use Rattle.xfs_journal.specs.Journal.{base_of};
-ghost use Rattle.xfs_journal.specs.declared.body.TheConstants.{MOST};
 ghost use Rattle.xfs_journal.specs.declared.keep.Keep.TheVariants.{Behind};
 ghost use Rattle.xfs_journal.specs.Image.{IsImage, IsRecord, end_of};
 ghost use Rattle.xfs_journal.specs.JournalView.{DiffersAt, HasVersion, IsKept, HasPossible, IsPossible, IsPossibleBehind, MayPartAt};
+ghost use Rattle.xfs_journal.specs.Outcomes.{DiskMayFail};
 ghost use Rattle.xfs_journal.specs.Paging.{IsQuiet, MayCease};
 ghost use Rattle.xfs_journal.specs.declared.faults.MountFault.TheVariants.{NotJournal, Disk as DiskFault};
 ghost use Rattle.xfs_journal.specs.declared.record.Rec.{Rec};
 ghost use Rattle.xfs_disk.specs.Moments.{EachImage};
 
-use crate::body::MOST;
+use crate::buffer::Buffer;
 use crate::differ::{parts_at, size_of};
 use crate::keep::Keep;
 use crate::mount::{Listed, make_empty, read_all, sync_len};
@@ -29,10 +29,9 @@ fn read_again<D: Disk>(
     alloc: Global,
     disk: &mut D,
     len: u64,
-    block: &mut Vec<u8>,
+    block: &mut Buffer,
     kept: &Recent,
 ) -> Result<Listed, MountFault>
-    requires room { MOST ≤ vec_capacity block.old }
     requires len { IfTold (D.held disk.old) (λ all. length all ≡ len) }
     requires durable { IfTold (D.held disk.old) (λ all. Only all (D.images disk.old)) }
     requires image { IfTold (D.held disk.old) (λ all. (records : List Rec) × IsImage all records) }
@@ -44,10 +43,7 @@ fn read_again<D: Disk>(
     ensures silent { IfErr result (λ f. (at : ℕ) → f ≡ NotJournal at → D.held disk.old ≡ None) }
     ensures ceases { IfErr result (λ f. (at : ℕ) → f ≡ NotJournal at → MayCease at) }
     ensures quiet { IfTold (D.held disk.old) (λ _. IsQuiet D.Disk disk.old disk.new) }
-    ensures disk { IfErr result (λ f. f ≡ DiskFault → Rose (D.faults disk.old) (D.faults disk.new)) }
-    ensures told { is_some (D.held disk.new) ≡ is_some (D.held disk.old) }
-    ensures faults { D.faults disk.old ≤ D.faults disk.new }
-    ensures capacity { MOST ≤ vec_capacity block.new }
+    ensures tries { DiskMayFail D.Disk disk.old disk.new (result ≡ Err DiskFault) }
 {
     match read_all(alloc, disk, len, block, Keep::Behind(kept.base())) {
         Err(MountFault::NotJournal { .. }) if len <= 9 && kept.len() == 0 => {
@@ -64,10 +60,9 @@ fn differs_at(
     listed: &Listed,
     kept: &Recent,
     in_doubt: &Option<Rec>,
-    first: &mut Vec<u8>,
-    second: &mut Vec<u8>,
+    first: &mut Buffer,
+    second: &mut Buffer,
 ) -> Option<u64>
-    requires room { (MOST ≤ vec_capacity first.old) × (MOST ≤ vec_capacity second.old) }
     requires of_table { AllByRecursion IsRecord kept.now.all × AllByRecursion IsRecord listed.now.recent.all × IfSome in_doubt.now IsRecord }
     requires place { listed.now.end ≡ end_of listed.now.recent.all }
     requires small { listed.now.end < 2 ^ 64 }
@@ -78,7 +73,6 @@ fn differs_at(
     ensures possible { result ≡ None → IsPossibleBehind kept.now.base kept.now.all in_doubt.now listed.now.recent.all }
     ensures other { IfSome result (λ _. ¬ IsPossibleBehind kept.now.base kept.now.all in_doubt.now listed.now.recent.all) }
     ensures differs { IfSome result (DiffersAt kept.now.base kept.now.all in_doubt.now listed.now.recent.all) }
-    ensures capacity { MOST ≤ vec_capacity first.new }
 {
     if listed.recent.base() < kept.base() {
         return Some(listed.end);
@@ -96,9 +90,8 @@ fn possible(
     listed: Listed,
     kept: &Recent,
     in_doubt: &Option<Rec>,
-    block: &mut Vec<u8>,
+    block: &mut Buffer,
 ) -> Result<Listed, MountFault>
-    requires room { MOST ≤ vec_capacity block.old }
     requires of_table { AllByRecursion IsRecord kept.now.all × AllByRecursion IsRecord listed.recent.all × IfSome in_doubt.now IsRecord }
     requires place { listed.end ≡ end_of listed.recent.all }
     requires small { listed.end < 2 ^ 64 }
@@ -112,13 +105,12 @@ fn possible(
     ensures other { IfErr result (λ f. (at : ℕ) → f ≡ NotJournal at → ¬ IsPossibleBehind kept.now.base kept.now.all in_doubt.now listed.recent.all) }
     ensures differs { IfErr result (λ f. (at : ℕ) → f ≡ NotJournal at → DiffersAt kept.now.base kept.now.all in_doubt.now listed.recent.all at) }
     ensures not_disk { IfErr result (λ f. f ≢ DiskFault) }
-    ensures capacity { MOST ≤ vec_capacity block.new }
 {
     let mut listed = listed;
     if listed.recent.reserve(1).is_err() {
         return Err(MountFault::Memory);
     }
-    let Ok(mut second) = Vec::with_capacity(alloc, MOST) else {
+    let Ok(mut second) = Buffer::new(alloc) else {
         return Err(MountFault::Memory);
     };
     match differs_at(&listed, kept, in_doubt, block, &mut second) {
@@ -132,11 +124,10 @@ fn possible(
 pub(crate) fn reload<D: Disk>(
     alloc: Global,
     disk: &mut D,
-    block: &mut Vec<u8>,
+    block: &mut Buffer,
     kept: &Recent,
     in_doubt: &Option<Rec>,
 ) -> Result<Listed, MountFault>
-    requires room { MOST ≤ vec_capacity block.old }
     requires of_table { AllByRecursion IsRecord kept.now.all × IfSome in_doubt.now IsRecord }
     requires led { kept.now.base ≤ base_of kept.now.all }
     requires possible { EachImage D.Disk disk.old (HasPossible kept.now.all in_doubt.now) }
@@ -150,10 +141,7 @@ pub(crate) fn reload<D: Disk>(
     ensures silent { IfErr result (λ f. (at : ℕ) → f ≡ NotJournal at → D.held disk.old ≡ None) }
     ensures place { IfErr result (λ f. (at : ℕ) → f ≡ NotJournal at → MayPartAt kept.now.base kept.now.all in_doubt.now at) }
     ensures quiet { IfTold (D.held disk.old) (λ _. IsQuiet D.Disk disk.old disk.new) }
-    ensures disk { IfErr result (λ f. f ≡ DiskFault → Rose (D.faults disk.old) (D.faults disk.new)) }
-    ensures told { is_some (D.held disk.new) ≡ is_some (D.held disk.old) }
-    ensures faults { D.faults disk.old ≤ D.faults disk.new }
-    ensures capacity { MOST ≤ vec_capacity block.new }
+    ensures tries { DiskMayFail D.Disk disk.old disk.new (result ≡ Err DiskFault) }
 {
     let len = sync_len(disk)?;
     let listed = read_again(alloc, disk, len, block, kept)?;

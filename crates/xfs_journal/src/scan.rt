@@ -1,16 +1,16 @@
 //! Reading a file of records from its start to the closing gate byte.
-ghost use Rattle.std.specs.Prelude.{◌≡◌, ◌+◌, ◌<◌, ◌≤◌, ℕ, ◌∷◌, ◌++◌, drop, vec_capacity, Some, IfOk, IfErr, OnOk};
+ghost use Rattle.std.specs.Prelude.{◌≡◌, ◌+◌, ◌<◌, ℕ, ◌∷◌, ◌++◌, drop, Err, Some, IfOk, IfErr, OnOk};
 ghost use Rattle.std.specs.List.{AllByRecursion};
-ghost use Rattle.xfs_base.specs.Causes.{IfTold, Rose};
-ghost use Rattle.xfs_journal.specs.declared.body.TheConstants.{MOST};
+ghost use Rattle.xfs_base.specs.Causes.{IfTold};
 ghost use Rattle.xfs_journal.specs.Holding.{IsHeld};
 ghost use Rattle.xfs_journal.specs.Image.{IsImage, IsRecord, end_of, magic};
 ghost use Rattle.xfs_journal.specs.JournalView.{HasVersion};
-ghost use Rattle.xfs_journal.specs.Paging.{Shows, IsQuiet, CeasesAt, MayCease};
+ghost use Rattle.xfs_journal.specs.Paging.{Shows, OnlyReads, CeasesAt, MayCease};
 ghost use Rattle.xfs_journal.specs.declared.faults.MountFault.TheVariants.{NotJournal, Disk as DiskFault};
 
 use crate::MountFault;
 use crate::block::{need, read_block};
+use crate::buffer::Buffer;
 use crate::keep::Keep;
 use crate::page::Page;
 use crate::recent::Recent;
@@ -24,21 +24,18 @@ pub(crate) const MAGIC: [u8; 7] = [0x58, 0x46, 0x53, 0x4A, 0x52, 0x4E, 0x4C];
 pub(crate) const VERSION: u8 = 0x32;
 
 // Reads what a journal begins with, and its version, which may be any byte.
-fn read_magic<D: Disk>(disk: &mut D, page: &mut Page, block: &mut Vec<u8>) -> Result<u8, MountFault>
-    requires room { 8 ≤ vec_capacity block.old }
+fn read_magic<D: Disk>(disk: &mut D, page: &mut Page, block: &mut Buffer) -> Result<u8, MountFault>
     requires start { page.old.at ≡ 0 }
     requires shows { IfTold (D.held disk.old) (λ all. Shows all page.old) }
     ensures at { OnOk result (page.new.at ≡ 8) }
     ensures magic { IfOk result (λ v. IfTold (D.held disk.old) (λ all. (all ≡ magic ++ v ∷ drop 8 all) × Shows all page.new)) }
     ensures broken { IfErr result (λ f. (x : ℕ) → f ≡ NotJournal x → IfTold (D.held disk.old) (λ all. CeasesAt all x)) }
     ensures ceases { IfErr result (λ f. (x : ℕ) → f ≡ NotJournal x → MayCease x) }
-    ensures disk { IfErr result (λ f. f ≡ DiskFault → Rose (D.faults disk.old) (D.faults disk.new)) }
-    ensures capacity { vec_capacity block.old ≤ vec_capacity block.new }
-    ensures quiet { IsQuiet D.Disk disk.old disk.new }
+    ensures reads { OnlyReads D.Disk disk.old disk.new (result ≡ Err DiskFault) }
 {
     block.clear();
     need(disk, page, block, 8, 0)?;
-    let Some((version, front)) = block.split_last() else {
+    let Some((version, front)) = block.bytes().split_last() else {
         return Err(MountFault::NotJournal { at: 0 });
     };
     if front == MAGIC.as_slice() {
@@ -53,11 +50,10 @@ pub(crate) fn read_records<D: Disk>(
     alloc: Global,
     disk: &mut D,
     page: &mut Page,
-    block: &mut Vec<u8>,
-    spare: &mut Vec<u8>,
+    block: &mut Buffer,
+    spare: &mut Buffer,
     keep: Keep,
 ) -> Result<(u8, Recent), MountFault>
-    requires room { (MOST ≤ vec_capacity block.old) × (1025 ≤ vec_capacity spare.old) }
     requires start { page.old.at ≡ 0 }
     requires shows { IfTold (D.held disk.old) (λ all. Shows all page.old) }
     ensures place { IfOk result (λ r. page.new.at ≡ end_of r.1.all + 1) }
@@ -67,9 +63,7 @@ pub(crate) fn read_records<D: Disk>(
     ensures image { IfOk result (λ r. IfTold (D.held disk.old) (λ all. IsImage all r.1.all)) }
     ensures broken { IfErr result (λ f. (x : ℕ) → f ≡ NotJournal x → IfTold (D.held disk.old) (λ all. CeasesAt all x)) }
     ensures ceases { IfErr result (λ f. (x : ℕ) → f ≡ NotJournal x → MayCease x) }
-    ensures disk { IfErr result (λ f. f ≡ DiskFault → Rose (D.faults disk.old) (D.faults disk.new)) }
-    ensures capacity { MOST ≤ vec_capacity block.new }
-    ensures quiet { IsQuiet D.Disk disk.old disk.new }
+    ensures reads { OnlyReads D.Disk disk.old disk.new (result ≡ Err DiskFault) }
 {
     let version = read_magic(disk, page, block)?;
     let mut recent = Recent::new(alloc);

@@ -4,7 +4,7 @@ use Rattle.xfs_journal.proofs.body.put_counts.Goals as goal
 
 pub returns-clause-items : goal.returns-clause-items
 returns-clause-items c =
-    let o = c.args.out.now.items in
+    let o = c.args.out.now in
     let two = behind o _ _ _ _ c.put_count.ensures.items c.put_count-2.ensures.items in
     let three = behind o _ _ _ _ two c.put_count-3.ensures.items in
     let four = behind o _ _ _ _ three c.put_count-4.ensures.items in

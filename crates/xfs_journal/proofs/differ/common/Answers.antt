@@ -14,5 +14,4 @@ loop-count-preserved c =
     record {
       within = (omega (arith, c.loop-count-test.true), omega (arith, c.if-count-kept.true));
       same = same_next found kept n c.index-found-count.result c.index-kept-count.result c.loop-count.invariant.same there other (c.is_same.ensures.yes yes);
-      room = c.is_same.ensures.capacity;
     }

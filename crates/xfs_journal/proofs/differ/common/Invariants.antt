@@ -1,12 +1,10 @@
-use Rattle.std.proofs.Common.{◌≡◌, ◌≤◌, ◌-◌, length, take, vec_capacity}
-use Rattle.xfs_journal.specs.declared.body.TheConstants.{MOST}
+use Rattle.std.proofs.Common.{◌≡◌, ◌≤◌, ◌-◌, length, take}
 use Rattle.xfs_journal.proofs.differ.common.Given as goal
 
 abbrev pub invariant-loop-count : goal.invariant-loop-count
 invariant-loop-count l = record {
   within : (l.count ≤ length l.found) × (l.count ≤ length l.kept);
   same : take l.count l.found ≡ take l.count l.kept;
-  room : (MOST ≤ vec_capacity l.first) × (MOST ≤ vec_capacity l.second);
 }
 
 abbrev pub decreases-loop-count : goal.decreases-loop-count

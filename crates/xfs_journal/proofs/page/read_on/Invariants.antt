@@ -1,13 +1,13 @@
-use Rattle.std.proofs.Common.{◌+◌, ◌≤◌, ◌-◌, length, vec_capacity}
+use Rattle.std.proofs.Common.{◌+◌, ◌≤◌, ◌-◌, length}
+use Rattle.xfs_journal.specs.declared.buffer.TheConstants.{MOST}
 use Rattle.xfs_journal.specs.Paging.{Took, IsQuiet}
 use Rattle.xfs_journal.proofs.page.read_on.Given as goal
 
 abbrev pub invariant-loop-missing : goal.invariant-loop-missing
 invariant-loop-missing g l =
-    Took (g.D.Disk.held l.initial.disk) l.initial.page l.page l.initial.out.items l.out.items (l.count - l.missing)
+    Took (g.D.Disk.held l.initial.disk) l.initial.page l.page l.initial.out l.out (l.count - l.missing)
     × (l.missing ≤ l.count)
-    × (length l.out.items + l.missing ≤ vec_capacity l.out)
-    × (vec_capacity l.initial.out ≤ vec_capacity l.out)
+    × (length l.out + l.missing ≤ MOST)
     × IsQuiet g.D.Disk l.initial.disk l.disk
 
 abbrev pub decreases-loop-missing : goal.decreases-loop-missing

@@ -7,5 +7,5 @@ use Rattle.xfs_journal.proofs.read.read_with.Goals as goal
 pub returns-else-eq-clause-form : goal.returns-else-eq-clause-form
 returns-else-eq-clause-form c =
     let rec = c.in_ok-rec.rec in
-    let spelled = c.as_slice.ensures.value ∙ c.put_body.ensures.items ∙ ap (λ (l : List ℕ). l ++ body rec) c.clear.ensures.items in
-    λ _. none_other c.args.bytes.now c.as_slice.result.now rec c.in_ok-rec.ensures.ok.0 spelled (other_text c.as_slice.result.now c.args.bytes.now c.if-eq.ensures)
+    let spelled = c.bytes.ensures ∙ c.put_body.ensures.items ∙ ap (λ (l : List ℕ). l ++ body rec) c.clear.ensures in
+    λ _. none_other c.args.bytes.now c.bytes.result.now rec c.in_ok-rec.ensures.ok.0 spelled (other_text c.bytes.result.now c.args.bytes.now c.if-eq.ensures)

@@ -11,7 +11,7 @@ use Rattle.xfs_journal.proofs.remount.reload.Goals as goal
 
 pub read_again-requires-clause-image : goal.read_again-requires-clause-image
 read_again-requires-clause-image g c =
-    some_list _ _ c.args.kept.now.all c.args.in_doubt.now c.sync_len.ensures.quiet.same
+    some_list _ _ c.args.kept.now.all c.args.in_doubt.now c.sync_len.ensures.reads.quiet.same
     (imaged _ (g.D.Disk.images c.args.disk.now) c.args.kept.now.all c.args.in_doubt.now (g.met.D.Disk.as_read c.args.disk.now) c.requires.possible)
 
 pub returns-clause-possible : goal.returns-clause-possible
@@ -29,9 +29,9 @@ returns-clause-kept g c =
     let h = g.D.Disk.held c.args.disk.now in
     let le : b ≤ length K = omega (arith, c.requires.led, base_of-le K) in
     let has : IfTold h (λ all. HasPossible K d all) = imaged _ (g.D.Disk.images c.args.disk.now) K d (g.met.D.Disk.as_read c.args.disk.now) c.requires.possible in
-    let image : IfTold h (λ all. IsImage all L) = subst (λ (h : Option (List ℕ)). IfTold h (λ all. IsImage all L)) c.sync_len.ensures.quiet.same c.in_ok-listed.ensures.image in
+    let image : IfTold h (λ all. IsImage all L) = subst (λ (h : Option (List ℕ)). IfTold h (λ all. IsImage all L)) c.sync_len.ensures.reads.quiet.same c.in_ok-listed.ensures.image in
     let h2 = g.D.Disk.held c.read_again.new.disk in
-    let told : is_some h2 ≡ is_some h = c.read_again.ensures.told ∙ ap is_some c.sync_len.ensures.quiet.same in
+    let told : is_some h2 ≡ is_some h = c.read_again.ensures.tries.goes_on.told ∙ ap is_some c.sync_len.ensures.reads.quiet.same in
     if_ok_both c.possible.result _ _ _ (λ l same p.
     let q : IsPossible (drop b K) d (drop b L) = rw (← same.0) p in
     let all = possible_of_table K d (with_front b K L) c.requires.of_table.0 c.requires.of_table.1 (joined_possible K d b le L q) in
@@ -50,7 +50,7 @@ returns-clause-image g c =
     let h = g.D.Disk.held c.args.disk.now in
     let le : b ≤ length K = omega (arith, c.requires.led, base_of-le K) in
     let has : IfTold h (λ all. HasPossible K d all) = imaged _ (g.D.Disk.images c.args.disk.now) K d (g.met.D.Disk.as_read c.args.disk.now) c.requires.possible in
-    let image : IfTold h (λ all. IsImage all L) = subst (λ (h : Option (List ℕ)). IfTold h (λ all. IsImage all L)) c.sync_len.ensures.quiet.same c.in_ok-listed.ensures.image in
+    let image : IfTold h (λ all. IsImage all L) = subst (λ (h : Option (List ℕ)). IfTold h (λ all. IsImage all L)) c.sync_len.ensures.reads.quiet.same c.in_ok-listed.ensures.image in
     if_ok c.possible.result _ _ (λ l same. rw same.0 (image_joined h h (g.D.Disk.images c.args.disk.now) K L d b le has image)) c.possible.ensures.same
 
 pub returns-clause-long : goal.returns-clause-long
@@ -69,11 +69,8 @@ returns-clause-silent g c =
     let h = g.D.Disk.held c.args.disk.now in
     let le : b ≤ length K = omega (arith, c.requires.led, base_of-le K) in
     let has : IfTold h (λ all. HasPossible K d all) = imaged _ (g.D.Disk.images c.args.disk.now) K d (g.met.D.Disk.as_read c.args.disk.now) c.requires.possible in
-    let image : IfTold h (λ all. IsImage all L) = subst (λ (h : Option (List ℕ)). IfTold h (λ all. IsImage all L)) c.sync_len.ensures.quiet.same c.in_ok-listed.ensures.image in
+    let image : IfTold h (λ all. IsImage all L) = subst (λ (h : Option (List ℕ)). IfTold h (λ all. IsImage all L)) c.sync_len.ensures.reads.quiet.same c.in_ok-listed.ensures.image in
     if_err c.possible.result _ _ (λ f other at e. behind_silent h K L d b le has image (other at e)) c.possible.ensures.other
 
 pub returns-clause-place : goal.returns-clause-place
 returns-clause-place g c = if_err_both c.possible.result _ _ _ (λ f other differs at e. inl (c.in_ok-listed.listed.recent.all, other at e, differs at e)) c.possible.ensures.other c.possible.ensures.differs
-
-pub returns-clause-disk : goal.returns-clause-disk
-returns-clause-disk g c = if_err c.possible.result _ _ (λ f other is. absurd (other is)) c.possible.ensures.not_disk

@@ -18,14 +18,12 @@ loop-recent-preserved g c =
     let p = c.loop-recent.page in
     let q = c.read_block.new.page in
     let found = from_some _ _ c.in_ok-rec.ensures.of_table r c.in-Some.is in
-    let next = subst (λ (h : Option (List ℕ)). IfTold h (λ all. (drop p.at all ≡ (1 ∷ framed r) ++ drop q.at all) × Shows all q)) inv.5.same (from_some _ _ c.in_ok-rec.ensures.record r c.in-Some.is) in
+    let next = subst (λ (h : Option (List ℕ)). IfTold h (λ all. (drop p.at all ≡ (1 ∷ framed r) ++ drop q.at all) × Shows all q)) inv.3.same (from_some _ _ c.in_ok-rec.ensures.record r c.in-Some.is) in
     let more = one_more (g.D.Disk.held c.args.disk.now) c.in_ok-version.version J c.take_in.new.self.all r p q inv.0 inv.1 inv.2 found next (search rules) in (
       more.0,
       more.1,
       more.2,
-      c.read_block.ensures.capacity.0,
-      c.read_block.ensures.capacity.1,
-      quiet_then g.D.Disk _ _ _ inv.5 c.read_block.ensures.quiet,
+      quiet_then g.D.Disk _ _ _ inv.3 c.read_block.ensures.reads.quiet,
       search rules,
     )
 

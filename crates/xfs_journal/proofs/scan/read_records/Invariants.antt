@@ -1,7 +1,6 @@
-use Rattle.std.proofs.Common.{◌≡◌, ◌≤◌, ◌-◌, ◌^◌, ◌++◌, drop, vec_capacity}
+use Rattle.std.proofs.Common.{◌≡◌, ◌-◌, ◌^◌, ◌++◌, drop}
 use Rattle.std.specs.List.{AllByRecursion}
 use Rattle.xfs_base.specs.Causes.{IfTold}
-use Rattle.xfs_journal.specs.declared.body.TheConstants.{MOST}
 use Rattle.xfs_journal.specs.Holding.{IsHeld}
 use Rattle.xfs_journal.specs.Image.{IsRecord, contents, end_of}
 use Rattle.xfs_journal.specs.Paging.{Shows, IsQuiet}
@@ -12,8 +11,6 @@ invariant-loop-recent g l =
     (l.page.at ≡ end_of l.recent.all)
     × AllByRecursion IsRecord l.recent.all
     × IfTold (g.D.Disk.held l.fn.disk) (λ all. (all ≡ contents l.version l.recent.all ++ drop l.page.at all) × Shows all l.page)
-    × (MOST ≤ vec_capacity l.block)
-    × (1025 ≤ vec_capacity l.spare)
     × IsQuiet g.D.Disk l.fn.disk l.disk
     × IsHeld l.keep l.recent
 

@@ -8,4 +8,4 @@ returns-clause-few g c =
     let j = c.self.inside in
     let same : length j.recent.all ≡ length c.args.self.now.records = ap (λ (v : JournalView g.row.D.Denot). length v.records) c.self.view_is in
     let small : j.end < 2 ^ 64 = search rules in
-    omega (arith, same, records-few j.recent.all, c.self.invariant.4.end_is, small)
+    omega (arith, same, records-few j.recent.all, c.self.invariant.3.end_is, small)
