@@ -14,5 +14,6 @@ pub use cancel::{CancelWhat, ReadFail, read_cancel};
 pub use command::{CommonCommand, Immediate};
 pub use error::ErrorCode;
 pub use payloads::{
-    Fit2, capabilities, error_code, nonce, nothing, present_status, record_note, services, status,
+    Fit2, capabilities, error_code, nonce, nothing, present_status, record_note, services,
+    status_text,
 };

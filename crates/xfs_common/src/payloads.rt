@@ -3,7 +3,8 @@ ghost use Rattle.std.specs.List.{list_all};
 ghost use Rattle.std.specs.Str.{IsUtf8};
 ghost use Rattle.serde_json.specs.Data.{object, member, no_members};
 ghost use Rattle.serde_json.specs.View.{view};
-ghost use Rattle.xfs_common.specs.Payloads.{status_payload, device_state, capabilities_payload, dispenser_security, services_payload, service_entry, is_upper_hex, nonce_payload, present_status_payload, record_payload, error_payload};
+ghost use Rattle.serde_json.specs.Written.{compact_text};
+ghost use Rattle.xfs_common.specs.Payloads.{status_payload, capabilities_payload, dispenser_security, services_payload, service_entry, is_upper_hex, nonce_payload, present_status_payload, record_payload, error_payload};
 
 use crate::address::uri;
 use serde_json::{Value, json, put};
@@ -27,21 +28,14 @@ pub fn nothing(alloc: Global) -> Value
     Value::Object(Map::new(alloc))
 }
 
-/// The payload of Common.Status. Only the dispenser's device can have another state than online.
-pub fn status(alloc: Global, service: Service, fit: Fit2) -> Result<Value, Memory>
-    ensures { IfOk result (λ v. view v ≡ status_payload service fit) }
-{
-    let device = device_state(service, fit);
-    let state = json!(in alloc; {"device": device})?;
-    Ok(common(alloc, state)?)
-}
-
-fn device_state(service: Service, fit: Fit2) -> &'static str
-    ensures { result.now ≡ device_state service fit }
+/// The payload of Common.Status, as its compact text. Only the dispenser's device can have another state than online.
+#[tactic(auto, unfolding(serde_json::proofs::OnLiterals::serde_json_on_literals))]
+pub fn status_text(service: Service, fit: Fit2) -> &'static str
+    ensures { result.now ≡ compact_text (status_payload service fit) }
 {
     match (service, fit) {
-        (Service::Cash, Fit2::HardwareError) => "hardwareError",
-        _ => "online",
+        (Service::Cash, Fit2::HardwareError) => "{\"common\":{\"device\":\"hardwareError\"}}",
+        _ => "{\"common\":{\"device\":\"online\"}}",
     }
 }
 

@@ -12,5 +12,5 @@ mod name;
 pub use answer::{Answer, AnswerFault, read_answer};
 pub use code::{Code, Status};
 pub use command::{Envelope, LONGEST_MESSAGE, Refuse, Why, read};
-pub use messages::{acknowledge, completion, event, unsolicited};
+pub use messages::{acknowledge, completion, completion_of_text, event, unsolicited};
 pub use name::{Name, NameFault};

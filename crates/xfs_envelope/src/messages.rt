@@ -1,11 +1,12 @@
 ghost use Rattle.std.specs.Prelude.{◌≡◌, ◌<◌, ◌^◌, ◌++◌, flat_map, string_bytes, Some, IsTrue, option_copied, IfSome, IfOk, OnOk};
+ghost use Rattle.serde_json.specs.Data.{Data};
 ghost use Rattle.serde_json.specs.View.{view};
 ghost use Rattle.serde_json.specs.Written.{compact_text};
 ghost use Rattle.xfs_envelope.specs.Codes.{code_text};
 ghost use Rattle.xfs_envelope.specs.Messages.{acknowledge_header, event_header, completion_header, unsolicited_header, headed, framed, IsPayload};
 ghost use Rattle.xfs_envelope.specs.Names.{is_name};
 ghost use Rattle.xfs_envelope.specs.Parts.{frame, name_part, id_part, status_part};
-ghost use Rattle.xfs_envelope.specs.Readable.{IsReadable};
+ghost use Rattle.xfs_envelope.specs.Readable.{IsPayloadText, IsReadable};
 ghost use Rattle.xfs_envelope.specs.Replies.{Reply, reply_in};
 ghost use Rattle.xfs_json.specs.Reading.{reading};
 
@@ -65,6 +66,23 @@ pub fn completion(
     ensures reads_back { IfOk result (λ t. reply_in t.items
         ≡ Some (Reply.completion id name.now code (view payload.now))) }
 {
+    let text = payload_text(alloc, payload)?;
+    completion_of_text(alloc, name, id, code, &text)
+}
+
+/// The same, of a payload that is given by its compact text.
+pub fn completion_of_text(
+    alloc: Global,
+    name: &Name,
+    id: u64,
+    code: Code,
+    payload: &str,
+) -> Result<Vec<u8>, Memory>
+    ensures text { IfOk result (λ t. (d : Data) → IsPayloadText d payload.now → t.items
+        ≡ compact_text (framed (completion_header name.now id code) d)) }
+    ensures reads_back { IfOk result (λ t. (d : Data) → IsPayloadText d payload.now → reply_in t.items
+        ≡ Some (Reply.completion id name.now code d)) }
+{
     Ok(new_completion(alloc, name.as_str(), id, code, payload)?.into_bytes())
 }
 
@@ -85,14 +103,11 @@ fn new_completion(
     name: &str,
     id: u64,
     code: Code,
-    payload: &Value,
+    payload: &str,
 ) -> Result<String, AllocError>
     requires name { IsTrue (is_name name.now) }
-    requires payload { IsPayload (view payload.now) }
-    ensures text { IfOk result (λ t. string_bytes t
-        ≡ compact_text (framed (completion_header name.now id code) (view payload.now))) }
-    ensures reads { IfOk result (λ t. reading (string_bytes t)
-        ≡ Some (framed (completion_header name.now id code) (view payload.now))) }
+    ensures { IfOk result (λ t. string_bytes t
+        ≡ frame (compact_text (completion_header name.now id code)) payload.now) }
 {
     let mut digits = itoa::Buffer::new();
     let header = [
@@ -104,7 +119,7 @@ fn new_completion(
         digits.format(id),
         ",\"type\":\"completion\",\"version\":\"2.0\"}",
     ];
-    new_framed(alloc, &header, payload)
+    framed(alloc, &header, payload)
 }
 
 // The code's text for as long as the code is borrowed, as it stands among the parts of a header.
@@ -199,10 +214,25 @@ fn new_framed(alloc: Global, header: &[&str], payload: &Value) -> Result<String,
         ≡ frame (flat_map (λ p. p.now) header.now) (compact_text (view payload.now))) }
     ensures payload { OnOk result (IsReadable (view payload.now)) }
 {
-    let payload = payload.to_string(alloc)?;
+    let text = payload_text(alloc, payload)?;
+    framed(alloc, header, &text)
+}
+
+fn payload_text(alloc: Global, payload: &Value) -> Result<String, AllocError>
+    requires { IsPayload (view payload.now) }
+    ensures { IfOk result (λ t. IsPayloadText (view payload.now) (string_bytes t)) }
+{
+    let text = payload.to_string(alloc)?;
+    Ok(text)
+}
+
+// The text of a message by the texts of its header, in parts, and of its payload.
+fn framed(alloc: Global, header: &[&str], payload: &str) -> Result<String, AllocError>
+    ensures { IfOk result (λ t. string_bytes t ≡ frame (flat_map (λ p. p.now) header.now) payload.now) }
+{
     let mut text = String::with_capacity(alloc, ROOM.saturating_add(payload.len()))?;
     text.push_str("{\"header\":")?;
     push_all(&mut text, header)?;
-    push_all(&mut text, &[",\"payload\":", payload.as_str(), "}"])?;
+    push_all(&mut text, &[",\"payload\":", payload, "}"])?;
     Ok(text)
 }

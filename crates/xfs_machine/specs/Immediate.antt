@@ -1,7 +1,10 @@
 -- Which of the commands that are done at once are told of the machine alone.
-use Rattle.std.specs.Prelude.{Bool, true, false, Option, None, Some}
+use Rattle.std.specs.Prelude.{ℕ, List, Bool, true, false, Option, None, Some}
 use Rattle.xfs_common.specs.declared.command.Immediate.{Immediate}
 use Rattle.xfs_common.specs.declared.command.Immediate.TheVariants.{Status, Capabilities, Cancel, GetServices, GetStorage, GetPresentStatus}
+use Rattle.xfs_envelope.specs.Commands as envelope
+use Rattle.xfs_model.specs.Frames.{IsCompletion}
+use Rattle.xfs_model.specs.State.{Outcome}
 
 -- a Cancel does something, and what a GetPresentStatus tells is a token; a name that is not known is told too
 abbrev pub is_told : Option Immediate → Bool
@@ -12,3 +15,7 @@ is_told (Some Cancel) = false
 is_told (Some GetServices) = true
 is_told (Some GetStorage) = true
 is_told (Some GetPresentStatus) = false
+
+-- a frame completes a command with this outcome
+abbrev pub Completes : envelope.Command → Outcome → List ℕ → Type 0
+Completes c outcome frame = IsCompletion c.id c.name outcome.code outcome.payload frame

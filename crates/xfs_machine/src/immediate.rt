@@ -12,15 +12,14 @@ ghost use Rattle.xfs_envelope.specs.Messages.{IsPayload};
 ghost use Rattle.xfs_guard.specs.Fits.{unfit};
 ghost use Rattle.xfs_machine.specs.Changes.{CancelIsDone, IsDoneAtOnce};
 ghost use Rattle.xfs_traffic.specs.Senders.{IsCompleted};
-ghost use Rattle.xfs_model.specs.Frames.{IsAcknowledge, IsCompletion};
-ghost use Rattle.xfs_common.specs.Payloads.{capabilities_payload, status_payload};
+ghost use Rattle.xfs_common.specs.Payloads.{capabilities_payload, services_payload, status_payload};
 ghost use Rattle.xfs_common.specs.declared.error.ErrorCode.TheVariants.{NoMatchingRequestIds};
 ghost use Rattle.xfs_model.specs.Immediate.{ids_of, told_of};
 ghost use Rattle.xfs_model.specs.Results.{error, plain, success};
 ghost use Rattle.xfs_envelope.specs.declared.code.Code.TheVariants.{InvalidCommand};
-ghost use Rattle.xfs_machine.specs.Immediate.{is_told};
+ghost use Rattle.xfs_machine.specs.Immediate.{Completes, is_told};
 ghost use Rattle.xfs_units.specs.Payloads.{storage_payload};
-ghost use Rattle.xfs_model.specs.State.{State};
+ghost use Rattle.xfs_model.specs.State.{Outcome as OutcomeView, State};
 ghost use Rattle.xfs_queue.specs.Commands.{names};
 ghost use Rattle.xfs_queue.specs.Queue.{is_named};
 
@@ -29,10 +28,10 @@ use std::alloc::Global;
 use xfs_base::{Bytes, ClientId, Memory, Service};
 use xfs_common::{
     CancelWhat, ErrorCode, Fit2, Immediate, ReadFail, capabilities, error_code, nothing,
-    read_cancel, services, status,
+    read_cancel, services, status_text,
 };
 use xfs_disk::Disk;
-use xfs_envelope::{Code, Envelope, completion};
+use xfs_envelope::{Code, Envelope, completion, completion_of_text};
 use xfs_guard::Guard;
 use xfs_mech::Mechanism;
 use xfs_queue::{Command, Ids, Queue};
@@ -79,8 +78,8 @@ fn answer<M: Mechanism, D: Disk>(
     ensures ok { OnOk result (IsDoneAtOnce sender guard.now.state (said command.now) traffic.old traffic.new) }
     ensures err { OnErr result (traffic.new ≡ traffic.old) }
 {
-    let outcome = tell(alloc, guard, sender.service, asked)?;
-    complete(alloc, &mut traffic.connections, sender, command, &outcome)
+    let last = told_frame(alloc, guard, sender.service, command, asked)?;
+    send_both(alloc, &mut traffic.connections, sender, command, last)
 }
 
 // The acknowledge and the completion are sent, or neither.
@@ -94,36 +93,70 @@ fn complete(
     ensures ok { OnOk result (IsCompleted sender (said command.now) outcome.now connections.old connections.new) }
     ensures err { OnErr result (connections.new ≡ connections.old) }
 {
-    let reply = acceptance_reply(alloc, command)?;
     let last = completion_frame(alloc, command, outcome)?;
+    send_both(alloc, connections, sender, command, last)
+}
+
+fn send_both(
+    alloc: Global,
+    connections: &mut Connections,
+    sender: Sender,
+    command: &Envelope,
+    last: Bytes,
+) -> Result<(), Memory>
+    ensures ok { OnOk result ((o : OutcomeView) → Completes (said command.now) o last
+        → IsCompleted sender (said command.now) o connections.old connections.new) }
+    ensures err { OnErr result (connections.new ≡ connections.old) }
+{
+    let reply = acceptance_reply(alloc, command)?;
     connections.send_two(sender.service, sender.client, reply, last)
 }
 
 fn completion_frame(alloc: Global, command: &Envelope, outcome: &Outcome) -> Result<Bytes, Memory>
-    ensures { IfOk result (λ f. IsCompletion command.now.id command.now.name outcome.now.code outcome.now.payload f) }
+    ensures { IfOk result (Completes (said command.now) outcome.now) }
 {
     let code = outcome.code();
     Ok(Bytes::new(completion(alloc, &command.name, command.id, code, outcome.payload())?))
 }
 
-// What is told of the machine.
-fn tell<M: Mechanism, D: Disk>(
+// The completion that tells of the machine. A Status has so few of them that each is known as a text.
+fn told_frame<M: Mechanism, D: Disk>(
     alloc: Global,
     guard: &Guard<M, D>,
     service: Service,
+    command: &Envelope,
     asked: Option<Immediate>,
-) -> Result<Outcome, Memory>
-    ensures { IfOk result (λ o. (s : State) → s.seen.guard ≡ guard.now.state → o ≡ told_of s service asked) }
+) -> Result<Bytes, Memory>
+    ensures { IfOk result (λ f. (s : State) → s.seen.guard ≡ guard.now.state → Completes (said command.now) (told_of s service asked) f) }
 {
     match asked {
-        Some(Immediate::Status) => tell_health(alloc, service, health(guard)),
-        Some(Immediate::Capabilities) => tell_capabilities(alloc, service),
-        Some(Immediate::GetServices) => Ok(Outcome::new(Code::Success, services(alloc)?)),
-        Some(Immediate::GetStorage) => tell_storage(alloc, guard),
-        Some(Immediate::Cancel) => Ok(invalid(alloc)),
-        Some(Immediate::GetPresentStatus) => Ok(invalid(alloc)),
-        None => Ok(invalid(alloc)),
+        Some(Immediate::Status) => status_frame(alloc, command, service, health(guard)),
+        Some(Immediate::Capabilities) => {
+            completion_frame(alloc, command, &tell_capabilities(alloc, service)?)
+        }
+        Some(Immediate::GetServices) => completion_frame(alloc, command, &tell_services(alloc)?),
+        Some(Immediate::GetStorage) => completion_frame(
+            alloc,
+            command,
+            &tell_storage(alloc, guard)?,
+        ),
+        Some(Immediate::Cancel) => completion_frame(alloc, command, &invalid(alloc)),
+        Some(Immediate::GetPresentStatus) => completion_frame(alloc, command, &invalid(alloc)),
+        None => completion_frame(alloc, command, &invalid(alloc)),
     }
+}
+
+fn status_frame(
+    alloc: Global,
+    command: &Envelope,
+    service: Service,
+    health: Fit2,
+) -> Result<Bytes, Memory>
+    ensures { IfOk result (Completes (said command.now) (success (status_payload service health))) }
+{
+    let payload = status_text(service, health);
+    let text = completion_of_text(alloc, &command.name, command.id, Code::Success, payload)?;
+    Ok(Bytes::new(text))
 }
 
 fn invalid(alloc: Global) -> Outcome
@@ -142,16 +175,16 @@ fn health<M: Mechanism, D: Disk>(guard: &Guard<M, D>) -> Fit2
     }
 }
 
-fn tell_health(alloc: Global, service: Service, health: Fit2) -> Result<Outcome, Memory>
-    ensures { IfOk result (λ o. o ≡ success (status_payload service health)) }
-{
-    Ok(Outcome::new(Code::Success, status(alloc, service, health)?))
-}
-
 fn tell_capabilities(alloc: Global, service: Service) -> Result<Outcome, Memory>
     ensures { IfOk result (λ o. o ≡ success (capabilities_payload service)) }
 {
     Ok(Outcome::new(Code::Success, capabilities(alloc, service)?))
+}
+
+fn tell_services(alloc: Global) -> Result<Outcome, Memory>
+    ensures { IfOk result (λ o. o ≡ success services_payload) }
+{
+    Ok(Outcome::new(Code::Success, services(alloc)?))
 }
 
 fn tell_storage<M: Mechanism, D: Disk>(

@@ -1,24 +1,10 @@
-use Rattle.std.proofs.Common.{ap, ◌∙◌, string_bytes, arith}
+use Rattle.std.proofs.Common.{ap, ◌∙◌}
 use Rattle.std.proofs.lemmas.Result.{IfOk-weaker}
-use Rattle.std.proofs.lemmas.Str.{IsUtf8-string_bytes}
-use Rattle.serde_json.specs.View.{view}
-use Rattle.serde_json.specs.Written.{compact_text}
-use Rattle.xfs_envelope.specs.Messages.{completion_header, framed}
 use Rattle.xfs_envelope.specs.Parts.{frame}
-use Rattle.xfs_envelope.proofs.HeaderLaws.{completion_text, completion_reads, framed_text}
-use Rattle.xfs_envelope.proofs.TextLaws.{IfOk-both, IsReadable-framed, reading_text}
+use Rattle.xfs_envelope.proofs.HeaderLaws.{completion_text}
 use Rattle.xfs_envelope.proofs.messages.new_completion.Goals as goal
 
-pub returns-clause-text : goal.returns-clause-text
-returns-clause-text c =
-    let payload = view c.args.payload.now in
+pub returns : goal.returns
+returns c =
     let header = completion_text c.args.name.now c.format.result.now c.text_of.result.now c.args.id c.args.code c.requires.name c.text_of.ensures c.format.ensures.text in
-    IfOk-weaker c.new_framed.result _ _ (λ t e. e ∙ ap (λ h. frame h (compact_text payload)) header ∙ framed_text (completion_header c.args.name.now c.args.id c.args.code) payload) c.new_framed.ensures.text
-
-pub returns-clause-reads : goal.returns-clause-reads
-returns-clause-reads c =
-    let payload = view c.args.payload.now in
-    let header = completion_header c.args.name.now c.args.id c.args.code in
-    IfOk-both c.new_framed.result _ _ _
-    (λ t text readable. reading_text (framed header payload) (string_bytes t) (IsUtf8-string_bytes t) text (omega (arith, c.requires.payload.2)) (IsReadable-framed header payload (completion_reads c.args.name.now c.args.id c.args.code c.ranges.id.fits) readable))
-    (returns-clause-text c) c.new_framed.ensures.payload
+    IfOk-weaker c.framed.result _ _ (λ t e. e ∙ ap (λ h. frame h c.args.payload.now) header) c.framed.ensures

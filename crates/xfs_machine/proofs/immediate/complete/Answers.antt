@@ -2,10 +2,4 @@ use Rattle.std.proofs.lemmas.Result.{on_ok_weaker}
 use Rattle.xfs_machine.proofs.immediate.complete.Goals as goal
 
 pub returns-clause-ok : goal.returns-clause-ok
-returns-clause-ok c = on_ok_weaker c.send_two.result (λ sent. record {
-  reply = c.in_ok-reply.reply;
-  last = c.in_ok-last.last;
-  acknowledges = c.in_ok-reply.ensures;
-  completes = c.in_ok-last.ensures;
-  is = sent;
-}) c.send_two.ensures.ok
+returns-clause-ok c = on_ok_weaker c.send_both.result (λ sends. sends c.args.outcome.now c.in_ok-last.ensures) c.send_both.ensures.ok
