@@ -1,17 +1,28 @@
-//! A simulated machine that has booted, and what is done at its devices.
+//! The simulated machine, and what is done at its devices.
 
+ghost use Rattle.std.specs.Prelude.{IfOk};
 ghost use Rattle.xfs_guard.specs.Starts.{Starts};
 
 use std::alloc::Global;
 use std::test::Fail;
-use xfs_disk::{Disk, MemDisk};
+use xfs_disk::{Disk, FailDisk};
 use xfs_guard::Core;
 use xfs_machine::Machine;
 use xfs_mech::{KeyName, Mechanism, SimMech, SimWatch, Touch, Tracks};
-use xfs_simulated::{LIMITS, core_on, empty, mechanism, units};
+use xfs_simulated::{LIMITS, OWN, core_failing, empty, mechanism, units};
 
-fn boot(alloc: Global, core: Core<SimMech, MemDisk>) -> Result<Machine<SimMech, MemDisk>, Fail>
-    requires starts { Starts ⟦<SimMech as Mechanism>⟧ ⟦<MemDisk as Disk>⟧ core }
+/// 100 notes each of EUR 10, EUR 20, EUR 50 and USD 20, over an empty disk whose call at this place fails, counted from 1.
+pub fn core(alloc: Global, failing: u64) -> Result<Core<SimMech, FailDisk>, Fail>
+    ensures starts { IfOk result (Starts ⟦<SimMech as Mechanism>⟧ ⟦<FailDisk as Disk>⟧) }
+{
+    let units = units().ok_or("the units")?;
+    let mech = mechanism(alloc, &units, Vec::new(alloc)).ok_or("the mechanism")?;
+    let failing = Vec::from_slice(alloc, &[failing])?;
+    Ok(core_failing(OWN, mech, units, empty(alloc), LIMITS, failing))
+}
+
+fn boot<M: Mechanism, D: Disk>(alloc: Global, core: Core<M, D>) -> Result<Machine<M, D>, Fail>
+    requires starts { Starts M.Mechanism D.Disk core }
 {
     match Machine::boot(alloc, core) {
         Ok(machine) => Ok(machine),
@@ -19,23 +30,24 @@ fn boot(alloc: Global, core: Core<SimMech, MemDisk>) -> Result<Machine<SimMech, 
     }
 }
 
-/// A machine with 100 notes each of EUR 10, EUR 20, EUR 50 and USD 20, over an empty disk.
-pub fn machine(alloc: Global) -> Result<Machine<SimMech, MemDisk>, Fail> {
-    let units = units().ok_or("the units")?;
-    let mech = mechanism(alloc, &units, Vec::new(alloc)).ok_or("the mechanism")?;
-    boot(alloc, core_on(mech, units, empty(alloc), LIMITS))
+/// A machine over a disk none of whose calls fails.
+pub fn machine(alloc: Global) -> Result<Machine<SimMech, FailDisk>, Fail> {
+    boot(alloc, core(alloc, 0)?)
 }
 
-/// A card that is put in as soon as one is waited for.
-pub fn a_card(alloc: Global) -> Result<SimWatch, Fail> {
+/// A watch that tells of a card or of a key as soon as it is asked, or fails.
+pub fn watch_of(alloc: Global, told: &str) -> Result<SimWatch, Fail> {
+    let mut touches = Vec::new(alloc);
+    let mut failing = Vec::new(alloc);
+    match told {
+        "card" => touches.push(Touch::CardIn(tracks(alloc)?))?,
+        "one" => touches.push(Touch::Key(KeyName::One))?,
+        _ => failing.push(1)?,
+    }
+    Ok(SimWatch::new(touches, failing))
+}
+
+fn tracks(alloc: Global) -> Result<Tracks, Fail> {
     let track = Vec::from_slice(alloc, b";1234")?;
-    let tracks = Tracks::new(None, Some(track), None).ok_or("the tracks")?;
-    let card = vec![in alloc; Touch::CardIn(tracks)]?;
-    Ok(SimWatch::new(card, Vec::new(alloc)))
-}
-
-/// A key that is pressed as soon as one is waited for.
-pub fn a_key(alloc: Global) -> Result<SimWatch, Fail> {
-    let key = vec![in alloc; Touch::Key(KeyName::One)]?;
-    Ok(SimWatch::new(key, Vec::new(alloc)))
+    Ok(Tracks::new(None, Some(track), None).ok_or("the tracks")?)
 }

@@ -2,39 +2,20 @@
 
 use crate::clients::client_of;
 use crate::scene::{LOOKS, Scene};
+use crate::words::{cut_at, number, service_of};
 use std::alloc::Global;
 use std::sync::atomic::Ordering;
 use xfs_base::{Bytes, Clock, Memory, Service};
 use xfs_server::{DialFault, Door, Doors, GiveFault, Link, Taking};
 
-/// A client: the service that it connects to, its one text, the texts that it is to hear, and which take
-/// of its link fails.
-#[derive(Clone, Copy)]
-pub struct Client {
-    pub service: Service,
-    pub says: &'static str,
-    pub hears: &'static [&'static str],
-    pub failing: Option<u64>,
-}
-
-/// The clients of these letters; none for `-`.
-pub fn crowd(alloc: Global, letters: &str) -> Result<Vec<Client>, Memory> {
-    let mut crowd = Vec::new(alloc);
-    if letters == "-" {
-        return Ok(crowd);
-    }
-    for letter in letters.chars() {
-        crowd.push(client_of(letter))?;
-    }
-    Ok(crowd)
-}
-
 /// A client's link, which is closed once the client heard all its texts.
 pub struct Patient<'a, C: Clock> {
-    client: Client,
     text: Option<Bytes>,
+    // The texts that it is still to hear, each on a line.
+    hears: &'static str,
+    // Which take fails, from 1.
+    failing: u64,
     takes: u64,
-    given: usize,
     closed: bool,
     quiets: u64,
     faults: u64,
@@ -44,10 +25,10 @@ pub struct Patient<'a, C: Clock> {
 impl<'a, C: Clock> Drop for Patient<'a, C> {
     fn drop(self) {
         let Patient {
-            client: _,
             text: _,
+            hears: _,
+            failing: _,
             takes: _,
-            given: _,
             closed: _,
             quiets: _,
             faults: _,
@@ -64,14 +45,14 @@ impl<'a, C: Clock> Link for Patient<'a, C> {
 
     fn take(&mut self) -> Taking {
         self.takes = self.takes.saturating_add(1);
-        if self.client.failing == Some(self.takes) {
+        if self.failing == self.takes {
             self.faults = self.faults.saturating_add(1);
             return Taking::Failed;
         }
         if let Some(text) = self.text.take() {
             return Taking::Text(text);
         }
-        let waits = self.given < self.client.hears.len();
+        let waits = !self.hears.is_empty();
         if waits && self.quiets < LOOKS {
             self.quiets = self.quiets.saturating_add(1);
             self.scene.clock.pause();
@@ -85,22 +66,24 @@ impl<'a, C: Clock> Link for Patient<'a, C> {
     }
 
     fn give(&mut self, text: &[u8]) -> Result<(), GiveFault> {
-        match self.client.hears.get(self.given) {
-            Some(expected) if text == expected.as_bytes() => self.given += 1,
-            _ => self.scene.amiss.store(true, Ordering::SeqCst),
+        let (expected, behind) = cut_at(self.hears, "\n");
+        if !self.hears.is_empty() && text == expected.as_bytes() {
+            self.hears = behind;
+        } else {
+            self.scene.amiss.store(true, Ordering::SeqCst);
         }
-        if self.given == self.client.hears.len() {
+        if self.hears.is_empty() {
             self.scene.answered.fetch_add(1, Ordering::SeqCst);
         }
         Ok(())
     }
 }
 
-/// Doors to which such clients come. Once none is left they fail, or nobody comes.
+/// Doors to which the clients of these letters come. Once none is left they fail, or nobody comes.
 #[derive(Drop)]
 pub struct PatientDoors<'a, C: Clock> {
     alloc: Global,
-    clients: Vec<Client>,
+    letters: &'a str,
     at: usize,
     fails: bool,
     came: u64,
@@ -114,13 +97,13 @@ pub struct PatientDoors<'a, C: Clock> {
 impl<'a, C: Clock> PatientDoors<'a, C> {
     pub fn new(
         alloc: Global,
-        clients: Vec<Client>,
+        letters: &'a str,
         fails: bool,
         scene: &'a Scene<'a, C>,
     ) -> PatientDoors<'a, C> {
         PatientDoors {
             alloc,
-            clients,
+            letters,
             at: 0,
             fails,
             came: 0,
@@ -132,13 +115,14 @@ impl<'a, C: Clock> PatientDoors<'a, C> {
         }
     }
 
-    fn link_of(&self, client: Client) -> Result<Patient<'a, C>, Memory> {
-        let text = Bytes::new(Vec::from_slice(self.alloc, client.says.as_bytes())?);
+    fn link_of(&self, head: &str, texts: &'static str) -> Result<Patient<'a, C>, Memory> {
+        let (says, hears) = cut_at(texts, "\n");
+        let text = Bytes::new(Vec::from_slice(self.alloc, says.as_bytes())?);
         Ok(Patient {
-            client,
             text: Some(text),
+            hears,
+            failing: number(head, 1),
             takes: 0,
-            given: 0,
             closed: false,
             quiets: 0,
             faults: 0,
@@ -153,7 +137,7 @@ impl<'a, C: Clock + Sync> Doors for PatientDoors<'a, C> {
     ghost log = { λ d. record { came = d.came; dials = d.dials; last_dialled = d.last_dialled; quiets = d.quiets; faults = d.faults } };
 
     fn next(&mut self) -> Door<Patient<'a, C>> {
-        let Some(client) = self.clients.get(self.at) else {
+        let Some(letter) = self.letters.as_bytes().get(self.at) else {
             if self.fails || self.quiets >= LOOKS {
                 self.faults = self.faults.saturating_add(1);
                 return Door::Failed;
@@ -161,12 +145,12 @@ impl<'a, C: Clock + Sync> Doors for PatientDoors<'a, C> {
             self.quiets = self.quiets.saturating_add(1);
             return Door::Quiet;
         };
-        let service = client.service;
-        match self.link_of(*client) {
+        let (head, texts) = client_of(*letter);
+        match self.link_of(head, texts) {
             Ok(link) => {
                 self.at += 1;
                 self.came = self.came.saturating_add(1);
-                Door::Came(service, link)
+                Door::Came(service_of(head), link)
             }
             Err(_) => Door::Memory,
         }

@@ -4,34 +4,34 @@
 #[cfg(test)]
 mod bench;
 #[cfg(test)]
-mod board_bench;
+mod callers;
 #[cfg(test)]
-mod board_callers;
-#[cfg(test)]
-mod board_failing;
-#[cfg(test)]
-mod board_hostile;
-#[cfg(test)]
-mod board_sessions;
-#[cfg(test)]
-mod board_workers;
+mod cases;
 #[cfg(test)]
 mod clients;
 #[cfg(test)]
+mod clock;
+#[cfg(test)]
 mod doors;
+#[cfg(test)]
+mod links;
+#[cfg(test)]
+mod lock;
+#[cfg(test)]
+mod lock_cases;
+#[cfg(test)]
+mod machines;
+#[cfg(test)]
+mod program;
 #[cfg(test)]
 mod restart_calls;
 #[cfg(test)]
-mod rows;
-#[cfg(test)]
-mod run_client;
-#[cfg(test)]
-mod run_program;
-#[cfg(test)]
-mod run_serve;
-#[cfg(test)]
-mod runs;
+mod run_cases;
 #[cfg(test)]
 mod scene;
 #[cfg(test)]
-mod told;
+mod server_cases;
+#[cfg(test)]
+mod servers;
+#[cfg(test)]
+mod words;

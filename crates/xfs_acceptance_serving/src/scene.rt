@@ -1,20 +1,13 @@
 //! What befalls the clients of a server, and the gate that holds some of them back.
 
+use std::fmt::Write;
 use std::sync::atomic::{AtomicBool, AtomicU64, Ordering};
+use std::test::Fail;
 use xfs_base::{ClientId, Clock};
 use xfs_server::{Gate, GateAt};
 
 /// So often it is looked for what doesn't come, a millisecond apart, before a test gives up.
 pub const LOOKS: u64 = 10_000;
-
-/// Until when the gate holds clients back.
-#[derive(Clone, Copy, PartialEq, Eq)]
-pub enum Until {
-    /// Those who came after it have heard all their texts, the last of them first.
-    Answered,
-    /// A link was let go.
-    LetGo,
-}
 
 /// What the links, the doors and the gate of a server share.
 #[derive(Drop)]
@@ -26,16 +19,18 @@ pub struct Scene<'a, C: Clock> {
     pub let_go: AtomicU64,
     /// One heard another text, or it was waited too long.
     pub amiss: AtomicBool,
-    /// The gate holds one back, or did.
-    pub held: AtomicBool,
+    // The gate holds one back, or did.
+    held: AtomicBool,
     // The gate holds the clients up to this number back, and the others until one of those is held.
-    last: u32,
-    until: Until,
+    last: u64,
+    // It does so until a link was let go, else until those who came after a client have heard all their texts, the last
+    // of them first.
+    until_let_go: bool,
 }
 
 impl<'a, C: Clock> Scene<'a, C> {
     /// A scene whose gate holds back the texts of so many clients.
-    pub fn new(clock: &'a C, last: u32, until: Until) -> Scene<'a, C> {
+    pub fn new(clock: &'a C, last: u64, until_let_go: bool) -> Scene<'a, C> {
         Scene {
             clock,
             answered: AtomicU64::new(0),
@@ -43,21 +38,29 @@ impl<'a, C: Clock> Scene<'a, C> {
             amiss: AtomicBool::new(false),
             held: AtomicBool::new(false),
             last,
-            until,
+            until_let_go,
         }
     }
 
-    fn may_pass(&self, client: ClientId) -> bool {
-        if client.0 > self.last {
+    /// Tells how many clients heard all their texts, how many links were let go, whether one was held back, and whether
+    /// anything was amiss.
+    pub fn tell(&self, told: &mut String) -> Result<(), Fail> {
+        let answered = self.answered.load(Ordering::SeqCst);
+        let let_go = self.let_go.load(Ordering::SeqCst);
+        let held = self.held.load(Ordering::SeqCst);
+        let amiss = self.amiss.load(Ordering::SeqCst);
+        write!(told, "{answered} {let_go} held {held} amiss {amiss}\n")?;
+        Ok(())
+    }
+
+    fn may_pass(&self, client: u64) -> bool {
+        if client > self.last {
             return self.held.load(Ordering::SeqCst);
         }
-        match self.until {
-            Until::Answered => {
-                let behind = u64::from(self.last.saturating_sub(client.0));
-                self.answered.load(Ordering::SeqCst) > behind
-            }
-            Until::LetGo => self.let_go.load(Ordering::SeqCst) > 0,
+        if self.until_let_go {
+            return self.let_go.load(Ordering::SeqCst) > 0;
         }
+        self.answered.load(Ordering::SeqCst) > self.last - client
     }
 }
 
@@ -66,7 +69,8 @@ impl<'a, C: Clock> Gate for Scene<'a, C> {
         if what != GateAt::Post || self.last == 0 {
             return;
         }
-        if client.0 <= self.last {
+        let client = u64::from(client.0);
+        if client <= self.last {
             self.held.store(true, Ordering::SeqCst);
         }
         for _ in 0..LOOKS {
