@@ -57,23 +57,27 @@ fn issue() -> Rec
 fn a_start_and_an_issue_are_213_and_233_bytes(rt: HostRuntime) -> Result<(), Fail> {
     let alloc = rt.alloc();
     let mut journal = mounted(alloc, disk(alloc, &[])?)?;
-    assert!(rt; journal.reserve(2).is_ok());
-    assert!(rt; journal.append(start(alloc)?) == Ok(1));
-    assert!(rt;
-        journal.left()
-            == Limits {
-                records: 999_999,
-                bytes: 17_179_868_971
-            }
-    );
+    assert!(rt; takes_a_start(&mut journal, start(alloc)?));
     let file = journal.end();
     assert_eq!(rt; file.bytes(), start_file(alloc)?.as_slice());
     let mut again = mounted(alloc, file)?;
-    assert!(rt; again.append(issue()) == Ok(2));
-    assert!(rt; !again.shut());
-    assert_eq!(rt; again.records().len(), 2);
+    assert!(rt; takes_an_issue(&mut again));
     assert_eq!(rt; again.end().bytes(), short_file(alloc)?.as_slice());
     Ok(())
+}
+
+fn takes_a_start(journal: &mut Journal<MemDisk>, start: Rec) -> bool
+    requires { HasUnit start }
+{
+    let left = Limits {
+        records: 999_999,
+        bytes: 17_179_868_971,
+    };
+    journal.reserve(2).is_ok() && journal.append(start) == Ok(1) && journal.left() == left
+}
+
+fn takes_an_issue(journal: &mut Journal<MemDisk>) -> bool {
+    journal.append(issue()) == Ok(2) && !journal.shut() && journal.records().len() == 2
 }
 
 // How many records of a file a mount lets go, and how many it keeps; or the place from which it is no journal.
@@ -332,17 +336,20 @@ fn a_file_with_another_list_is_refused_where_it_differs(rt: HostRuntime) -> Resu
 
 #[test]
 fn at_most_9_bytes_are_made_an_empty_journal_again(rt: HostRuntime) -> Result<(), Fail> {
-    let alloc = rt.alloc();
     fs::write(&rt, "xfs_journal_short.test", b"")?;
-    let file = opened(&rt, "xfs_journal_short.test")?;
-    let mut journal = mounted(alloc, FileDisk::new(file))?;
-    fs::write(&rt, "xfs_journal_short.test", b"short")?;
-    assert!(rt; journal.remount() == Ok(()));
-    assert!(rt; journal.append(start(alloc)?) == Ok(1));
+    assert_eq!(rt; begun_again(&rt, "xfs_journal_short.test", b"short")?, 1);
     let bytes = fs::read(&rt, "xfs_journal_short.test")?;
-    assert_eq!(rt; bytes.as_slice(), start_file(alloc)?.as_slice());
+    assert_eq!(rt; bytes.as_slice(), start_file(rt.alloc())?.as_slice());
     fs::remove_file(&rt, "xfs_journal_short.test")?;
     Ok(())
+}
+
+// Appends a Start to the journal of a file that others wrote this into, read again: its number.
+fn begun_again(rt: &HostRuntime, path: &str, found: &[u8]) -> Result<u64, Fail> {
+    let mut journal = mounted(rt.alloc(), FileDisk::new(opened(rt, path)?))?;
+    fs::write(rt, path, found)?;
+    journal.remount()?;
+    Ok(journal.append(start(rt.alloc())?)?)
 }
 
 // Appends a record to the journal of a file: its number.

@@ -52,13 +52,22 @@ fn keeps_two<D: Disk>(journal: &Journal<D>) -> bool {
 fn memory_has_the_records_from_the_last_boot_record_on(rt: HostRuntime) -> Result<(), Fail> {
     let alloc = rt.alloc();
     let mut journal = mounted(alloc, MemDisk::new(alloc, long_file(alloc)?))?;
-    assert!(rt; keeps_two(&journal));
-    assert!(rt; journal.append(Rec::Clear) == Ok(5));
-    journal.rebase();
-    assert!(rt; journal.base() == 2 && journal.issues() == 1);
+    assert!(rt; keeps_the_end(&mut journal));
     let old = mounted(alloc, MemDisk::new(alloc, old_file(alloc)?))?;
-    assert!(rt; old.base() == 0 && old.issues() == 0 && old.records().len() == 2);
+    assert!(rt; keeps_all(&old));
     Ok(())
+}
+
+// Whether memory has the two records alone, also behind a rebase once a third came.
+fn keeps_the_end(journal: &mut Journal<MemDisk>) -> bool {
+    let begins = keeps_two(journal);
+    let appended = journal.append(Rec::Clear);
+    journal.rebase();
+    begins && appended == Ok(5) && journal.base() == 2 && journal.issues() == 1
+}
+
+fn keeps_all(journal: &Journal<MemDisk>) -> bool {
+    journal.base() == 0 && journal.issues() == 0 && journal.records().len() == 2
 }
 
 // The limit of four records counts the two in memory.
@@ -86,15 +95,27 @@ fn remounted(rt: &HostRuntime, found: &[u8]) -> Result<(bool, u64), Fail> {
     fs::write(rt, path, long_file(rt.alloc())?.as_slice())?;
     let mut journal = mounted(rt.alloc(), FileDisk::new(opened(rt, path)?))?;
     fs::write(rt, path, found)?;
-    match journal.remount() {
-        Ok(()) => {}
-        Err(MountFault::NotJournal { at }) => return Ok((false, at)),
-        Err(fault) => return Err(fault.into()),
+    if let Some(at) = refused_at(&mut journal)? {
+        return Ok((false, at));
     }
-    if !keeps_two(&journal) || journal.append(Rec::Clear)? != 5 {
+    takes_a_fifth(&mut journal)?;
+    Ok((true, last_clear(rt, path)?))
+}
+
+// The place that a remount is refused at. None where it isn't.
+fn refused_at(journal: &mut Journal<FileDisk>) -> Result<Option<u64>, Fail> {
+    match journal.remount() {
+        Ok(()) => Ok(None),
+        Err(MountFault::NotJournal { at }) => Ok(Some(at)),
+        Err(fault) => Err(fault.into()),
+    }
+}
+
+fn takes_a_fifth(journal: &mut Journal<FileDisk>) -> Result<(), Fail> {
+    if !keeps_two(journal) || journal.append(Rec::Clear)? != 5 {
         return Err("other records are kept")?;
     }
-    Ok((true, last_clear(rt, path)?))
+    Ok(())
 }
 
 // The place of the Clear that a file ends with.
@@ -138,16 +159,21 @@ fn a_remount_compares_what_stands_behind_the_base(rt: HostRuntime) -> Result<(),
 fn remounted_in_doubt(rt: &HostRuntime, found: &[u8]) -> Result<(bool, u64), Fail> {
     let path = "xfs_journal_doubt.test";
     fs::write(rt, path, long_file(rt.alloc())?.as_slice())?;
+    let mut journal = doubting(rt, path)?;
+    fs::write(rt, path, found)?;
+    match refused_at(&mut journal)? {
+        None => Ok((true, journal.records().len() as u64)),
+        Some(at) => Ok((false, at)),
+    }
+}
+
+// The journal of a file that can't be written, where a Clear is in doubt.
+fn doubting(rt: &HostRuntime, path: &str) -> Result<Journal<FileDisk>, Fail> {
     let mut journal = mounted(rt.alloc(), FileDisk::new(File::open(rt, path)?))?;
     if journal.append(Rec::Clear) != Err(AppendFault::Disk) {
         return Err("a file that can't be written was")?;
     }
-    fs::write(rt, path, found)?;
-    match journal.remount() {
-        Ok(()) => Ok((true, journal.records().len() as u64)),
-        Err(MountFault::NotJournal { at }) => Ok((false, at)),
-        Err(fault) => Err(fault.into()),
-    }
+    Ok(journal)
 }
 
 // The record in doubt is found, or not, or the file is refused at this place.

@@ -5,7 +5,7 @@ use crate::short_files::old_file;
 use std::alloc::Global;
 use std::test::Fail;
 use xfs_disk::{FailDisk, MemDisk};
-use xfs_journal::Rec;
+use xfs_journal::{Journal, Rec};
 
 // The older file with this byte as its eighth.
 fn file_of(alloc: Global, version: u8) -> Result<Vec<u8>, Fail> {
@@ -38,18 +38,21 @@ fn a_file_has_any_version_and_only_a_1_is_carried_over(rt: HostRuntime) -> Resul
 
 // The records of the file behind a migrate whose call of the disk failed, an append, a cut of the power and a mount.
 fn records_after(alloc: Global, failing: u64, pick: u64) -> Result<usize, Fail> {
+    let mut journal = behind_failing(alloc, failing)?;
+    journal.append(Rec::Clear)?;
+    let left = journal.end().inner().crash(pick);
+    Ok(mounted(alloc, left)?.records().len())
+}
+
+// A journal whose migrate failed at this call of its disk.
+fn behind_failing(alloc: Global, failing: u64) -> Result<Journal<FailDisk>, Fail> {
     let disk = MemDisk::new(alloc, old_file(alloc)?);
-    let mut journal = mounted(
-        alloc,
-        FailDisk::new(disk, Vec::from_slice(alloc, &[failing])?),
-    )?;
+    let failing = Vec::from_slice(alloc, &[failing])?;
+    let mut journal = mounted(alloc, FailDisk::new(disk, failing))?;
     if journal.migrate().is_ok() || journal.shut() {
         return Err("the migrate did not fail, or shut the journal")?;
     }
-    journal.append(Rec::Clear)?;
-    let disk = journal.end();
-    let left = disk.inner().crash(pick);
-    Ok(mounted(alloc, left)?.records().len())
+    Ok(journal)
 }
 
 #[test]
