@@ -238,12 +238,7 @@ fn told_of<T: Debug>(alloc: Global, first: &T, frames: &[Bytes]) -> Result<Strin
     Ok(told)
 }
 
-fn told_of_both(
-    alloc: Global,
-    first: Over,
-    other: Over,
-    case: &Case,
-) -> Result<String, Fail> {
+fn told_of_both(alloc: Global, first: Over, other: Over, case: &Case) -> Result<String, Fail> {
     let mut told = told_of(alloc, &first, case.link.sent())?;
     write!(told, "{other:?}\n")?;
     tell_frames(&mut told, case.other.sent())?;
