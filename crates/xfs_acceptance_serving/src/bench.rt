@@ -21,8 +21,8 @@ pub fn core(alloc: Global, failing: u64) -> Result<Core<SimMech, FailDisk>, Fail
     Ok(core_failing(OWN, mech, units, empty(alloc), LIMITS, failing))
 }
 
-fn boot<M: Mechanism, D: Disk>(alloc: Global, core: Core<M, D>) -> Result<Machine<M, D>, Fail>
-    requires starts { Starts M.Mechanism D.Disk core }
+fn boot(alloc: Global, core: Core<SimMech, FailDisk>) -> Result<Machine<SimMech, FailDisk>, Fail>
+    requires starts { Starts ⟦<SimMech as Mechanism>⟧ ⟦<FailDisk as Disk>⟧ core }
 {
     match Machine::boot(alloc, core) {
         Ok(machine) => Ok(machine),
