@@ -40,6 +40,16 @@ fn told_of<R: Threads + Wait + time::Clock + Sync>(
         "server" | "run" => told_by_clients(rt, alloc, kind, given),
         "serve" => told_in_memory(rt, alloc, given, &StdClock::new(rt)),
         "client" => told_in_memory(rt, alloc, given, &FixedClock(0)),
-        _ => told_at_lock(rt, alloc, machine(alloc)?, kind, given),
+        _ => told_by_machine(rt, alloc, kind, given),
     }
+}
+
+fn told_by_machine<R: Wait>(
+    rt: &R,
+    alloc: Global,
+    kind: &str,
+    given: &str,
+) -> Result<String, Fail> {
+    let machine = machine(alloc)?;
+    told_at_lock(rt, alloc, machine, kind, given)
 }
