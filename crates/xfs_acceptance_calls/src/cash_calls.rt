@@ -1,6 +1,6 @@
 //! A Dispense of an amount that no message gives.
 
-use crate::crash_calls::{begun, fresh};
+use crate::crash_calls::{booted, fresh};
 use std::alloc::Global;
 use std::test::Fail;
 use xfs_base::Currency;
@@ -9,16 +9,15 @@ use xfs_envelope::Code;
 
 // Whether a Dispense of so many euros is told to be of another form, in an exchange.
 fn is_refused(alloc: Global, amount: u32) -> Result<bool, Fail> {
-    let Ok(mut guard) = begun(alloc, fresh(alloc)?) else {
-        return Err("the machine doesn't boot")?;
-    };
     let currency = Currency::new(b"EUR").ok_or("EUR")?;
     let ask = CashAsk::Dispense {
         notes: Notes::Least { currency, amount },
         token: None,
     };
-    let begun = begin(alloc, &mut guard, &mut true, &ask)?;
-    Ok(matches!(begun, Begun::Result(Code::InvalidData, _)))
+    let mut guard = booted(alloc, fresh(alloc)?)?;
+    let begun = begin(alloc, &mut guard, &mut true, &ask);
+    drop(guard);
+    Ok(matches!(begun?, Begun::Result(Code::InvalidData, _)))
 }
 
 #[test]

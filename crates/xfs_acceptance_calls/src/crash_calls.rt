@@ -69,6 +69,18 @@ pub fn begun<M: Mechanism, D: Disk>(
     }
 }
 
+/// A guard over a core that boots.
+pub fn booted<M: Mechanism, D: Disk>(alloc: Global, core: Core<M, D>) -> Result<Guard<M, D>, Fail>
+    requires units { M.units core.mech ≡ core.units }
+    requires starts { EachLeft D.Disk core.disk (IsRecorded core.key core.units (M.motions core.mech)) }
+    ensures ok { IfOk result (λ g. (g.state.open_order ≡ No) × (g.state.key ≡ core.key)) }
+{
+    match begun(alloc, core) {
+        Ok(guard) => Ok(guard),
+        Err(_) => Err("the machine doesn't boot".into()),
+    }
+}
+
 // The machine, switched off.
 fn ended<M: Mechanism, D: Disk>(guard: Guard<M, D>, key: [u8; 32]) -> Core<M, D>
     requires key { guard.state.key ≡ key }
@@ -120,32 +132,14 @@ fn present_unsettled<D: Disk>(
     Ok(guard.act().moved)
 }
 
-#[test]
-fn notes_that_were_put_out_and_not_settled_lie_in_the_outlet(rt: HostRuntime) -> Result<(), Fail> {
-    let core = fresh(rt.alloc())?;
-    let key = core.key;
-    let Ok(mut guard) = begun(rt.alloc(), core) else {
-        return Err("the machine doesn't boot")?;
-    };
-    assert_eq!(rt; present_unsettled(&rt, &mut guard)?, TWENTY);
-    let names = ["Start", "Issue", "Bind", "Order", "Done", "Order"];
-    let records = guard.records();
-    assert!(rt; records.len() == 6);
-    for i in 0..6 {
-        assert_eq!(rt; name_of(&records[i]), names[i], "record {i}");
+// The names of the records that memory has.
+fn names_of(alloc: Global, records: &[Rec]) -> Result<String, Fail> {
+    let mut names = String::new(alloc);
+    for record in records {
+        names.push_str(name_of(record))?;
+        names.push(' ')?;
     }
-    let Ok(guard) = begun(rt.alloc(), ended(guard, key)) else {
-        return Err("the machine doesn't boot again")?;
-    };
-    assert!(rt; guard.base() == 6 && matches!(guard.records(), [Rec::Start { issues: 1, .. }]));
-    assert_eq!(rt; guard.places().outlet, TWENTY);
-    let (mech, _disk) = guard.end();
-    assert!(rt; mech.motions() == [moved(4, Kind::Stack), moved(6, Kind::Present)].as_slice());
-    // What the order to present put out is worth EUR 20.
-    let units = units().ok_or("the units")?;
-    let currency = Currency::new(b"EUR").ok_or("letters")?;
-    assert_eq!(rt; TWENTY.value(&units, currency), 20_000);
-    Ok(())
+    Ok(names)
 }
 
 fn name_of(record: &Rec) -> &'static str {
@@ -160,6 +154,55 @@ fn name_of(record: &Rec) -> &'static str {
         Rec::Done { .. } => "Done",
         Rec::Load { .. } => "Load",
     }
+}
+
+// Whether memory has a Start alone, behind six records, and the note lies in the outlet.
+fn goes_on<M: Mechanism, D: Disk>(guard: &Guard<M, D>) -> bool {
+    guard.base() == 6
+        && matches!(guard.records(), [Rec::Start { issues: 1, .. }])
+        && guard.places().outlet == TWENTY
+}
+
+// Whether the mechanism of a guard that ended stacked and presented the note.
+fn has_presented<D: Disk>(guard: Guard<SimMech, D>) -> bool {
+    let (mech, disk) = guard.end();
+    drop(disk);
+    mech.motions() == [moved(4, Kind::Stack), moved(6, Kind::Present)].as_slice()
+}
+
+// Whether the note is paid out, and the journal has the order to present and not what was done of it.
+fn is_cut_off<D: Disk>(
+    rt: &impl Abort,
+    alloc: Global,
+    guard: &mut Guard<SimMech, D>,
+) -> Result<bool, Fail>
+    requires none { guard.old.state.open_order ≡ No }
+    ensures key { guard.new.state.key ≡ guard.old.state.key }
+{
+    let moved = present_unsettled(rt, guard)?;
+    let names = names_of(alloc, guard.records())?;
+    Ok(moved == TWENTY && names.as_str() == "Start Issue Bind Order Done Order ")
+}
+
+#[test]
+fn notes_that_were_put_out_and_not_settled_lie_in_the_outlet(rt: HostRuntime) -> Result<(), Fail> {
+    let core = fresh(rt.alloc())?;
+    let key = core.key;
+    let mut guard = booted(rt.alloc(), core)?;
+    assert!(rt; is_cut_off(&rt, rt.alloc(), &mut guard)?);
+    let guard = booted(rt.alloc(), ended(guard, key))?;
+    let (goes_on, has_presented) = (goes_on(&guard), has_presented(guard));
+    assert!(rt; goes_on && has_presented);
+    Ok(())
+}
+
+// What the order to present put out is worth EUR 20.
+#[test]
+fn the_note_is_worth_20_euros(rt: HostRuntime) -> Result<(), Fail> {
+    let units = units().ok_or("the units")?;
+    let currency = Currency::new(b"EUR").ok_or("letters")?;
+    assert_eq!(rt; TWENTY.value(&units, currency), 20_000);
+    Ok(())
 }
 
 // What an order moved of the note.

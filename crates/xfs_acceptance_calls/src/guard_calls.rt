@@ -22,7 +22,7 @@ token NONCE=E56A5D4028BD86530000000000000001,TOKENFORMAT=1,TOKENLENGTH=0164,DISP
 expire => done
 live => none
 dispense 1 1 => NoNonce { since: 3 }
-clear => done
+clear => false
 records => 3
 restore => done
 dispense 1 1 => NoNonce { since: 4 }
@@ -232,6 +232,75 @@ issue => Full
 restore => Full
 records => 4";
 
+// No order is open, and a nonce that is cleared dies once.
+const CLEARED: &str = "live => none
+ordering => false
+fit => Ready
+issue => done
+live => 1
+clear => true
+clear => false
+restore => done
+live => none
+base => 0
+records => 4";
+
+// Four records are Starts: the list is then five, of which the last is in memory.
+const FILLED: &str = "0
+restore => done
+restore => done
+restore => done
+restore => Full
+base => 0
+records => 4
+fit => Full
+reboot => done
+base => 4
+records => 1
+fit => Ready";
+
+// A reboot behind an Issue keeps its Start alone.
+const REBOOTED: &str = "0
+issue => done
+live => 1
+reboot => done
+base => 2
+live => none
+ordering => false
+records => 1
+start => 1
+issue => done
+live => 2";
+
+// The bytes are those of two Starts.
+const NO_THIRD: &str = "0
+restore => done
+base => 0
+reboot => Full
+fit => Full
+base => 1
+records => 1
+reboot => Full
+fit => Full
+base => 1
+records => 1";
+
+// What fails is the remount of the first reboot, the append of the second, and nothing of the third.
+const MADE_AGAIN: &str = "16 20
+restore => done
+reboot => Disk
+fit => Shut
+base => 0
+records => 2
+reboot => Disk
+fit => Shut
+base => 1
+records => 1
+reboot => done
+fit => Ready
+base => 2
+records => 1";
+
 // A guard answers each line in turn.
 fn answers<M: Mechanism>(
     rt: &impl Abort,
@@ -268,7 +337,7 @@ fn answers_over(rt: &impl Abort, alloc: Global, limits: Limits, rows: &str) -> R
 
 #[test]
 fn nonces_expire_and_orders_are_refused(rt: HostRuntime) -> Result<(), Fail> {
-    for rows in [EXPIRED, REFUSED_TOKENS, REFUSED_ORDERS] {
+    for rows in [EXPIRED, CLEARED, REFUSED_TOKENS, REFUSED_ORDERS] {
         both_answer(&rt, rt.alloc(), rows)?;
     }
     Ok(())
@@ -293,4 +362,32 @@ fn a_restore_without_room_for_its_boot_reads_the_list_and_writes_nothing(
         bytes: 1_000_000,
     };
     answers_over(&rt, rt.alloc(), limits, NO_ROOM)
+}
+
+#[test]
+fn a_reboot_frees_a_journal_that_restores_have_filled(rt: HostRuntime) -> Result<(), Fail> {
+    let limits = Limits {
+        records: 4,
+        bytes: 1_000_000,
+    };
+    answers_over(&rt, rt.alloc(), limits, FILLED)
+}
+
+#[test]
+fn a_reboot_keeps_its_start_alone_and_is_made_again_where_it_failed(
+    rt: HostRuntime,
+) -> Result<(), Fail> {
+    for rows in [REBOOTED, MADE_AGAIN] {
+        answers_over(&rt, rt.alloc(), LIMITS, rows)?;
+    }
+    Ok(())
+}
+
+#[test]
+fn a_reboot_without_room_keeps_what_it_read(rt: HostRuntime) -> Result<(), Fail> {
+    let limits = Limits {
+        records: 100,
+        bytes: 417,
+    };
+    answers_over(&rt, rt.alloc(), limits, NO_THIRD)
 }

@@ -108,24 +108,39 @@ fn digits(alloc: Global, counts: &Counts) -> Result<String, Fail> {
     }
 }
 
+fn records_of(alloc: Global, words: &str) -> Result<Vec<Rec>, Fail> {
+    let mut records = Vec::new(alloc);
+    for words in words.split(", ") {
+        records.push(record(alloc, words)?)?;
+    }
+    Ok(records)
+}
+
+fn all_told(alloc: Global, motions: &[Motion]) -> Result<String, Fail> {
+    let mut all = String::new(alloc);
+    for motion in motions {
+        let mark = if all.is_empty() { "" } else { ", " };
+        all.push_str(mark)?;
+        all.push_str(told(alloc, motion)?.as_str())?;
+    }
+    Ok(all)
+}
+
+// The motions that records behind a base tell of.
+fn motions_told(alloc: Global, base: u64, records: &[Rec]) -> Result<String, Fail> {
+    base.checked_add(records.len() as u64)
+        .ok_or("a smaller base")?;
+    let motions = motions_of(alloc, base, records)?;
+    all_told(alloc, motions.as_slice())
+}
+
 // The records of a row give its motions.
 fn give(rt: &impl Abort, alloc: Global, row: &str) -> Result<(), Fail> {
     let (base, row) = row.split_once(": ").ok_or("a colon")?;
     let base = base.parse::<u64>().ok().ok_or("a number")?;
     let (words, due) = row.split_once(" => ").ok_or("an arrow")?;
-    let mut records = Vec::new(alloc);
-    for words in words.split(", ") {
-        records.push(record(alloc, words)?)?;
-    }
-    base.checked_add(records.len() as u64)
-        .ok_or("a smaller base")?;
-    let mut all = String::new(alloc);
-    for motion in motions_of(alloc, base, records.as_slice())?.as_slice() {
-        if !all.is_empty() {
-            all.push_str(", ")?;
-        }
-        all.push_str(told(alloc, motion)?.as_str())?;
-    }
+    let records = records_of(alloc, words)?;
+    let all = motions_told(alloc, base, &records)?;
     assert_eq!(rt; all.as_str(), due, "{words}");
     Ok(())
 }

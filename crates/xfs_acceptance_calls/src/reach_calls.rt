@@ -5,7 +5,8 @@ ghost use Rattle.xfs_guard.specs.declared.open.Open.TheVariants.{No};
 ghost use Rattle.xfs_mech.specs.Sim.{units_of};
 
 use crate::files::opened;
-use crate::guard_bench::{GENUINE, units};
+use crate::guard_bench::units;
+use crate::teller::Teller;
 use std::alloc::Global;
 use std::fs::{self, File};
 use std::process::Abort;
@@ -13,7 +14,7 @@ use std::test::Fail;
 use xfs_acceptance_journal::short_files::start_file;
 use xfs_base::{Counts, Kind, UnitTable};
 use xfs_disk::{Disk, FileDisk};
-use xfs_guard::{Ask, Deny, Guard};
+use xfs_guard::Guard;
 use xfs_mech::{Motion, SimMech, places_fit};
 use xfs_simulated::{KEY, LIMITS, SEED, places};
 
@@ -43,49 +44,44 @@ fn coming_with(alloc: Global, units: &UnitTable, number: u64) -> Result<SimMech,
     Ok(SimMech::resume(units.copied(), begun, entries, Vec::new(alloc)))
 }
 
-// Withdraws a note of EUR 50 on the token.
-fn withdraw<D: Disk>(rt: &impl Abort, guard: &mut Guard<SimMech, D>) -> Result<(), Deny>
-    requires none { guard.old.state.open_order ≡ No }
-{
-    guard.issue()?;
-    let claim = guard.check(GENUINE.as_bytes())?;
-    let issue = guard.allow(claim, &FIFTY)?.issue;
-    assert!(rt; 3 <= guard.units().len());
-    guard.order(Ask::Stack {
-        issue,
-        unit: 3,
-        count: 1,
-    })?;
-    guard.act();
-    guard.settle()?;
-    guard.order(Ask::Present)?;
-    guard.act();
-    guard.settle()
-}
+// A note of EUR 50 is paid out, behind the second of two Starts.
+const PAID: &str = "base => 1
+records => 1
+issue => done
+token NONCE=E56A5D4028BD86530000000000000001,TOKENFORMAT=1,TOKENLENGTH=0164,DISPENSE1=50.00EUR,HMACSHA256=3D5C9E3C4712EA6A5C3803CA4CB0E54958CB4C8778ACBBB26FEA1F6935956AC2 => done
+dispense 3 1 => moved unit3:1
+present => moved unit3:1
+base => 1
+records => 7";
 
-// A start, and then another with this mechanism, which withdraws.
-fn entries_of(
-    rt: &impl Abort,
-    alloc: Global,
-    file: File,
-    number: u64,
-) -> Result<Vec<Motion>, Fail> {
+// A guard over a file, by a mechanism that comes with an entry of this number.
+fn booted(alloc: Global, file: File, number: u64) -> Result<Guard<SimMech, FileDisk>, Fail>
+    ensures { IfOk result (λ g. g.state.open_order ≡ No) }
+{
     let units = units()?;
     let mech = coming_with(alloc, &units, number)?;
-    let disk = FileDisk::new(file);
-    let mut guard = match Guard::boot(alloc, mech, disk, KEY, SEED, units, LIMITS) {
-        Ok(guard) => guard,
-        Err(fail) => return Err(fail.why.into()),
-    };
-    assert_eq!(rt; (guard.base(), guard.records().len()), (1, 1));
-    withdraw(rt, &mut guard)?;
-    assert_eq!(rt; (guard.base(), guard.records().len()), (1, 7));
-    assert_eq!(rt;
-        (guard.places().outlet, guard.places().transport),
-        (FIFTY, NONE)
-    );
-    let (mech, _disk) = guard.end();
+    match Guard::boot(alloc, mech, FileDisk::new(file), KEY, SEED, units, LIMITS) {
+        Ok(guard) => Ok(guard),
+        Err(fail) => Err(fail.why.into()),
+    }
+}
+
+// The entries of the mechanism of a guard that ended with a note of EUR 50 in the outlet, and none on the transport.
+fn entries_of<D: Disk>(alloc: Global, guard: Guard<SimMech, D>) -> Result<Vec<Motion>, Fail> {
+    let found = guard.places();
+    let (mech, disk) = guard.end();
+    drop(disk);
+    if found.outlet != FIFTY || found.transport != NONE {
+        return Err("the notes lie elsewhere".into());
+    }
     Ok(Vec::from_slice(alloc, mech.motions())?)
+}
+
+// A start, and then another with this mechanism, which pays out.
+fn paid_out(rt: &impl Abort, alloc: Global, file: File, number: u64) -> Result<Vec<Motion>, Fail> {
+    let mut teller = Teller::new(alloc, booted(alloc, file, number)?);
+    teller.plays(rt, PAID)?;
+    entries_of(alloc, teller.into_guard())
 }
 
 // The file has a Start, and gets another as record 2. An entry of number 1 stands in front of that, and of what comes
@@ -96,7 +92,7 @@ fn a_withdrawal_over_a_file_with_an_entry_in_reach_or_not(rt: HostRuntime) -> Re
         let started = start_file(rt.alloc())?;
         fs::write(&rt, "xfs_acceptance_reach.test", started.as_slice())?;
         let file = opened(&rt, "xfs_acceptance_reach.test")?;
-        let entries = entries_of(&rt, rt.alloc(), file, number)?;
+        let entries = paid_out(&rt, rt.alloc(), file, number)?;
         let due = [
             moved(number, Kind::Reject, NONE),
             moved(5, Kind::Stack, FIFTY),

@@ -4,9 +4,9 @@ ghost use Rattle.xfs_journal.specs.Image.{HasUnit};
 use std::alloc::Global;
 use std::test::Fail;
 use xfs_base::{Counts, Kind, Places};
-use xfs_disk::MemDisk;
+use xfs_disk::{Disk, MemDisk};
 use xfs_journal::{Journal, Rec, Survey};
-use xfs_mech::{KeyName, Mechanism, Motion, News, SimWatch, Touch, Watch};
+use xfs_mech::{KeyName, Mechanism, Motion, News, SimMech, SimWatch, Touch, Watch};
 use xfs_simulated::{
     LIMITS, OWN, card_news, core_on, empty, key_news, mechanism, places, resume_core, secret_in,
     units,
@@ -130,48 +130,82 @@ fn paid(alloc: Global, count: u32, moved: u32) -> Result<Journal<MemDisk>, Fail>
     let Ok(mut journal) = Journal::mount(alloc, empty(alloc), LIMITS) else {
         return Err("a journal".into());
     };
-    journal.append(boot(alloc, 1)?)?;
-    journal.append(boot(alloc, count)?)?;
-    for kind in [Kind::Stack, Kind::Present] {
-        journal.append(Rec::Order {
-            kind,
-            counts: twenties(moved),
-        })?;
-        journal.append(Rec::Done {
-            moved: twenties(moved),
-            diverted: twenties(0),
-        })?;
-    }
+    pay(alloc, &mut journal, count, moved)?;
     Ok(journal)
+}
+
+fn pay<D: Disk>(
+    alloc: Global,
+    journal: &mut Journal<D>,
+    count: u32,
+    moved: u32,
+) -> Result<(), Fail> {
+    for count in [1, count] {
+        append(journal, boot(alloc, count)?)?;
+    }
+    for kind in [Kind::Stack, Kind::Present] {
+        append_done(journal, kind, twenties(moved))?;
+    }
+    Ok(())
+}
+
+// An order of these notes, and that it was carried out.
+fn append_done<D: Disk>(journal: &mut Journal<D>, kind: Kind, counts: Counts) -> Result<(), Fail> {
+    append(journal, Rec::Order { kind, counts })?;
+    let done = Rec::Done {
+        moved: counts,
+        diverted: twenties(0),
+    };
+    append(journal, done)
+}
+
+fn append<D: Disk>(journal: &mut Journal<D>, rec: Rec) -> Result<(), Fail>
+    requires { HasUnit rec }
+{
+    journal.append(rec)?;
+    Ok(())
 }
 
 #[test]
 fn the_machine_goes_on_where_its_journal_leaves_it(rt: HostRuntime) -> Result<(), Fail> {
     let alloc = rt.alloc();
     let mut journal = paid(alloc, 9, 2)?;
-    journal.append(Rec::Load { unit: 2, count: 5 })?;
-    journal.append(Rec::Order {
+    order_more(&mut journal)?;
+    let core = resume_core(alloc, journal.end(), OWN, Vec::new(alloc))?;
+    assert!(rt; has_gone_on(&core.mech));
+    assert_eq!(rt; core.life, 600_000);
+    Ok(())
+}
+
+// Five notes more, and an order that was cut off.
+fn order_more<D: Disk>(journal: &mut Journal<D>) -> Result<(), Fail> {
+    append(journal, Rec::Load { unit: 2, count: 5 })?;
+    let order = Rec::Order {
         kind: Kind::Stack,
         counts: twenties(3),
-    })?;
-    let core = resume_core(alloc, journal.end(), OWN, Vec::new(alloc))?;
+    };
+    append(journal, order)
+}
+
+// Whether the notes lie where the journal leaves them, and its orders are told. The first Boot stands in front of the
+// records that are kept.
+fn has_gone_on(mech: &SimMech) -> bool {
     let left = Places {
         units: twenties(12),
         taken: twenties(2),
         ..places_of_none()
     };
-    assert_eq!(rt; core.mech.survey(), left);
-    assert_eq!(rt; core.mech.motions().len(), 4);
-    // The first Boot stands in front of the records that are kept.
-    for (place, due) in [(0, 3), (1, 5)] {
-        let motion = core.mech.motions().get(place);
-        assert!(rt;
-            matches!(motion, Some(Motion::Moved { number, .. }) if *number == due),
-            "{due}"
-        );
+    let [first, second, _, _] = mech.motions() else {
+        return false;
+    };
+    mech.survey() == left && number_of(first) == Some(3) && number_of(second) == Some(5)
+}
+
+fn number_of(motion: &Motion) -> Option<u64> {
+    match motion {
+        Motion::Moved { number, .. } => Some(*number),
+        _ => None,
     }
-    assert_eq!(rt; core.life, 600_000);
-    Ok(())
 }
 
 #[test]

@@ -7,22 +7,23 @@ use std::alloc::{AllocError, Global};
 use std::process::Abort;
 use std::test::Fail;
 use xfs_base::Counts;
-use xfs_disk::FailDisk;
+use xfs_disk::Disk;
 use xfs_evidence::{evidence, is_nonce};
-use xfs_guard::{Ask, Deny, Guard};
+use xfs_guard::{Ask, BootFault, Deny, Guard};
+use xfs_journal::Rec;
 use xfs_mech::{Mechanism, Outcome};
 use xfs_script::counts_text;
 
 #[derive(Drop)]
-pub struct Teller<M: Mechanism> {
+pub struct Teller<M: Mechanism, D: Disk> {
     alloc: Global,
-    guard: Guard<M, FailDisk>,
+    guard: Guard<M, D>,
     token: String,
     ghost none: { guard.state.open_order ≡ No },
 }
 
-impl<M: Mechanism> Teller<M> {
-    pub fn new(alloc: Global, guard: Guard<M, FailDisk>) -> Teller<M>
+impl<M: Mechanism, D: Disk> Teller<M, D> {
+    pub fn new(alloc: Global, guard: Guard<M, D>) -> Teller<M, D>
         requires { guard.state.open_order ≡ No }
     {
         Teller {
@@ -30,6 +31,15 @@ impl<M: Mechanism> Teller<M> {
             guard,
             token: String::new(alloc),
         }
+    }
+
+    pub fn into_guard(self) -> Guard<M, D> {
+        let Teller {
+            alloc: _,
+            guard,
+            token: _,
+        } = self;
+        guard
     }
 
     /// Plays rows: a line, and what it is answered.
@@ -50,7 +60,9 @@ impl<M: Mechanism> Teller<M> {
             "present" => carried(self.alloc, self.carry(rt, Ask::Present)),
             "reject" => carried(self.alloc, self.carry(rt, Ask::Reject)),
             "retract" => carried(self.alloc, self.carry(rt, Ask::Retract)),
-            "issue" | "clear" | "expire" | "restore" => self.record(verb),
+            "issue" | "clear" | "expire" => self.record(verb),
+            "restore" => again(self.alloc, self.guard.restore()),
+            "reboot" => again(self.alloc, self.guard.reboot()),
             "evidence" => self.tell(rt, rest),
             _ => self.look(verb),
         }
@@ -97,13 +109,12 @@ impl<M: Mechanism> Teller<M> {
         Ok(outcome)
     }
 
-    // A record is appended, or the journal is read again.
+    // A record is appended.
     fn record(&mut self, verb: &str) -> Result<String, Fail> {
         let told = match verb {
             "issue" => denied(self.alloc, self.guard.issue().err()),
-            "clear" => denied(self.alloc, self.guard.clear().err()),
-            "expire" => self.expire(),
-            _ => self.restore(),
+            "clear" => cleared(self.alloc, self.guard.clear()),
+            _ => self.expire(),
         };
         Ok(told?)
     }
@@ -114,13 +125,6 @@ impl<M: Mechanism> Teller<M> {
             return String::from_str(self.alloc, "none");
         }
         denied(self.alloc, self.guard.expire().err())
-    }
-
-    fn restore(&mut self) -> Result<String, AllocError> {
-        match self.guard.restore() {
-            Ok(()) => String::from_str(self.alloc, "done"),
-            Err(fault) => format!(in self.alloc; "{fault:?}"),
-        }
     }
 
     // The evidence with this nonce, under the key of the simulated machine.
@@ -141,16 +145,55 @@ impl<M: Mechanism> Teller<M> {
         }
     }
 
-    // Whether the journal takes more records, how many there are, or the number of the nonce that lives.
+    // Whether the journal takes more records, whether an order is open, or a number.
     fn look(&self, verb: &str) -> Result<String, Fail> {
-        let alloc = self.alloc;
-        Ok(match (verb, self.guard.live()) {
-            ("fit", _) => format!(in alloc; "{:?}", self.guard.fit())?,
-            ("records", _) => format!(in alloc; "{}", self.guard.records().len())?,
-            ("live", Some(nonce)) => format!(in alloc; "{}", nonce.number)?,
-            ("live", None) => String::from_str(alloc, "none")?,
+        Ok(match verb {
+            "fit" => format!(in self.alloc; "{:?}", self.guard.fit())?,
+            "ordering" => format!(in self.alloc; "{}", self.guard.ordering())?,
+            "records" | "base" | "live" | "start" => numbered(self.alloc, self.number(verb))?,
             _ => return Err("a line of none".into()),
         })
+    }
+
+    // How many records memory has, and how many stand in front of them; the number of the nonce that lives; and how many
+    // nonces the first of these records counts, where it is a Start.
+    fn number(&self, verb: &str) -> Option<u64> {
+        match verb {
+            "records" => Some(self.guard.records().len() as u64),
+            "base" => Some(self.guard.base()),
+            "live" => Some(self.guard.live()?.number),
+            _ => counted_by(self.guard.records().first()?),
+        }
+    }
+}
+
+fn counted_by(record: &Rec) -> Option<u64> {
+    match record {
+        Rec::Start { issues, .. } => Some(*issues),
+        _ => None,
+    }
+}
+
+fn numbered(alloc: Global, number: Option<u64>) -> Result<String, AllocError> {
+    match number {
+        Some(number) => format!(in alloc; "{number}"),
+        None => String::from_str(alloc, "none"),
+    }
+}
+
+// How a journal that is read again ends.
+fn again(alloc: Global, told: Result<(), BootFault>) -> Result<String, Fail> {
+    Ok(match told {
+        Ok(()) => String::from_str(alloc, "done")?,
+        Err(fault) => format!(in alloc; "{fault:?}")?,
+    })
+}
+
+// Whether a nonce lived that was cleared.
+fn cleared(alloc: Global, told: Result<bool, Deny>) -> Result<String, AllocError> {
+    match told {
+        Ok(lived) => format!(in alloc; "{lived}"),
+        Err(deny) => format!(in alloc; "{deny:?}"),
     }
 }
 

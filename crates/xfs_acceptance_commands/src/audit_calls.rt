@@ -173,9 +173,18 @@ fn verdict(alloc: Global, units: &UnitTable, row: &str) -> Result<&'static str, 
         from: NOWHERE,
         to: NOWHERE,
     };
+    read_all(alloc, &mut history, row)?;
+    found_in(alloc, units, &history)
+}
+
+fn read_all(alloc: Global, history: &mut History, row: &str) -> Result<(), Fail> {
     for entry in row.split(" / ") {
-        read(alloc, &mut history, entry)?;
+        read(alloc, history, entry)?;
     }
+    Ok(())
+}
+
+fn found_in(alloc: Global, units: &UnitTable, history: &History) -> Result<&'static str, Fail> {
     let found = audit(
         alloc,
         &KEY,

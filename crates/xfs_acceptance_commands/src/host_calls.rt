@@ -1,6 +1,7 @@
 //! What the host answers, call by call.
 
 use std::alloc::Global;
+use std::process::Abort;
 use std::test::Fail;
 use xfs_base::{Currency, Milli};
 use xfs_host::{Ask, AskFault, Host, OpenFault, Reply};
@@ -100,9 +101,7 @@ fn answer(alloc: Global, host: &mut Host, row: &str) -> Result<String, Fail> {
 }
 
 // Each row is a call and what it answers, of one host.
-#[test]
-fn a_transaction_acts_once(rt: HostRuntime) -> Result<(), Fail> {
-    let rows = "open 7 EUR 100000 => opened
+const ROWS: &str = "open 7 EUR 100000 => opened
 ask 1 7 A1 EUR 60000 => token
 ask 1 7 A1 EUR 60000 => token
 ask 2 7 A1 EUR 10000 => nonce used 1
@@ -115,20 +114,29 @@ ask 4 8 A1 EUR 1000 => account
 ask 5 8 A1 USD 1000 => currency
 ask 6 7 a1 EUR 1000 => bad nonce
 ask 6 7 A3 EUR 1000000000000 => bad amount";
-    let mut host = Host::new(rt.alloc(), KEY);
-    for row in rows.lines() {
+
+fn answer_all(rt: &impl Abort, alloc: Global, host: &mut Host) -> Result<(), Fail> {
+    for row in ROWS.lines() {
         let (call, due) = row.split_once(" => ").ok_or("a row")?;
-        let told = answer(rt.alloc(), &mut host, call)?;
+        let told = answer(alloc, host, call)?;
         assert_eq!(rt; told.as_str(), due, "{call}");
     }
-    assert_eq!(rt; host.len(), 2);
-    assert!(rt; host.balance(7) == Some(Milli(40_000)));
-    assert!(rt; host.balance(9) == None);
-    if host.len() < 2 {
-        return Err(Fail::from("two accounts"));
-    }
+    Ok(())
+}
+
+// Whether the host has these two accounts alone.
+fn has_both(host: &Host, euro: Currency) -> bool {
+    host.len() == 2
+        && host.account(0) == (7, euro, Milli(40_000))
+        && host.account(1) == (8, euro, Milli(5_000))
+}
+
+#[test]
+fn a_transaction_acts_once(rt: HostRuntime) -> Result<(), Fail> {
     let euro = Currency::new(b"EUR").ok_or("letters")?;
-    assert!(rt; host.account(0) == (7, euro, Milli(40_000)));
-    assert!(rt; host.account(1) == (8, euro, Milli(5_000)));
+    let mut host = Host::new(rt.alloc(), KEY);
+    answer_all(&rt, rt.alloc(), &mut host)?;
+    assert!(rt; has_both(&host, euro));
+    assert!(rt; host.balance(7) == Some(Milli(40_000)) && host.balance(9) == None);
     Ok(())
 }

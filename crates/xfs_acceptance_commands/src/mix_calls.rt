@@ -11,26 +11,40 @@ fn bench() -> Result<UnitTable, Fail> {
     Ok(UnitTable::new(&kinds).ok_or("a table")?)
 }
 
-// More notes than a unit of a machine has, and another currency; what comes of two of 25 or of one of 40 and one of 10.
+fn euros(value: u32) -> Result<NoteKind, Fail> {
+    let currency = Currency::new(b"EUR").ok_or("letters")?;
+    Ok(NoteKind { currency, value })
+}
+
+// More notes than a unit of a machine has.
 #[test]
-fn the_fewest_notes(rt: HostRuntime) -> Result<(), Fail> {
-    let euro = Currency::new(b"EUR").ok_or("letters")?;
-    let pound = Currency::new(b"GBP").ok_or("letters")?;
-    let kind = |value| NoteKind {
-        currency: euro,
-        value,
-    };
-    let ones = UnitTable::new(&[kind(1); 8]).ok_or("a table")?;
+fn too_many_notes_are_no_mix(rt: HostRuntime) -> Result<(), Fail> {
+    let one = euros(1)?;
+    let ones = UnitTable::new(&[one; 8]).ok_or("a table")?;
     for (first, fault) in [(1_000_000, MixFault::TooMany), (999_999, MixFault::Nothing)] {
         let have = Counts([first, 0, 0, 0, 0, 0, 0, 0]);
-        let mix = least(rt.alloc(), &ones, &have, euro, 1_000_000);
+        let mix = least(rt.alloc(), &ones, &have, one.currency, 1_000_000);
         assert!(rt; mix == Err(fault), "{first}");
     }
+    Ok(())
+}
+
+#[test]
+fn another_currency_has_no_mix(rt: HostRuntime) -> Result<(), Fail> {
+    let pound = Currency::new(b"GBP").ok_or("letters")?;
     let have = Counts([100, 100, 100, 100, 0, 0, 0, 0]);
     assert!(rt; least(rt.alloc(), &bench()?, &have, pound, 10) == Err(MixFault::Nothing));
-    let fives = UnitTable::new(&[40, 25, 10, 5, 1].map(kind)).ok_or("a table")?;
+    Ok(())
+}
+
+// What comes of two of 25 or of one of 40 and one of 10.
+#[test]
+fn the_fewest_notes(rt: HostRuntime) -> Result<(), Fail> {
+    let currency = euros(1)?.currency;
+    let kinds = [40, 25, 10, 5, 1].map(|value| NoteKind { currency, value });
+    let units = UnitTable::new(&kinds).ok_or("a table")?;
     let have = Counts([9, 9, 9, 9, 9, 0, 0, 0]);
-    let mix = least(rt.alloc(), &fives, &have, euro, 50);
+    let mix = least(rt.alloc(), &units, &have, currency, 50);
     assert!(rt; mix.map(|mix| mix.notes()) == Ok(2));
     Ok(())
 }

@@ -35,22 +35,38 @@ fn do_first(queue: &mut Queue<u64>) -> Option<u64> {
     Some(queue.remove(ready).job)
 }
 
+fn earliest(queue: &Queue<u64>) -> Option<Moment> {
+    queue.earliest()
+}
+
+fn expired(queue: &mut Queue<u64>, now: u32) -> Option<Ticket> {
+    queue.expire(Moment(u64::from(now)))
+}
+
+fn takes_three(queue: &mut Queue<u64>) -> bool {
+    offer(queue, 1, 1, 300).is_none()
+        && offer(queue, 1, 2, 100).is_none()
+        && offer(queue, 1, 3, 0).is_none()
+}
+
+// Whether the second is due at its deadline and not before, and the third, which has none, never.
+fn are_due_in_time(queue: &Queue<u64>) -> bool {
+    queue.due(ticket(1, 2), Moment(100))
+        && !queue.due(ticket(1, 2), Moment(99))
+        && !queue.due(ticket(1, 3), Moment(GREATEST))
+}
+
 #[test]
 fn the_least_deadline_comes_first(rt: HostRuntime) {
     let mut queue = Queue::new(rt.alloc());
-    assert_eq!(rt; queue.earliest(), None);
-    assert_eq!(rt; offer(&mut queue, 1, 1, 300), None);
-    assert_eq!(rt; offer(&mut queue, 1, 2, 100), None);
-    assert_eq!(rt; offer(&mut queue, 1, 3, 0), None);
-    assert_eq!(rt; queue.earliest(), Some(Moment(100)));
+    assert!(rt; earliest(&queue).is_none() && takes_three(&mut queue));
+    assert!(rt; earliest(&queue) == Some(Moment(100)));
     for (now, first) in [(99, None), (100, Some(2)), (299, Some(2)), (300, Some(1))] {
-        let due = queue.expire(Moment(now));
-        assert_eq!(rt; due, first.map(|id| ticket(1, id)), "at {now}");
+        let due = first.map(|id| ticket(1, id));
+        assert!(rt; expired(&mut queue, now) == due, "at {now}");
     }
-    assert!(rt; queue.due(ticket(1, 2), Moment(100)) && !queue.due(ticket(1, 2), Moment(99)));
-    assert!(rt; !queue.due(ticket(1, 3), Moment(GREATEST)));
-    assert_eq!(rt; do_first(&mut queue), Some(1001));
-    assert_eq!(rt; queue.earliest(), Some(Moment(100)));
+    assert!(rt; are_due_in_time(&queue));
+    assert!(rt; do_first(&mut queue) == Some(1001) && earliest(&queue) == Some(Moment(100)));
 }
 
 #[test]
@@ -80,30 +96,55 @@ fn a_deadline_past_the_greatest_moment_never_comes(rt: HostRuntime) {
     assert_eq!(rt; queue.earliest(), Some(Moment(9_223_372_041_149_743_102)));
 }
 
-#[test]
-fn cancel_and_a_leaving_client_touch_their_own_alone(rt: HostRuntime) -> Result<(), AllocError> {
-    let mut queue = Queue::new(rt.alloc());
+fn takes_four(queue: &mut Queue<u64>) -> bool {
+    let mut takes = true;
     for (client, id) in [(1, 1), (1, 2), (2, 1), (1, 3)] {
-        assert_eq!(rt; offer(&mut queue, client, id, 7), None);
+        takes = offer(queue, client, id, 7).is_none() && takes;
     }
-    let ids = Vec::from_slice(rt.alloc(), &[2, 9])?;
-    let ids = Ids::These(Numbers::new(ids));
-    assert_eq!(rt; queue.cancel(ClientId(1), &ids), 1);
-    assert_eq!(rt; queue.stopped(), Some(ticket(1, 2)));
-    assert_eq!(rt; queue.cancel(ClientId(2), &Ids::All), 1);
-    assert!(rt; queue.is_marked(ticket(2, 1)) && !queue.is_marked(ticket(1, 1)));
+    takes
+}
+
+// Whether each client's cancel touches a command of its own.
+fn cancels_its_own(queue: &mut Queue<u64>, ids: &Ids) -> bool {
+    queue.cancel(ClientId(1), ids) == 1
+        && queue.stopped() == Some(ticket(1, 2))
+        && queue.cancel(ClientId(2), &Ids::All) == 1
+        && queue.is_marked(ticket(2, 1))
+        && !queue.is_marked(ticket(1, 1))
+}
+
+fn start_first(queue: &mut Queue<u64>) {
     if let Some(first) = queue.next(Line::Device)
         && queue.running().is_none()
     {
         queue.start(first);
     }
+}
+
+// Whether the running command of a client that leaves is marked, and the others' stay.
+fn loses_the_first(queue: &mut Queue<u64>) -> bool {
     queue.drop_client(ClientId(1));
-    assert_eq!(rt; queue.running(), Some(ticket(1, 1)));
-    assert!(rt; queue.is_marked(ticket(1, 1)) && queue.holds(ClientId(2), 1));
-    if let Some(running) = queue.running() {
-        assert_eq!(rt; queue.set_job(running, 8), 1);
+    queue.running() == Some(ticket(1, 1))
+        && queue.is_marked(ticket(1, 1))
+        && queue.holds(ClientId(2), 1)
+}
+
+// The job of the running command was 1.
+fn sets_its_job(queue: &mut Queue<u64>) -> bool {
+    match queue.running() {
+        Some(running) => queue.set_job(running, 8) == 1,
+        None => false,
     }
-    assert_eq!(rt; queue.commands().len(), 2);
-    assert_eq!(rt; queue.next(Line::Nonce), None);
+}
+
+#[test]
+fn cancel_and_a_leaving_client_touch_their_own_alone(rt: HostRuntime) -> Result<(), AllocError> {
+    let ids = Vec::from_slice(rt.alloc(), &[2, 9])?;
+    let ids = Ids::These(Numbers::new(ids));
+    let mut queue = Queue::new(rt.alloc());
+    assert!(rt; takes_four(&mut queue) && cancels_its_own(&mut queue, &ids));
+    start_first(&mut queue);
+    assert!(rt; loses_the_first(&mut queue) && sets_its_job(&mut queue));
+    assert!(rt; queue.commands().len() == 2 && queue.next(Line::Nonce).is_none());
     Ok(())
 }

@@ -29,43 +29,65 @@ fn a_crash_loses_or_blots_what_no_sync_kept(rt: HostRuntime) -> Result<(), Fail>
     Ok(())
 }
 
+// Whether what is behind the fourth byte is cut and synced, and the file made longer again.
+fn is_cut<D: Disk>(file: &mut D) -> bool {
+    file.cut(4).is_ok() && file.sync().is_ok() && file.cut(6).is_ok()
+}
+
 #[test]
 fn a_sync_keeps_what_was_written_and_cut(rt: HostRuntime) -> Result<(), Fail> {
-    let alloc = rt.alloc();
-    let mut file = disk(alloc, &[1, 2, 3])?;
+    let mut file = disk(rt.alloc(), &[1, 2, 3])?;
     assert!(rt; file.write_at(3, &[4, 5]).is_ok());
-    assert!(rt; file.cut(4).is_ok());
-    assert!(rt; file.sync().is_ok());
-    assert!(rt; file.cut(6).is_ok());
+    assert!(rt; is_cut(&mut file));
     assert_eq!(rt; file.bytes(), [1, 2, 3, 4, 0, 0].as_slice());
     assert_eq!(rt; file.crash(0).bytes(), [1, 2, 3, 4].as_slice());
     Ok(())
 }
 
+// How many bytes a read at each of these places gives. None where one fails.
+fn counts_at<D: Disk>(file: &mut D, places: [u64; 4]) -> Option<[usize; 4]> {
+    let mut page = [0; 4];
+    let [a, b, c, d] = places;
+    Some([
+        file.read(a, &mut page).ok()?,
+        file.read(b, &mut page).ok()?,
+        file.read(c, &mut page).ok()?,
+        file.read(d, &mut page).ok()?,
+    ])
+}
+
 #[test]
 fn reads_are_counted(rt: HostRuntime) -> Result<(), Fail> {
     let mut file = disk(rt.alloc(), &[1, 2, 3])?;
-    let mut page = [0; 4];
-    for (at, count) in [(0, 3), (2, 1), (3, 0), (99, 0)] {
-        assert!(rt; file.read(at, &mut page) == Ok(count), "at {at}");
-    }
-    assert!(rt; file.len() == Ok(3));
-    assert_eq!(rt; file.reads(), 4);
-    assert_eq!(rt; file.widest(), 4);
+    let counts = counts_at(&mut file, [0, 2, 3, 99]);
+    assert!(rt; counts == Some([3, 1, 0, 0]) && file.len() == Ok(3));
+    assert!(rt; file.reads() == 4 && file.widest() == 4);
+    Ok(())
+}
+
+// Which of three syncs pass, and which of three writes of a byte.
+fn syncs<D: Disk>(disk: &mut D) -> [bool; 3] {
+    [1, 2, 3].map(|_| disk.sync().is_ok())
+}
+
+fn writes<D: Disk>(disk: &mut D) -> [bool; 3] {
+    [1, 2, 3].map(|byte| disk.write_at(0, &[byte]).is_ok())
+}
+
+#[test]
+fn a_call_fails_at_its_place(rt: HostRuntime) -> Result<(), Fail> {
+    let failing = Vec::from_slice(rt.alloc(), &[2])?;
+    let mut disk = FailDisk::new(disk(rt.alloc(), &[])?, failing);
+    assert!(rt; syncs(&mut disk) == [true, false, true]);
+    assert_eq!(rt; disk.inner().bytes(), [].as_slice());
     Ok(())
 }
 
 #[test]
-fn calls_fail_at_their_places(rt: HostRuntime) -> Result<(), Fail> {
-    let alloc = rt.alloc();
-    let mut failing = FailDisk::new(disk(alloc, &[])?, [2].to_vec(alloc)?);
-    let mut fuse = FuseDisk::new(disk(alloc, &[])?, 1);
-    for (call, passes, goes_on) in [(1, true, true), (2, false, false), (3, true, false)] {
-        assert_eq!(rt; failing.sync().is_ok(), passes, "call {call}");
-        assert_eq!(rt; fuse.write_at(0, &[call]).is_ok(), goes_on, "call {call}");
-    }
-    assert_eq!(rt; failing.inner().bytes(), [].as_slice());
-    assert_eq!(rt; fuse.inner().bytes(), [1].as_slice());
+fn calls_fail_from_a_place_on(rt: HostRuntime) -> Result<(), Fail> {
+    let mut disk = FuseDisk::new(disk(rt.alloc(), &[])?, 1);
+    assert!(rt; writes(&mut disk) == [true, false, false]);
+    assert_eq!(rt; disk.inner().bytes(), [1].as_slice());
     Ok(())
 }
 

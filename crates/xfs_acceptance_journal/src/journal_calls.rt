@@ -8,7 +8,9 @@ use std::fs;
 use std::test::Fail;
 use xfs_base::{Counts, Kind, Places};
 use xfs_disk::{Disk, FileDisk, MemDisk};
-use xfs_journal::{BodyFault, Journal, Limits, MountFault, Rec, Survey, Text, read_body};
+use xfs_journal::{
+    AppendFault, BodyFault, Journal, Limits, MountFault, Rec, Survey, Text, read_body,
+};
 
 pub const LIMITS: Limits = Limits {
     records: 1_000_000,
@@ -26,6 +28,18 @@ pub fn mounted<D: Disk>(alloc: Global, disk: D) -> Result<Journal<D>, Fail> {
         Ok(journal) => Ok(journal),
         Err(_) => Err("the disk is not mounted")?,
     }
+}
+
+/// Appends a record, and says nothing of what that leaves.
+pub fn append<D: Disk>(journal: &mut Journal<D>, rec: Rec) -> Result<u64, AppendFault>
+    requires { HasUnit rec }
+{
+    journal.append(rec)
+}
+
+/// Reads the list again, and says nothing of what that leaves.
+pub fn remount<D: Disk>(journal: &mut Journal<D>) -> Result<(), MountFault> {
+    journal.remount()
 }
 
 // 100 notes in each of four units, and none elsewhere.
@@ -66,18 +80,23 @@ fn a_start_and_an_issue_are_213_and_233_bytes(rt: HostRuntime) -> Result<(), Fai
     Ok(())
 }
 
-fn takes_a_start(journal: &mut Journal<MemDisk>, start: Rec) -> bool
+fn takes_a_start<D: Disk>(journal: &mut Journal<D>, start: Rec) -> bool
     requires { HasUnit start }
 {
     let left = Limits {
         records: 999_999,
         bytes: 17_179_868_971,
     };
-    journal.reserve(2).is_ok() && journal.append(start) == Ok(1) && journal.left() == left
+    let (has_room, number) = (reserves_two(journal), append(journal, start));
+    has_room && number == Ok(1) && journal.left() == left
 }
 
-fn takes_an_issue(journal: &mut Journal<MemDisk>) -> bool {
-    journal.append(issue()) == Ok(2) && !journal.shut() && journal.records().len() == 2
+fn reserves_two<D: Disk>(journal: &mut Journal<D>) -> bool {
+    journal.reserve(2).is_ok()
+}
+
+fn takes_an_issue<D: Disk>(journal: &mut Journal<D>) -> bool {
+    append(journal, issue()) == Ok(2) && !journal.shut() && journal.records().len() == 2
 }
 
 // How many records of a file a mount lets go, and how many it keeps; or the place from which it is no journal.
@@ -126,10 +145,10 @@ fn a_file_that_is_cut_is_refused_at_the_record_that_is_not_whole(
 fn boots_and_starts_stand_in_one_file(rt: HostRuntime) -> Result<(), Fail> {
     let alloc = rt.alloc();
     let mut bytes = old_file(alloc)?;
-    assert_eq!(rt; count_in(alloc, &bytes)?, Ok((0, 2)));
+    assert!(rt; count_in(alloc, &bytes)? == Ok((0, 2)));
     bytes.pop();
-    bytes.extend_from_slice(short_file(alloc)?.get(8..).ok_or("shorter")?)?;
-    assert_eq!(rt; count_in(alloc, &bytes)?, Ok((2, 2)));
+    append_short(alloc, &mut bytes)?;
+    assert!(rt; count_in(alloc, &bytes)? == Ok((2, 2)));
     Ok(())
 }
 
@@ -160,31 +179,45 @@ fn a_body_of_another_form_is_refused(rt: HostRuntime) -> Result<(), Fail> {
     Ok(())
 }
 
+// What the front of so many bytes of a Start behind two nonces is.
+fn front_of_start(alloc: Global, len: usize) -> Result<&'static str, Fail> {
+    let mut body = [0; 202];
+    body[..9].copy_from_slice(b"K\0\0\0\0\0\0\0\x02");
+    let front = body.get(..len).ok_or("longer")?;
+    Ok(match read_body(alloc, front) {
+        Ok(Rec::Start { issues: 2, .. }) => "a start",
+        Err(BodyFault::Form) => "of another form",
+        _ => "another",
+    })
+}
+
 // A Start's places begin behind eight bytes: 201 bytes with its letter.
 #[test]
 fn a_start_has_201_bytes(rt: HostRuntime) -> Result<(), Fail> {
-    let alloc = rt.alloc();
-    let mut body = b"K\0\0\0\0\0\0\0\x02".to_vec(alloc)?;
-    for _ in 0..191 {
-        body.push(0)?;
+    let rows = [
+        (200, "of another form"),
+        (201, "a start"),
+        (202, "of another form"),
+    ];
+    for (len, due) in rows {
+        assert!(rt; front_of_start(rt.alloc(), len)? == due, "{len}");
     }
-    assert!(rt; matches!(read_body(alloc, &body), Err(BodyFault::Form)));
-    body.push(0)?;
-    assert!(rt; matches!(read_body(alloc, &body), Ok(Rec::Start { issues: 2, .. })));
-    body.push(0)?;
-    assert!(rt; matches!(read_body(alloc, &body), Err(BodyFault::Form)));
     Ok(())
 }
 
-// So many orders, each of another count; a record of 37 bytes begins at every offset of a page.
+// The record of an order of so many notes of the first unit: 37 bytes.
+fn order_bytes(count: u32) -> [u8; 37] {
+    let mut bytes = [0; 37];
+    bytes[..5].copy_from_slice(&[1, 0, 34, 0x4F, 2]);
+    bytes[5..9].copy_from_slice(&count.to_be_bytes());
+    bytes
+}
+
+// So many orders, each of another count; a record begins at every offset of a page.
 fn orders_file(alloc: Global, count: u32) -> Result<Vec<u8>, Fail> {
     let mut bytes = b"XFSJRNL2".to_vec(alloc)?;
     for number in 0..count {
-        bytes.extend_from_slice(&[1, 0, 34, 0x4F, 2])?;
-        bytes.extend_from_slice(&number.to_be_bytes())?;
-        for _ in 0..28 {
-            bytes.push(0)?;
-        }
+        bytes.extend_from_slice(&order_bytes(number))?;
     }
     bytes.push(0)?;
     Ok(bytes)
@@ -268,17 +301,23 @@ fn paged(alloc: Global, bytes: &[u8]) -> Result<Result<String, u64>, Fail> {
     }
 }
 
+// A Clear, a token, a load and a done of one note each, and a Start and an Issue behind them.
+const MIXED: &[u8] = b"\x01\0\x01C\x01\0\x06Ttoken\x01\0\x06L\x08\0\0\0\x05\x01\0\x41D";
+
 // Records of every kind, across the end of the first page.
 fn mixed_file(alloc: Global) -> Result<Vec<u8>, Fail> {
     let mut bytes = orders_file(alloc, 110)?;
     bytes.truncate(4078);
-    bytes.extend_from_slice(b"\x01\0\x01C\x01\0\x06Ttoken\x01\0\x06L\x08\0\0\0\x05\x01\0\x41D")?;
-    for _ in 0..64 {
-        bytes.push(1)?;
-    }
+    bytes.extend_from_slice(MIXED)?;
+    bytes.extend_from_slice(&[1; 64])?;
+    append_short(alloc, &mut bytes)?;
+    Ok(bytes)
+}
+
+fn append_short(alloc: Global, bytes: &mut Vec<u8>) -> Result<(), Fail> {
     let booted = short_file(alloc)?;
     bytes.extend_from_slice(booted.get(8..).ok_or("shorter")?)?;
-    Ok(bytes)
+    Ok(())
 }
 
 // One byte is another in each of 200 files, and every fourth of them ends behind it.
@@ -297,39 +336,65 @@ fn the_paged_reader_finds_what_a_plain_one_finds(rt: HostRuntime) -> Result<(), 
     Ok(())
 }
 
+// What others left in a file, the length of the front that stays and what stands behind it, and where it is refused.
+const OTHERS: [(usize, &[u8], u64); 5] = [
+    (212, b"\0", 212),
+    (212, b"\x01\0\x01C\0", 212),
+    (232, b"\x01\0\x01C\0", 232),
+    (8, b"\x01\0", 8),
+    (0, b"nothing", 8),
+];
+
+// The front of a file, and these bytes behind it.
+fn cut(alloc: Global, file: &[u8], len: usize, behind: &[u8]) -> Result<Vec<u8>, Fail> {
+    let mut bytes = file.get(..len).ok_or("shorter")?.to_vec(alloc)?;
+    bytes.extend_from_slice(behind)?;
+    Ok(bytes)
+}
+
+// Whether a remount of what others left is refused at this place, shuts the journal and writes nothing.
+fn is_refused<D: Disk>(
+    rt: &HostRuntime,
+    journal: &mut Journal<D>,
+    other: &[u8],
+    at: u64,
+) -> Result<bool, Fail> {
+    fs::write(rt, "xfs_journal.test", other)?;
+    let is_told = remount(journal) == Err(MountFault::NotJournal { at }) && journal.shut();
+    Ok(is_told && holds(rt, other)?)
+}
+
+fn holds(rt: &HostRuntime, bytes: &[u8]) -> Result<bool, Fail> {
+    Ok(fs::read(rt, "xfs_journal.test")?.as_slice() == bytes)
+}
+
+// Whether a remount of the file as it was opens the journal, which takes a record then.
+fn goes_on<D: Disk>(rt: &HostRuntime, journal: &mut Journal<D>, kept: &[u8]) -> Result<bool, Fail> {
+    fs::write(rt, "xfs_journal.test", kept)?;
+    let is_open = remount(journal) == Ok(()) && !journal.shut();
+    Ok(is_open && append(journal, Rec::Clear) == Ok(3))
+}
+
+// Both of a journal over a file.
+fn is_told_apart(
+    rt: &HostRuntime,
+    kept: &[u8],
+    (len, behind, at): (usize, &[u8], u64),
+) -> Result<bool, Fail> {
+    let other = cut(rt.alloc(), kept, len, behind)?;
+    fs::write(rt, "xfs_journal.test", kept)?;
+    let disk = FileDisk::new(opened(rt, "xfs_journal.test")?);
+    let mut journal = mounted(rt.alloc(), disk)?;
+    Ok(is_refused(rt, &mut journal, &other, at)? && goes_on(rt, &mut journal, kept)?)
+}
+
 // A file holds what others write into it, and tells nothing of it.
 #[test]
 fn a_file_with_another_list_is_refused_where_it_differs(rt: HostRuntime) -> Result<(), Fail> {
-    let alloc = rt.alloc();
-    let kept = short_file(alloc)?;
-    fs::write(&rt, "xfs_journal.test", kept.as_slice())?;
-    let file = opened(&rt, "xfs_journal.test")?;
-    let mut journal = mounted(alloc, FileDisk::new(file))?;
-    let rows: [(usize, &[u8], u64); 5] = [
-        (212, b"\0", 212),
-        (212, b"\x01\0\x01C\0", 212),
-        (232, b"\x01\0\x01C\0", 232),
-        (8, b"\x01\0", 8),
-        (0, b"nothing", 8),
-    ];
-    for (len, behind, at) in rows {
-        let mut other = kept.get(..len).ok_or("shorter")?.to_vec(alloc)?;
-        other.extend_from_slice(behind)?;
-        fs::write(&rt, "xfs_journal.test", other.as_slice())?;
-        assert!(rt;
-            journal.remount() == Err(MountFault::NotJournal { at }),
-            "at {at}"
-        );
-        assert!(rt; journal.shut());
-        assert_eq!(rt;
-            fs::read(&rt, "xfs_journal.test")?.as_slice(),
-            other.as_slice()
-        );
-        fs::write(&rt, "xfs_journal.test", kept.as_slice())?;
-        assert!(rt; journal.remount() == Ok(()));
-        assert!(rt; !journal.shut());
+    let kept = short_file(rt.alloc())?;
+    for row in OTHERS {
+        assert!(rt; is_told_apart(&rt, &kept, row)?, "{row:?}");
     }
-    assert!(rt; journal.append(Rec::Clear) == Ok(3));
     fs::remove_file(&rt, "xfs_journal.test")?;
     Ok(())
 }
@@ -347,9 +412,19 @@ fn at_most_9_bytes_are_made_an_empty_journal_again(rt: HostRuntime) -> Result<()
 // Appends a Start to the journal of a file that others wrote this into, read again: its number.
 fn begun_again(rt: &HostRuntime, path: &str, found: &[u8]) -> Result<u64, Fail> {
     let mut journal = mounted(rt.alloc(), FileDisk::new(opened(rt, path)?))?;
+    start_over(rt, path, found, &mut journal)
+}
+
+fn start_over<D: Disk>(
+    rt: &HostRuntime,
+    path: &str,
+    found: &[u8],
+    journal: &mut Journal<D>,
+) -> Result<u64, Fail> {
     fs::write(rt, path, found)?;
-    journal.remount()?;
-    Ok(journal.append(start(rt.alloc())?)?)
+    remount(journal)?;
+    let start = start(rt.alloc())?;
+    Ok(append(journal, start)?)
 }
 
 // Appends a record to the journal of a file: its number.
@@ -357,7 +432,7 @@ fn append_to(rt: &HostRuntime, path: &str, rec: Rec) -> Result<u64, Fail>
     requires { HasUnit rec }
 {
     let mut journal = mounted(rt.alloc(), FileDisk::new(opened(rt, path)?))?;
-    Ok(journal.append(rec)?)
+    Ok(append(&mut journal, rec)?)
 }
 
 #[test]

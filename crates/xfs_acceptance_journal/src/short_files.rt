@@ -2,17 +2,23 @@
 
 use std::alloc::{AllocError, Global};
 
-// What begins a file, with its first record up to the places, then four units of 100 notes, and an issue.
+// Four units of 100 notes, in the places of a boot record.
+fn places() -> [u8; 192] {
+    let mut bytes = [0; 192];
+    for unit in 0..4 {
+        bytes[4 * unit + 3] = 100;
+    }
+    bytes
+}
+
+// An Issue, and the closed gate behind it.
+const ISSUE: [u8; 21] = *b"\x01\0\x11I\0\0\0\0\0\0\0\x01\xE5\x6A\x5D\x40\x28\xBD\x86\x53\0";
+
+// What begins a file, with its first record up to the places, then the places, and an issue.
 fn file_from(alloc: Global, begin: &[u8]) -> Result<Vec<u8>, AllocError> {
     let mut bytes = begin.to_vec(alloc)?;
-    for _ in 0..4 {
-        bytes.extend_from_slice(&[0, 0, 0, 100])?;
-    }
-    for _ in 0..176 {
-        bytes.push(0)?;
-    }
-    bytes.extend_from_slice(&[1, 0, 17, 0x49, 0, 0, 0, 0, 0, 0, 0, 1])?;
-    bytes.extend_from_slice(&[0xE5, 0x6A, 0x5D, 0x40, 0x28, 0xBD, 0x86, 0x53, 0])?;
+    bytes.extend_from_slice(&places())?;
+    bytes.extend_from_slice(&ISSUE)?;
     Ok(bytes)
 }
 

@@ -37,17 +37,34 @@ fn is_of_text(token: &Token) -> bool {
         && token.mac() == [0; 32]
 }
 
-#[test]
-fn a_token_is_built_written_and_read_back(rt: HostRuntime) -> Result<(), Fail> {
-    let alloc = rt.alloc();
-    assert!(rt; Token::begin(alloc, b"").is_err());
-    let mut token = Token::begin(alloc, NONCE)?;
-    refuses(&rt, alloc, &mut token)?;
+// Adds the amount, once alone.
+fn add_amount(rt: &impl Abort, alloc: Global, token: &mut Token) -> Result<(), Fail> {
+    refuses(rt, alloc, token)?;
     token.add(b"DISPENSE1", b"50.00EUR")?;
     assert!(rt; token.add(b"DISPENSE1", b"1.00EUR").is_err());
-    let text = write(alloc, &token)?;
-    assert!(rt; is_of_text(&token) && text.as_slice() == TEXT.as_slice());
-    assert!(rt; is_of_text(&read(alloc, &text)?));
+    Ok(())
+}
+
+fn is_written(alloc: Global, token: &Token) -> Result<bool, Fail> {
+    let text = write(alloc, token)?;
+    Ok(is_of_text(token) && text.as_slice() == TEXT.as_slice())
+}
+
+fn is_read_back(alloc: Global) -> Result<bool, Fail> {
+    let token = read(alloc, TEXT)?;
+    Ok(is_of_text(&token))
+}
+
+fn is_built(rt: &impl Abort, alloc: Global, token: &mut Token) -> Result<bool, Fail> {
+    add_amount(rt, alloc, token)?;
+    is_written(alloc, token)
+}
+
+#[test]
+fn a_token_is_built_written_and_read_back(rt: HostRuntime) -> Result<(), Fail> {
+    assert!(rt; Token::begin(rt.alloc(), b"").is_err() && is_read_back(rt.alloc())?);
+    let mut token = Token::begin(rt.alloc(), NONCE)?;
+    assert!(rt; is_built(&rt, rt.alloc(), &mut token)?);
     Ok(())
 }
 

@@ -2,6 +2,7 @@
 
 use crate::tables::halves;
 use std::alloc::Global;
+use std::fmt::Write;
 use std::test::Fail;
 use xfs_base::Bytes;
 use xfs_dispenser::{CashAsk, CashCommand, CashFail, Named, Notes, read_ask};
@@ -142,74 +143,86 @@ Storage.SetStorage {\"storage\":{}} => bad
 Storage.SetStorage {\"storage\":null} => bad
 Storage.SetStorage {} => bad";
 
-fn named(alloc: Global, named: &Named) -> Result<String, Fail> {
-    let mut text = String::new(alloc);
-    match named {
+fn tell_counts(told: &mut String, counts: &Named) -> Result<(), Fail> {
+    match counts {
         Named::These(counts) => {
             for count in counts.0 {
-                let blank = if text.is_empty() { "" } else { " " };
-                text.push_str(format!(in alloc; "{blank}{count}")?.as_str())?;
+                write!(told, " {count}")?;
             }
         }
-        Named::OtherName => text.push_str("other name")?,
+        Named::OtherName => told.push_str(" other name")?,
     }
-    Ok(text)
+    Ok(())
 }
 
-fn noted(alloc: Global, notes: &Notes) -> Result<String, Fail> {
+fn tell_notes(told: &mut String, notes: &Notes) -> Result<(), Fail> {
     match notes {
         Notes::Least { currency, amount } => {
             let letters = currency.letters();
-            let letters = std::str::from_utf8(&letters).ok().ok_or("letters")?;
-            Ok(format!(in alloc; "{letters} {amount}")?)
+            let letters = std::str::from_utf8(&letters).unwrap_or("?");
+            Ok(write!(told, " {letters} {amount}")?)
         }
-        Notes::Individual(counts) => named(alloc, counts),
+        Notes::Individual(counts) => tell_counts(told, counts),
     }
 }
 
-fn dispensed(alloc: Global, notes: &Notes, token: &Option<Bytes>) -> Result<String, Fail> {
-    let notes = noted(alloc, notes)?;
-    match token {
-        Some(token) => {
-            let token = std::str::from_utf8(token.list()).ok().ok_or("a text")?;
-            Ok(format!(in alloc; "dispense {notes} by {token}")?)
-        }
-        None => Ok(format!(in alloc; "dispense {notes}")?),
+fn tell_token(told: &mut String, token: &Option<Bytes>) -> Result<(), Fail> {
+    if let Some(token) = token {
+        let token = std::str::from_utf8(token.list()).unwrap_or("?");
+        write!(told, " by {token}")?;
     }
+    Ok(())
 }
 
-// What is told of a command that was read.
-fn told(alloc: Global, ask: &CashAsk) -> Result<String, Fail> {
-    let word = match ask {
-        CashAsk::Denominate { notes } => {
-            let notes = noted(alloc, notes)?;
-            return Ok(format!(in alloc; "denominate {notes}")?);
-        }
-        CashAsk::Dispense { notes, token } => return dispensed(alloc, notes, token),
-        CashAsk::SetStorage { added } => {
-            let added = named(alloc, added)?;
-            return Ok(format!(in alloc; "added {added}")?);
-        }
+fn word_of(ask: &CashAsk) -> &'static str {
+    match ask {
+        CashAsk::Denominate { .. } => "denominate",
+        CashAsk::Dispense { .. } => "dispense",
+        CashAsk::SetStorage { .. } => "added",
         CashAsk::Present => "present",
         CashAsk::Reject => "reject",
         CashAsk::Reset => "reset",
         CashAsk::Retract => "retract",
         CashAsk::StartExchange => "exchange begins",
         CashAsk::EndExchange => "exchange ends",
-    };
-    Ok(String::from_str(alloc, word)?)
+    }
 }
 
-fn read(alloc: Global, name: &str, text: &str) -> Result<String, Fail> {
-    let payload = parse(alloc, text.as_bytes()).ok().ok_or("JSON")?;
-    let Some(command) = CashCommand::named(name) else {
-        return Ok(String::from_str(alloc, "unknown")?);
-    };
-    match read_ask(alloc, command, &payload) {
-        Ok(ask) => told(alloc, &ask),
-        Err(CashFail::Shape) => Ok(String::from_str(alloc, "bad")?),
+// Tells a command that was read.
+fn tell(told: &mut String, ask: &CashAsk) -> Result<(), Fail> {
+    told.push_str(word_of(ask))?;
+    match ask {
+        CashAsk::Denominate { notes } => tell_notes(told, notes),
+        CashAsk::Dispense { notes, token } => {
+            tell_notes(told, notes)?;
+            tell_token(told, token)
+        }
+        CashAsk::SetStorage { added } => tell_counts(told, added),
+        _ => Ok(()),
+    }
+}
+
+fn tell_read(told: &mut String, read: &Result<CashAsk, CashFail>) -> Result<(), Fail> {
+    match read {
+        Ok(ask) => tell(told, ask),
+        Err(CashFail::Shape) => Ok(told.push_str("bad")?),
         Err(CashFail::Memory) => Err("memory".into()),
     }
+}
+
+fn told(alloc: Global, name: &str, text: &str) -> Result<String, Fail> {
+    let mut told = String::new(alloc);
+    match CashCommand::named(name) {
+        Some(command) => tell_of(alloc, &mut told, command, text)?,
+        None => told.push_str("unknown")?,
+    }
+    Ok(told)
+}
+
+fn tell_of(alloc: Global, told: &mut String, command: CashCommand, text: &str) -> Result<(), Fail> {
+    let payload = parse(alloc, text.as_bytes()).ok().ok_or("JSON")?;
+    let read = read_ask(alloc, command, &payload);
+    tell_read(told, &read)
 }
 
 #[test]
@@ -217,7 +230,7 @@ fn commands_are_read_by_their_names_and_members(rt: HostRuntime) -> Result<(), F
     for row in ASKS.lines() {
         let (asked, due) = halves(row);
         let (name, payload) = asked.split_once(" ").ok_or("a payload")?;
-        let text = read(rt.alloc(), name, payload)?;
+        let text = told(rt.alloc(), name, payload)?;
         assert!(rt; text.as_str() == due, "{row}: {text}");
     }
     Ok(())

@@ -1,7 +1,8 @@
-ghost use Rattle.std.specs.Prelude.{◌≡◌, ◌≤◌, false, IfOk};
+ghost use Rattle.std.specs.Prelude.{◌≡◌, ◌≤◌, false, IfOk, []};
 ghost use Rattle.serde_json.specs.Data.{depth};
 ghost use Rattle.serde_json.specs.View.{view};
 ghost use Rattle.serde_json.specs.Written.{has_float};
+ghost use Rattle.xfs_client.specs.Desks.{Recalls};
 
 use crate::tables::halves;
 use serde_json::json;
@@ -9,26 +10,46 @@ use std::alloc::{AllocError, Global};
 use std::process::Abort;
 use std::test::Fail;
 use xfs_base::Currency;
-use xfs_client::{Desk, Heard, Move, Withdrawal};
+use xfs_client::{Desk, HearFault, Heard, Move, Withdrawal};
 use xfs_json::{Map, Value};
 
 // What a withdrawal of EUR 70 under a key of 32 bytes 0x0b says to the last of the texts of these words.
 fn last_answer(alloc: Global, words: &str) -> Result<String, Fail> {
     let euro = Currency::new(b"EUR").ok_or("letters")?;
     let mut withdrawal = Withdrawal::new(alloc, euro, 70, [0x0b; 32]);
+    let first = started(alloc, &mut withdrawal)?;
+    last_told(alloc, &mut withdrawal, first, words)
+}
+
+fn started(alloc: Global, withdrawal: &mut Withdrawal) -> Result<String, Fail>
+    requires fresh { Recalls withdrawal.old.desk [] }
+{
     let first = withdrawal.start()?;
-    let mut answer = as_text(alloc, &first)?;
+    Ok(as_text(alloc, &first)?)
+}
+
+fn last_told(
+    alloc: Global,
+    withdrawal: &mut Withdrawal,
+    first: String,
+    words: &str,
+) -> Result<String, Fail> {
+    let mut answer = first;
     for word in words.split_whitespace() {
-        answer = match withdrawal.next(text_of(word).as_bytes()) {
-            Ok(Move::Ask(text)) => as_text(alloc, text.list())?,
-            Ok(Move::Wait) => String::from_str(alloc, "wait")?,
-            Ok(Move::Done) => String::from_str(alloc, "done")?,
-            Ok(Move::Ended(code)) => String::from_str(alloc, code.text())?,
-            Ok(Move::Refused(status)) => String::from_str(alloc, status.text())?,
-            Err(fault) => format!(in alloc; "{fault:?}")?,
-        };
+        answer = move_text(alloc, withdrawal.next(text_of(word).as_bytes()))?;
     }
     Ok(answer)
+}
+
+fn move_text(alloc: Global, told: Result<Move, HearFault>) -> Result<String, AllocError> {
+    match &told {
+        Ok(Move::Ask(text)) => as_text(alloc, text.list()),
+        Ok(Move::Wait) => String::from_str(alloc, "wait"),
+        Ok(Move::Done) => String::from_str(alloc, "done"),
+        Ok(Move::Ended(code)) => String::from_str(alloc, code.text()),
+        Ok(Move::Refused(status)) => String::from_str(alloc, status.text()),
+        Err(fault) => format!(in alloc; "{fault:?}"),
+    }
 }
 
 fn as_text(alloc: Global, bytes: &[u8]) -> Result<String, AllocError> {
@@ -156,15 +177,21 @@ fn long_payload(alloc: Global, text: &str) -> Result<Value, AllocError>
 }
 
 // What a desk hears, in short.
-fn heard(alloc: Global, desk: &mut Desk, text: &str) -> Result<String, Fail> {
-    Ok(match desk.hear(text.as_bytes()) {
-        Ok(Heard::Acknowledged { id }) => format!(in alloc; "acknowledged {id}")?,
-        Ok(Heard::Refused { id, status }) => format!(in alloc; "{} {id}", status.text())?,
-        Ok(Heard::Event { id }) => format!(in alloc; "event {id}")?,
-        Ok(Heard::Completed { id, .. }) => format!(in alloc; "completed {id}")?,
-        Ok(Heard::Unsolicited) => String::from_str(alloc, "unsolicited")?,
-        Err(fault) => format!(in alloc; "{fault:?}")?,
-    })
+fn heard(alloc: Global, desk: &mut Desk, text: &str) -> Result<String, AllocError> {
+    match desk.hear(text.as_bytes()) {
+        Ok(heard) => heard_text(alloc, &heard),
+        Err(fault) => format!(in alloc; "{fault:?}"),
+    }
+}
+
+fn heard_text(alloc: Global, heard: &Heard) -> Result<String, AllocError> {
+    match heard {
+        Heard::Acknowledged { id } => format!(in alloc; "acknowledged {id}"),
+        Heard::Refused { id, status } => format!(in alloc; "{} {id}", status.text()),
+        Heard::Event { id } => format!(in alloc; "event {id}"),
+        Heard::Completed { id, .. } => format!(in alloc; "completed {id}"),
+        Heard::Unsolicited => String::from_str(alloc, "unsolicited"),
+    }
 }
 
 // What a desk that asked five times hears, one text after another.
@@ -204,10 +231,15 @@ fn hears(rt: &impl Abort, alloc: Global, desk: &mut Desk, rows: &str) -> Result<
 fn desk_of(alloc: Global, asks: u32) -> Result<Desk, Fail> {
     let mut desk = Desk::new(alloc);
     for _ in 0..asks {
-        let text = desk.ask("Common.Status", &nothing(alloc));
-        text.ok().ok_or("a text")?;
+        if !asks_for_nothing(alloc, &mut desk) {
+            return Err("a text".into());
+        }
     }
     Ok(desk)
+}
+
+fn asks_for_nothing(alloc: Global, desk: &mut Desk) -> bool {
+    desk.ask("Common.Status", &nothing(alloc)).is_ok()
 }
 
 #[test]
@@ -219,12 +251,33 @@ fn what_a_desk_hears(rt: HostRuntime) -> Result<(), Fail> {
 fn an_ask_that_is_too_long_is_refused_without_an_id(rt: HostRuntime) -> Result<(), Fail> {
     let alloc = rt.alloc();
     let mut desk = desk_of(alloc, 1)?;
-    let long = "x".repeat(alloc, 65_536)?;
-    let text = desk.ask("Common.Status", &long_payload(alloc, &long)?);
-    assert!(rt; text.ok().ok_or("a text")?.len() > 65_536);
-    let text = desk.ask("Common.Status", &nothing(alloc));
-    text.ok().ok_or("a text")?;
+    assert!(rt; asks_at_length(alloc, &mut desk)? && asks_for_nothing(alloc, &mut desk));
     hears(&rt, alloc, &mut desk, HEARD_OF_THREE)
+}
+
+// Whether an ask has more than 65,536 bytes.
+fn asks_at_length(alloc: Global, desk: &mut Desk) -> Result<bool, Fail> {
+    let long = "x".repeat(alloc, 65_536)?;
+    let payload = long_payload(alloc, &long)?;
+    Ok(match desk.ask("Common.Status", &payload) {
+        Ok(text) => text.len() > 65_536,
+        Err(_) => false,
+    })
+}
+
+// Whether a desk hears this of a text, and nothing of it once more.
+fn hears_once(alloc: Global, desk: &mut Desk, text: &str, due: &str) -> Result<bool, Fail> {
+    let first = heard(alloc, desk, text)?;
+    let second = heard(alloc, desk, text)?;
+    Ok(first.as_str() == due && second.as_str() == "Stranger")
+}
+
+fn is_completed_once(alloc: Global, desk: &mut Desk, id: u64) -> Result<bool, Fail> {
+    let due = format!(in alloc; "completed {id}")?;
+    let text = format!(in alloc;
+        "{{\"header\":{{\"type\":\"completion\",\"name\":\"A.B\",\"requestId\":{id},\"completionCode\":\"success\"}}}}"
+    )?;
+    hears_once(alloc, desk, text.as_str(), due.as_str())
 }
 
 #[test]
@@ -232,15 +285,9 @@ fn a_thousand_asks_are_answered_in_another_order(rt: HostRuntime) -> Result<(), 
     let alloc = rt.alloc();
     let mut desk = desk_of(alloc, 1000)?;
     for k in 0..1000u64 {
-        let id = k * 7 % 1000 + 1;
-        let text = format!(in alloc;
-            "{{\"header\":{{\"type\":\"completion\",\"name\":\"A.B\",\"requestId\":{id},\"completionCode\":\"success\"}}}}"
-        )?;
-        let due = format!(in alloc; "completed {id}")?;
-        assert!(rt; heard(alloc, &mut desk, text.as_str())? == due, "{id}");
         assert!(rt;
-            heard(alloc, &mut desk, text.as_str())?.as_str() == "Stranger",
-            "{id}"
+            is_completed_once(alloc, &mut desk, k * 7 % 1000 + 1)?,
+            "{k}"
         );
     }
     Ok(())

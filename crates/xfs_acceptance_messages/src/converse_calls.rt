@@ -134,25 +134,44 @@ fn words(list: Option<&str>) -> Result<&str, Fail> {
     }
 }
 
-fn found(alloc: Global, lists: &str) -> Result<bool, Fail> {
-    let mut lists = lists.split('|');
+fn texts_of(alloc: Global, list: &str) -> Result<Vec<Bytes>, Fail> {
     let mut texts = Vec::new(alloc);
-    for word in words(lists.next())?.split_whitespace() {
+    for word in list.split_whitespace() {
         texts.push(text(alloc, word)?)?;
     }
+    Ok(texts)
+}
+
+fn frames_of(alloc: Global, list: &str) -> Result<Vec<Bytes>, Fail> {
     let mut frames = Vec::new(alloc);
-    for word in words(lists.next())?.split_whitespace() {
+    for word in list.split_whitespace() {
         frames.push(frame(alloc, word)?)?;
     }
-    let mut pending = Vec::new(alloc);
-    for word in words(lists.next())?.split_whitespace() {
-        pending.push(word.parse::<u64>().ok().ok_or("an id")?)?;
+    Ok(frames)
+}
+
+fn ids_of(alloc: Global, list: &str) -> Result<Vec<u64>, Fail> {
+    let mut ids = Vec::new(alloc);
+    for word in list.split_whitespace() {
+        ids.push(word.parse::<u64>().ok().ok_or("an id")?)?;
     }
-    Ok(
-        converse(alloc, &texts, &frames, &pending)
-            .ok()
-            .ok_or("memory")?,
-    )
+    Ok(ids)
+}
+
+fn found(alloc: Global, lists: &str) -> Result<bool, Fail> {
+    let mut lists = lists.split('|');
+    let texts = words(lists.next())?;
+    let frames = words(lists.next())?;
+    let pending = words(lists.next())?;
+    are_found(alloc, texts, frames, pending)
+}
+
+fn are_found(alloc: Global, texts: &str, frames: &str, pending: &str) -> Result<bool, Fail> {
+    let pending = ids_of(alloc, pending)?;
+    let texts = texts_of(alloc, texts)?;
+    let frames = frames_of(alloc, frames)?;
+    let kept = converse(alloc, &texts, &frames, &pending);
+    Ok(kept.ok().ok_or("memory")?)
 }
 
 #[test]

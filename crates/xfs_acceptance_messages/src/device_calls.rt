@@ -57,11 +57,23 @@ fn place(alloc: Global, state: &mut CardState) -> Result<&'static str, Fail> {
 
 fn stepped(alloc: Global, events: &str) -> Result<String, Fail> {
     let mut state = CardState::new();
+    let effect = last_effect(alloc, &mut state, events)?;
+    let place = place(alloc, &mut state)?;
+    Ok(format!(in alloc; "{effect}, {place}")?)
+}
+
+fn last_effect(alloc: Global, state: &mut CardState, events: &str) -> Result<String, Fail> {
     let mut effect = String::new(alloc);
     for name in events.split(' ') {
-        effect = told(alloc, &step(alloc, &mut state, event(alloc, name)?)?)?;
+        effect = effect_of(alloc, state, name)?;
     }
-    Ok(format!(in alloc; "{effect}, {}", place(alloc, &mut state)?)?)
+    Ok(effect)
+}
+
+fn effect_of(alloc: Global, state: &mut CardState, name: &str) -> Result<String, Fail> {
+    let event = event(alloc, name)?;
+    let effect = step(alloc, state, event)?;
+    told(alloc, &effect)
 }
 
 #[test]
@@ -70,6 +82,11 @@ fn steps_that_the_machine_never_takes(rt: HostRuntime) -> Result<(), Fail> {
         let (events, due) = halves(row);
         assert_eq!(rt; stepped(rt.alloc(), events)?.as_str(), due, "{events}");
     }
+    Ok(())
+}
+
+#[test]
+fn a_key_pad_that_waits_for_nothing_is_stopped(rt: HostRuntime) -> Result<(), Fail> {
     let mut pad = KeyState::new();
     let stopped = press(rt.alloc(), &mut pad, KeyEvent::Stop)?;
     assert!(rt; matches!(stopped, KeyEffect::Nothing) && !pad.active());

@@ -9,7 +9,8 @@ use std::process::Abort;
 use std::test::Fail;
 use xfs_common::record_note;
 use xfs_envelope::{
-    Answer, Code, Name, Status, Why, acknowledge, completion, event, read, read_answer, unsolicited,
+    Answer, Code, Envelope, Name, Status, Why, acknowledge, completion, event, read, read_answer,
+    unsolicited,
 };
 use xfs_json::{Map, Value};
 
@@ -33,15 +34,17 @@ const COMMANDS: &str =
 {\"header\":{\"name\":\"Common.Status\",\"requestId\":1,\"type\":\"command\"}} => Common.Status 1 0 {}
 {\"payload\":{\"a\":[1]},\"header\":{\"version\":\"2.0\",\"timeout\":60000,\"type\":\"event\",\"type\":\"command\",\"x\":[],\"requestId\":18446744073709551615,\"name\":\"A.B1\"}} => A.B1 18446744073709551615 60000 {\"a\":[1]}";
 
-fn told(alloc: Global, text: &[u8]) -> Result<String, Fail> {
-    Ok(match read(alloc, text) {
-        Ok(command) => {
-            let payload = command.payload.to_string(alloc)?;
-            let name = command.name.as_str();
-            format!(in alloc; "{name} {} {} {payload}", command.id, command.timeout)?
-        }
-        Err(refuse) => format!(in alloc; "{:?} {:?}", refuse.why, refuse.id)?,
-    })
+fn told(alloc: Global, text: &[u8]) -> Result<String, AllocError> {
+    match read(alloc, text) {
+        Ok(command) => command_text(alloc, &command),
+        Err(refuse) => format!(in alloc; "{:?} {:?}", refuse.why, refuse.id),
+    }
+}
+
+fn command_text(alloc: Global, command: &Envelope) -> Result<String, AllocError> {
+    let payload = command.payload.to_string(alloc)?;
+    let name = command.name.as_str();
+    format!(in alloc; "{name} {} {} {payload}", command.id, command.timeout)
 }
 
 #[test]
@@ -91,16 +94,22 @@ const ANSWERS: &str =
 {\"header\":{\"type\":\"completion\",\"name\":\"A.B\",\"requestId\":1,\"completionCode\":\"done\"}} => Shape
 {\"header\":{\"type\":\"completion\",\"name\":\"A.B\",\"requestId\":1,\"completionCode\":\"fraudAttempt\",\"errorDescription\":[]}} => completion 1 FraudAttempt";
 
-fn heard(alloc: Global, text: &str) -> Result<String, Fail> {
-    Ok(match read_answer(alloc, text.as_bytes()) {
-        Ok(Answer::Acknowledge { id, status, .. }) => {
-            format!(in alloc; "acknowledge {id:?} {status:?}")?
+fn heard(alloc: Global, text: &str) -> Result<String, AllocError> {
+    match read_answer(alloc, text.as_bytes()) {
+        Ok(answer) => answer_text(alloc, &answer),
+        Err(fault) => format!(in alloc; "{fault:?}"),
+    }
+}
+
+fn answer_text(alloc: Global, answer: &Answer) -> Result<String, AllocError> {
+    match answer {
+        Answer::Acknowledge { id, status, .. } => {
+            format!(in alloc; "acknowledge {id:?} {status:?}")
         }
-        Ok(Answer::Event { id, .. }) => format!(in alloc; "event {id}")?,
-        Ok(Answer::Completion { id, code, .. }) => format!(in alloc; "completion {id} {code:?}")?,
-        Ok(Answer::Unsolicited { .. }) => String::from_str(alloc, "unsolicited")?,
-        Err(fault) => format!(in alloc; "{fault:?}")?,
-    })
+        Answer::Event { id, .. } => format!(in alloc; "event {id}"),
+        Answer::Completion { id, code, .. } => format!(in alloc; "completion {id} {code:?}"),
+        Answer::Unsolicited { .. } => String::from_str(alloc, "unsolicited"),
+    }
 }
 
 #[test]
@@ -156,13 +165,26 @@ fn stand_at(rt: &impl Abort, texts: &[Vec<u8>], first: usize) {
     }
 }
 
+fn name_of(alloc: Global, name: &str) -> Result<Name, Fail> {
+    Ok(Name::new(alloc, name.as_bytes()).ok().ok_or("a name")?)
+}
+
 #[test]
 fn answers_are_written(rt: HostRuntime) -> Result<(), Fail> {
-    let cancel = Name::new(rt.alloc(), "Common.Cancel".as_bytes());
-    let clear = Name::new(rt.alloc(), "Common.ClearCommandNonce".as_bytes());
-    let (cancel, clear) = (cancel.ok().ok_or("a name")?, clear.ok().ok_or("a name")?);
-    stand_at(&rt, &acknowledges(rt.alloc(), &cancel)?, 0);
-    stand_at(&rt, &others(rt.alloc(), &clear)?, 4);
+    let name = name_of(rt.alloc(), "Common.Cancel")?;
+    stand_at(&rt, &acknowledges(rt.alloc(), &name)?, 0);
+    Ok(())
+}
+
+#[test]
+fn completions_and_events_are_written(rt: HostRuntime) -> Result<(), Fail> {
+    let name = name_of(rt.alloc(), "Common.ClearCommandNonce")?;
+    stand_at(&rt, &others(rt.alloc(), &name)?, 4);
+    Ok(())
+}
+
+#[test]
+fn the_number_of_a_record_is_noted(rt: HostRuntime) -> Result<(), Fail> {
     for (number, due) in [
         (6, "{\"journalRecord\":6}"),
         (u64::MAX, "{\"journalRecord\":18446744073709551615}"),

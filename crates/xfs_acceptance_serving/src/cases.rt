@@ -1,10 +1,10 @@
 //! Plays the cases of a table: each tells what came of it, and that is what is due.
 
 use crate::bench::machine;
-use crate::lock::told_at_lock;
+use crate::lock::{case_of, told_at_lock};
 use crate::program::told_in_memory;
 use crate::servers::told_by_clients;
-use crate::words::cut_at;
+use crate::words::{cut_at, number};
 use std::alloc::Global;
 use std::sync::Wait;
 use std::test::Fail;
@@ -50,6 +50,7 @@ fn told_by_machine<R: Wait>(
     kind: &str,
     given: &str,
 ) -> Result<String, Fail> {
+    let mut case = case_of(alloc, kind, given)?;
     let machine = machine(alloc)?;
-    told_at_lock(rt, alloc, machine, kind, given)
+    told_at_lock(rt, alloc, machine, &mut case, number(given, 3))
 }

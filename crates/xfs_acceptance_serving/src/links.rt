@@ -31,16 +31,28 @@ pub fn link_of(
 fn texts_of(alloc: Global, lines: &str) -> Result<Vec<Bytes>, Fail> {
     let mut texts = Vec::new(alloc);
     for line in lines.lines() {
-        let (mark, text) = cut_at(line, " ");
-        if mark == ">" || mark == ">>" {
-            let mut text = Vec::from_slice(alloc, text.as_bytes())?;
-            if mark == ">>" {
-                text.resize(LONG, b' ')?;
-            }
-            texts.push(Bytes::new(text))?;
+        if let Some(len) = length_of(line) {
+            texts.push(text_of(alloc, line, len)?)?;
         }
     }
     Ok(texts)
+}
+
+// How many bytes the text of a line has at least. None where it has no text.
+fn length_of(line: &str) -> Option<usize> {
+    match cut_at(line, " ").0 {
+        ">" => Some(0),
+        ">>" => Some(LONG),
+        _ => None,
+    }
+}
+
+fn text_of(alloc: Global, line: &str, len: usize) -> Result<Bytes, Fail> {
+    let mut text = Vec::from_slice(alloc, cut_at(line, " ").1.as_bytes())?;
+    if text.len() < len {
+        text.resize(len, b' ')?;
+    }
+    Ok(Bytes::new(text))
 }
 
 /// Tells frames, each on a line.

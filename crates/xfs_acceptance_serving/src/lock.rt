@@ -31,7 +31,7 @@ enum Kind {
 
 /// What is done at the lock, and with what: two services with their links, a watch, and a command.
 #[derive(Drop)]
-struct Case {
+pub struct Case {
     kind: Kind,
     service: Service,
     beside: Service,
@@ -41,17 +41,21 @@ struct Case {
     command: Bytes,
 }
 
-fn case_of(alloc: Global, kind: &str, given: &str) -> Result<Case, Fail> {
+/// The case of a kind and of its lines.
+pub fn case_of(alloc: Global, kind: &str, given: &str) -> Result<Case, Fail> {
+    let kind = kind_of(kind).ok_or("a kind of case")?;
     let (first, other) = cut_at(given, "\nbeside ");
-    let command = cut_at(given, "> ").1;
+    let command = Vec::from_slice(alloc, cut_at(given, "> ").1.as_bytes())?;
+    let watch = watch_of(alloc, word(given, 1))?;
+    let link = link_by(alloc, first)?;
     Ok(Case {
-        kind: kind_of(kind).ok_or("a kind of case")?,
+        kind,
         service: service_of(first),
         beside: service_of(other),
-        link: link_by(alloc, first)?,
         other: link_by(alloc, other)?,
-        watch: watch_of(alloc, word(given, 1))?,
-        command: Bytes::new(Vec::from_slice(alloc, command.as_bytes())?),
+        link,
+        watch,
+        command: Bytes::new(command),
     })
 }
 
@@ -70,16 +74,15 @@ fn link_by(alloc: Global, given: &str) -> Result<MemLink, Fail> {
     link_of(alloc, given, true, number(given, 1), number(given, 2))
 }
 
-/// What is told at the lock over a machine, and then by the machine.
+/// What is told at the lock over a machine, and then by the machine. The clock goes on by so many milliseconds a step.
 pub fn told_at_lock<M: Mechanism, D: Disk, R: Wait>(
     rt: &R,
     alloc: Global,
     machine: Machine<M, D>,
-    kind: &str,
-    given: &str,
+    case: &mut Case,
+    step: u64,
 ) -> Result<String, Fail> {
-    let case = case_of(alloc, kind, given)?;
-    let clock = StepClock::new(number(given, 3));
+    let clock = StepClock::new(step);
     let (turn, seat) = opened(alloc, machine)?;
     let (seat, told) = told_by_callers::<Brand, M, D, R>(rt, alloc, &clock, &turn, seat, case);
     told_then(told, &close(rt, turn, seat))
@@ -112,7 +115,7 @@ fn told_by_callers<N: LockName, M: Mechanism, D: Disk, R: Wait>(
     clock: &StepClock,
     turn: &Turn<SharedMachine<M, D>>,
     seat: Seat<SharedMachine<M, D>>,
-    case: Case,
+    case: &mut Case,
 ) -> (Seat<SharedMachine<M, D>>, Result<String, Fail>)
     requires name { turn.now ≡ N.lock }
     requires lock { seat.lock ≡ N.lock }
@@ -128,13 +131,13 @@ fn told_by<'a, N: LockName, M: Mechanism, D: Disk, R: Wait>(
     alloc: Global,
     clock: &'a StepClock,
     caller: Caller<'a, N, M, D, R>,
-    case: Case,
+    case: &mut Case,
 ) -> (Caller<'a, N, M, D, R>, Result<String, Fail>) {
     match case.kind {
         Kind::Session => told_by_session(alloc, clock, caller, case),
         Kind::Sessions => told_by_both(alloc, clock, caller, case),
         Kind::Worker => told_by_worker(rt, alloc, clock, caller, case),
-        Kind::Callers => told_by_second(alloc, caller, &case),
+        Kind::Callers => told_by_second(alloc, caller, case),
     }
 }
 
@@ -143,7 +146,7 @@ fn told_by_session<'a, N: LockName, M: Mechanism, D: Disk, R: Wait>(
     alloc: Global,
     clock: &'a StepClock,
     mut caller: Caller<'a, N, M, D, R>,
-    mut case: Case,
+    case: &mut Case,
 ) -> (Caller<'a, N, M, D, R>, Result<String, Fail>) {
     let Some(pass) = joined(&mut caller, case.service) else {
         return (caller, Err("a connection".into()));
@@ -159,9 +162,9 @@ fn told_by_both<'a, N: LockName, M: Mechanism, D: Disk, R: Wait>(
     alloc: Global,
     clock: &'a StepClock,
     mut one: Caller<'a, N, M, D, R>,
-    mut case: Case,
+    case: &mut Case,
 ) -> (Caller<'a, N, M, D, R>, Result<String, Fail>) {
-    let Some((two, first, other)) = both_joined(&mut one, &case) else {
+    let Some((two, first, other)) = both_joined(&mut one, case) else {
         return (one, Err("two connections".into()));
     };
     let (first_client, other_client) = (first.client(), other.client());
@@ -171,7 +174,7 @@ fn told_by_both<'a, N: LockName, M: Mechanism, D: Disk, R: Wait>(
     let other_over = session(&mut case.other, &mut other, clock, other_client);
     let mut one = first.leave();
     one.merge(other.leave());
-    (one, told_of_both(alloc, first_over, other_over, &case))
+    (one, told_of_both(alloc, first_over, other_over, case))
 }
 
 fn both_joined<'a, N: LockName, M: Mechanism, D: Disk, R: Wait>(
@@ -190,7 +193,7 @@ fn told_by_worker<'a, N: LockName, M: Mechanism, D: Disk, R: Wait>(
     alloc: Global,
     clock: &'a StepClock,
     mut caller: Caller<'a, N, M, D, R>,
-    mut case: Case,
+    case: &mut Case,
 ) -> (Caller<'a, N, M, D, R>, Result<String, Fail>) {
     let Some(pass) = joined(&mut caller, case.service) else {
         return (caller, Err("a connection".into()));

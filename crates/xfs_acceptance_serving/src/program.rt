@@ -105,15 +105,22 @@ fn tell_ended<M: Mechanism, L: Drop>(
 ) -> Result<Option<L>, Fail> {
     let Ended {
         status,
-        mech: _,
+        mech,
         disk,
         link,
-        second: _,
+        second,
     } = ended;
-    let journal = disk.inner().bytes().len();
+    drop(mech);
+    drop(second);
+    let journal = length_of(disk);
     let written = str::from_utf8(written).unwrap_or("?");
     write!(told, "{status} {journal}\n{written}")?;
     Ok(link)
+}
+
+fn length_of(disk: FailDisk) -> usize {
+    let disk = disk.inner();
+    disk.bytes().len()
 }
 
 /// What is told by the program over doors in memory, and how many texts the dialled link was sent: its words, which call

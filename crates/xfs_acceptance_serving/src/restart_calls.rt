@@ -15,23 +15,40 @@ fn reboot<M: Mechanism, D: Disk>(machine: &mut Machine<M, D>) -> Result<(), Fail
     Ok(machine.reboot()?)
 }
 
-// Whether each of three boots opens its own pass alone, gives its first connection the same number, and has one record in
-// memory.
-fn opens_its_own<M: Mechanism, D: Disk>(mut machine: Machine<M, D>) -> Result<bool, Fail> {
-    let first = join(&mut machine)?;
-    reboot(&mut machine)?;
-    let second = join(&mut machine)?;
-    let is_second = !machine.is_open(&first) && machine.is_open(&second);
-    reboot(&mut machine)?;
-    let is_based = machine.base() == 2 && machine.records().len() == 1;
-    let third = join(&mut machine)?;
+// The pass of the first connection behind another boot.
+fn next_pass<M: Mechanism, D: Disk>(machine: &mut Machine<M, D>) -> Result<Pass, Fail> {
+    reboot(machine)?;
+    join(machine)
+}
+
+fn opens_the_other<M: Mechanism, D: Disk>(
+    machine: &Machine<M, D>,
+    one: &Pass,
+    other: &Pass,
+) -> bool {
+    !machine.is_open(one) && machine.is_open(other)
+}
+
+fn has_one_record<M: Mechanism, D: Disk>(machine: &Machine<M, D>) -> bool {
+    machine.base() == 2 && machine.records().len() == 1
+}
+
+// Whether each of three boots opens its own pass alone, gives its first connection the same number, and the last has one
+// record in memory.
+fn opens_its_own<M: Mechanism, D: Disk>(machine: &mut Machine<M, D>) -> Result<bool, Fail> {
+    let first = join(machine)?;
+    let second = next_pass(machine)?;
+    let is_second = opens_the_other(machine, &first, &second);
+    let third = next_pass(machine)?;
+    let is_third = opens_the_other(machine, &first, &third)
+        && opens_the_other(machine, &second, &third);
     let are_same = first.client() == second.client() && second.client() == third.client();
-    let is_third = !machine.is_open(&first) && !machine.is_open(&second) && machine.is_open(&third);
-    Ok(is_second && is_based && are_same && is_third)
+    Ok(is_second && is_third && are_same && has_one_record(machine))
 }
 
 #[test]
 fn a_pass_of_an_older_boot_stays_closed(rt: HostRuntime) -> Result<(), Fail> {
-    assert!(rt; opens_its_own(machine(rt.alloc())?)?);
+    let mut machine = machine(rt.alloc())?;
+    assert!(rt; opens_its_own(&mut machine)?);
     Ok(())
 }

@@ -55,13 +55,14 @@ fn tell_server<R: Threads + Wait + Sync, O: Doors, C: Clock + Sync, G: Gate + Sy
     let keys = KeyWatch(watch_of(alloc, "one")?);
     let machine = machine(alloc)?;
     let watches = (cards, keys);
-    tell_served(
-        told,
-        served(rt, alloc, count, machine, doors, clock, gate, watches),
-    )
+    let served = served(rt, alloc, count, machine, doors, clock, gate, watches);
+    tell_served(told, &served)
 }
 
-fn tell_served<M: Mechanism, D: Disk>(told: &mut String, served: Served<M, D>) -> Result<(), Fail> {
+fn tell_served<M: Mechanism, D: Disk>(
+    told: &mut String,
+    served: &Served<M, D>,
+) -> Result<(), Fail> {
     write!(told, "{:?} ", served.ending)?;
     tell_machine(told, &served.machine)
 }
@@ -78,12 +79,24 @@ pub fn told_by_clients<R: Threads + Wait + time::Clock + Sync>(
     let (doors, gate) = (word(given, 1), word(given, 2));
     let scene = Scene::new(&clock, number(given, 3), gate == "let_go");
     let mut doors = PatientDoors::new(alloc, word(given, 4), doors == "fail", &scene);
+    told_by_doors(rt, alloc, kind, given, &clock, &mut doors, &scene)
+}
+
+fn told_by_doors<R: Threads + Wait + Sync, O: Doors, C: Clock + Sync>(
+    rt: &R,
+    alloc: Global,
+    kind: &str,
+    given: &str,
+    clock: &C,
+    doors: &mut O,
+    scene: &Scene<'_, C>,
+) -> Result<String, Fail> {
     let mut told = String::new(alloc);
     if kind == "run" {
-        tell_run(rt, alloc, given, &clock, &mut doors, &scene, &mut told)?;
+        tell_run(rt, alloc, given, clock, doors, scene, &mut told)?;
     } else {
         let count = word(given, 0).parse::<u32>().unwrap_or(0);
-        tell_server(rt, alloc, count, &mut doors, &clock, &scene, &mut told)?;
+        tell_server(rt, alloc, count, doors, clock, scene, &mut told)?;
     }
     scene.tell(&mut told)?;
     Ok(told)

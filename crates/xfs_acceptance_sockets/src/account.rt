@@ -60,8 +60,10 @@ pub fn account_of<M: Mechanism, D: Disk>(
     machine: Machine<M, D>,
 ) -> Result<Account, Fail> {
     let (mech, disk) = machine.end();
+    let found = mech.survey();
+    drop(mech);
     let journal = mounted(alloc, disk).ok_or("a journal")?;
-    read_of(alloc, units, journal.records(), mech.survey())
+    read_of(alloc, units, journal.records(), found)
 }
 
 fn mounted<D: Disk>(alloc: Global, disk: D) -> Option<Journal<D>> {

@@ -291,7 +291,36 @@ fn is_over<M: Mechanism, D: Disk>(served: &Served<M, D>) -> bool {
     served.ending == Over::Served && served.machine.open_count() == 0
 }
 
-// Whether those who come to a machine are served.
+fn are_served<
+    R: Net<Listener = TcpListener, Stream = TcpStream> + RandomSource + Threads + Wait + Sync,
+    M: Mechanism + Send,
+    D: Disk + Send,
+    O: Doors + Drop,
+    C: Clock + Sync,
+>(shared: &Shared<R, C>, machine: Machine<M, D>, doors: O, visit: Visit) -> bool {
+    let (went_well, served) = side_by_side(shared, machine, doors, visit);
+    went_well && is_over(&served)
+}
+
+// Whether those who come to a machine by these doors are served.
+fn is_served_by<
+    R: Net<Listener = TcpListener, Stream = TcpStream> + RandomSource + Threads + Wait + Sync,
+    O: Doors + Drop,
+    C: Clock + Sync,
+>(
+    rt: &R,
+    alloc: Global,
+    clock: &C,
+    doors: O,
+    ports: Ports,
+    (visit, count): (Visit, u32),
+) -> Result<bool, Fail> {
+    let shared = Shared::new(rt, alloc, clock, ports, count).ok_or("the currency")?;
+    let machine = machine(alloc)?;
+    Ok(are_served(&shared, machine, doors, visit))
+}
+
+// The same of so many connections at the ports that the system chooses.
 fn is_served<
     R: Net<Listener = TcpListener, Stream = TcpStream>
         + RandomSource
@@ -299,26 +328,21 @@ fn is_served<
         + Threads
         + Wait
         + Sync,
-    M: Mechanism + Send,
-    D: Disk + Send,
->(rt: &R, alloc: Global, machine: Machine<M, D>, visit: Visit, count: u32) -> Result<bool, Fail> {
+>(rt: &R, alloc: Global, visit: Visit, count: u32) -> Result<bool, Fail> {
     let clock = StdClock::new(rt);
     let doors = opened(rt, alloc, &clock).ok_or("the ports")?;
-    let shared = Shared::new(rt, alloc, &clock, doors.ports(), count).ok_or("the currency")?;
-    let (went_well, served) = side_by_side(&shared, machine, doors, visit);
-    Ok(went_well && is_over(&served))
+    let ports = doors.ports();
+    is_served_by(rt, alloc, &clock, doors, ports, (visit, count))
 }
 
 #[test]
 fn a_crowd_is_served(rt: HostRuntime) -> Result<(), Fail> {
-    let machine = machine(rt.alloc())?;
-    assert!(rt; is_served(&rt, rt.alloc(), machine, Visit::Crowd, 64)?);
+    assert!(rt; is_served(&rt, rt.alloc(), Visit::Crowd, 64)?);
     Ok(())
 }
 
 #[test]
 fn a_visitor_at_each_port_is_served(rt: HostRuntime) -> Result<(), Fail> {
-    let machine = machine(rt.alloc())?;
-    assert!(rt; is_served(&rt, rt.alloc(), machine, Visit::EachPort, 4)?);
+    assert!(rt; is_served(&rt, rt.alloc(), Visit::EachPort, 4)?);
     Ok(())
 }

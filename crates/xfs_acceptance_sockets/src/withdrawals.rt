@@ -73,7 +73,7 @@ pub fn outward<
     TcpDoors::outward(shared.rt, shared.alloc, shared.clock, shared.ports).ok()
 }
 
-// Serves the clients.
+// Serves the clients at ports that the system chooses.
 fn served<
     R: Net<Listener = TcpListener, Stream = TcpStream>
         + RandomSource
@@ -81,19 +81,61 @@ fn served<
         + Threads
         + Wait
         + Sync,
-    M: Mechanism + Send,
-    D: Disk + Send,
->(rt: &R, alloc: Global, units: &UnitTable, machine: Machine<M, D>) -> Result<Report, Fail> {
+>(rt: &R, alloc: Global, units: &UnitTable) -> Result<Report, Fail> {
     let clock = StdClock::new(rt);
     let doors = opened(rt, alloc, &clock).ok_or("the ports")?;
-    let shared = Shared::new(rt, alloc, &clock, doors.ports(), CONNECTIONS).ok_or("the currency")?;
-    let gate = Steps::new(CLIENTS as u64, &clock);
-    let (visits, Served { ending, machine }) = side_by_side(&shared, machine, doors, &gate);
+    let ports = doors.ports();
+    served_by(rt, alloc, &clock, doors, ports, units)
+}
+
+fn served_by<
+    R: Net<Listener = TcpListener, Stream = TcpStream> + RandomSource + Threads + Wait + Sync,
+    O: Doors + Drop,
+    C: Clock + Sync,
+>(
+    rt: &R,
+    alloc: Global,
+    clock: &C,
+    doors: O,
+    ports: Ports,
+    units: &UnitTable,
+) -> Result<Report, Fail> {
+    let shared = Shared::new(rt, alloc, clock, ports, CONNECTIONS).ok_or("the currency")?;
+    let machine = machine(alloc)?;
+    reported(&shared, units, machine, doors)
+}
+
+fn reported<
+    R: Net<Listener = TcpListener, Stream = TcpStream> + RandomSource + Threads + Wait + Sync,
+    M: Mechanism + Send,
+    D: Disk + Send,
+    O: Doors + Drop,
+    C: Clock + Sync,
+>(
+    shared: &Shared<R, C>,
+    units: &UnitTable,
+    machine: Machine<M, D>,
+    doors: O,
+) -> Result<Report, Fail> {
+    let gate = Steps::new(CLIENTS as u64, shared.clock);
+    let (visits, served) = side_by_side(shared, machine, doors, &gate);
+    let tries = shared.tries.load(Ordering::SeqCst);
+    report_of(shared.alloc, units, visits, tries, served)
+}
+
+fn report_of<M: Mechanism, D: Disk>(
+    alloc: Global,
+    units: &UnitTable,
+    visits: Result<Vec<Visit>, AllocError>,
+    tries: u64,
+    served: Served<M, D>,
+) -> Result<Report, Fail> {
+    let Served { ending, machine } = served;
     let account = account_of(alloc, units, machine)?;
     Ok(Report {
         is_served: ending == Over::Served,
         visits: visits?,
-        tries: shared.tries.load(Ordering::SeqCst),
+        tries,
         account,
     })
 }
@@ -228,7 +270,7 @@ fn is_each_worth_70_euros(presented: &[Counts], units: &UnitTable) -> bool {
 fn every_note_of_eight_withdrawals_at_once_is_told(rt: HostRuntime) -> Result<(), Fail> {
     let alloc = rt.alloc();
     let units = units().ok_or("the units")?;
-    let report = served(&rt, alloc, &units, machine(alloc)?)?;
+    let report = served(&rt, alloc, &units)?;
     assert!(rt; report.is_served);
     assert!(rt; all_got_theirs(&report.visits));
     // By the gate all but one lost their first try.

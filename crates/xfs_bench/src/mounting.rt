@@ -1,6 +1,6 @@
 use crate::records::{BOOT_EACH, Between, record_at};
 use std::alloc::{AllocError, Global};
-use xfs_disk::MemDisk;
+use xfs_disk::{Disk, MemDisk};
 use xfs_journal::{Journal, Limits, Rec};
 
 /// How many records a mount reads from a disk in memory that holds so many.
@@ -48,6 +48,16 @@ fn journal_bytes(alloc: Global, records: u64) -> Result<Vec<u8>, AllocError> {
 // A journal to which so many records were appended, and how many of them had their number.
 fn fill(alloc: Global, records: u64, between: Between) -> Option<(Journal<MemDisk>, u64)> {
     let mut journal = mount(alloc, Vec::new(alloc))?;
+    let right = append_all(alloc, &mut journal, records, between)?;
+    Some((journal, right))
+}
+
+fn append_all<D: Disk>(
+    alloc: Global,
+    journal: &mut Journal<D>,
+    records: u64,
+    between: Between,
+) -> Option<u64> {
     let mut right = 0u64;
     for place in 0..records {
         let rec = record_at(alloc, place, between)?;
@@ -55,16 +65,24 @@ fn fill(alloc: Global, records: u64, between: Between) -> Option<(Journal<MemDis
             right = right.saturating_add(1);
         }
     }
-    Some((journal, right))
+    Some(right)
 }
 
 // The bytes of a journal with the same records thousand after thousand.
 fn thousands(alloc: Global, records: u64, between: Between) -> Option<Vec<u8>> {
     let (journal, _) = fill(alloc, records.min(BOOT_EACH), between)?;
     let disk = journal.end();
-    let (magic, rest) = disk.bytes().split_at_checked(8)?;
+    repeated(
+        alloc,
+        disk.bytes(),
+        usize::try_from(records / BOOT_EACH).ok()?.max(1),
+    )
+}
+
+// The bytes of a journal with its list so many times.
+fn repeated(alloc: Global, file: &[u8], times: usize) -> Option<Vec<u8>> {
+    let (magic, rest) = file.split_at_checked(8)?;
     let (gate, listed) = rest.split_last()?;
-    let times = usize::try_from(records / BOOT_EACH).ok()?.max(1);
     let len = listed.len().checked_mul(times)?.checked_add(64)?;
     let mut bytes = Vec::with_capacity(alloc, len).ok()?;
     bytes.extend_from_slice(magic).ok()?;
