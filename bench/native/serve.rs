@@ -1,8 +1,10 @@
 //! A native peer of `xfs serve` for what the script `bench/serve` measures, and the clients that load either of them:
 //!
 //!     serve COUNT PORT PORT PORT PORT    a server, until so many connections came and have ended; the last port is the dispenser's
-//!     ask PORT CLIENTS TEXTS             so many clients side by side, each of which asks Common.Status so many times: seconds in all
-//!     withdraw PORT TIMES                one client that withdraws so many times, at most 400: seconds of one on average, and the median
+//!     ask PORT CLIENTS TEXTS             so many clients side by side, each of which asks Common.Status so many times: seconds in all, and
+//!                                        those that all texts but the slowest hundredth took at most
+//!     withdraw PORT TIMES                one client that withdraws so many times, at most 400: seconds of one on average, the median, and
+//!                                        those that all but the slowest hundredth took at most
 //!     idle PORT CLIENTS SECONDS          so many clients that say nothing; it writes `open` once all are connected
 //!
 //! Over std alone, so the handshake is the sample of RFC 6455, section 1.3. The server has the turns of `xfs serve`: a thread a connection,

@@ -98,7 +98,34 @@ fn chacha_block(seed: &[u8; 32], number: u64) -> [u32; 16] {
 }
 
 /// The word of an issue: the words 2n (its high half) and 2n + 1 of the keystream, 16 a block.
+#[allow(dead_code)]
 pub fn word_of(seed: &[u8; 32], issue: u64) -> u64 {
-    let (block, place) = (chacha_block(seed, issue / 8), 2 * (issue % 8) as usize);
+    word_in(&chacha_block(seed, issue / 8), issue)
+}
+
+fn word_in(block: &[u32; 16], issue: u64) -> u64 {
+    let place = 2 * (issue % 8) as usize;
     u64::from(block[place]) << 32 | u64::from(block[place + 1])
+}
+
+/// The words of issues, of whose blocks the last is kept.
+#[allow(dead_code)]
+pub struct Words {
+    seed: [u8; 32],
+    number: u64,
+    block: [u32; 16],
+}
+
+#[allow(dead_code)]
+impl Words {
+    pub fn new(seed: [u8; 32]) -> Words {
+        Words { seed, number: 0, block: chacha_block(&seed, 0) }
+    }
+
+    pub fn of(&mut self, issue: u64) -> u64 {
+        if issue / 8 != self.number {
+            (self.number, self.block) = (issue / 8, chacha_block(&self.seed, issue / 8));
+        }
+        word_in(&self.block, issue)
+    }
 }

@@ -78,29 +78,39 @@ fn plain(text: &str) -> Vec<u8> {
     frame
 }
 
-/// Asks Common.Status so many times, one behind the other.
-fn ask_status(mut stream: TcpStream, texts: u32) -> Result<()> {
+/// Asks Common.Status so many times, one behind the other, and tells what each took.
+fn ask_status(mut stream: TcpStream, texts: u32) -> Result<Vec<Duration>> {
     let asked = masked(STATUS);
     let due = TOLD.map(plain).concat();
     let mut told = vec![0; due.len()];
+    let mut spent = Vec::with_capacity(texts as usize);
     for _ in 0..texts {
+        let began = Instant::now();
         stream.write_all(&asked)?;
         stream.read_exact(&mut told)?;
+        spent.push(began.elapsed());
         if told != due {
             return Err(bad("another status"));
         }
     }
-    Ok(())
+    Ok(spent)
+}
+
+/// What such a part of them took at most.
+fn part(spent: &mut [Duration], hundredths: usize) -> f64 {
+    spent.sort();
+    spent[(spent.len() * hundredths / 100).min(spent.len() - 1)].as_secs_f64()
 }
 
 pub fn ask(port: u16, clients: u32, texts: u32) -> Result<()> {
     let streams = connect_all(port, clients)?;
     let began = Instant::now();
-    thread::scope(|scope| {
+    let spent = thread::scope(|scope| {
         let asking: Vec<_> = streams.into_iter().map(|stream| scope.spawn(move || ask_status(stream, texts))).collect();
-        asking.into_iter().try_for_each(|client| client.join().expect("a client has failed"))
+        asking.into_iter().map(|client| client.join().expect("a client has failed")).collect::<Result<Vec<_>>>()
     })?;
-    println!("{}", began.elapsed().as_secs_f64());
+    let clock = began.elapsed().as_secs_f64();
+    println!("{clock} {}", part(&mut spent.concat(), 99));
     Ok(())
 }
 
@@ -169,11 +179,10 @@ pub fn withdraw(port: u16, times: usize) -> Result<()> {
     for i in 0..times {
         let began = Instant::now();
         client.withdraw(&key, AMOUNTS[i % AMOUNTS.len()])?;
-        spent.push(began.elapsed().as_secs_f64());
+        spent.push(began.elapsed());
         thread::sleep(TAKEN);
     }
-    let average = spent.iter().sum::<f64>() / times as f64;
-    spent.sort_by(f64::total_cmp);
-    println!("{average} {}", spent[times / 2]);
+    let average = spent.iter().sum::<Duration>().as_secs_f64() / times as f64;
+    println!("{average} {} {}", part(&mut spent, 50), part(&mut spent, 99));
     Ok(())
 }
