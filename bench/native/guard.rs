@@ -1,6 +1,7 @@
-//! A native peer of `xfs guard` for the lines that the scripts `bench/lines` and `bench/issues` make: `issue`, `clear`, `mint`, `dispense`,
+//! A native peer of `xfs guard` for the lines that the script `bench/lines` makes: `issue`, `clear`, `mint`, `dispense`,
 //! `present`, `reject`, `take`, `fill` and `show`. Written from the pages of `docs` over std alone, it does the same work and writes the same
-//! bytes; it keeps the records beside the journal's bytes, as that does. The scripts build it, compare the outputs and time both.
+//! bytes; beside the journal's bytes it keeps the records and the mechanism's list, which the library tells by calls. The script builds it,
+//! compares the outputs and times both.
 #[path = "replay/hashes.rs"]
 mod hashes;
 #[path = "guard/journal.rs"]

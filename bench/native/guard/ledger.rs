@@ -36,6 +36,14 @@ impl fmt::Display for Refusal {
     }
 }
 
+/// An entry of the mechanism's list.
+#[allow(dead_code)]
+enum Motion {
+    Moved { number: u64, kind: u8, moved: Counts, diverted: Counts },
+    Taken { counts: Counts },
+    Loaded { unit: u8, count: u32 },
+}
+
 /// The token that is bound to the live nonce, and what was presented on it.
 struct Bound {
     token: String,
@@ -52,6 +60,7 @@ pub struct Guard {
     live: Option<String>,
     bound: Option<Bound>,
     places: [Counts; PLACES],
+    motions: Vec<Motion>,
 }
 
 /// What notes are worth in a currency, in thousandths.
@@ -66,7 +75,17 @@ impl Guard {
         places[UNIT] = [100, 100, 100, 100, 0, 0, 0, 0];
         let mut journal = Journal::new();
         journal.append(Record::Start { issues: 0, places: Box::new(places) });
-        Guard { key: Key::new(&[0x0b; 32]), words: Words::new([0; 32]), journal, issues: 0, mark: 1, live: None, bound: None, places }
+        Guard {
+            key: Key::new(&[0x0b; 32]),
+            words: Words::new([0; 32]),
+            journal,
+            issues: 0,
+            mark: 1,
+            live: None,
+            bound: None,
+            places,
+            motions: Vec::new(),
+        }
     }
 
     pub fn key(&self) -> &Key {
@@ -208,6 +227,7 @@ impl Guard {
     fn carry_out(&mut self, (kind, from, to): (u8, usize, usize), counts: Counts) {
         self.journal.append(Record::Order { kind, counts });
         self.shift(from, to, &counts);
+        self.motions.push(Motion::Moved { number: self.journal.records(), kind, moved: counts, diverted: NONE });
         self.journal.append(Record::Done { moved: counts, diverted: NONE });
     }
 
@@ -222,6 +242,7 @@ impl Guard {
     pub fn take(&mut self) -> Counts {
         let counts = self.places[OUTLET];
         self.shift(OUTLET, TAKEN, &counts);
+        self.motions.push(Motion::Taken { counts });
         counts
     }
 
@@ -232,6 +253,7 @@ impl Guard {
         }
         self.fit()?;
         self.places[UNIT][place] += count;
+        self.motions.push(Motion::Loaded { unit: unit as u8, count });
         self.journal.append(Record::Load { unit: unit as u8, count });
         Ok(())
     }
