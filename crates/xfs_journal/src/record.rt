@@ -25,5 +25,5 @@ pub enum Rec {
     Load { unit: u8, count: u32 },
 }
 
-// A record in memory takes at most 120 bytes, whatever it tells.
-const _: () = prove!(size_of::<Rec>() <= 120);
+// A record in memory takes at most 72 bytes beside a token's text or the places of a boot: the two counts of a Done, and the tag.
+const _: () = prove!(size_of::<Rec>() <= 72);
