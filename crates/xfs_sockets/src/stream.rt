@@ -37,9 +37,7 @@ pub struct PeerStream {
 impl PeerStream {
     /// Over a stream whose reads and writes wait. Its frames leave at once.
     pub fn new(stream: TcpStream) -> io::Result<PeerStream> {
-        stream.set_nodelay(true)?;
-        stream.set_read_timeout(Some(Duration::from_millis(READ_MILLIS)))?;
-        stream.set_write_timeout(Some(Duration::from_millis(WRITE_MILLIS)))?;
+        set_times(&stream)?;
         Ok(PeerStream {
             stream,
             waits: true,
@@ -137,6 +135,13 @@ impl Write for PeerStream {
     fn flush(&mut self) -> io::Result<()> {
         self.stream.flush()
     }
+}
+
+// Sets how long reads and writes wait, and that no frame waits for another.
+fn set_times(stream: &TcpStream) -> io::Result<()> {
+    stream.set_nodelay(true)?;
+    stream.set_read_timeout(Some(Duration::from_millis(READ_MILLIS)))?;
+    stream.set_write_timeout(Some(Duration::from_millis(WRITE_MILLIS)))
 }
 
 /// Whether a read or a write only waited its time.
