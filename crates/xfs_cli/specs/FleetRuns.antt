@@ -76,11 +76,11 @@ module _ {M D : Type 0} (m : Mechanisms M) (d : Disks D) (core second : Core M D
   abbrev pub IsSecondUnbooted : Streams → Type 0
   IsSecondUnbooted io = IsUnbooted second b io × FromStart (Begins (at_entry m d core) core.life) (λ start. IsEnd m d a (guard_state_of start))
 
-  -- so of one of the two machines
+  -- a fact holds of one of the two machines
   abbrev pub AtEither : (Core M D → Return M D → Type 0) → Type 0
   AtEither P = P core a ⊎ P second b
 
-  -- this holds of the second, or the boot of the first was refused
+  -- a fact of the second machine, unless the boot of the first was refused
   abbrev pub WhereFirstBoots : Streams → Type 0 → Type 0
   WhereFirstBoots io P = IsFirstUnbooted io ⊎ P
 

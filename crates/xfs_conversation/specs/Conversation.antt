@@ -15,10 +15,10 @@ pub data Acknowledges (pending : List Pending) : Result Command Refuse → Optio
   -- a command with a wrong id
   misnumbered : (c : Command) → is_wrong_id pending c.id ≡ true
       → Acknowledges pending (Ok c) (Some (acknowledge (Some c.id) (Some c.name) (Some InvalidRequestId))) pending
-  -- any other, where too many are pending
+  -- a command with a right id, where too many are pending
   crowded : (c : Command) → is_wrong_id pending c.id ≡ false
       → Acknowledges pending (Ok c) (Some (acknowledge (Some c.id) (Some c.name) (Some TooManyRequests))) pending
-  -- and one that is accepted: without a status
+  -- a command that is accepted: without a status
   accepted : (c : Command) → is_wrong_id pending c.id ≡ false
       → Acknowledges pending (Ok c) (Some (acknowledge (Some c.id) (Some c.name) None)) (pending ++ pending_of c ∷ [])
 

@@ -38,7 +38,7 @@ IsOfPending pending other = ⊤
 pub record HasParts (texts frames : List (List ℕ)) (pending : List Pending) : Type 0 where
   -- the acknowledges are as many as the texts, and each has the id and name of its text; it says invalidMessage exactly where the text is no command
   pub acknowledges : filter_map (λ frame. heading_in (reply_in frame)) frames ≡ map (λ text. heading_of (command_in text)) texts
-  -- else it says invalidRequestID exactly where the id is 0, above 2147483647, or pending before it
+  -- the acknowledge of a command says invalidRequestID exactly where the id is 0, above 2147483647, or pending before it
   pub statuses : EachFrame frames (λ before frame. HasStatus (pending_after before) (reply_in frame))
   -- a completion has the id and name of a command that was accepted before it and not completed before it
   pub completions : EachFrame frames (λ before frame. EndsPending (pending_after before) (reply_in frame))

@@ -70,7 +70,8 @@ pub fn completion(
     completion_of_text(alloc, name, id, code, &text)
 }
 
-/// The same, of a payload that is given by its compact text.
+/// The text that the command with this name and id ended with this code, of a payload that is given by its compact text.
+/// Nothing is said of what becomes of a text that is no payload's.
 pub fn completion_of_text(
     alloc: Global,
     name: &Name,

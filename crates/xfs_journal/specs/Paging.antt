@@ -52,7 +52,7 @@ pub record OnlyReads {D : Type 0} (g : Ghosts D) (old new : D) (Fails : Type 0) 
 abbrev pub size_in : List ℕ → ℕ
 size_in block = from_be_bytes w16 (slice_index block 1 ∷ slice_index block 2 ∷ [])
 
--- the two of them are bytes
+-- the two bytes of the length behind a gate byte are below 256
 abbrev pub AreSizeBytes : List ℕ → Type 0
 AreSizeBytes block = (slice_index block 1 < 256) × (slice_index block 2 < 256)
 

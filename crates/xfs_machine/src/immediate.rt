@@ -2,13 +2,11 @@
 
 ghost use Rattle.std.specs.Prelude.{◌≡◌, true, IfOk, OnOk, OnErr, Some, is_none, if◌then◌else◌};
 ghost use Rattle.std.specs.List.{list_any};
-ghost use Rattle.serde_json.specs.View.{view};
 ghost use Rattle.xfs_common.specs.Cancel.{named_by};
 ghost use Rattle.xfs_common.specs.Commands.{immediate_of};
 ghost use Rattle.xfs_common.specs.declared.command.Immediate.TheVariants.{Cancel};
 ghost use Rattle.xfs_common.specs.declared.payloads.Fit2.TheVariants as fit;
 ghost use Rattle.xfs_envelope.specs.Commands.{said};
-ghost use Rattle.xfs_envelope.specs.Messages.{IsPayload};
 ghost use Rattle.xfs_guard.specs.Fits.{unfit};
 ghost use Rattle.xfs_machine.specs.Changes.{CancelIsDone, IsDoneAtOnce};
 ghost use Rattle.xfs_traffic.specs.Senders.{IsCompleted};

@@ -54,7 +54,7 @@ HandsOver coming Door.Quiet = coming ≡ []
 HandsOver coming Door.Failed = ⊤
 HandsOver coming Door.Memory = ⊥
 
--- those that are to come after that answer
+-- the connections that are to come after an answer of the doors
 abbrev pub left_after : List (Service × LinkInMemory) → Door LinkInMemory → List (Service × LinkInMemory)
 left_after coming (Door.Came service link) = drop 1 coming
 left_after coming Door.Quiet = coming

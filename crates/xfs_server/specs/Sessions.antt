@@ -166,7 +166,7 @@ pub record Heard (link link' : LinkLog) (board board' : BoardLog) : Type 0 where
   pub link_is : link' ≡ record link { coming = link'.coming; taken = grown texts link.taken; quiets = counted quiets link.quiets }
   pub board_is : board' ≡ record board { texts = grown texts board.texts; posts = counted (length texts) board.posts }
 
--- those before the one that was refused were given
+-- the frames before the one that was refused were given
 pub record GaveFront (frames : List (List ℕ)) (fault : GiveFault) (link link' : LinkLog) : Type 0 where
   pub given : List (List ℕ)
   pub refused : List ℕ

@@ -92,7 +92,7 @@ module _ {T E : Type 0} (list : T → List E) where
     -- word 0 is 1 exactly where a seat has the turn
     pub taken : slice_index s.words 0 ≡ 1 → (i : ℕ) × (v : Knowledge E) × HasTurn s i v
     pub marked : (i : ℕ) (v : Knowledge E) → HasTurn s i v → slice_index s.words 0 ≡ 1
-    -- and no second one has it
+    -- no second seat has the turn
     pub alone : (i j : ℕ) (v w : Knowledge E) → HasTurn s i v → HasTurn s j w → i ≡ j
     -- no seat has seen more than word 1 says
     pub counted : (i : ℕ) (v : Knowledge E) → get_elem? s.views i ≡ some v → length v.seen ≤ slice_index s.words 1

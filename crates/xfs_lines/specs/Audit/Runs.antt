@@ -59,7 +59,7 @@ pub record IsAudited (key : List ℕ) (units : List NoteKind) (io : Streams) (te
 pub record RunsAudit {M D : Type 0} (core : Core M D) (result : Return M D) (io : Streams) : Type 0 where
   -- what is written under each status; nothing is written before the end of the lines
   pub audits : IfTold io.input (Audits core.key core.units result.status io)
-  -- so where the input was read to its end, what is written is the verdict of what its lines handed in, under the core's key and units
+  -- where the input was read to its end, what is written is the verdict of what its lines handed in, under the core's key and units
   pub verdict : result.status ≡ READ_TO_END → IfTold io.input (IsAudited core.key core.units io)
   pub lines : result.status ≡ READ_TO_END → IfTold io.input (AllLines IsLineOfAudit)
   pub not_a_line : result.status ≡ NOT_A_LINE → IfTold io.input (StopsAtLine IsLineOfAudit)
