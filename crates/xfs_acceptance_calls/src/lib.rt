@@ -1,4 +1,4 @@
-//! What only a call can show of guard, evidence, dispenser, simulated devices and two machines, as tests.
+//! What only a call can show of guard, evidence, dispenser and two machines, as tests.
 #![tactic(auto)]
 
 #[cfg(test)]
@@ -18,10 +18,6 @@ mod guard_boot_calls;
 #[cfg(test)]
 mod guard_calls;
 #[cfg(test)]
-mod motion_calls;
-#[cfg(test)]
 mod reach_calls;
-#[cfg(test)]
-mod simulated_calls;
 #[cfg(test)]
 mod teller;

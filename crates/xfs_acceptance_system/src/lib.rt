@@ -1,4 +1,4 @@
-//! The files of a working folder, as the program finds and makes them.
+//! What only a call can show of simulated devices and of the files of a working folder, as the program finds and makes them.
 #![tactic(auto)]
 
 #[cfg(test)]
@@ -7,3 +7,7 @@ mod bench_calls;
 mod files;
 #[cfg(test)]
 mod folder_calls;
+#[cfg(test)]
+mod motion_calls;
+#[cfg(test)]
+mod simulated_calls;
