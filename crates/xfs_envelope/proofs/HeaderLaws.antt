@@ -51,7 +51,7 @@ both_plain xs ys first rest = escape-append xs ys ∙ ap₂ (λ (a b : List ℕ)
     escape-append [] ys = refl
     escape-append (x ∷ xs) ys = ap (λ l. escape_byte x ++ l) (escape-append xs ys) ∙ sym (append_assoc (escape_byte x) _ _)
 
-name_plain : (name : List ℕ) → is_name name ≡ true → escape name ≡ name
+pub name_plain : (name : List ℕ) → is_name name ≡ true → escape name ≡ name
 name_plain name h =
     let parts = both (is_part (before_first is_point name)) (is_part (after_first is_point name)) h in
     let here = point_here name parts.1 in
@@ -90,7 +90,7 @@ status_plain TooManyRequests = refl
 
 -- ---- texts in parts
 
-quoted_then : (text rest : List ℕ) → escape text ≡ text → 34 ∷ (text ++ (34 ∷ rest)) ≡ quoted text ++ rest
+pub quoted_then : (text rest : List ℕ) → escape text ≡ text → 34 ∷ (text ++ (34 ∷ rest)) ≡ quoted text ++ rest
 quoted_then text rest plain = ap (λ l. 34 ∷ l) (sym (append_assoc text (34 ∷ []) rest) ∙ ap (λ l. (l ++ 34 ∷ []) ++ rest) (sym plain))
 
 pub completion_text : (name digits kind : List ℕ) (id : ℕ) (code : Code) → is_name name ≡ true → kind ≡ code_text code → digits ≡ decimal id

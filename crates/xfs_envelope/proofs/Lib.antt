@@ -3,4 +3,5 @@ mod FieldLaws
 mod HeaderLaws
 mod NameLaws
 mod ReplyLaws
+mod ShortLaws
 mod TextLaws

@@ -12,7 +12,7 @@ use Rattle.xfs_envelope.specs.Messages.{acknowledge_header, completion_header, f
 use Rattle.xfs_envelope.specs.Names.{is_name}
 use Rattle.xfs_envelope.specs.Replies.{acknowledge, completion, reply_of_value}
 
-named : (n : List ℕ) → is_name n ≡ true → passing is_name n ≡ Some n
+pub named : (n : List ℕ) → is_name n ≡ true → passing is_name n ≡ Some n
 named n h = rw h
 
 status_back : (s : Status) → status_of (status_text s) ≡ Some s
@@ -20,7 +20,7 @@ status_back InvalidMessage = refl
 status_back InvalidRequestId = refl
 status_back TooManyRequests = refl
 
-id_back : (n : ℕ) → n < 2 ^ 64 → whole_in 0 (2 ^ 64 - 1) (numbered n) ≡ Some n
+pub id_back : (n : ℕ) → n < 2 ^ 64 → whole_in 0 (2 ^ 64 - 1) (numbered n) ≡ Some n
 id_back n h = grind arith
 
 pub acknowledge_back : (id : Option ℕ) (name : Option (List ℕ)) (status : Option Status) → IfSome id (λ n. n < 2 ^ 64) → IfSome name (λ n. is_name n ≡ true)

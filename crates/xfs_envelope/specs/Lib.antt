@@ -6,3 +6,4 @@ pub mod Names
 pub mod Parts
 pub mod Readable
 pub mod Replies
+pub mod Short

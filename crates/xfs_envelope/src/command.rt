@@ -1,4 +1,4 @@
-ghost use Rattle.std.specs.Prelude.{◌≡◌, ◌≢◌, None, Ok, Err, IfOk, IfErr};
+ghost use Rattle.std.specs.Prelude.{◌≡◌, ◌≢◌, ◌≤◌, None, Ok, Err, IfOk, IfErr, length};
 ghost use Rattle.serde_json.specs.Data.{Data};
 ghost use Rattle.serde_json.specs.View.{view};
 ghost use Rattle.xfs_envelope.specs.Commands.{command_in, command_of, said, with_payload};
@@ -9,6 +9,7 @@ use crate::fields::{
     has_right_version, header_of, is_of_type, name_at, needed_id_at, take_payload, timeout_at,
     usable,
 };
+use crate::short::short_command;
 use crate::{Name, NameFault};
 use std::alloc::Global;
 use xfs_json::{JsonFault, Value, parse};
@@ -66,6 +67,18 @@ pub fn read(alloc: Global, text: &[u8]) -> Result<Envelope, Refuse>
     if text.len() > LONGEST_MESSAGE {
         return Err(without_id(Why::TooLong));
     }
+    if let Some(command) = short_command(alloc, text) {
+        return Ok(command);
+    }
+    read_value(alloc, text)
+}
+
+// Reads a command that is not too long.
+fn read_value(alloc: Global, text: &[u8]) -> Result<Envelope, Refuse>
+    requires { length text.now ≤ 65536 }
+    ensures ok { IfOk result (λ e. command_in text.now ≡ Ok (said e)) }
+    ensures refused { IfErr result (λ r. r.why ≢ Memory → command_in text.now ≡ Err r) }
+{
     let value = match parse(alloc, text) {
         Ok(value) => value,
         Err(JsonFault::NotJson) => return Err(without_id(Why::NotJson)),

@@ -8,6 +8,7 @@ mod command;
 mod fields;
 mod messages;
 mod name;
+mod short;
 
 pub use answer::{Answer, AnswerFault, read_answer};
 pub use code::{Code, Status};

@@ -198,7 +198,7 @@ fn push_status(text: &mut String, status: Option<Status>) -> Result<(), AllocErr
     }
 }
 
-fn push_all(text: &mut String, parts: &[&str]) -> Result<(), AllocError>
+pub(crate) fn push_all(text: &mut String, parts: &[&str]) -> Result<(), AllocError>
     ensures { OnOk result (string_bytes text.new
         ≡ string_bytes text.old ++ flat_map (λ p. p.now) parts.now) }
 {
