@@ -64,24 +64,26 @@ impl From<Memory> for NoAnswer {
     }
 }
 
-/// The guard that answers, which has no open order between two lines, the key of its tokens, and the token that was minted last.
+/// The guard that answers, the key of its tokens, and the token that was minted last.
 #[derive(Drop)]
 pub struct GuardPlayer<M: Mechanism, D: Disk> {
     pub alloc: Global,
     pub guard: Guard<M, D>,
     pub key: TokenKey,
     pub last: Option<Bytes>,
-    ghost none: { guard.state.open_order ≡ No },
-    ghost keyed: { key ≡ guard.state.key },
 }
 
 impl<M: Mechanism, D: Disk> GuardPlayer<M, D> {
     /// What a verb is answered: the lines of the answer, a line feed behind each.
     pub fn answer_verb(&mut self, verb: &GuardLine) -> Result<Vec<u8>, NoAnswer>
+        requires none { self.old.guard.state.open_order ≡ No }
+        requires key { self.old.key ≡ self.old.guard.state.key }
         ensures answer { IfOk result (λ text. IsAnswerText (AreGuardAnswer (state_in D.faults self.old) verb.now) text.items (state_in D.faults self.new)) }
         ensures memory { result ≡ Err NoAnswer.Memory → LeavesOfVerb (state_in D.faults self.old) verb.now (state_in D.faults self.new) }
         ensures unbooted { IfUnbooted result (λ why. FailsRestart (state_in D.faults self.old) verb.now why (state_in D.faults self.new)) }
         ensures proceeds { Proceeds D.Disk self.old.guard self.new.guard }
+        ensures none { self.new.guard.state.open_order ≡ No }
+        ensures key { self.new.key ≡ self.new.guard.state.key }
     {
         match verb {
             GuardLine::Skip => Ok(Vec::new(self.alloc)),
@@ -100,9 +102,12 @@ impl<M: Mechanism, D: Disk> GuardPlayer<M, D> {
     }
 
     fn issue(&mut self) -> Result<Vec<u8>, Memory>
+        requires { self.old.guard.state.open_order ≡ No }
         ensures answer { IfOk result (λ text. IsGuardAnswer (state_in D.faults self.old) Issue text.items (state_in D.faults self.new)) }
         ensures memory { OnErr result (WholeOrNone (state_in D.faults self.old) Issue (state_in D.faults self.new)) }
         ensures proceeds { Proceeds D.Disk self.old.guard self.new.guard }
+        ensures none { self.new.guard.state.open_order ≡ No }
+        ensures key { self.new.key ≡ self.old.key }
     {
         match self.guard.issue() {
             Ok(nonce) => join_parts(self.alloc, b"nonce ", &nonce.text),
@@ -111,9 +116,12 @@ impl<M: Mechanism, D: Disk> GuardPlayer<M, D> {
     }
 
     fn clear(&mut self) -> Result<Vec<u8>, Memory>
+        requires { self.old.guard.state.open_order ≡ No }
         ensures answer { IfOk result (λ text. IsGuardAnswer (state_in D.faults self.old) Clear text.items (state_in D.faults self.new)) }
         ensures memory { OnErr result (WholeOrNone (state_in D.faults self.old) Clear (state_in D.faults self.new)) }
         ensures proceeds { Proceeds D.Disk self.old.guard self.new.guard }
+        ensures none { self.new.guard.state.open_order ≡ No }
+        ensures key { self.new.key ≡ self.old.key }
     {
         match self.guard.clear() {
             Ok(true) => join_parts(self.alloc, b"cleared", b""),
@@ -124,9 +132,11 @@ impl<M: Mechanism, D: Disk> GuardPlayer<M, D> {
 
     // A genuine token for the live nonce, which is then the last one.
     fn mint(&mut self, amounts: &Amounts) -> Result<Vec<u8>, Memory>
+        requires key { self.old.key ≡ self.old.guard.state.key }
         ensures answer { IfOk result (λ text. IsGuardAnswer (state_in D.faults self.old) (Mint amounts.now) text.items (state_in D.faults self.new)) }
         ensures memory { OnErr result (WholeOrNone (state_in D.faults self.old) (Mint amounts.now) (state_in D.faults self.new)) }
         ensures same { self.new.guard ≡ self.old.guard }
+        ensures key { self.new.key ≡ self.old.key }
     {
         let Some(nonce) = self.guard.live() else {
             self.last = None;
@@ -143,9 +153,12 @@ impl<M: Mechanism, D: Disk> GuardPlayer<M, D> {
 
     // The customer takes what lies in the outlet.
     fn take(&mut self) -> Result<Vec<u8>, Memory>
+        requires { self.old.guard.state.open_order ≡ No }
         ensures answer { IfOk result (λ text. IsGuardAnswer (state_in D.faults self.old) Take text.items (state_in D.faults self.new)) }
         ensures memory { OnErr result (WholeOrNone (state_in D.faults self.old) Take (state_in D.faults self.new)) }
         ensures proceeds { Proceeds D.Disk self.old.guard self.new.guard }
+        ensures none { self.new.guard.state.open_order ≡ No }
+        ensures key { self.new.key ≡ self.old.key }
     {
         match self.guard.taken() {
             Ok(outcome) => outcome_text(self.alloc, b"taken", &outcome),
@@ -155,9 +168,12 @@ impl<M: Mechanism, D: Disk> GuardPlayer<M, D> {
 
     // The operator adds notes to a unit, and it is written down.
     fn fill(&mut self, unit: u8, count: u32) -> Result<Vec<u8>, Memory>
+        requires { self.old.guard.state.open_order ≡ No }
         ensures answer { IfOk result (λ text. IsGuardAnswer (state_in D.faults self.old) (Fill unit count) text.items (state_in D.faults self.new)) }
         ensures memory { OnErr result (LeavesOfVerb (state_in D.faults self.old) (Fill unit count) (state_in D.faults self.new)) }
         ensures proceeds { Proceeds D.Disk self.old.guard self.new.guard }
+        ensures none { self.new.guard.state.open_order ≡ No }
+        ensures key { self.new.key ≡ self.old.key }
     {
         if unit == 0 || unit > self.guard.units().len() {
             return refusal_text(self.alloc, &Refusal::Error(ErrorCode::InvalidUnit));
@@ -173,11 +189,14 @@ impl<M: Mechanism, D: Disk> GuardPlayer<M, D> {
 
     // Loads notes, and writes it down where the mechanism didn't fail.
     fn load(&mut self, unit: u8, count: u32) -> Result<Vec<u8>, Memory>
+        requires none { self.old.guard.state.open_order ≡ No }
         requires fits { CanLoad self.old.guard.state.units self.old.guard.state.places unit count }
         requires fit { unfit self.old.guard.state ≡ None }
         ensures answer { IfOk result (λ text. IsLoaded (state_in D.faults self.old) unit count text.items (state_in D.faults self.new)) }
         ensures memory { OnErr result (LeavesOfLoad (state_in D.faults self.old) unit count (state_in D.faults self.new)) }
         ensures proceeds { Proceeds D.Disk self.old.guard self.new.guard }
+        ensures none { self.new.guard.state.open_order ≡ No }
+        ensures key { self.new.key ≡ self.old.key }
     {
         let outcome = self.guard.load(unit, count)?;
         if outcome.failed {
@@ -191,10 +210,13 @@ impl<M: Mechanism, D: Disk> GuardPlayer<M, D> {
 
     // Starts the guard anew. The token that was minted last stays.
     fn restart(&mut self) -> Result<Vec<u8>, NoAnswer>
+        requires { self.old.guard.state.open_order ≡ No }
         ensures answer { IfOk result (λ text. Restarts (state_in D.faults self.old) text.items (state_in D.faults self.new)) }
         ensures memory { result ≡ Err NoAnswer.Memory → WholeOrNone (state_in D.faults self.old) Restart (state_in D.faults self.new) }
         ensures unbooted { IfUnbooted result (λ why. RestartFails (state_in D.faults self.old) why (state_in D.faults self.new)) }
         ensures proceeds { Proceeds D.Disk self.old.guard self.new.guard }
+        ensures none { self.new.guard.state.open_order ≡ No }
+        ensures key { self.new.key ≡ self.old.key }
     {
         self.guard.reboot()?;
         Ok(join_parts(self.alloc, b"restarted", b"")?)
@@ -209,10 +231,13 @@ impl<M: Mechanism, D: Disk> GuardPlayer<M, D> {
 
     // An order of all the notes of a place.
     fn move_all(&mut self, ask: Ask) -> Result<Vec<u8>, Memory>
+        requires none { self.old.guard.state.open_order ≡ No }
         requires asked { IsAsk self.old.guard.state ask }
         ensures answer { IfOk result (λ text. Moves (state_in D.faults self.old) ask text.items (state_in D.faults self.new)) }
         ensures memory { OnErr result (MovesOrNot (state_in D.faults self.old) ask (state_in D.faults self.new)) }
         ensures proceeds { Proceeds D.Disk self.old.guard self.new.guard }
+        ensures none { self.new.guard.state.open_order ≡ No }
+        ensures key { self.new.key ≡ self.old.key }
     {
         match carry_out(&mut self.guard, ask) {
             Ok(outcome) => outcome_text(self.alloc, b"moved", &outcome),
@@ -221,9 +246,12 @@ impl<M: Mechanism, D: Disk> GuardPlayer<M, D> {
     }
 
     fn dispense(&mut self, token: &Given, counts: &Counts) -> Result<Vec<u8>, Memory>
+        requires { self.old.guard.state.open_order ≡ No }
         ensures answer { IfOk result (λ text. DispensesFor (state_in D.faults self.old) token.now counts.now text.items (state_in D.faults self.new)) }
         ensures memory { OnErr result (LeavesOfVerb (state_in D.faults self.old) (Dispense token.now counts.now) (state_in D.faults self.new)) }
         ensures proceeds { Proceeds D.Disk self.old.guard self.new.guard }
+        ensures none { self.new.guard.state.open_order ≡ No }
+        ensures key { self.new.key ≡ self.old.key }
     {
         let grant = match self.allow(token, counts) {
             Ok(grant) => grant,
@@ -237,10 +265,13 @@ impl<M: Mechanism, D: Disk> GuardPlayer<M, D> {
 
     // The grant to stack these notes on the token that the line names.
     fn allow(&mut self, token: &Given, counts: &Counts) -> Result<Grant, Refusal>
+        requires { self.old.guard.state.open_order ≡ No }
         ensures allowed { IfRemembered result (IsAllowedFor (state_in D.faults self.old) token.now counts.now result (state_in D.faults self.new)) }
         ensures same { IfErr result (λ r. r ≢ Denied Deny.Disk → self.new.guard ≡ self.old.guard) }
         ensures proceeds { Proceeds D.Disk self.old.guard self.new.guard }
+        ensures none { self.new.guard.state.open_order ≡ No }
         ensures last { self.new.last ≡ self.old.last }
+        ensures key { self.new.key ≡ self.old.key }
     {
         let notes = Notes::Individual(Named::These(*counts));
         grant_to_stack(

@@ -63,7 +63,7 @@ pub returns-in-Err-clause-none : goal.returns-in-Err-clause-none
 returns-in-Err-clause-none g c =
     let w = c.in-Err.ensures in
     let kept = ap (λ (v : View). v.open_order) c.in_ok-outcome.ensures.ok.same in
-    none-err (Unit {0}) c.load.new.self c.note_load.new.self _ c.in-Err.deny w.writes.disk w.writes.same (kept ∙ c.args.self.now.none)
+    none-err (Unit {0}) c.load.new.self c.note_load.new.self _ c.in-Err.deny w.writes.disk w.writes.same (kept ∙ c.requires.none)
 
 pub returns-then-outcome-clause-memory : goal.returns-then-outcome-clause-memory
 returns-then-outcome-clause-memory g c =

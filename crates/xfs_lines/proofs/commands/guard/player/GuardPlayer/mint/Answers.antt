@@ -16,5 +16,5 @@ returns-clause-memory g c =
     let v = c.args.self.now.guard.state in
     on-err _ _ (inr (
       codes "token " ++ c.in-Ok.token.items,
-      mints-made (guard_state g.D.Disk.faults c.args.self.now.guard c.args.self.now.last) (live_in v.boot_missing v.records) c.in-Some.nonce c.args.amounts.now c.args.self.now.key c.in-Ok.token.items c.new.result (sym c.live.ensures ∙ c.in-Some.is) c.args.self.now.keyed c.in-Ok.ensures.ok c.new.ensures,
+      mints-made (guard_state g.D.Disk.faults c.args.self.now.guard c.args.self.now.last) (live_in v.boot_missing v.records) c.in-Some.nonce c.args.amounts.now c.args.self.now.key c.in-Ok.token.items c.new.result (sym c.live.ensures ∙ c.in-Some.is) c.requires.key c.in-Ok.ensures.ok c.new.ensures,
     ))
