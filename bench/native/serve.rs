@@ -9,12 +9,14 @@
 //!
 //! Over std alone, so the handshake is the sample of RFC 6455, section 1.3. The server has the turns of `xfs serve`: a thread a connection,
 //! one lock around the machine, which a session takes for each text, each step of work and each look at its frames; three workers and the
-//! loop of the doors, which pause longer each time there is nothing to do; and the same reads, writes, records and syncs: the frames
+//! loop of the doors, which pause longer each time there is nothing to do, and workers wake by a post; and the same reads, writes, records and syncs: the frames
 //! that answer a text leave in one write.
 #[path = "serving/asker.rs"]
 mod asker;
 #[path = "serving/backoff.rs"]
 mod backoff;
+#[path = "serving/bell.rs"]
+mod bell;
 #[path = "serving/file_journal.rs"]
 mod file_journal;
 #[path = "serving/handshake.rs"]

@@ -1,6 +1,7 @@
 //! The server: its doors, its sessions and its workers.
 
 use crate::backoff::Backoff;
+use crate::bell::Bell;
 use crate::file_journal::FileJournal;
 use crate::link::Link;
 use crate::machine::{Machine, NONE};
@@ -11,10 +12,12 @@ use std::sync::{Mutex, MutexGuard};
 use std::thread::{self, Scope};
 use std::time::{Duration, Instant};
 
+// The place of the dispenser's port.
+const CASH: usize = 3;
 const JOURNAL: &str = "xfs.journal";
 const LIFE_MILLIS: u64 = 600_000;
 // The longest pauses, in milliseconds.
-const LONGEST_OF_A_WORKER: u64 = 9;
+const LONGEST_OF_A_WORKER: u64 = 50;
 const LONGEST_AT_THE_DOORS: u64 = 16;
 const MOST_TURNS: u64 = 4_294_967_296;
 // So that a server that is forgotten ends.
@@ -25,6 +28,8 @@ struct Hall {
     machine: Mutex<Machine<FileJournal>>,
     begun: Instant,
     ended: AtomicBool,
+    // Of the workers, in the order of their ports behind the first.
+    bells: [Bell; 3],
 }
 
 impl Hall {
@@ -44,8 +49,9 @@ impl Hall {
         self.lock().clients.retain(|other| other.number != client);
     }
 
-    fn post(&self, client: u32, text: &[u8]) {
+    fn post(&self, client: u32, text: &[u8], bell: Option<&Bell>) {
         self.lock().post(client, text);
+        bell.inspect(|bell| bell.ring());
     }
 
     /// One step of the work of a service, of which the dispenser alone has some.
@@ -73,11 +79,12 @@ impl Hall {
 }
 
 /// Serves one connection until it ends.
-fn converse(hall: &Hall, client: u32, is_cash: bool, stream: TcpStream) -> Result<()> {
+fn converse(hall: &Hall, client: u32, place: usize, stream: TcpStream) -> Result<()> {
     let mut link = Link::open(stream)?;
+    let (is_cash, bell) = (place == CASH, place.checked_sub(1).map(|worker| &hall.bells[worker]));
     for _ in 0..MOST_TURNS {
         if let Some(text) = link.take()? {
-            hall.post(client, &text);
+            hall.post(client, &text, bell);
         }
         hall.work(is_cash);
         for frame in hall.outbox(client) {
@@ -88,17 +95,19 @@ fn converse(hall: &Hall, client: u32, is_cash: bool, stream: TcpStream) -> Resul
 }
 
 /// A session, whose connection may end as it will.
-fn session(hall: &Hall, client: u32, is_cash: bool, stream: TcpStream) {
-    if hall.connect(client, is_cash) {
-        let _ended = converse(hall, client, is_cash, stream);
+fn session(hall: &Hall, client: u32, place: usize, stream: TcpStream) {
+    if hall.connect(client, place == CASH) {
+        let _ended = converse(hall, client, place, stream);
         hall.leave(client);
     }
 }
 
 /// Tends a device, until the server ends.
-fn tend(hall: &Hall, is_cash: bool) {
-    let mut backoff = Backoff::up_to(LONGEST_OF_A_WORKER);
+fn tend(hall: &Hall, place: usize) {
+    let is_cash = place == CASH;
+    let mut backoff = Backoff::up_to(LONGEST_OF_A_WORKER, &hall.bells[place - 1]);
     while !hall.ended.load(Ordering::SeqCst) {
+        backoff.begin_look();
         let is_wanted = hall.wants(is_cash);
         if is_wanted {
             hall.take();
@@ -120,15 +129,17 @@ fn listen(port: u16) -> Result<TcpListener> {
 /// Takes connections until all have come, with a session for each.
 fn take_all<'a>(sessions: &'a Scope<'a, '_>, hall: &'a Hall, listeners: &[TcpListener], count: u32) -> Result<()> {
     let mut taken = 0;
-    let mut backoff = Backoff::up_to(LONGEST_AT_THE_DOORS);
+    let bell = Bell::default();
+    let mut backoff = Backoff::up_to(LONGEST_AT_THE_DOORS, &bell);
     while taken < count && hall.begun.elapsed() < LONGEST {
         let before = taken;
+        backoff.begin_look();
         for (place, listener) in listeners.iter().enumerate() {
             match listener.accept() {
                 Ok((stream, _)) => {
                     taken += 1;
-                    let (client, is_cash) = (taken, place + 1 == listeners.len());
-                    sessions.spawn(move || session(hall, client, is_cash, stream));
+                    let client = taken;
+                    sessions.spawn(move || session(hall, client, place, stream));
                 }
                 Err(error) if error.kind() == ErrorKind::WouldBlock => {}
                 Err(error) => return Err(error),
@@ -146,14 +157,15 @@ fn take_all<'a>(sessions: &'a Scope<'a, '_>, hall: &'a Hall, listeners: &[TcpLis
 pub fn serve(count: u32, ports: [u16; 4]) -> Result<()> {
     let listeners = ports.iter().map(|port| listen(*port)).collect::<Result<Vec<TcpListener>>>()?;
     let machine = Machine::boot(FileJournal::create(JOURNAL)?, Some(LIFE_MILLIS));
-    let hall = Hall { machine: Mutex::new(machine), begun: Instant::now(), ended: AtomicBool::new(false) };
+    let hall = Hall { machine: Mutex::new(machine), begun: Instant::now(), ended: AtomicBool::new(false), bells: Default::default() };
     thread::scope(|workers| {
-        for is_cash in [false, false, true] {
+        for place in 1..=CASH {
             let hall = &hall;
-            workers.spawn(move || tend(hall, is_cash));
+            workers.spawn(move || tend(hall, place));
         }
         let taken = thread::scope(|sessions| take_all(sessions, &hall, &listeners, count));
         hall.ended.store(true, Ordering::SeqCst);
+        hall.bells.iter().for_each(Bell::ring);
         taken
     })
 }

@@ -2,6 +2,8 @@
 #![tactic(auto)]
 
 #[cfg(test)]
+mod bell_calls;
+#[cfg(test)]
 mod lists;
 #[cfg(test)]
 mod servers;

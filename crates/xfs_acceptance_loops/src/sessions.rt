@@ -8,7 +8,7 @@ use std::test::Fail;
 use xfs_base::{ClientId, Clock, FixedClock, Memory, Moment, Service};
 use xfs_mech::{KeyName, SimWatch, Touch};
 use xfs_server::{
-    DialFault, Door, Doors, Gate, GateAt, Link, MemBoard, MemDoors, MemLink, MemTended, Over,
+    Bell, DialFault, Door, Doors, Gate, GateAt, Link, MemBoard, MemDoors, MemLink, MemTended, Over,
     Over2, Taking, serve_client, tend,
 };
 
@@ -177,7 +177,7 @@ fn tale_of<R: Wait>(rt: &R, alloc: Global, trial: Trial) -> Result<Option<Tale>,
     let clock = CountingClock {
         pauses: AtomicU64::new(0),
     };
-    let over = tend(rt, &mut board, &mut watch, &clock);
+    let over = tend(rt, &mut board, &mut watch, &clock, &Bell::new());
     if over != Over2::Done || !begins_with_the_key(board.touches_made()) {
         return Ok(None);
     }

@@ -7,7 +7,7 @@ use xfs_board::{Caller, LockName};
 use xfs_disk::Disk;
 use xfs_machine::{Pass, Reading, Work};
 use xfs_mech::{Mechanism, SimWatch};
-use xfs_server::{Board, Link, OpenGate, Over, Over2, Tended, serve_client, tend};
+use xfs_server::{Bell, Board, Link, OpenGate, Over, Over2, Tended, serve_client, tend};
 
 /// A connection to a service. None where there is no room for it.
 pub fn joined<N: LockName, M: Mechanism, D: Disk, R: Wait>(
@@ -78,5 +78,5 @@ pub fn works_on<R: Wait, B: Tended, C: Clock>(
     watch: &mut SimWatch,
     clock: &C,
 ) -> Over2 {
-    tend(rt, board, watch, clock)
+    tend(rt, board, watch, clock, &Bell::new())
 }

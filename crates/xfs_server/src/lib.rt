@@ -3,6 +3,7 @@
 #![tactic(auto)]
 
 mod backoff;
+mod bell;
 mod board;
 mod doors;
 mod gate;
@@ -16,6 +17,7 @@ mod tended;
 mod worker;
 
 pub use backoff::Backoff;
+pub use bell::Bell;
 pub use board::{Board, Work2};
 pub use doors::{DialFault, Door, Doors};
 pub use gate::{Gate, GateAt, OpenGate};

@@ -1,13 +1,13 @@
 ghost use Rattle.std.specs.Prelude.{OnOk, OnErr, IfErr};
 ghost use Rattle.xfs_server.specs.Workers.{CannotSense, HaltsRound, MakesRound, Senses, Tending, view};
 
-use crate::{Backoff, Tended, Work2};
+use crate::{Backoff, Bell, Tended, Work2};
 use std::sync::Wait;
 use xfs_base::{Clock, Memory};
 use xfs_mech::{News, Watch};
 
-// The longest pause of a worker, in milliseconds: by so much later it sees that news is wanted.
-const LONGEST_PAUSE: u64 = 9;
+// The longest pause of a worker, in milliseconds. A post ends it.
+const LONGEST_PAUSE: u64 = 50;
 
 /// How a worker ended.
 #[derive(Clone, Copy, Debug, PartialEq, Eq)]
@@ -31,17 +31,20 @@ enum Found {
 
 /// Tends one device: each round asks whether it is to end and whether news is wanted, hands on one news
 /// of the watch where it is, and turns the board once. It pauses after a round without a touch in which
-/// the board had nothing to do, and longer after many in which no news was wanted either.
+/// the board had nothing to do, and longer after many in which no news was wanted either, if the bell
+/// doesn't ring.
 pub fn tend<R: Wait, B: Tended, W: Watch, C: Clock>(
     rt: &R,
     board: &mut B,
     watch: &mut W,
     clock: &C,
+    bell: &Bell,
 ) -> Over2
     ensures { Tending result (W.coming watch.old) (W.coming watch.new) (W.faults watch.old) (W.faults watch.new) (B.log board.old) (B.log board.new) }
 {
-    let mut backoff = Backoff::up_to(LONGEST_PAUSE);
+    let mut backoff = Backoff::up_to(LONGEST_PAUSE, bell);
     for _ in rt.forever() {
+        backoff.begin_look();
         match make_round(board, watch) {
             Ok(Found::Work) => backoff.reset(),
             Ok(Found::NoNews) => {

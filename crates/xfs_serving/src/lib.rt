@@ -5,6 +5,7 @@
 mod backend;
 mod ending;
 mod hall;
+mod ringing;
 mod server;
 mod session;
 mod staff;

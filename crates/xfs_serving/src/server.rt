@@ -15,7 +15,7 @@ use std::thread;
 use std::thread::{Scope, Threads};
 use xfs_base::{Clock, Memory};
 use xfs_mech::Watch;
-use xfs_server::{Backoff, Door, Doors, Gate};
+use xfs_server::{Backoff, Bell, Door, Doors, Gate};
 
 // The longest pause at the doors, in milliseconds: by so much later a connection is let in.
 const LONGEST_PAUSE: u64 = 16;
@@ -125,7 +125,7 @@ where
     let mut staff = Staff::open(scope, hall, backend, jobs);
     let ending = take_all(scope, hall, count, &mut staff, doors);
     staff.drain(hall);
-    let backend = staff.dismiss(hall.rt);
+    let backend = staff.dismiss(hall);
     (after_workers(ending, hall.signals), backend)
 }
 
@@ -153,11 +153,14 @@ where
     ensures seen { IsPrefix (H.seen staff.old.backend) (H.seen staff.new.backend) }
 {
     let mut taken = 0;
-    let mut backoff = Backoff::up_to(LONGEST_PAUSE);
+    // Nobody rings it.
+    let bell = Bell::new();
+    let mut backoff = Backoff::up_to(LONGEST_PAUSE, &bell);
     for _ in hall.rt.forever() {
         if taken == count {
             return Ending::Served;
         }
+        backoff.begin_look();
         match door_turn(scope, hall, staff, doors) {
             Ok(true) => {
                 taken += 1;
@@ -210,7 +213,7 @@ where
 }
 
 // Nobody came. The pauses stay short where the loop makes the rounds of a worker.
-fn await_visitor<R: Wait, C: Clock, G>(hall: &Hall<R, C, G>, backoff: &mut Backoff) {
+fn await_visitor<R: Wait, C: Clock, G>(hall: &Hall<R, C, G>, backoff: &mut Backoff<'_>) {
     if hall.signals.is_any_here() {
         hall.clock.pause();
     } else {

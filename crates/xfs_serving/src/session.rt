@@ -1,6 +1,7 @@
 ghost use Rattle.xfs_serving.specs.Sessions.{ServesAndLeaves};
 
 use crate::backend::Backend;
+use crate::ringing::Ringing;
 use std::alloc::Global;
 use std::sync::Arc;
 use std::sync::atomic::{AtomicBool, Ordering};
@@ -18,16 +19,16 @@ pub(crate) struct Running<T: Drop> {
 /// Serves one connection to its end. It leaves before its link is let go.
 pub(crate) fn session<H: Backend, L: Link, C: Clock, G: Gate>(
     mut link: L,
-    mut board: H::Board,
+    mut board: Ringing<'_, H::Board>,
     clock: &C,
     gate: &G,
     client: ClientId,
     ended: Arc<AtomicBool, Global>,
 ) -> H::Left
-    ensures { ServesAndLeaves H.Board.log H.leaves (L.log link) board result }
+    ensures { ServesAndLeaves H.Board.log H.leaves (L.log link) board.entry.board result }
 {
     let _over = serve_client(&mut link, &mut board, gate, clock, client);
-    let left = H::leave(board);
+    let left = H::leave(board.into_board());
     drop(link);
     ended.store(true, Ordering::SeqCst);
     left

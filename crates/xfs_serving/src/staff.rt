@@ -3,6 +3,7 @@ ghost use mathlib.Core.List.{IsPrefix};
 
 use crate::backend::{Backend, Refusal};
 use crate::hall::{Hall, Signals};
+use crate::ringing::Ringing;
 use crate::session::{Running, session};
 use crate::watches::{CardWatch, KeyWatch};
 use crate::worker::{Job, Worker};
@@ -30,24 +31,39 @@ impl<B: Drop, P: Watch, Q: Watch> Jobs<B, P, Q> {
     ) -> Result<Jobs<B, P, Q>, Memory>
         ensures { IsPrefix (H.seen backend.old) (H.seen backend.new) }
     {
-        let card_board = backend.worker(Service::Card)?;
-        let key_board = backend.worker(Service::Keys)?;
-        let note_board = backend.worker(Service::Cash)?;
-        let (CardWatch(cards), KeyWatch(keys)) = (cards, keys);
-        Ok(Jobs {
-            cards: Job {
-                board: card_board,
-                watch: cards,
-            },
-            keys: Job {
-                board: key_board,
-                watch: keys,
-            },
-            notes: Job {
-                board: note_board,
-                watch: TakerWatch,
-            },
-        })
+        let boards = boards_of(backend)?;
+        Ok(jobs_at(boards, cards, keys))
+    }
+}
+
+// What stands behind the workers of the card slot, the key pad and the outlet.
+fn boards_of<H: Backend>(backend: &mut H) -> Result<(H::Tended, H::Tended, H::Tended), Memory>
+    ensures { IsPrefix (H.seen backend.old) (H.seen backend.new) }
+{
+    let cards = backend.worker(Service::Card)?;
+    let keys = backend.worker(Service::Keys)?;
+    let notes = backend.worker(Service::Cash)?;
+    Ok((cards, keys, notes))
+}
+
+fn jobs_at<B: Drop, P: Watch, Q: Watch>(
+    boards: (B, B, B),
+    cards: CardWatch<P>,
+    keys: KeyWatch<Q>,
+) -> Jobs<B, P, Q> {
+    Jobs {
+        cards: Job {
+            board: boards.0,
+            watch: cards.0,
+        },
+        keys: Job {
+            board: boards.1,
+            watch: keys.0,
+        },
+        notes: Job {
+            board: boards.2,
+            watch: TakerWatch,
+        },
     }
 }
 
@@ -79,9 +95,9 @@ impl<H: Backend + Send, P: Watch + Send, Q: Watch + Send> Staff<H, P, Q> {
         Staff {
             backend,
             sessions: Vec::new(hall.alloc),
-            cards: Worker::start(scope, hall, cards, &signals.cards_here),
-            keys: Worker::start(scope, hall, keys, &signals.keys_here),
-            notes: Worker::start(scope, hall, notes, &signals.notes_here),
+            cards: Worker::start(scope, hall, cards, &signals.cards),
+            keys: Worker::start(scope, hall, keys, &signals.keys),
+            notes: Worker::start(scope, hall, notes, &signals.notes),
         }
     }
 
@@ -107,6 +123,7 @@ impl<H: Backend + Send, P: Watch + Send, Q: Watch + Send> Staff<H, P, Q> {
             Err(Refusal::Memory) => return Err(Memory),
         };
         let (clock, gate) = (hall.clock, hall.gate);
+        let board = Ringing::new(board, hall.signals.bell_of(service));
         match scope.spawn(move || session::<H, L, C, G>(link, board, clock, gate, client, theirs)) {
             Ok(handle) => self.sessions.push_reserved(Running { handle, ended }),
             Err(refused) => self.backend.take_back((refused.value)()),
@@ -149,7 +166,7 @@ impl<H: Backend + Send, P: Watch + Send, Q: Watch + Send> Staff<H, P, Q> {
     }
 
     /// Has the workers end, and hands out what has taken all back.
-    pub fn dismiss<R: Threads>(self, rt: &R) -> H
+    pub fn dismiss<R: Threads, C, G>(self, hall: &Hall<R, C, G>) -> H
         ensures seen { IsPrefix (H.seen self.backend) (H.seen result) }
     {
         let Staff {
@@ -160,9 +177,10 @@ impl<H: Backend + Send, P: Watch + Send, Q: Watch + Send> Staff<H, P, Q> {
             notes,
         } = self;
         backend.close();
-        backend.take_back(H::retire(cards.end(rt)));
-        backend.take_back(H::retire(keys.end(rt)));
-        backend.take_back(H::retire(notes.end(rt)));
+        hall.signals.ring_all();
+        backend.take_back(H::retire(cards.end(hall.rt)));
+        backend.take_back(H::retire(keys.end(hall.rt)));
+        backend.take_back(H::retire(notes.end(hall.rt)));
         backend
     }
 }

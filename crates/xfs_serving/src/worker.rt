@@ -1,6 +1,6 @@
 ghost use Rattle.xfs_serving.specs.Workers.{TendsOrReturns};
 
-use crate::hall::Hall;
+use crate::hall::{Hall, WorkerSignals};
 use std::sync::Wait;
 use std::sync::atomic::{AtomicBool, Ordering};
 use std::thread::{JoinHandle, Scope, Threads};
@@ -23,22 +23,22 @@ pub(crate) enum Worker<B: Drop, W: Drop> {
 }
 
 impl<B: Tended + Send + Drop, W: Watch + Send> Worker<B, W> {
-    /// Starts a worker. `here` is its own signal.
+    /// Starts a worker, whose signals these are.
     pub fn start<'s, E, R: Wait + Sync, C: Clock + Sync, G: Sync>(
         scope: &Scope<'s, E>,
         hall: &Hall<'s, R, C, G>,
         job: Job<B, W>,
-        here: &'s AtomicBool,
+        signals: &'s WorkerSignals,
     ) -> Worker<B, W>
     where
         B: 's,
         W: 's,
     {
         let (rt, clock, starved) = (hall.rt, hall.clock, &hall.signals.starved);
-        match scope.spawn(move || work(rt, clock, job, starved, here)) {
+        match scope.spawn(move || work(rt, clock, job, starved, signals)) {
             Ok(handle) => Worker::Started(handle),
             Err(refused) => {
-                here.store(true, Ordering::SeqCst);
+                signals.here.store(true, Ordering::SeqCst);
                 Worker::Here((refused.value)())
             }
         }
@@ -70,14 +70,15 @@ fn work<R: Wait, B: Tended + Drop, W: Watch, C: Clock>(
     clock: &C,
     mut job: Job<B, W>,
     starved: &AtomicBool,
-    here: &AtomicBool,
+    signals: &WorkerSignals,
 ) -> Job<B, W>
     ensures { TendsOrReturns B.log W.coming W.faults job result }
 {
-    if here.load(Ordering::SeqCst) {
+    if signals.here.load(Ordering::SeqCst) {
         return job;
     }
-    if tend(rt, &mut job.board, &mut job.watch, clock) == Over2::Memory {
+    let over = tend(rt, &mut job.board, &mut job.watch, clock, &signals.bell);
+    if over == Over2::Memory {
         starved.store(true, Ordering::SeqCst);
     }
     job
