@@ -146,8 +146,13 @@ fn a_lost_done_is_unsettled(rt: HostRuntime) -> Result<(), Fail> {
 fn a_host_reads_an_evidence_alone(rt: HostRuntime) -> Result<(), Fail> {
     let alloc = rt.alloc();
     for row in CHECKED.lines() {
-        let (text, due) = row.split_once(" => ").ok_or("an arrow")?;
-        assert_eq!(rt; told(alloc, text)?.as_str(), due, "{text}");
+        assert!(rt; is_told(alloc, row)?, "{row}");
     }
     Ok(())
+}
+
+// Whether a host reads in a row's text what the row says.
+fn is_told(alloc: Global, row: &str) -> Result<bool, Fail> {
+    let (text, due) = row.split_once(" => ").ok_or("an arrow")?;
+    Ok(told(alloc, text)?.as_str() == due)
 }

@@ -330,7 +330,7 @@ fn answers_over(rt: &impl Abort, alloc: Global, limits: Limits, rows: &str) -> R
     let (failing, rows) = rows.split_once("\n").ok_or("rows")?;
     let units = units()?;
     let mech = sim(alloc, &units)?;
-    let failing = numbers(alloc, failing)?;
+    let failing = numbers(alloc, failing).ok_or("numbers")?;
     let guard = guard_over(alloc, mech, units, limits, failing.as_slice())?;
     Teller::new(alloc, guard).plays(rt, rows)
 }

@@ -124,11 +124,15 @@ fn text_of(word: &str) -> &str {
 #[test]
 fn a_withdrawal_and_each_of_its_ends(rt: HostRuntime) -> Result<(), Fail> {
     for row in ENDS.lines() {
-        let (words, due) = halves(row);
-        let said = last_answer(rt.alloc(), words)?;
-        assert_eq!(rt; said.as_str(), text_of(due), "{words}");
+        assert!(rt; says(rt.alloc(), row)?, "{row}");
     }
     Ok(())
+}
+
+// Whether a withdrawal that hears a row's words says what the row says.
+fn says(alloc: Global, row: &str) -> Result<bool, Fail> {
+    let (words, due) = halves(row);
+    Ok(last_answer(alloc, words)?.as_str() == text_of(due))
 }
 
 // Nonces, and whether a client takes them.
@@ -139,13 +143,18 @@ const NONCES: &str = "\"0\" => true
 0 => false
 null => false";
 
-fn takes(rt: &impl Abort, alloc: Global, nonce: &str, due: bool) -> Result<(), Fail> {
+// Whether a client takes a nonce.
+fn takes(alloc: Global, nonce: &str) -> Result<bool, Fail> {
     let text = format!(in alloc;
         "{{\"header\":{{\"type\":\"completion\",\"name\":\"A.B\",\"requestId\":1,\"completionCode\":\"success\"}},\"payload\":{{\"commandNonce\":{nonce}}}}}"
     )?;
-    let answer = last_answer(alloc, text.as_str())?;
-    assert!(rt; (answer.as_str() != "Shape") == due, "{nonce}");
-    Ok(())
+    Ok(last_answer(alloc, text.as_str())?.as_str() != "Shape")
+}
+
+// Whether it takes one of so many digits.
+fn takes_long(alloc: Global, digits: usize) -> Result<bool, Fail> {
+    let nonce = format!(in alloc; "\"{}\"", "A".repeat(alloc, digits)?)?;
+    takes(alloc, nonce.as_str())
 }
 
 #[test]
@@ -153,12 +162,9 @@ fn a_nonce_is_1_to_128_upper_case_digits(rt: HostRuntime) -> Result<(), Fail> {
     let alloc = rt.alloc();
     for row in NONCES.lines() {
         let (nonce, due) = halves(row);
-        takes(&rt, alloc, nonce, due == "true")?;
+        assert!(rt; takes(alloc, nonce)? == (due == "true"), "{nonce}");
     }
-    for (digits, due) in [(128, true), (129, false)] {
-        let nonce = format!(in alloc; "\"{}\"", "A".repeat(alloc, digits)?)?;
-        takes(&rt, alloc, nonce.as_str(), due)?;
-    }
+    assert!(rt; takes_long(alloc, 128)? && !takes_long(alloc, 129)?);
     Ok(())
 }
 
@@ -221,10 +227,15 @@ const HEARD_OF_THREE: &str =
 
 fn hears(rt: &impl Abort, alloc: Global, desk: &mut Desk, rows: &str) -> Result<(), Fail> {
     for row in rows.lines() {
-        let (text, due) = halves(row);
-        assert_eq!(rt; heard(alloc, desk, text)?.as_str(), due, "{text}");
+        assert!(rt; is_heard(alloc, desk, row)?, "{row}");
     }
     Ok(())
+}
+
+// Whether a desk hears of a row's text what the row says.
+fn is_heard(alloc: Global, desk: &mut Desk, row: &str) -> Result<bool, AllocError> {
+    let (text, due) = halves(row);
+    Ok(heard(alloc, desk, text)?.as_str() == due)
 }
 
 // A desk that asked so many times.

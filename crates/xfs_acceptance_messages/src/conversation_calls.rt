@@ -16,7 +16,7 @@ fn request_ids_go_from_1_to_2147483647(rt: HostRuntime) {
         (2147483648, false),
         (u64::MAX, false),
     ] {
-        assert_eq!(rt; is_request_id(id), answer, "{id}");
+        assert!(rt; is_request_id(id) == answer, "{id}");
     }
 }
 

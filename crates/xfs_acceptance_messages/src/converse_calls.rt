@@ -178,8 +178,7 @@ fn are_found(alloc: Global, texts: &str, frames: &str, pending: &str) -> Result<
 fn frames_are_what_the_texts_may_hear(rt: HostRuntime) -> Result<(), Fail> {
     for row in ROWS.lines() {
         let (lists, due) = halves(row);
-        let kept = found(rt.alloc(), lists)?;
-        assert_eq!(rt; if kept { "true" } else { "false" }, due, "{row}");
+        assert!(rt; found(rt.alloc(), lists)? == (due == "true"), "{row}");
     }
     Ok(())
 }

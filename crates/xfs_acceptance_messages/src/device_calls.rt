@@ -62,6 +62,12 @@ fn stepped(alloc: Global, events: &str) -> Result<String, Fail> {
     Ok(format!(in alloc; "{effect}, {place}")?)
 }
 
+// Whether a row's events end as the row says.
+fn is_stepped(alloc: Global, row: &str) -> Result<bool, Fail> {
+    let (events, due) = halves(row);
+    Ok(stepped(alloc, events)?.as_str() == due)
+}
+
 fn last_effect(alloc: Global, state: &mut CardState, events: &str) -> Result<String, Fail> {
     let mut effect = String::new(alloc);
     for name in events.split(' ') {
@@ -79,8 +85,7 @@ fn effect_of(alloc: Global, state: &mut CardState, name: &str) -> Result<String,
 #[test]
 fn steps_that_the_machine_never_takes(rt: HostRuntime) -> Result<(), Fail> {
     for row in STEPS.lines() {
-        let (events, due) = halves(row);
-        assert_eq!(rt; stepped(rt.alloc(), events)?.as_str(), due, "{events}");
+        assert!(rt; is_stepped(rt.alloc(), row)?, "{row}");
     }
     Ok(())
 }

@@ -41,6 +41,12 @@ fn told(alloc: Global, text: &[u8]) -> Result<String, AllocError> {
     }
 }
 
+// Whether a row's text is read as the row says.
+fn is_told(alloc: Global, row: &str) -> Result<bool, AllocError> {
+    let (text, due) = halves(row);
+    Ok(told(alloc, text.as_bytes())?.as_str() == due)
+}
+
 fn command_text(alloc: Global, command: &Envelope) -> Result<String, AllocError> {
     let payload = command.payload.to_string(alloc)?;
     let name = command.name.as_str();
@@ -50,8 +56,7 @@ fn command_text(alloc: Global, command: &Envelope) -> Result<String, AllocError>
 #[test]
 fn the_first_fault_is_named(rt: HostRuntime) -> Result<(), Fail> {
     for row in COMMANDS.lines() {
-        let (text, due) = halves(row);
-        assert_eq!(rt; told(rt.alloc(), text.as_bytes())?.as_str(), due, "{text}");
+        assert!(rt; is_told(rt.alloc(), row)?, "{row}");
     }
     assert!(rt; told(rt.alloc(), &[123, 255, 125])?.as_str() == "NotJson None");
     Ok(())
@@ -101,6 +106,12 @@ fn heard(alloc: Global, text: &str) -> Result<String, AllocError> {
     }
 }
 
+// Whether a row's text is to a client what the row says.
+fn is_heard(alloc: Global, row: &str) -> Result<bool, AllocError> {
+    let (text, due) = halves(row);
+    Ok(heard(alloc, text)?.as_str() == due)
+}
+
 fn answer_text(alloc: Global, answer: &Answer) -> Result<String, AllocError> {
     match answer {
         Answer::Acknowledge { id, status, .. } => {
@@ -115,8 +126,7 @@ fn answer_text(alloc: Global, answer: &Answer) -> Result<String, AllocError> {
 #[test]
 fn a_client_reads_answers_and_nothing_else(rt: HostRuntime) -> Result<(), Fail> {
     for row in ANSWERS.lines() {
-        let (text, due) = halves(row);
-        assert_eq!(rt; heard(rt.alloc(), text)?.as_str(), due, "{text}");
+        assert!(rt; is_heard(rt.alloc(), row)?, "{row}");
     }
     Ok(())
 }

@@ -70,14 +70,18 @@ const NUMBERS: &str = "{} => Ok(None)
 {\"n\":\"1\"} => Err(Shape)";
 
 #[test]
-fn a_whole_number_has_no_point_exponent_or_minus(rt: HostRuntime) -> Result<(), Fail> {
+fn a_whole_number_has_no_point_exponent_or_minus(rt: HostRuntime) {
     for row in NUMBERS.lines() {
-        let (text, due) = halves(row);
-        let value = parse(rt.alloc(), text.as_bytes()).ok().ok_or("JSON")?;
-        let told = format!(in rt.alloc(); "{:?}", whole(&value, "n", 0, u64::MAX))?;
-        assert_eq!(rt; told.as_str(), due, "{text}");
+        assert!(rt; is_number(rt.alloc(), row) == Some(true), "{row}");
     }
-    Ok(())
+}
+
+// Whether the number of a row's text is read as the row says.
+fn is_number(alloc: Global, row: &str) -> Option<bool> {
+    let (text, due) = halves(row);
+    let value = parse(alloc, text.as_bytes()).ok()?;
+    let told = format!(in alloc; "{:?}", whole(&value, "n", 0, u64::MAX)).ok()?;
+    Some(told.as_str() == due)
 }
 
 fn has_types(value: &Value) -> bool {
@@ -102,6 +106,6 @@ fn members_have_their_types(rt: HostRuntime) -> Result<(), Fail> {
 fn a_text_is_compact_and_its_members_are_in_order(rt: HostRuntime) -> Result<(), Fail> {
     let value = json!(in rt.alloc(); {"b": 1u64, "a": true})?;
     let written = text(rt.alloc(), &value).ok().ok_or("memory")?;
-    assert_eq!(rt; written.as_slice(), "{\"a\":true,\"b\":1}".as_bytes());
+    assert!(rt; written.as_slice() == "{\"a\":true,\"b\":1}".as_bytes());
     Ok(())
 }

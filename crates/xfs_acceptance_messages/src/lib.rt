@@ -1,10 +1,8 @@
-//! What only a call can show of bytes and of messages both ways: envelopes, asks, replies, conversations and devices, as tests.
+//! What only a call can show of messages both ways: envelopes, asks, replies, conversations and devices, as tests.
 #![tactic(auto)]
 
 #[cfg(test)]
 mod ask_calls;
-#[cfg(test)]
-mod base_calls;
 #[cfg(test)]
 mod client_calls;
 #[cfg(test)]

@@ -1,6 +1,9 @@
-//! What only a call can show of simulated devices and of the files of a working folder, as the program finds and makes them.
+//! What only a call can show of values and streams, of simulated devices, and of the files of a working folder, as the program finds and makes
+//! them.
 #![tactic(auto)]
 
+#[cfg(test)]
+mod base_calls;
 #[cfg(test)]
 mod bench_calls;
 #[cfg(test)]

@@ -1,7 +1,6 @@
 //! The motions that a journal stands for.
 
 use std::alloc::Global;
-use std::process::Abort;
 use std::test::Fail;
 use xfs_base::{Counts, Kind, Places};
 use xfs_guard::motions_of;
@@ -134,21 +133,24 @@ fn motions_told(alloc: Global, base: u64, records: &[Rec]) -> Result<String, Fai
     all_told(alloc, motions.as_slice())
 }
 
-// The records of a row give its motions.
-fn give(rt: &impl Abort, alloc: Global, row: &str) -> Result<(), Fail> {
-    let (base, row) = row.split_once(": ").ok_or("a colon")?;
-    let base = base.parse::<u64>().ok().ok_or("a number")?;
-    let (words, due) = row.split_once(" => ").ok_or("an arrow")?;
+// The base, the records and the motions of a row.
+fn parts_of(row: &str) -> Option<(u64, &str, &str)> {
+    let (base, row) = row.split_once(": ")?;
+    let (words, due) = row.split_once(" => ")?;
+    Some((base.parse::<u64>().ok()?, words, due))
+}
+
+// Whether the records of a row give its motions.
+fn give(alloc: Global, row: &str) -> Result<bool, Fail> {
+    let (base, words, due) = parts_of(row).ok_or("a row")?;
     let records = records_of(alloc, words)?;
-    let all = motions_told(alloc, base, &records)?;
-    assert_eq!(rt; all.as_str(), due, "{words}");
-    Ok(())
+    Ok(motions_told(alloc, base, &records)?.as_str() == due)
 }
 
 #[test]
 fn records_give_the_motions_that_they_tell_of(rt: HostRuntime) -> Result<(), Fail> {
     for row in ROWS.lines() {
-        give(&rt, rt.alloc(), row)?;
+        assert!(rt; give(rt.alloc(), row)?, "{row}");
     }
     Ok(())
 }

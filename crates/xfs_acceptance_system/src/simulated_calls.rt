@@ -16,12 +16,12 @@ use xfs_simulated::{
 fn the_machine_is_made(rt: HostRuntime) -> Result<(), Fail> {
     let alloc = rt.alloc();
     let units = units().ok_or("the units")?;
-    assert_eq!(rt; units.len(), 4);
+    assert!(rt; units.len() == 4);
     let mech = mechanism(alloc, &units, Vec::new(alloc)).ok_or("the mechanism")?;
     let core = core_on(mech, units, empty(alloc), LIMITS);
-    assert_eq!(rt; core.limits.records, 1_000_000);
-    assert_eq!(rt; core.limits.bytes, 17_179_869_184);
-    assert_eq!(rt; places(), full());
+    assert!(rt; core.limits.records == 1_000_000);
+    assert!(rt; core.limits.bytes == 17_179_869_184);
+    assert!(rt; places() == full());
     Ok(())
 }
 
@@ -34,11 +34,11 @@ fn secrets_are_64_digits_and_at_most_a_line_feed(rt: HostRuntime) {
     }
     for end in ["", "\n"] {
         let text = format!(in rt.alloc(); "{digits}{end}").expect(&rt, "memory");
-        assert_eq!(rt; secret_in(text.as_bytes()), Some(bytes), "{end:?}");
+        assert!(rt; secret_in(text.as_bytes()) == Some(bytes), "{end:?}");
     }
     for end in ["0", "00", "\n\n", "\r\n", " ", "\u{0}"] {
         let text = format!(in rt.alloc(); "{digits}{end}").expect(&rt, "memory");
-        assert_eq!(rt; secret_in(text.as_bytes()), None, "{end:?}");
+        assert!(rt; secret_in(text.as_bytes()) == None, "{end:?}");
     }
     for front in ["", "0", "\n", "0x", "-", "g"] {
         let rest = digits
@@ -47,7 +47,7 @@ fn secrets_are_64_digits_and_at_most_a_line_feed(rt: HostRuntime) {
             .expect(&rt, "digits");
         let rest = std::str::from_utf8(rest).expect(&rt, "digits");
         let text = format!(in rt.alloc(); "{front}{rest}").expect(&rt, "memory");
-        assert_eq!(rt; secret_in(text.as_bytes()), None, "{front:?}");
+        assert!(rt; secret_in(text.as_bytes()) == None, "{front:?}");
     }
 }
 
@@ -58,7 +58,7 @@ fn cards_come_and_are_taken(rt: HostRuntime) -> Result<(), Fail> {
         let News::Touch(Touch::CardIn(tracks)) = watch.next() else {
             return Err("a card".into());
         };
-        assert_eq!(rt; tracks.track(2), Some(b";1234".as_slice()));
+        assert!(rt; tracks.track(2) == Some(b";1234".as_slice()));
         assert!(rt; tracks.track(1).is_none() && tracks.track(3).is_none());
         assert!(rt; matches!(watch.next(), News::Touch(Touch::CardTaken)));
     }
@@ -80,7 +80,7 @@ fn entries_end_with_enter(rt: HostRuntime) -> Result<(), Fail> {
             let News::Touch(Touch::Key(pressed)) = watch.next() else {
                 return Err("a key".into());
             };
-            assert_eq!(rt; pressed, key);
+            assert!(rt; pressed == key);
         }
     }
     assert!(rt; matches!(watch.next(), News::Quiet));
@@ -173,7 +173,7 @@ fn the_machine_goes_on_where_its_journal_leaves_it(rt: HostRuntime) -> Result<()
     order_more(&mut journal)?;
     let core = resume_core(alloc, journal.end(), OWN, Vec::new(alloc))?;
     assert!(rt; has_gone_on(&core.mech));
-    assert_eq!(rt; core.life, 600_000);
+    assert!(rt; core.life == 600_000);
     Ok(())
 }
 
@@ -214,7 +214,7 @@ fn places_that_no_machine_has_are_not_taken(rt: HostRuntime) -> Result<(), Fail>
     for (count, moved) in [(10_001, 0), (1, 2), (4_000_000_001, 4_000_000_001)] {
         let journal = paid(alloc, count, moved)?;
         let core = resume_core(alloc, journal.end(), OWN, Vec::new(alloc))?;
-        assert_eq!(rt; core.mech.survey(), full(), "{count}");
+        assert!(rt; core.mech.survey() == full(), "{count}");
     }
     Ok(())
 }
@@ -225,7 +225,7 @@ fn a_disk_without_a_journal_has_a_full_machine(rt: HostRuntime) -> Result<(), Fa
     for bytes in [b"".as_slice(), &[0xff; 9], &[0xff; 10]] {
         let disk = MemDisk::new(alloc, Vec::from_slice(alloc, bytes)?);
         let core = resume_core(alloc, disk, OWN, Vec::new(alloc))?;
-        assert_eq!(rt; core.mech.survey(), full());
+        assert!(rt; core.mech.survey() == full());
         assert!(rt; core.mech.motions().is_empty());
         assert!(rt; bytes.len() < 10 || core.disk.bytes() == bytes);
     }
