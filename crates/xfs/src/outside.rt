@@ -11,7 +11,7 @@ use xfs_sockets::Ports;
 use xfs_start::{Folder, JOURNAL_FILE, KEY_FILE, SEED_FILE, StartFault};
 
 // The version of the program, as CHANGES.md has it.
-const VERSION: &str = "November 2026";
+const VERSION: &str = "December 2026";
 
 // The status of main where a port or a file can't be opened.
 const CANNOT_OPEN: u8 = 1;

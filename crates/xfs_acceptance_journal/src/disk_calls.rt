@@ -23,8 +23,8 @@ fn a_crash_loses_or_blots_what_no_sync_kept(rt: HostRuntime) -> Result<(), Fail>
     ] {
         let mut file = disk(alloc, &[1, 2, 3])?;
         assert!(rt; file.write_at(2, &[4, 5]).is_ok());
-        assert_eq!(rt; file.bytes(), [1, 2, 4, 5].as_slice());
-        assert_eq!(rt; file.crash(pick).bytes(), left, "pick {pick}");
+        assert!(rt; file.bytes() == [1, 2, 4, 5].as_slice());
+        assert!(rt; file.crash(pick).bytes() == left, "pick {pick}");
     }
     Ok(())
 }
@@ -39,8 +39,8 @@ fn a_sync_keeps_what_was_written_and_cut(rt: HostRuntime) -> Result<(), Fail> {
     let mut file = disk(rt.alloc(), &[1, 2, 3])?;
     assert!(rt; file.write_at(3, &[4, 5]).is_ok());
     assert!(rt; is_cut(&mut file));
-    assert_eq!(rt; file.bytes(), [1, 2, 3, 4, 0, 0].as_slice());
-    assert_eq!(rt; file.crash(0).bytes(), [1, 2, 3, 4].as_slice());
+    assert!(rt; file.bytes() == [1, 2, 3, 4, 0, 0].as_slice());
+    assert!(rt; file.crash(0).bytes() == [1, 2, 3, 4].as_slice());
     Ok(())
 }
 
@@ -79,7 +79,7 @@ fn a_call_fails_at_its_place(rt: HostRuntime) -> Result<(), Fail> {
     let failing = Vec::from_slice(rt.alloc(), &[2])?;
     let mut disk = FailDisk::new(disk(rt.alloc(), &[])?, failing);
     assert!(rt; syncs(&mut disk) == [true, false, true]);
-    assert_eq!(rt; disk.inner().bytes(), [].as_slice());
+    assert!(rt; disk.inner().bytes() == [].as_slice());
     Ok(())
 }
 
@@ -87,7 +87,7 @@ fn a_call_fails_at_its_place(rt: HostRuntime) -> Result<(), Fail> {
 fn calls_fail_from_a_place_on(rt: HostRuntime) -> Result<(), Fail> {
     let mut disk = FuseDisk::new(disk(rt.alloc(), &[])?, 1);
     assert!(rt; writes(&mut disk) == [true, false, false]);
-    assert_eq!(rt; disk.inner().bytes(), [1].as_slice());
+    assert!(rt; disk.inner().bytes() == [1].as_slice());
     Ok(())
 }
 
@@ -101,7 +101,7 @@ fn a_file_is_written_cut_synced_and_read(rt: HostRuntime) -> Result<(), Fail> {
     let mut page = [0; 8];
     assert!(rt; disk.len() == Ok(3));
     assert!(rt; disk.read(1, &mut page) == Ok(2));
-    assert_eq!(rt; page, [2, 3, 0, 0, 0, 0, 0, 0]);
+    assert!(rt; page == [2, 3, 0, 0, 0, 0, 0, 0]);
     assert!(rt; disk.read(3, &mut page) == Ok(0));
     fs::remove_file(&rt, "xfs_disk.test")?;
     Ok(())

@@ -39,7 +39,7 @@ fn version_in(alloc: Global, found: &[u8]) -> Result<Option<u8>, Fail> {
 fn a_file_has_any_version_and_only_a_1_is_carried_over(rt: HostRuntime) -> Result<(), Fail> {
     for version in 0..=255 {
         let due = if version == b'1' { b'2' } else { version };
-        assert_eq!(rt; carried(rt.alloc(), version)?, Some(due));
+        assert!(rt; carried(rt.alloc(), version)? == Some(due));
     }
     Ok(())
 }
@@ -82,9 +82,8 @@ fn fails_open<D: Disk>(journal: &mut Journal<D>) -> bool {
 fn a_journal_goes_on_behind_a_migrate_whose_disk_failed(rt: HostRuntime) -> Result<(), Fail> {
     for failing in 4..=5 {
         for pick in 0..8 {
-            assert_eq!(rt;
-                records_after(rt.alloc(), failing, pick)?,
-                3,
+            assert!(rt;
+                records_after(rt.alloc(), failing, pick)? == 3,
                 "call {failing}, pick {pick}"
             );
         }

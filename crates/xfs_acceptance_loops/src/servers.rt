@@ -338,8 +338,8 @@ fn a_server_ends_when_all_sessions_have_left(rt: HostRuntime) -> Result<(), Fail
     for case in table {
         let order = AtomicU64::new(0);
         let (ending, left) = play(&rt, alloc, case, &order)?;
-        assert_eq!(rt; ending, case.ending);
-        assert_eq!(rt; left, case.left);
+        assert!(rt; ending == case.ending);
+        assert!(rt; left == case.left);
     }
     Ok(())
 }
@@ -348,6 +348,6 @@ fn a_server_ends_when_all_sessions_have_left(rt: HostRuntime) -> Result<(), Fail
 fn a_session_leaves_before_its_link_is_let_go(rt: HostRuntime) -> Result<(), Fail> {
     let order = AtomicU64::new(0);
     play(&rt, rt.alloc(), plain(1, 1, Ending::Served, 1), &order)?;
-    assert_eq!(rt; order.load(Ordering::SeqCst), u64::from(LEFT * 10 + LET_GO));
+    assert!(rt; order.load(Ordering::SeqCst) == u64::from(LEFT * 10 + LET_GO));
     Ok(())
 }

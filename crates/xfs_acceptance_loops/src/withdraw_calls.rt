@@ -216,13 +216,13 @@ fn a_withdrawal_over_each_link(rt: HostRuntime) -> Result<(), Fail> {
         let withdrawn = withdraw(
             &rt, alloc, euro, 70, [0x0b; 32], &mut doors, &clock, &mut sink,
         );
-        assert_eq!(rt; withdrawn.ending.status(), case.status);
+        assert!(rt; withdrawn.ending.status() == case.status);
         assert!(rt; sink.bytes() == case.line.as_bytes());
         match &withdrawn.link {
             Some(link) => assert!(rt; are(link.sent(), case.asks)),
             None => assert!(rt; false),
         }
-        assert_eq!(rt; clock.pauses.load(Ordering::SeqCst), case.pauses);
+        assert!(rt; clock.pauses.load(Ordering::SeqCst) == case.pauses);
     }
     Ok(())
 }
@@ -261,9 +261,9 @@ fn doors_that_fail_and_a_sink_that_fails(rt: HostRuntime) -> Result<(), Fail> {
             &FixedClock(0),
             &mut sink,
         );
-        assert_eq!(rt; withdrawn.ending.status(), status);
+        assert!(rt; withdrawn.ending.status() == status);
         assert!(rt; sink.bytes() == written.as_bytes());
-        assert_eq!(rt; withdrawn.link.is_some(), dialled);
+        assert!(rt; withdrawn.link.is_some() == dialled);
     }
     Ok(())
 }
