@@ -2,7 +2,7 @@
 
 ghost use Rattle.std.specs.Prelude.{None};
 
-use std::alloc::Global;
+use std::alloc::{AllocError, Global};
 use std::cell::Cell;
 use std::test::Fail;
 use xfs_base::{Failed, MemSink, MemSource, Sink, Source};
@@ -30,8 +30,6 @@ impl Answerer for Echo {
       Leaves = λ _ _ _. ⊤;
       EndsAt = λ _ line _ _. line ≡ codes "end";
     } };
-
-    ghost IsReady = { λ _. ⊤ };
 
     ghost Keeps = { λ _ _. ⊤ };
 
@@ -62,6 +60,14 @@ impl Answerer for Echo {
     ghost is_line = { λ _ _ line output answer. answer.0 };
 }
 
+// Whether an input is answered so and ends so.
+fn ends(alloc: Global, input: &[u8], output: &[u8], due: Ending<u8>) -> Result<bool, AllocError> {
+    let mut source = MemSource::new(input.to_vec(alloc)?, Vec::new(alloc));
+    let mut sink = MemSink::new(alloc, Vec::new(alloc));
+    let ending = answer_lines(alloc, &mut Echo { alloc }, &mut source, &mut sink);
+    Ok(ending == due && sink.bytes() == output)
+}
+
 #[test]
 fn a_run_ends_with_its_input_or_at_a_line(rt: HostRuntime) -> Result<(), Fail> {
     let alloc = rt.alloc();
@@ -74,13 +80,30 @@ fn a_run_ends_with_its_input_or_at_a_line(rt: HostRuntime) -> Result<(), Fail> {
         (b"end", b"", Ending::Ended(7)),
     ];
     for (input, output, due) in table {
-        let mut source = MemSource::new(input.to_vec(alloc)?, Vec::new(alloc));
-        let mut sink = MemSink::new(alloc, Vec::new(alloc));
-        let ending = answer_lines(alloc, &mut Echo { alloc }, &mut source, &mut sink);
-        assert_eq!(rt; ending, due);
-        assert_eq!(rt; sink.bytes(), output);
+        assert!(rt; ends(alloc, input, output, due)?);
     }
     Ok(())
+}
+
+// The same of two sides.
+fn sides_end(
+    alloc: Global,
+    input: &[u8],
+    output: &[u8],
+    due: Ending<u8>,
+) -> Result<bool, AllocError> {
+    let mut source = MemSource::new(input.to_vec(alloc)?, Vec::new(alloc));
+    let mut sink = MemSink::new(alloc, Vec::new(alloc));
+    let mut two = TwoSides {
+        alloc,
+        a: Echo { alloc },
+        b: Echo { alloc },
+    };
+    let ending = answer_sides(alloc, &mut two, &mut source, &mut sink);
+    let TwoSides { alloc: _, a, b } = two;
+    drop(a);
+    drop(b);
+    Ok(ending == due && sink.bytes() == output)
 }
 
 // What is skipped reaches neither side, and what a side's two bytes stand before reaches that one.
@@ -96,19 +119,7 @@ fn each_side_answers_its_own_lines(rt: HostRuntime) -> Result<(), Fail> {
         (b"b x\na end\nb y\n", b"b x\n", Ending::Ended(7)),
     ];
     for (input, output, due) in table {
-        let mut source = MemSource::new(input.to_vec(alloc)?, Vec::new(alloc));
-        let mut sink = MemSink::new(alloc, Vec::new(alloc));
-        let mut two = TwoSides {
-            alloc,
-            a: Echo { alloc },
-            b: Echo { alloc },
-        };
-        let ending = answer_sides(alloc, &mut two, &mut source, &mut sink);
-        assert_eq!(rt; ending, due);
-        assert_eq!(rt; sink.bytes(), output);
-        let TwoSides { alloc: _, a, b } = two;
-        drop(a);
-        drop(b);
+        assert!(rt; sides_end(alloc, input, output, due)?);
     }
     Ok(())
 }
@@ -173,7 +184,7 @@ fn each_answer_is_taken_before_the_next_line_is_read(rt: HostRuntime) -> Result<
         &mut source,
         &mut Tally { taken: &taken },
     );
-    assert_eq!(rt; ending, Ending::AtEnd);
+    assert!(rt; ending == Ending::AtEnd);
     assert!(rt; !source.early && taken.get() == 5);
     Ok(())
 }

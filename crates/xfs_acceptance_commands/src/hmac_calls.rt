@@ -50,15 +50,14 @@ fn the_cases_of_rfc_4231_whole_and_in_pieces(rt: HostRuntime) {
         ),
     ];
     for (key, message, digits) in cases {
-        assert_eq!(rt; upper(&mac(key, message)), *digits);
+        assert!(rt; upper(&mac(key, message)) == *digits);
         let prepared = Key::new(key);
         for _ in 0..2 {
-            assert_eq!(rt; upper(&prepared.mac(message)), *digits);
+            assert!(rt; upper(&prepared.mac(message)) == *digits);
         }
         for size in [1, 7, 64] {
-            assert_eq!(rt;
-                digits_in_pieces(key, message, size),
-                *digits,
+            assert!(rt;
+                digits_in_pieces(key, message, size) == *digits,
                 "in pieces of {size}"
             );
         }

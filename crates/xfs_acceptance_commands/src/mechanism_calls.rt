@@ -94,21 +94,12 @@ fn reports_add_an_entry_only_where_they_succeed(rt: HostRuntime) -> Result<(), F
     let mut mech = SimMech::new(rt.alloc(), units, begun, vec![in rt.alloc(); fault]?);
     mech.ready()?;
     let failed = mech.load(1, 9_900);
-    assert_eq!(rt;
-        (failed.moved, failed.failed, mech.motions().len()),
-        (NONE, true, 0)
-    );
+    assert!(rt; (failed.moved, failed.failed, mech.motions().len()) == (NONE, true, 0));
     let loaded = mech.load(1, 9_900);
-    assert_eq!(rt;
-        (loaded.moved.0[0], mech.survey().units.0[0]),
-        (9_900, 10_000)
-    );
+    assert!(rt; (loaded.moved.0[0], mech.survey().units.0[0]) == (9_900, 10_000));
     mech.ready()?;
-    assert_eq!(rt; mech.taken().moved, FULL);
-    assert_eq!(rt;
-        mech.motions().last().copied(),
-        Some(Motion::Taken { counts: FULL })
-    );
+    assert!(rt; mech.taken().moved == FULL);
+    assert!(rt; mech.motions().last().copied() == Some(Motion::Taken { counts: FULL }));
     Ok(())
 }
 
@@ -126,8 +117,8 @@ fn a_list_grows_entry_by_entry(rt: HostRuntime) -> Result<(), Fail> {
             Counts([1, 0, 0, 0, 0, 0, 0, 0]),
         );
     }
-    assert_eq!(rt; mech.motions().len(), 100);
-    assert_eq!(rt; mech.survey().units.0[0], 0);
+    assert!(rt; mech.motions().len() == 100);
+    assert!(rt; mech.survey().units.0[0] == 0);
     Ok(())
 }
 
@@ -142,9 +133,9 @@ fn a_silent_mechanism_goes_on_with_a_list(rt: HostRuntime) -> Result<(), Fail> {
         },
     ]?;
     let mut mech = SilentMech::new(SimMech::resume(units, begun, motions, Vec::new(rt.alloc())));
-    assert_eq!(rt; carry(&rt, &mut mech, Kind::Stack, FULL).moved, FULL);
-    assert_eq!(rt; carry(&rt, &mut mech, Kind::Reject, FULL).moved, FULL);
-    assert_eq!(rt; (mech.survey().units, mech.survey().rejected), (NONE, FULL));
+    assert!(rt; carry(&rt, &mut mech, Kind::Stack, FULL).moved == FULL);
+    assert!(rt; carry(&rt, &mut mech, Kind::Reject, FULL).moved == FULL);
+    assert!(rt; (mech.survey().units, mech.survey().rejected) == (NONE, FULL));
     Ok(())
 }
 
@@ -159,7 +150,7 @@ fn limits_of_places_and_of_a_load(rt: HostRuntime) -> Result<(), Fail> {
     ] {
         let mut all = places(Counts([first, 0, 0, 0, fifth, 0, 0, 0]));
         all.taken = Counts([taken, 0, 0, 0, 0, 0, 0, 0]);
-        assert_eq!(rt; places_fit(&units, &all), fits);
+        assert!(rt; places_fit(&units, &all) == fits);
     }
     for (unit, count, can) in [
         (1, 9_900, true),
@@ -167,7 +158,7 @@ fn limits_of_places_and_of_a_load(rt: HostRuntime) -> Result<(), Fail> {
         (5, 1, false),
         (0, 1, false),
     ] {
-        assert_eq!(rt; can_load(&units, &places(FULL), unit, count), can);
+        assert!(rt; can_load(&units, &places(FULL), unit, count) == can);
     }
     Ok(())
 }

@@ -63,7 +63,7 @@ fn as_few_notes_as_a_plain_search_finds(rt: HostRuntime) {
             let mix = least(rt.alloc(), &units, &there, eur, amount);
             let notes = search(values, have, amount).map(u64::from);
             let notes = notes.ok_or(MixFault::Nothing);
-            assert_eq!(rt; mix.map(|mix| mix.notes()), notes, "{amount} of {i}");
+            assert!(rt; mix.map(|mix| mix.notes()) == notes, "{amount} of {i}");
         }
     }
 }

@@ -74,16 +74,16 @@ fn a_client_has_32_commands_and_a_service_256(rt: HostRuntime) {
     let mut queue = Queue::new(rt.alloc());
     for client in 1..=8 {
         for id in 1..=32 {
-            assert_eq!(rt; offer(&mut queue, client, id, 5), None, "{client} {id}");
+            assert!(rt; offer(&mut queue, client, id, 5) == None, "{client} {id}");
         }
-        assert_eq!(rt; offer(&mut queue, client, 33, 5), Some(OfferFault::TooMany));
-        assert_eq!(rt; offer(&mut queue, client, 32, 5), Some(OfferFault::Busy));
+        assert!(rt; offer(&mut queue, client, 33, 5) == Some(OfferFault::TooMany));
+        assert!(rt; offer(&mut queue, client, 32, 5) == Some(OfferFault::Busy));
     }
-    assert_eq!(rt; queue.commands().len(), 256);
-    assert_eq!(rt; offer(&mut queue, 9, 1, 5), Some(OfferFault::TooMany));
-    assert_eq!(rt; do_first(&mut queue), Some(1001));
-    assert_eq!(rt; offer(&mut queue, 1, 1, 5), None);
-    assert_eq!(rt; queue.next(Line::Device), Some(ticket(1, 2)));
+    assert!(rt; queue.commands().len() == 256);
+    assert!(rt; offer(&mut queue, 9, 1, 5) == Some(OfferFault::TooMany));
+    assert!(rt; do_first(&mut queue) == Some(1001));
+    assert!(rt; offer(&mut queue, 1, 1, 5) == None);
+    assert!(rt; queue.next(Line::Device) == Some(ticket(1, 2)));
 }
 
 #[test]
@@ -92,8 +92,8 @@ fn a_deadline_past_the_greatest_moment_never_comes(rt: HostRuntime) {
     let last = Moment(GREATEST);
     let taken = queue.offer(ClientId(1), 1, Line::Device, u32::MAX, last, 0u64);
     assert!(rt; taken.is_ok());
-    assert_eq!(rt; queue.expire(last), None);
-    assert_eq!(rt; queue.earliest(), Some(Moment(9_223_372_041_149_743_102)));
+    assert!(rt; queue.expire(last) == None);
+    assert!(rt; queue.earliest() == Some(Moment(9_223_372_041_149_743_102)));
 }
 
 fn takes_four(queue: &mut Queue<u64>) -> bool {

@@ -1,4 +1,5 @@
 use crate::tables::halves;
+use std::alloc::Global;
 use std::test::Fail;
 use xfs_base::{Counts, Currency, NoteKind, Places, UnitTable};
 use xfs_json::parse;
@@ -33,7 +34,7 @@ fn storage_tells_the_notes_in_the_units(rt: HostRuntime) -> Result<(), Fail> {
     let written = storage(rt.alloc(), &units, &places)?.to_vec(rt.alloc())?;
     let told =
         "{\"storage\":{\"unit1\":{\"count\":100,\"currency\":\"EUR\",\"value\":10},\"unit2\":{\"count\":100,\"currency\":\"USD\",\"value\":20}}}";
-    assert_eq!(rt; written.as_slice(), told.as_bytes());
+    assert!(rt; written.as_slice() == told.as_bytes());
     Ok(())
 }
 
@@ -47,15 +48,19 @@ const ADDED: &str = "{} => Err(Shape)
 {\"storage\":{\"unit9\":{\"added\":1},\"unit1\":{}}} => Err(Shape)
 {\"storage\":{\"unit8\":{\"added\":10000},\"unit1\":{\"added\":1}}} => Ok(Counts([1, 0, 0, 0, 0, 0, 0, 10000]))";
 
+// Whether what a payload adds is read as the row says.
+fn is_added(alloc: Global, row: &str) -> Option<bool> {
+    let (payload, due) = halves(row);
+    let value = parse(alloc, payload.as_bytes()).ok()?;
+    let told = format!(in alloc; "{:?}", read_added(&value)).ok()?;
+    Some(told.as_str() == due)
+}
+
 #[test]
-fn what_is_added_has_its_shape_and_its_names(rt: HostRuntime) -> Result<(), Fail> {
+fn what_is_added_has_its_shape_and_its_names(rt: HostRuntime) {
     for row in ADDED.lines() {
-        let (payload, due) = halves(row);
-        let value = parse(rt.alloc(), payload.as_bytes()).ok().ok_or("JSON")?;
-        let told = format!(in rt.alloc(); "{:?}", read_added(&value))?;
-        assert_eq!(rt; told.as_str(), due, "{payload}");
+        assert!(rt; is_added(rt.alloc(), row) == Some(true), "{row}");
     }
-    Ok(())
 }
 
 // The book has the mechanism's places after a stack, a taking and a load.
@@ -81,7 +86,7 @@ fn a_book_follows_the_mechanism(rt: HostRuntime) -> Result<(), Fail> {
     let mut book = Book::new(units, begun);
     mech.ready()?;
     book.apply(Kind::Stack, &mech.execute(Order::new(1, Kind::Stack, two)));
-    assert_eq!(rt; book.places(), mech.survey());
+    assert!(rt; book.places() == mech.survey());
     Ok(())
 }
 
@@ -112,9 +117,6 @@ fn a_book_takes_and_loads(rt: HostRuntime) -> Result<(), Fail> {
     assert!(rt; book.room(1, 9_998) && !book.room(1, 9_999));
     book.load(1, 9_998);
     let places = book.places();
-    assert_eq!(rt;
-        (places.outlet.0[0], places.taken.0[0], places.units.0[0]),
-        (0, 4, 10_000)
-    );
+    assert!(rt; (places.outlet.0[0], places.taken.0[0], places.units.0[0]) == (0, 4, 10_000));
     Ok(())
 }
