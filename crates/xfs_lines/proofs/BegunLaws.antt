@@ -30,8 +30,7 @@ use Rattle.xfs_dispenser.specs.Carried.{StacksAll, StacksFirst}
 use Rattle.xfs_dispenser.specs.declared.grant.Grant.{Grant}
 use Rattle.xfs_dispenser.specs.declared.refusal.Refusal.{Refusal}
 use Rattle.xfs_dispenser.specs.declared.refusal.Refusal.TheVariants.{Deny as Denied}
-use Rattle.xfs_script.proofs.LastLaws.{on-err}
-use Rattle.xfs_dispenser.proofs.CarryLaws.{err-same, not-disk}
+use Rattle.xfs_dispenser.proofs.CarryLaws.{err-same}
 use Rattle.xfs_lines.proofs.GuardStateLaws.{seen-same, told-some, wrote-kept}
 
 -- a refusal of the guard has no text where it is want of memory, and only there

@@ -1,5 +1,5 @@
 -- What a call of the guard says of its answer is what a line that makes the call is answered.
-use Rattle.std.proofs.Common.{◌≡◌, ◌≢◌, ◌≤◌, ◌+◌, ℕ, Bool, true, false, length, drop, List, [], ◌∷◌, ◌++◌, None, Some, Ok, Err, inl, inr, ◌⊎◌, refl, sym, subst, ◌∙◌, ap, arith}
+use Rattle.std.proofs.Common.{◌≡◌, ◌≢◌, ◌≤◌, ◌+◌, ℕ, Bool, true, false, length, drop, List, [], ◌∷◌, ◌++◌, None, Some, Ok, Err, inl, inr, refl, sym, subst, ◌∙◌, ap, arith}
 use Rattle.std.specs.Prelude.{IsErrAnd, codes, IsTrue, not, nat_lt, sum, if◌then◌else◌}
 use Rattle.std.specs.Option.{option_map}
 use Rattle.std.specs.declared.option.Option.{Option}
@@ -19,11 +19,9 @@ use Rattle.xfs_guard.specs.Fits.{unfit}
 use Rattle.xfs_guard.specs.Nonce.{live_nonce}
 use Rattle.xfs_guard.specs.Refusals.{Answers}
 use Rattle.xfs_guard.specs.Word.{issue_word}
-use Rattle.xfs_guard.specs.declared.open.Open.TheVariants.{No}
 use Rattle.xfs_guard.specs.declared.deny.Deny.{Deny}
 use Rattle.xfs_guard.specs.declared.deny.Deny.TheVariants.{Disk, Memory}
 use Rattle.xfs_guard.specs.declared.nonce.Nonce.{Nonce}
-use Rattle.xfs_guard.specs.declared.open.Open.TheVariants.{No}
 use Rattle.xfs_guard.proofs.LedgerLaws.{live-issued}
 use Rattle.xfs_guard.specs.declared.fail.BootFault.{BootFault}
 use Rattle.xfs_script.specs.Guard.{IsGuardLine}
@@ -38,8 +36,8 @@ use Rattle.xfs_guard.specs.NextNonce.{next_record}
 use Rattle.xfs_lines.specs.Guard.Verbs.{Issues, Clears}
 use Rattle.xfs_dispenser.specs.declared.refusal.Refusal.{Refusal}
 use Rattle.xfs_dispenser.specs.declared.refusal.Refusal.TheVariants.{Deny as Denied, Memory as Unremembered}
-use Rattle.xfs_dispenser.proofs.CarryLaws.{IsDiskFault, err-same}
-use Rattle.xfs_dispenser.proofs.DenyLaws.{due-some, is_disk}
+use Rattle.xfs_dispenser.proofs.CarryLaws.{IsDiskFault}
+use Rattle.xfs_dispenser.proofs.DenyLaws.{is_disk}
 
 -- a refusal with a text, which isn't the disk's, is the one that is due
 pub due : (T : Type 0) (deny : Deny) (refusal : Option Deny) (line : List ℕ) → Answers {T = T} (Err deny) refusal → deny ≢ Disk → refusal_text (Denied deny) ≡ Some line → refusal ≡ Some deny
@@ -93,15 +91,7 @@ wrote-err T faults old new last refusal r kept text line deny answers disk later
   | inr other ↦ wrote-refused (guard_state faults old last) (guard_state faults new last) refusal deny r kept text line (due T deny refusal line answers other told) (seen-same faults old new last (same other)) told
 ]
 
--- no order is open then either
-pub none-err : (T : Type 0) {D : Type 0} (old new : GuardView D) (r : Rec) (deny : Deny)
-    → (IsDiskFault T deny → new.state ≡ shut_at r old.state) → (deny ≢ Disk → new ≡ old) → old.state.open_order ≡ No → new.state.open_order ≡ No
-none-err T old new r deny disk same none = elim (is_disk deny) [
-  | inl is ↦ rw (disk (ap (λ e. Err e) is)) none
-  | inr other ↦ rw (same other) none
-]
-
--- nor has one where a guard proceeded
+-- a guard that proceeded is seen later
 pub later-seen : {D : Type 0} (g : Ghosts D) (old new : GuardView D) (last last' : Option (List ℕ)) → Proceeds g old new → IsLater (guard_state g.faults old last) (guard_state g.faults new last')
 later-seen g old new last last' p = record { mech = p.mech_faults; disk = p.disk_faults }
 

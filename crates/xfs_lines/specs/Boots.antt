@@ -1,11 +1,9 @@
 -- How a command ends whose boot is refused: status 6, 7, 8 or 12, and its last line.
 use Rattle.std.specs.Prelude.{◌≡◌, ◌⊎◌, ℕ, true, List}
 use Rattle.std.specs.declared.option.Option.{Option}
-use Rattle.xfs_base.specs.Causes.{Rose, IfTold}
+use Rattle.xfs_base.specs.Causes.{Rose}
 use Rattle.xfs_base.specs.declared.counts.Places.{Places}
 use Rattle.xfs_disk.specs.Disk.{AddsNone}
-use Rattle.xfs_journal.specs.Image.{StandsFor}
-use Rattle.xfs_journal.specs.Paging.{CeasesAt}
 use Rattle.xfs_journal.specs.declared.limits.Limits.{Limits}
 use Rattle.xfs_journal.specs.declared.record.Rec.{Rec}
 use Rattle.xfs_guard.specs.Booting.{has_no_room_at_boot, LacksRoom}

@@ -16,9 +16,7 @@ pub fn answer_input<S: Source, K: Sink, A: Answerer<End = BootFault>>(
     source: &mut S,
     sink: &mut K,
 ) -> u8
-    requires { A.IsReady answerer.old }
-    ensures ready { A.IsReady answerer.new }
-    ensures ends { IsAnswered A.Keeps A.state A.command answerer.old answerer.new result (io_of S.Source K.Sink source.old source.new sink.old sink.new) }
+    ensures { IsAnswered A.Keeps A.state A.command answerer.old answerer.new result (io_of S.Source K.Sink source.old source.new sink.old sink.new) }
 {
     let ending = answer_lines(alloc, answerer, source, sink);
     finish(sink, ending)

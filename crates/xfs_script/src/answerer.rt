@@ -46,17 +46,12 @@ pub trait Answerer {
     /// Its lines, and what answers them.
     ghost command: { Command State Self.End };
 
-    /// What an answer needs, and leaves.
-    ghost IsReady: { Self → Type 0 };
-
     /// What is kept from line to line.
     ghost Keeps: { Self → Self → Type 0 };
 
     /// Answers a line, given without its end: the lines of the answer, a line feed behind each.
     fn answer(&mut self, line: &[u8]) -> Result<Vec<u8>, Unanswered<Self::End>>
-        requires ready { IsReady self.old }
         requires short { length line.now ≤ LONGEST_LINE }
-        ensures ready { IsReady self.new }
         ensures keeps { Keeps self.old self.new }
         ensures answer { IfOk result (λ text. IsAnswerText (command.Answers (state self.old) line.now) text.items (state self.new)) }
         ensures unanswered { IfErr result (λ why. IsUnanswered command (state self.old) line.now why (state self.new)) };

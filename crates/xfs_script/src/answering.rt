@@ -20,8 +20,6 @@ pub fn answer_lines<S: Source, K: Sink, A: Answerer>(
     source: &mut S,
     sink: &mut K,
 ) -> Ending<A::End>
-    requires { A.IsReady answerer.old }
-    ensures ready { A.IsReady answerer.new }
     ensures keeps { A.Keeps answerer.old answerer.new }
     ensures answers { AnswersTold A.state A.command result answerer.old answerer.new (io_of S.Source K.Sink source.old source.new sink.old sink.new) }
     ensures lines { result ≡ Ending.AtEnd → IfTold (S.left source.old) (AllLines A.command.IsLine) }
@@ -56,9 +54,7 @@ fn answer_line<K: Sink, A: Answerer>(
     line: &[u8],
     sink: &mut K,
 ) -> Result<(), Ending<A::End>>
-    requires ready { A.IsReady answerer.old }
     requires short { length line.now ≤ LONGEST_LINE }
-    ensures ready { A.IsReady answerer.new }
     ensures keeps { A.Keeps answerer.old answerer.new }
     ensures ok { OnOk result (WritesAnswer (A.command.Answers (A.state answerer.old) line.now) (A.state answerer.new) (output K.Sink sink.old sink.new)) }
     ensures err { IfErr result (BreaksAtLine A.command number line.now (A.state answerer.old) (A.state answerer.new) (output K.Sink sink.old sink.new)) }

@@ -6,6 +6,9 @@ use itoa::Buffer;
 use std::alloc::{AllocError, Global};
 use xfs_base::{Counts, Memory};
 
+// The counts of three units, or of two that are high, are no longer.
+const USUAL_LENGTH: usize = 32;
+
 /// The text of counts in an answer: `unitN:count` of the units whose count isn't 0, joined by
 /// commas, N rising, or `none`.
 pub fn counts_text(alloc: Global, counts: &Counts) -> Result<Vec<u8>, Memory>
@@ -23,7 +26,7 @@ fn units_text(alloc: Global, counts: &[u32]) -> Result<Vec<u8>, AllocError>
     requires { length counts.now < 256 }
     ensures { IfOk result (λ text. text.items ≡ answers.joined_units (answers.filled_units 1 counts.now)) }
 {
-    let mut text = Vec::new(alloc);
+    let mut text = Vec::with_capacity(alloc, USUAL_LENGTH)?;
     let mut unit = 0u8;
     for count in counts {
         unit += 1;

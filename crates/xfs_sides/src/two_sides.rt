@@ -30,8 +30,6 @@ impl<A: Answerer> Answerer for TwoSides<A> {
 
     ghost command = { sides A.command };
 
-    ghost IsReady = { λ t. A.IsReady t.a × A.IsReady t.b };
-
     ghost Keeps = { λ old new. A.Keeps old.a new.a × A.Keeps old.b new.b };
 
     fn answer(&mut self, line: &[u8]) -> Result<Vec<u8>, Unanswered<A::End>> {
@@ -67,8 +65,6 @@ pub fn answer_sides<S: Source, K: Sink, A: Answerer>(
     source: &mut S,
     sink: &mut K,
 ) -> Ending<A::End>
-    requires a { A.IsReady two.old.a }
-    requires b { A.IsReady two.old.b }
     ensures keeps_a { A.Keeps two.old.a two.new.a }
     ensures keeps_b { A.Keeps two.old.b two.new.b }
     ensures alone { result ≡ Ending.AtEnd → AnswersAlone A.command A.state two.old two.new (S.left source.old) (K.held sink.old) (K.held sink.new) }
@@ -84,9 +80,7 @@ fn answer_at<A: Answerer>(
     side: &mut A,
     behind: &[u8],
 ) -> Result<Vec<u8>, Unanswered<A::End>>
-    requires ready { A.IsReady side.old }
     requires short { length behind.now ≤ LONGEST_LINE }
-    ensures ready { A.IsReady side.new }
     ensures keeps { A.Keeps side.old side.new }
     ensures answer { IfOk result (λ text. IsMarkedText A.command letter (A.state side.old) behind.now text.items (A.state side.new)) }
     ensures unanswered { IfErr result (λ why. IsUnanswered (unwritten A.command) (A.state side.old) behind.now why (A.state side.new)) }

@@ -3,6 +3,8 @@ use Rattle.std.specs.Prelude.{◌≡◌, ◌≤◌, ℕ, List}
 use Rattle.std.specs.declared.option.Option.{Option}
 use Rattle.xfs_base.specs.Causes.{Rose}
 use Rattle.xfs_base.specs.declared.counts.Places.{Places}
+use Rattle.xfs_disk.specs.declared.disk.Disk.{Ghosts as Disks}
+use Rattle.xfs_mech.specs.declared.mechanism.Mechanism.{Ghosts as Mechanisms}
 use Rattle.xfs_mech.specs.declared.motion.Motion.{Motion}
 use Rattle.xfs_guard.specs.View.{View, GuardView}
 use Rattle.xfs_dispenser.specs.Seen as Of
@@ -20,8 +22,8 @@ abbrev pub guard_state : {D : Type 0} → (D → ℕ) → GuardView D → Option
 guard_state faults g last = record { guard = g.state; disk_faults = faults g.disk; last = last }
 
 -- the state of what plays the lines of `guard`
-abbrev pub state_in : {M D : Type 0} → (D → ℕ) → GuardPlayer M D → GuardState
-state_in faults s = guard_state faults s.guard s.last
+abbrev pub state_in : {M D : Type 0} {m : Mechanisms M} {d : Disks D} → GuardPlayer M D m d → GuardState
+state_in {M} {D} {m} {d} s = guard_state d.faults s.guard s.last
 
 -- what a command of the dispenser sees of a state
 abbrev pub guard_of : GuardState → Of.Seen

@@ -3,3 +3,4 @@
 pub mod answer;
 pub mod command;
 pub mod player;
+pub mod verbs;

@@ -28,7 +28,10 @@ pub fn outcome_text(alloc: Global, verb: &[u8], outcome: &Outcome) -> Result<Vec
     ensures { IfOk result (λ text. text.items ≡ outcome_text verb.now outcome.now) }
 {
     let counts = counts_text(alloc, &outcome.moved)?;
-    let mut text = Vec::new(alloc);
+    let mut text = Vec::with_capacity(
+        alloc,
+        counts.len().saturating_add(verb.len()).saturating_add(8),
+    )?;
     if outcome.failed {
         text.extend_from_slice(b"fault ")?;
     }

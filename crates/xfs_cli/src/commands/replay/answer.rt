@@ -8,7 +8,6 @@ use xfs_mech::Mechanism;
 use xfs_script::{Answerer, ScriptFault, Unanswered, read_replay};
 
 impl<M: Mechanism, D: Disk> Answerer for Player<M, D> {
-    ghost use Rattle.std.specs.Prelude.{⊤};
     ghost use Rattle.xfs_cli.specs.Replay.Command.{Progresses, replay_lines, leaves-none, is-replay-line, progress-same, progress-then};
     ghost use Rattle.xfs_cli.specs.Replay.States.{Played, played};
 
@@ -19,8 +18,6 @@ impl<M: Mechanism, D: Disk> Answerer for Player<M, D> {
     ghost state = { λ p. played p };
 
     ghost command = { replay_lines };
-
-    ghost IsReady = { λ p. ⊤ };
 
     ghost Keeps = { λ old new. Progresses D.Disk old.machine new.machine };
 

@@ -5,8 +5,8 @@ use Rattle.xfs_lines.specs.Output.InputEnds.{ending_status}
 use Rattle.xfs_lines.proofs.EndingLaws.{is-boot, is-end, is-no_line, is-quota, is-read, is-write, no-usage, status-ending}
 use Rattle.xfs_lines.proofs.input.answer_input.Goals as goal
 
-pub returns-clause-ends : goal.returns-clause-ends
-returns-clause-ends g c =
+pub returns : goal.returns
+returns g c =
     let lines = c.answer_lines-ending.ensures in
     let causes = c.answer_lines-ending.ensures.causes in
     let status = c.finish.ensures.status in

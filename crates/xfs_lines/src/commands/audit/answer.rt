@@ -47,8 +47,6 @@ impl Answerer for Auditor {
 
     ghost command = { audit_lines };
 
-    ghost IsReady = { λ a. ⊤ };
-
     ghost Keeps = { λ old new. ⊤ };
 
     fn answer(&mut self, line: &[u8]) -> Result<Vec<u8>, Unanswered<BootFault>> {

@@ -7,10 +7,8 @@ use xfs_mech::Mechanism;
 use xfs_script::{Answerer, ScriptFault, Unanswered, read_guard};
 
 impl<M: Mechanism, D: Disk> Answerer for GuardPlayer<M, D> {
-    ghost use Rattle.std.specs.Prelude.{◌≡◌};
     ghost use Rattle.xfs_guard.proofs.KeepsLaws.{Proceeds-same, Proceeds-trans};
     ghost use Rattle.xfs_guard.specs.Keeps.{Proceeds};
-    ghost use Rattle.xfs_guard.specs.declared.open.Open.TheVariants.{No};
     ghost use Rattle.xfs_lines.specs.Guard.Command.{guard_lines, leaves-nothing, is-line};
     ghost use Rattle.xfs_lines.specs.Guard.States.{GuardState, guard_state};
 
@@ -21,8 +19,6 @@ impl<M: Mechanism, D: Disk> Answerer for GuardPlayer<M, D> {
     ghost state = { λ s. guard_state D.faults s.guard s.last };
 
     ghost command = { guard_lines };
-
-    ghost IsReady = { λ s. (s.guard.state.open_order ≡ No) × (s.key ≡ s.guard.state.key) };
 
     ghost Keeps = { λ old new. Proceeds D.Disk old.guard new.guard };
 

@@ -33,8 +33,6 @@ impl Answerer for Bank {
 
     ghost command = { host_lines };
 
-    ghost IsReady = { λ b. ⊤ };
-
     ghost Keeps = { λ old new. ⊤ };
 
     fn answer(&mut self, line: &[u8]) -> Result<Vec<u8>, Unanswered<BootFault>> {

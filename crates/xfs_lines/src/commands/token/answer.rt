@@ -25,7 +25,7 @@ pub struct Tokens {
 }
 
 impl Answerer for Tokens {
-    ghost use Rattle.std.specs.Prelude.{◌≡◌, ℕ, List, ⊤};
+    ghost use Rattle.std.specs.Prelude.{◌≡◌, ℕ, List};
     ghost use Rattle.std.proofs.Common.{refl, ◌∙◌};
     ghost use Rattle.xfs_lines.specs.Token.Verbs.{token_lines, is-line};
 
@@ -36,8 +36,6 @@ impl Answerer for Tokens {
     ghost state = { λ t. t.key };
 
     ghost command = { token_lines };
-
-    ghost IsReady = { λ t. ⊤ };
 
     ghost Keeps = { λ old new. new ≡ old };
 

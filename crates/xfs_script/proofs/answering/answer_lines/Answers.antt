@@ -47,7 +47,6 @@ pub loop-preserved : goal.loop-preserved
 loop-preserved g c =
     let found : Line = record { number = c.find_line.new.self.handed + 1; text = without_return (take c.in-Ok-Some.end c.find_line.new.self.pending) } in
     record {
-      ready = c.in-Ok-answer_line.ensures.ready;
       keeps = g.met.A.Answerer.keeps_then _ _ _ c.loop.invariant.keeps c.in-Ok-answer_line.ensures.keeps;
       source_later = omega (arith, c.loop.invariant.source_later, c.find_line.ensures.later);
       sink_later = omega (arith, c.loop.invariant.sink_later, c.answer_line.ensures.later);

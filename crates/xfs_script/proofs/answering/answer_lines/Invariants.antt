@@ -11,7 +11,6 @@ invariant-loop g l =
     let left = g.S.Source.left in
     let held = g.K.Sink.held in
     record {
-      ready : g.A.Answerer.IsReady l.answerer;
       keeps : g.A.Answerer.Keeps l.fn.answerer l.answerer;
       source_later : g.S.Source.faults l.fn.source ≤ g.S.Source.faults l.source;
       sink_later : g.K.Sink.faults l.fn.sink ≤ g.K.Sink.faults l.sink;

@@ -27,7 +27,7 @@ pub boot-requires-clause-b_recorded : goal.boot-requires-clause-b_recorded
 boot-requires-clause-b_recorded g c = rw c.cores_of-core.ensures (recorded-start _ _ _ _ _ c.requires.second.recorded)
 
 pub returns-in-Ok-clause-statuses : goal.returns-in-Ok-clause-statuses
-returns-in-Ok-clause-statuses g c = rw c.give_back_both.ensures.status c.answer_input-status.ensures.ends.statuses
+returns-in-Ok-clause-statuses g c = rw c.give_back_both.ensures.status c.answer_input-status.ensures.statuses
 
 pub returns-in-Ok-clause-runs : goal.returns-in-Ok-clause-runs
 returns-in-Ok-clause-runs g c =
@@ -37,7 +37,7 @@ returns-in-Ok-clause-runs g c =
     let second = c.cores_of-core.result.1 in
     let starts : Starts m d core = rw c.cores_of-core.ensures c.requires.starts in
     let starts_second : Starts m d second = rw c.cores_of-core.ensures c.requires.second in
-    let s = c.answer_input-status.ensures.ends in
+    let s = c.answer_input-status.ensures in
     let io = io_of g.S.Source g.K.Sink c.args.source.now c.answer_input-status.new.source c.args.sink.now c.answer_input-status.new.sink in
     let r : Return g.row.M.Denot g.row.D.Denot = record { status = c.answer_input-status.result; mech = c.of-first.result.mech; disk = c.of-first.result.disk } in
     let t : Return g.row.M.Denot g.row.D.Denot = record { status = c.answer_input-status.result; mech = c.of.result.mech; disk = c.of.result.disk } in

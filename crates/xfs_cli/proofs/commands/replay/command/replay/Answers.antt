@@ -32,7 +32,7 @@ returns-in-Ok-clause-ends g c =
     let starts : Starts g.M.Mechanism g.D.Disk c.cores_of-core.result.0 = rw c.cores_of-core.ensures c.requires.starts in
     let e = c.end-mech.ensures in
     let over : Return g.row.M.Denot g.row.D.Denot = record { status = c.answer_input-status.result; mech = c.end-mech.result.0; disk = c.end-mech.result.1 } in
-    let proceeds : Proceeds g.D.Disk (guard_of c.in-Ok.machine) (guard_of c.answer_input-status.new.answerer.machine) = rw c.new-player.ensures.machine at c.answer_input-status.ensures.ends.keeps.proceeds in
+    let proceeds : Proceeds g.D.Disk (guard_of c.in-Ok.machine) (guard_of c.answer_input-status.new.answerer.machine) = rw c.new-player.ensures.machine at c.answer_input-status.ensures.keeps.proceeds in
     let ends = ends-run g.M.Mechanism g.D.Disk core over g.met.D.Disk.as_read starts (guard_of c.in-Ok.machine) (guard_of c.answer_input-status.new.answerer.machine) g.met.D.Disk.counts_now
     c.in-Ok.ensures.ok proceeds (machine-ended g.M.Mechanism g.D.Disk c.answer_input-status.new.answerer.machine over e.back e.recorded e.disk) in
     rw c.give_back.ensures (rw c.cores_of-core.ensures at ends)
@@ -62,7 +62,7 @@ returns-in-Ok-clause-runs g c =
     let io = io_of g.S.Source g.K.Sink c.args.source.now c.answer_input-status.new.source c.args.sink.now c.answer_input-status.new.sink in
     let runs : RunsReplay g.M.Mechanism g.D.Disk core over io = runs-served g.M.Mechanism g.D.Disk replay_lines guard_state_of _ keeps (λ a. played a) (λ a. guard_of a.machine) g.met.D.Disk.as_read (λ s text why end ends. ends) empty (λ a. refl) (λ a b kept. kept.proceeds) (λ a b kept. kept.later)
     core over _ c.new-player.result c.answer_input-status.new.answerer booted (rw c.new-player.ensures.machine low) (sym e.back.disk_faults) begins
-    c.answer_input-status.ensures.ends (machine-ended g.M.Mechanism g.D.Disk c.answer_input-status.new.answerer.machine over e.back e.recorded e.disk) starts.recorded in
+    c.answer_input-status.ensures (machine-ended g.M.Mechanism g.D.Disk c.answer_input-status.new.answerer.machine over e.back e.recorded e.disk) starts.recorded in
     rw c.give_back.ensures (rw c.cores_of-core.ensures at runs)
 
 pub returns-in-Err-clause-runs : goal.returns-in-Err-clause-runs
@@ -77,7 +77,7 @@ returns-in-Err-clause-runs g c =
 
 pub returns-in-Ok-clause-ends_lines : goal.returns-in-Ok-clause-ends_lines
 returns-in-Ok-clause-ends_lines g c =
-    let s = c.answer_input-status.ensures.ends in
+    let s = c.answer_input-status.ensures in
     let io = io_of g.S.Source g.K.Sink c.args.source.now c.answer_input-status.new.source c.args.sink.now c.answer_input-status.new.sink in
     rw c.give_back.ensures (answered-ends {L = Unit {0}} c.args.bench.second c.cores_of-core.result.1 c.end-mech.result.0 c.end-mech.result.1 c.answer_input-status.result io
     (rw c.cores_of-core.ensures refl) s.usage s.statuses s.causes)

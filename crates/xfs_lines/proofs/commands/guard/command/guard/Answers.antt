@@ -29,7 +29,7 @@ returns-in-Ok-clause-ends g c =
     let starts : Starts g.M.Mechanism g.D.Disk core = rw c.cores_of-core.ensures c.requires.starts in
     let over : Return g.row.M.Denot g.row.D.Denot = record { status = c.answer_input-status.result; mech = c.mech_and_disk-mech.result.0; disk = c.mech_and_disk-mech.result.1 } in
     let ends = ends-run g.M.Mechanism g.D.Disk core over g.met.D.Disk.as_read starts c.in-Ok.guard c.answer_input-status.new.answerer.guard g.met.D.Disk.counts_now
-    c.in-Ok.ensures.ok c.answer_input-status.ensures.ends.keeps (guard-ended g.M.Mechanism g.D.Disk _ over c.mech_and_disk-mech.ensures) in
+    c.in-Ok.ensures.ok c.answer_input-status.ensures.keeps (guard-ended g.M.Mechanism g.D.Disk _ over c.mech_and_disk-mech.ensures) in
     rw c.give_back.ensures (rw c.cores_of-core.ensures at ends)
 
 pub returns-in-Err-clause-ends : goal.returns-in-Err-clause-ends
@@ -48,12 +48,12 @@ returns-in-Ok-clause-runs g c =
     let boots = c.in-Ok.ensures.ok in
     let ok = boots.begins in
     let e = c.mech_and_disk-mech.ensures in
-    let keeps = λ (a b : GuardPlayer g.row.M.Denot g.row.D.Denot). Proceeds g.D.Disk a.guard b.guard in
+    let keeps = λ (a b : GuardPlayer g.row.M.Denot g.row.D.Denot g.M.Mechanism g.D.Disk). Proceeds g.D.Disk a.guard b.guard in
     let over : Return g.row.M.Denot g.row.D.Denot = record { status = c.answer_input-status.result; mech = c.mech_and_disk-mech.result.0; disk = c.mech_and_disk-mech.result.1 } in
     let io = io_of g.S.Source g.K.Sink c.args.source.now c.answer_input-status.new.source c.args.sink.now c.answer_input-status.new.sink in
     let runs : RunsGuard g.M.Mechanism g.D.Disk core over io = runs-served g.M.Mechanism g.D.Disk guard_lines (λ (s : GuardState). s) _ keeps (λ a. guard_state g.D.Disk.faults a.guard a.last) (λ a. a.guard) g.met.D.Disk.as_read (λ s text why end ends. ends) empty (λ a. refl) (λ a b kept. kept) (λ a b kept. kept.disk_faults)
     core over _ _ c.answer_input-status.new.answerer boots boots.leaves.faults (ap g.D.Disk.faults (sym e.disk))
-    (starts-run g.D.Disk.faults c.in-Ok.guard _ ok.0 ok.1 ok.2 boots.leaves.faults) c.answer_input-status.ensures.ends (guard-ended g.M.Mechanism g.D.Disk _ over e) starts.recorded in
+    (starts-run g.D.Disk.faults c.in-Ok.guard _ ok.0 ok.1 ok.2 boots.leaves.faults) c.answer_input-status.ensures (guard-ended g.M.Mechanism g.D.Disk _ over e) starts.recorded in
     rw c.give_back.ensures (rw c.cores_of-core.ensures at runs)
 
 pub returns-in-Err-clause-runs : goal.returns-in-Err-clause-runs
@@ -68,7 +68,7 @@ returns-in-Err-clause-runs g c =
 
 pub returns-in-Ok-clause-ends_lines : goal.returns-in-Ok-clause-ends_lines
 returns-in-Ok-clause-ends_lines g c =
-    let s = c.answer_input-status.ensures.ends in
+    let s = c.answer_input-status.ensures in
     let io = io_of g.S.Source g.K.Sink c.args.source.now c.answer_input-status.new.source c.args.sink.now c.answer_input-status.new.sink in
     rw c.give_back.ensures (answered-ends {L = Unit {0}} c.args.bench.second c.cores_of-core.result.1 c.mech_and_disk-mech.result.0 c.mech_and_disk-mech.result.1 c.answer_input-status.result io
     (rw c.cores_of-core.ensures refl) s.usage s.statuses s.causes)

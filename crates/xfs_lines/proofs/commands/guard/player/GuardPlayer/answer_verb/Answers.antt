@@ -1,5 +1,6 @@
+use Rattle.std.proofs.Common.{inl}
 use Rattle.xfs_guard.proofs.KeepsLaws.{Proceeds-same}
-use Rattle.xfs_lines.proofs.BegunLaws.{tells-line}
+use Rattle.xfs_lines.proofs.BegunLaws.{tells-line, verb-leaves}
 use Rattle.xfs_lines.proofs.GuardStateLaws.{fault-through}
 use Rattle.xfs_lines.proofs.LinedLaws.{lined-answer, lined-booted, lined-leaves, lined-whole}
 use Rattle.xfs_lines.proofs.commands.guard.player.GuardPlayer.answer_verb.Goals as goal
@@ -102,3 +103,6 @@ returns-in_err-restart-in-Restart-clause-unbooted g c = λ fault is. (c.in-Resta
 
 pub returns-in_ok-with_line_feed-in-Restart-clause-answer : goal.returns-in_ok-with_line_feed-in-Restart-clause-answer
 returns-in_ok-with_line_feed-in-Restart-clause-answer g c = tells-line _ _ _ _ _ _ c.in-Restart.is c.in_ok-restart-in-Restart.ensures.answer c.in_ok-with_line_feed-in-Restart.ensures
+
+pub returns-in_err-restart-in-Restart-clause-memory : goal.returns-in_err-restart-in-Restart-clause-memory
+returns-in_err-restart-in-Restart-clause-memory g c = λ is. verb-leaves _ _ _ _ c.in-Restart.is (inl (c.in_err-restart-in-Restart.ensures.memory (fault-through _ _ _ c.from_residual-in_err-restart-in-Restart.ensures.1 is)))

@@ -1,7 +1,7 @@
 use Rattle.std.proofs.Common.{◌≤◌, ◌∙◌, ap, arith, inl, length, refl, sym, true≢false}
 use Rattle.std.proofs.lemmas.Result.{IfOk-weaker}
 use Rattle.xfs_common.specs.declared.error.ErrorCode.TheVariants.{InvalidUnit, StorageFull}
-use Rattle.xfs_dispenser.specs.declared.refusal.Refusal.TheVariants.{Error}
+use Rattle.xfs_dispenser.specs.declared.refusal.Refusal.TheVariants.{Deny as Denied, Error}
 use Rattle.xfs_guard.proofs.KeepsLaws.{Proceeds-same}
 use Rattle.xfs_lines.proofs.BegunLaws.{loads-fills}
 use Rattle.xfs_lines.proofs.commands.guard.player.GuardPlayer.fill.Goals as goal
@@ -33,3 +33,8 @@ returns-then-not-room-clause-answer g c =
     let low : 1 ≤ c.args.unit = omega (arith, c.if-unit-eq0.false) in
     let high : c.args.unit ≤ length c.args.self.now.guard.state.units = omega (arith, c.if-unit-len.false, c.len.ensures.len, u) in
     IfOk-weaker c.refusal_text-then-not-room.result _ _ (λ text told. inl (record { refusal = Error StorageFull; cause = (low, high, λ can. true≢false (sym (c.room.ensures.1 can) ∙ c.if-not-room.true)); refused = record { text = told; same = refl } })) c.refusal_text-then-not-room.ensures
+
+pub returns-in-Some-clause-answer : goal.returns-in-Some-clause-answer
+returns-in-Some-clause-answer g c =
+    let can = c.room.ensures.0 c.if-not-room.false in
+    IfOk-weaker c.refusal_text-in-Some.result _ _ (λ text told. inl (record { refusal = Denied c.in-Some.deny; cause = (can, sym c.unfit.ensures.first ∙ c.in-Some.is); refused = record { text = told; same = refl } })) c.refusal_text-in-Some.ensures

@@ -1,9 +1,8 @@
-use Rattle.std.proofs.Common.{◌∙◌, inl, inr, refl, ap}
+use Rattle.std.proofs.Common.{inl, inr, refl, ap}
 use Rattle.std.proofs.lemmas.Result.{IfOk-weaker}
 use Rattle.xfs_guard.proofs.KeepsLaws.{Proceeds-trans}
-use Rattle.xfs_guard.specs.View.{View}
 use Rattle.xfs_lines.specs.Guard.States.{guard_state}
-use Rattle.xfs_lines.proofs.GuardStateLaws.{wrote-kept, wrote-err, none-err}
+use Rattle.xfs_lines.proofs.GuardStateLaws.{wrote-kept, wrote-err}
 use Rattle.std.specs.Prelude.{codes}
 use Rattle.xfs_lines.proofs.BegunLaws.{denied-text, part-filled}
 use Rattle.xfs_script.proofs.LastLaws.{on-err}
@@ -58,12 +57,6 @@ returns-in-Err-clause-answer g c =
 
 pub returns-in-Err-clause-proceeds : goal.returns-in-Err-clause-proceeds
 returns-in-Err-clause-proceeds g c = Proceeds-trans g.D.Disk _ _ _ g.met.D.Disk.counts_now c.in_ok-outcome.ensures.uses.keeps.proceeds c.note_load.ensures.writes.keeps.proceeds
-
-pub returns-in-Err-clause-none : goal.returns-in-Err-clause-none
-returns-in-Err-clause-none g c =
-    let w = c.in-Err.ensures in
-    let kept = ap (λ (v : View). v.open_order) c.in_ok-outcome.ensures.ok.same in
-    none-err (Unit {0}) c.load.new.self c.note_load.new.self _ c.in-Err.deny w.writes.disk w.writes.same (kept ∙ c.requires.none)
 
 pub returns-then-outcome-clause-memory : goal.returns-then-outcome-clause-memory
 returns-then-outcome-clause-memory g c =
