@@ -14,7 +14,7 @@ use Rattle.xfs_model.specs.Told.{AllTell}
 use Rattle.xfs_turn.proofs.Prefixes.{begins_longer}
 use Rattle.xfs_machine.specs.MachineView.{MachineView, guard_of}
 use Rattle.xfs_board.specs.Chronicles.{ComesBack, HasBase, Shared, at_opening, chronicle}
-use Rattle.xfs_board.specs.Turns.{HandsTold, IsLook, IsTurn}
+use Rattle.xfs_board.specs.Turns.{HandsTold, IsLook, IsTurn, TakesStep}
 use Rattle.xfs_board.specs.declared.shared.Entry.{Entry}
 use Rattle.xfs_board.specs.declared.shared.Entry.TheVariants.{Written}
 
@@ -33,7 +33,7 @@ drop-append {X} (suc n) [] ys = let same : suc n ≡ suc n - length {A = X} [] =
 drop-append (suc n) (x ∷ xs) ys = let less : n - length xs ≡ suc n - length (x ∷ xs) = omega arith in drop-append n xs ys ∙ ap (λ k. drop n xs ++ drop k ys) less
 
 module _ {M D : Type 0} where
-  pub grows : (old new : Shared D) (event : Event) (answer : Answer) → new.start ≡ old.start → IsLawful old.machine.state event answer new.machine.state
+  grows : (old new : Shared D) (event : Event) (answer : Answer) → new.start ≡ old.start → IsLawful old.machine.state event answer new.machine.state
       → IsPrefix (chronicle {M = M} old) (chronicle new)
   grows old new event answer same laws =
       let a = laws.advances in
@@ -42,31 +42,35 @@ module _ {M D : Type 0} where
       let more = drop (base - length records) a.records.more in
       (map Written more, rw (same, a.records.is, drop-append base records a.records.more, map-append {B = Entry M D} Written (drop base records) more) refl)
 
+  pub takes_step : (old found new : Shared D) (event : Event) (answer : Answer) → found ≡ old → new.start ≡ found.start
+      → Step found.machine.state event answer new.machine.state → IsLawful found.machine.state event answer new.machine.state → TakesStep M old event answer new
+  takes_step old found new event answer is same step laws = subst (λ s. TakesStep M s event answer new) is (record { step = step; laws = laws; grown = grows found new event answer same laws })
+
   -- what the seat had seen, as it was taken out, begins the list of the machine that was found
   begins_found : (seen taken : List (Entry M D)) (there found : Shared D) → taken ≡ seen → IsPrefix taken (chronicle there) → found ≡ there → IsPrefix seen (chronicle found)
   begins_found seen taken there found same begun is = subst (λ s. IsPrefix seen (chronicle s)) (sym is) (subst (λ xs. IsPrefix xs (chronicle there)) same begun)
 
   pub makes_turn : (seen taken after : List (Entry M D)) (event : Event) (answer : Answer) (there found left : Shared D) → taken ≡ seen → IsPrefix taken (chronicle there) → found ≡ there
-      → Step found.machine.state event answer left.machine.state → IsLawful found.machine.state event answer left.machine.state → IsPrefix (chronicle {M = M} found) (chronicle left)
+      → TakesStep M found event answer left
       → after ≡ chronicle left → IsTurn seen after event answer
-  makes_turn seen taken after event answer there found left same begun found_is step laws grown is =
+  makes_turn seen taken after event answer there found left same begun found_is takes is =
       let begins = begins_found seen taken there found same begun found_is in
       record {
         found = found;
         left = left;
         begins = begins;
-        step = step;
-        laws = laws;
+        step = takes.step;
+        laws = takes.laws;
         after_is = is;
-        grown = subst (λ xs. IsPrefix seen xs) (sym is) (begins_longer seen (chronicle found) (chronicle left) begins grown);
+        grown = subst (λ xs. IsPrefix seen xs) (sym is) (begins_longer seen (chronicle found) (chronicle left) begins takes.grown);
       }
 
   pub hands_told : (seen taken after : List (Entry M D)) (event : Event) (answer : Answer) (frames : List (List ℕ)) (there found left : Shared D) → taken ≡ seen → IsPrefix taken (chronicle there) → found ≡ there
-      → Step found.machine.state event answer left.machine.state → IsLawful found.machine.state event answer left.machine.state → IsPrefix (chronicle {M = M} found) (chronicle left)
+      → TakesStep M found event answer left
       → after ≡ chronicle left → AllTell left.machine.state frames → HandsTold seen after event answer frames
   unfolding makes_turn
-  hands_told seen taken after event answer frames there found left same begun found_is step laws grown is told =
-      record { turn = makes_turn seen taken after event answer there found left same begun found_is step laws grown is; told = told }
+  hands_told seen taken after event answer frames there found left same begun found_is takes is told =
+      record { turn = makes_turn seen taken after event answer there found left same begun found_is takes is; told = told }
 
   pub looks : (seen taken after : List (Entry M D)) (service : Service) (wanted : Bool) (there found : Shared D) → taken ≡ seen → IsPrefix taken (chronicle there) → found ≡ there
       → wanted ≡ wants found.machine.state service → after ≡ chronicle found → IsLook seen after service wanted

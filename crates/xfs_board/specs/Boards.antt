@@ -1,5 +1,5 @@
 -- What the machine's boards tell: the counts of the caller's tally, and nothing of content.
-use Rattle.std.specs.Prelude.{Bool, List, false, None}
+use Rattle.std.specs.Prelude.{◌≡◌, Bool, List, false, None}
 use Rattle.xfs_base.specs.declared.moment.Service.{Service}
 use Rattle.xfs_model.specs.State.{Pass}
 use Rattle.xfs_server.specs.Boards.{BoardLog}
@@ -19,6 +19,16 @@ pub record DeviceView (M D C : Type 0) : Type 0 where
   pub service : Service
   pub clock : C
   pub closing : Bool
+
+-- a board stays that of its connection, with its clock
+pub record StaysOfClient {M D C : Type 0} (old new : ClientView M D C) : Type 0 where
+  pub pass : new.pass ≡ old.pass
+  pub clock : new.clock ≡ old.clock
+
+-- the object of a worker stays that of its service, with its clock
+pub record StaysOfDevice {M D C : Type 0} (old new : DeviceView M D C) : Type 0 where
+  pub service : new.service ≡ old.service
+  pub clock : new.clock ≡ old.clock
 
 -- the object of the worker of a service at its begin: it has made no calls, and hasn't told that it is closing
 abbrev pub fresh_device : {M D C : Type 0} → List (Entry M D) → Service → C → DeviceView M D C

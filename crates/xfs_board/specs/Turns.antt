@@ -11,6 +11,12 @@ use Rattle.xfs_model.specs.Told.{AllTell}
 use Rattle.xfs_board.specs.Chronicles.{Shared, chronicle}
 use Rattle.xfs_board.specs.declared.shared.Entry.{Entry}
 
+-- what lies behind the lock takes one lawful step, and its chronicle goes on
+pub record TakesStep (M : Type 0) {D : Type 0} (old : Shared D) (event : Event) (answer : Answer) (new : Shared D) : Type 0 where
+  pub step : Step old.machine.state event answer new.machine.state
+  pub laws : IsLawful old.machine.state event answer new.machine.state
+  pub grown : IsPrefix (chronicle {M = M} old) (chronicle new)
+
 -- one turn in which the machine takes one lawful step: what the seat had seen begins the chronicle of the machine that was found and what it has seen after, the whole chronicle of the machine that was left
 pub record IsTurn {M D : Type 0} (seen after : List (Entry M D)) (event : Event) (answer : Answer) : Type 0 where
   pub found : Shared D

@@ -72,7 +72,7 @@ impl<'a, N: LockName, M: Mechanism, D: Disk, R: Wait, C: Clock> ClientBoard<'a, 
 impl<'a, N: LockName, M: Mechanism, D: Disk, R: Wait, C: Clock> Board
     for ClientBoard<'a, N, M, D, R, C> {
     ghost use Rattle.std.specs.Prelude.{◌≡◌};
-    ghost use Rattle.xfs_board.specs.Boards.{client_log};
+    ghost use Rattle.xfs_board.specs.Boards.{StaysOfClient, client_log};
     ghost use Rattle.xfs_board.specs.Turns.{HandsTold, IsTurnBy};
     ghost use Rattle.xfs_model.specs.Events as event;
     ghost use Rattle.xfs_machine.specs.Answers.{posted};
@@ -84,8 +84,7 @@ impl<'a, N: LockName, M: Mechanism, D: Disk, R: Wait, C: Clock> Board
     fn post(&mut self, text: &[u8]) -> Result<(), Memory>
         ensures log { client_log self.new ≡ after_post (client_log self.old) text.now result }
         ensures turn { IsTurnBy (C.tells self.old.clock) self.old.caller.seen self.new.caller.seen (event.post self.old.pass text.now) (posted result) }
-        ensures pass { self.new.pass ≡ self.old.pass }
-        ensures clock { self.new.clock ≡ self.old.clock }
+        ensures same { StaysOfClient self.old self.new }
     {
         let reading = Reading::of(self.alloc, text);
         let now = self.clock.now();
@@ -95,8 +94,7 @@ impl<'a, N: LockName, M: Mechanism, D: Disk, R: Wait, C: Clock> Board
     fn turn(&mut self) -> Result<Work2, Memory>
         ensures log { client_log self.new ≡ after_turn (client_log self.old) }
         ensures turn { IsTurnBy (C.tells self.old.clock) self.old.caller.seen self.new.caller.seen (event.work self.old.pass.service) (turned result) }
-        ensures pass { self.new.pass ≡ self.old.pass }
-        ensures clock { self.new.clock ≡ self.old.clock }
+        ensures same { StaysOfClient self.old self.new }
     {
         let now = self.clock.now();
         let service = self.pass.service();
@@ -106,8 +104,7 @@ impl<'a, N: LockName, M: Mechanism, D: Disk, R: Wait, C: Clock> Board
     fn frames(&mut self) -> Vec<Bytes>
         ensures log { client_log self.new ≡ after_fetch (client_log self.old) result.items }
         ensures turn { HandsTold self.old.caller.seen self.new.caller.seen (event.outbox self.old.pass) (event.handed result.items) result.items }
-        ensures pass { self.new.pass ≡ self.old.pass }
-        ensures clock { self.new.clock ≡ self.old.clock }
+        ensures same { StaysOfClient self.old self.new }
     {
         self.caller.outbox(&self.pass).into_list()
     }

@@ -71,7 +71,7 @@ impl<'a, N: LockName, M: Mechanism, D: Disk, R: Wait, C: Clock> Tended
     for DeviceBoard<'a, N, M, D, R, C> {
     ghost use Rattle.std.specs.Prelude.{◌≡◌};
     ghost use Rattle.xfs_board.specs.Answers.{turned};
-    ghost use Rattle.xfs_board.specs.Boards.{device_log};
+    ghost use Rattle.xfs_board.specs.Boards.{StaysOfDevice, device_log};
     ghost use Rattle.xfs_board.specs.Turns.{IsLook, IsTurnBy};
     ghost use Rattle.xfs_board.specs.Touches.{CountsTouch, TakesFault};
     ghost use Rattle.xfs_model.specs.Events as event;
@@ -82,8 +82,7 @@ impl<'a, N: LockName, M: Mechanism, D: Disk, R: Wait, C: Clock> Tended
     fn wants(&mut self) -> bool
         ensures log { device_log self.new ≡ after_wants (device_log self.old) result }
         ensures look { IsLook self.old.caller.seen self.new.caller.seen self.old.service result }
-        ensures service { self.new.service ≡ self.old.service }
-        ensures clock { self.new.clock ≡ self.old.clock }
+        ensures same { StaysOfDevice self.old self.new }
     {
         self.caller.wants(self.service)
     }
@@ -91,8 +90,7 @@ impl<'a, N: LockName, M: Mechanism, D: Disk, R: Wait, C: Clock> Tended
     fn touch(&mut self, touch: Touch) -> Result<(), Memory>
         ensures log { device_log self.new ≡ after_touch (device_log self.old) touch result }
         ensures turn { CountsTouch self.old.caller self.new.caller touch result }
-        ensures service { self.new.service ≡ self.old.service }
-        ensures clock { self.new.clock ≡ self.old.clock }
+        ensures same { StaysOfDevice self.old self.new }
     {
         match self.caller.touch(touch) {
             Ok(_) => Ok(()),
@@ -103,8 +101,7 @@ impl<'a, N: LockName, M: Mechanism, D: Disk, R: Wait, C: Clock> Tended
     fn fault(&mut self) -> Result<(), Memory>
         ensures log { CountsFault (device_log self.old) (device_log self.new) }
         ensures turn { TakesFault self.old.service self.old.caller self.new.caller result }
-        ensures service { self.new.service ≡ self.old.service }
-        ensures clock { self.new.clock ≡ self.old.clock }
+        ensures same { StaysOfDevice self.old self.new }
     {
         match self.service {
             Service::Card => self.touch(Touch::CardFault),
@@ -116,8 +113,7 @@ impl<'a, N: LockName, M: Mechanism, D: Disk, R: Wait, C: Clock> Tended
     fn turn(&mut self) -> Result<Work2, Memory>
         ensures log { device_log self.new ≡ after_work (device_log self.old) }
         ensures turn { IsTurnBy (C.tells self.old.clock) self.old.caller.seen self.new.caller.seen (event.work self.old.service) (turned result) }
-        ensures service { self.new.service ≡ self.old.service }
-        ensures clock { self.new.clock ≡ self.old.clock }
+        ensures same { StaysOfDevice self.old self.new }
     {
         let now = self.clock.now();
         of_work(self.caller.work(self.service, now))
@@ -126,8 +122,7 @@ impl<'a, N: LockName, M: Mechanism, D: Disk, R: Wait, C: Clock> Tended
     fn closing(&mut self) -> bool
         ensures log { device_log self.new ≡ after_closing (device_log self.old) result }
         ensures caller { self.new.caller ≡ self.old.caller }
-        ensures service { self.new.service ≡ self.old.service }
-        ensures clock { self.new.clock ≡ self.old.clock }
+        ensures same { StaysOfDevice self.old self.new }
     {
         if self.ended.load(Ordering::SeqCst) {
             self.closing = true;

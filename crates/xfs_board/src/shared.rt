@@ -1,17 +1,15 @@
 //! The machine as a chronicle, and the lock that it stands behind.
 
 ghost use Rattle.std.specs.Prelude.{◌≡◌, ◌≤◌, IfOk, IfErr};
-ghost use mathlib.Core.List.{IsPrefix};
 ghost use Rattle.xfs_base.specs.Causes.{next_count};
 ghost use Rattle.xfs_base.specs.declared.moment.TheConstants.{LAST_MOMENT};
 ghost use Rattle.xfs_board.specs.Chronicles.{ComesBack, chronicle, at_opening};
+ghost use Rattle.xfs_board.specs.Turns.{TakesStep};
 ghost use Rattle.xfs_guard.specs.Keeps.{Proceeds};
 ghost use Rattle.xfs_machine.specs.Answers.{joined_as, posted, touched_as, worked};
-ghost use Rattle.xfs_machine.specs.Laws.{IsLawful};
 ghost use Rattle.xfs_machine.specs.MachineView.{guard_of};
 ghost use Rattle.xfs_machine.specs.Wanted.{wants};
 ghost use Rattle.xfs_model.specs.Events as event;
-ghost use Rattle.xfs_model.specs.Step.{Step};
 ghost use Rattle.xfs_model.specs.Told.{AllTell};
 
 use std::alloc::Global;
@@ -102,9 +100,7 @@ impl<M: Mechanism, D: Disk> SharedMachine<M, D> {
     }
 
     pub(crate) fn join(&mut self, service: Service) -> Result<Pass, JoinFault>
-        ensures step { Step self.old.machine.state (event.join service) (joined_as result) self.new.machine.state }
-        ensures laws { IsLawful self.old.machine.state (event.join service) (joined_as result) self.new.machine.state }
-        ensures grown { IsPrefix (chronicle {M = M} self.old) (chronicle self.new) }
+        ensures { TakesStep M self.old (event.join service) (joined_as result) self.new }
     {
         self.machine.join(service)
     }
@@ -117,18 +113,14 @@ impl<M: Mechanism, D: Disk> SharedMachine<M, D> {
         tally: &mut Tally,
     ) -> Result<(), Memory>
         requires { now.0 ≤ LAST_MOMENT }
-        ensures step { Step self.old.machine.state (event.post pass.now reading.entry now) (posted result) self.new.machine.state }
-        ensures laws { IsLawful self.old.machine.state (event.post pass.now reading.entry now) (posted result) self.new.machine.state }
-        ensures grown { IsPrefix (chronicle {M = M} self.old) (chronicle self.new) }
+        ensures takes { TakesStep M self.old (event.post pass.now reading.entry now) (posted result) self.new }
         ensures tally { tally.new ≡ record tally.old { posts = next_count tally.old.posts } }
     {
         self.machine.post_read(pass, reading, now, tally)
     }
 
     pub(crate) fn touch(&mut self, touch: Touch, tally: &mut Tally) -> Result<Touched, Memory>
-        ensures step { Step self.old.machine.state (event.touch touch) (touched_as result) self.new.machine.state }
-        ensures laws { IsLawful self.old.machine.state (event.touch touch) (touched_as result) self.new.machine.state }
-        ensures grown { IsPrefix (chronicle {M = M} self.old) (chronicle self.new) }
+        ensures takes { TakesStep M self.old (event.touch touch) (touched_as result) self.new }
         ensures tally { tally.new ≡ record tally.old { touches = next_count tally.old.touches } }
     {
         self.machine.touch(touch, tally)
@@ -141,28 +133,22 @@ impl<M: Mechanism, D: Disk> SharedMachine<M, D> {
         tally: &mut Tally,
     ) -> Result<Work, Memory>
         requires { now.0 ≤ LAST_MOMENT }
-        ensures step { Step self.old.machine.state (event.work service now) (worked result) self.new.machine.state }
-        ensures laws { IsLawful self.old.machine.state (event.work service now) (worked result) self.new.machine.state }
-        ensures grown { IsPrefix (chronicle {M = M} self.old) (chronicle self.new) }
+        ensures takes { TakesStep M self.old (event.work service now) (worked result) self.new }
         ensures tally { tally.new ≡ record tally.old { works = next_count tally.old.works } }
     {
         self.machine.work(service, now, tally)
     }
 
     pub(crate) fn outbox(&mut self, pass: &Pass, tally: &mut Tally) -> Frames
-        ensures step { Step self.old.machine.state (event.outbox pass.now) (event.handed result) self.new.machine.state }
-        ensures laws { IsLawful self.old.machine.state (event.outbox pass.now) (event.handed result) self.new.machine.state }
+        ensures takes { TakesStep M self.old (event.outbox pass.now) (event.handed result) self.new }
         ensures told { AllTell self.new.machine.state result }
-        ensures grown { IsPrefix (chronicle {M = M} self.old) (chronicle self.new) }
         ensures tally { tally.new ≡ record tally.old { outboxes = next_count tally.old.outboxes } }
     {
         self.machine.outbox(pass, tally)
     }
 
     pub(crate) fn leave(&mut self, pass: Pass)
-        ensures step { Step self.old.machine.state (event.leave pass) event.done self.new.machine.state }
-        ensures laws { IsLawful self.old.machine.state (event.leave pass) event.done self.new.machine.state }
-        ensures grown { IsPrefix (chronicle {M = M} self.old) (chronicle self.new) }
+        ensures { TakesStep M self.old (event.leave pass) event.done self.new }
     {
         self.machine.leave(pass)
     }

@@ -6,4 +6,4 @@ use Rattle.xfs_board.proofs.caller.Caller.join.Goals as goal
 pub returns-clause-turn : goal.returns-clause-turn
 returns-clause-turn g c =
     makes_turn _ _ _ _ _ _ _ c.join-result.new.self (sym (ap seen_by c.take.ensures) ∙ ap (λ v. v.seen) c.self.view_is) c.enter-held.ensures.seen c.value.ensures.now
-    c.join-result.ensures.step c.join-result.ensures.laws c.join-result.ensures.grown (ap (λ s. s.seen) c.leave.ensures.seat)
+    c.join-result.ensures (ap (λ s. s.seen) c.leave.ensures.seat)

@@ -6,4 +6,4 @@ use Rattle.xfs_board.proofs.caller.Caller.leave.Goals as goal
 pub returns-clause-turn : goal.returns-clause-turn
 returns-clause-turn g c =
     makes_turn _ _ _ _ _ _ _ c.leave.new.self (sym (ap seen_by c.take.ensures) ∙ ap (λ v. v.seen) c.self.view_is) c.enter-held.ensures.seen c.value.ensures.now
-    c.leave.ensures.step c.leave.ensures.laws c.leave.ensures.grown (ap (λ s. s.seen) c.leave-2.ensures.seat)
+    c.leave.ensures (ap (λ s. s.seen) c.leave-2.ensures.seat)

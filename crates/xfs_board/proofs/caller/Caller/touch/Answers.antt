@@ -6,4 +6,4 @@ use Rattle.xfs_board.proofs.caller.Caller.touch.Goals as goal
 pub returns-clause-turn : goal.returns-clause-turn
 returns-clause-turn g c =
     makes_turn _ _ _ _ _ _ _ c.touch-result.new.self (sym (ap seen_by c.take.ensures) ∙ ap (λ v. v.seen) c.self.view_is) c.enter-held.ensures.seen c.value.ensures.now
-    c.touch-result.ensures.step c.touch-result.ensures.laws c.touch-result.ensures.grown (ap (λ s. s.seen) c.leave.ensures.seat)
+    c.touch-result.ensures.takes (ap (λ s. s.seen) c.leave.ensures.seat)

@@ -1,9 +1,8 @@
 use Rattle.std.proofs.Common.{◌≡◌, refl, subst, sym}
-use mathlib.Core.List.{IsPrefix}
 use Rattle.xfs_guard.specs.Keeps.{Proceeds}
 use Rattle.xfs_machine.specs.MachineView.{guard_of}
-use Rattle.xfs_board.specs.Chronicles.{Shared, chronicle}
-use Rattle.xfs_board.proofs.Chronicles.{grows, same_base}
+use Rattle.xfs_board.specs.Chronicles.{Shared}
+use Rattle.xfs_board.proofs.Chronicles.{same_base, takes_step}
 use Rattle.xfs_board.proofs.shared.SharedMachine.post.Goals as goal
 
 pub invariant_of-self : goal.invariant_of-self
@@ -12,9 +11,8 @@ invariant_of-self g c =
     let before = subst (λ m. Proceeds g.D.Disk start (guard_of m)) (sym c.deref_mut.ensures.value) c.self.invariant.0 in
     (subst (λ v. Proceeds g.D.Disk start v) (sym c.post_read.ensures.guard) before, same_base start c.self.inside.machine.value c.deref_mut.result.now c.post_read.new.self _ _ (λ e. cc) c.post_read.ensures.laws c.deref_mut.ensures.value c.self.invariant.1)
 
-pub returns-clause-grown : goal.returns-clause-grown
-returns-clause-grown g c =
+pub returns-clause-takes : goal.returns-clause-takes
+returns-clause-takes g c =
     let found : Shared g.row.D.Denot = record { start = guard_of c.self.inside.start.value; machine = c.deref_mut.result.now } in
     let left : Shared g.row.D.Denot = record { start = found.start; machine = c.post_read.new.self } in
-    let entered = subst (λ m. record { start = found.start; machine = m } ≡ c.args.self.now) (sym c.deref_mut.ensures.value) c.self.view_is in
-    subst (λ s. IsPrefix (chronicle {M = g.row.M.Denot} s) (chronicle left)) entered (grows found left _ _ refl c.post_read.ensures.laws)
+    takes_step _ found left _ _ (subst (λ m. record { start = found.start; machine = m } ≡ c.args.self.now) (sym c.deref_mut.ensures.value) c.self.view_is) refl c.post_read.ensures.step c.post_read.ensures.laws

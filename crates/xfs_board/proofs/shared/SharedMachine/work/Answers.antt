@@ -1,10 +1,9 @@
 use Rattle.std.proofs.Common.{◌≡◌, refl, subst, sym}
-use mathlib.Core.List.{IsPrefix}
 use Rattle.xfs_guard.specs.Keeps.{Proceeds}
 use Rattle.xfs_guard.proofs.KeepsLaws.{Proceeds-trans}
 use Rattle.xfs_machine.specs.MachineView.{guard_of}
-use Rattle.xfs_board.specs.Chronicles.{Shared, chronicle}
-use Rattle.xfs_board.proofs.Chronicles.{grows, same_base}
+use Rattle.xfs_board.specs.Chronicles.{Shared}
+use Rattle.xfs_board.proofs.Chronicles.{same_base, takes_step}
 use Rattle.xfs_board.proofs.shared.SharedMachine.work.Goals as goal
 
 pub invariant_of-self : goal.invariant_of-self
@@ -13,9 +12,8 @@ invariant_of-self g c =
     let before = subst (λ m. Proceeds g.D.Disk start (guard_of m)) (sym c.deref_mut.ensures.value) c.self.invariant.0 in
     (Proceeds-trans g.D.Disk start (guard_of c.deref_mut.result.now) (guard_of c.work.new.self) g.met.D.Disk.counts_now before c.work.ensures.proceeds, same_base start c.self.inside.machine.value c.deref_mut.result.now c.work.new.self _ _ (λ e. cc) c.work.ensures.laws c.deref_mut.ensures.value c.self.invariant.1)
 
-pub returns-clause-grown : goal.returns-clause-grown
-returns-clause-grown g c =
+pub returns-clause-takes : goal.returns-clause-takes
+returns-clause-takes g c =
     let found : Shared g.row.D.Denot = record { start = guard_of c.self.inside.start.value; machine = c.deref_mut.result.now } in
     let left : Shared g.row.D.Denot = record { start = found.start; machine = c.work.new.self } in
-    let entered = subst (λ m. record { start = found.start; machine = m } ≡ c.args.self.now) (sym c.deref_mut.ensures.value) c.self.view_is in
-    subst (λ s. IsPrefix (chronicle {M = g.row.M.Denot} s) (chronicle left)) entered (grows found left _ _ refl c.work.ensures.laws)
+    takes_step _ found left _ _ (subst (λ m. record { start = found.start; machine = m } ≡ c.args.self.now) (sym c.deref_mut.ensures.value) c.self.view_is) refl c.work.ensures.step c.work.ensures.laws
