@@ -1,5 +1,5 @@
 -- A withdrawal asks for a nonce, then for notes by a token for that nonce, then for their presentation: each command once the one before it succeeded.
-use Rattle.std.specs.Prelude.{◌≡◌, ℕ, ◌*◌, ◌==◌, ◌++◌, List, [], ◌∷◌, codes, Bool, true, false, fold, Option, None, Some, option_and_then, Result, Ok, Err, if◌then◌else◌}
+use Rattle.std.specs.Prelude.{◌≡◌, ℕ, ◌*◌, ◌==◌, ◌++◌, List, [], ◌∷◌, codes, Bool, true, false, fold, Option, None, Some, option_and_then, Result, Ok, Err, OnErr, if◌then◌else◌}
 use Rattle.serde_json.specs.Data.{Data, string, object, member, no_members}
 use Rattle.serde_json.specs.Find.{as_str}
 use Rattle.xfs_json.specs.Members.{member_of, member_as}
@@ -28,6 +28,11 @@ pub record Terms : Type 0 where
 pub record Withdrawing : Type 0 where
   pub terms : Terms
   pub desk : Remembered
+
+-- a withdrawal stays one on the same terms, and where the call fails it stays as it was
+pub record KeepsTerms {T E : Type 0} (result : Result T E) (old new : Withdrawing) : Type 0 where
+  pub terms : new.terms ≡ old.terms
+  pub same : OnErr result (new ≡ old)
 
 -- what follows a message
 pub data Step : Type 0 where

@@ -11,7 +11,7 @@ ghost use Rattle.xfs_client.specs.Commands.{IsCommand};
 ghost use Rattle.xfs_client.specs.Desks.{GrowsBy, OfKept};
 ghost use Rattle.xfs_client.specs.History.{told, told_in};
 ghost use Rattle.xfs_client.specs.Hearings.{AsksOn, ComesNext, Hearing, OfHearing};
-ghost use Rattle.xfs_client.specs.Withdrawals.{HasHeard, IsMove, OfHeard, conversation, step_in};
+ghost use Rattle.xfs_client.specs.Withdrawals.{HasHeard, IsMove, KeepsTerms, OfHeard, conversation, step_in};
 ghost use Rattle.xfs_client.specs.Withdraws.{LacksNonceAlone, WithdrawsOn};
 ghost use Rattle.xfs_client.specs.History as history;
 ghost use Rattle.xfs_client.specs.declared.desk.AskFault.TheVariants as AskFault;
@@ -57,8 +57,7 @@ pub fn next(withdrawal: &mut Withdrawal, frame: &[u8]) -> Result<Move, HearFault
     ensures known { IfErr result (λ e. e ≢ HearFault.Memory → OfHeard withdrawal.old (λ before. LacksNonceAlone withdrawal.old.terms before frame.now)) }
     ensures heard { OnOk result (OfHeard withdrawal.old (λ before. HasHeard withdrawal.new (before ++ frame.now ∷ []))) }
     ensures withdraws { IfOk result (λ m. OfHeard withdrawal.old (λ before. WithdrawsOn withdrawal.old.terms withdrawal.new.terms m before frame.now)) }
-    ensures terms { withdrawal.new.terms ≡ withdrawal.old.terms }
-    ensures same { OnErr result (withdrawal.new ≡ withdrawal.old) }
+    ensures keeps { KeepsTerms result withdrawal.old withdrawal.new }
 {
     withdrawal.next(frame)
 }

@@ -6,7 +6,7 @@ ghost use Rattle.xfs_client.specs.Commands.{ReadsAs, command_text};
 ghost use Rattle.xfs_client.specs.Desks.{Recalls, IsOpenTo, IsEndOf, GrowsBy};
 ghost use Rattle.xfs_client.specs.History as history;
 ghost use Rattle.xfs_client.specs.History.{Entry, Told, is_open, told};
-ghost use Rattle.xfs_client.specs.Withdrawals.{HasHeard, IsDispense, IsMove, IsPresent, after_completion, after_success, conversation, dispense_payload, goes_on, is_success, nonce_of, step_in, step_of, EndsThen, HearsThen, OfHeard};
+ghost use Rattle.xfs_client.specs.Withdrawals.{HasHeard, IsDispense, IsMove, IsPresent, KeepsTerms, after_completion, after_success, conversation, dispense_payload, goes_on, is_success, nonce_of, step_in, step_of, EndsThen, HearsThen, OfHeard};
 ghost use Rattle.xfs_client.specs.declared.heard.HearFault.TheVariants as HearFault;
 
 use crate::dispense::{payload_for, token_for};
@@ -78,8 +78,7 @@ impl Withdrawal {
         ensures text { IfOk result (λ t. t.items ≡ command_text (codes "Common.GetCommandNonce") 1 empty) }
         ensures reads_back { IfOk result (λ t. ReadsAs t.items (codes "Common.GetCommandNonce") 1 empty) }
         ensures heard { OnOk result (HasHeard self.new []) }
-        ensures terms { self.new.terms ≡ self.old.terms }
-        ensures same { OnErr result (self.new ≡ self.old) }
+        ensures keeps { KeepsTerms result self.old self.new }
     {
         let payload = Value::Object(Map::new(self.alloc));
         self.desk.ask_next("Common.GetCommandNonce", &payload)
@@ -91,8 +90,7 @@ impl Withdrawal {
         ensures moved { IfOk result (λ m. OfHeard self.old (λ texts. IsMove self.old.terms (step_in (conversation texts) bytes.now) m)) }
         ensures refused { IfErr result (λ e. e ≢ HearFault.Memory → OfHeard self.old (λ texts. step_in (conversation texts) bytes.now ≡ Err e)) }
         ensures heard { OnOk result (OfHeard self.old (λ texts. HasHeard self.new (texts ++ bytes.now ∷ []))) }
-        ensures terms { self.new.terms ≡ self.old.terms }
-        ensures same { OnErr result (self.new ≡ self.old) }
+        ensures keeps { KeepsTerms result self.old self.new }
     {
         let heard = self.desk.listen(bytes)?;
         self.answer(&heard)
@@ -102,8 +100,7 @@ impl Withdrawal {
         ensures moved { IfOk result (IsMove self.old.terms (step_of self.old.desk.asked (told heard.now))) }
         ensures refused { IfErr result (λ e. e ≢ HearFault.Memory → step_of self.old.desk.asked (told heard.now) ≡ Err e) }
         ensures grown { OnOk result (HearsThen (told heard.now) (step_of self.old.desk.asked (told heard.now)) self.old.desk self.new.desk) }
-        ensures terms { self.new.terms ≡ self.old.terms }
-        ensures same { OnErr result (self.new ≡ self.old) }
+        ensures keeps { KeepsTerms result self.old self.new }
     {
         match heard {
             Heard::Completed { id, code, payload } => self.after_completion(*id, *code, payload),
@@ -122,8 +119,7 @@ impl Withdrawal {
         ensures moved { IfOk result (IsMove self.old.terms (after_completion self.old.desk.asked code (view payload.now))) }
         ensures refused { IfErr result (λ e. e ≢ HearFault.Memory → after_completion self.old.desk.asked code (view payload.now) ≡ Err e) }
         ensures grown { OnOk result (EndsThen id (after_completion self.old.desk.asked code (view payload.now)) self.old.desk self.new.desk) }
-        ensures terms { self.new.terms ≡ self.old.terms }
-        ensures same { OnErr result (self.new ≡ self.old) }
+        ensures keeps { KeepsTerms result self.old self.new }
     {
         if is_success(code) {
             self.after_success(id, payload)
@@ -138,8 +134,7 @@ impl Withdrawal {
         ensures moved { IfOk result (IsMove self.old.terms (after_success self.old.desk.asked (view payload.now))) }
         ensures refused { IfErr result (λ e. e ≢ HearFault.Memory → after_success self.old.desk.asked (view payload.now) ≡ Err e) }
         ensures grown { OnOk result (EndsThen id (after_success self.old.desk.asked (view payload.now)) self.old.desk self.new.desk) }
-        ensures terms { self.new.terms ≡ self.old.terms }
-        ensures same { OnErr result (self.new ≡ self.old) }
+        ensures keeps { KeepsTerms result self.old self.new }
     {
         let asked = self.desk.asks();
         let next = if asked == 1 {
@@ -158,8 +153,7 @@ impl Withdrawal {
         ensures text { IfOk result (λ t. MatchOption (nonce_of (view payload.now)) ⊥ (λ nonce. IsDispense self.old.terms nonce t.items)) }
         ensures refused { IfErr result (λ e. e ≢ HearFault.Memory → (e ≡ HearFault.Shape) × (nonce_of (view payload.now) ≡ None)) }
         ensures grown { OnOk result (GrowsBy history.ask self.old.desk self.new.desk) }
-        ensures terms { self.new.terms ≡ self.old.terms }
-        ensures same { OnErr result (self.new ≡ self.old) }
+        ensures keeps { KeepsTerms result self.old self.new }
     {
         let Ok(Some(nonce)) = words(payload, "commandNonce") else {
             return Err(HearFault::Shape);
@@ -186,8 +180,7 @@ impl Withdrawal {
         requires { self.old.desk.asked ≡ 2 }
         ensures text { IfOk result (λ t. IsPresent t.items) }
         ensures grown { OnOk result (GrowsBy history.ask self.old.desk self.new.desk) }
-        ensures terms { self.new.terms ≡ self.old.terms }
-        ensures same { OnErr result (self.new ≡ self.old) }
+        ensures keeps { KeepsTerms result self.old self.new }
     {
         let payload = Value::Object(Map::new(self.alloc));
         self.desk.ask_next("CashDispenser.Present", &payload)

@@ -1,5 +1,5 @@
 -- What `load` does, deed by deed: its rounds with their amounts, the refill after every eighth of them, and what its client keeps of what comes back.
-use Rattle.std.specs.Prelude.{◌+◌, ◌*◌, ◌%◌, ◌==◌, ◌&&◌, ◌++◌, ◌∷◌, [], ℕ, zero, suc, List, Bool, true, false, fold, codes, if◌then◌else◌, None, Some}
+use Rattle.std.specs.Prelude.{◌≡◌, ◌+◌, ◌*◌, ◌%◌, ◌==◌, ◌&&◌, ◌++◌, ◌∷◌, [], ℕ, zero, suc, List, Bool, true, false, fold, codes, if◌then◌else◌, None, Some}
 use Rattle.std.specs.declared.option.Option.{Option}
 use Rattle.serde_json.specs.Data.{Data}
 use Rattle.serde_json.specs.Find.{as_str}
@@ -51,6 +51,11 @@ pub record Client : Type 0 where
   pub nonce : Option (List ℕ)
   pub failed : Bool
   pub refused : ℕ
+
+-- what a client hears changes neither how often it asked nor how many rounds failed
+pub record KeepsCounts (old new : Client) : Type 0 where
+  pub asked : new.asked ≡ old.asked
+  pub refused : new.refused ≡ old.refused
 
 abbrev pub newcomer : List ℕ → Pass → Client
 newcomer key pass = record { key = key; pass = pass; asked = 0; nonce = None; failed = false; refused = 0 }

@@ -6,7 +6,7 @@ ghost use Rattle.xfs_client.specs.Withdrawals.{is_success};
 ghost use Rattle.xfs_envelope.specs.Replies.{told};
 ghost use Rattle.xfs_guard.specs.Keeps.{Proceeds};
 ghost use Rattle.xfs_load.specs.Dues.{IsDueTo};
-ghost use Rattle.xfs_load.specs.Generator.{amount_of, asking, completed, after_round, hears, hears_all, hears_reply, is_for_nonce, newcomer, nonce_told, refill, refill_behind, round_of, say, take, withdrawal_of};
+ghost use Rattle.xfs_load.specs.Generator.{KeepsCounts, amount_of, asking, completed, after_round, hears, hears_all, hears_reply, is_for_nonce, newcomer, nonce_told, refill, refill_behind, round_of, say, take, withdrawal_of};
 ghost use Rattle.xfs_load.specs.Plays.{DoesDeed, DoesInPart, Plays, PlaysInPart};
 ghost use Rattle.xfs_load.specs.Texts.{GoesWith, IsText};
 ghost use Rattle.xfs_load.specs.declared.ask.Ask.TheVariants as asks;
@@ -200,8 +200,7 @@ impl Client {
     // Hears the frames, in order.
     fn hear_all(&mut self, ask: Ask, frames: Frames) -> Result<(), Memory>
         ensures heard { OnOk result (self.new ≡ hears_all ask self.old frames) }
-        ensures asked { self.new.asked ≡ self.old.asked }
-        ensures refused { self.new.refused ≡ self.old.refused }
+        ensures counts { KeepsCounts self.old self.new }
     {
         let due = Due::new(self.alloc, ask, self.asked)?;
         let list = frames.into_list();
@@ -215,8 +214,7 @@ impl Client {
     fn hear(&mut self, ask: Ask, due: &Due, frame: &[u8]) -> Result<(), Memory>
         requires { IsDueTo ask due.now }
         ensures heard { OnOk result (self.new ≡ hears ask self.old frame.now) }
-        ensures asked { self.new.asked ≡ self.old.asked }
-        ensures refused { self.new.refused ≡ self.old.refused }
+        ensures counts { KeepsCounts self.old self.new }
     {
         if due.has(frame) {
             return Ok(());
@@ -231,8 +229,7 @@ impl Client {
     // Hears an answer. What is no completion tells nothing.
     fn hear_answer(&mut self, ask: Ask, answer: Answer) -> Result<(), Memory>
         ensures heard { OnOk result (self.new ≡ hears_reply ask self.old (Some (told answer))) }
-        ensures asked { self.new.asked ≡ self.old.asked }
-        ensures refused { self.new.refused ≡ self.old.refused }
+        ensures counts { KeepsCounts self.old self.new }
     {
         match answer {
             Answer::Completion {
@@ -255,8 +252,7 @@ impl Client {
         payload: &Value,
     ) -> Result<(), Memory>
         ensures heard { OnOk result (self.new ≡ completed ask id code (view payload.now) self.old) }
-        ensures asked { self.new.asked ≡ self.old.asked }
-        ensures refused { self.new.refused ≡ self.old.refused }
+        ensures counts { KeepsCounts self.old self.new }
     {
         if !is_success(code) {
             self.failed = true;

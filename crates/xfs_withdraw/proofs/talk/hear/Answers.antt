@@ -17,12 +17,12 @@ returns-in_err-give-in-Ask-clause-err g c =
 
 pub returns-in_ok-give-in-Ask-clause-ok : goal.returns-in_ok-give-in-Ask-clause-ok
 returns-in_ok-give-in-Ask-clause-ok g c =
-    heard_asks _ _ _ _ c.requires _ _ c.in-Ask.ask c.in_ok-give-in-Ask.field-0 c.in_ok-ask.ensures.terms (rw c.list.ensures at c.in_ok-ask.ensures.heard)
+    heard_asks _ _ _ _ c.requires _ _ c.in-Ask.ask c.in_ok-give-in-Ask.field-0 c.in_ok-ask.ensures.keeps.terms (rw c.list.ensures at c.in_ok-ask.ensures.heard)
     (rw (c.list.ensures, c.in-Ask.is) at c.in_ok-ask.ensures.moved) (rw c.list-in-Ask.ensures at c.in_ok-give-in-Ask.ensures)
 
 pub returns-in-Wait-clause-ok : goal.returns-in-Wait-clause-ok
 returns-in-Wait-clause-ok g c =
-    heard_waits _ _ _ _ c.requires _ c.in_ok-ask.ensures.terms (rw c.list.ensures at c.in_ok-ask.ensures.heard) (rw (c.list.ensures, c.in-Wait.is) at c.in_ok-ask.ensures.moved)
+    heard_waits _ _ _ _ c.requires _ c.in_ok-ask.ensures.keeps.terms (rw c.list.ensures at c.in_ok-ask.ensures.heard) (rw (c.list.ensures, c.in-Wait.is) at c.in_ok-ask.ensures.moved)
 
 pub returns-in-Done-clause-err : goal.returns-in-Done-clause-err
 returns-in-Done-clause-err g c = done_end _ _ _ _ c.requires (rw (c.list.ensures, c.in-Done.is) at c.in_ok-ask.ensures.moved)
