@@ -4,3 +4,4 @@ pub mod Resumed
 pub mod Secrets
 pub mod Setups
 pub mod Simulated
+pub mod Unused

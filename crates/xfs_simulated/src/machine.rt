@@ -1,5 +1,4 @@
 ghost use Rattle.std.specs.Prelude.{◌≡◌, List, [], replicate, IfSome};
-ghost use Rattle.xfs_base.specs.Causes.{IfTold};
 ghost use Rattle.xfs_disk.specs.MemDisk.{bytes_of, steps_of};
 ghost use Rattle.xfs_disk.specs.Wrapped.{failing_calls, inner_of};
 ghost use Rattle.xfs_guard.specs.Starts.{Starts};
@@ -8,6 +7,7 @@ ghost use Rattle.xfs_journal.specs.declared.record.Rec.{Rec};
 ghost use Rattle.xfs_mech.specs.SimWatch.{touches_of};
 ghost use Rattle.xfs_mech.specs.Sim.{units_of, places_of, motions_of, faults_of, failures_of};
 ghost use Rattle.xfs_simulated.specs.Simulated.{four_units, full_limits, hundred_each};
+ghost use Rattle.xfs_simulated.specs.Unused.{IsUnused};
 
 use crate::secret::{OWN, SECOND, Secrets};
 use std::alloc::Global;
@@ -95,10 +95,7 @@ pub fn core_on<M: Mechanism>(
     disk: MemDisk,
     limits: Limits,
 ) -> Core<M, MemDisk>
-    requires fresh { IfTold (M.motions mech) (λ motions. motions ≡ []) }
-    requires units { M.units mech ≡ units }
-    requires settled { steps_of disk ≡ [] }
-    requires none { (records : List Rec) → ¬ IsImage (bytes_of disk) records }
+    requires { IsUnused M.Mechanism mech units disk }
     ensures handed { (result.mech ≡ mech) × (result.disk ≡ disk) × (result.units ≡ units) × (result.limits ≡ limits) }
     ensures secrets { (result.key ≡ replicate 32 0x0b) × (result.seed ≡ replicate 32 0) × (result.life ≡ 0) }
     ensures starts { Starts M.Mechanism ⟦<MemDisk as Disk>⟧ result }
@@ -114,10 +111,7 @@ pub fn core_under<M: Mechanism>(
     disk: MemDisk,
     limits: Limits,
 ) -> Core<M, MemDisk>
-    requires fresh { IfTold (M.motions mech) (λ motions. motions ≡ []) }
-    requires units { M.units mech ≡ units }
-    requires settled { steps_of disk ≡ [] }
-    requires none { (records : List Rec) → ¬ IsImage (bytes_of disk) records }
+    requires { IsUnused M.Mechanism mech units disk }
     ensures handed { (result.mech ≡ mech) × (result.disk ≡ disk) × (result.units ≡ units) × (result.limits ≡ limits) }
     ensures secrets { (result.key ≡ secrets.key) × (result.seed ≡ secrets.seed) × (result.life ≡ 0) }
     ensures starts { Starts M.Mechanism ⟦<MemDisk as Disk>⟧ result }
@@ -143,10 +137,7 @@ pub fn core_failing<M: Mechanism>(
     limits: Limits,
     failing: Vec<u64>,
 ) -> Core<M, FailDisk>
-    requires fresh { IfTold (M.motions mech) (λ motions. motions ≡ []) }
-    requires units { M.units mech ≡ units }
-    requires settled { steps_of disk ≡ [] }
-    requires none { (records : List Rec) → ¬ IsImage (bytes_of disk) records }
+    requires { IsUnused M.Mechanism mech units disk }
     ensures handed { (result.mech ≡ mech) × (inner_of result.disk ≡ disk) × (result.units ≡ units) × (result.limits ≡ limits) }
     ensures failing { failing_calls result.disk ≡ failing.items }
     ensures secrets { (result.key ≡ secrets.key) × (result.seed ≡ secrets.seed) × (result.life ≡ 0) }
