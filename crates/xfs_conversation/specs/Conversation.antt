@@ -42,3 +42,7 @@ pub data Conversation : List (List ℕ) → List (List ℕ) → List Pending →
   heard : {texts frames : List (List ℕ)} {before after : List Pending} → Conversation texts frames before
       → (frame : List ℕ) → Says before (reply_in frame) after
       → Conversation texts (frames ++ frame ∷ []) after
+
+-- P holds of every conversation
+abbrev pub EachConversation : (List (List ℕ) → List (List ℕ) → List Pending → Type 0) → Type 0
+EachConversation P = (texts frames : List (List ℕ)) (pending : List Pending) → Conversation texts frames pending → P texts frames pending

@@ -12,6 +12,10 @@ pub record IsFront (texts frames : List (List ℕ)) : Type 0 where
   pub texts_are : texts ≡ acknowledged ++ later
   pub talk : Conversation acknowledged frames pending
 
+-- what was heard up to some frame is a conversation with the first of the texts
+abbrev pub HasFronts : List (List ℕ) → List (List ℕ) → List Pending → Type 0
+HasFronts texts frames pending = (before later : List (List ℕ)) → frames ≡ before ++ later → IsFront texts before
+
 -- one of the texts asks for this command, by this id and name
 pub record WasPosted (texts : List (List ℕ)) (p : Pending) : Type 0 where
   pub text : List ℕ

@@ -48,3 +48,7 @@ pub record HasParts (texts frames : List (List ℕ)) (pending : List Pending) : 
   pub left : pending ≡ pending_after frames
   -- each frame is an answer: what is no acknowledge, completion or event is unsolicited
   pub answers : EachFrame frames (λ before frame. IsSome (reply_in frame))
+
+-- P holds of all that has the parts of a conversation
+abbrev pub EachWithParts : (List (List ℕ) → List (List ℕ) → List Pending → Type 0) → Type 0
+EachWithParts P = (texts frames : List (List ℕ)) (pending : List Pending) → HasParts texts frames pending → P texts frames pending

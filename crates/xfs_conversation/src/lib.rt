@@ -2,14 +2,13 @@
 //! every such conversation.
 #![tactic(auto)]
 
-ghost use Rattle.std.specs.Prelude.{ℕ, ◌≡◌, ◌++◌, List, [], All};
-ghost use Rattle.xfs_conversation.specs.Conversation.{Conversation};
-ghost use Rattle.xfs_conversation.specs.Fronts.{IsFront, WasPosted};
+ghost use Rattle.std.specs.Prelude.{◌≡◌, [], All};
+ghost use Rattle.xfs_conversation.specs.Conversation.{Conversation, EachConversation};
+ghost use Rattle.xfs_conversation.specs.Fronts.{HasFronts, WasPosted};
 ghost use Rattle.xfs_conversation.specs.Immediate.{IsKeptByImmediate};
 ghost use Rattle.xfs_conversation.specs.Once.{IsOnce};
-ghost use Rattle.xfs_conversation.specs.Parts.{HasParts};
+ghost use Rattle.xfs_conversation.specs.Parts.{EachWithParts, HasParts};
 ghost use Rattle.xfs_conversation.specs.Pending as pending;
-ghost use Rattle.xfs_conversation.specs.Pending.{Pending};
 
 /// Whether a command may have this request id: one from 1 to 2147483647 (CWA XFS4IoT). Whether
 /// another command is pending with it is not looked at.
@@ -27,28 +26,28 @@ pub fn conversations_begin_empty()
 /// A conversation has its parts, and what has them is a conversation: so a reader may take either
 /// for its meaning.
 pub fn conversations_are_their_parts()
-    ensures parts { (texts frames : List (List ℕ)) (pending : List Pending) → Conversation texts frames pending → HasParts texts frames pending }
-    ensures converse { (texts frames : List (List ℕ)) (pending : List Pending) → HasParts texts frames pending → Conversation texts frames pending }
+    ensures parts { EachConversation HasParts }
+    ensures converse { EachWithParts Conversation }
 {}
 
 /// Each text has one acknowledge, and a command that it accepts has at most one completion.
 pub fn commands_complete_once()
-    ensures { (texts frames : List (List ℕ)) (pending : List Pending) → Conversation texts frames pending → IsOnce texts frames pending }
+    ensures { EachConversation IsOnce }
 {}
 
 /// What was heard up to some frame is a conversation with the first of the texts, whatever was
 /// heard later.
 pub fn fronts_are_conversations()
-    ensures { (texts before later : List (List ℕ)) (pending : List Pending) → Conversation texts (before ++ later) pending → IsFront texts before }
+    ensures { EachConversation HasFronts }
 {}
 
 /// Each pending command was posted, by this id and name.
 pub fn pending_commands_were_posted()
-    ensures { (texts frames : List (List ℕ)) (pending : List Pending) → Conversation texts frames pending → All (WasPosted texts) pending }
+    ensures { EachConversation (λ texts _ pending. All (WasPosted texts) pending) }
 {}
 
 /// A command that the frame behind its acknowledge completes leaves the pending commands as they
 /// were.
 pub fn immediate_commands_keep_what_is_pending()
-    ensures { (texts frames : List (List ℕ)) (pending : List Pending) → Conversation texts frames pending → IsKeptByImmediate texts frames pending }
+    ensures { EachConversation IsKeptByImmediate }
 {}
