@@ -3,7 +3,7 @@ use Rattle.std.specs.Prelude.{◌≡◌, ℕ, List, Bool, true, false, ◌&&◌,
 use Rattle.std.specs.List.{list_any}
 use Rattle.std.specs.Ordering.{nat_cmp}
 use Rattle.std.specs.BTreeMap.{is_at}
-use Rattle.xfs_client.specs.History.{Told, acknowledged, refused, event, completed, unsolicited, Entry, asks, acknowledges, ends, was_heard, is_asked, is_open, is_acknowledged}
+use Rattle.xfs_client.specs.History.{Told, acknowledged, refused, event, completed, unsolicited, Entry, heard, asks, acknowledges, ends, was_heard, is_asked, is_open, is_acknowledged}
 
 pub record Remembered : Type 0 where
   pub asked : ℕ
@@ -35,6 +35,10 @@ IsOpenTo h (refused id status) = is_open h id ≡ true
 IsOpenTo h (event id) = is_open h id ≡ true
 IsOpenTo h (completed id code payload) = is_open h id ≡ true
 IsOpenTo h unsolicited = ⊤
+
+-- the desk keeps every history that it kept, with what was told behind it, where the ask that this is for is open
+abbrev pub HearsOpen : Told → Remembered → Remembered → Type 0
+HearsOpen t old new = OfKept old (λ h. IsOpenTo h t → Recalls new (h ++ heard t ∷ []))
 
 -- what is told ends the ask with the id, and is no acknowledge
 pub record IsEndOf (id : ℕ) (t : Told) : Type 0 where

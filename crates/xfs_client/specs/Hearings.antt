@@ -36,6 +36,10 @@ pub record AsksOn (text : List ℕ) (old new : Remembered) : Type 0 where
   pub keeps : GrowsBy ask old new
   pub hearing : OfHearing old (λ h texts frames. Hearing (h ++ ask ∷ []) (texts ++ text ∷ []) frames)
 
+-- behind all that the desk asked and heard, it heard the frame and was told this
+abbrev pub HearsOn : Told → List ℕ → Remembered → Type 0
+HearsOn t frame d = OfHearing d (λ h texts past. Hearing (h ++ heard t ∷ []) texts (past ++ frame ∷ []))
+
 -- the frame comes next in a lawful conversation, whose texts are the first of those that were asked
 pub record ComesNext (h : List Entry) (frame : List ℕ) : Type 0 where
   pub texts : List (List ℕ)

@@ -89,11 +89,15 @@ abbrev pub of_ask : Option ℕ → (ℕ → Told) → Result Told HearFault
 of_ask None of = Err Stranger
 of_ask (Some id) of = Ok (of id)
 
+-- what a completion tells
+abbrev pub completion_in : List Entry → ℕ → Code → Data → Result Told HearFault
+completion_in h id code payload = of_ask (open_ask h id) (λ n. completed n code payload)
+
 -- what an answer tells
 abbrev pub told_by : List Entry → Reply → Result Told HearFault
 told_by h (reply.acknowledge id name status) = of_ask (addressee h id) (with_status status)
 told_by h (reply.event id name payload) = of_ask (open_ask h id) event
-told_by h (reply.completion id name code payload) = of_ask (open_ask h id) (λ n. completed n code payload)
+told_by h (reply.completion id name code payload) = completion_in h id code payload
 told_by h (reply.unsolicited name payload) = Ok unsolicited
 
 abbrev pub told_of : List Entry → Option Reply → Result Told HearFault

@@ -156,3 +156,11 @@ IsMove terms (Ok presents) m = IsAskMove IsPresent m
 IsMove terms (Ok ends) m = m ≡ Done
 IsMove terms (Ok (fails code)) m = m ≡ Ended code
 IsMove terms (Ok (gives_up status)) m = m ≡ Refused status
+
+-- the withdrawal makes this move on the text, whatever it heard since its start
+abbrev pub MovesOn : Withdrawing → List ℕ → Move → Type 0
+MovesOn w text m = OfHeard w (λ texts. IsMove w.terms (step_in (conversation texts) text) m)
+
+-- the withdrawal refuses the text for this, whatever it heard since its start
+abbrev pub RefusesFor : Withdrawing → List ℕ → HearFault → Type 0
+RefusesFor w text why = OfHeard w (λ texts. step_in (conversation texts) text ≡ Err why)

@@ -5,7 +5,7 @@ use Rattle.std.specs.Prelude.{◌≡◌, ℕ, List, [], ◌∷◌, ◌++◌, cod
 use Rattle.serde_json.specs.Data.{Data}
 use Rattle.xfs_client.specs.Commands.{ReadsAs, command_text}
 use Rattle.xfs_client.specs.History.{Entry, asks, completed, told_in}
-use Rattle.xfs_client.specs.Withdrawals.{Terms, IsMove, conversation, nonce_of, step_in}
+use Rattle.xfs_client.specs.Withdrawals.{Terms, Withdrawing, IsMove, OfHeard, conversation, nonce_of, step_in}
 use Rattle.xfs_client.specs.declared.heard.HearFault.{HearFault}
 use Rattle.xfs_client.specs.declared.withdrawal.Move.{Move}
 use Rattle.xfs_client.specs.declared.withdrawal.Move.TheVariants.{Ask, Wait, Done, Ended, Refused}
@@ -58,3 +58,11 @@ pub record IsUnheard (before : List (List ℕ)) (frame : List ℕ) : Type 0 wher
 -- of a frame that comes next in a lawful conversation nothing is missing but the nonce
 abbrev pub LacksNonceAlone : Terms → List (List ℕ) → List ℕ → Type 0
 LacksNonceAlone terms before frame = ComesTo terms before frame → LacksNonce (conversation before) frame
+
+-- of a frame that comes next nothing is missing but the nonce, whatever the withdrawal heard since its start
+abbrev pub LacksOnlyNonce : Withdrawing → List ℕ → Type 0
+LacksOnlyNonce w frame = OfHeard w (λ before. LacksNonceAlone w.terms before frame)
+
+-- the withdrawal goes on with a frame and a move, whatever it heard since its start
+abbrev pub WithdrawsBy : Withdrawing → Withdrawing → List ℕ → Move → Type 0
+WithdrawsBy old new frame m = OfHeard old (λ before. WithdrawsOn old.terms new.terms m before frame)

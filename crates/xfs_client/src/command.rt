@@ -1,10 +1,8 @@
-ghost use Rattle.std.specs.Prelude.{◌≡◌, ◌≤◌, true, false, IfOk};
-ghost use Rattle.serde_json.specs.Data.{depth};
+ghost use Rattle.std.specs.Prelude.{◌≡◌, true, IfOk};
 ghost use Rattle.serde_json.specs.View.{view};
-ghost use Rattle.serde_json.specs.Written.{has_float};
 ghost use Rattle.xfs_envelope.specs.Messages.{framed};
 ghost use Rattle.xfs_envelope.specs.Names.{is_name};
-ghost use Rattle.xfs_client.specs.Commands.{ReadsAs, command_header, command_text};
+ghost use Rattle.xfs_client.specs.Commands.{IsWritable, ReadsAs, command_header, command_text};
 
 use serde_json::{json, put};
 use std::alloc::{AllocError, Global};
@@ -18,8 +16,7 @@ pub(crate) fn command(
     id: u64,
     payload: &Value,
 ) -> Result<Vec<u8>, Memory>
-    requires no_float { has_float (view payload.now) ≡ false }
-    requires depth { depth (view payload.now) ≤ 120 }
+    requires { IsWritable (view payload.now) }
     ensures text { IfOk result (λ t. t.items ≡ command_text name.now id (view payload.now)) }
     ensures reads_back { IfOk result (λ t. is_name name.now ≡ true → ReadsAs t.items name.now id (view payload.now)) }
 {

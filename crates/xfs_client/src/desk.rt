@@ -1,13 +1,11 @@
-ghost use Rattle.std.specs.Prelude.{◌≡◌, ◌≢◌, ◌↔◌, ◌<◌, ◌≤◌, ◌+◌, ◌++◌, ◌∷◌, [], List, true, false, IsTrue, IfOk, IfErr, OnOk, OnErr, Ok, Err};
-ghost use Rattle.serde_json.specs.Data.{depth};
+ghost use Rattle.std.specs.Prelude.{◌≡◌, ◌≢◌, ◌↔◌, ◌<◌, ◌≤◌, ◌+◌, ◌++◌, ◌∷◌, [], List, true, IsTrue, IfOk, IfErr, OnOk, OnErr, Ok, Err};
 ghost use Rattle.serde_json.specs.View.{view};
-ghost use Rattle.serde_json.specs.Written.{has_float};
 ghost use Rattle.xfs_envelope.specs.Names.{is_name};
 ghost use Rattle.xfs_envelope.specs.Replies as replies;
-ghost use Rattle.xfs_client.specs.Commands.{ReadsAs, command_text};
+ghost use Rattle.xfs_client.specs.Commands.{IsWritable, ReadsAs, command_text};
 ghost use Rattle.xfs_client.specs.History as history;
-ghost use Rattle.xfs_client.specs.History.{Entry, Told, addressee, first_unacknowledged, is_open, of_ask, open_ask, told, told_by, told_in, with_status};
-ghost use Rattle.xfs_client.specs.Desks.{GrowsBy, IsEndOf, IsOpenTo, Recalls, OfKept};
+ghost use Rattle.xfs_client.specs.History.{Entry, Told, addressee, first_unacknowledged, is_open, of_ask, open_ask, told, told_by, told_in, with_status, completion_in};
+ghost use Rattle.xfs_client.specs.Desks.{GrowsBy, IsEndOf, Recalls, OfKept, HearsOpen};
 ghost use Rattle.xfs_client.specs.declared.desk.AskFault.TheVariants as AskFault;
 ghost use Rattle.xfs_client.specs.declared.heard.HearFault.TheVariants as HearFault;
 
@@ -89,8 +87,7 @@ impl Desk {
     /// and so on.
     pub fn ask(&mut self, name: &str, payload: &Value) -> Result<Vec<u8>, AskFault>
         requires name { IsTrue (is_name name.now) }
-        requires no_float { has_float (view payload.now) ≡ false }
-        requires depth { depth (view payload.now) ≤ 120 }
+        requires payload { IsWritable (view payload.now) }
         ensures text { IfOk result (λ t. t.items ≡ command_text name.now (self.old.asked + 1) (view payload.now)) }
         ensures reads_back { IfOk result (λ t. ReadsAs t.items name.now (self.old.asked + 1) (view payload.now)) }
         ensures grown { OnOk result (GrowsBy history.ask self.old self.new) }
@@ -126,8 +123,7 @@ impl Desk {
     pub(crate) fn ask_next(&mut self, name: &str, payload: &Value) -> Result<Vec<u8>, Memory>
         requires room { self.old.asked < 2147483647 }
         requires name { IsTrue (is_name name.now) }
-        requires no_float { has_float (view payload.now) ≡ false }
-        requires depth { depth (view payload.now) ≤ 120 }
+        requires payload { IsWritable (view payload.now) }
         ensures text { IfOk result (λ t. t.items ≡ command_text name.now (self.old.asked + 1) (view payload.now)) }
         ensures reads_back { IfOk result (λ t. ReadsAs t.items name.now (self.old.asked + 1) (view payload.now)) }
         ensures grown { OnOk result (GrowsBy history.ask self.old self.new) }
@@ -191,8 +187,8 @@ impl Desk {
     }
 
     fn completion_of(&self, id: u64, code: Code, payload: Value) -> Result<Heard, HearFault>
-        ensures ok { IfOk result (λ a. OfKept self.now (λ h. of_ask (open_ask h id) (λ n. history.completed n code (view payload)) ≡ Ok (told a))) }
-        ensures err { IfErr result (λ e. OfKept self.now (λ h. of_ask (open_ask h id) (λ n. history.completed n code (view payload)) ≡ Err e)) }
+        ensures ok { IfOk result (λ a. OfKept self.now (λ h. completion_in h id code (view payload) ≡ Ok (told a))) }
+        ensures err { IfErr result (λ e. OfKept self.now (λ h. completion_in h id code (view payload) ≡ Err e)) }
     {
         if !self.is_open(id) {
             return Err(HearFault::Stranger);
@@ -225,7 +221,7 @@ impl Desk {
     }
 
     pub(crate) fn note(&mut self, heard: &Heard) -> Result<(), Memory>
-        ensures grown { OnOk result (OfKept self.old (λ h. IsOpenTo h (told heard.now) → Recalls self.new (h ++ history.heard (told heard.now) ∷ []))) }
+        ensures grown { OnOk result (HearsOpen (told heard.now) self.old self.new) }
         ensures same { OnErr result (self.new ≡ self.old) }
     {
         match heard {
@@ -239,7 +235,7 @@ impl Desk {
     }
 
     fn acknowledge(&mut self, id: u64) -> Result<(), Memory>
-        ensures grown { OnOk result (OfKept self.old (λ h. is_open h id ≡ true → Recalls self.new (h ++ history.heard (history.acknowledged id) ∷ []))) }
+        ensures grown { OnOk result (HearsOpen (history.acknowledged id) self.old self.new) }
         ensures same { OnErr result (self.new ≡ self.old) }
     {
         self.acknowledged.insert(id)?;

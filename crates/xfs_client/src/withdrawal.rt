@@ -1,12 +1,12 @@
-ghost use Rattle.std.specs.Prelude.{◌≡◌, ◌≢◌, ◌≤◌, ◌++◌, ◌∷◌, [], List, ℕ, codes, true, None, MatchOption, IfOk, IfErr, OnOk, OnErr, Err};
+ghost use Rattle.std.specs.Prelude.{◌≡◌, ◌≢◌, ◌≤◌, ◌++◌, ◌∷◌, [], codes, None, MatchOption, IfOk, IfErr, OnOk, Err};
 ghost use Rattle.std.specs.Str.{IsUtf8};
 ghost use Rattle.serde_json.specs.View.{view};
 ghost use Rattle.xfs_envelope.specs.Fields.{empty};
 ghost use Rattle.xfs_client.specs.Commands.{ReadsAs, command_text};
-ghost use Rattle.xfs_client.specs.Desks.{Recalls, IsOpenTo, IsEndOf, GrowsBy};
+ghost use Rattle.xfs_client.specs.Desks.{Recalls, GrowsBy};
 ghost use Rattle.xfs_client.specs.History as history;
-ghost use Rattle.xfs_client.specs.History.{Entry, Told, is_open, told};
-ghost use Rattle.xfs_client.specs.Withdrawals.{HasHeard, IsDispense, IsMove, IsPresent, KeepsTerms, after_completion, after_success, conversation, dispense_payload, goes_on, is_success, nonce_of, step_in, step_of, EndsThen, HearsThen, OfHeard};
+ghost use Rattle.xfs_client.specs.History.{told};
+ghost use Rattle.xfs_client.specs.Withdrawals.{HasHeard, IsDispense, IsMove, IsPresent, KeepsTerms, after_completion, after_success, dispense_payload, is_success, nonce_of, step_of, EndsThen, HearsThen, OfHeard, MovesOn, RefusesFor};
 ghost use Rattle.xfs_client.specs.declared.heard.HearFault.TheVariants as HearFault;
 
 use crate::dispense::{payload_for, token_for};
@@ -87,8 +87,8 @@ impl Withdrawal {
     /// Takes a message of the service, and says what follows. A nonce that is no nonce of a token's
     /// grammar is `Shape`.
     pub fn next(&mut self, bytes: &[u8]) -> Result<Move, HearFault>
-        ensures moved { IfOk result (λ m. OfHeard self.old (λ texts. IsMove self.old.terms (step_in (conversation texts) bytes.now) m)) }
-        ensures refused { IfErr result (λ e. e ≢ HearFault.Memory → OfHeard self.old (λ texts. step_in (conversation texts) bytes.now ≡ Err e)) }
+        ensures moved { IfOk result (MovesOn self.old bytes.now) }
+        ensures refused { IfErr result (λ e. e ≢ HearFault.Memory → RefusesFor self.old bytes.now e) }
         ensures heard { OnOk result (OfHeard self.old (λ texts. HasHeard self.new (texts ++ bytes.now ∷ []))) }
         ensures keeps { KeepsTerms result self.old self.new }
     {

@@ -13,11 +13,11 @@ payload-requires c = subst IsUtf8 (sym c.deref.ensures.value) (spelled-IsUtf8 _ 
 pub ask_next-requires-clause-room : goal.ask_next-requires-clause-room
 ask_next-requires-clause-room c = omega (arith, ap (λ (w : Withdrawing). w.desk.asked) c.self.view_is, c.requires)
 
-pub ask_next-requires-clause-no_float : goal.ask_next-requires-clause-no_float
-ask_next-requires-clause-no_float c = ap has_float c.in_ok-payload.ensures
-
-pub ask_next-requires-clause-depth : goal.ask_next-requires-clause-depth
-ask_next-requires-clause-depth c = omega (arith, ap depth c.in_ok-payload.ensures)
+pub ask_next-requires-clause-payload : goal.ask_next-requires-clause-payload
+ask_next-requires-clause-payload c = record {
+  no_float = ap has_float c.in_ok-payload.ensures;
+  shallow = omega (arith, ap depth c.in_ok-payload.ensures);
+}
 
 pub returns-clause-grown : goal.returns-clause-grown
 returns-clause-grown c h keeps = c.in_ok-ask_next.ensures.grown h (subst (λ (w : Withdrawing). Recalls w.desk h) (sym c.self.view_is) keeps)
