@@ -1,5 +1,5 @@
 -- Whether what was put out is paid for, as far as motions and records were read.
-use Rattle.std.specs.Prelude.{◌≡◌, ℕ, ◌<◌, ◌∷◌, ◌++◌, Bool, List, [], Some, None, slice_get, slice_index, ⊤}
+use Rattle.std.specs.Prelude.{◌≡◌, ℕ, ◌<◌, ◌∷◌, ◌++◌, Bool, List, [], IfSome, Some, None, slice_get, slice_index, ⊤}
 use Rattle.std.specs.declared.option.Option.{Option}
 use Rattle.xfs_base.specs.declared.counts.Counts.{Counts}
 use Rattle.xfs_base.specs.declared.counts.Kind.TheVariants.{Present}
@@ -12,7 +12,7 @@ use Rattle.xfs_journal.specs.Journal.{record_at}
 use Rattle.xfs_guard.specs.Within.{shown, Within}
 use Rattle.xfs_guard.specs.Agrees.{IsAsked}
 use Rattle.xfs_audit.specs.Reading.{IsRead}
-use Rattle.xfs_audit.specs.Claims.{HasClaim, Spends}
+use Rattle.xfs_audit.specs.Claims.{HasClaim, IsUnder, Spends}
 use Rattle.xfs_audit.specs.declared.claim.Claim.{Claim}
 use Rattle.xfs_audit.specs.declared.payer.Payer.{Payer}
 
@@ -44,6 +44,11 @@ pub record IsCharged (key : List ℕ) (units : List NoteKind) (records : List Re
 abbrev pub IsClaimed : List ℕ → List NoteKind → List Rec → List Motion → Option ℕ → Option Claim → Type 0
 IsClaimed key units records motions live (Some claim) = IsCharged key units records motions live claim
 IsClaimed key units records motions live None = (p : ℕ) (currency : List ℕ) → live ≡ Some p → shown units records motions p currency ≡ 0
+
+-- a payer has read some of these records, and the notes that it counts fit 64 bits
+pub record IsPayerOf (records : List Rec) (payer : Payer) : Type 0 where
+  pub read : IsRead records payer.read
+  pub small : IfSome payer.claim IsUnder
 
 -- these motions are paid for; the records behind the ones that were read issued nothing on which notes were put out
 pub record IsPaying (key : List ℕ) (units : List NoteKind) (records : List Rec) (motions : List Motion) (payer : Payer) : Type 0 where

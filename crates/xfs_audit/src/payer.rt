@@ -4,9 +4,8 @@ ghost use Rattle.std.specs.Prelude.{◌≡◌, ℕ, ◌+◌, ◌<◌, ◌≤◌,
 ghost use Rattle.xfs_journal.specs.declared.record.Rec.{Rec as Record};
 ghost use Rattle.std.specs.Bool.{OnTrue, OnFalse};
 ghost use Rattle.xfs_base.specs.declared.money.NoteKind.{NoteKind as NotesOf};
-ghost use Rattle.xfs_audit.specs.Reading.{IsRead};
 ghost use Rattle.xfs_audit.specs.Claims.{IsClaimOf, IsUnder};
-ghost use Rattle.xfs_audit.specs.Paying.{IsPaying, IsPutOut, SpendsThere, Pays, IsUnpaid, Reads, Breaks, StaysPaid, KeepsUnder};
+ghost use Rattle.xfs_audit.specs.Paying.{IsPayerOf, IsPaying, IsPutOut, SpendsThere, Pays, IsUnpaid, Reads, Breaks, StaysPaid, KeepsUnder};
 ghost use Rattle.xfs_audit.specs.Told.{low_after};
 ghost use Rattle.xfs_mech.specs.Motions.{NumberIs};
 
@@ -47,10 +46,9 @@ impl Payer {
         records: &[Rec],
         entry: &Motion,
     ) -> Result<bool, Memory>
-        requires read { IsRead records.now self.old.read }
+        requires payer { IsPayerOf records.now self.old }
         requires low { NumberIs (λ n. self.old.read.count < n) entry.now }
         requires high { NumberIs (λ n. n ≤ length records.now) entry.now }
-        requires small { IfSome self.old.claim IsUnder }
         ensures read { IfOk result (λ paid. OnTrue paid ((low : ℕ) → self.old.read.count ≤ low → self.new.read.count ≤ low_after low entry.now)) }
         ensures small { IfOk result (λ paid. OnTrue paid (IfSome self.new.claim IsUnder)) }
         ensures paid { IfOk result (λ paid. OnTrue paid (Reads key.now units.now records.now entry.now self.old self.new)) }
@@ -72,10 +70,9 @@ impl Payer {
         number: usize,
         moved: &Counts,
     ) -> Result<bool, Memory>
-        requires read { IsRead records.now self.old.read }
+        requires payer { IsPayerOf records.now self.old }
         requires low { self.old.read.count < number }
         requires high { number ≤ length records.now }
-        requires small { IfSome self.old.claim IsUnder }
         ensures read { IfOk result (λ paid. OnTrue paid (self.new.read.count + 1 ≡ number)) }
         ensures small { IfOk result (λ paid. OnTrue paid (IfSome self.new.claim IsUnder)) }
         ensures paid { IfOk result (λ paid. OnTrue paid (Pays key.now units.now records.now number moved.now self.old self.new)) }
@@ -93,13 +90,11 @@ impl Payer {
 
     // Reads the records before the one with this number. A claim ends with its issue.
     fn turn(&mut self, records: &[Rec], number: usize)
-        requires read { IsRead records.now self.old.read }
+        requires payer { IsPayerOf records.now self.old }
         requires low { self.old.read.count < number }
         requires high { number ≤ length records.now }
-        requires small { IfSome self.old.claim IsUnder }
-        ensures read { IsRead records.now self.new.read }
+        ensures payer { IsPayerOf records.now self.new }
         ensures count { self.new.read.count + 1 ≡ number }
-        ensures small { IfSome self.new.claim IsUnder }
         ensures same { StaysPaid records.now self.old self.new }
     {
         let before = self.read.live;

@@ -1,7 +1,8 @@
 -- What a history comes to: the list of the calls that were answered, the oldest first. An ask is first where no earlier one has its number.
-use Rattle.std.specs.Prelude.{ℕ, ◌-◌, ◌==◌, ◌&&◌, not, nat_lt, Bool, true, false, List, [], ◌∷◌, ◌++◌, if◌then◌else◌, fold, find, is_some, map, None, Some}
+use Rattle.std.specs.Prelude.{◌≡◌, ℕ, ◌-◌, ◌==◌, ◌&&◌, not, nat_lt, Bool, true, false, List, [], ◌∷◌, ◌++◌, if◌then◌else◌, fold, find, is_some, map, None, Some, OnOk, OnErr}
 use Rattle.std.specs.Option.{option_map}
 use Rattle.std.specs.declared.option.Option.{Option}
+use Rattle.std.specs.declared.result.Result.{Result}
 use Rattle.std.specs.List.{sum_by}
 use Rattle.std.specs.Ordering.{nat_cmp}
 use Rattle.std.specs.BTreeSet.{insert_key}
@@ -16,6 +17,11 @@ use Rattle.xfs_host.specs.declared.first.First.{First}
 pub data Call : Type 0 where
   Opened : ℕ → List ℕ → ℕ → Call
   Asked : Terms → Call
+
+-- a call stands at the end of a history, or where that failed the history is as it was
+pub record Adds {T E : Type 0} (call : Call) (old new : List Call) (result : Result T E) : Type 0 where
+  pub ok : OnOk result (new ≡ old ++ call ∷ [])
+  pub err : OnErr result (new ≡ old)
 
 -- an account as it was opened
 pub record Opening : Type 0 where

@@ -1,6 +1,6 @@
 //! Accounts, transactions and nonces.
 ghost use Rattle.std.specs.Prelude.{◌≡◌, ◌<◌, ◌++◌, ◌∷◌, [], length, map, option_map, Some, None, true, false, is_some, IfOk, OnOk, OnErr, slice_get};
-ghost use Rattle.xfs_host.specs.Book.{Opened, Asked, account_in, book_of, decided, first_ask_in, listed, opening_in, reply_after, rising, user_in};
+ghost use Rattle.xfs_host.specs.Book.{Adds, Opened, Asked, account_in, book_of, decided, first_ask_in, listed, opening_in, reply_after, rising, user_in};
 ghost use Rattle.xfs_host.specs.Book as book;
 ghost use Rattle.xfs_host.specs.Kept.{call_of};
 ghost use Rattle.xfs_host.specs.declared.decision.Decision.TheVariants.{Paid};
@@ -153,8 +153,7 @@ impl Ledger {
         balance: u64,
     ) -> Result<(), AllocError>
         requires { opening_in (book_of self.old) account ≡ None }
-        ensures ok { OnOk result (self.new ≡ self.old ++ Opened account currency balance ∷ []) }
-        ensures err { OnErr result (self.new ≡ self.old) }
+        ensures { Adds (Opened account currency balance) self.old self.new result }
     {
         self.calls.reserve(1)?;
         let opened = Account { currency, balance };
@@ -170,8 +169,7 @@ impl Ledger {
     // Keeps an ask, of which this was decided.
     pub(crate) fn note(&mut self, ask: &Ask, decision: Decision) -> Result<(), AllocError>
         requires { decision ≡ reply_after self.old ask.now }
-        ensures ok { OnOk result (self.new ≡ self.old ++ Asked ask.now ∷ []) }
-        ensures err { OnErr result (self.new ≡ self.old) }
+        ensures { Adds (Asked ask.now) self.old self.new result }
     {
         if self.is_kept(ask.tx()) {
             return self.note_repeat(ask);
@@ -184,8 +182,7 @@ impl Ledger {
 
     fn note_repeat(&mut self, ask: &Ask) -> Result<(), AllocError>
         requires { is_some (first_ask_in (book_of self.old) ask.now.tx) ≡ true }
-        ensures ok { OnOk result (self.new ≡ self.old ++ Asked ask.now ∷ []) }
-        ensures err { OnErr result (self.new ≡ self.old) }
+        ensures { Adds (Asked ask.now) self.old self.new result }
     {
         self.calls.reserve(1)?;
         self.calls.push_reserved(event_of(ask));
@@ -196,8 +193,7 @@ impl Ledger {
         requires new { first_ask_in (book_of self.old) ask.now.tx ≡ None }
         requires decided { decision ≡ decided (book_of self.old) ask.now }
         requires refused { book.is_paid decision ≡ false }
-        ensures ok { OnOk result (self.new ≡ self.old ++ Asked ask.now ∷ []) }
-        ensures err { OnErr result (self.new ≡ self.old) }
+        ensures { Adds (Asked ask.now) self.old self.new result }
     {
         let terms = ask.copy(self.alloc)?;
         self.calls.reserve(1)?;
@@ -210,8 +206,7 @@ impl Ledger {
     fn note_paid(&mut self, ask: &Ask) -> Result<(), AllocError>
         requires new { first_ask_in (book_of self.old) ask.now.tx ≡ None }
         requires paid { decided (book_of self.old) ask.now ≡ Paid }
-        ensures ok { OnOk result (self.new ≡ self.old ++ Asked ask.now ∷ []) }
-        ensures err { OnErr result (self.new ≡ self.old) }
+        ensures { Adds (Asked ask.now) self.old self.new result }
     {
         let nonce = Vec::from_slice(self.alloc, ask.nonce())?;
         let first = First {

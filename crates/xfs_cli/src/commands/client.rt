@@ -2,7 +2,7 @@
 
 ghost use Rattle.std.specs.Prelude.{◌≤◌, ◌≢◌};
 ghost use Rattle.xfs_cli.specs.ClientRuns.{RunsClientFor};
-ghost use Rattle.xfs_lines.specs.Returns.{back, second_back, ComesBack};
+ghost use Rattle.xfs_lines.specs.Returns.{second_back, ComesBack};
 ghost use Rattle.xfs_script.specs.Streams.{output};
 
 use std::alloc::Global;
@@ -30,7 +30,6 @@ pub fn client<R: Wait, K: Sink, M: Mechanism, D: Disk, P: Watch, Q: Watch, C: Cl
 ) -> Ended<M, D, O::Link>
     requires low { 1 ≤ amount }
     requires high { amount ≤ 1000000 }
-    ensures kept { ComesBack bench.core (back result) }
     ensures runs { RunsClientFor O.Link.log currency amount bench.core result (O.log doors.old) (O.log doors.new) (output K.Sink sink.old sink.new) }
     ensures usage { result.status ≢ USAGE }
     ensures second { ComesBack bench.second (second_back result) }

@@ -6,7 +6,7 @@ ghost use Rattle.xfs_script.specs.Lines.{AllLines, StopsAtLine};
 ghost use Rattle.xfs_lines.specs.Audit.Runs.{Audits, Judges, RunsAudit};
 ghost use Rattle.xfs_lines.specs.Audit.Verbs.{IsLineOfAudit, handed_of};
 ghost use Rattle.xfs_lines.specs.Ends.{EndsLines};
-ghost use Rattle.xfs_lines.specs.Returns.{back, ComesBack};
+ghost use Rattle.xfs_lines.specs.Returns.{back};
 ghost use Rattle.xfs_lines.specs.Output.Statuses.{IsCaused, IsStatus};
 ghost use Rattle.xfs_script.specs.Streams.{io_of};
 
@@ -31,7 +31,6 @@ pub fn audit<S: Source, K: Sink, M: Mechanism, D: Disk, P: Watch, Q: Watch>(
     sink: &mut K,
     bench: Bench<M, D, P, Q>,
 ) -> Ended<M, D, ()>
-    ensures kept { ComesBack bench.core (back result) }
     ensures runs { RunsAudit bench.core (back result) (io_of S.Source K.Sink source.old source.new sink.old sink.new) }
     ensures ends_lines { EndsLines bench.second result (io_of S.Source K.Sink source.old source.new sink.old sink.new) }
 {

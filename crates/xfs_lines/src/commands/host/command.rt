@@ -2,7 +2,7 @@
 
 ghost use Rattle.xfs_lines.specs.Host.Runs.{RunsHost};
 ghost use Rattle.xfs_lines.specs.Ends.{EndsLines};
-ghost use Rattle.xfs_lines.specs.Returns.{back, ComesBack};
+ghost use Rattle.xfs_lines.specs.Returns.{back};
 ghost use Rattle.xfs_script.specs.Streams.{io_of};
 
 use crate::commands::host::answer::Bank;
@@ -23,7 +23,6 @@ pub fn host<S: Source, K: Sink, M: Mechanism, D: Disk, P: Watch, Q: Watch>(
     sink: &mut K,
     bench: Bench<M, D, P, Q>,
 ) -> Ended<M, D, ()>
-    ensures kept { ComesBack bench.core (back result) }
     ensures runs { RunsHost bench.core (back result) (io_of S.Source K.Sink source.old source.new sink.old sink.new) }
     ensures ends_lines { EndsLines bench.second result (io_of S.Source K.Sink source.old source.new sink.old sink.new) }
 {

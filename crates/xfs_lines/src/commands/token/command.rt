@@ -1,7 +1,7 @@
 //! The command `token`.
 
 ghost use Rattle.xfs_lines.specs.Ends.{EndsLines};
-ghost use Rattle.xfs_lines.specs.Returns.{back, ComesBack};
+ghost use Rattle.xfs_lines.specs.Returns.{back};
 ghost use Rattle.xfs_script.specs.Streams.{io_of};
 ghost use Rattle.xfs_lines.specs.Token.Runs.{RunsToken};
 
@@ -22,7 +22,6 @@ pub fn token<S: Source, K: Sink, M: Mechanism, D: Disk, P: Watch, Q: Watch>(
     sink: &mut K,
     bench: Bench<M, D, P, Q>,
 ) -> Ended<M, D, ()>
-    ensures kept { ComesBack bench.core (back result) }
     ensures runs { RunsToken bench.core (back result) (io_of S.Source K.Sink source.old source.new sink.old sink.new) }
     ensures ends_lines { EndsLines bench.second result (io_of S.Source K.Sink source.old source.new sink.old sink.new) }
 {

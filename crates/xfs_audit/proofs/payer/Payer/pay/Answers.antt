@@ -5,10 +5,10 @@ use Rattle.xfs_audit.proofs.PayingLaws.{unpaid-dead, unpaid-unclaimed, unpaid-th
 use Rattle.xfs_audit.proofs.payer.Payer.pay.Goals as goal
 
 pub returns-in_default-clause-unpaid : goal.returns-in_default-clause-unpaid
-returns-in_default-clause-unpaid c = λ done rest diverted paying within. unpaid-dead c.args.key.now c.args.units.now c.args.records.now done rest c.turn.new.self.read c.args.number c.args.moved.now diverted c.turn.ensures.read c.turn.ensures.count (none-from _ c.in_default.not-Some) within
+returns-in_default-clause-unpaid c = λ done rest diverted paying within. unpaid-dead c.args.key.now c.args.units.now c.args.records.now done rest c.turn.new.self.read c.args.number c.args.moved.now diverted c.turn.ensures.payer.read c.turn.ensures.count (none-from _ c.in_default.not-Some) within
 
 pub returns-then-not-branch-clause-unpaid : goal.returns-then-not-branch-clause-unpaid
-returns-then-not-branch-clause-unpaid c = λ done rest diverted paying within. unpaid-unclaimed c.args.key.now c.args.units.now c.args.records.now done rest c.turn.new.self.read c.args.number c.in-Some.issue c.args.moved.now diverted c.turn.ensures.read c.turn.ensures.count c.in-Some.is (OnFalse_at c.if-not-branch.true c.in_ok-open.ensures.none) within
+returns-then-not-branch-clause-unpaid c = λ done rest diverted paying within. unpaid-unclaimed c.args.key.now c.args.units.now c.args.records.now done rest c.turn.new.self.read c.args.number c.in-Some.issue c.args.moved.now diverted c.turn.ensures.payer.read c.turn.ensures.count c.in-Some.is (OnFalse_at c.if-not-branch.true c.in_ok-open.ensures.none) within
 
 pub returns-clause-paid : goal.returns-clause-paid
 returns-clause-paid c = OnTrue_from c.spend.result (Pays c.args.key.now c.args.units.now c.args.records.now c.args.number c.args.moved.now c.args.self.now c.spend.new.self) (λ yes done counts diverted paying ordered.

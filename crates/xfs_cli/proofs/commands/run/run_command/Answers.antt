@@ -25,7 +25,7 @@ returns-in-Token-clause-runs g c =
     let e = c.token.ensures in
     let disk = g.met.D.Disk g.world.𝓛 g.world.𝓜 g.world.𝓡 ((λ s x. x), (λ x. x), (λ x. x), λ x. x) in
     rw (c.in-Token.is, c.linkless-in-Token.ensures) (record {
-      ends = ends-kept g.M.Mechanism g.D.Disk c.args.bench.core (back c.token.result) disk.as_read c.requires.starts disk.only_now e.kept;
+      ends = ends-kept g.M.Mechanism g.D.Disk c.args.bench.core (back c.token.result) disk.as_read c.requires.starts disk.only_now e.runs.kept;
       runs = e.runs;
       usage = e.ends_lines.usage;
       unread = λ reads. absurd reads;
@@ -77,7 +77,7 @@ returns-in-Host-clause-runs g c =
     let e = c.host.ensures in
     let disk = g.met.D.Disk g.world.𝓛 g.world.𝓜 g.world.𝓡 ((λ s x. x), (λ x. x), (λ x. x), λ x. x) in
     rw (c.in-Host.is, c.linkless-in-Host.ensures) (record {
-      ends = ends-kept g.M.Mechanism g.D.Disk c.args.bench.core (back c.host.result) disk.as_read c.requires.starts disk.only_now e.kept;
+      ends = ends-kept g.M.Mechanism g.D.Disk c.args.bench.core (back c.host.result) disk.as_read c.requires.starts disk.only_now e.runs.kept;
       runs = e.runs;
       usage = e.ends_lines.usage;
       unread = λ reads. absurd reads;
@@ -95,7 +95,7 @@ returns-in-Audit-clause-runs g c =
     let e = c.audit.ensures in
     let disk = g.met.D.Disk g.world.𝓛 g.world.𝓜 g.world.𝓡 ((λ s x. x), (λ x. x), (λ x. x), λ x. x) in
     rw (c.in-Audit.is, c.linkless-in-Audit.ensures) (record {
-      ends = ends-kept g.M.Mechanism g.D.Disk c.args.bench.core (back c.audit.result) disk.as_read c.requires.starts disk.only_now e.kept;
+      ends = ends-kept g.M.Mechanism g.D.Disk c.args.bench.core (back c.audit.result) disk.as_read c.requires.starts disk.only_now e.runs.kept;
       runs = e.runs;
       usage = e.ends_lines.usage;
       unread = λ reads. absurd reads;
@@ -130,7 +130,7 @@ returns-in-Client-clause-runs g c =
     let e = c.client.ensures in
     let disk = g.met.D.Disk g.world.𝓛 g.world.𝓜 g.world.𝓡 ((λ s x. x), (λ x. x), (λ x. x), λ x. x) in
     rw c.in-Client.is (record {
-      ends = ends-kept g.M.Mechanism g.D.Disk c.args.bench.core (back c.client.result) disk.as_read c.requires.starts disk.only_now e.kept;
+      ends = ends-kept g.M.Mechanism g.D.Disk c.args.bench.core (back c.client.result) disk.as_read c.requires.starts disk.only_now e.runs.kept;
       runs = tt;
       usage = e.usage;
       unread = λ reads. refl;
