@@ -1,21 +1,24 @@
 -- How a machine ends, or is refused a restart, and what comes back of it.
-use Rattle.std.specs.Prelude.{◌≡◌, ◌≢◌, Result, is_some}
+use Rattle.std.specs.Prelude.{◌≡◌, ◌≢◌, List, Option, Result, is_some}
 use Rattle.xfs_disk.specs.declared.disk.Disk.{Ghosts}
 use Rattle.xfs_dispenser.specs.Seen.{Becomes, Seen, seen}
 use Rattle.xfs_dispenser.specs.Steps.{IsUnknown}
 use Rattle.xfs_guard.specs.CrashOutcomes.{MayMove}
 use Rattle.xfs_guard.specs.Keeps.{Keeps, NoEntry, Proceeds}
-use Rattle.xfs_guard.specs.View.{GuardView}
+use Rattle.xfs_guard.specs.Recorded.{IsRecorded}
+use Rattle.xfs_guard.specs.Stored.{EachLeft}
+use Rattle.xfs_guard.specs.View.{GuardView, View}
 use Rattle.xfs_guard.specs.declared.deny.Deny.{Deny}
 use Rattle.xfs_guard.specs.declared.fail.BootFault.{BootFault}
 use Rattle.xfs_guard.specs.declared.fail.BootFault.TheVariants.{NotJournal, Disk, Full, Memory}
 use Rattle.xfs_guard.specs.declared.open.Open.{Open}
 use Rattle.xfs_guard.specs.declared.open.Open.TheVariants.{No, Written, Acted}
 use Rattle.xfs_mech.specs.declared.mechanism.Mechanism.{Ghosts as Mechanisms}
+use Rattle.xfs_mech.specs.declared.motion.Motion.{Motion}
 use Rattle.xfs_machine.specs.Answers.{finished}
 use Rattle.xfs_model.specs.Events.{finish, restart, unrestarted}
 use Rattle.xfs_model.specs.Guards.{FailsToBoot, FindsNoRoom}
-use Rattle.xfs_model.specs.State.{State}
+use Rattle.xfs_model.specs.State.{State, bare}
 use Rattle.xfs_model.specs.Step.{Step, gone}
 use Rattle.xfs_disk.specs.Moments.{EachImage}
 use Rattle.xfs_journal.specs.JournalView.{HasPossible}
@@ -63,11 +66,23 @@ pub record IsRefusedThrough {D : Type 0} (g : Ghosts D) (old : GuardView D) (dis
   pub keeps : Keeps g NoEntry old last
   pub disk_is : disk ≡ last.disk
 
+-- a restart is refused by a step after which the machine is gone
+abbrev pub IsUnrestarted : State → Seen → Type 0
+IsUnrestarted old last = Step old restart unrestarted (gone old last)
+
+-- nothing is left of a machine but its guard, its life and its boot
+abbrev pub IsEmptied : State → State → Type 0
+IsEmptied old new = new ≡ bare new.seen old.life old.boot
+
+-- the disk is left with nothing but lists that are recorded with this list of the mechanism
+abbrev pub IsLeftRecorded : {D : Type 0} → Ghosts D → D → View → Option (List Motion) → Type 0
+IsLeftRecorded g disk guard motions = EachLeft g disk (IsRecorded guard.key guard.units motions)
+
 -- A refused restart: why, and mechanism and disk come back as it left them. But for want of memory it is a step of a machine that is gone then.
 pub record HandsBackRefused {M D : Type 0} (m : Mechanisms M) (g : Ghosts D) (old : State) (why : BootFault) (mech : M) (disk : D) : Type 0 where
   pub last : Seen
   pub cause : RefusesAs why old.seen last
-  pub step : why ≢ Memory → Step old restart unrestarted (gone old last)
+  pub step : why ≢ Memory → IsUnrestarted old last
   pub back : IsHandedBack m g last mech disk
 
 -- an open order was carried out and settled, or the disk failed at that; mechanism and disk are those of the guard then

@@ -1,5 +1,5 @@
 -- A machine with another dispenser beside other parts. What a call does to some parts of a machine is said for every machine that has them.
-use Rattle.std.specs.Prelude.{◌≡◌, ◌≢◌, ◌⊎◌, ◌||◌, List, Bool, Option, Some, find}
+use Rattle.std.specs.Prelude.{◌≡◌, ◌≢◌, ◌⊎◌, ◌||◌, List, Bool, Option, None, Some, find}
 use Rattle.xfs_base.specs.declared.moment.Moment.{Moment}
 use Rattle.xfs_disk.specs.declared.disk.Disk.{Ghosts}
 use Rattle.xfs_dispenser.specs.Answers.{Went, more, done}
@@ -11,8 +11,10 @@ use Rattle.xfs_guard.specs.View.{View}
 use Rattle.xfs_machine.specs.declared.dispenser.Dispenser.{Dispenser}
 use Rattle.xfs_mech.specs.declared.motion.Motion.{Motion}
 use Rattle.xfs_queue.specs.Commands.{is_running, waits_on}
+use Rattle.xfs_queue.specs.Queue.{IsWaiting}
 use Rattle.xfs_queue.specs.declared.command.Line.TheVariants.{Nonce, Device}
 use Rattle.xfs_queue.specs.declared.command.Command.{Command}
+use Rattle.xfs_queue.specs.declared.command.Ticket.{Ticket}
 use Rattle.xfs_model.specs.Results.{outcome, with_result}
 use Rattle.xfs_model.specs.State.{issue, clear, Job, Queues, State}
 use Rattle.xfs_traffic.specs.Parts.{with_devices, with_traffic}
@@ -46,6 +48,11 @@ with_plan_kept plan ended a = record a { job = record a.job { plan = Some plan; 
 abbrev pub with_step : Plan → Bool → Went → Command Job → Command Job
 with_step plan ended more a = with_plan_kept plan ended a
 with_step plan ended (done result) a = with_result (outcome result.code result.payload) (with_plan_kept plan ended a)
+
+-- a command that waits may start: none runs
+pub record MayStart (ticket : Ticket) (queue : List (Command Job)) : Type 0 where
+  pub waiting : IsWaiting queue ticket
+  pub idle : find (λ a. is_running a.stage) queue ≡ None
 
 -- a command runs whose plan can be worked on
 pub record HasPlan (v : View) (q : List (Command Job)) : Type 0 where

@@ -1,5 +1,5 @@
 -- A step of work: when its case can be done, and what it may add to the mechanism's list.
-use Rattle.std.specs.Prelude.{◌≡◌, ◌≢◌, ◌&&◌, ◌||◌, ⊤, true, None, find, All}
+use Rattle.std.specs.Prelude.{◌≡◌, ◌≢◌, ◌&&◌, ◌||◌, ⊤, true, None, OnOk, Result, find, All}
 use Rattle.std.specs.List.{list_any}
 use Rattle.xfs_base.specs.declared.moment.Moment.{Moment}
 use Rattle.xfs_base.specs.declared.moment.Service.{Service}
@@ -8,6 +8,7 @@ use Rattle.xfs_disk.specs.declared.disk.Disk.{Ghosts}
 use Rattle.xfs_guard.specs.Fits.{unfit}
 use Rattle.xfs_guard.specs.Nonce.{live_in}
 use Rattle.xfs_guard.specs.Keeps.{Keeps}
+use Rattle.xfs_guard.specs.Upheld.{IsUpheld}
 use Rattle.xfs_guard.specs.View.{GuardView, View}
 use Rattle.xfs_guard.specs.declared.open.Open.TheVariants.{No}
 use Rattle.xfs_mech.specs.declared.motion.Motion.{Motion}
@@ -60,6 +61,10 @@ MayAdd other v qs entry = ⊥
 -- what a crash finds inside a case that is done between calls: the guard gained no more than such an entry
 abbrev pub CaseKeeps : {D : Type 0} → Ghosts D → Chosen → Queues → GuardView D → GuardView D → Type 0
 CaseKeeps g case qs old new = Keeps g (MayAdd (case_seen case) old.state qs) old new
+
+-- a case that is done keeps a guard that is upheld
+abbrev pub CaseUpholds : {D T E : Type 0} → Ghosts D → Chosen → Queues → Result T E → GuardView D → GuardView D → Type 0
+CaseUpholds g case qs result old new = IsUpheld g old → OnOk result (CaseKeeps g case qs old new)
 
 -- an entry that the step of work of a service may add to the mechanism's list
 abbrev pub MayAddAt : State → Service → Motion → Type 0

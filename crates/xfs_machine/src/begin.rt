@@ -9,7 +9,7 @@ ghost use Rattle.xfs_guard.specs.Upheld.{IsUpheld};
 ghost use Rattle.xfs_guard.specs.declared.open.Open.TheVariants.{No};
 ghost use Rattle.xfs_machine.specs.Changes.{CardBegins, EntryBegins, FirstBegins};
 ghost use Rattle.xfs_traffic.specs.Jobs.{changed_at};
-ghost use Rattle.xfs_machine.specs.Parts.{HasDeviceAsk};
+ghost use Rattle.xfs_machine.specs.Parts.{HasDeviceAsk, MayStart};
 ghost use Rattle.xfs_model.specs.Cases.{with_start};
 ghost use Rattle.xfs_model.specs.Results.{running, with_plan};
 ghost use Rattle.xfs_model.specs.Sound.{IsFitting};
@@ -104,8 +104,7 @@ fn start_cash(
     begun: Begun,
     room: RunningPlan,
 )
-    requires waiting { IsWaiting (queue_of queues.old service) ticket }
-    requires idle { find (λ a. is_running a.stage) (queue_of queues.old service) ≡ None }
+    requires next { MayStart ticket (queue_of queues.old service) }
     requires payload { IfSome (start_payload (start_of begun)) IsPayload }
     ensures { queues.new ≡ with_queue queues.old service (changed_at (with_start (start_of begun)) ticket (queue_of queues.old service)) }
 {
@@ -118,8 +117,7 @@ fn start_cash(
 }
 
 fn start_plan(queue: &mut Queue<Job>, ticket: Ticket, plan: RunningPlan)
-    requires waiting { IsWaiting queue.old ticket }
-    requires idle { find (λ a. is_running a.stage) queue.old ≡ None }
+    requires { MayStart ticket queue.old }
     ensures { queue.new ≡ changed_at (with_plan plan false) ticket queue.old }
 {
     queue.start(ticket);
@@ -128,8 +126,7 @@ fn start_plan(queue: &mut Queue<Job>, ticket: Ticket, plan: RunningPlan)
 
 // The command runs.
 fn start(queues: &mut Queues, service: Service, ticket: Ticket)
-    requires waiting { IsWaiting (queue_of queues.old service) ticket }
-    requires idle { find (λ a. is_running a.stage) (queue_of queues.old service) ≡ None }
+    requires { MayStart ticket (queue_of queues.old service) }
     ensures { queues.new ≡ with_queue queues.old service (changed_at running ticket (queue_of queues.old service)) }
 {
     queues.at_mut(service).start(ticket);
@@ -144,8 +141,7 @@ fn begin_card(
     ticket: Ticket,
     ask: CardAsk,
 ) -> Result<(), Memory>
-    requires waiting { IsWaiting (queue_of traffic.old.queues service) ticket }
-    requires idle { find (λ a. is_running a.stage) (queue_of traffic.old.queues service) ≡ None }
+    requires { MayStart ticket (queue_of traffic.old.queues service) }
     ensures begins { OnOk result (CardBegins ask service ticket slot.old slot.new traffic.old traffic.new) }
     ensures memory { OnErr result ((slot.new ≡ slot.old) × (traffic.new ≡ traffic.old)) }
 {
@@ -171,8 +167,7 @@ fn begin_read(
     ticket: Ticket,
     tracks: [bool; 3],
 ) -> Result<(), Memory>
-    requires waiting { IsWaiting (queue_of traffic.old.queues service) ticket }
-    requires idle { find (λ a. is_running a.stage) (queue_of traffic.old.queues service) ≡ None }
+    requires { MayStart ticket (queue_of traffic.old.queues service) }
     ensures begins { OnOk result (CardBegins (CardAsk.Read tracks) service ticket slot.old slot.new traffic.old traffic.new) }
     ensures memory { OnErr result ((slot.new ≡ slot.old) × (traffic.new ≡ traffic.old)) }
 {
@@ -207,8 +202,7 @@ fn begin_entry(
     ticket: Ticket,
     ask: EntryAsk,
 ) -> Result<(), Memory>
-    requires waiting { IsWaiting (queue_of queues.old service) ticket }
-    requires idle { find (λ a. is_running a.stage) (queue_of queues.old service) ≡ None }
+    requires { MayStart ticket (queue_of queues.old service) }
     ensures begins { OnOk result (EntryBegins ask service ticket keypad.old keypad.new queues.old queues.new) }
     ensures memory { OnErr result ((keypad.new ≡ keypad.old) × (queues.new ≡ queues.old)) }
 {

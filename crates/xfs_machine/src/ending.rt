@@ -3,16 +3,15 @@
 ghost use Rattle.std.specs.Prelude.{◌≡◌, ◌≢◌, false, List, None, IfOk, IfErr, OnOk, OnErr, Err, length, is_ok, is_some};
 ghost use Rattle.xfs_dispenser.specs.Seen.{seen};
 ghost use Rattle.xfs_guard.specs.Keeps.{Keeps, NoEntry};
-ghost use Rattle.xfs_guard.specs.Recorded.{IsRecorded};
 ghost use Rattle.xfs_guard.specs.Stored.{EachLeft};
 ghost use Rattle.xfs_journal.specs.JournalView.{IsPossible};
 ghost use Rattle.xfs_base.specs.Causes.{Rose};
 ghost use Rattle.xfs_guard.specs.declared.fail.BootFault.TheVariants.{Disk as BootDisk, Memory as BootMemory};
-ghost use Rattle.xfs_machine.specs.Endings.{Finishes, IsFinishedThrough, IsHandedBack, HandsBackRefused, IsRefusedThrough, RefusesAs};
+ghost use Rattle.xfs_machine.specs.Endings.{Finishes, IsEmptied, IsFinishedThrough, IsHandedBack, IsLeftRecorded, HandsBackRefused, IsRefusedThrough, IsUnrestarted, RefusesAs};
 ghost use Rattle.xfs_machine.specs.Laws.{IsLawful};
 ghost use Rattle.xfs_machine.specs.MachineView.{guard_of};
-ghost use Rattle.xfs_model.specs.Events.{restart, restarted, unrestarted, end_, ended, memory};
-ghost use Rattle.xfs_model.specs.State.{State, bare};
+ghost use Rattle.xfs_model.specs.Events.{restart, restarted, end_, ended, memory};
+ghost use Rattle.xfs_model.specs.State.{State};
 ghost use Rattle.xfs_model.specs.Step.{Step, gone};
 
 use crate::boot::newest;
@@ -32,8 +31,8 @@ impl<M: Mechanism, D: Disk> Machine<M, D> {
     pub fn reboot(&mut self) -> Result<(), BootFault>
         ensures ok { OnOk result (Step self.old.state restart restarted self.new.state) }
         ensures laws { OnOk result (IsLawful self.old.state restart restarted self.new.state) }
-        ensures refused { IfErr result (λ f. f ≢ BootMemory → Step self.old.state restart unrestarted (gone self.old.state self.new.state.seen)) }
-        ensures emptied { IfErr result (λ f. f ≢ BootMemory → self.new.state ≡ bare self.new.state.seen self.old.state.life self.old.state.boot) }
+        ensures refused { IfErr result (λ f. f ≢ BootMemory → IsUnrestarted self.old.state self.new.state.seen) }
+        ensures emptied { IfErr result (λ f. f ≢ BootMemory → IsEmptied self.old.state self.new.state) }
         ensures memory { result ≡ Err BootMemory → Step self.old.state restart memory self.new.state }
         ensures cause { IfErr result (λ f. RefusesAs f self.old.state.seen self.new.state.seen) }
         ensures disk { result ≡ Err BootDisk → Rose (D.faults self.old.disk) (D.faults self.new.disk) }
@@ -61,7 +60,7 @@ impl<M: Mechanism, D: Disk> Machine<M, D> {
         ensures refused { IfErr result (λ f. HandsBackRefused M.Mechanism D.Disk self.state f.why f.mech f.disk) }
         ensures keeps { IfOk result (λ m. Keeps D.Disk NoEntry (guard_of self) (guard_of m)) }
         ensures through { IfErr result (λ f. IsRefusedThrough D.Disk (guard_of self) f.disk) }
-        ensures left { IfErr result (λ f. EachLeft D.Disk f.disk (IsRecorded self.state.seen.guard.key self.state.seen.guard.units (M.motions f.mech))) }
+        ensures left { IfErr result (λ f. IsLeftRecorded D.Disk f.disk self.state.seen.guard (M.motions f.mech)) }
     {
         match self.reboot() {
             Ok(()) => Ok(self),
@@ -78,7 +77,7 @@ impl<M: Mechanism, D: Disk> Machine<M, D> {
         ensures step { Step self.state end_ ended (gone self.state self.state.seen) }
         ensures back { IsHandedBack M.Mechanism D.Disk self.state.seen result.0 result.1 }
         ensures left { EachLeft D.Disk result.1 (IsPossible self.state.seen.guard.records self.state.seen.guard.in_doubt) }
-        ensures recorded { EachLeft D.Disk result.1 (IsRecorded self.state.seen.guard.key self.state.seen.guard.units self.state.seen.guard.motions) }
+        ensures recorded { IsLeftRecorded D.Disk result.1 self.state.seen.guard self.state.seen.guard.motions }
         ensures clean { self.state.seen.guard.shut ≡ false → self.state.seen.guard.in_doubt ≡ None }
         ensures disk { result.1 ≡ self.disk }
     {
@@ -92,7 +91,7 @@ impl<M: Mechanism, D: Disk> Machine<M, D> {
         ensures tied { self.state.seen.disk_faults ≡ D.faults self.disk }
         ensures err { IfErr result.0 (λ e. e ≡ Deny.Disk) }
         ensures through { IsFinishedThrough M.Mechanism D.Disk (guard_of self) result.1 result.2 }
-        ensures recorded { EachLeft D.Disk result.2 (IsRecorded self.state.seen.guard.key self.state.seen.guard.units (M.motions result.1)) }
+        ensures recorded { IsLeftRecorded D.Disk result.2 self.state.seen.guard (M.motions result.1) }
     {
         let mut guard = self.into_guard();
         let settled = close(&mut guard);

@@ -84,7 +84,6 @@ fn do_ask<M: Mechanism, D: Disk>(
     requires asks { (ask_seen ask.now ≡ issue) ⊎ (ask_seen ask.now ≡ clear) }
     ensures done { IfOk result (NonceDone (ask_seen ask.now) now (seen D.Disk guard.old) (seen D.Disk guard.new) issued.old issued.new) }
     ensures memory { OnErr result ((guard.new ≡ guard.old) × (issued.new ≡ issued.old)) }
-    ensures proceeds { Proceeds D.Disk guard.old guard.new }
     ensures keeps { Keeps D.Disk NoEntry guard.old guard.new }
 {
     match ask {
@@ -104,7 +103,6 @@ fn issue<M: Mechanism, D: Disk>(
     requires { guard.old.state.open_order ≡ No }
     ensures done { IfOk result (NonceDone issue now (seen D.Disk guard.old) (seen D.Disk guard.new) issued.old issued.new) }
     ensures memory { OnErr result ((guard.new ≡ guard.old) × (issued.new ≡ issued.old)) }
-    ensures proceeds { Proceeds D.Disk guard.old guard.new }
     ensures keeps { Keeps D.Disk NoEntry guard.old guard.new }
 {
     if let Some(_deny) = guard.unfit() {
@@ -126,7 +124,6 @@ fn clear<M: Mechanism, D: Disk>(alloc: Global, guard: &mut Guard<M, D>) -> Resul
     requires { guard.old.state.open_order ≡ No }
     ensures done { IfOk result (NonceCleared (seen D.Disk guard.old) (seen D.Disk guard.new)) }
     ensures memory { OnErr result (guard.new ≡ guard.old) }
-    ensures proceeds { Proceeds D.Disk guard.old guard.new }
     ensures keeps { Keeps D.Disk NoEntry guard.old guard.new }
 {
     if let Some(_deny) = guard.unfit() {

@@ -10,7 +10,7 @@ ghost use Rattle.xfs_machine.specs.Changes.{CaseIsDone, IsOnlyRead};
 ghost use Rattle.xfs_machine.specs.Chosen.{case_seen};
 ghost use Rattle.xfs_machine.specs.Laws.{IsLawful};
 ghost use Rattle.xfs_machine.specs.MachineView.{guard_of};
-ghost use Rattle.xfs_machine.specs.Working.{CanDo, CaseKeeps, MayAddAt};
+ghost use Rattle.xfs_machine.specs.Working.{CanDo, CaseUpholds, MayAddAt};
 ghost use Rattle.xfs_model.specs.Cases.{told_by};
 ghost use Rattle.xfs_model.specs.Events.{work};
 ghost use Rattle.xfs_model.specs.Step.{Step, at_moment};
@@ -74,7 +74,7 @@ fn carry_out<M: Mechanism, D: Disk>(
     ensures does { OnOk result (CaseIsDone D.Disk case service now dispenser.old dispenser.new devices.old devices.new traffic.old traffic.new) }
     ensures memory { OnErr result (IsOnlyRead dispenser.old dispenser.new × (devices.new ≡ devices.old) × (traffic.new ≡ traffic.old)) }
     ensures proceeds { Proceeds D.Disk dispenser.old.guard dispenser.new.guard }
-    ensures keeps { IsUpheld D.Disk dispenser.old.guard → OnOk result (CaseKeeps D.Disk case traffic.old.queues dispenser.old.guard dispenser.new.guard) }
+    ensures keeps { CaseUpholds D.Disk case traffic.old.queues result dispenser.old.guard dispenser.new.guard }
     ensures still { IsUpheld D.Disk dispenser.old.guard → OnErr result (Keeps D.Disk NoEntry dispenser.old.guard dispenser.new.guard) }
 {
     match case {

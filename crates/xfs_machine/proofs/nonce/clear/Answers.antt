@@ -1,16 +1,13 @@
 use Rattle.std.proofs.Common.{Bool, Ok, Err, sym, ap, ◌∙◌}
 use Rattle.std.proofs.lemmas.Result.{IfOk-weaker}
 use Rattle.xfs_dispenser.specs.Seen.{seen}
-use Rattle.xfs_guard.proofs.KeepsLaws.{Keeps-same, Proceeds-same}
+use Rattle.xfs_guard.proofs.KeepsLaws.{Keeps-same}
 use Rattle.xfs_model.specs.State.{clear}
 use Rattle.xfs_machine.proofs.NonceLaws.{clear_answer, clear_failed, unfit_refused, write_fault}
 use Rattle.xfs_machine.proofs.nonce.clear.Goals as goal
 
 pub returns-in-Some-clause-done : goal.returns-in-Some-clause-done
 returns-in-Some-clause-done g c = λ s. rw c.not_ready.ensures (unfit_refused (record s { seen = seen g.D.Disk c.args.guard.now }) clear _ (sym c.unfit.ensures.first ∙ c.in-Some.is))
-
-pub returns-in-Some-clause-proceeds : goal.returns-in-Some-clause-proceeds
-returns-in-Some-clause-proceeds g c = Proceeds-same g.D.Disk _ g.met.D.Disk.only_now
 
 pub returns-in-Some-clause-keeps : goal.returns-in-Some-clause-keeps
 returns-in-Some-clause-keeps g c = Keeps-same g.D.Disk _ g.met.D.Disk.only_now c.unfit.ensures.upheld

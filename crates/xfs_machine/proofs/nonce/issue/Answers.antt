@@ -1,7 +1,7 @@
 use Rattle.std.proofs.Common.{Err, sym, ap, ◌∙◌}
 use Rattle.std.proofs.lemmas.Result.{IfOk-weaker}
 use Rattle.xfs_dispenser.specs.Seen.{seen}
-use Rattle.xfs_guard.proofs.KeepsLaws.{Keeps-same, Proceeds-same}
+use Rattle.xfs_guard.proofs.KeepsLaws.{Keeps-same}
 use Rattle.xfs_guard.specs.declared.nonce.Nonce.{Nonce}
 use Rattle.xfs_model.specs.State.{issue}
 use Rattle.xfs_machine.proofs.NonceLaws.{issue_done, issue_failed, unfit_refused, write_fault}
@@ -11,23 +11,14 @@ use Rattle.xfs_machine.proofs.nonce.issue.Goals as goal
 pub returns-in-Some-clause-done : goal.returns-in-Some-clause-done
 returns-in-Some-clause-done g c = λ s. rw c.not_ready.ensures (unfit_refused (record s { seen = seen g.D.Disk c.args.guard.now; issued = c.args.issued.now; now = c.args.now }) issue _ (sym c.unfit.ensures.first ∙ c.in-Some.is))
 
-pub returns-in-Some-clause-proceeds : goal.returns-in-Some-clause-proceeds
-returns-in-Some-clause-proceeds g c = Proceeds-same g.D.Disk _ g.met.D.Disk.only_now
-
 pub returns-in-Some-clause-keeps : goal.returns-in-Some-clause-keeps
 returns-in-Some-clause-keeps g c = Keeps-same g.D.Disk _ g.met.D.Disk.only_now c.unfit.ensures.upheld
-
-pub returns-in_err-next-clause-proceeds : goal.returns-in_err-next-clause-proceeds
-returns-in_err-next-clause-proceeds g c = Proceeds-same g.D.Disk _ g.met.D.Disk.only_now
 
 pub returns-in_err-next-clause-keeps : goal.returns-in_err-next-clause-keeps
 returns-in_err-next-clause-keeps g c = Keeps-same g.D.Disk _ g.met.D.Disk.only_now c.unfit.ensures.upheld
 
 pub nonce-requires : goal.nonce-requires
 nonce-requires g c = record { digits = rw c.in_ok-next.ensures.text (nonce_digits _ _) }
-
-pub returns-in_err-payload-clause-proceeds : goal.returns-in_err-payload-clause-proceeds
-returns-in_err-payload-clause-proceeds g c = Proceeds-same g.D.Disk _ g.met.D.Disk.only_now
 
 pub returns-in_err-payload-clause-keeps : goal.returns-in_err-payload-clause-keeps
 returns-in_err-payload-clause-keeps g c = Keeps-same g.D.Disk _ g.met.D.Disk.only_now c.unfit.ensures.upheld

@@ -32,7 +32,7 @@ returns-clause-takes g c = λ s.
 pub returns-clause-proceeds : goal.returns-clause-proceeds
 returns-clause-proceeds g c = elim c.if-due.branch [
   | then-due w ↦ rw (w.dispenser-is) (Proceeds-same g.D.Disk _ g.met.D.Disk.only_now)
-  | else-due+in_ok-outcome w ↦ rw (w.dispenser-is) w.do_ask.ensures.proceeds
+  | else-due+in_ok-outcome w ↦ rw (w.dispenser-is) w.do_ask.ensures.keeps.proceeds
 ]
 
 pub returns-clause-keeps : goal.returns-clause-keeps
