@@ -4,9 +4,8 @@ use Rattle.std.specs.Prelude.{is_err}
 use Rattle.std.specs.List.{cons_option, slice_get}
 use Rattle.std.specs.declared.result.Result.{Result}
 use Rattle.std.specs.declared.result.Result.TheVariants.{Ok, Err}
-use Rattle.std.proofs.lemmas.List.{append-nil, append_assoc, length_push}
+use Rattle.std.proofs.lemmas.List.{append-nil, append_assoc, length_push, nil_from_length}
 use Rattle.std.proofs.lemmas.Option.{slice_get_within}
-use Rattle.xfs_audit.proofs.Stepping.{no-items}
 use Rattle.xfs_envelope.specs.declared.code.Status.{Status}
 use Rattle.xfs_envelope.specs.declared.code.Status.TheVariants.{InvalidMessage, InvalidRequestId, TooManyRequests}
 use Rattle.xfs_envelope.specs.declared.command.Refuse.{Refuse}
@@ -251,7 +250,7 @@ one-more frame frames ih (Some (unsolicited name payload)) says acc done ids tex
 none-more : Speaks []
 none-more acc done ids (text ∷ texts) bound f = let e = f.acknowledges in absurd cc
 none-more acc done ids [] bound f =
-    let nothing : f.choice ≡ [] = no-items f.choice f.each in
+    let nothing : f.choice ≡ [] = nil_from_length f.choice f.each in
     let over : done ++ f.choice ≡ done = ap (λ l. done ++ l) nothing ∙ append-nil done in
     ended (subst (λ l. pending_ids (unended 0 l acc) ≡ ids) over (subst (λ l. pending_ids (unended 0 (done ++ f.choice) l) ≡ ids) (append-nil acc) f.left))
 

@@ -2,7 +2,7 @@
 use Rattle.std.proofs.Common.{◌≡◌, ◌<◌, ◌≤◌, ◌+◌, ◌-◌, ◌↔◌, ◌⊎◌, ℕ, zero, suc, List, [], ◌∷◌, ◌++◌, length, get_or, drop, take, Contains, Option, Some, None, refl, ap, sym, ◌∙◌, inl, inr, arith, subst}
 use Rattle.std.specs.Borrow.{Bor}
 use Rattle.std.specs.List.{slice_get}
-use Rattle.std.proofs.lemmas.List.{drop_more, take_more, length-drop}
+use Rattle.std.proofs.lemmas.List.{drop_more, take_more, length-drop, nil_from_length}
 use Rattle.std.proofs.lemmas.List.Elements.{Contains-push_cases}
 use Rattle.std.proofs.lemmas.Option.{slice_get_within, get_or_from_slice_get}
 use Rattle.std.specs.declared.result.Result.{Result}
@@ -20,7 +20,7 @@ use Rattle.xfs_audit.specs.Conversing.{Acknowledges, misread, refused, accepted,
 use Rattle.xfs_audit.specs.Ways.{Splits, IsSplit, IsWhole, HasOver, IsOver, HasId, LeadsBack, AnswersText, Extends, IsRest, IsLastText}
 use Rattle.xfs_audit.proofs.Splitting.{end-there, end-back, nothing-there, nothing-back}
 use Rattle.xfs_audit.proofs.Adding.{same-splits}
-use Rattle.xfs_audit.proofs.Stepping.{no-way, no-items}
+use Rattle.xfs_audit.proofs.Stepping.{no-way}
 
 -- a conversation that goes on begins with a frame that says something, or with the acknowledge of the first text
 abbrev Hears : List ℕ → List Pending → List (List ℕ) → List ℕ → List (List ℕ) → Type 0
@@ -216,7 +216,7 @@ end-rest ids texts way rest left ways stays due = (omega arith, λ m pending wit
         rw none_left (ended (end-back ids pending (same-splits stays due splits)))
       where
         nothing_left : (k : ℕ) → k ≡ length texts → drop k texts ≡ []
-        nothing_left k e = no-items (drop k texts) (let a : length (drop k texts) ≡ length texts - k = length-drop k texts in omega arith)
+        nothing_left k e = nil_from_length (drop k texts) (let a : length (drop k texts) ≡ length texts - k = length-drop k texts in omega arith)
 
 -- before the first frame
 pub whole-rest : (ids : List ℕ) (texts frames : List (List ℕ)) (rest : Rest) → IsRest ids texts frames rest → IsWhole rest ↔ Converses ids [] texts frames

@@ -22,10 +22,6 @@ no-way s = absurd (within s.there)
     within : {way : Way} → Contains [] way → ⊥
     within (k, lt, is) = absurd (omega arith)
 
-pub no-items : {X : Type 0} (xs : List X) → length xs ≡ 0 → xs ≡ []
-no-items [] e = refl
-no-items (x ∷ xs) e = absurd (omega arith)
-
 -- one way more is read
 pub step-more : (ids : List ℕ) (step : Step) (way : Way) (rest before next : List Way) (G : Type 0) (pending : List Pending) → Adds ids step way before next
     → ((IsSplit ids before pending ⊎ LeadsToSplit ids step (rest ++ way ∷ []) pending) ↔ G) → ((IsSplit ids next pending ⊎ LeadsToSplit ids step rest pending) ↔ G)

@@ -6,15 +6,12 @@ use Rattle.std.specs.Prelude.{not}
 use Rattle.std.proofs.lemmas.List.Sums.{prefix_len-le-length}
 use Rattle.std.proofs.lemmas.List.Folds.{find_at}
 use Rattle.std.proofs.lemmas.List.Quantifiers.{position-Some}
-use Rattle.std.proofs.lemmas.Option.{slice_get_read, slice_get_past, none-some}
-
-some-injective : {X : Type 0} (x y : X) → Some x ≡ Some y → x ≡ y
-some-injective x y e = cc
+use Rattle.std.proofs.lemmas.Option.{slice_get_read, slice_get_past, none-some, same_Some}
 
 module _ {X : Type 0} (p : X → Bool) where
   pub first_found : (xs : List X) (at : ℕ) → position p xs ≡ Some at → position_or_len p xs ≡ at
   first_found xs at e = elim (cases_Bool (ltb (position_or_len p xs) (length xs))) [
-    | inl y ↦ some-injective _ _ (rw y at e)
+    | inl y ↦ same_Some _ _ (rw y at e)
     | inr n ↦ absurd (none-some _ (rw n at e))
   ]
 

@@ -64,10 +64,6 @@ verb-done s next KeyFault said answer = event-done s next KeyFault (event_of s K
 verb-done s next Take said answer = event-done s next Take (event_of s Take) said answer
 verb-done s next Restart said answer = event-done s next Restart (event_of s Restart) said answer
 
--- a guard that is as it was proceeds
-pub proceeds-kept : {D : Type 0} (d : Ghosts D) (old new : GuardView D) → ((disk : D) (bytes : List ℕ) → d.images_since disk (d.moment disk) bytes → d.images disk bytes) → new ≡ old → Proceeds d old new
-proceeds-kept {D} d old new only_now same = (let P : GuardView D → Type 0 = λ x. Proceeds d old x in subst P (sym same) (Proceeds-same d old only_now))
-
 -- a number that isn't joined
 pub tells-none : (s : Played) (verb : ReplayLine) (event : Option Event) (bytes : List ℕ) → event ≡ None → bytes ≡ lines_text (codes "no client" ∷ []) → IsAnswerText (AnswersEvent s verb event) bytes s
 tells-none s verb None bytes is text = record { output = codes "no client" ∷ []; answer = (refl, refl); text = text }

@@ -21,7 +21,7 @@ use Rattle.xfs_guard.specs.Within.{shown_by, shown}
 use Rattle.xfs_guard.specs.Presented.{presented_in}
 use Rattle.xfs_guard.proofs.SegmentLaws.{cut, last_issue-cut, behind_issue-cut, has_issue-append, before-cons}
 use Rattle.xfs_evidence.specs.Evidence.{first_open}
-use Rattle.xfs_evidence.proofs.Shares.{across, in_span, share, sum-same}
+use Rattle.xfs_evidence.proofs.Shares.{across, in_span, share, sum-same, there}
 
 -- records up to the first mark, and the rest
 record IsSplit (B : List Rec) : Type 0 where
@@ -140,13 +140,6 @@ unissued-take [] zero none = refl
 unissued-take [] (suc j) none = refl
 unissued-take (s ∷ S) zero none = refl
 unissued-take (s ∷ S) (suc j) none = let parts = or_parts (is_issue s) (has_issue S) none in rw parts.0 (unissued-take S j parts.1)
-
-there : (front : List Rec) (r : Rec) (behind : List Rec) → record_at (front ++ r ∷ behind) (length front + 1) ≡ Some r
-there front r behind = rw add-one (at front)
-  where
-    at : (front : List Rec) → slice_get (front ++ r ∷ behind) (length front) ≡ Some r
-    at [] = refl
-    at (f ∷ front) = at front
 
 module _ (J A : List Rec) (n w : ℕ) (B : List Rec) (is : J ≡ A ++ Issue n w ∷ B) (last : has_issue B ≡ false) (s : IsSplit B) where
   whole : J ≡ A ++ Issue n w ∷ (s.S ++ s.R)

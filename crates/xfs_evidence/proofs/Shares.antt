@@ -212,7 +212,7 @@ presented-cons units c r S none = ap (λ n. (fold (paid_after units c) (record {
         let first : worth_after units c (record { last = Some r; worth = 0 }) x ≡ a + worth_after units c (record { last = None; worth = 0 }) x = omega (arith, one, other, z) in
         ap (λ n. (fold (paid_after units c) (record { last = Some x; worth = n }) xs).worth) first ∙ offset units c (Some x) a (worth_after units c (record { last = None; worth = 0 }) x) xs p.1
 
-there : (front : List Rec) (r : Rec) (behind : List Rec) → record_at (front ++ r ∷ behind) (length front + 1) ≡ Some r
+pub there : (front : List Rec) (r : Rec) (behind : List Rec) → record_at (front ++ r ∷ behind) (length front + 1) ≡ Some r
 there front r behind = rw add-one (at front)
   where
     at : (front : List Rec) → slice_get (front ++ r ∷ behind) (length front) ≡ Some r

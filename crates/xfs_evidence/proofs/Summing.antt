@@ -11,6 +11,7 @@ use Rattle.std.proofs.lemmas.Slice.Eq.{bytes_eq-Decides}
 use Rattle.xfs_base.specs.declared.money.NoteKind.{NoteKind}
 use Rattle.xfs_token.specs.Amounts.{amount_in, has_currency, is_currency}
 use Rattle.xfs_journal.specs.declared.record.Rec.{Rec}
+use Rattle.xfs_journal.proofs.JournalLaws.{slice_get-pushed}
 use Rattle.xfs_guard.specs.Presented.{presented_in}
 use Rattle.xfs_evidence.specs.Told.{is_before, told_text, told_amounts}
 use Rattle.xfs_evidence.specs.Sums.{is_behind, nearest, nearer, IsOfAUnit, IsNextCurrency, AreSegmentSums, AreSumsTo, left_behind, with_worth}
@@ -172,10 +173,6 @@ push-there [] x i y e = cc
 push-there (z ∷ zs) x zero y e = e
 push-there (z ∷ zs) x (suc i) y e = push-there zs x i y e
 
-push-here : {X : Type 0} (xs : List X) (x : X) → slice_get (xs ++ x ∷ []) (length xs) ≡ Some x
-push-here [] x = refl
-push-here (z ∷ zs) x = push-here zs x
-
 unit-there : (ks : List NoteKind) (k : NoteKind) (c : List ℕ) → IsOfAUnit ks c → IsOfAUnit (ks ++ k ∷ []) c
 unit-there ks k c u = record { place = u.place; kind = u.kind; there = push-there ks k u.place u.kind u.there; same = u.same }
 
@@ -184,7 +181,7 @@ next-more : (ks : List NoteKind) (k : NoteKind) (after first : Option (List ℕ)
 next-more ks k after first next = by (is_behind after k.currency) refl first next
   where
     here : IsOfAUnit (ks ++ k ∷ []) k.currency
-    here = record { place = length ks; kind = k; there = push-here ks k; same = refl }
+    here = record { place = length ks; kind = k; there = slice_get-pushed ks k; same = refl }
 
     by : (b : Bool) → is_behind after k.currency ≡ b → (o : Option (List ℕ)) → IsNextCurrency ks after o → IsNextCurrency (ks ++ k ∷ []) after (if b then nearest o k.currency else o)
     by false e None next = λ kind place got. ⊎_elim (λ old. next kind place old) (λ new. ap (λ (x : NoteKind). is_behind after x.currency) (sym new) ∙ e) (push-cases ks k place kind got)

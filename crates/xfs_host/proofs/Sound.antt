@@ -9,6 +9,7 @@ use Rattle.xfs_host.specs.Laws.{IsCovered, TokensArePaid, debits_in, taken, toke
 use Rattle.xfs_host.specs.declared.first.First.{First}
 use Rattle.xfs_host.proofs.Paying.{IsPaying, paying}
 use Rattle.xfs_host.proofs.Steps.{debits_other, debits_paid, debits_refused, found_new, found_same, noted_again, noted_new, noted_open, noted_opening, untouched_opening, untouched_paid}
+use Rattle.std.proofs.lemmas.Option.{same_Some}
 
 abbrev has_number : ℕ → Opening → Bool
 has_number account o = o.account == account
@@ -46,16 +47,13 @@ sum_same : {A : Type 0} (f g : A → ℕ) (xs : List A) → ((x : A) → f x ≡
 sum_same f g [] h = refl
 sum_same f g (x ∷ xs) h = omega (arith, sum_by-cons f x xs, sum_by-cons g x xs, h x, sum_same f g xs h)
 
-some_same : {A : Type 0} (x o : A) → Some x ≡ Some o → x ≡ o
-some_same x o h = ap (λ y. unwrap_or y x) h
-
 -- what is found passes
 found_passes : {A : Type 0} (p : A → Bool) (xs : List A) (o : A) → find p xs ≡ Some o → p o ≡ true
 found_passes p [] o found = absurd (true≢false (sym (ap is_some found)))
 found_passes {A} p (x ∷ xs) o found = by_test (p x) refl (found_passes p xs o) found
   where
     by_test : (t : Bool) → p x ≡ t → (find p xs ≡ Some o → p o ≡ true) → cond t (Some x) (find p xs) ≡ Some o → p o ≡ true
-    by_test true e rest found = subst (λ y. p y ≡ true) (some_same x o found) e
+    by_test true e rest found = subst (λ y. p y ≡ true) (same_Some x o found) e
     by_test false e rest found = rest found
 
 swapped : (a b : ℕ) → (a == b) ≡ true → (b == a) ≡ true
@@ -84,7 +82,7 @@ shares_one {A} p f g n o (x ∷ xs) h more one found = by_test (p x) refl (share
         → cond t (Some x) (find p xs) ≡ Some o → sum_by f (x ∷ xs) ≡ sum_by g (x ∷ xs) + n
     by_test true e rest found =
         let none : count_by p xs ≡ 0 = omega (arith, one, sum_by-cons (λ y. cond (p y) 1 0) x xs, ap {B = ℕ} (λ t. cond t 1 0) e) in
-        let here : f x ≡ g x + n = subst (λ y. f y ≡ g y + n) (sym (some_same x o found)) more in
+        let here : f x ≡ g x + n = subst (λ y. f y ≡ g y + n) (sym (same_Some x o found)) more in
         omega (arith, sum_by-cons f x xs, sum_by-cons g x xs, here, shares_none p f g xs h none)
     by_test false e rest found =
         let few : count_by p xs ≤ 1 = omega (arith, one, sum_by-cons (λ y. cond (p y) 1 0) x xs) in

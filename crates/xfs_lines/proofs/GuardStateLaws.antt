@@ -142,7 +142,7 @@ none-past units have counts fine = go (is_none counts.0) (is_none (drop (length 
     go false true e = refl
     go false false e = cc
 
-err-fault : {T : Type 0} {a b : NoAnswer} → ◌≡◌ {A = Result T NoAnswer} (Err a) (Err b) → a ≡ b
+pub err-fault : {T : Type 0} {a b : NoAnswer} → ◌≡◌ {A = Result T NoAnswer} (Err a) (Err b) → a ≡ b
 err-fault e = cc
 
 -- a fault is handed on

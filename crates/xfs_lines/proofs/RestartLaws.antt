@@ -9,6 +9,7 @@ use Rattle.xfs_guard.specs.View.{View, reread, unbooted, unread}
 use Rattle.xfs_guard.specs.declared.fail.BootFault.{BootFault}
 use Rattle.xfs_guard.specs.declared.fail.BootFault.TheVariants.{NotJournal, Disk, Full, Memory}
 use Rattle.xfs_journal.specs.Journal.{base_of}
+use Rattle.xfs_lines.proofs.GuardStateLaws.{err-fault}
 use Rattle.xfs_lines.specs.Guard.Restarts.{IsFull, RestartFails, Restarts}
 use Rattle.xfs_lines.specs.Guard.States.{IsStill, GuardState}
 use Rattle.xfs_lines.specs.declared.commands.guard.player.NoAnswer.{NoAnswer}
@@ -69,9 +70,6 @@ guard-refused Untold (Err Disk) old new last memory full disk other untold cause
 guard-refused Untold (Err Full) old new last memory full disk other untold cause later = refused_full old new last new.guard (full refl) (record { guard_is = refl; later = later })
 guard-refused Untold (Err Memory) old new last memory full disk other untold cause later = refused_memory old new last (record { guard_is = memory refl; later = later })
 
-err_of : {T : Type 0} {a b : NoAnswer} → ◌≡◌ {A = Result T NoAnswer} (Err a) (Err b) → a ≡ b
-err_of e = cc
-
 fault_of : {a b : BootFault} → ◌≡◌ {A = NoAnswer} (Unbooted a) (Unbooted b) → a ≡ b
 fault_of e = cc
 
@@ -79,7 +77,7 @@ fault_of e = cc
 pub restart-refused : {T : Type 0} (result : Result T NoAnswer) (why : BootFault) (old new : GuardState) → IsErrAnd result (λ e. e ≡ Unbooted why) → RestartFails old why new
     → (fault : BootFault) → result ≡ Err (Unbooted fault) → RestartFails old fault new
 restart-refused (Ok x) why old new err is fault same = absurd err
-restart-refused (Err e) why old new err is fault same = subst (λ f. RestartFails old f new) (fault_of (sym err ∙ err_of same)) is
+restart-refused (Err e) why old new err is fault same = subst (λ f. RestartFails old f new) (fault_of (sym err ∙ err-fault same)) is
 
 -- a restart that is answered: the journal was read again, and has its boot record, which alone is in memory
 pub restart-answered : (held : Option (List ℕ)) (old new : Of.Seen) (last : Option (List ℕ)) (line : List ℕ) → IsRereadBooted true old.guard new.guard

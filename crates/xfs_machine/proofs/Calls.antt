@@ -3,7 +3,7 @@ use Rattle.std.proofs.Common.{◌≡◌, ◌≢◌, ℕ, ◌+◌, ◌<◌, ◌�
 use Rattle.std.specs.Prelude.{IsErrAnd, OnOk, is_err}
 use Rattle.std.specs.Option.{option_map}
 use Rattle.std.proofs.lemmas.Bool.{cases_Bool, eqb-true, eq-eqb, false≢true, ne_eqb}
-use Rattle.std.proofs.lemmas.Option.{none-some}
+use Rattle.std.proofs.lemmas.Option.{none-some, same_Some}
 use Rattle.xfs_base.specs.declared.faults.Memory.{Memory}
 use Rattle.xfs_base.specs.declared.moment.ClientId.{ClientId}
 use Rattle.xfs_base.specs.declared.moment.Moment.{Moment}
@@ -21,7 +21,6 @@ use Rattle.xfs_model.specs.State.{Connection, Pass, Queues, State, queue_of, wit
 use Rattle.xfs_model.specs.Step.{IsFull, Step, happens, wanting}
 use Rattle.xfs_queue.specs.Queue.{without_client}
 use Rattle.xfs_model.proofs.Advancing.{advances}
-use Rattle.xfs_model.proofs.Changes.{same_some}
 use Rattle.xfs_model.proofs.Keeping.{is_open}
 use Rattle.xfs_model.proofs.Lists.{found_passes}
 use Rattle.xfs_model.proofs.RunsTell.{mark_kept}
@@ -106,7 +105,7 @@ seated_of : (s : State) (pass : Pass) (service : Service) (o : Option Connection
 seated_of s pass service None e is = absurd (none-some service (sym is))
 seated_of s pass service (Some k) e is =
     let opened = is_open s pass k (s.boot == pass.boot) refl e in
-    record { connection = k; open_ = e; named = ap (λ n. record { 0 = n }) opened.named; at = sym (same_some service k.service is) }
+    record { connection = k; open_ = e; named = ap (λ n. record { 0 = n }) opened.named; at = sym (same_Some service k.service is) }
 
 pub seated : (s : State) (pass : Pass) (service : Service) → Some service ≡ option_map (λ k. k.service) (connection_of s pass) → Seated s pass service
 seated s pass service is = seated_of s pass service (connection_of s pass) refl is

@@ -14,12 +14,12 @@ use Rattle.xfs_queue.specs.Commands.{is_at, is_running, ticket_of}
 use Rattle.xfs_queue.specs.Queue.{IsQueue}
 use Rattle.xfs_model.specs.Cases.{WorksOnPlan, has_ended, with_went}
 use Rattle.xfs_model.specs.State.{Job, Queues, State}
-use Rattle.xfs_model.proofs.Changes.{same_some}
 use Rattle.xfs_model.proofs.Lists.{found_passes}
 use Rattle.xfs_traffic.specs.Jobs.{changed_at}
 use Rattle.xfs_machine.specs.Parts.{MayStep, with_job_plan, with_step}
 use Rattle.xfs_traffic.proofs.AnswerLaws.{at_its_ticket}
 use Rattle.xfs_traffic.proofs.ChangeLaws.{alike, still, twice}
+use Rattle.std.proofs.lemmas.Option.{same_Some}
 
 runs : (stage : Stage) → is_running stage ≡ true → stage ≡ Running
 runs Waiting e = absurd (let f : false ≡ true = e in cc)
@@ -80,6 +80,6 @@ plan_taken q a o runs_ kept had = same_plan o a (rw (at_its_ticket (λ b. is_run
 -- an entry that a step of the running plan may add is one of that plan
 pub step_adds : (v : View) (q : List (Command Job)) (a : Command Job) (plan : Plan) → find (λ b. is_running b.stage) q ≡ Some a → a.job.plan ≡ Some plan → (entry : Motion) → MayStep v q entry → MayWork v plan entry
 step_adds v q a plan runs_ planned entry may =
-    let one : may.0 ≡ a = same_some may.0 a (sym may.2 ∙ runs_) in
+    let one : may.0 ≡ a = same_Some may.0 a (sym may.2 ∙ runs_) in
     let its : may.1 ≡ plan = one_plan may.1 plan (sym may.3 ∙ (ap (λ (b : Command Job). b.job.plan) one ∙ planned)) in
     subst (λ p. MayWork v p entry) its may.4

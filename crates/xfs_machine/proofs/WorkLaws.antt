@@ -4,7 +4,7 @@ use Rattle.std.specs.Prelude.{IsErrAnd, OnErr, ◌⊎◌, ◌+◌, ◌==◌, Mat
 use Rattle.std.specs.List.{list_any}
 use Rattle.std.proofs.lemmas.Bool.{cases_Bool, false≢true}
 use Rattle.std.proofs.lemmas.List.Elements.{All-head, All-tail}
-use Rattle.std.proofs.lemmas.Option.{none-some}
+use Rattle.std.proofs.lemmas.Option.{none-some, same_Some}
 use Rattle.xfs_base.specs.declared.moment.Moment.{Moment}
 use Rattle.xfs_base.specs.declared.moment.Service.{Service}
 use Rattle.xfs_base.specs.declared.moment.Service.TheVariants.{Publisher, Card, Keys, Cash}
@@ -27,7 +27,6 @@ use Rattle.xfs_model.specs.Guards.{is_fit, is_live}
 use Rattle.xfs_model.specs.Sound.{IsFitting, IsOnPlan, IsSound, MayAsk}
 use Rattle.xfs_model.specs.State.{Ask, issue, clear, cash, card, entry, bad, Job, Outcome, State, queue_at}
 use Rattle.xfs_model.specs.Work.{Case, order, expire, answer, nonce, overdue, stop, go_on, begin, rest, case_of, can_begin, has_nonce, has_order, has_overdue, has_ready, has_running, has_stopped, is_life_over, is_ordered}
-use Rattle.xfs_model.proofs.Changes.{same_some}
 use Rattle.xfs_model.proofs.Lists.{found_passes}
 use Rattle.xfs_traffic.specs.Parts.{HasResult}
 use Rattle.xfs_machine.specs.Parts.{HasDeviceAsk, HasNonceAsk, HasPlan}
@@ -45,6 +44,8 @@ use Rattle.xfs_model.specs.Events.{Answer, work}
 use Rattle.xfs_model.specs.Step.{Step, at_moment, happens, wanting}
 use Rattle.xfs_traffic.specs.declared.devices.Devices.{Devices}
 use Rattle.xfs_traffic.specs.declared.traffic.Traffic.{Traffic}
+use Rattle.xfs_model.proofs.Standings.{no_order as unordered}
+use Rattle.xfs_model.proofs.Asking.{is_absent}
 
 -- the first command that passes a test, of a queue whose commands all have a property
 record IsFirst (p : Command Job → Bool) (P : Command Job → Type 0) (q : List (Command Job)) : Type 0 where
@@ -65,7 +66,7 @@ first_of p P (x ∷ q) all some = elim (cases_Bool (p x)) [
 found_has : (p : Command Job → Bool) (P : Command Job → Type 0) (q : List (Command Job)) (a : Command Job) → All P q → find p q ≡ Some a → P a
 found_has p P [] a all there = absurd (none-some a there)
 found_has p P (x ∷ q) a all there = elim (cases_Bool (p x)) [
-  | inl y ↦ subst P (same_some x a (rw y at there)) (All-head P x q all)
+  | inl y ↦ subst P (same_Some x a (rw y at there)) (All-head P x q all)
   | inr n ↦ found_has p P q a (All-tail P x q all) (rw n at there)
 ]
 
@@ -154,21 +155,12 @@ has_device_ask service q all some =
       no_clear = λ e. no_clear service (subst (λ ask. MayAsk service Device ask) e may);
     }
 
-unordered : (o : Open) → is_ordered o ≡ false → o ≡ No
-unordered No e = refl
-unordered (Written kind counts) e = absurd (false≢true (sym e))
-unordered (Acted kind moved diverted failed) e = absurd (false≢true (sym e))
-
 no_order : (s : State) (service : Service) → has_order s service ≡ false → is_service Cash service ≡ true → s.seen.guard.open_order ≡ No
 no_order s service none at_cash = unordered s.seen.guard.open_order (rw at_cash at none)
 
 is_some_not : {X : Type 0} (o : Option X) → is_some o ≡ true → o ≢ None
 is_some_not None some e = false≢true some
 is_some_not (Some x) some e = absurd (let f : Some x ≡ None = e in cc)
-
-is_none_is : {X : Type 0} (o : Option X) → is_none o ≡ true → o ≡ None
-is_none_is None e = refl
-is_none_is (Some x) e = absurd (false≢true e)
 
 -- only the dispenser has commands of the dispenser
 pub at_cash : (service : Service) (q : List (Command Job)) (a : Command Job) (ask : CashAsk) → All (IsFitting service) q → find (waits_on Device) q ≡ Some a → a.job.ask ≡ cash ask → service ≡ Cash
@@ -203,7 +195,7 @@ module _ (s : State) (now : Moment) (service : Service) (sound : IsSound s) (up 
       record {
         none = no_order s service none (first_and (is_service Cash service) (is_life_over (later s now)) y);
         live = is_some_not (live_in s.seen.guard.boot_missing s.seen.guard.records) (over_live (later s now) over);
-        fit = is_none_is (unfit s.seen.guard) (over_fit (later s now) over);
+        fit = is_absent (unfit s.seen.guard) (over_fit (later s now) over);
       }
 
   nonces : has_order (later s now) service ≡ false → (is_service Cash service && has_nonce (later s now) service) ≡ true → CanDo nonce s.seen.guard now s.queues service

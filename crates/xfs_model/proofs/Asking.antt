@@ -119,7 +119,7 @@ asks_on Publisher (known.Cash command) payload ask is asks = absurd is
 pub may_ask : (service : Service) (name : List ℕ) (payload : Data) (ask : Ask) (command : Known) → known_of service name ≡ Some command → Asks command payload ask → MayAsk service (line_of command) ask
 may_ask service name payload ask command knows asks = asks_on service command payload ask (is_of service name command knows) asks
 
-is_absent : {Y : Type 0} (o : Option Y) → is_none o ≡ true → o ≡ None
+pub is_absent : {Y : Type 0} (o : Option Y) → is_none o ≡ true → o ≡ None
 is_absent None e = refl
 is_absent (Some y) e = absurd (false≢true e)
 

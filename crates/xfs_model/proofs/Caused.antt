@@ -56,20 +56,21 @@ use Rattle.xfs_model.specs.Step.{Happens, HandsOver, DropsClient, Posts, Step, a
 use Rattle.xfs_model.specs.Touches.{CardSays, IsHeard, TakesNotes, Touches, TouchesCard, TouchesKeys, failed, running_at, shut, took}
 use Rattle.xfs_model.specs.Work as working
 use Rattle.xfs_model.specs.Work.{case_of, is_overdue, is_stopped}
-use Rattle.xfs_model.proofs.Lists.{found_passes}
+use Rattle.xfs_model.proofs.Lists.{found_passes, found_all}
 use Rattle.xfs_model.proofs.Machines.{aside as same_machine}
 use Rattle.xfs_model.proofs.Queues.{queue_here, queue_there}
-use Rattle.xfs_model.proofs.Changes.{each, found_all, head_pairs, same_some, tail_pairs, turned}
+use Rattle.xfs_model.proofs.Changes.{each, head_pairs, tail_pairs, turned}
 use Rattle.xfs_model.proofs.Codes.{EffectOwn, IsOwn, StartOwn, WentOwn, begins_own, card_own, is_stopping, works_own}
 use Rattle.xfs_model.proofs.AtOnce.{by_command}
 use Rattle.xfs_model.proofs.Wanting.{unmoved}
+use Rattle.std.proofs.lemmas.Option.{same_Some, none-some}
 
 -- the command that is found stands alone at its ticket
 pub only_one : (p : Command Job → Bool) (q : List (Command Job)) (a : Command Job) → find p q ≡ Some a → AllPairs AreApart q → All (λ b. is_at (ticket_of a) b ≡ true → b ≡ a) q
 only_one p [] a found apart = All-nil (λ b. is_at (ticket_of a) b ≡ true → b ≡ a)
 only_one p (x ∷ q) a found apart = elim (cases_Bool (p x)) [
   | inl y ↦
-      let it : x ≡ a = same_some x a (rw y at found) in
+      let it : x ≡ a = same_Some x a (rw y at found) in
       All-cons (λ b. is_at (ticket_of a) b ≡ true → b ≡ a) x q (λ at. it)
       (each (AreApart x) (λ b. is_at (ticket_of a) b ≡ true → b ≡ a) (λ b other at. absurd (false≢true (sym other ∙ ap (λ (c : Command Job). is_at (ticket_of c) b) it ∙ at))) q (head_pairs AreApart x q apart))
   | inr n ↦
@@ -103,10 +104,7 @@ own_result now result a own = record {
 }
   where
     code_of : (result r : Outcome) (a : Command Job) → Some (closing a.job result) ≡ Some r → result.code ≡ r.code
-    code_of result r a is = ap (λ (o : Outcome). o.code) (same_some (closing a.job result) r is)
-
-none_some : {X : Type 0} (x : X) → None ≡ Some x → ⊥
-none_some x e = cc
+    code_of result r a is = ap (λ (o : Outcome). o.code) (same_Some (closing a.job result) r is)
 
 -- the commands of one service are others
 with_queue_ : (s : State) (service : Service) (q : List (Command Job)) → All (IsCaused s.now) q → HasCauses s → HasCauses (with_queue_at s service q)
@@ -192,13 +190,13 @@ nonce_own s ask result next moment (none_to_clear fit dead) = refl
 
 -- a command that was canceled, or is too late
 canceled_result : (now : Moment) (a : Command Job) → a.marked ≡ true → IsCaused now (with_result (plain Canceled) a)
-canceled_result now a marked = record { ready = λ y. refl; canceled = λ r is code. marked; late = λ r is code. absurd (not_late (ap (λ (o : Outcome). o.code) (same_some (closing a.job (plain Canceled)) r is) ∙ code)) }
+canceled_result now a marked = record { ready = λ y. refl; canceled = λ r is code. marked; late = λ r is code. absurd (not_late (ap (λ (o : Outcome). o.code) (same_Some (closing a.job (plain Canceled)) r is) ∙ code)) }
   where
     not_late : Canceled ≡ TimeOut → ⊥
     not_late e = cc
 
 late_result : (now : Moment) (a : Command Job) → is_due now a ≡ true → IsCaused now (with_result (plain TimeOut) a)
-late_result now a due = record { ready = λ y. refl; canceled = λ r is code. absurd (not_canceled (ap (λ (o : Outcome). o.code) (same_some (closing a.job (plain TimeOut)) r is) ∙ code)); late = λ r is code. due }
+late_result now a due = record { ready = λ y. refl; canceled = λ r is code. absurd (not_canceled (ap (λ (o : Outcome). o.code) (same_Some (closing a.job (plain TimeOut)) r is) ∙ code)); late = λ r is code. due }
   where
     not_canceled : TimeOut ≡ Canceled → ⊥
     not_canceled e = cc
@@ -308,7 +306,7 @@ module _ (s new : State) (machine : IsMachine s) (h : HasCauses s) where
     where
       of_room : (b : Bool) → MatchBool b (Refuses s k (Some c.id) (Some c.name) TooManyRequests new) (Accepts s k known c new) → HasCauses new
       of_room true is = rw (is.is) h
-      of_room false is = rw (is.is) (with_queue_ s k.service _ (All-push (IsCaused s.now) (queue_at s k.service) _ (h k.service) (record { ready = λ y. absurd (false≢true y); canceled = λ r has code. absurd (none_some r has); late = λ r has code. absurd (none_some r has) })) h)
+      of_room false is = rw (is.is) (with_queue_ s k.service _ (All-push (IsCaused s.now) (queue_at s k.service) _ (h k.service) (record { ready = λ y. absurd (false≢true y); canceled = λ r has code. absurd (none-some r has); late = λ r has code. absurd (none-some r has) })) h)
 
   takes : (k : Connection) (says : Result envelope.Command Refuse) → TakesText s k says new → HasCauses new
   takes k (Err refuse) is = rw (is.is) h

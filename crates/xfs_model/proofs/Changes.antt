@@ -4,7 +4,7 @@ use Rattle.std.proofs.lemmas.Bool.{cases_Bool, and_left, and_right, eq-eqb, fals
 use Rattle.std.proofs.lemmas.List.{length-map, get_or-map}
 use Rattle.std.proofs.lemmas.List.Elements.{All-cons, All-head, All-map, All-nil, All-tail}
 use Rattle.std.proofs.lemmas.List.Sums.{length-filter}
-use Rattle.std.proofs.lemmas.Option.{none-some}
+use Rattle.std.proofs.lemmas.Option.{none-some, same_Some}
 use Rattle.xfs_queue.specs.declared.command.Command.{Command}
 use Rattle.xfs_queue.specs.declared.command.Ticket.{Ticket}
 use Rattle.xfs_queue.specs.Commands.{ticket_of, is_ticket, is_at, is_of, is_running}
@@ -13,6 +13,7 @@ use Rattle.xfs_queue.proofs.Kept.{AllPairs-map, none_from_find, same_count}
 use Rattle.xfs_queue.proofs.Places.{AreApart, same_ticket}
 use Rattle.xfs_model.specs.Results.{changed}
 use Rattle.xfs_model.specs.State.{Job}
+use Rattle.xfs_model.proofs.Lists.{found_all}
 
 pub each : {X : Type 0} (P Q : X → Type 0) → ((x : X) → P x → Q x) → (xs : List X) → All P xs → All Q xs
 each P Q step xs all = λ k d within. step (get_or xs k d) (all k d within)
@@ -64,21 +65,11 @@ changed_begins f same a q idle is =
       | inr n ↦ rw n (and_left _ _ h.1)
     ]) q (λ i j d lt within. (is.ids i j d lt within, none i d (omega arith), none j d within))) is
 
-pub same_some : {X : Type 0} (x y : X) → Some x ≡ Some y → x ≡ y
-same_some x y e = cc
-
 pub head_pairs : {X : Type 0} (R : X → X → Type 0) (x : X) (xs : List X) → AllPairs R (x ∷ xs) → All (R x) xs
 head_pairs R x xs all = λ k d within. all zero (suc k) d (omega arith) (omega (arith, within))
 
 pub tail_pairs : {X : Type 0} (R : X → X → Type 0) (x : X) (xs : List X) → AllPairs R (x ∷ xs) → AllPairs R xs
 tail_pairs R x xs all = λ i j d lt within. all (suc i) (suc j) d (omega arith) (omega (arith, within))
-
-pub found_all : {X : Type 0} (P : X → Type 0) (p : X → Bool) (xs : List X) (x : X) → find p xs ≡ Some x → All P xs → P x
-found_all P p [] x h all = absurd (none-some x h)
-found_all P p (y ∷ xs) x h all = elim (cases_Bool (p y)) [
-  | inl t ↦ rw (sym (same_some y x (rw t at h))) (All-head P y xs all)
-  | inr n ↦ found_all P p xs x (rw n at h) (All-tail P y xs all)
-]
 
 pub at_itself : (t : Ticket) → is_ticket t t ≡ true
 at_itself t =
@@ -94,7 +85,7 @@ at_running : (q : List (Command Job)) (a : Command Job) → find (λ b. is_runni
 at_running [] a found apart = All-nil (λ b. is_at (ticket_of a) b ≡ true → is_running b.stage ≡ true)
 at_running (x ∷ q) a found apart = elim (cases_Bool (is_running x.stage)) [
   | inl y ↦
-      let it : x ≡ a = same_some x a (rw y at found) in
+      let it : x ≡ a = same_Some x a (rw y at found) in
       All-cons (λ b. is_at (ticket_of a) b ≡ true → is_running b.stage ≡ true) x q (λ at. y)
       (each (AreApart x) (λ b. is_at (ticket_of a) b ≡ true → is_running b.stage ≡ true) (λ b other at. absurd (false≢true (sym other ∙ ap (λ (c : Command Job). is_at (ticket_of c) b) it ∙ at))) q (head_pairs AreApart x q apart))
   | inr n ↦

@@ -52,6 +52,7 @@ use Rattle.xfs_model.specs.Step.{Step}
 use Rattle.xfs_model.proofs.Changes.{at_itself, each}
 use Rattle.xfs_model.proofs.Sounds.{at_cash_alone, has_plan}
 use Rattle.xfs_model.proofs.Turns.{Speaks, Turn, accepted, at_event, begun, card_begins, card_touched, heard, keys_begin, keys_touched, late, marks, misasked, nonce, seen_at, stays, stopped_running, stopped_waiting, turns, worked}
+use Rattle.xfs_model.proofs.Marks.{either}
 
 -- another code
 abbrev IsOther : Code → Type 0
@@ -251,11 +252,6 @@ nonce_other s ask result next moment (unissued now fit is) = refl
 nonce_other s ask result next moment (cleared_ now fit live is) = refl
 nonce_other s ask result next moment (uncleared now fit live is) = refl
 nonce_other s ask result next moment (none_to_clear fit dead) = refl
-
--- either is true
-either : (x y : Bool) → (x || y) ≡ true → (x ≡ true) ⊎ (y ≡ true)
-either true y h = inl refl
-either false y h = inr h
 
 -- what is known of a command before the step
 record IsKnown (old : State) (service : Service) (a : Command Job) : Type 0 where

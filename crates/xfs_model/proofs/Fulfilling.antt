@@ -38,7 +38,7 @@ use Rattle.xfs_model.specs.Successes.{IsDoneAtOnce, is_success}
 use Rattle.xfs_model.proofs.Changes.{each}
 use Rattle.xfs_model.proofs.Moving.{Pays, Presents, pays_on, pays_rests, planned_present, presents_on, presents_rests, begun_pays}
 use Rattle.xfs_model.proofs.Resting.{rests_same}
-use Rattle.xfs_model.proofs.Sounds.{sound_kept}
+use Rattle.xfs_model.proofs.Sounds.{sound_kept, waits_unready, runs_unready}
 use Rattle.xfs_model.proofs.StillPlanned.{StillWorks, same_plan, unless_planned}
 use Rattle.xfs_model.proofs.Succeeding.{IsNoSuccess, begins_at_once, nonce_at_once}
 use Rattle.xfs_model.proofs.Turns.{Turn, accepted, at_event, begun, heard, late, marks, misasked, nonce, seen_at, stays, stopped_running, stopped_waiting, turns, worked}
@@ -94,16 +94,6 @@ not_both Waiting w r = false≢true r
 not_both Running w r = false≢true w
 not_both Ready w r = false≢true w
 
-unready : (stage : Stage) → is_running stage ≡ true → is_ready stage ≡ false
-unready Waiting r = refl
-unready Running r = refl
-unready Ready r = absurd (false≢true r)
-
-still_unready : (stage : Stage) → is_waiting stage ≡ true → is_ready stage ≡ false
-still_unready Waiting w = refl
-still_unready Running w = refl
-still_unready Ready w = absurd (false≢true w)
-
 -- what a step makes of the command of a ticket: it is on its way where it runs, and has moved all where it succeeds
 record Holds (base now : View) (a : Command Job) : Type 0 where
   under : is_running a.stage ≡ true → Under base now a.job.ask a.job.plan
@@ -138,8 +128,8 @@ at_start t (told answer) a h = h
 at_start t (planned plan) a h = h
 
 first_turn : (t : Ticket) (old : State) (event : Event) (s new : State) → s.seen ≡ old.seen → (b : Command Job) → Turn s event new (Waits t Cash) Cash b → is_at t b ≡ true → Holds old.seen.guard new.seen.guard b
-first_turn t old event s new same b (stays a (fresh, p) still) at_ = record { under = λ r. absurd (not_both a.stage (p refl at_) r); full = no_result _ _ b (fresh.outcome (still_unready a.stage (p refl at_))) }
-first_turn t old event s new same b (marks a holds (fresh, p) still) at_ = record { under = λ r. absurd (not_both a.stage (p refl at_) r); full = no_result _ _ b (fresh.outcome (still_unready a.stage (p refl at_))) }
+first_turn t old event s new same b (stays a (fresh, p) still) at_ = record { under = λ r. absurd (not_both a.stage (p refl at_) r); full = no_result _ _ b (fresh.outcome (waits_unready a.stage (p refl at_))) }
+first_turn t old event s new same b (marks a holds (fresh, p) still) at_ = record { under = λ r. absurd (not_both a.stage (p refl at_) r); full = no_result _ _ b (fresh.outcome (waits_unready a.stage (p refl at_))) }
 first_turn t old event s new same b (accepted client id line timeout name payload ask has asks) at_ = record { under = λ r. absurd (false≢true r); full = tt }
 first_turn t old event s new same b (stopped_waiting a holds p waits_ marked) at_ = record { under = λ r. absurd (false≢true r); full = λ success. absurd (false≢true success) }
 first_turn t old event s new same b (late a p waits_ due) at_ = record { under = λ r. absurd (false≢true r); full = λ success. absurd (false≢true success) }
@@ -147,7 +137,7 @@ first_turn t old event s new same b (stopped_running a p ran stops) at_ = record
 first_turn t old event s new same b (nonce a p waits_ here result does) at_ = record { under = λ r. absurd (false≢true r); full = λ success. at_once_moves _ _ a.job.ask _ (nonce_at_once s a.job.ask result new.seen new.issued does success) }
 first_turn t old event s new same b (misasked a p waits_ asks) at_ = record { under = λ r. absurd (false≢true r); full = λ success. absurd (false≢true success) }
 first_turn t old event s new same b (begun a (fresh, p) waits_ none here ask asks start begins) at_ =
-    by_start old.seen.guard new.seen.guard start a ask asks (fresh.outcome (still_unready a.stage waits_)) (begins_at_once s.seen s.exchange ask new.seen new.exchange start begins)
+    by_start old.seen.guard new.seen.guard start a ask asks (fresh.outcome (waits_unready a.stage waits_)) (begins_at_once s.seen s.exchange ask new.seen new.exchange start begins)
     (λ plan is. subst (λ (x : Seen). Under x.guard new.seen.guard (cash ask) (Some plan)) same (begun_under s.seen s.exchange ask new.seen new.exchange plan none (subst (λ x. Begins s.seen s.exchange ask new.seen new.exchange x) is begins)))
 first_turn t old event s new same b (worked a (fresh, p) ran here plan left has went works) at_ = absurd (not_both a.stage (p refl (at_went t left _ went a at_)) ran)
 first_turn t old event s new same b (heard a p elsewhere saying speaks) at_ = absurd (elsewhere refl)
@@ -172,10 +162,10 @@ by_went base s next plan left e (done answer) a ask asks none u works = record {
 next_turn : (t : Ticket) (base : View) (old : State) (event : Event) (s new : State) → s.seen ≡ old.seen → (b : Command Job) → Turn s event new (RunsUnder t base old.seen.guard Cash) Cash b → is_at t b ≡ true → Holds base new.seen.guard b
 next_turn t base old event s new same b (stays a (fresh, p) still) at_ =
     let ran = p refl at_ in
-    record { under = λ r. under_rests base s.seen.guard new.seen.guard a.job.ask a.job.plan (still refl ran.0) (subst (λ (x : Seen). Under base x.guard a.job.ask a.job.plan) (sym same) ran.1); full = no_result _ _ b (fresh.outcome (unready a.stage ran.0)) }
+    record { under = λ r. under_rests base s.seen.guard new.seen.guard a.job.ask a.job.plan (still refl ran.0) (subst (λ (x : Seen). Under base x.guard a.job.ask a.job.plan) (sym same) ran.1); full = no_result _ _ b (fresh.outcome (runs_unready a.stage ran.0)) }
 next_turn t base old event s new same b (marks a holds (fresh, p) still) at_ =
     let ran = p refl at_ in
-    record { under = λ r. under_rests base s.seen.guard new.seen.guard a.job.ask a.job.plan (still refl ran.0) (subst (λ (x : Seen). Under base x.guard a.job.ask a.job.plan) (sym same) ran.1); full = no_result _ _ b (fresh.outcome (unready a.stage ran.0)) }
+    record { under = λ r. under_rests base s.seen.guard new.seen.guard a.job.ask a.job.plan (still refl ran.0) (subst (λ (x : Seen). Under base x.guard a.job.ask a.job.plan) (sym same) ran.1); full = no_result _ _ b (fresh.outcome (runs_unready a.stage ran.0)) }
 next_turn t base old event s new same b (accepted client id line timeout name payload ask has asks) at_ = record { under = λ r. absurd (false≢true r); full = tt }
 next_turn t base old event s new same b (stopped_waiting a holds p waits_ marked) at_ = record { under = λ r. absurd (false≢true r); full = λ success. absurd (false≢true success) }
 next_turn t base old event s new same b (late a p waits_ due) at_ = record { under = λ r. absurd (false≢true r); full = λ success. absurd (false≢true success) }
@@ -185,7 +175,7 @@ next_turn t base old event s new same b (misasked a p waits_ asks) at_ = record 
 next_turn t base old event s new same b (begun a (fresh, p) waits_ none here ask asks start begins) at_ = absurd (not_both a.stage waits_ (p refl (at_start t start a at_)).0)
 next_turn t base old event s new same b (worked a (fresh, p) ran here plan left has went works) at_ =
     let is = p refl (at_went t left _ went a at_) in
-    by_went base s.seen new.seen plan left _ went a a.job.ask refl (fresh.outcome (unready a.stage ran))
+    by_went base s.seen new.seen plan left _ went a a.job.ask refl (fresh.outcome (runs_unready a.stage ran))
     (subst (λ (x : Seen). Under base x.guard a.job.ask (Some plan)) (sym same) (subst (λ o. Under base old.seen.guard a.job.ask o) has is.1)) works
 next_turn t base old event s new same b (heard a p elsewhere saying speaks) at_ = absurd (elsewhere refl)
 

@@ -33,9 +33,7 @@ use Rattle.xfs_model.proofs.Lists.{found_passes, find-filter, find-dropped, IfSo
 use Rattle.xfs_model.proofs.Pendings.{pending_at_once, pending_push_mine, pending_push_other, pending_without_client}
 use Rattle.xfs_model.proofs.Queues.{itself, queue_here, queue_same, queue_there}
 use Rattle.xfs_model.proofs.Talks.{talk_after, talk_at_desk, sent_alone}
-
-some_injective : {X : Type 0} (x y : X) → Some x ≡ Some y → x ≡ y
-some_injective x y e = cc
+use Rattle.std.proofs.lemmas.Option.{same_Some, none-some}
 
 pub same_client : (s : State) (mine client : ClientId) → mine.0 ≡ client.0 → connection_at s mine ≡ connection_at s client
 same_client s mine client e = ap (λ n. find (λ k. k.client.0 == n) s.connections) e
@@ -49,12 +47,9 @@ pub record IsOpen (s : State) (pass : Pass) (k : Connection) : Type 0 where
   pub found : connection_at s pass.client ≡ Some k
   pub named : k.client.0 ≡ pass.client.0
 
-none_some : {X : Type 0} (x : X) → None ≡ Some x → ⊥
-none_some x e = cc
-
 pub is_open : (s : State) (pass : Pass) (k : Connection) (b : Bool) → (s.boot == pass.boot) ≡ b → cond b (connection_at s pass.client) None ≡ Some k → IsOpen s pass k
 is_open s pass k true same found = record { boot = same; found = found; named = eqb-true _ _ (found_passes (is_client pass.client) s.connections k found) }
-is_open s pass k false same found = absurd (none_some k found)
+is_open s pass k false same found = absurd (none-some k found)
 
 -- the pass is that of a client exactly where the connection is its
 pass_is : (s : State) (pass : Pass) (k : Connection) (mine : ClientId) → IsOpen s pass k → is_pass_of s mine pass ≡ (k.client.0 == mine.0)
@@ -74,7 +69,7 @@ post_desk s pass text k found named_ frames q mine ts fs hears others h =
     rw me (hears j.client same (fs ++ j.waiting) talks))
     (λ j there named n. elim (cases_eq k.client.0 mine.0) [
       | inl e ↦
-          let it : j ≡ k = some_injective j k (sym there ∙ same_client s mine pass.client (sym e ∙ named_) ∙ found) in
+          let it : j ≡ k = same_Some j k (sym there ∙ same_client s mine pass.client (sym e ∙ named_) ∙ found) in
           absurd (false≢true (sym n ∙ ap (is_at k.service k.client) it ∙ at_itself k))
       | inr differ ↦
           let other : (k.client.0 == mine.0) ≡ false = ne_eqb k.client.0 mine.0 differ in
@@ -189,7 +184,7 @@ keeps_outbox old pass frames new is mine ts fs h = go (connection_of old pass) r
         mine ts fs ts (cond (k.client.0 == mine.0) (fs ++ frames) fs)
         (λ j there named talks. elim (cases_eq k.client.0 mine.0) [
           | inl e ↦
-              let it : j ≡ k = some_injective j k (sym there ∙ same_client old mine pass.client (sym e ∙ open_.named) ∙ open_.found) in
+              let it : j ≡ k = same_Some j k (sym there ∙ same_client old mine pass.client (sym e ∙ open_.named) ∙ open_.found) in
               let mail : j.waiting ≡ frames = ap (λ (c : Connection). c.waiting) it ∙ sym (is.0) in
               let me : (k.client.0 == mine.0) ≡ true = eq-eqb k.client.0 mine.0 e in
               let here : is_client k.client j ≡ true = eq-eqb j.client.0 k.client.0 (named ∙ sym e) in

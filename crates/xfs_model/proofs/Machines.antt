@@ -54,13 +54,16 @@ use Rattle.xfs_model.specs.Step.{Happens, HandsOver, Joins, DropsClient, Posts, 
 use Rattle.xfs_model.specs.Touches.{CardSays, IsHeard, TakesNotes, Touches, TouchesCard, TouchesKeys, failed, running_at, shut, took}
 use Rattle.xfs_model.specs.Work as working
 use Rattle.xfs_model.specs.Work.{case_of}
-use Rattle.xfs_model.proofs.Changes.{KeepsTicket, NotBoth, changed_begins, changed_ends, changed_runs, clients_changed, each, found_all, queue_after_map}
+use Rattle.xfs_model.proofs.Changes.{KeepsTicket, NotBoth, changed_begins, changed_ends, changed_runs, clients_changed, each, queue_after_map}
 use Rattle.xfs_queue.proofs.Kept.{AllPairs-map}
 use Rattle.xfs_model.proofs.Pendings.{is_pending_there}
 use Rattle.xfs_model.proofs.Queues.{queue_here, queue_there}
 use Rattle.xfs_model.proofs.Talks.{client_with_mail}
 use Rattle.xfs_model.proofs.AtOnce.{by_command}
 use Rattle.xfs_model.proofs.Wanting.{unmoved}
+use Rattle.std.proofs.lemmas.Option.{none-some}
+use Rattle.xfs_model.proofs.Marks.{stop_ticket}
+use Rattle.xfs_model.proofs.Lists.{found_all}
 
 abbrev Rising : Connection → Connection → Type 0
 Rising a b = a.client.0 < b.client.0
@@ -235,11 +238,6 @@ touches s (Key key) told_ new is h = touches_keys s (key_event.Key key) new is.1
 touches s KeyFault told_ new is h = touches_keys s key_event.Fault new is.1 h
 touches s NotesTaken told_ new is h = takes_notes s told_ new is h
 
--- a text
-ticket_stopped : (b : Bool) (a : Command Job) → ticket_of (cond b (with_result (plain Canceled) a) a) ≡ ticket_of a
-ticket_stopped true a = refl
-ticket_stopped false a = refl
-
 stopped_rests : (b : Bool) (a : Command Job) → is_running a.stage ≡ false → is_running (cond b (with_result (plain Canceled) a) a).stage ≡ false
 stopped_rests true a rests = refl
 stopped_rests false a rests = rests
@@ -252,7 +250,7 @@ keeps_apart false false a b h = h
 queue_stopped : (client : ClientId) (ids : Ids) (q : List (Command Job)) → IsQueue q → IsQueue (stopped q client ids)
 queue_stopped client ids q is =
     let marked = queue_canceled client ids q is in
-    queue_after_map stop (λ a. ticket_stopped (is_waiting a.stage && a.marked) a) (canceled q client ids)
+    queue_after_map stop (λ a. stop_ticket (is_waiting a.stage && a.marked) a) (canceled q client ids)
     (AllPairs-map NotBoth NotBoth stop (λ a b h. keeps_apart (is_waiting a.stage && a.marked) (is_waiting b.stage && b.marked) a b h) (canceled q client ids) marked.running) marked
 
 client_stopped : (b : Bool) (a : Command Job) → (cond b (with_result (plain Canceled) a) a).client ≡ a.client
@@ -319,12 +317,9 @@ module _ (s : State) (k : Connection) (within : k.client.0 ≤ s.given) (h : IsM
       of_id true wrong is = rw (is.is) (with_sent s k.service k.client (is.reply ∷ []) h)
       of_id false right is = takes_on c right (known_of k.service c.name) new is
 
-none_some : {X : Type 0} (x : X) → None ≡ Some x → ⊥
-none_some x e = cc
-
 open_within : (s : State) (pass : Pass) (k : Connection) (b : Bool) → cond b (connection_at s pass.client) None ≡ Some k → IsMachine s → k.client.0 ≤ s.given
 open_within s pass k true found h = found_all (λ j. j.client.0 ≤ s.given) (is_client pass.client) s.connections k found h.connections
-open_within s pass k false found h = absurd (none_some k found)
+open_within s pass k false found h = absurd (none-some k found)
 
 posts : (old : State) (pass : Pass) (text : List ℕ) (now : Moment) (new : State) → Posts old pass text now new → IsMachine old → IsMachine new
 posts old pass text now new is h = go (connection_of old pass) refl is

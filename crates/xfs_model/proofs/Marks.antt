@@ -51,7 +51,7 @@ use Rattle.xfs_model.specs.Work.{case_of}
 use Rattle.xfs_model.proofs.Queues.{itself, queue_here, queue_same, queue_there, same_service}
 use Rattle.xfs_dispenser.specs.Answers.{Start, told, planned, Went, more, done as over}
 use Rattle.xfs_model.specs.Causes.{IsCancelOf, IsMarked, IsOwnPass, MarksHaveCauses, before, canceled_by, left_by, was_marked, was_pending}
-use Rattle.xfs_model.proofs.Changes.{each}
+use Rattle.xfs_model.proofs.Changes.{each, at_itself}
 use Rattle.xfs_model.proofs.AtOnce.{by_command}
 use Rattle.xfs_model.proofs.Wanting.{unmoved}
 use Rattle.xfs_queue.specs.declared.command.Ticket.{Ticket}
@@ -66,15 +66,9 @@ any_at p (x ∷ xs) (suc k) d within y = elim (cases_Bool (p x)) [
   | inr there ↦ rw there (any_at p xs k d (omega (arith, within)) y)
 ]
 
-itself_at : (t : Ticket) → is_ticket t t ≡ true
-itself_at t =
-    let client : (t.client.0 == t.client.0) ≡ true = eq-eqb t.client.0 t.client.0 refl in
-    let id : (t.id == t.id) ≡ true = eq-eqb t.id t.id refl in
-    rw client id
-
 -- each command of a list is in it
 pending_same : (q : List (Command Job)) → All (λ (a : Command Job). list_any (is_at (ticket_of a)) q ≡ true) q
-pending_same q k d within = any_at (is_at (ticket_of (get_or q k d))) q k d within (itself_at (ticket_of (get_or q k d)))
+pending_same q k d within = any_at (is_at (ticket_of (get_or q k d))) q k d within (at_itself (ticket_of (get_or q k d)))
 
 -- the command of this ticket is marked in a list
 abbrev has_mark : List (Command Job) → Ticket → Bool
@@ -86,7 +80,7 @@ Marked q r = All (λ b. b.marked ≡ true → has_mark q (ticket_of b) ≡ true)
 
 marked_same : (q : List (Command Job)) → Marked q q
 marked_same q k d within m =
-    let here : (is_at (ticket_of (get_or q k d)) (get_or q k d) && (get_or q k d).marked) ≡ true = rw (itself_at (ticket_of (get_or q k d)), m) refl in
+    let here : (is_at (ticket_of (get_or q k d)) (get_or q k d) && (get_or q k d).marked) ≡ true = rw (at_itself (ticket_of (get_or q k d)), m) refl in
     any_at (λ a. is_at (ticket_of (get_or q k d)) a && a.marked) q k d within here
 
 -- a change that keeps the ticket and the mark
@@ -242,7 +236,7 @@ same_reason old event service a b same (canceled_by pass text now is mine there 
 same_reason old event service a b same (left_by pass is mine there) =
     left_by pass is (subst (λ (t : Ticket). IsOwnPass old pass service t.client) (sym same) mine) (subst (λ (t : Ticket). was_pending old service t ≡ true) (sym same) there)
 
-stop_ticket : (b : Bool) (a : Command Job) → ticket_of (cond b (with_result (plain Canceled) a) a) ≡ ticket_of a
+pub stop_ticket : (b : Bool) (a : Command Job) → ticket_of (cond b (with_result (plain Canceled) a) a) ≡ ticket_of a
 stop_ticket true a = refl
 stop_ticket false a = refl
 
@@ -250,7 +244,7 @@ stop_mark : (b : Bool) (a : Command Job) → (cond b (with_result (plain Cancele
 stop_mark true a = refl
 stop_mark false a = refl
 
-either : (x y : Bool) → (x || y) ≡ true → (x ≡ true) ⊎ (y ≡ true)
+pub either : (x y : Bool) → (x || y) ≡ true → (x ≡ true) ⊎ (y ≡ true)
 either true y h = inl refl
 either false y h = inr h
 

@@ -47,7 +47,7 @@ use Rattle.xfs_model.specs.Sound.{IsSound}
 use Rattle.xfs_model.specs.State.{Ask, Job, Outcome, State, queue_at}
 use Rattle.xfs_model.specs.Step.{Step}
 use Rattle.xfs_model.proofs.Changes.{at_itself, each}
-use Rattle.xfs_model.proofs.Denials.{IsGood, Marked, OwnDeny, active_good, denominate_good, inactive_good, grant_good, order_marked, storage_good}
+use Rattle.xfs_model.proofs.Denials.{IsGood, Marked, OwnDeny, active_good, denominate_good, inactive_good, grant_good, order_marked, storage_good, of_some}
 use Rattle.xfs_model.proofs.Turns.{Speaks, Turn, accepted, at_event, begun, card_begins, card_touched, heard, keys_begin, keys_touched, late, marks, misasked, nonce, seen_at, stays, stopped_running, stopped_waiting, turns, worked}
 
 -- why the guard gave that answer
@@ -74,9 +74,6 @@ own_ready records Nothing own = refl
 own_ready records (OutletFull notes) own = refl
 own_ready records (Short unit) own = refl
 own_ready records Memory own = tt
-
-of_some : {X : Type 0} (P : X → Type 0) (o : Option X) (x : X) → o ≡ Some x → IfSome o P → P x
-of_some P o x e h = rw e at h
 
 -- an unfit journal is not fit
 unfit_is : (v : View) (deny : Deny) → unfit_for v ≡ Some deny → is_none (unfit_for v) ≡ false

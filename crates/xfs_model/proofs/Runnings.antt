@@ -4,15 +4,16 @@ use Rattle.std.specs.List.{list_any}
 use Rattle.std.proofs.lemmas.Bool.{cases_Bool, false≢true}
 use Rattle.std.proofs.lemmas.List.Elements.{All-cons, All-head, All-map, All-nil, All-tail}
 use Rattle.std.proofs.lemmas.List.Folds.{list_any-append, list_any_none}
-use Rattle.std.proofs.lemmas.Option.{none-some}
+use Rattle.std.proofs.lemmas.Option.{none-some, same_Some}
 use Rattle.xfs_queue.specs.declared.command.Command.{Command}
 use Rattle.xfs_queue.specs.Commands.{is_at, is_running, ticket_of}
 use Rattle.xfs_queue.proofs.Places.{AreApart}
 use Rattle.xfs_model.specs.Results.{changed}
 use Rattle.xfs_model.specs.State.{Job}
 use Rattle.xfs_model.proofs.Caused.{only_one}
-use Rattle.xfs_model.proofs.Changes.{NotBoth, at_itself, each, found_all, head_pairs, first_of, rest_of, same_some, tail_pairs, turned}
+use Rattle.xfs_model.proofs.Changes.{NotBoth, at_itself, each, head_pairs, first_of, rest_of, tail_pairs, turned}
 use Rattle.xfs_queue.proofs.Kept.{none_from_find}
+use Rattle.xfs_model.proofs.Lists.{found_all}
 
 abbrev pub runs : List (Command Job) → Bool
 runs q = list_any (λ a. is_running a.stage) q
@@ -64,7 +65,7 @@ pub others_rest : (p : Command Job → Bool) (q : List (Command Job)) (a : Comma
 others_rest p [] a found runs_ one = All-nil (λ b. is_at (ticket_of a) b ≡ false → is_running b.stage ≡ false)
 others_rest p (x ∷ q) a found runs_ one = elim (cases_Bool (p x)) [
   | inl y ↦
-      let it : x ≡ a = same_some x a (rw y at found) in
+      let it : x ≡ a = same_Some x a (rw y at found) in
       let here : is_running x.stage ≡ true = rw it runs_ in
       All-cons (λ b. is_at (ticket_of a) b ≡ false → is_running b.stage ≡ false) x q (λ other. absurd (false≢true (sym other ∙ ap (λ (c : Command Job). is_at (ticket_of a) c) it ∙ at_itself (ticket_of a))))
       (each (NotBoth x) (λ b. is_at (ticket_of a) b ≡ false → is_running b.stage ≡ false) (λ b both other. rest_of (is_running x.stage) (is_running b.stage) here both) q (head_pairs NotBoth x q one))
@@ -87,7 +88,7 @@ pub runs_changed : (f : Command Job → Command Job) (p : Command Job → Bool) 
 runs_changed f p a [] found apart rest = absurd (none-some a found)
 runs_changed f p a (x ∷ q) found apart rest = elim (cases_Bool (p x)) [
   | inl y ↦
-      let it : x ≡ a = same_some x a (rw y at found) in
+      let it : x ≡ a = same_Some x a (rw y at found) in
       let later = All-tail (λ b. is_at (ticket_of a) b ≡ false → is_running b.stage ≡ false) x q rest in
       let others : All (λ b. is_at (ticket_of a) b ≡ false) q = rw it at (head_pairs AreApart x q apart) in
       rw (it, at_itself (ticket_of a), none_at f a q others later) (none_more (is_running (f a).stage))

@@ -73,12 +73,12 @@ ready_fresh a result = record { outcome = λ unready. absurd (false≢true (sym 
 runs_fresh : (a : Command Job) (plan : Plan) (ended : Bool) → a.job.outcome ≡ None → IsFresh (with_plan plan ended a)
 runs_fresh a plan ended none = record { outcome = λ unready. none; plan = λ waits. absurd (false≢true waits); ended = λ waits. absurd (false≢true waits) }
 
-waits_unready : (stage : Stage) → is_waiting stage ≡ true → is_ready stage ≡ false
+pub waits_unready : (stage : Stage) → is_waiting stage ≡ true → is_ready stage ≡ false
 waits_unready Waiting waits = refl
 waits_unready Running waits = absurd (false≢true waits)
 waits_unready Ready waits = absurd (false≢true waits)
 
-runs_unready : (stage : Stage) → is_running stage ≡ true → is_ready stage ≡ false
+pub runs_unready : (stage : Stage) → is_running stage ≡ true → is_ready stage ≡ false
 runs_unready Waiting runs = absurd (false≢true runs)
 runs_unready Running runs = refl
 runs_unready Ready runs = absurd (false≢true runs)

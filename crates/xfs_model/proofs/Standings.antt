@@ -66,8 +66,8 @@ use Rattle.xfs_model.specs.Touches.{CardSays, IsHeard, TakesNotes, Touches, fail
 use Rattle.xfs_model.specs.Work as working
 use Rattle.xfs_model.specs.Work.{case_of, has_running, is_ordered, is_overdue, is_stopped}
 use Rattle.xfs_model.proofs.Caused.{only_one}
-use Rattle.xfs_model.proofs.Changes.{each, found_all}
-use Rattle.xfs_model.proofs.Lists.{found_passes}
+use Rattle.xfs_model.proofs.Changes.{each}
+use Rattle.xfs_model.proofs.Lists.{found_passes, found_all}
 use Rattle.xfs_model.proofs.Machines.{aside as same_machine}
 use Rattle.xfs_model.proofs.Queues.{queue_itself, queue_there, same_service}
 use Rattle.xfs_model.proofs.Runnings.{all_rest, none_runs, others_rest, runs, runs_beside, runs_changed, runs_filter, runs_map, runs_push, some_runs}
@@ -218,7 +218,7 @@ saying_runs : (result : Option Outcome) (a : Command Job) → is_running (with_s
 saying_runs None a = refl
 saying_runs (Some result) a = refl
 
-no_order : (o : Open) → is_ordered o ≡ false → o ≡ No
+pub no_order : (o : Open) → is_ordered o ≡ false → o ≡ No
 no_order No none = refl
 no_order (Written kind counts) none = absurd (false≢true (sym none))
 no_order (Acted kind moved diverted broke) none = absurd (false≢true (sym none))

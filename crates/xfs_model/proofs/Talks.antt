@@ -20,6 +20,7 @@ use Rattle.xfs_model.specs.State.{Connection, Job, State, queue_at}
 use Rattle.xfs_model.proofs.Lists.{find-map, found_passes, IfSome-map, IfSome-same}
 use Rattle.xfs_model.proofs.Pendings.{pending_found, pending_without_mine, pending_without_other}
 use Rattle.xfs_model.proofs.Queues.{queue_here, queue_same, queue_there, with_same_queue}
+use Rattle.xfs_model.proofs.Changes.{rest_of}
 
 pub client_with_mail : (b : Bool) (frames : List (List ℕ)) (k : Connection) → (with_mail b frames k).client ≡ k.client
 client_with_mail true frames k = refl
@@ -95,11 +96,6 @@ heard_completion mine p q a found y code payload frame is ts fs h =
     let says : Says (pending_in mine q) (reply_in frame) (without_id a.id (pending_in mine q)) = rw is.reads_back (completed (job_pending a) code payload (pending_found mine p q a found y)) in
     rw (pending_without_mine mine (ticket_of a) (eqb-true _ _ y) q) (heard h frame says)
 
--- whether a command is of the connection that is written to
-and_with : (a b : Bool) → a ≡ true → (a && b) ≡ false → b ≡ false
-and_with true b y n = n
-and_with false b y n = absurd (false≢true y)
-
 pub other_way : (a b : ℕ) (c : Bool) → (a == b) ≡ c → (b == a) ≡ c
 other_way a b c e = elim (cases_eq a b) [
   | inl same ↦ eq-eqb b a (sym same) ∙ sym (eq-eqb a b same) ∙ e
@@ -110,7 +106,7 @@ addressed : (service : Service) (a : Command Job) (k : Connection) → is_at ser
 addressed service a k y = other_way k.client.0 a.client.0 true ((and_parts _ _ y).1)
 
 not_addressed : (service : Service) (a : Command Job) (k : Connection) → is_at service a.client k ≡ false → is_service service k.service ≡ true → is_of k.client a ≡ false
-not_addressed service a k n y = other_way k.client.0 a.client.0 false (and_with _ _ y n)
+not_addressed service a k n y = other_way k.client.0 a.client.0 false (rest_of _ _ y n)
 
 -- a queue that changes, but for what is pending
 pub talk_requeued : (s : State) (service : Service) (q : List (Command Job)) → ((c : ClientId) → pending_in c q ≡ pending_in c (queue_at s service))

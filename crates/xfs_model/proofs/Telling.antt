@@ -68,11 +68,12 @@ use Rattle.xfs_model.specs.Touches.{CardSays, IsHeard, TakesNotes, Touches, fail
 use Rattle.xfs_model.specs.Work as working
 use Rattle.xfs_model.specs.Work.{case_of}
 use Rattle.xfs_model.proofs.Advancing.{advances}
-use Rattle.xfs_model.proofs.Changes.{each, found_all}
+use Rattle.xfs_model.proofs.Changes.{each}
 use Rattle.xfs_model.proofs.Payloads.{SayingStands, StartStands, WentStands, begins_stands, card_stands, error_stands, keys_stand, longer_stands, nothing_stands, silent, works_stands}
 use Rattle.xfs_model.proofs.Turns.{AllFit, Speaks, Turn, accepted, at_event, begun, card_begins, card_touched, heard, keys_begin, keys_touched, late, marks, misasked, nonce, seen_at, stays, stopped_running, stopped_waiting, turns, worked}
 use Rattle.xfs_model.proofs.AtOnce.{by_command}
 use Rattle.xfs_model.proofs.Wanting.{unmoved}
+use Rattle.xfs_model.proofs.Lists.{found_all}
 
 -- the results
 nonce_stands : (s : State) (ask : Ask) (result : Outcome) (next : Seen) (moment : Moment) → NonceCommand s ask result next moment → Stands next.guard.records result.payload

@@ -65,8 +65,8 @@ use Rattle.xfs_model.specs.Work as working
 use Rattle.xfs_model.specs.Work.{case_of, is_overdue, is_stopped}
 use Rattle.xfs_model.proofs.Calls.{seen_stopped}
 use Rattle.xfs_model.proofs.Caused.{only_one}
-use Rattle.xfs_model.proofs.Changes.{each, found_all}
-use Rattle.xfs_model.proofs.Lists.{found_passes}
+use Rattle.xfs_model.proofs.Changes.{each}
+use Rattle.xfs_model.proofs.Lists.{found_passes, found_all}
 use Rattle.xfs_model.proofs.Machines.{aside}
 use Rattle.xfs_model.proofs.Queues.{queue_itself, queue_there, same_service}
 use Rattle.xfs_model.proofs.Runnings.{OthersRest, all_rest, others_rest}

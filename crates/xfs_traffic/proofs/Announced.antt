@@ -8,7 +8,7 @@ use Rattle.xfs_traffic.specs.TakenBack.{all_but_last, taken_back}
 use Rattle.xfs_model.specs.Connections.{is_service, with_mail}
 use Rattle.xfs_model.specs.State.{Connection}
 
-all_but_last_push : (frames : List (List ℕ)) (frame : List ℕ) → all_but_last (frames ++ frame ∷ []) ≡ frames
+pub all_but_last_push : (frames : List (List ℕ)) (frame : List ℕ) → all_but_last (frames ++ frame ∷ []) ≡ frames
 all_but_last_push frames frame =
     let e : length (frames ++ frame ∷ []) - 1 ≡ length frames = omega (arith, length-append frames (frame ∷ [])) in
     rw e (take-append_seam frames (frame ∷ []))

@@ -4,7 +4,7 @@ use Rattle.std.specs.Prelude.{if◌then◌else◌}
 use Rattle.std.specs.List.{list_any}
 use Rattle.std.proofs.lemmas.Bool.{cases_Bool, eq-eqb, false≢true}
 use Rattle.std.proofs.lemmas.List.Elements.{All-head, All-tail}
-use Rattle.std.proofs.lemmas.Option.{none-some}
+use Rattle.std.proofs.lemmas.Option.{none-some, same_Some}
 use Rattle.std.specs.Option.{option_map}
 use Rattle.xfs_base.specs.declared.moment.Service.{Service}
 use Rattle.xfs_envelope.specs.declared.code.Code.TheVariants.{Canceled, TimeOut}
@@ -21,22 +21,19 @@ use Rattle.xfs_model.specs.State.{Connection, Job, Outcome, Queues, State, queue
 use Rattle.xfs_model.specs.Touches.{running_at}
 use Rattle.xfs_model.specs.Work.{is_overdue, is_stopped}
 use Rattle.xfs_model.proofs.Caused.{only_one}
-use Rattle.xfs_model.proofs.Changes.{same_some}
 use Rattle.xfs_traffic.specs.Jobs.{changed_at}
 use Rattle.xfs_traffic.specs.Parts.{mailed_behind}
 use Rattle.xfs_traffic.proofs.ChangeLaws.{found}
 use Rattle.xfs_traffic.proofs.QueueTests.{any_running}
-
-at_itself : (a : Command Job) → is_at (ticket_of a) a ≡ true
-at_itself a = rw (eq-eqb a.client.0 a.client.0 refl, eq-eqb a.id a.id refl) refl
+use Rattle.xfs_model.proofs.Changes.{at_itself}
 
 -- a command that is found is pending
 pub pending_one : (p : Command Job → Bool) (q : List (Command Job)) (a : Command Job) → find p q ≡ Some a → list_any (is_at (ticket_of a)) q ≡ true
 pending_one p [] a there = absurd (none-some a there)
 pending_one p (x ∷ q) a there = elim (cases_Bool (p x)) [
   | inl y ↦
-      let it : x ≡ a = same_some x a (rw y at there) in
-      rw it (rw (at_itself a) refl)
+      let it : x ≡ a = same_Some x a (rw y at there) in
+      rw it (rw (at_itself (ticket_of a)) refl)
   | inr n ↦ elim (cases_Bool (is_at (ticket_of a) x)) [
     | inl z ↦ rw z refl
     | inr m ↦ rw m (pending_one p q a (rw n at there))
@@ -78,7 +75,7 @@ find_both : (r p : Command Job → Bool) (q : List (Command Job)) (a : Command J
 find_both r p [] a there holds = there
 find_both r p (x ∷ q) a there holds = elim (cases_Bool (r x)) [
   | inl y ↦
-      let it : x ≡ a = same_some x a (rw y at there) in
+      let it : x ≡ a = same_Some x a (rw y at there) in
       let here : p x ≡ true = ap p it ∙ holds in
       rw y (rw here (ap Some it))
   | inr n ↦ rw n (find_both r p q a (rw n at there) holds)

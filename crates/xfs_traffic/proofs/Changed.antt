@@ -4,7 +4,7 @@ use Rattle.std.specs.List.{list_any}
 use Rattle.std.specs.Option.{option_map}
 use Rattle.std.proofs.lemmas.Bool.{and_parts, cases_Bool, eq-eqb, eqb-true, or_right}
 use Rattle.std.proofs.lemmas.List.Elements.{All-head, All-tail}
-use Rattle.std.proofs.lemmas.Option.{none-some}
+use Rattle.std.proofs.lemmas.Option.{none-some, same_Some}
 use Rattle.xfs_envelope.specs.declared.code.Code.TheVariants.{Canceled}
 use Rattle.xfs_queue.specs.declared.command.Command.{Command}
 use Rattle.xfs_queue.specs.declared.command.Stage.TheVariants.{Ready}
@@ -17,15 +17,12 @@ use Rattle.xfs_model.specs.Immediate.{stop}
 use Rattle.xfs_model.specs.Results.{closing, plain, with_result}
 use Rattle.xfs_model.specs.State.{Job, Outcome}
 use Rattle.xfs_model.proofs.Caused.{only_one}
-use Rattle.xfs_model.proofs.Changes.{same_some}
 use Rattle.xfs_model.proofs.Lists.{found_passes}
-
-at_itself : (a : Command Job) → is_at (ticket_of a) a ≡ true
-at_itself a = rw (eq-eqb a.client.0 a.client.0 refl, eq-eqb a.id a.id refl) refl
+use Rattle.xfs_model.proofs.Changes.{at_itself}
 
 some_of : {X Y : Type 0} (f : X → Y) (o : Option X) (y : Y) → option_map f o ≡ Some y → (x : X) × (o ≡ Some x) × (f x ≡ y)
 some_of f None y e = absurd (none-some y e)
-some_of f (Some x) y e = (x, refl, same_some (f x) y e)
+some_of f (Some x) y e = (x, refl, same_Some (f x) y e)
 
 pub none_of : {X Y : Type 0} (f : X → Y) (o : Option X) → option_map f o ≡ None → o ≡ None
 none_of f None e = refl
@@ -119,8 +116,8 @@ fewer_if : (r : Outcome) (q : List (Command Job)) (a : Command Job) → find is_
 fewer_if r [] a e = absurd (none-some a e)
 fewer_if r (b ∷ q) a e = elim (cases_Bool (is_stopping b)) [
   | inl y ↦
-      let it : b ≡ a = same_some b a (rw y at e) in
-      let here : is_at (ticket_of a) b ≡ true = rw it (at_itself a) in
+      let it : b ≡ a = same_Some b a (rw y at e) in
+      let here : is_at (ticket_of a) b ≡ true = rw it (at_itself (ticket_of a)) in
       let rest = fewer_same (ticket_of a) r q in
       rw here (rw y (omega (arith, rest)))
   | inr n ↦
@@ -159,8 +156,8 @@ any_found : (q : List (Command Job)) (a : Command Job) → find is_stopping q �
 any_found [] a e = absurd (none-some a e)
 any_found (b ∷ q) a e = elim (cases_Bool (is_stopping b)) [
   | inl y ↦
-      let it : b ≡ a = same_some b a (rw y at e) in
-      let here : is_at (ticket_of a) b ≡ true = rw it (at_itself a) in
+      let it : b ≡ a = same_Some b a (rw y at e) in
+      let here : is_at (ticket_of a) b ≡ true = rw it (at_itself (ticket_of a)) in
       rw here refl
   | inr n ↦ or_right (is_at (ticket_of a) b) (list_any (is_at (ticket_of a)) q) (any_found q a (rw n at e))
 ]

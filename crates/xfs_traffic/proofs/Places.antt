@@ -6,7 +6,7 @@ use Rattle.std.proofs.lemmas.List.Elements.{All-cons}
 use Rattle.std.proofs.lemmas.List.Folds.{find_at}
 use Rattle.std.proofs.lemmas.List.Kept.{AllPairs-filter}
 use Rattle.std.proofs.lemmas.List.Quantifiers.{position-Some}
-use Rattle.std.proofs.lemmas.Option.{slice_get_read, slice_get_past, none-some}
+use Rattle.std.proofs.lemmas.Option.{slice_get_read, slice_get_past, none-some, same_Some}
 use Rattle.xfs_base.specs.declared.moment.ClientId.{ClientId}
 use Rattle.xfs_base.specs.declared.moment.Service.{Service}
 use Rattle.xfs_model.specs.Connections.{is_at, is_client, is_service, with_mail, without_mail}
@@ -15,9 +15,6 @@ use Rattle.xfs_traffic.specs.TakenBack.{all_but_last, taken_back}
 use Rattle.xfs_model.specs.State.{Connection}
 use Rattle.xfs_queue.proofs.Kept.{AllPairs-map}
 use Rattle.xfs_model.proofs.Talks.{client_with_mail}
-
-some-injective : {X : Type 0} (x y : X) → Some x ≡ Some y → x ≡ y
-some-injective x y e = cc
 
 module _ {X : Type 0} (p : X → Bool) where
   abbrev pub NotBoth : X → X → Type 0
@@ -46,7 +43,7 @@ module _ {X : Type 0} (p : X → Bool) where
 
   first_found : (xs : List X) (at : ℕ) → position p xs ≡ Some at → position_or_len p xs ≡ at
   first_found xs at e = elim (cases_Bool (ltb (position_or_len p xs) (length xs))) [
-    | inl y ↦ some-injective _ _ (rw y at e)
+    | inl y ↦ same_Some _ _ (rw y at e)
     | inr n ↦ absurd (none-some _ (rw n at e))
   ]
 
@@ -76,7 +73,7 @@ apart_at client ks h = λ i j d lt within y.
     ne_eqb (get_or ks j d).client.0 client.0 (λ f. absurd (omega (arith, e, f, less)))
 
 -- the same at a service
-apart_there : (service : Service) (client : ClientId) (ks : List Connection) → AllPairs (λ a b. a.client.0 < b.client.0) ks → AllPairs (NotBoth (is_at service client)) ks
+pub apart_there : (service : Service) (client : ClientId) (ks : List Connection) → AllPairs (λ a b. a.client.0 < b.client.0) ks → AllPairs (NotBoth (is_at service client)) ks
 apart_there service client ks h = λ i j d lt within y.
     let here = (and_parts (is_service service (get_or ks i d).service) (is_client client (get_or ks i d)) y).1 in
     rw (apart_at client ks h i j d lt within here) (no_more (is_service service (get_or ks j d).service))

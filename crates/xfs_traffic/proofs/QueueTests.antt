@@ -5,7 +5,7 @@ use Rattle.std.specs.List.{list_any}
 use Rattle.std.specs.Option.{option_map}
 use Rattle.std.proofs.lemmas.Bool.{cases_Bool, eq-eqb, false≢true}
 use Rattle.std.proofs.lemmas.List.Elements.{All-head, All-tail}
-use Rattle.std.proofs.lemmas.Option.{none-some}
+use Rattle.std.proofs.lemmas.Option.{none-some, same_Some}
 use Rattle.xfs_queue.specs.declared.command.Command.{Command}
 use Rattle.xfs_queue.specs.declared.command.Ticket.{Ticket}
 use Rattle.xfs_base.specs.declared.moment.Moment.{Moment}
@@ -13,15 +13,12 @@ use Rattle.xfs_queue.specs.Commands.{is_at, is_due, is_running, ticket_of}
 use Rattle.xfs_queue.specs.Queue.{IsQueue}
 use Rattle.xfs_model.specs.State.{Job}
 use Rattle.xfs_model.proofs.Caused.{only_one}
-use Rattle.xfs_model.proofs.Changes.{head_pairs, same_some, tail_pairs}
+use Rattle.xfs_model.proofs.Changes.{head_pairs, tail_pairs, at_itself}
 use Rattle.xfs_traffic.proofs.ChangeLaws.{found}
 
 pub any_found : {X Y : Type 0} (f : X → Y) (p : X → Bool) (xs : List X) → is_some (option_map f (find p xs)) ≡ list_any p xs
 any_found f p [] = refl
 any_found f p (x ∷ xs) = elim (cases_Bool (p x)) [ inl y ↦ rw y refl | inr n ↦ rw n (any_found f p xs) ]
-
-at_itself : (a : Command Job) → is_at (ticket_of a) a ≡ true
-at_itself a = rw (eq-eqb a.client.0 a.client.0 refl, eq-eqb a.id a.id refl) refl
 
 -- a test of the one command that is at a ticket
 pub any_at : (r p : Command Job → Bool) (q : List (Command Job)) (a : Command Job) → find r q ≡ Some a → IsQueue q → list_any (λ b. is_at (ticket_of a) b && p b) q ≡ p a
@@ -31,8 +28,8 @@ any_at r p q a there kept = at_one p q a (only_one r q a there kept.ids) (member
     member r [] a there = absurd (none-some a there)
     member r (x ∷ q) a there = elim (cases_Bool (r x)) [
       | inl y ↦
-          let it : x ≡ a = same_some x a (rw y at there) in
-          rw it (rw (at_itself a) refl)
+          let it : x ≡ a = same_Some x a (rw y at there) in
+          rw it (rw (at_itself (ticket_of a)) refl)
       | inr n ↦ elim (cases_Bool (is_at (ticket_of a) x)) [
         | inl z ↦ rw z refl
         | inr m ↦ rw m (member r q a (rw n at there))
@@ -79,7 +76,7 @@ running_one : (p : Command Job → Bool) (q : List (Command Job)) (a : Command J
 running_one p [] a there kept = absurd (none-some a there)
 running_one p (x ∷ q) a there kept = elim (cases_Bool (is_running x.stage)) [
   | inl y ↦
-      let it : x ≡ a = same_some x a (rw y at there) in
+      let it : x ≡ a = same_Some x a (rw y at there) in
       let rest : list_any (λ b. is_running b.stage && p b) q ≡ false = none_with (λ b. is_running b.stage) p q (quiet x q y (head_pairs (λ a b. (is_running a.stage && is_running b.stage) ≡ false) x q kept)) in
       elim (cases_Bool (p x)) [
         | inl holds ↦ rw y (rw holds (sym (ap p (sym it) ∙ holds)))

@@ -7,12 +7,8 @@ use Rattle.xfs_base.specs.declared.moment.Service.{Service}
 use Rattle.xfs_model.specs.Connections.{is_at, is_client, is_service, with_mail}
 use Rattle.xfs_model.specs.State.{Connection}
 use Rattle.xfs_traffic.specs.TakenBack.{all_but_last}
-use Rattle.xfs_traffic.proofs.Places.{NotBoth, not_there, written, none_from_find, map_none}
-
-all_but_last_push : (frames : List (List ℕ)) (frame : List ℕ) → all_but_last (frames ++ frame ∷ []) ≡ frames
-all_but_last_push frames frame =
-    let e : length (frames ++ frame ∷ []) - 1 ≡ length frames = omega (arith, length-append frames (frame ∷ [])) in
-    rw e (take-append_seam frames (frame ∷ []))
+use Rattle.xfs_traffic.proofs.Announced.{all_but_last_push}
+use Rattle.xfs_traffic.proofs.Places.{apart_there, not_there, written, none_from_find, map_none}
 
 abbrev without_last : Connection → Connection
 without_last k = record k { waiting = all_but_last k.waiting }
@@ -25,22 +21,10 @@ taken_off service client frame (k ∷ ks) = elim (cases_Bool (is_at service clie
   | inr n ↦ rw n (rw n (ap (λ l. k ∷ l) (taken_off service client frame ks)))
 ]
 
-no_more : (b : Bool) → (b && false) ≡ false
-no_more true = refl
-no_more false = refl
-
-apart : (service : Service) (client : ClientId) (ks : List Connection) → AllPairs (λ a b. a.client.0 < b.client.0) ks → AllPairs (NotBoth (is_at service client)) ks
-apart service client ks h = λ i j d lt within y.
-    let here : is_client client (get_or ks i d) ≡ true = (and_parts (is_service service (get_or ks i d).service) (is_client client (get_or ks i d)) y).1 in
-    let e : (get_or ks i d).client.0 ≡ client.0 = eqb-true (get_or ks i d).client.0 client.0 here in
-    let less = h i j d lt within in
-    let other : is_client client (get_or ks j d) ≡ false = ne_eqb (get_or ks j d).client.0 client.0 (λ f. absurd (omega (arith, e, f, less))) in
-    rw other (no_more (is_service service (get_or ks j d).service))
-
 pub unmailed_at : (service : Service) (client : ClientId) (ks : List Connection) (at : ℕ) (k : Connection) → AllPairs (λ a b. a.client.0 < b.client.0) ks → position (is_at service client) ks ≡ Some at → k ≡ get_or ks at k
     → (before : List Connection) (frame : List ℕ) → ks ≡ map (λ j. with_mail (is_at service client j) (frame ∷ []) j) before → set ks at (without_last k) ≡ before
 unmailed_at service client ks at k rising there here = λ before frame e.
-    written (is_at service client) without_last ks at k (apart service client ks rising) there here
+    written (is_at service client) without_last ks at k (apart_there service client ks rising) there here
     ∙ ap (λ l. map (λ j. cond (is_at service client j) (without_last j) j) l) e ∙ taken_off service client frame before
 
 pub unmailed_none : (service : Service) (client : ClientId) (ks : List Connection) → position (is_at service client) ks ≡ None

@@ -9,7 +9,7 @@ use Rattle.xfs_dispenser.specs.Plans.{order_plan}
 use Rattle.xfs_dispenser.specs.Seen.{Seen}
 use Rattle.xfs_dispenser.specs.Steps.{IsActed, IsSettled, IsUnsettled, Orders, WorksOn, order_record, ordered, refusal_of}
 use Rattle.xfs_dispenser.specs.declared.plan.Plan.{Plan}
-use Rattle.xfs_dispenser.proofs.TurnLaws.{calm-rest, follows-later, rose-within, turns-later, works-later}
+use Rattle.xfs_dispenser.proofs.TurnLaws.{calm-rest, follows-later, rose-within, turns-later, works-later, written-kind}
 use Rattle.xfs_guard.specs.View.{View}
 use Rattle.xfs_guard.specs.declared.ask.Ask.TheVariants as Ask
 use Rattle.xfs_guard.specs.declared.open.Open.TheVariants.{No, Written, Acted}
@@ -34,9 +34,6 @@ settled_motions acted next plan went kind moved diverted failed is t =
     go (kept, inl i) = ap (λ (v : View). v.motions) i.settles.same
     go (kept, inr u) = ap (λ (v : View). v.motions) u.unsettles.same
 
-same_order : (k j : Kind) (a b : Counts) → Written k a ≡ Written j b → (j ≡ k) × (b ≡ a)
-same_order k j a b e = (cc, cc)
-
 never : (b : Bool) → (b ≡ true → ⊥) → b ≡ false
 never true no_ = absurd (no_ refl)
 never false no_ = refl
@@ -55,7 +52,7 @@ acted_entry s written next plan went is calm t = go (subst (λ o. WorksOn o writ
         let later = turns-later 1 t.middle t.after next went on in
         let fine = never a.outcome.failed (λ e. calm.mech (rose-within written.guard.faults next.guard.faults written.guard.faults t.middle.guard.faults (omega arith) later.mech (a.called.cause e))) in
         let acts = a.acts in
-        let asked = same_order Present acts.kind s.guard.places.transport acts.counts (sym (ap (λ (v : View). v.open_order) is) ∙ acts.written) in
+        let asked = written-kind Present acts.kind s.guard.places.transport acts.counts (sym (ap (λ (v : View). v.open_order) is) ∙ acts.written) in
         let whole = acts.carried.full fine in
         let same = settled_motions t.middle next t.after went acts.kind a.outcome.moved a.outcome.diverted a.outcome.failed (ap (λ (v : View). v.open_order) acts.same) on in
         let longer : length s.guard.records + 1 ≡ length written.guard.records = sym (ap (λ (v : View). length v.records) is ∙ length-pushed s.guard.records (order_record s.guard Ask.Present)) in

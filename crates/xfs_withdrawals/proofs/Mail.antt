@@ -9,11 +9,11 @@ use Rattle.xfs_model.specs.Conversations.{frames_after, is_pass_of}
 use Rattle.xfs_model.specs.Events.{handed, outbox}
 use Rattle.xfs_model.specs.State.{Connection, Pass, State}
 use Rattle.xfs_model.specs.Step.{HandsOver}
-use Rattle.xfs_model.proofs.Changes.{same_some}
 use Rattle.xfs_model.proofs.Keeping.{IsOpen, is_open, same_client}
 use Rattle.xfs_model.proofs.Lists.{find-map, found_passes}
 use Rattle.xfs_model.proofs.Talks.{client_with_mail}
 use Rattle.xfs_withdrawals.specs.Turning.{IsConnected}
+use Rattle.std.proofs.lemmas.Option.{same_Some}
 
 -- a client's connection behind a change of all connections
 found_behind : (s new : State) (mine : ClientId) (f : Connection → Connection) (k : Connection) → ((j : Connection) → (f j).client ≡ j.client) → new.connections ≡ map f s.connections
@@ -79,7 +79,7 @@ handed_on s pass more new mine waiting hands h = go (connection_of s pass) refl 
     }
     go (Some k) found is = elim (cases_eq k.client.0 mine.0) [
       | inl e ↦
-          let it : j ≡ k = same_some j k (sym h.found ∙ same_client s mine pass.client (sym e ∙ there.named) ∙ there.found) in
+          let it : j ≡ k = same_Some j k (sym h.found ∙ same_client s mine pass.client (sym e ∙ there.named) ∙ there.found) in
           let mail : more ≡ waiting = is.0 ∙ sym (ap (λ (c : Connection). c.waiting) it) ∙ h.waits in
           let me : is_pass_of s mine pass ≡ true = rw (there.boot, eq-eqb pass.client.0 mine.0 (sym there.named ∙ e)) refl in
           let empty : without_mail k.client j ≡ record j { waiting = [] } = rw (eq-eqb j.client.0 k.client.0 (named s mine j h.found ∙ sym e)) refl in

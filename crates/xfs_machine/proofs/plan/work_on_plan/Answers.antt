@@ -1,6 +1,6 @@
 use Rattle.std.proofs.Common.{◌≡◌, ◌&&◌, not, Some, None, find, ap, sym, subst, refl, ◌∙◌}
 use Rattle.std.specs.Option.{option_map}
-use Rattle.std.proofs.lemmas.Option.{none-some}
+use Rattle.std.proofs.lemmas.Option.{none-some, same_Some}
 use Rattle.xfs_dispenser.proofs.StepLaws.{Keeps-fewer}
 use Rattle.xfs_dispenser.specs.Answers.{went_of}
 use Rattle.xfs_dispenser.specs.Plans.{IsPlanned}
@@ -9,7 +9,6 @@ use Rattle.xfs_queue.specs.Commands.{is_at, is_running, ticket_of}
 use Rattle.xfs_queue.specs.Queue.{IsQueue}
 use Rattle.xfs_queue.specs.declared.command.Command.{Command}
 use Rattle.xfs_model.specs.State.{Job}
-use Rattle.xfs_model.proofs.Changes.{same_some}
 use Rattle.xfs_traffic.specs.Jobs.{changed_at}
 use Rattle.xfs_machine.specs.Parts.{at_cash, with_job_plan}
 use Rattle.xfs_machine.proofs.PlanLaws.{one_plan, plan_back, plan_taken, plan_worked, step_adds}
@@ -22,7 +21,7 @@ unreachable-requires-in_default-take_plan g c =
     let valid : IsQueue c.args.queues.now.cash = rw c.at.ensures at c.in-Some.ensures.valid in
     let had : option_map (λ (b : Command Job). b.job.plan) (find (is_at (ticket_of a)) c.args.queues.now.cash) ≡ Some c.take_plan.result = rw (c.at_mut.ensures.now, c.ticket-ticket.ensures) at c.take_plan.ensures.had in
     let taken : a.job.plan ≡ c.take_plan.result = plan_taken c.args.queues.now.cash a c.take_plan.result runs_ valid had in
-    let planned : a.job.plan ≡ Some c.requires.plan = ap (λ (b : Command Job). b.job.plan) (same_some a c.requires.command (sym runs_ ∙ c.requires.runs)) ∙ c.requires.planned in
+    let planned : a.job.plan ≡ Some c.requires.plan = ap (λ (b : Command Job). b.job.plan) (same_Some a c.requires.command (sym runs_ ∙ c.requires.runs)) ∙ c.requires.planned in
     none-some c.requires.plan (sym c.in_default-take_plan.is ∙ (sym taken ∙ planned))
 
 pub work-requires : goal.work-requires
@@ -32,7 +31,7 @@ work-requires g c =
     let valid : IsQueue c.args.queues.now.cash = rw c.at.ensures at c.in-Some.ensures.valid in
     let had : option_map (λ (b : Command Job). b.job.plan) (find (is_at (ticket_of a)) c.args.queues.now.cash) ≡ Some c.take_plan.result = rw (c.at_mut.ensures.now, c.ticket-ticket.ensures) at c.take_plan.ensures.had in
     let taken : a.job.plan ≡ c.take_plan.result = plan_taken c.args.queues.now.cash a c.take_plan.result runs_ valid had in
-    let planned : a.job.plan ≡ Some c.requires.plan = ap (λ (b : Command Job). b.job.plan) (same_some a c.requires.command (sym runs_ ∙ c.requires.runs)) ∙ c.requires.planned in
+    let planned : a.job.plan ≡ Some c.requires.plan = ap (λ (b : Command Job). b.job.plan) (same_Some a c.requires.command (sym runs_ ∙ c.requires.runs)) ∙ c.requires.planned in
     subst (IsPlanned c.args.guard.now.state) (one_plan c.requires.plan c.in-Some-take_plan.plan (sym planned ∙ (taken ∙ c.in-Some-take_plan.is))) c.requires.can
 
 pub returns-in-Ok-clause-works : goal.returns-in-Ok-clause-works

@@ -4,8 +4,9 @@ use Rattle.xfs_cli.specs.Replay.Command.{leaves-none, progress-same}
 use Rattle.xfs_cli.specs.Replay.States.{played}
 use Rattle.xfs_load.proofs.RestLaws.{part-none}
 use Rattle.xfs_cli.proofs.LaterLaws.{done-later, mailed-later, part-later}
-use Rattle.xfs_cli.proofs.VerbLaws.{at-moment, line-told, proceeds-kept, restart-text, verb-done}
+use Rattle.xfs_cli.proofs.VerbLaws.{at-moment, line-told, restart-text, verb-done}
 use Rattle.xfs_cli.proofs.commands.replay.answer.PlayerAnswerer.answer.Goals as goal
+use Rattle.xfs_load.proofs.PlayLaws.{proceeds-kept}
 
 pub answer_verb-requires : goal.answer_verb-requires
 answer_verb-requires g c = λ m is. at-moment c.args.line.now c.in-Ok.verb c.in-Ok.ensures.ok m is

@@ -3,8 +3,9 @@ use Rattle.std.proofs.lemmas.Result.{IfOk-weaker}
 use Rattle.xfs_guard.proofs.KeepsLaws.{Proceeds-same}
 use Rattle.xfs_cli.specs.Replay.States.{played}
 use Rattle.xfs_script.proofs.LastLaws.{on-err}
-use Rattle.xfs_cli.proofs.VerbLaws.{join-none, join-some, joined-as, part-event, proceeds-kept, tells-event, tells-none}
+use Rattle.xfs_cli.proofs.VerbLaws.{join-none, join-some, joined-as, part-event, tells-event, tells-none}
 use Rattle.xfs_cli.proofs.commands.replay.player.Player.join.Goals as goal
+use Rattle.xfs_load.proofs.PlayLaws.{proceeds-kept}
 
 pub returns-then-is_some-clause-answer : goal.returns-then-is_some-clause-answer
 returns-then-is_some-clause-answer g c =

@@ -4,8 +4,9 @@ use Rattle.std.proofs.lemmas.Result.{IfOk-weaker}
 use Rattle.xfs_guard.proofs.KeepsLaws.{Proceeds-same}
 use Rattle.xfs_model.specs.Events.{leave}
 use Rattle.xfs_cli.specs.Replay.States.{played}
-use Rattle.xfs_cli.proofs.VerbLaws.{proceeds-kept, tells-event, tells-none}
+use Rattle.xfs_cli.proofs.VerbLaws.{tells-event, tells-none}
 use Rattle.xfs_cli.proofs.commands.replay.player.Player.leave.Goals as goal
+use Rattle.xfs_load.proofs.PlayLaws.{proceeds-kept}
 
 pub returns-in-Some-clause-answer : goal.returns-in-Some-clause-answer
 returns-in-Some-clause-answer g c =

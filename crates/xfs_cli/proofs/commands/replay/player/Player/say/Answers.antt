@@ -4,8 +4,9 @@ use Rattle.xfs_guard.proofs.KeepsLaws.{Proceeds-same}
 use Rattle.xfs_script.specs.declared.replay_line.ReplayLine.TheVariants.{Say}
 use Rattle.xfs_cli.specs.Replay.Events.{event_of}
 use Rattle.xfs_cli.specs.Replay.States.{played}
-use Rattle.xfs_cli.proofs.VerbLaws.{pass-none, pass-some, proceeds-kept, tells-event, tells-none}
+use Rattle.xfs_cli.proofs.VerbLaws.{pass-none, pass-some, tells-event, tells-none}
 use Rattle.xfs_cli.proofs.commands.replay.player.Player.say.Goals as goal
+use Rattle.xfs_load.proofs.PlayLaws.{proceeds-kept}
 
 pub returns-in_default-clause-answer : goal.returns-in_default-clause-answer
 returns-in_default-clause-answer g c =
