@@ -17,9 +17,8 @@ use Rattle.xfs_mech.specs.declared.motion.Motion.TheVariants.{Moved, Taken, Load
 use Rattle.xfs_mech.proofs.MotionLaws.{all-right}
 use Rattle.xfs_journal.specs.declared.record.Rec.{Rec}
 use Rattle.xfs_journal.specs.Journal.{Reading, live_of, live_at, token_of}
-use Rattle.xfs_journal.proofs.JournalLaws.{eqb-no}
 use Rattle.xfs_guard.specs.Within.{shown, shown_by, IsPaidFor, IsWithin, Within}
-use Rattle.xfs_guard.proofs.WithinLaws.{Within-present, Within-quiet, shown-motion, shown_by-own}
+use Rattle.xfs_guard.proofs.WithinLaws.{Within-present, Within-quiet, shown-motion, shown_by-own, shown_by-other}
 use Rattle.xfs_audit.specs.Reading.{IsRead}
 use Rattle.xfs_audit.specs.Claims.{IsClaimOf, Spends, allowed, IsUnder}
 use Rattle.xfs_audit.specs.Paying.{IsPaying, IsCharged, IsClaimed, IsPresentOrder, IsQuiet, PutsOut, SpendsThere}
@@ -78,9 +77,6 @@ worth : (amounts : Option (List (List ℕ × ℕ))) (t : Parts) (c : List ℕ) �
 unfolding amount
 worth amounts t c e = rw e refl
 
-shown_by-later : (u : List NoteKind) (J : List Rec) (p n q : ℕ) (c : List ℕ) (m d : Counts) → live_at J n ≡ Some p → p ≢ q → shown_by u J q c (Moved n Present m d) ≡ 0
-shown_by-later u J p n q c m d e ne = rw (e, eqb-no p q ne) refl
-
 -- notes are put out on a claim that covers them
 pub spent : (k : List ℕ) (u : List NoteKind) (J : List Rec) (done : List Motion) (old : Payer) (claim now : Claim) (n : ℕ) (counts moved diverted : Counts) → IsPaying k u J done old → old.claim ≡ Some claim
     → old.read.count + 1 ≡ n → IsPresentOrder J n counts → Spends u moved claim now true → IsPaying k u J (done ++ Moved n Present moved diverted ∷ []) (record { read = old.read; claim = Some now })
@@ -93,7 +89,7 @@ spent k u J done old claim now n counts moved diverted paying there next ordered
     record {
       within = Within-present k u J done n p token.bytes token.token counts moved diverted ordered lives token.bound token.carries (covers charged) paying.within;
       read = paying.read;
-      quiet = λ q c lt. let e = shown-motion u J q c done (Moved n Present moved diverted) in let z = shown_by-later u J p n q c moved diverted lives (λ same. omega arith) in let old_quiet = paying.quiet q c lt in omega (arith, e, z, old_quiet);
+      quiet = λ q c lt. let e = shown-motion u J q c done (Moved n Present moved diverted) in let z = shown_by-other u J p n q c moved diverted lives (λ same. omega arith) in let old_quiet = paying.quiet q c lt in omega (arith, e, z, old_quiet);
       claimed = record {
         issue = p;
         lives = charged.lives;

@@ -16,7 +16,6 @@ use Rattle.xfs_fleet.specs.Boots.{IsBooted, IsRefusedBoot}
 use Rattle.xfs_fleet.specs.Endings.{Ends}
 use Rattle.xfs_fleet.specs.declared.side.Side.{Side}
 use Rattle.xfs_fleet.specs.declared.side.Side.TheVariants as which
-use Rattle.xfs_script.proofs.AnswerLaws.{Appends-both}
 use Rattle.xfs_script.specs.Answered.{AnswersEach, lines_text}
 use Rattle.xfs_script.specs.Endings.{AnswersInput}
 use Rattle.xfs_script.specs.FleetLines.{IsOf, letter_mark, letter_a, letter_b}
@@ -46,6 +45,7 @@ use Rattle.xfs_cli.proofs.MachineLaws.{machine-ended}
 use Rattle.xfs_script.specs.LastLines.{WritesLast}
 use Rattle.xfs_guard.specs.Outcomes.{BootsGuard}
 use Rattle.xfs_journal.specs.Held.{StandsForNone, OfJournal}
+use Rattle.std.proofs.KnownBytes.{Appends-trans}
 
 -- ---- one machine of a run whose lines were answered
 
@@ -129,7 +129,7 @@ alone-served start end status io text h zero =
       many = alone.many;
       whole = alone.whole;
       output = alone.output;
-      written = rw (append-nil (lines_text alone.output)) at (Appends-both io.output h.answered io.output_now (lines_text alone.output) [] alone.written (last-taken (record (output_of io) { held = h.answered }) taken));
+      written = rw (append-nil (lines_text alone.output)) at (Appends-trans io.output h.answered io.output_now (lines_text alone.output) [] alone.written (last-taken (record (output_of io) { held = h.answered }) taken));
       at_a = alone.at_a;
       at_b = alone.at_b;
     }

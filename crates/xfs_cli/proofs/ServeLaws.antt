@@ -15,7 +15,6 @@ use Rattle.xfs_guard.proofs.BegunLaws.{begun}
 use Rattle.xfs_guard.proofs.BootLaws.{base_of-boot}
 use Rattle.xfs_journal.specs.Journal.{with_boot}
 use Rattle.xfs_guard.specs.Lives.{BeginsWith}
-use Rattle.xfs_guard.proofs.CrashedLaws.{begins-possible, begins-trans}
 use Rattle.xfs_guard.specs.declared.deny.Deny.{Deny}
 use Rattle.xfs_guard.specs.declared.fail.BootFault.{BootFault}
 use Rattle.xfs_guard.specs.declared.fail.BootFault.TheVariants.{NotJournal, Disk, Full, Memory}
@@ -49,6 +48,7 @@ use Rattle.xfs_cli.proofs.LoadLaws.{refused-finishes}
 use Rattle.xfs_script.specs.LastLines.{WritesLast}
 use Rattle.xfs_guard.specs.Outcomes.{BootsGuard, RefusesBoot}
 use Rattle.xfs_journal.specs.Held.{StandsForSome}
+use Rattle.xfs_guard.proofs.LifeLaws.{begins-trans, possible-begins}
 
 -- ---- the records at the end begin with those of the boot
 
@@ -57,7 +57,7 @@ stands-more : (held' : Option (List ℕ)) (images' : List ℕ → Type 0) (from 
 stands-more None images' from records doubt begins stored = tt
 stands-more (Some now) images' from records doubt begins stored = λ image left.
     let kept = stored image left in
-    record { records = kept.0; stands = inl kept.2; such = begins-trans from records kept.0 begins (begins-possible records doubt kept.0 kept.1) }
+    record { records = kept.0; stands = inl kept.2; such = begins-trans from records kept.0 begins (possible-begins records doubt kept.0 kept.1) }
 
 -- ---- an open order isn't settled only where the disk failed
 

@@ -6,10 +6,6 @@ use Rattle.std.specs.declared.option.Option.{Option}
 use Rattle.xfs_guard.specs.Nonce.{live_in}
 use Rattle.xfs_guard.specs.declared.nonce.Nonce.{Nonce}
 use Rattle.xfs_base.specs.declared.moment.Service.{Service}
-use Rattle.xfs_disk.specs.declared.disk.Disk.{Ghosts}
-use Rattle.xfs_guard.proofs.KeepsLaws.{Proceeds-same}
-use Rattle.xfs_guard.specs.Keeps.{Proceeds}
-use Rattle.xfs_guard.specs.View.{GuardView}
 use Rattle.xfs_mech.specs.declared.touch.Touch.{Touch}
 use Rattle.xfs_model.specs.Events.{Event, join, touch, Answer}
 use Rattle.xfs_model.specs.State.{State}

@@ -81,7 +81,7 @@ gone_all id (p ∷ pending) = elim (cases_Bool (has_id id p)) [
   | inr n ↦ rw n (All-cons (λ p. has_id id p ≡ false) p (without_id id pending) n (gone_all id pending))
 ]
 
-other_way : (a b : ℕ) (r : Bool) → (a == b) ≡ r → (b == a) ≡ r
+pub other_way : (a b : ℕ) (r : Bool) → (a == b) ≡ r → (b == a) ≡ r
 other_way a b r h = elim (cases_eq a b) [
   | inl e ↦ rw (sym e) (rw (sym e) at h)
   | inr n ↦ ne_eqb b a (λ e. n (sym e)) ∙ sym (ne_eqb a b n) ∙ h

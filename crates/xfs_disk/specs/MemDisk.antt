@@ -1,9 +1,10 @@
 -- What a disk in memory shows.
-use Rattle.std.specs.Prelude.{◌≡◌, ℕ, max, List, length, reverse}
-use Rattle.xfs_base.specs.Causes.{next_count}
+use Rattle.std.specs.Prelude.{◌≡◌, ℕ, max, List, length, reverse, OnErr}
+use Rattle.std.specs.declared.result.Result.{Result}
+use Rattle.xfs_base.specs.Causes.{HasCause, next_count}
 use Rattle.xfs_disk.specs.declared.memory.MemDisk.{MemDisk}
 use Rattle.xfs_disk.specs.declared.step.Step.{Step}
-use Rattle.xfs_disk.specs.Disk.{Elapses}
+use Rattle.xfs_disk.specs.Disk.{AddsNone, Elapses}
 use Rattle.xfs_disk.specs.Steps.{LeftNow, LeftSince, history}
 
 -- what a read gives
@@ -34,6 +35,11 @@ WasImage m = LeftSince (bytes_of m) (steps_of m)
 abbrev pub TimeGoesOn : MemDisk → MemDisk → Type 0
 TimeGoesOn old new = Elapses (moment_of old) (moment_of new) (WasImage old) (WasImage new) (IsImage new)
 
+-- a call that changes no byte and adds no image
+pub record KeepsBytes (old new : MemDisk) : Type 0 where
+  pub same : bytes_of new ≡ bytes_of old
+  pub crash : AddsNone (IsImage old) (IsImage new)
+
 -- how often a growth was refused
 abbrev pub faults_of : MemDisk → ℕ
 faults_of m = m.faults
@@ -60,3 +66,10 @@ pub record IsUnread (old new : MemDisk) : Type 0 where
 pub record IsUndone (old new : MemDisk) : Type 0 where
   pub bytes : bytes_of new ≡ bytes_of old
   pub steps : steps_of new ≡ steps_of old
+
+-- a call that changes the disk: time goes on, it reads nothing, and where a growth was refused, which it counts, it did nothing
+pub record ActsWhole {T E : Type 0} (old new : MemDisk) (result : Result T E) : Type 0 where
+  pub time : TimeGoesOn old new
+  pub cause : HasCause (faults_of old) (faults_of new) result
+  pub unread : IsUnread old new
+  pub refused : OnErr result (IsUndone old new)

@@ -2,8 +2,8 @@
 use Rattle.std.specs.Prelude.{◌≡◌, ℕ, Bool, ◌+◌, List, Vec, OnOk, OnErr}
 use Rattle.std.specs.declared.alloc.Global.{Global}
 use Rattle.std.specs.declared.result.Result.{Result}
-use Rattle.xfs_base.specs.Causes.{Rose, next_count}
-use Rattle.xfs_disk.specs.MemDisk.{faults_of}
+use Rattle.xfs_base.specs.Causes.{HasCause, Rose, next_count}
+use Rattle.xfs_disk.specs.MemDisk.{faults_of, TimeGoesOn}
 use Rattle.xfs_disk.specs.declared.faulty.FaultRule.{Ghosts}
 use Rattle.xfs_disk.specs.declared.faulty.FaultyDisk.{FaultyDisk}
 use Rattle.xfs_disk.specs.declared.file.FileDisk.{FileDisk}
@@ -43,8 +43,10 @@ pub record Failed {T E : Type 0} (old new : MemDisk) (result : Result T E) : Typ
 abbrev pub Passed : {T E : Type 0} → MemDisk → MemDisk → Result T E → Type 0
 Passed old new result = OnErr result (Rose (faults_of old) (faults_of new))
 
--- one more call, which fails where the rule names it
+-- one more call, which fails where the rule names it and counts where it failed; time goes on
 pub record FailsByRule {R T E : Type 0} (g : Ghosts R) (old new : FaultyDisk R) (result : Result T E) : Type 0 where
+  pub time : TimeGoesOn (inner_of old) (inner_of new)
+  pub cause : HasCause (faulty_faults old) (faulty_faults new) result
   pub calls : calls_of new ≡ next_count (calls_of old)
   pub rule : rule_of new ≡ rule_of old
   pub failed : g.names (rule_of old) (calls_of old) → Failed (inner_of old) (inner_of new) result

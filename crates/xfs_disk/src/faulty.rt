@@ -96,10 +96,9 @@ fn pass<R: FaultRule>(rule: &R, calls: &mut u64, failed: &mut u64) -> Result<(),
 impl<R: FaultRule> Disk for FaultyDisk<R> {
     ghost use Rattle.std.specs.Prelude.{◌≡◌, ◌≤◌, length, IfOk, OnOk};
     ghost use Rattle.std.specs.Io.{ReadsAtMost};
-    ghost use Rattle.xfs_base.specs.Causes.{HasCause};
-    ghost use Rattle.xfs_disk.specs.Disk.{overlaid, resized, Gives, Torn, Cut, ImagesFollow, AddsNone, Only};
-    ghost use Rattle.xfs_disk.specs.MemDisk.{bytes_of, IsImage, TimeGoesOn};
-    ghost use Rattle.xfs_disk.specs.Wrapped.{inner_of, faulty_faults, FailsByRule};
+    ghost use Rattle.xfs_disk.specs.Disk.{overlaid, resized, Gives, Torn, Cut, ImagesFollow, Only};
+    ghost use Rattle.xfs_disk.specs.MemDisk.{bytes_of, IsImage, KeepsBytes};
+    ghost use Rattle.xfs_disk.specs.Wrapped.{inner_of, FailsByRule};
 
     ghost held = { λ f. Some (bytes_of f.inner) };
 
@@ -119,10 +118,7 @@ impl<R: FaultRule> Disk for FaultyDisk<R> {
 
     fn len(&mut self) -> Result<u64, Failed>
         ensures value { IfOk result (λ n. n ≡ length (bytes_of (inner_of self.old))) }
-        ensures same { bytes_of (inner_of self.new) ≡ bytes_of (inner_of self.old) }
-        ensures crash { AddsNone (IsImage (inner_of self.old)) (IsImage (inner_of self.new)) }
-        ensures time { TimeGoesOn (inner_of self.old) (inner_of self.new) }
-        ensures cause { HasCause (faulty_faults self.old) (faulty_faults self.new) result }
+        ensures keeps { KeepsBytes (inner_of self.old) (inner_of self.new) }
         ensures fails { FailsByRule R.FaultRule self.old self.new result }
     {
         pass(&self.rule, &mut self.calls, &mut self.failed)?;
@@ -132,10 +128,7 @@ impl<R: FaultRule> Disk for FaultyDisk<R> {
     fn read(&mut self, at: u64, into: &mut [u8]) -> Result<usize, Failed>
         ensures bound { ReadsAtMost result into.new }
         ensures bytes { IfOk result (λ n. Gives (bytes_of (inner_of self.old)) at n into.new) }
-        ensures same { bytes_of (inner_of self.new) ≡ bytes_of (inner_of self.old) }
-        ensures crash { AddsNone (IsImage (inner_of self.old)) (IsImage (inner_of self.new)) }
-        ensures time { TimeGoesOn (inner_of self.old) (inner_of self.new) }
-        ensures cause { HasCause (faulty_faults self.old) (faulty_faults self.new) result }
+        ensures keeps { KeepsBytes (inner_of self.old) (inner_of self.new) }
         ensures fails { FailsByRule R.FaultRule self.old self.new result }
     {
         pass(&self.rule, &mut self.calls, &mut self.failed)?;
@@ -146,8 +139,6 @@ impl<R: FaultRule> Disk for FaultyDisk<R> {
         requires within { at ≤ length (bytes_of (inner_of self.old)) }
         ensures written { OnOk result (bytes_of (inner_of self.new) ≡ overlaid (bytes_of (inner_of self.old)) at bytes.now) }
         ensures crash { ImagesFollow (Torn at (length bytes.now)) (IsImage (inner_of self.old)) (IsImage (inner_of self.new)) }
-        ensures time { TimeGoesOn (inner_of self.old) (inner_of self.new) }
-        ensures cause { HasCause (faulty_faults self.old) (faulty_faults self.new) result }
         ensures fails { FailsByRule R.FaultRule self.old self.new result }
     {
         pass(&self.rule, &mut self.calls, &mut self.failed)?;
@@ -157,8 +148,6 @@ impl<R: FaultRule> Disk for FaultyDisk<R> {
     fn cut(&mut self, len: u64) -> Result<(), Failed>
         ensures cut { OnOk result (bytes_of (inner_of self.new) ≡ resized (bytes_of (inner_of self.old)) len) }
         ensures crash { ImagesFollow (Cut len) (IsImage (inner_of self.old)) (IsImage (inner_of self.new)) }
-        ensures time { TimeGoesOn (inner_of self.old) (inner_of self.new) }
-        ensures cause { HasCause (faulty_faults self.old) (faulty_faults self.new) result }
         ensures fails { FailsByRule R.FaultRule self.old self.new result }
     {
         pass(&self.rule, &mut self.calls, &mut self.failed)?;
@@ -167,10 +156,7 @@ impl<R: FaultRule> Disk for FaultyDisk<R> {
 
     fn sync(&mut self) -> Result<(), Failed>
         ensures durable { OnOk result (Only (bytes_of (inner_of self.old)) (IsImage (inner_of self.new))) }
-        ensures same { bytes_of (inner_of self.new) ≡ bytes_of (inner_of self.old) }
-        ensures crash { AddsNone (IsImage (inner_of self.old)) (IsImage (inner_of self.new)) }
-        ensures time { TimeGoesOn (inner_of self.old) (inner_of self.new) }
-        ensures cause { HasCause (faulty_faults self.old) (faulty_faults self.new) result }
+        ensures keeps { KeepsBytes (inner_of self.old) (inner_of self.new) }
         ensures fails { FailsByRule R.FaultRule self.old self.new result }
     {
         pass(&self.rule, &mut self.calls, &mut self.failed)?;

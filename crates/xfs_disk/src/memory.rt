@@ -91,8 +91,8 @@ impl Disk for MemDisk {
     ghost use Rattle.std.specs.Prelude.{◌≡◌, ◌≤◌, Some, length, IfOk, OnOk, OnErr};
     ghost use Rattle.std.specs.Io.{ReadsAtMost};
     ghost use Rattle.xfs_base.specs.Causes.{HasCause};
-    ghost use Rattle.xfs_disk.specs.Disk.{overlaid, resized, Gives, Torn, Cut, ImagesFollow, AddsNone, Only};
-    ghost use Rattle.xfs_disk.specs.MemDisk.{bytes_of, faults_of, IsImage, TimeGoesOn, CountsRead, IsUnread, IsUndone};
+    ghost use Rattle.xfs_disk.specs.Disk.{overlaid, resized, Gives, Torn, Cut, ImagesFollow, Only};
+    ghost use Rattle.xfs_disk.specs.MemDisk.{bytes_of, faults_of, IsImage, TimeGoesOn, KeepsBytes, CountsRead, IsUnread, ActsWhole};
 
     ghost held = { λ m. Some m.bytes.items };
 
@@ -112,8 +112,7 @@ impl Disk for MemDisk {
 
     fn len(&mut self) -> Result<u64, Failed>
         ensures value { IfOk result (λ n. n ≡ length (bytes_of self.old)) }
-        ensures same { bytes_of self.new ≡ bytes_of self.old }
-        ensures crash { AddsNone (IsImage self.old) (IsImage self.new) }
+        ensures keeps { KeepsBytes self.old self.new }
         ensures time { TimeGoesOn self.old self.new }
         ensures cause { HasCause (faults_of self.old) (faults_of self.new) result }
         ensures unread { IsUnread self.old self.new }
@@ -125,8 +124,7 @@ impl Disk for MemDisk {
     fn read(&mut self, at: u64, into: &mut [u8]) -> Result<usize, Failed>
         ensures bound { ReadsAtMost result into.new }
         ensures bytes { IfOk result (λ n. Gives (bytes_of self.old) at n into.new) }
-        ensures same { bytes_of self.new ≡ bytes_of self.old }
-        ensures crash { AddsNone (IsImage self.old) (IsImage self.new) }
+        ensures keeps { KeepsBytes self.old self.new }
         ensures time { TimeGoesOn self.old self.new }
         ensures cause { HasCause (faults_of self.old) (faults_of self.new) result }
         ensures counted { CountsRead self.old self.new (length into.old) }
@@ -145,10 +143,7 @@ impl Disk for MemDisk {
         requires within { at ≤ length (bytes_of self.old) }
         ensures written { OnOk result (bytes_of self.new ≡ overlaid (bytes_of self.old) at bytes.now) }
         ensures crash { ImagesFollow (Torn at (length bytes.now)) (IsImage self.old) (IsImage self.new) }
-        ensures time { TimeGoesOn self.old self.new }
-        ensures cause { HasCause (faults_of self.old) (faults_of self.new) result }
-        ensures unread { IsUnread self.old self.new }
-        ensures refused { OnErr result (IsUndone self.old self.new) }
+        ensures acts { ActsWhole self.old self.new result }
     {
         if overwrite(
             self.alloc,
@@ -168,10 +163,7 @@ impl Disk for MemDisk {
     fn cut(&mut self, len: u64) -> Result<(), Failed>
         ensures cut { OnOk result (bytes_of self.new ≡ resized (bytes_of self.old) len) }
         ensures crash { ImagesFollow (Cut len) (IsImage self.old) (IsImage self.new) }
-        ensures time { TimeGoesOn self.old self.new }
-        ensures cause { HasCause (faults_of self.old) (faults_of self.new) result }
-        ensures unread { IsUnread self.old self.new }
-        ensures refused { OnErr result (IsUndone self.old self.new) }
+        ensures acts { ActsWhole self.old self.new result }
     {
         if resize(self.alloc, &mut self.bytes, &mut self.steps, len).is_err() {
             return Err(fault(&mut self.faults));
@@ -181,12 +173,8 @@ impl Disk for MemDisk {
 
     fn sync(&mut self) -> Result<(), Failed>
         ensures durable { OnOk result (Only (bytes_of self.old) (IsImage self.new)) }
-        ensures same { bytes_of self.new ≡ bytes_of self.old }
-        ensures crash { AddsNone (IsImage self.old) (IsImage self.new) }
-        ensures time { TimeGoesOn self.old self.new }
-        ensures cause { HasCause (faults_of self.old) (faults_of self.new) result }
-        ensures unread { IsUnread self.old self.new }
-        ensures refused { OnErr result (IsUndone self.old self.new) }
+        ensures keeps { KeepsBytes self.old self.new }
+        ensures acts { ActsWhole self.old self.new result }
     {
         if settle(&mut self.steps, &mut self.spare, &mut self.settled).is_err() {
             return Err(fault(&mut self.faults));

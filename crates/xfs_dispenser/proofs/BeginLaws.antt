@@ -156,10 +156,10 @@ ok-err {T} x r a e f = (let g : ◌≡◌ {A = Result T Refusal} (Ok x) (Err r) 
 told-plan : (refusal : Refusal) (plan : Plan) → StartsRefused refusal (planned plan) → ⊥
 told-plan refusal plan t = (let e = t.is in cc)
 
-answer-plan : (answer : CashAnswer) (plan : Plan) → planned plan ≡ told answer → ⊥
+pub answer-plan : (answer : CashAnswer) (plan : Plan) → planned plan ≡ told answer → ⊥
 answer-plan answer plan e = cc
 
-same-plan : (a b : Plan) → planned a ≡ planned b → a ≡ b
+pub same-plan : (a b : Plan) → planned a ≡ planned b → a ≡ b
 same-plan a b e = cc
 
 granted-one : (g passed : Passed) (o : Option Denial) → ◌≡◌ {A = Result Passed Refusal} (Ok passed) (passed_unless g o) → passed ≡ g

@@ -1,12 +1,12 @@
 -- Nothing stands against a dispense that its token covers, nor against a present behind it.
 use Rattle.std.proofs.Common.{◌≡◌, ◌≢◌, ◌≤◌, ◌+◌, ◌*◌, ◌==◌, ◌⊎◌, ℕ, zero, suc, Bool, true, false, List, [], ◌∷◌, ◌++◌, length, drop, get_or, None, Some, Ok, Err, inl, inr, refl, sym, subst, ◌∙◌, ap, arith, true≢false}
-use Rattle.std.specs.Prelude.{◌||◌, IfOk, nat_lt, not, sum, zip, slice_get, if◌then◌else◌}
+use Rattle.std.specs.Prelude.{IfOk, nat_lt, not, sum, zip, slice_get, if◌then◌else◌}
 use Rattle.std.specs.List.{prefix_len}
 use Rattle.std.specs.Str.{bytes_eq}
 use Rattle.std.specs.Option.{option_map, option_map_or}
 use Rattle.std.specs.declared.option.Option.{Option}
 use Rattle.std.specs.declared.result.Result.{Result}
-use Rattle.std.proofs.lemmas.Bool.{le-ltb, lt-ltb, ne_eqb}
+use Rattle.std.proofs.lemmas.Bool.{le-ltb, lt-ltb, ne_eqb, or_parts}
 use Rattle.std.proofs.lemmas.Slice.Eq.{bytes_eq-Decides}
 use Rattle.std.proofs.lemmas.List.{get_or-drop}
 use Rattle.std.proofs.lemmas.List.Folds.{sum_by-zero}
@@ -154,15 +154,10 @@ mix-same units have currency amount n m c a b = go (bytes_eq currency c) refl
     go true e = (let same = (bytes_eq-Decides currency c).0 e in rw (← same) (a.worth ∙ sym b.worth))
     go false e = mix-other units 0 n.0 currency c (none n a) e ∙ sym (mix-other units 0 m.0 currency c (none m b) e)
 
-neither : (a b : Bool) → (a || b) ≡ false → (a ≡ false) × (b ≡ false)
-neither false false e = (refl, refl)
-neither false true e = (refl, e)
-neither true b e = absurd (true≢false e)
-
 none-of : (ks : List NoteKind) (currency : List ℕ) → has_currency ks currency ≡ false → (u : ℕ) (k : NoteKind) → slice_get ks u ≡ Some k → bytes_eq k.currency currency ≡ false
 none-of [] currency none u k there = (let e : None ≡ Some k = there in cc)
-none-of (j ∷ ks) currency none zero k there = (let both = neither (bytes_eq j.currency currency) (has_currency ks currency) none in let e : j ≡ k = cc in rw (← e) both.0)
-none-of (j ∷ ks) currency none (suc u) k there = none-of ks currency (neither (bytes_eq j.currency currency) (has_currency ks currency) none).1 u k there
+none-of (j ∷ ks) currency none zero k there = (let both = or_parts (bytes_eq j.currency currency) (has_currency ks currency) none in let e : j ≡ k = cc in rw (← e) both.0)
+none-of (j ∷ ks) currency none (suc u) k there = none-of ks currency (or_parts (bytes_eq j.currency currency) (has_currency ks currency) none).1 u k there
 
 -- an amount that has a mix is of a currency of the units
 mix-currency : (units : List NoteKind) (have : CountsOf) (currency : List ℕ) (amount : ℕ) (n : CountsOf) → 1 ≤ amount → IsMix units have currency amount n → has_currency units currency ≡ true

@@ -1,5 +1,5 @@
 -- Each answer of the dispenser's commands can be sent: its payload is an object without floats that nests no deeper than 120.
-use Rattle.std.proofs.Common.{◌≡◌, ◌≤◌, ℕ, ◌||◌, Bool, true, false, List, [], ◌∷◌, Option, Some, None, Ok, Err, inl, inr, refl, sym, subst, arith}
+use Rattle.std.proofs.Common.{◌≡◌, ◌≤◌, ℕ, Bool, true, false, List, [], ◌∷◌, Option, Some, None, Ok, Err, inl, inr, refl, sym, subst, arith}
 use Rattle.std.specs.Prelude.{IfSome, codes, fold, if◌then◌else◌}
 use Rattle.std.specs.Cmp.Lexicographic.{slice_cmp}
 use Rattle.std.specs.Ordering.{nat_cmp, match_ordering}
@@ -33,15 +33,12 @@ use Rattle.xfs_dispenser.specs.declared.part.Part.TheVariants.{Order, Restore, L
 use Rattle.xfs_dispenser.specs.declared.plan.Plan.{Plan}
 use Rattle.xfs_dispenser.specs.declared.refusal.Refusal.{Refusal}
 use Rattle.xfs_dispenser.specs.declared.refusal.Refusal.TheVariants as refusal
+use Rattle.std.proofs.lemmas.Bool.{or_parts}
 
 -- members that are numbers, none of them a float
 record IsFlat (ms : Members) : Type 0 where
   pub whole : members_have_float ms ≡ false
   pub shallow : members_depth ms ≤ 0
-
-neither : (a b : Bool) → (a || b) ≡ false → (a ≡ false) × (b ≡ false)
-neither false b e = (refl, e)
-neither true b e = absurd (let f : true ≡ false = e in cc)
 
 ordered : (o : Ordering) (a b c : Members) → IsFlat a → IsFlat b → IsFlat c → IsFlat (match_ordering o a b c)
 ordered Less a b c p q r = p
@@ -53,11 +50,11 @@ with-member k n ms flat = record { whole = flat.whole; shallow = let s = flat.sh
 
 behind : (l : List ℕ) (d : Data) (old new : Members) → IsFlat (member l d old) → IsFlat new → IsFlat (member l d new)
 behind l d old new flat there =
-    let parts = neither (has_float d) (members_have_float old) flat.whole in
+    let parts = or_parts (has_float d) (members_have_float old) flat.whole in
     record { whole = rw parts.0 there.whole; shallow = let s = flat.shallow in let t = there.shallow in omega arith }
 
 rest-flat : (l : List ℕ) (d : Data) (ms : Members) → IsFlat (member l d ms) → IsFlat ms
-rest-flat l d ms flat = record { whole = (neither (has_float d) (members_have_float ms) flat.whole).1; shallow = let s = flat.shallow in omega arith }
+rest-flat l d ms flat = record { whole = (or_parts (has_float d) (members_have_float ms) flat.whole).1; shallow = let s = flat.shallow in omega arith }
 
 put-flat : (k : List ℕ) (n : ℕ) (ms : Members) → IsFlat ms → IsFlat (put k (number (unsigned n)) ms)
 put-flat k n no_members flat = with-member k n no_members flat

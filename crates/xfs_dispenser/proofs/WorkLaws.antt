@@ -144,7 +144,7 @@ at-more P (Ok Progress.More) h e = h
 at-more P (Ok (Progress.Result code payload)) h e = cc
 at-more P (Err m) h e = cc
 
-unread-closed : (v now : View) → (now ≡ unread v) ⊎ ((records : List Rec) × IsPossible v.records v.in_doubt records × (now ≡ unbooted v records)) → now.open_order ≡ No
+pub unread-closed : (v now : View) → (now ≡ unread v) ⊎ ((records : List Rec) × IsPossible v.records v.in_doubt records × (now ≡ unbooted v records)) → now.open_order ≡ No
 unread-closed v now (inl e) = ap (λ (w : View). w.open_order) e
 unread-closed v now (inr e) = ap (λ (w : View). w.open_order) e.2
 

@@ -7,6 +7,7 @@ use Rattle.std.specs.Str.{IsUtf8, IsAscii}
 use Rattle.std.proofs.lemmas.List.Sums.{split_at_first, passes_at_first}
 use Rattle.std.proofs.lemmas.Str.{IsUtf8-append, IsUtf8-from_ascii}
 use Rattle.xfs_envelope.specs.Names.{is_point, is_part, is_name}
+use Rattle.std.proofs.lemmas.Str.Ascii.{IsAscii-cons}
 
 pub both : (a b : Bool) → (a && b) ≡ true → (a ≡ true) × (b ≡ true)
 both true true h = (refl, refl)
@@ -21,10 +22,6 @@ uppercase_ascii x h = grind arith
 
 IsAscii-nil : IsAscii []
 IsAscii-nil i = omega arith
-
-IsAscii-cons : (x : ℕ) (xs : List ℕ) → x < 128 → IsAscii xs → IsAscii (x ∷ xs)
-IsAscii-cons x xs h more zero = h
-IsAscii-cons x xs h more (suc i) = more i
 
 all_ascii : (xs : List ℕ) → list_all is_ascii_alphanumeric xs ≡ true → IsAscii xs
 all_ascii [] h = IsAscii-nil

@@ -1,5 +1,5 @@
 -- An evidence of a list's last records is one of what the mechanism did, where the whole list agrees with that.
-use Rattle.std.proofs.Common.{◌≡◌, ℕ, ◌+◌, Bool, true, false, ◌||◌, List, ◌++◌, None, Some, refl, sym, ◌∙◌, ap}
+use Rattle.std.proofs.Common.{◌≡◌, ℕ, ◌+◌, Bool, true, false, List, ◌++◌, None, Some, refl, sym, ◌∙◌, ap}
 use Rattle.std.specs.Prelude.{if◌then◌else◌}
 use Rattle.std.specs.declared.option.Option.{Option}
 use Rattle.std.specs.Option.{option_map}
@@ -8,15 +8,11 @@ use Rattle.xfs_journal.specs.declared.record.Rec.{Rec}
 use Rattle.xfs_journal.specs.Journal.{is_mark}
 use Rattle.xfs_guard.specs.Presented.{presented_in}
 use Rattle.xfs_guard.specs.Segment.{has_issue, last_issue, segment}
-use Rattle.xfs_guard.proofs.SegmentLaws.{has_issue-append, behind_issue-append, issue_of-append}
+use Rattle.xfs_guard.proofs.SegmentLaws.{has_issue-append, behind_issue-append, issue_of-append, or-true}
 use Rattle.xfs_evidence.specs.Evidence.{evidence_refusal, first_open, open_order}
 use Rattle.xfs_evidence.specs.Laws.{ArePutOut}
 use Rattle.xfs_evidence.specs.declared.faults.EvidenceFault.TheVariants.{NoIssue, Unsettled}
 use Rattle.xfs_evidence.proofs.Segmented.{shown-is}
-
-or-true : (b : Bool) → b || true ≡ true
-or-true true = refl
-or-true false = refl
 
 no-order : (o : Option ℕ) → option_map (λ number. Unsettled number) o ≡ None → o ≡ None
 no-order None e = refl

@@ -1,6 +1,6 @@
 -- The notes that a mechanism put out since the last Issue are those of the orders of its segment.
-use Rattle.std.proofs.Common.{◌≡◌, ⊎_elim, ℕ, zero, suc, ◌+◌, ◌-◌, ◌<◌, ◌≤◌, Bool, true, false, ◌&&◌, List, [], ◌∷◌, ◌++◌, length, take, None, Some, refl, sym, ◌∙◌, ap, ap₂, arith, true≢false, length-append, append_assoc, add-one}
-use Rattle.std.specs.Prelude.{if◌then◌else◌, nat_le, nat_lt, fold, slice_get}
+use Rattle.std.proofs.Common.{◌≡◌, ⊎_elim, ℕ, zero, suc, ◌+◌, ◌-◌, ◌<◌, ◌≤◌, Bool, true, false, ◌&&◌, List, [], ◌∷◌, ◌++◌, length, take, None, Some, refl, sym, ◌∙◌, ap, ap₂, arith, true≢false, length-append, append_assoc}
+use Rattle.std.specs.Prelude.{if◌then◌else◌, nat_le, nat_lt, fold}
 use Rattle.std.specs.declared.option.Option.{Option}
 use Rattle.std.specs.List.{sum_by, list_any, before_first}
 use Rattle.std.proofs.lemmas.Bool.{cases_lt, and_from, or_parts, le-leb, lt-leb, lt-ltb, le-ltb, eq-eqb, ne_eqb}

@@ -1,11 +1,11 @@
 -- A token is written once, its pairs as they are told, and its HMAC behind what it covers.
-use Rattle.std.proofs.Common.{◌≡◌, ℕ, zero, suc, ◌+◌, ◌-◌, ◌<◌, ◌≤◌, ◌^◌, true, List, [], ◌∷◌, ◌++◌, length, take, drop, map, Some, refl, sym, ◌∙◌, ap, arith, append_assoc}
+use Rattle.std.proofs.Common.{◌≡◌, ℕ, ◌+◌, ◌-◌, ◌<◌, ◌≤◌, ◌^◌, true, List, [], ◌∷◌, ◌++◌, length, take, drop, map, Some, refl, sym, ◌∙◌, ap, arith, append_assoc}
 use Rattle.std.specs.Prelude.{slice_get, codes, decimal}
 use Rattle.std.proofs.lemmas.List.{append-nil}
 use Rattle.hex.specs.Hex.{encode_upper}
 use Rattle.xfs_hmac.specs.Hmac.{hmac}
 use Rattle.xfs_token.specs.Token.{Parts, IsMac, Spells, covered, is_nonce, may_follow, pairs_text}
-use Rattle.xfs_token.proofs.Written.{length-form, take-form, spelled}
+use Rattle.xfs_token.proofs.Written.{length-form, take-form, spelled, drop_at}
 use Rattle.xfs_evidence.specs.Evidence.{IsSigned, unless_none}
 use Rattle.xfs_evidence.specs.Told.{presented_key, presented_pairs, told_pairs, told_text, AreTold, AreEvidencePairs}
 
@@ -29,11 +29,6 @@ signed key nonce code text t total kept good follow is_mac sum few coded built =
       pairs = refl;
     }
 
-drop-got : {X : Type 0} (xs : List X) (i : ℕ) (x : X) → slice_get xs i ≡ Some x → drop i xs ≡ x ∷ drop (i + 1) xs
-drop-got [] i x h = cc
-drop-got (y ∷ ys) zero x h = cc
-drop-got (y ∷ ys) (suc i) x h = let e : suc i + 1 ≡ suc (i + 1) = omega arith in rw e (drop-got ys i x h)
-
 -- an amount's pair, one piece behind the other
 pub pair-chain : (v0 v1 v2 v3 v4 v5 x3 x4 x5 whole part letters : List ℕ) (k : ℕ) → v1 ≡ v0 ++ codes ",PRESENTED" → v2 ≡ v1 ++ (48 + k) ∷ 61 ∷ [] → v3 ≡ v2 ++ x3 → v4 ≡ v3 ++ x4 → v5 ≡ v4 ++ x5
     → x3 ≡ whole → x4 ≡ part → x5 ≡ letters → v5 ≡ v0 ++ (codes "," ++ presented_key k ++ codes "=" ++ (whole ++ part ++ letters))
@@ -48,7 +43,7 @@ pub pair-step : (v w all : List ℕ) (amounts : List (List ℕ × ℕ)) (i : ℕ
 pair-step v w all amounts i a got pushed inv =
     let rest : List ℕ = pairs_text (presented_pairs (i + 1 + 1) (map told_text (drop (i + 1) amounts))) in
     let one : List ℕ = codes "," ++ presented_key (i + 1) ++ codes "=" ++ told_text a in
-    ap (λ (l : List ℕ). l ++ rest) pushed ∙ append_assoc v one rest ∙ sym (ap (λ (l : List (List ℕ × ℕ)). v ++ pairs_text (presented_pairs (i + 1) (map told_text l))) (drop-got amounts i a got)) ∙ inv
+    ap (λ (l : List ℕ). l ++ rest) pushed ∙ append_assoc v one rest ∙ sym (ap (λ (l : List (List ℕ × ℕ)). v ++ pairs_text (presented_pairs (i + 1) (map told_text l))) (drop_at amounts i a got)) ∙ inv
 
 pub pair-end : (v all : List ℕ) (amounts : List (List ℕ × ℕ)) (i : ℕ) → drop i amounts ≡ [] → v ++ pairs_text (presented_pairs (i + 1) (map told_text (drop i amounts))) ≡ all → v ≡ all
 pair-end v all amounts i none inv = sym (append-nil v) ∙ sym (ap (λ (l : List (List ℕ × ℕ)). v ++ pairs_text (presented_pairs (i + 1) (map told_text l))) none) ∙ inv

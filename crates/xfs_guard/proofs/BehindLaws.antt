@@ -19,7 +19,8 @@ use Rattle.xfs_guard.specs.Continues.{Continues}
 use Rattle.xfs_guard.specs.Crashed.{IsCrashOutcomeAt, StandsLeft, LeavesBehind}
 use Rattle.xfs_guard.specs.Lives.{BeginsWith}
 use Rattle.xfs_guard.specs.View.{GuardView}
-use Rattle.xfs_guard.proofs.CrashedLaws.{begins-same, begins-trans, begins-push, IsTorn-in_doubt}
+use Rattle.xfs_guard.proofs.CrashedLaws.{begins-push, IsTorn-in_doubt}
+use Rattle.xfs_guard.proofs.LifeLaws.{begins-same, begins-trans}
 
 -- no call of the disk: the images are those of before
 pub behind-still : {D : Type 0} (g : Ghosts D) (old new : GuardView D)

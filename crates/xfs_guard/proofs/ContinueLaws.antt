@@ -15,7 +15,7 @@ use Rattle.xfs_mech.specs.Motions.{NumberIs, PlacesOf}
 use Rattle.xfs_mech.specs.Mechanism.{AddsEntry}
 use Rattle.xfs_guard.specs.Crashed.{IsCrashOutcomeAt, is_closed}
 use Rattle.xfs_guard.specs.Lives.{BeginsWith}
-use Rattle.xfs_guard.proofs.CrashedLaws.{begins-same, begins-trans, begins-push, left-push, left-doubt}
+use Rattle.xfs_guard.proofs.CrashedLaws.{begins-push, left-push, left-doubt}
 use Rattle.xfs_guard.specs.View.{View}
 use Rattle.xfs_guard.specs.Continues.{Led, Comes, Leads, Continues}
 use Rattle.xfs_journal.proofs.JournalLaws.{record_at-within}
@@ -27,6 +27,7 @@ use Rattle.xfs_guard.proofs.SoundLaws.{acted_view}
 pub use Rattle.xfs_guard.proofs.StandLaws.{only-possible, doubted-possible}
 use Rattle.xfs_guard.proofs.StandLaws.{Grows, stands-doubted, stands-written}
 use Rattle.xfs_guard.specs.Reach.{StandsBehind}
+use Rattle.xfs_guard.proofs.LifeLaws.{begins-same, begins-trans}
 
 -- nothing happened
 pub Led-same : (records : List Rec) (motions : List Motion) (places : Places) → Led records motions places records motions places

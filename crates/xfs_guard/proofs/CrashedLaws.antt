@@ -1,6 +1,5 @@
 -- Lists that a crash left before, as the journal goes on.
 use Rattle.std.proofs.Common.{◌≡◌, ◌≢◌, ◌⊎◌, inl, inr, ⊎_elim, ℕ, ◌+◌, ◌<◌, ◌≤◌, Bool, true, false, List, [], ◌∷◌, ◌++◌, length, None, Some, refl, sym, ◌∙◌, ap, arith, length-append, append_assoc, true≢false}
-use Rattle.std.proofs.lemmas.List.{append-nil}
 use Rattle.std.proofs.lemmas.Bool.{cases_lt}
 use Rattle.std.specs.declared.option.Option.{Option}
 use Rattle.std.specs.List.{AllByRecursion}
@@ -22,20 +21,10 @@ use Rattle.xfs_guard.specs.Lives.{BeginsWith}
 use Rattle.xfs_guard.specs.Crashed.{IsTorn, IsCrashOutcome, IsLost}
 use Rattle.xfs_guard.proofs.AgreesLaws.{boot-no_order}
 use Rattle.xfs_guard.proofs.RecordLaws.{last-pushed}
-
-pub begins-same : (records : List Rec) → BeginsWith records records
-begins-same records = record { more = []; is = sym (append-nil records) }
-
-pub begins-trans : (A B C : List Rec) → BeginsWith B A → BeginsWith C B → BeginsWith C A
-begins-trans A B C one two = record { more = one.more ++ two.more; is = rw (two.is, one.is) (append_assoc A one.more two.more) }
+use Rattle.xfs_guard.proofs.LifeLaws.{begins-same, begins-trans, possible-begins}
 
 pub begins-push : (A B : List Rec) (r : Rec) → BeginsWith B A → BeginsWith (B ++ r ∷ []) A
 begins-push A B r begins = begins-trans A B (B ++ r ∷ []) begins (record { more = r ∷ []; is = refl })
-
--- a possible list begins with the kept one
-pub begins-possible : (records : List Rec) (d : Option Rec) (found : List Rec) → IsPossible records d found → BeginsWith found records
-begins-possible records d found (inl is) = rw is (begins-same records)
-begins-possible records d found (inr (r, doubt, is)) = rw is (record { more = r ∷ []; is = refl })
 
 length-left : (records : List Rec) (d : Option Rec) (c : Bool) (X : List Rec) (l : IsTorn records d c X) → length X ≡ length l.prefix + 1
 length-left records d c X l = rw l.split (length-append l.prefix (l.last ∷ []))
@@ -90,7 +79,7 @@ IsTorn-mount records d c found X possible l = record {
   prefix = l.prefix;
   last = l.last;
   split = l.split;
-  kept = begins-trans l.prefix records found l.kept (begins-possible records d found possible);
+  kept = begins-trans l.prefix records found l.kept (possible-begins records d found possible);
   replaced = λ q there. l.replaced q (in_longest records d found (length X) q possible there);
   closed_there = λ short. refl;
 }
@@ -153,7 +142,7 @@ left-close records d s X (inr loose) = inr (IsTorn-close records d s X loose)
 
 -- lists that were left, once a possible list was read again
 pub left-mount : (records : List Rec) (d : Option Rec) (s : Bool) (found X : List Rec) → IsPossible records d found → IsCrashOutcome records d s X → IsCrashOutcome found None true X
-left-mount records d s found X possible (inl begins) = inl (begins-trans X records found begins (begins-possible records d found possible))
+left-mount records d s found X possible (inl begins) = inl (begins-trans X records found begins (possible-begins records d found possible))
 left-mount records d s found X possible (inr loose) = inr (IsTorn-mount records d s found X possible loose)
 
 -- the boot record is kept behind it
@@ -195,7 +184,7 @@ loose-front : (records : List Rec) (d : Option Rec) (c : Bool) (X R : List Rec) 
 loose-front records d c X R motions l possible agrees = by_record (record_at R (length X)) refl
   where
     prefix : BeginsWith R l.prefix
-    prefix = begins-trans l.prefix records R l.kept (begins-possible records d R possible)
+    prefix = begins-trans l.prefix records R l.kept (possible-begins records d R possible)
 
     lost : ((k : Kind) (n : Counts) → record_at R (length X) ≢ Some (Order k n)) → BeginsWith R X ⊎ IsLost R motions X
     lost none = inr (record { prefix = l.prefix; last = l.last; split = l.split; kept = prefix; unmoved = unmoved motions agrees })
@@ -215,5 +204,5 @@ loose-front records d c X R motions l possible agrees = by_record (record_at R (
         (l.replaced q (in_longest records d R (length X) q possible is))
 
 pub left-front : (records : List Rec) (d : Option Rec) (c : Bool) (X R : List Rec) (motions : Option (List Motion)) → IsCrashOutcome records d c X → IsPossible records d R → IfTold motions (Agrees R) → BeginsWith R X ⊎ IsLost R motions X
-left-front records d c X R motions (inl begins) possible agrees = inl (begins-trans X records R begins (begins-possible records d R possible))
+left-front records d c X R motions (inl begins) possible agrees = inl (begins-trans X records R begins (possible-begins records d R possible))
 left-front records d c X R motions (inr loose) possible agrees = loose-front records d c X R motions loose possible agrees

@@ -29,12 +29,13 @@ use Rattle.xfs_guard.specs.declared.deny.Deny.TheVariants.{Disk, Memory}
 use Rattle.xfs_guard.specs.LedgerView.{LedgerView, Wrote, IsWriteFault}
 use Rattle.xfs_guard.specs.Continues.{Continues}
 use Rattle.xfs_guard.proofs.BalanceLaws.{balanced-moved}
-use Rattle.xfs_guard.proofs.CrashedLaws.{begins-same, left-doubt}
+use Rattle.xfs_guard.proofs.CrashedLaws.{left-doubt}
 use Rattle.xfs_guard.proofs.ContinueLaws.{Continues-grown, doubted-possible}
 use Rattle.xfs_guard.proofs.SoundLaws.{acted_view, IsSound-act}
 use Rattle.xfs_guard.proofs.RecordLaws.{longer}
 use Rattle.xfs_guard.proofs.SizeLaws.{takes-done}
 use Rattle.xfs_guard.proofs.StandLaws.{Grows, stands-doubted}
+use Rattle.xfs_guard.proofs.LifeLaws.{begins-same}
 
 pub told-at : (b : Bool) (v : View) (m : Option (List Motion)) → b ≡ true → IfTold (where_told b m) (Ties v) → IfTold m (Ties v)
 told-at true v m e t = t

@@ -76,10 +76,6 @@ found-at records kept base b i n r is same le within at other read =
 pub issues-of : (records : List Rec) (base a b : ℕ) (kept : List Rec) → a ≡ issues_in (take base records) → kept ≡ drop base records → b ≡ issues_in kept → a + b ≡ issues_in records
 issues-of records base a b kept front is behind = rw (front, behind, is) (issues-split records base)
 
-pub issues-few : (records : List Rec) → issues_in records ≤ length records
-issues-few [] = omega arith
-issues-few (r ∷ records) = grind (arith, issues-few records)
-
 -- an issue is written
 pub IsRead-issue : {base : ℕ} (records : List Rec) (u : List NoteKind) (i m : ℕ) (l : Option Live) (b : Option Bound) (n w : ℕ) (nonce : Nonce)
     → IsReadFrom records base u i m l b → n ≡ next_issue records → nonce.text ≡ nonce_text n w → nonce.number ≡ n

@@ -28,13 +28,13 @@ use Rattle.xfs_guard.specs.Orders.{kind_unacted}
 use Rattle.xfs_guard.specs.Kept.{HasRoom, HasLimits}
 use Rattle.xfs_guard.specs.Sound.{OpenIsNewest, HasActed, Ties, where_told, IsSound}
 use Rattle.xfs_guard.specs.Continues.{Continues}
-use Rattle.xfs_guard.proofs.CrashedLaws.{begins-same}
 use Rattle.xfs_mech.proofs.MoveLaws.{Moves-same, Moves-entry}
 use Rattle.xfs_guard.proofs.ContinueLaws.{leads-same, leads-motion}
 use Rattle.xfs_guard.proofs.SoundLaws.{grows-told}
 use Rattle.xfs_guard.specs.Reach.{reached, AgreesBehind, IsRecordedBehind, StandsBehind, view_behind, WithinBehind}
 use Rattle.xfs_guard.proofs.StandLaws.{reached-push}
 use Rattle.xfs_guard.proofs.WithinLaws.{Within-quiet, shown-motion}
+use Rattle.xfs_guard.proofs.LifeLaws.{begins-same}
 
 -- the guard after a report
 abbrev pub reported_view : View → Option (List Motion) → Places → ℕ → Counts → View

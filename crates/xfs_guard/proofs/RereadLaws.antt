@@ -15,10 +15,10 @@ use Rattle.xfs_guard.specs.Crashed.{IsCrashOutcomeAt, StandsLeft, StandsReread, 
 use Rattle.xfs_guard.specs.Recorded.{IsRecorded}
 use Rattle.xfs_guard.specs.View.{View, GuardView}
 use Rattle.xfs_guard.proofs.BootLaws.{IsRecorded-boot}
-use Rattle.xfs_guard.proofs.CrashedLaws.{begins-trans, begins-possible}
 use Rattle.xfs_guard.proofs.LeftLaws.{recorded-possible, recorded-either}
 use Rattle.xfs_guard.proofs.StoredLaws.{tells}
 use Rattle.xfs_journal.specs.Held.{StandsForSome}
+use Rattle.xfs_guard.proofs.LifeLaws.{begins-trans, possible-begins}
 
 module _ {D : Type 0} (g : Ghosts D) where
   -- the disk was read, and nothing else
@@ -52,11 +52,11 @@ module _ {D : Type 0} (g : Ghosts D) where
   }
     where
       from : (bytes : List ℕ) (read : StandsReread old.state.records old.state.in_doubt p (IsCrashOutcomeAt new.state) bytes) → StandsForEither read.list (boot_of read.list p) bytes → StandsLeft old.state new.state bytes
-      from bytes read (inl is) = record { list = read.list; stands = is; begins = begins-possible old.state.records old.state.in_doubt read.list read.possible; left = read.without }
+      from bytes read (inl is) = record { list = read.list; stands = is; begins = possible-begins old.state.records old.state.in_doubt read.list read.possible; left = read.without }
       from bytes read (inr is) = record {
         list = with_boot read.list p;
         stands = is;
-        begins = begins-trans old.state.records read.list (with_boot read.list p) (begins-possible old.state.records old.state.in_doubt read.list read.possible) (record { more = boot_of read.list p ∷ []; is = refl });
+        begins = begins-trans old.state.records read.list (with_boot read.list p) (possible-begins old.state.records old.state.in_doubt read.list read.possible) (record { more = boot_of read.list p ∷ []; is = refl });
         left = read.booted;
       }
 

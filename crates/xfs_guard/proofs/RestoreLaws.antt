@@ -27,13 +27,14 @@ use Rattle.xfs_guard.specs.Continues.{Continues}
 use Rattle.xfs_guard.proofs.BalanceLaws.{balanced-possible}
 use Rattle.xfs_guard.proofs.BootLaws.{base_of-boot, IsKept-boot, IsRecorded-boot}
 use Rattle.xfs_guard.proofs.ContinueLaws.{Continues-grown, only-possible, doubted-possible}
-use Rattle.xfs_guard.proofs.CrashedLaws.{begins-same, begins-push, begins-possible, left-close, left-mount, left-boot, left-boot_doubt}
+use Rattle.xfs_guard.proofs.CrashedLaws.{begins-push, left-close, left-mount, left-boot, left-boot_doubt}
 use Rattle.xfs_guard.proofs.KeptLaws.{over}
 use Rattle.xfs_guard.specs.Reach.{reached, AgreesBehind, IsBootAt, IsRecordedBehind, StandsBehind, view_behind, WithinBehind}
 use Rattle.xfs_guard.specs.Sound.{Ties, where_told}
 use Rattle.xfs_guard.proofs.AgreesLaws.{Agrees-record, boot-follows, boot-no_done, numbers_within}
 use Rattle.xfs_guard.proofs.ReachLaws.{booted-push, from-within, numbered-push, split}
 use Rattle.xfs_guard.proofs.WithinLaws.{Within-record}
+use Rattle.xfs_guard.proofs.LifeLaws.{begins-same, possible-begins}
 
 -- no more than the records in front of the boot record are let go of
 pub base_then-within : (b : Bool) (base : ℕ) (records : List Rec) (p : Places) → base ≤ length records → base_then b base (with_boot records p) ≤ length records
@@ -236,16 +237,16 @@ Continues-restored key seed o o' motions places faults b old new was told same (
     (λ compared from s. rw (same, none) (stands-unread (over key seed o motions places faults old was) compared from s)))
 Continues-restored key seed o o' motions places faults b old new was told same (inr (inr (records, found, inl is), none)) =
     rw is (Continues-grown _ _ (boot_of records places) (boot_of-only records places) refl refl refl refl refl same refl (λ later possible. inr (records, found, only-possible (with_boot records places) later None refl possible))
-    (begins-push old.records records (boot_of records places) (begins-possible old.records old.in_doubt records found))
+    (begins-push old.records records (boot_of records places) (possible-begins old.records old.in_doubt records found))
     (λ X left. left-boot records places false X (left-mount old.records old.in_doubt (old.shut || old.boot_missing) records X found left))
     (λ compared from s. rw same (stands-booted (over key seed o motions places faults old was) records places (base_then b old.base (with_boot records places)) o' none found compared from s)))
 Continues-restored key seed o o' motions places faults b old new was told same (inr (inr (records, found, inr (inl is)), none)) =
     rw is (Continues-grown _ _ (boot_of records places) (boot_of-only records places) refl refl refl refl refl same refl (λ later possible. inl (rw (only-possible records later None refl possible) found))
-    (begins-possible old.records old.in_doubt records found) (λ X left. left-mount old.records old.in_doubt (old.shut || old.boot_missing) records X found left)
+    (possible-begins old.records old.in_doubt records found) (λ X left. left-mount old.records old.in_doubt (old.shut || old.boot_missing) records X found left)
     (λ compared from s. rw same (stands-reread (over key seed o motions places faults old was) records (base_then b old.base records) o' found compared from s)))
 Continues-restored key seed o o' motions places faults b old new was told same (inr (inr (records, found, inr (inr is)), none)) =
     rw is (Continues-grown _ _ (boot_of records places) (boot_of-only records places) refl refl refl refl refl same refl (λ later possible. ⊎_elim (λ same. inl (rw same found)) (λ more. inr (records, found, more)) (doubted-possible records later (boot_of records places) possible))
-    (begins-possible old.records old.in_doubt records found) (λ X left. left-boot_doubt records places X (left-mount old.records old.in_doubt (old.shut || old.boot_missing) records X found left))
+    (possible-begins old.records old.in_doubt records found) (λ X left. left-boot_doubt records places X (left-mount old.records old.in_doubt (old.shut || old.boot_missing) records X found left))
     (λ compared from s. rw same (stands-unbooted (over key seed o motions places faults old was) records places (base_then b old.base records) o' found compared from s)))
 
 -- the boot record is the last one, and all that is in memory

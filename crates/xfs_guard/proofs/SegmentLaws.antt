@@ -48,7 +48,7 @@ pub cut : (records : List Rec) → has_issue records ≡ true → IsCut records
 cut [] some = absurd (true≢false (sym some))
 cut (r ∷ rs) some = cut-cons r rs (has_issue rs) refl (λ e. cut rs e) some
 
-or-true : (b : Bool) → b || true ≡ true
+pub or-true : (b : Bool) → b || true ≡ true
 or-true true = refl
 or-true false = refl
 

@@ -2,10 +2,10 @@
 use Rattle.std.proofs.Common.{◌≡◌, ℕ, ◌+◌, ◌-◌, ◌≤◌, Bool, true, false, List, [], ◌∷◌, ◌++◌, length, None, Some, refl, arith, length-append}
 use Rattle.std.specs.Prelude.{nat_lt, ◌||◌, if◌then◌else◌}
 use Rattle.std.specs.Int.{to_be_bytes, w16}
-use Rattle.std.proofs.lemmas.Bool.{ltb-false, ltb-true}
+use Rattle.std.proofs.lemmas.Bool.{ltb-false, ltb-true, or_parts, or_from}
 use Rattle.xfs_base.specs.declared.counts.Counts.{Counts}
 use Rattle.xfs_base.specs.declared.counts.Kind.{Kind}
-use Rattle.xfs_journal.specs.Image.{counts_bytes, body, framed, blocks, magic, size}
+use Rattle.xfs_journal.specs.Image.{body, framed, blocks, magic, size}
 use Rattle.xfs_journal.proofs.Decoding.{length-numbers}
 use Rattle.xfs_journal.specs.declared.record.Rec.TheVariants.{Order, Done}
 use Rattle.xfs_journal.specs.JournalView.{exceeds}
@@ -15,6 +15,7 @@ use Rattle.xfs_guard.specs.declared.deny.Deny.{Deny}
 use Rattle.xfs_guard.specs.Fits.{is_short, unfit}
 use Rattle.xfs_guard.specs.LedgerView.{LedgerView, write_refusal}
 use Rattle.xfs_guard.specs.View.{View, GuardView}
+use Rattle.xfs_guard.proofs.CoveredLaws.{done-short}
 
 framed-length : (r : Rec) → length (framed r) ≡ 2 + length (body r)
 framed-length r = omega (arith, length-append (to_be_bytes w16 (length (body r))) (body r))
@@ -26,17 +27,6 @@ blocks-longer (x ∷ xs) r = omega (arith, length-append (framed x) (blocks (xs 
 -- a record takes three bytes and its body
 pub size-longer : (records : List Rec) (r : Rec) → size (records ++ r ∷ []) ≡ size records + (3 + length (body r))
 size-longer records r = omega (arith, length-append magic (blocks (records ++ r ∷ [])), length-append magic (blocks records), blocks-longer records r)
-
-pub neither : (a b : Bool) → (a || b) ≡ false → (a ≡ false) × (b ≡ false)
-neither false false e = (refl, refl)
-neither false true e = (refl, e)
-neither true b e = absurd (no e)
-  where
-    no : true ≡ false → ⊥
-    no e = cc
-
-both : (a b : Bool) → a ≡ false → b ≡ false → (a || b) ≡ false
-both a b e f = rw (e, f) refl
 
 not-under : (a b : ℕ) → b ≤ a → nat_lt a b ≡ false
 not-under a b le = go (nat_lt a b) refl
@@ -58,10 +48,10 @@ fit-parts v e = go v.shut v.boot_missing (is_short v) e
 -- it takes one more record of up to 1,025 bytes
 pub takes-one : (limits : Limits) (base : ℕ) (records : List Rec) (r : Rec) → (nat_lt (limits.records - (length records - base)) 3 || nat_lt (limits.bytes - size records) 2048) ≡ false → length (body r) ≤ 1025 → exceeds limits base (records ++ r ∷ []) ≡ false
 takes-one limits base records r free short =
-    let parts = neither (nat_lt (limits.records - (length records - base)) 3) (nat_lt (limits.bytes - size records) 2048) free in
+    let parts = or_parts (nat_lt (limits.records - (length records - base)) 3) (nat_lt (limits.bytes - size records) 2048) free in
     let many = ltb-false (limits.records - (length records - base)) 3 parts.0 in
     let bytes = ltb-false (limits.bytes - size records) 2048 parts.1 in
-    both (nat_lt limits.records (length (records ++ r ∷ []) - base)) (nat_lt limits.bytes (size (records ++ r ∷ [])))
+    or_from (nat_lt limits.records (length (records ++ r ∷ []) - base)) (nat_lt limits.bytes (size (records ++ r ∷ [])))
     (not-under limits.records (length (records ++ r ∷ []) - base) (omega (arith, many, length-append records (r ∷ []))))
     (not-under limits.bytes (size (records ++ r ∷ [])) (omega (arith, bytes, size-longer records r, short)))
 
@@ -91,13 +81,10 @@ write-open a b r same none = go a.shut a.boot_missing (exceeds a.limits a.base (
 pub order-short : (k : Kind) (c : Counts) → length c.0 ≡ 8 → length (body (Order k c)) ≡ 34
 order-short k c e = omega (arith, length-numbers c.0, e)
 
-done-short : (m d : Counts) → length m.0 ≡ 8 → length d.0 ≡ 8 → length (body (Done m d)) ≡ 65
-done-short m d e f = omega (arith, length-append (counts_bytes m) (counts_bytes d), length-numbers m.0, length-numbers d.0, e, f)
-
 -- the limits leave an open order its Done
 pub takes-done : (limits : Limits) (base : ℕ) (records : List Rec) (m d : Counts) → length m.0 ≡ 8 → length d.0 ≡ 8 → (length records - base + 1 ≤ limits.records) × (size records + 68 ≤ limits.bytes) → exceeds limits base (records ++ Done m d ∷ []) ≡ false
 takes-done limits base records m d e f room =
-    both (nat_lt limits.records (length (records ++ Done m d ∷ []) - base)) (nat_lt limits.bytes (size (records ++ Done m d ∷ [])))
+    or_from (nat_lt limits.records (length (records ++ Done m d ∷ []) - base)) (nat_lt limits.bytes (size (records ++ Done m d ∷ [])))
     (not-under limits.records (length (records ++ Done m d ∷ []) - base) (omega (arith, room.0, length-append records (Done m d ∷ []))))
     (not-under limits.bytes (size (records ++ Done m d ∷ [])) (omega (arith, room.1, size-longer records (Done m d), done-short m d e f)))
 
@@ -105,7 +92,7 @@ takes-done limits base records m d e f room =
 pub leaves-done : (limits : Limits) (base : ℕ) (records : List Rec) (k : Kind) (c : Counts) → (nat_lt (limits.records - (length records - base)) 3 || nat_lt (limits.bytes - size records) 2048) ≡ false → length c.0 ≡ 8
     → (length (records ++ Order k c ∷ []) - base + 1 ≤ limits.records) × (size (records ++ Order k c ∷ []) + 68 ≤ limits.bytes)
 leaves-done limits base records k c free e =
-    let parts = neither (nat_lt (limits.records - (length records - base)) 3) (nat_lt (limits.bytes - size records) 2048) free in
+    let parts = or_parts (nat_lt (limits.records - (length records - base)) 3) (nat_lt (limits.bytes - size records) 2048) free in
     let many = ltb-false (limits.records - (length records - base)) 3 parts.0 in
     let bytes = ltb-false (limits.bytes - size records) 2048 parts.1 in
     (omega (arith, many, length-append records (Order k c ∷ [])), omega (arith, bytes, size-longer records (Order k c), order-short k c e))

@@ -35,7 +35,7 @@ pub at_rest-memory : (m : MemDisk) → steps_of m ≡ [] → Only (bytes_of m) (
 at_rest-memory m settled c is = rw settled at is
 
 -- an empty list is recorded beside a mechanism that did nothing
-recorded-empty : (key : List ℕ) (units : List NoteKind) (L : Option (List Motion)) → IfTold L (λ l. l ≡ []) → IsRecorded key units L []
+pub recorded-empty : (key : List ℕ) (units : List NoteKind) (L : Option (List Motion)) → IfTold L (λ l. l ≡ []) → IsRecorded key units L []
 recorded-empty key units L fresh = record { numbered = tt; agrees = agrees L fresh; within = within L fresh }
   where
     agrees : (L : Option (List Motion)) → IfTold L (λ l. l ≡ []) → IfTold L (Agrees [])

@@ -16,10 +16,10 @@ use Rattle.xfs_guard.specs.View.{View}
 use Rattle.xfs_guard.specs.Within.{shown}
 use Rattle.xfs_guard.proofs.LeftLaws.{leaves-recorded}
 use Rattle.xfs_guard.proofs.MarkLaws.{boot-marked, mark-there, bound-there, issue-there}
-use Rattle.xfs_guard.proofs.SizeLaws.{neither}
 use Rattle.xfs_disk.specs.Moments.{EachImage}
 use Rattle.xfs_journal.specs.JournalView.{HasPossible, IsPossible}
 use Rattle.xfs_journal.specs.Held.{StandsForSome}
+use Rattle.std.proofs.lemmas.Bool.{or_parts}
 
 either : (a b : Bool) (Claim : Type 0) → (a ≡ true → Claim) → (b ≡ true → Claim) → (a || b) ≡ true → Claim
 either true b Claim one two e = one refl
@@ -41,9 +41,9 @@ upheld g v d spare left kinds told kept stored leaves = record {
   recorded = leaves-recorded g d v leaves (λ is. kept.recorded (told ∙ is));
   clean = kept.clean;
   closed = λ e. either v.shut v.boot_missing (v.open_order ≡ No) kept.closed kept.missing e;
-  order = λ e. let both = neither v.shut v.boot_missing e in (kept.sound both.0 both.1).stands;
-  budget = λ e. let both = neither v.shut v.boot_missing e in (kept.sound both.0 both.1).budget;
-  counted = λ e. let both = neither v.shut v.boot_missing e in counted v (kept.sound both.0 both.1).told;
+  order = λ e. let both = or_parts v.shut v.boot_missing e in (kept.sound both.0 both.1).stands;
+  budget = λ e. let both = or_parts v.shut v.boot_missing e in (kept.sound both.0 both.1).budget;
+  counted = λ e. let both = or_parts v.shut v.boot_missing e in counted v (kept.sound both.0 both.1).told;
   issue = issue-there v.boot_missing v.records;
   balanced = kept.balanced;
   mark = mark-there v.records (boot-marked kept.balanced.boot v.booted kept.balanced.tells v.records kept.balanced.kept);

@@ -128,7 +128,7 @@ pub Within-quiet : (key : List ℕ) (u : List NoteKind) (records : List Rec) (mo
 Within-quiet key u records motions m q new w = Within-motion key u records motions m (λ p b s h. covered-quiet key u records motions m p b q h) new w
 
 -- the worth of a present counts in its own segment alone
-shown_by-other : (u : List NoteKind) (records : List Rec) (p n q : ℕ) (c : List ℕ) (m d : Counts) → live_at records n ≡ Some p → p ≢ q → shown_by u records q c (Moved n Present m d) ≡ 0
+pub shown_by-other : (u : List NoteKind) (records : List Rec) (p n q : ℕ) (c : List ℕ) (m d : Counts) → live_at records n ≡ Some p → p ≢ q → shown_by u records q c (Moved n Present m d) ≡ 0
 shown_by-other u records p n q c m d e ne = rw (e, eqb-no p q ne) refl
 
 pub shown_by-own : (u : List NoteKind) (records : List Rec) (p n : ℕ) (c : List ℕ) (m d : Counts) → live_at records n ≡ Some p → shown_by u records p c (Moved n Present m d) ≡ value u m c

@@ -92,6 +92,7 @@ write_refusal l r = if l.shut then Some Shut else if l.boot_missing then Some Fu
 abbrev pub IsWriteFault : Deny → Type 0
 IsWriteFault e = (e ≡ Memory) ⊎ (e ≡ Disk)
 
--- in a currency of which the bound amounts have nothing, nothing was presented
-abbrev pub IsPresentedBound : {D : Type 0} → LedgerView D → Type 0
-IsPresentedBound l = (c : List ℕ) → has_currency c (unwrap_or l.bound []) ≡ false → presented_in l.units l.records c ≡ 0
+-- An open ledger tells what was presented by its bound amounts: of a currency of which they have nothing, nothing was.
+pub record TellsPresented {D : Type 0} (l : LedgerView D) : Type 0 where
+  pub open_still : IsOpenLedger l
+  pub told : (c : List ℕ) → has_currency c (unwrap_or l.bound []) ≡ false → presented_in l.units l.records c ≡ 0

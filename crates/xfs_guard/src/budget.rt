@@ -2,7 +2,7 @@
 
 ghost use Rattle.std.specs.Prelude.{◌≡◌, ◌<◌, ◌^◌};
 ghost use Rattle.xfs_guard.specs.OverBudget.{spent, is_over, earlier, first_currency, over_budget_in};
-ghost use Rattle.xfs_guard.specs.LedgerView.{IsOpenLedger, IsPresentedBound};
+ghost use Rattle.xfs_guard.specs.LedgerView.{TellsPresented};
 
 use crate::Deny;
 use crate::ledger::Ledger;
@@ -17,8 +17,7 @@ pub fn over_budget<D: Disk>(
     amounts: &Amounts,
     counts: &Counts,
 ) -> Option<Deny>
-    requires open_still { IsOpenLedger ledger.now }
-    requires told { IsPresentedBound ledger.now }
+    requires tells { TellsPresented ledger.now }
     ensures { result ≡ over_budget_in ledger.now.units ledger.now.records transport.now amounts.now counts.now }
 {
     let currency = first_over(ledger, transport, amounts, counts)?;
@@ -38,8 +37,7 @@ fn first_over<D: Disk>(
     amounts: &Amounts,
     counts: &Counts,
 ) -> Option<Currency>
-    requires open_still { IsOpenLedger ledger.now }
-    requires told { IsPresentedBound ledger.now }
+    requires tells { TellsPresented ledger.now }
     ensures { result ≡ first_currency (is_over ledger.now.units ledger.now.records transport.now amounts.now counts.now) ledger.now.units }
 {
     let kinds = ledger.units().kinds();
@@ -56,8 +54,7 @@ fn first_over<D: Disk>(
 
 // What was presented since the live issue, and what lies on the transport.
 fn spending<D: Disk>(ledger: &Ledger<D>, transport: &Counts, currency: Currency) -> u128
-    requires open_still { IsOpenLedger ledger.now }
-    requires told { IsPresentedBound ledger.now }
+    requires tells { TellsPresented ledger.now }
     ensures worth { result ≡ spent ledger.now.units ledger.now.records transport.now currency }
     ensures small { result < 2 ^ 66 }
 {

@@ -15,7 +15,7 @@ ghost use Rattle.xfs_guard.specs.Nonce.{EndsNonce, live_in};
 ghost use Rattle.xfs_guard.specs.Refusals.{bound_token, bound_number};
 ghost use Rattle.xfs_guard.specs.Presented.{presented_in};
 ghost use Rattle.xfs_guard.specs.LedgerBooting.{BootsLedger, IsBootedNow, StaysSmall, RefusesLedger, RefusesReread, WritesLedger, IsOldOrReread};
-ghost use Rattle.xfs_guard.specs.LedgerView.{IsOpenLedger, IsWriteFault, IsSame, IsPresentedBound, write_refusal};
+ghost use Rattle.xfs_guard.specs.LedgerView.{IsOpenLedger, IsWriteFault, IsSame, TellsPresented, write_refusal};
 ghost use Rattle.xfs_guard.specs.Balance.{with_notes};
 ghost use Rattle.xfs_guard.specs.Booting.{HadRoomThen, base_then};
 ghost use Rattle.xfs_guard.specs.Ledger.{IsLive, IsDoubted};
@@ -258,8 +258,7 @@ impl<D: Disk> Ledger<D> {
 
     /// What was presented since the last mark in a currency, in thousandths.
     pub fn worth_presented(&self, currency: Currency) -> u64
-        requires open_still { IsOpenLedger self.now }
-        requires told { IsPresentedBound self.now }
+        requires tells { TellsPresented self.now }
         ensures { result ≡ presented_in self.now.units self.now.records currency }
     {
         match &self.bound {

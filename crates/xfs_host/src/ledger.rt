@@ -1,5 +1,5 @@
 //! Accounts, transactions and nonces.
-ghost use Rattle.std.specs.Prelude.{◌≡◌, ◌<◌, ◌++◌, ◌∷◌, [], length, map, option_map, Some, None, true, false, is_some, IfOk, OnOk, OnErr, slice_get};
+ghost use Rattle.std.specs.Prelude.{◌≡◌, ◌<◌, [], length, map, option_map, Some, None, true, false, is_some, IfOk, slice_get};
 ghost use Rattle.xfs_host.specs.Book.{Adds, Opened, Asked, account_in, book_of, decided, first_ask_in, listed, opening_in, reply_after, rising, user_in};
 ghost use Rattle.xfs_host.specs.Book as book;
 ghost use Rattle.xfs_host.specs.Kept.{call_of};

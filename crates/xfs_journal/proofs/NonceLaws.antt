@@ -23,7 +23,7 @@ digits-of (b ∷ bytes) small =
     All-cons IsDigit (slice_index upper_digits (b / 16)) (slice_index upper_digits (b % 16) ∷ encode_upper bytes) high
     (All-cons IsDigit (slice_index upper_digits (b % 16)) (encode_upper bytes) low (digits-of bytes small.1))
 
-small-append : (xs ys : List ℕ) → AllByRecursion (λ b. b < 256) xs → AllByRecursion (λ b. b < 256) ys → AllByRecursion (λ b. b < 256) (xs ++ ys)
+pub small-append : (xs ys : List ℕ) → AllByRecursion (λ b. b < 256) xs → AllByRecursion (λ b. b < 256) ys → AllByRecursion (λ b. b < 256) (xs ++ ys)
 small-append [] ys small_x small_y = small_y
 small-append (x ∷ xs) ys small_x small_y = (small_x.0, small-append xs ys small_x.1 small_y)
 
@@ -34,7 +34,7 @@ byte-small : (k n : ℕ) → byte_at k n < 256
 byte-small zero n = rest-small n
 byte-small (suc k) n = rest-small (n / 256 ^ suc k)
 
-small-bytes : (k n : ℕ) → AllByRecursion (λ b. b < 256) (bytes_high_first k n)
+pub small-bytes : (k n : ℕ) → AllByRecursion (λ b. b < 256) (bytes_high_first k n)
 small-bytes zero n = tt
 small-bytes (suc k) n = (byte-small k n, small-bytes k n)
 

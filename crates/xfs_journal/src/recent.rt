@@ -1,6 +1,7 @@
 //! A list of records of which memory has the end alone. The front is kept for proofs, without a byte.
 ghost use Rattle.std.specs.Prelude.{◌≡◌, ◌≤◌, ◌<◌, ◌+◌, ◌-◌, ◌^◌, ◌++◌, ◌∷◌, [], length, take, drop, vec_len, vec_capacity, OnOk, OnErr};
 ghost use Rattle.xfs_journal.specs.Holding.{IsHeld};
+ghost use Rattle.xfs_journal.specs.RecentView.{FitsOneMore};
 ghost use Rattle.xfs_journal.specs.Journal.{base_of, is_boot, issues_in};
 ghost use Rattle.xfs_journal.specs.declared.keep.Keep.TheVariants.{SinceBoot, Behind};
 
@@ -109,8 +110,7 @@ impl Recent {
 
     // One more record, where there is room.
     pub(crate) fn push(&mut self, rec: Rec)
-        requires room { 1 ≤ self.old.room }
-        requires few { length self.old.all + 1 < 2 ^ 64 }
+        requires fits { FitsOneMore self.old }
         ensures all { self.new.all ≡ self.old.all ++ rec ∷ [] }
         ensures base { self.new.base ≡ self.old.base }
         ensures room { self.new.room + 1 ≡ self.old.room }
@@ -135,8 +135,7 @@ impl Recent {
 
     // One more record: where it is a boot record, memory has it alone then.
     fn begin_with(&mut self, rec: Rec)
-        requires room { 1 ≤ self.old.room }
-        requires few { length self.old.all + 1 < 2 ^ 64 }
+        requires fits { FitsOneMore self.old }
         requires held { IsHeld SinceBoot self.old }
         ensures all { self.new.all ≡ self.old.all ++ rec ∷ [] }
         ensures held { IsHeld SinceBoot self.new }
@@ -151,8 +150,7 @@ impl Recent {
 
     // One more record: memory has none of the first ones.
     fn pass_by(&mut self, rec: Rec, count: u64)
-        requires room { 1 ≤ self.old.room }
-        requires few { length self.old.all + 1 < 2 ^ 64 }
+        requires fits { FitsOneMore self.old }
         requires held { IsHeld (Behind count) self.old }
         ensures all { self.new.all ≡ self.old.all ++ rec ∷ [] }
         ensures held { IsHeld (Behind count) self.new }

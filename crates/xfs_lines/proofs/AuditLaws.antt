@@ -10,13 +10,13 @@ use Rattle.xfs_script.specs.Endings.{AnswersInput, EndsBehind}
 use Rattle.xfs_script.specs.Lines.{first_lines}
 use Rattle.xfs_script.specs.declared.answerer.Ending.{Ending}
 use Rattle.xfs_script.specs.declared.answerer.Ending.TheVariants.{AtEnd, Read, Quota, NotALine, Write, Memory, Ended}
-use Rattle.xfs_script.proofs.AnswerLaws.{Appends-both, Appends-none}
 use Rattle.xfs_lines.specs.Audit.Runs.{Audits, Concludes, IsAudited, Judges}
 use Rattle.xfs_lines.specs.Audit.Verbs.{Handed, HandsIn, audit_lines, nothing}
 use Rattle.xfs_lines.specs.Output.InputEnds.{ending_line, ending_status}
 use Rattle.xfs_script.specs.Streams.{Streams, Output, output_of}
 use Rattle.xfs_script.proofs.LastLaws.{last-later, prefix-behind}
 use Rattle.xfs_script.specs.LastLines.{WritesLast}
+use Rattle.std.proofs.KnownBytes.{Appends-nil, Appends-trans}
 
 -- no line answers lines that hand something in
 silent : (h end : Handed) (lines output : List (List ℕ)) → AnswersEach HandsIn h lines output end → output ≡ []
@@ -51,22 +51,22 @@ still ending end left before after text a = record {
   last = a.last;
   each = a.each;
   taken = a.taken;
-  written = subst (λ bytes. Appends before before bytes) (sym (none-written ending end left before after text a)) (Appends-none before);
+  written = subst (λ bytes. Appends before before bytes) (sym (none-written ending end left before after text a)) (Appends-nil before);
   ends = a.ends;
 }
 
 -- ---- what is written behind nothing
 
 pub last-behind : (lines : List (List ℕ)) (before : Option (List ℕ)) (o : Output) → Appends before o.held [] → WritesLast lines o → WritesLast lines (record o { held = before })
-last-behind lines before o none (inl whole) = inl (Appends-both before o.held o.held_now [] (lines_text lines) none whole)
+last-behind lines before o none (inl whole) = inl (Appends-trans before o.held o.held_now [] (lines_text lines) none whole)
 last-behind lines before o none (inr broken) = inr (broken.0, prefix-behind before o.held o.held_now [] (lines_text lines) none broken.1)
 
 pub judges-behind : (key : List ℕ) (units : List NoteKind) (h : Handed) (status : ℕ) (before middle after : Option (List ℕ)) → Appends before middle [] → Judges key units h status middle after → Judges key units h status before after
 judges-behind key units h status before middle after none (inl whole) =
-    inl (whole.0, record { bytes = whole.1.bytes; tells = whole.1.tells; took = Appends-both before middle after [] whole.1.bytes none whole.1.took })
+    inl (whole.0, record { bytes = whole.1.bytes; tells = whole.1.tells; took = Appends-trans before middle after [] whole.1.bytes none whole.1.took })
 judges-behind key units h status before middle after none (inr (inl broken)) =
     inr (inl (broken.0, record { bytes = broken.1.bytes; tells = broken.1.tells; took = prefix-behind before middle after [] broken.1.bytes none broken.1.took }))
-judges-behind key units h status before middle after none (inr (inr short)) = inr (inr (short.0, Appends-both before middle after [] [] none short.1))
+judges-behind key units h status before middle after none (inr (inr short)) = inr (inr (short.0, Appends-trans before middle after [] [] none short.1))
 
 -- the statuses of a verdict
 pub judged-status : (key : List ℕ) (units : List NoteKind) (h : Handed) (status : ℕ) (before after : Option (List ℕ)) → Judges key units h status before after → (status ≡ 0) ⊎ ((status ≡ 5) ⊎ (status ≡ 8))

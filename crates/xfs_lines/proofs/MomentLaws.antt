@@ -23,10 +23,11 @@ use Rattle.xfs_guard.specs.Recorded.{IsRecorded}
 use Rattle.xfs_guard.specs.Stored.{MayLeave}
 use Rattle.xfs_guard.specs.View.{GuardView}
 use Rattle.xfs_guard.proofs.BootLaws.{IsRecorded-boot}
-use Rattle.xfs_guard.proofs.CrashedLaws.{begins-same, begins-trans, begins-push, left-front, IsTorn-in_doubt}
+use Rattle.xfs_guard.proofs.CrashedLaws.{begins-push, left-front, IsTorn-in_doubt}
 use Rattle.xfs_guard.proofs.StoredLaws.{MayLeave-held, left-possible, tells}
 use Rattle.xfs_lines.specs.Moments.{IsPrefixOrLost, WasOnTheWay}
 use Rattle.xfs_lines.proofs.RunLaws.{Starts, AtRest}
+use Rattle.xfs_guard.proofs.LifeLaws.{begins-same, begins-trans}
 
 -- what each moment of a run leaves, from the disk at entry to that at the end
 abbrev pub WasOnTheWayAll : {D : Type 0} → Ghosts D → D → D → Option (List Motion) → Type 0

@@ -1,12 +1,13 @@
 -- The text of a nonce is of upper-case hexadecimal digits, and a payload of it can be sent.
-use Rattle.std.proofs.Common.{◌≡◌, ℕ, zero, suc, ◌<◌, ◌/◌, ◌%◌, ◌^◌, Bool, true, false, List, [], ◌∷◌, ◌++◌, get_or, refl, arith}
-use Rattle.std.specs.Int.{byte_at, bytes_high_first, to_be_bytes, w64}
+use Rattle.std.proofs.Common.{◌≡◌, ℕ, ◌<◌, ◌/◌, ◌%◌, Bool, true, false, List, [], ◌∷◌, ◌++◌, get_or, refl, arith}
+use Rattle.std.specs.Int.{to_be_bytes, w64}
 use Rattle.std.specs.List.{AllByRecursion, list_all}
 use Rattle.std.proofs.lemmas.List.Folds.{list_all_at}
 use Rattle.hex.specs.Hex.{encode_with, upper_digits}
 use Rattle.xfs_common.specs.Payloads.{is_upper_hex, nonce_payload}
 use Rattle.xfs_envelope.specs.Messages.{IsPayload}
 use Rattle.xfs_journal.specs.Journal.{nonce_text}
+use Rattle.xfs_journal.proofs.NonceLaws.{small-bytes, small-append}
 
 tested : (b : Bool) (d : ℕ) → d < 16 → is_upper_hex (get_or upper_digits d 0) ≡ b → b ≡ true
 tested true d low is = refl
@@ -25,20 +26,8 @@ digits (b ∷ bs) small =
 low_byte : (x : ℕ) → x % 256 < 256
 low_byte x = omega arith
 
-byte_small : (i n : ℕ) → byte_at i n < 256
-byte_small zero n = low_byte n
-byte_small (suc i) n = low_byte (n / 256 ^ suc i)
-
-bytes_small : (k n : ℕ) → AllByRecursion (λ b. b < 256) (bytes_high_first k n)
-bytes_small zero n = tt
-bytes_small (suc k) n = (byte_small k n, bytes_small k n)
-
-both_small : (a b : List ℕ) → AllByRecursion (λ x. x < 256) a → AllByRecursion (λ x. x < 256) b → AllByRecursion (λ x. x < 256) (a ++ b)
-both_small [] b p q = q
-both_small (x ∷ a) b p q = (p.0, both_small a b p.1 q)
-
 pub nonce_digits : (number word : ℕ) → list_all is_upper_hex (nonce_text number word) ≡ true
-nonce_digits number word = digits (to_be_bytes w64 word ++ to_be_bytes w64 number) (both_small (to_be_bytes w64 word) (to_be_bytes w64 number) (bytes_small 8 word) (bytes_small 8 number))
+nonce_digits number word = digits (to_be_bytes w64 word ++ to_be_bytes w64 number) (small-append (to_be_bytes w64 word) (to_be_bytes w64 number) (small-bytes 8 word) (small-bytes 8 number))
 
 pub nonce_sent : (text : List ℕ) → IsPayload (nonce_payload text)
 nonce_sent text = (refl, refl, omega arith)

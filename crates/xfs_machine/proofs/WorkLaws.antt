@@ -1,6 +1,6 @@
 -- What a case of the work finds, where it is the first that applies to a machine that keeps what every call keeps.
 use Rattle.std.proofs.Common.{◌≡◌, ◌≢◌, ◌≤◌, ℕ, nat_le, cond, ◌&&◌, not, Bool, true, false, List, [], ◌∷◌, Option, None, Some, Result, Ok, Err, find, All, refl, sym, subst, ◌∙◌, ap, inl, inr}
-use Rattle.std.specs.Prelude.{IsErrAnd, OnErr, ◌⊎◌, ◌+◌, ◌==◌, MatchOption, is_none, is_some}
+use Rattle.std.specs.Prelude.{IsErrAnd, OnErr, ◌⊎◌, ◌+◌, ◌==◌, MatchOption, is_some}
 use Rattle.std.specs.List.{list_any}
 use Rattle.std.proofs.lemmas.Bool.{cases_Bool, false≢true}
 use Rattle.std.proofs.lemmas.List.Elements.{All-head, All-tail}
@@ -15,8 +15,7 @@ use Rattle.xfs_dispenser.specs.declared.plan.Plan.{Plan}
 use Rattle.xfs_guard.specs.Fits.{unfit}
 use Rattle.xfs_guard.specs.Nonce.{live_in}
 use Rattle.xfs_guard.specs.View.{View}
-use Rattle.xfs_guard.specs.declared.open.Open.{Open}
-use Rattle.xfs_guard.specs.declared.open.Open.TheVariants.{No, Written, Acted}
+use Rattle.xfs_guard.specs.declared.open.Open.TheVariants.{No}
 use Rattle.xfs_queue.specs.Commands.{is_on, is_ready, is_running, is_waiting, waits_on}
 use Rattle.xfs_queue.specs.declared.command.Command.{Command}
 use Rattle.xfs_queue.specs.declared.command.Line.{Line}

@@ -43,8 +43,9 @@ failures_of m = m.failures
 abbrev pub due : SimMech → Option Fault
 due m = fault_at (faults_of m) (next_count (calls_of m))
 
--- one more call was made, and it failed exactly where a fault was due
+-- one more call was made of the same units, and it failed exactly where a fault was due
 pub record Counted (old new : SimMech) (failed : Bool) : Type 0 where
+  pub units : units_of new ≡ units_of old
   pub met : failed ≡ is_some (due old)
   pub calls : calls_of new ≡ next_count (calls_of old)
   pub failures : failures_of new ≡ (if failed then next_count (failures_of old) else failures_of old)

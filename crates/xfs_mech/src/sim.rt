@@ -89,7 +89,6 @@ impl SimMech {
     fn count_call(&mut self) -> Option<Fault>
         ensures due { result ≡ due self.old }
         ensures counted { Counted self.old self.new (is_some result) }
-        ensures units { units_of self.new ≡ units_of self.old }
         ensures places { places_of self.new ≡ places_of self.old }
         ensures motions { self.new.motions ≡ self.old.motions }
         ensures room { room_of self.new ≡ room_of self.old }
@@ -143,7 +142,6 @@ impl Mechanism for SimMech {
         ensures room { room_of self.new + 1 ≡ room_of self.old }
         ensures carried { MayCarry (kind_of order) (counts_of order) result.moved result.diverted result.failed }
         ensures moved { MovesBy (moved_by order result) (list_of self.old) (list_of self.new) (places_of self.old) (places_of self.new) }
-        ensures units { units_of self.new ≡ units_of self.old }
         ensures counted { Counted self.old self.new result.failed }
         ensures stopped { IfSome (due self.old) (λ f. StopsAt f (kind_of order) (counts_of order) result.moved result.diverted) }
     {
@@ -167,7 +165,6 @@ impl Mechanism for SimMech {
         ensures moved { MayReport result.moved result.diverted result.failed }
         ensures reported { Reports (Taken result.moved) result.failed (list_of self.old) (list_of self.new) (places_of self.old) (places_of self.new) }
         ensures room { UsesRoom result.failed (room_of self.old) (room_of self.new) }
-        ensures units { units_of self.new ≡ units_of self.old }
         ensures counted { Counted self.old self.new result.failed }
         ensures whole { result.failed ≡ false → result.moved ≡ (places_of self.old).outlet }
     {
@@ -188,7 +185,6 @@ impl Mechanism for SimMech {
         ensures moved { MayReport result.moved result.diverted result.failed }
         ensures reported { Reports (Loaded unit count) result.failed (list_of self.old) (list_of self.new) (places_of self.old) (places_of self.new) }
         ensures room { UsesRoom result.failed (room_of self.old) (room_of self.new) }
-        ensures units { units_of self.new ≡ units_of self.old }
         ensures counted { Counted self.old self.new result.failed }
     {
         if self.count_call().is_some() {

@@ -1,5 +1,5 @@
 -- A mix for an amount is counts of notes that lie within what is there, are of one currency, and are worth exactly the amount; it is least where no other has fewer notes.
-use Rattle.std.specs.Prelude.{◌≡◌, ℕ, ⊤, Ok, Err, All, replicate, true, ◌+◌, ◌*◌, ◌≤◌, ◌<◌, List, length, sum, MatchOption, None, Some, slice_get, slice_index, slice_index_or, slice_set, nat_le, nat_lt, if◌then◌else◌}
+use Rattle.std.specs.Prelude.{◌≡◌, ℕ, ⊤, Ok, Err, All, replicate, true, ◌+◌, ◌*◌, ◌≤◌, ◌<◌, List, length, sum, MatchOption, IfSome, None, Some, slice_get, slice_index, slice_index_or, slice_set, nat_le, nat_lt, if◌then◌else◌}
 use Rattle.std.specs.declared.option.Option.{Option}
 use Rattle.std.specs.declared.result.Result.{Result}
 use Rattle.std.specs.Option.{option_map_or}
@@ -8,8 +8,20 @@ use Rattle.xfs_base.specs.declared.counts.Counts.{Counts}
 use Rattle.xfs_base.specs.declared.money.NoteKind.{NoteKind}
 use Rattle.xfs_base.specs.Counts.{at, LiesIn}
 use Rattle.xfs_base.specs.Money.{value}
+use Rattle.xfs_base.specs.Values.{IsNoteValue}
 use Rattle.xfs_mix.specs.declared.mix.MixFault.{MixFault}
 use Rattle.xfs_mix.specs.declared.mix.MixFault.TheVariants.{Nothing, TooMany, Memory}
+
+-- at most eight kinds of notes, each of the value of a note
+pub record AreNoteKinds (kinds : List NoteKind) : Type 0 where
+  pub few : length kinds ≤ 8
+  pub values : All (λ k. IsNoteValue k.value) kinds
+
+-- a place, from 0, of the kinds and of the eight limits, whose notes are of the currency
+pub record IsUnitOf (currency : List ℕ) (kinds : List NoteKind) (limits : Counts) (u : ℕ) : Type 0 where
+  pub unit : (u < length kinds) × (length kinds ≤ 8)
+  pub eight : length limits.0 ≡ 8
+  pub of : IfSome (slice_get kinds u) (λ k. (bytes_eq k.currency currency ≡ true) × IsNoteValue k.value)
 
 -- how many notes of a unit, from 0, may be used: those that are there, where the unit is of the currency
 abbrev pub usable : List NoteKind → Counts → List ℕ → ℕ → ℕ

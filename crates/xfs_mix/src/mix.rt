@@ -1,10 +1,9 @@
-ghost use Rattle.std.specs.Prelude.{◌≡◌, ◌≤◌, ◌<◌, ◌+◌, ◌*◌, ◌^◌, ℕ, IsTrue, IfOk, IfSome, IfErr, Ok, Err, length, sum, true, All, slice_get, Some, map, min};
+ghost use Rattle.std.specs.Prelude.{◌≡◌, ◌≤◌, ◌<◌, ◌+◌, ◌*◌, ◌^◌, ℕ, IsTrue, IfOk, IfSome, IfErr, Ok, Err, length, sum, All, Some, map, min};
 ghost use Rattle.xfs_base.specs.Counts.{at};
-ghost use Rattle.xfs_mix.specs.Mix.{IsMix, IsLeast, IsTable, IsRaised, better_of, none_yet, usable, IsBestMix, IsAnswer, IsBestOfSixty, AreAtMost, without_many};
+ghost use Rattle.xfs_mix.specs.Mix.{AreNoteKinds, IsUnitOf, IsMix, IsLeast, IsTable, IsRaised, better_of, none_yet, usable, IsBestMix, IsAnswer, IsBestOfSixty, AreAtMost, without_many};
 ghost use Rattle.xfs_base.specs.declared.counts.Counts.{Counts};
 ghost use Rattle.xfs_mix.specs.declared.mix.MixFault.TheVariants.{Nothing, TooMany, Memory};
 ghost use Rattle.xfs_base.specs.Values.{IsNoteValue};
-ghost use Rattle.std.specs.Str.{bytes_eq};
 
 use crate::reach::{is_reached, only_first};
 use crate::steps::{in_steps, step_of};
@@ -74,8 +73,7 @@ fn least_of(
     currency: Currency,
     amount: u32,
 ) -> Result<Counts, MixFault>
-    requires few { length kinds.now ≤ 8 }
-    requires values { All (λ k. IsNoteValue k.value) kinds.now }
+    requires kinds { AreNoteKinds kinds.now }
     requires amount { (1 ≤ amount) × (amount ≤ 1000000) }
     ensures { IsAnswer kinds.now have.now currency amount result }
 {
@@ -94,8 +92,7 @@ fn least_in_steps(
     currency: Currency,
     amount: u32,
 ) -> Result<Counts, MixFault>
-    requires few { length kinds.now ≤ 8 }
-    requires values { All (λ k. IsNoteValue k.value) kinds.now }
+    requires kinds { AreNoteKinds kinds.now }
     requires amount { amount ≤ 1000000 }
     ensures { IsAnswer kinds.now have.now currency amount result }
 {
@@ -117,8 +114,7 @@ fn least_of_sixty(
     currency: Currency,
     amount: u32,
 ) -> Result<Option<Counts>, AllocError>
-    requires few { length kinds.now ≤ 8 }
-    requires values { All (λ k. IsNoteValue k.value) kinds.now }
+    requires kinds { AreNoteKinds kinds.now }
     requires amount { amount ≤ 1000000 }
     ensures { IfOk result (IsBestOfSixty kinds.now have.now currency amount) }
 {
@@ -166,8 +162,7 @@ fn best(
     currency: Currency,
     amount: u32,
 ) -> Result<Option<Counts>, AllocError>
-    requires few { length kinds.now ≤ 8 }
-    requires values { All (λ k. IsNoteValue k.value) kinds.now }
+    requires kinds { AreNoteKinds kinds.now }
     requires amount { amount ≤ 1000000 }
     ensures { IfOk result (IsBestMix kinds.now have.now currency amount) }
 {
@@ -218,9 +213,7 @@ fn add_notes(
     u: usize,
     n: u32,
 )
-    requires unit { (u < length kinds.now) × (length kinds.now ≤ 8) }
-    requires eight { length limits.old.0 ≡ 8 }
-    requires of { IfSome (slice_get kinds.now u) (λ k. (bytes_eq k.currency currency ≡ true) × IsNoteValue k.value) }
+    requires unit { IsUnitOf currency kinds.now limits.old u }
     requires notes { (0 < n) × (n ≤ at limits.old u + 1) × (at limits.old u + n < 2 ^ 32) }
     requires table { IsTable kinds.now limits.old currency table.old }
     ensures table { IsTable kinds.now limits.new currency table.new }
@@ -246,9 +239,7 @@ fn add_unit(
     u: usize,
     count: u32,
 )
-    requires unit { (u < length kinds.now) × (length kinds.now ≤ 8) }
-    requires eight { length limits.old.0 ≡ 8 }
-    requires of { IfSome (slice_get kinds.now u) (λ k. (bytes_eq k.currency currency ≡ true) × IsNoteValue k.value) }
+    requires unit { IsUnitOf currency kinds.now limits.old u }
     requires none { at limits.old u ≡ 0 }
     requires table { IsTable kinds.now limits.old currency table.old }
     ensures table { IsTable kinds.now limits.new currency table.new }
@@ -269,8 +260,7 @@ fn add_all(
     currency: Currency,
     have: &Counts,
 ) -> Counts
-    requires few { length kinds.now ≤ 8 }
-    requires values { All (λ k. IsNoteValue k.value) kinds.now }
+    requires kinds { AreNoteKinds kinds.now }
     requires table { IsTable kinds.now none_yet currency table.old }
     ensures table { IsTable kinds.now result currency table.new }
     ensures same { length table.new ≡ length table.old }

@@ -1,10 +1,8 @@
 //! Which amounts counts of notes make up, however many notes they are.
 
-ghost use Rattle.std.specs.Prelude.{◌≡◌, ◌≤◌, ◌<◌, ◌-◌, ℕ, IfOk, IfSome, length, All, slice_get, Some, None, true, ◌∷◌, replicate};
-ghost use Rattle.std.specs.Str.{bytes_eq};
+ghost use Rattle.std.specs.Prelude.{◌≡◌, ◌≤◌, ◌<◌, ◌-◌, ℕ, IfOk, length, Some, None, ◌∷◌, replicate};
 ghost use Rattle.xfs_base.specs.Counts.{at};
-ghost use Rattle.xfs_base.specs.Values.{IsNoteValue};
-ghost use Rattle.xfs_mix.specs.Mix.{IsRaised, none_yet, usable};
+ghost use Rattle.xfs_mix.specs.Mix.{AreNoteKinds, IsUnitOf, IsRaised, none_yet, usable};
 ghost use Rattle.xfs_mix.specs.Reach.{IsReached, IsReachTable, least_use};
 
 use std::alloc::{AllocError, Global};
@@ -19,8 +17,7 @@ pub(crate) fn is_reached(
     currency: Currency,
     amount: u32,
 ) -> Result<bool, AllocError>
-    requires few { length kinds.now ≤ 8 }
-    requires values { All (λ k. IsNoteValue k.value) kinds.now }
+    requires kinds { AreNoteKinds kinds.now }
     requires amount { amount ≤ 1000000 }
     ensures { IfOk result (IsReached kinds.now have.now currency amount) }
 {
@@ -53,8 +50,7 @@ fn use_all(
     currency: Currency,
     have: &Counts,
 ) -> Counts
-    requires few { length kinds.now ≤ 8 }
-    requires values { All (λ k. IsNoteValue k.value) kinds.now }
+    requires kinds { AreNoteKinds kinds.now }
     requires table { IsReachTable kinds.now none_yet currency used.old }
     ensures table { IsReachTable kinds.now result currency used.new }
     ensures same { length used.new ≡ length used.old }
@@ -79,9 +75,7 @@ fn use_unit(
     u: usize,
     count: u32,
 )
-    requires unit { (u < length kinds.now) × (length kinds.now ≤ 8) }
-    requires eight { length limits.old.0 ≡ 8 }
-    requires of { IfSome (slice_get kinds.now u) (λ k. (bytes_eq k.currency currency ≡ true) × IsNoteValue k.value) }
+    requires unit { IsUnitOf currency kinds.now limits.old u }
     requires none { at limits.old u ≡ 0 }
     requires table { IsReachTable kinds.now limits.old currency used.old }
     ensures table { IsReachTable kinds.now limits.new currency used.new }

@@ -17,12 +17,12 @@ use Rattle.xfs_dispenser.specs.declared.grant.Grant.{Grant}
 use Rattle.xfs_dispenser.specs.declared.notes.Notes.{Notes}
 use Rattle.xfs_dispenser.specs.declared.plan.Plan.{Plan}
 use Rattle.xfs_dispenser.specs.declared.refusal.Refusal.{Refusal}
-use Rattle.xfs_dispenser.proofs.BeginLaws.{bound-same, granted-notes}
+use Rattle.xfs_dispenser.proofs.BeginLaws.{bound-same, granted-notes, same-plan}
 use Rattle.xfs_envelope.specs.declared.code.Code.TheVariants.{Canceled, TimeOut}
 use Rattle.xfs_guard.specs.View.{View}
 use Rattle.xfs_guard.specs.declared.ask.Ask.TheVariants as asked
 use Rattle.xfs_guard.specs.declared.open.Open.TheVariants.{No}
-use Rattle.xfs_queue.specs.Commands.{is_at, is_ready, is_running, is_waiting}
+use Rattle.xfs_queue.specs.Commands.{is_at, is_running, is_waiting}
 use Rattle.xfs_queue.specs.declared.command.Command.{Command}
 use Rattle.xfs_queue.specs.declared.command.Stage.{Stage}
 use Rattle.xfs_queue.specs.declared.command.Stage.TheVariants.{Waiting, Running, Ready}
@@ -39,7 +39,7 @@ use Rattle.xfs_model.proofs.Changes.{each}
 use Rattle.xfs_model.proofs.Moving.{Pays, Presents, pays_on, pays_rests, planned_present, presents_on, presents_rests, begun_pays}
 use Rattle.xfs_model.proofs.Resting.{rests_same}
 use Rattle.xfs_model.proofs.Sounds.{sound_kept, waits_unready, runs_unready}
-use Rattle.xfs_model.proofs.StillPlanned.{StillWorks, same_plan, unless_planned}
+use Rattle.xfs_model.proofs.StillPlanned.{StillWorks, unless_planned}
 use Rattle.xfs_model.proofs.Succeeding.{IsNoSuccess, begins_at_once, nonce_at_once}
 use Rattle.xfs_model.proofs.Turns.{Turn, accepted, at_event, begun, heard, late, marks, misasked, nonce, seen_at, stays, stopped_running, stopped_waiting, turns, worked}
 
@@ -75,7 +75,7 @@ dispense_under s exchange notes token next plan none d = grant d.grant refl d.st
 
     grant : (r : Result Grant Refusal) → d.grant ≡ r → StartsWith r (λ (l : Grant). planned (dispense_plan l.issue l.counts)) (planned plan) → Pays s.guard next.guard notes plan
     grant (Err r) e t = (let f = t.is in cc)
-    grant (Ok l) e t = rw (same_plan plan (dispense_plan l.issue l.counts) t) (checked d.checked l refl (rw e at d.permits) (rw e at d.eight))
+    grant (Ok l) e t = rw (same-plan plan (dispense_plan l.issue l.counts) t) (checked d.checked l refl (rw e at d.permits) (rw e at d.eight))
 
 begun_under : (s : Seen) (exchange : Bool) (ask : CashAsk) (next : Seen) (after : Bool) (plan : Plan) → s.guard.open_order ≡ No → Begins s exchange ask next after (planned plan) → Under s.guard next.guard (cash ask) (Some plan)
 begun_under s exchange (Dispense notes token) next after plan none is = dispense_under s exchange notes token next plan none is.1

@@ -12,11 +12,9 @@ use Rattle.xfs_dispenser.specs.Seen.{Seen}
 use Rattle.xfs_dispenser.specs.Steps.{Works}
 use Rattle.xfs_dispenser.specs.declared.ask.CashAsk.{CashAsk}
 use Rattle.xfs_dispenser.specs.declared.plan.Plan.{Plan}
-use Rattle.xfs_dispenser.proofs.WorkLaws.{work-planned}
+use Rattle.xfs_dispenser.proofs.WorkLaws.{work-planned, unread-closed}
 use Rattle.xfs_guard.specs.Booting.{IsNotReread, IsRereadFailed}
-use Rattle.xfs_guard.specs.View.{View, unbooted, unread}
-use Rattle.xfs_journal.specs.JournalView.{IsPossible}
-use Rattle.xfs_journal.specs.declared.record.Rec.{Rec}
+use Rattle.xfs_guard.specs.View.{View, unread}
 use Rattle.xfs_guard.specs.declared.open.Open.TheVariants.{No}
 use Rattle.xfs_queue.specs.declared.command.Command.{Command}
 use Rattle.xfs_queue.specs.declared.command.Stage.{Stage}
@@ -208,14 +206,10 @@ sound_bare seen life boot none = record {
     standing : IsStanding (bare seen life boot)
     standing = bare_stands seen life boot none
 
-unread_closed : (v now : View) → (now ≡ unread v) ⊎ ((records : List Rec) × IsPossible v.records v.in_doubt records × (now ≡ unbooted v records)) → now.open_order ≡ No
-unread_closed v now (inl e) = ap (λ (w : View). w.open_order) e
-unread_closed v now (inr e) = ap (λ (w : View). w.open_order) e.2
-
 -- what a refused restore leaves has no order open
 pub unrestored_closed : (old new : Seen) → IsUnrestored old new → new.guard.open_order ≡ No
 unrestored_closed old new (inl f) = ap (λ (v : View). v.open_order) f.becomes.guard_is
-unrestored_closed old new (inr (inl u)) = ap (λ (v : View). v.open_order) u.fails.becomes.guard_is ∙ unread_closed old.guard u.now u.is
+unrestored_closed old new (inr (inl u)) = ap (λ (v : View). v.open_order) u.fails.becomes.guard_is ∙ unread-closed old.guard u.now u.is
 unrestored_closed old new (inr (inr u)) = ap (λ (v : View). v.open_order) u.becomes.guard_is
 
 unstarted_closed : (v now : View) → IsNotReread v now ⊎ IsRereadFailed true v now → now.open_order ≡ No

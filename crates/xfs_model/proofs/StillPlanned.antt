@@ -13,7 +13,7 @@ use Rattle.xfs_dispenser.specs.declared.part.Part.{Part}
 use Rattle.xfs_dispenser.specs.declared.part.Part.TheVariants.{Order, Restore}
 use Rattle.xfs_dispenser.specs.declared.plan.Plan.{Plan}
 use Rattle.xfs_dispenser.specs.declared.refusal.Refusal.{Refusal}
-use Rattle.xfs_dispenser.proofs.BeginLaws.{bound-same, dispense-planned, storage-planned}
+use Rattle.xfs_dispenser.proofs.BeginLaws.{bound-same, dispense-planned, storage-planned, answer-plan, same-plan}
 use Rattle.xfs_dispenser.proofs.StepLaws.{planned-still, same-room, taken-room}
 use Rattle.xfs_guard.specs.View.{View}
 use Rattle.xfs_guard.specs.declared.ask.Ask.{Ask as Asked}
@@ -65,25 +65,18 @@ taken_still old new moved false is = record {
   places = rests_taken old.guard.places new.guard.places moved (is.reported.reported.moves refl).reached;
 }
 
--- a plan is no answer
-answer_plan : (answer : CashAnswer) (plan : Plan) → planned plan ≡ told answer → ⊥
-answer_plan answer plan e = cc
-
-pub same_plan : (a b : Plan) → planned a ≡ planned b → a ≡ b
-same_plan a b e = cc
-
 unless_told : (o : Option Refusal) (answer : CashAnswer) (plan : Plan) → StartsUnless o (told answer) (planned plan) → ⊥
-unless_told None answer plan is = answer_plan answer plan is
-unless_told (Some r) answer plan is = answer_plan is.answer plan is.is
+unless_told None answer plan is = answer-plan answer plan is
+unless_told (Some r) answer plan is = answer-plan is.answer plan is.is
 
 with_told : {T : Type 0} (result : Result T Refusal) (answer : T → CashAnswer) (plan : Plan) → StartsWith result (λ x. told (answer x)) (planned plan) → ⊥
-with_told (Ok x) answer plan is = answer_plan (answer x) plan is
-with_told (Err r) answer plan is = answer_plan is.answer plan is.is
+with_told (Ok x) answer plan is = answer-plan (answer x) plan is
+with_told (Err r) answer plan is = answer-plan is.answer plan is.is
 
 -- the plan is the one that is started
 pub unless_planned : (o : Option Refusal) (a b : Plan) → StartsUnless o (planned a) (planned b) → b ≡ a
-unless_planned None a b is = same_plan b a is
-unless_planned (Some r) a b is = absurd (answer_plan is.answer b is.is)
+unless_planned None a b is = same-plan b a is
+unless_planned (Some r) a b is = absurd (answer-plan is.answer b is.is)
 
 -- a plan of one part
 one_part : (v : View) (part : Part) (plan : Plan) → plan.parts.items ≡ part ∷ [] → v.open_order ≡ No → CanBeginAll v (part ∷ []) → plan.notes ≡ None → IsPlanned v plan

@@ -1,6 +1,6 @@
 -- What each change of the machine adds to a connection's conversation.
-use Rattle.std.proofs.Common.{◌≡◌, ℕ, ◌==◌, ◌&&◌, Bool, true, false, List, [], ◌∷◌, ◌++◌, Some, map, find, Contains, refl, ap, sym, ◌∙◌, inl, inr, append_assoc}
-use Rattle.std.proofs.lemmas.Bool.{cases_Bool, and_parts, eqb-true, eq-eqb, ne_eqb, cases_eq, false≢true}
+use Rattle.std.proofs.Common.{◌≡◌, ℕ, ◌==◌, Bool, true, false, List, [], ◌∷◌, ◌++◌, Some, map, find, Contains, refl, ap, sym, inl, inr, append_assoc}
+use Rattle.std.proofs.lemmas.Bool.{cases_Bool, and_parts, eqb-true}
 use Rattle.std.proofs.lemmas.List.{append-nil}
 use Rattle.serde_json.specs.Data.{Data}
 use Rattle.xfs_base.specs.declared.moment.ClientId.{ClientId}
@@ -21,6 +21,7 @@ use Rattle.xfs_model.proofs.Lists.{find-map, found_passes, IfSome-map, IfSome-sa
 use Rattle.xfs_model.proofs.Pendings.{pending_found, pending_without_mine, pending_without_other}
 use Rattle.xfs_model.proofs.Queues.{queue_here, queue_same, queue_there, with_same_queue}
 use Rattle.xfs_model.proofs.Changes.{rest_of}
+use Rattle.xfs_conversation.proofs.Once.{other_way}
 
 pub client_with_mail : (b : Bool) (frames : List (List ℕ)) (k : Connection) → (with_mail b frames k).client ≡ k.client
 client_with_mail true frames k = refl
@@ -95,12 +96,6 @@ pub heard_completion : (mine : ClientId) (p : Command Job → Bool) (q : List (C
 heard_completion mine p q a found y code payload frame is ts fs h =
     let says : Says (pending_in mine q) (reply_in frame) (without_id a.id (pending_in mine q)) = rw is.reads_back (completed (job_pending a) code payload (pending_found mine p q a found y)) in
     rw (pending_without_mine mine (ticket_of a) (eqb-true _ _ y) q) (heard h frame says)
-
-pub other_way : (a b : ℕ) (c : Bool) → (a == b) ≡ c → (b == a) ≡ c
-other_way a b c e = elim (cases_eq a b) [
-  | inl same ↦ eq-eqb b a (sym same) ∙ sym (eq-eqb a b same) ∙ e
-  | inr differ ↦ ne_eqb b a (λ same. differ (sym same)) ∙ sym (ne_eqb a b differ) ∙ e
-]
 
 addressed : (service : Service) (a : Command Job) (k : Connection) → is_at service a.client k ≡ true → is_of k.client a ≡ true
 addressed service a k y = other_way k.client.0 a.client.0 true ((and_parts _ _ y).1)

@@ -16,6 +16,7 @@ use Rattle.xfs_script.specs.declared.answerer.Ending.TheVariants as End
 use Rattle.xfs_script.specs.declared.line.Line.{Line}
 use Rattle.xfs_script.specs.declared.line.LineFault.TheVariants.{Read, Quota, TooLong}
 use Rattle.xfs_script.proofs.LineLaws.{ahead-some, told, answer-line, answer-long, answer-none, read-limit}
+use Rattle.std.proofs.KnownBytes.{Appends-nil, Appends-trans}
 
 -- how so many lines of a text were read, answered and written
 pub record HasAnswered {S E : Type 0} (c : Command S E) (start state : S) (r : Reading) (now old new : Option (List ℕ)) (text : List ℕ) : Type 0 where
@@ -79,20 +80,10 @@ lines-answered A L is_line s t (suc n) text output e =
       | inr past ↦ (let same : i ≡ n = omega (arith, lt, past) in rw same (is_line last.middle t (first_line (behind n text)) last.answer last.answered))
     ]
 
-pub Appends-none : (x : Option (List ℕ)) → Appends x x []
-Appends-none None = tt
-Appends-none (Some a) = sym (append-nil a)
-
-pub Appends-both : (x y z : Option (List ℕ)) (a b : List ℕ) → Appends x y a → Appends y z b → Appends x z (a ++ b)
-Appends-both None y z a b p q = tt
-Appends-both (Some v) None z a b p q = absurd p
-Appends-both (Some v) (Some w) None a b p q = absurd q
-Appends-both (Some v) (Some w) (Some u) a b p q = q ∙ (ap (λ t. t ++ b) p ∙ append_assoc v a b)
-
 -- nothing is written at first
 pub answered-start : {S E : Type 0} (c : Command S E) (s : S) (r : Reading) (x w : Option (List ℕ)) → r ≡ nothing_read → IfTold x (HasAnswered c s s r x w w)
 answered-start c s r None w is = tt
-answered-start c s r (Some text) w is = rw is (record { output = []; each = (refl, refl); ahead = refl; written = Appends-none w })
+answered-start c s r (Some text) w is = rw is (record { output = []; each = (refl, refl); ahead = refl; written = Appends-nil w })
 
 -- one more line
 pub answered-line : {S E : Type 0} {faults now : ℕ} (c : Command S E) (start state next : S) (r s : Reading) (x y z old new newer : Option (List ℕ)) (line : Line)
@@ -109,7 +100,7 @@ answered-line c start state next r s (Some text) y z old new newer line h reads 
       output = h.output ++ says.output;
       each = rw (reads.handed, add-one) pushed;
       ahead = rw (reads.handed, add-one, ← a.2) rest-is;
-      written = rw (lines_text-append h.output says.output) (Appends-both old new newer (lines_text h.output) (lines_text says.output) h.written says.written);
+      written = rw (lines_text-append h.output says.output) (Appends-trans old new newer (lines_text h.output) (lines_text says.output) h.written says.written);
     }
 
 -- the lines that were answered, and how the run ends behind them
@@ -121,7 +112,7 @@ ends-behind c ending start state end r y z old new newer text taken h more ends 
   last = state;
   each = h.each;
   taken = taken;
-  written = Appends-both old new newer (lines_text h.output) taken h.written more;
+  written = Appends-trans old new newer (lines_text h.output) taken h.written more;
   ends = ends;
 }
 
@@ -132,7 +123,7 @@ answered-end c start state r s None y z old new h reads = tt
 answered-end c start state r s (Some text) y z old new h reads =
     let a = ahead-some r y (behind r.handed text) h.ahead in
     let whole = sym a.2 ∙ answer-none r a.0 (told _ y a.0 a.1 reads.answer) in
-    ends-behind c End.AtEnd start state state r y z old new new text [] h (Appends-none new) (whole, record { same = refl; none = refl })
+    ends-behind c End.AtEnd start state state r y z old new new text [] h (Appends-nil new) (whole, record { same = refl; none = refl })
 
 -- what ends a run at a line ends it behind the lines before that
 at-line : {S E : Type 0} (c : Command S E) (ending : Ending E) (many : ℕ) (text : List ℕ) (left : Option (List ℕ)) (last end : S) (taken : List ℕ)
@@ -161,14 +152,14 @@ pub answered-read : {S E : Type 0} (c : Command S E) (start state : S) (r s : Re
     → IfTold x (HasAnswered c start state r y old new) → ReadsLine r s y z (Err Read) → IfTold x (AnswersInput c End.Read start state z old new)
 answered-read c start state r s None y z old new h reads = tt
 answered-read c start state r s (Some text) y z old new h reads =
-    ends-behind c End.Read start state state r y z old new new text [] h (Appends-none new) (read-limit r s y z r.handed text Read h.ahead reads (inl refl), record { same = refl; none = refl })
+    ends-behind c End.Read start state state r y z old new new text [] h (Appends-nil new) (read-limit r s y z r.handed text Read h.ahead reads (inl refl), record { same = refl; none = refl })
 
 -- the source gave as many bytes as may be read
 pub answered-quota : {S E : Type 0} (c : Command S E) (start state : S) (r s : Reading) (x y z old new : Option (List ℕ))
     → IfTold x (HasAnswered c start state r y old new) → ReadsLine r s y z (Err Quota) → IfTold x (AnswersInput c End.Quota start state z old new)
 answered-quota c start state r s None y z old new h reads = tt
 answered-quota c start state r s (Some text) y z old new h reads =
-    ends-behind c End.Quota start state state r y z old new new text [] h (Appends-none new) (read-limit r s y z r.handed text Quota h.ahead reads (inr refl), record { same = refl; none = refl })
+    ends-behind c End.Quota start state state r y z old new new text [] h (Appends-nil new) (read-limit r s y z r.handed text Quota h.ahead reads (inr refl), record { same = refl; none = refl })
 
 -- a line is too long
 pub answered-long : {S E : Type 0} (c : Command S E) (start state : S) (r s : Reading) (x y z old new : Option (List ℕ)) (n : ℕ) → ((line : List ℕ) → c.IsLine line → length line ≤ 70000)
@@ -178,14 +169,14 @@ answered-long c start state r s (Some text) y z old new n short h reads =
     let a = ahead-some r y (behind r.handed text) h.ahead in
     let long = answer-long r a.0 n (told _ y a.0 a.1 reads.answer) in
     let none : ¬ (c.IsLine (first_line (behind r.handed text))) = λ line. (let l = rw a.2 at long in let e = short _ line in omega (arith, l, e)) in
-    ends-behind c (End.NotALine n) start state state r y z old new new text [] h (Appends-none new) (reads.number, none, record { same = refl; none = refl })
+    ends-behind c (End.NotALine n) start state state r y z old new new text [] h (Appends-nil new) (reads.number, none, record { same = refl; none = refl })
 
 -- memory ran out, and nothing is left of the next line
 pub answered-memory : {S E : Type 0} (c : Command S E) (start state : S) (r : Reading) (x y z old new : Option (List ℕ)) → ((s : S) (line : List ℕ) → c.Leaves s line s)
     → IfTold x (HasAnswered c start state r y old new) → IfTold x (AnswersInput c End.Memory start state z old new)
 answered-memory c start state r None y z old new same h = tt
 answered-memory c start state r (Some text) y z old new same h =
-    ends-behind c End.Memory start state state r y z old new new text [] h (Appends-none new) (same state (first_line (behind r.handed text)), refl)
+    ends-behind c End.Memory start state state r y z old new new text [] h (Appends-nil new) (same state (first_line (behind r.handed text)), refl)
 
 -- a text that was answered to its end is of lines alone
 pub all-lines : {S E : Type 0} (c : Command S E) (is_line : (s next : S) (line : List ℕ) (output : List (List ℕ)) → c.Answers s line output next → c.IsLine line) (ending : Ending E) (start end : S) (x left before after : Option (List ℕ))

@@ -10,6 +10,7 @@ use Rattle.xfs_script.specs.Lines.{line_end}
 use Rattle.xfs_script.specs.Reading.{Reading, Grows, Drops, GivesBehind}
 use Rattle.xfs_script.proofs.Ends.{line_end-append}
 use borrow.Rule.Slice.PartMut.{put_mid, post_of}
+use Rattle.std.proofs.KnownBytes.{Consumes-nil, Consumes-trans}
 
 -- the front of a block whose first bytes are dropped
 pub skipped : (items : List ℕ) (start end count : ℕ) → start + count ≤ end → take (end - (start + count)) (drop (start + count) items) ≡ drop count (take (end - start) (drop start items))
@@ -38,23 +39,13 @@ Consumes-none None y h = tt
 Consumes-none (Some a) None h = h
 Consumes-none (Some a) (Some b) h = sym h
 
-pub Consumes-same : (x : Option (List ℕ)) → Consumes x x []
-Consumes-same None = tt
-Consumes-same (Some a) = refl
-
-pub Consumes-append : (x y z : Option (List ℕ)) (bs cs : List ℕ) → Consumes x y bs → Consumes y z cs → Consumes x z (bs ++ cs)
-Consumes-append None y z bs cs p q = tt
-Consumes-append (Some a) None z bs cs p q = absurd p
-Consumes-append (Some a) (Some b) None bs cs p q = absurd q
-Consumes-append (Some a) (Some b) (Some c) bs cs p q = p ∙ (ap (λ xs. bs ++ xs) q ∙ sym (append_assoc bs cs c))
-
 pub Grows-same : (r : Reading) (x : Option (List ℕ)) → Grows r r x x
 Grows-same r x = record {
   bytes = [];
   pending = sym (append-nil r.pending);
   given = omega arith;
   handed = refl;
-  taken = Consumes-same x;
+  taken = Consumes-nil x;
 }
 
 pub Grows-trans : (r s t : Reading) (x y z : Option (List ℕ)) → Grows r s x y → Grows s t y z → Grows r t x z
@@ -63,7 +54,7 @@ Grows-trans r s t x y z p q = record {
   pending = q.pending ∙ (ap (λ xs. xs ++ q.bytes) p.pending ∙ append_assoc r.pending p.bytes q.bytes);
   given = omega (arith, p.given, q.given, length-append p.bytes q.bytes);
   handed = q.handed ∙ p.handed;
-  taken = Consumes-append x y z p.bytes q.bytes p.taken q.taken;
+  taken = Consumes-trans x y z p.bytes q.bytes p.taken q.taken;
 }
 
 -- what a source gave is nothing where the count stays
@@ -78,7 +69,7 @@ Drops-none r s x none cleared =
       no_end = rw (append-nil r.pending) none;
       given = omega (arith, ap (λ k. k.given) cleared, ap length empty);
       handed = ap (λ k. k.handed) cleared;
-      taken = rw empty (Consumes-same x);
+      taken = rw empty (Consumes-nil x);
     }
 
 -- nothing is kept, and the source gives more
@@ -91,7 +82,7 @@ Drops-more r s u x y z p empty q =
       no_end = p.no_end;
       given = omega (arith, p.given, q.given, ap length kept, ap length empty);
       handed = q.handed ∙ p.handed;
-      taken = rw kept (Consumes-append x y z p.bytes q.bytes (rw before at p.taken) q.taken);
+      taken = rw kept (Consumes-trans x y z p.bytes q.bytes (rw before at p.taken) q.taken);
     }
 
 -- what is kept without a line feed is dropped too

@@ -15,8 +15,8 @@ use Rattle.xfs_script.specs.declared.line.Line.{Line}
 use Rattle.xfs_script.specs.declared.line.LineFault.{LineFault}
 use Rattle.xfs_script.specs.declared.line.LineFault.TheVariants.{Read, Quota, TooLong, Memory}
 use Rattle.xfs_script.proofs.Ends.{line_end-le, line_end-append, line_end-append_found}
-use Rattle.xfs_script.proofs.Blocks.{Consumes-append}
 use Rattle.xfs_script.proofs.Due.{Due, told_map, within_grown, within_dropped, ahead_is, has_feed, no_feed, due_first, due_quota, due_last, due_none}
+use Rattle.std.proofs.KnownBytes.{Consumes-trans}
 
 line_fits : (k : ℕ) (l : List ℕ) → nat_le (length l) 70000 ≡ true → line_answer k l ≡ Ok (Some (record { number = k; text = l }))
 line_fits k l fits = cond-true (nat_le (length l) 70000) _ _ fits
@@ -317,7 +317,7 @@ refused_read r s u x y z g d low bound long fault is = record {
   gives = record {
     bytes = g.bytes ++ (d.bytes ++ u.pending);
     given = omega (arith, g.given, d.given, length-append g.bytes (d.bytes ++ u.pending), length-append d.bytes u.pending);
-    taken = Consumes-append x y z g.bytes (d.bytes ++ u.pending) g.taken d.taken;
+    taken = Consumes-trans x y z g.bytes (d.bytes ++ u.pending) g.taken d.taken;
   };
   answer = refused_all r s u x y z g d low bound long fault is;
   rest = tt;

@@ -8,10 +8,10 @@ use Rattle.std.specs.declared.result.Result.{Result}
 use Rattle.xfs_base.specs.Causes.{HasCause, TookPrefix}
 use Rattle.xfs_base.specs.declared.faults.WriteFault.{WriteFault}
 use Rattle.xfs_script.specs.Answered.{lines_text}
-use Rattle.xfs_script.proofs.AnswerLaws.{Appends-both, Appends-none}
 use Rattle.std.specs.declared.option.Option.{Option}
 use Rattle.xfs_script.specs.LastLines.{WritesLast}
 use Rattle.xfs_script.specs.Streams.{Output}
+use Rattle.std.proofs.KnownBytes.{Appends-nil, Appends-trans}
 
 -- last lines that were written are so over a longer time
 pub last-later : (lines : List (List ℕ)) (first : ℕ) (o : Output) → first ≤ o.faults → WritesLast lines o → WritesLast lines (record o { faults = first })
@@ -20,13 +20,13 @@ last-later lines first o later (inr broken) = inr ((let rose = broken.0 in omega
 
 -- no last line is written by nothing
 pub last-none : (faults : ℕ) (held : Option (List ℕ)) → WritesLast [] (record { faults = faults; faults_now = faults; held = held; held_now = held })
-last-none faults held = inl (Appends-none held)
+last-none faults held = inl (Appends-nil held)
 
 -- a prefix of what stands behind bytes that were taken
 pub prefix-behind : (x y z : Option (List ℕ)) (a b : List ℕ) → Appends x y a → TookPrefix y z b → TookPrefix x z (a ++ b)
 prefix-behind x y z a b whole prefix = record {
   many = length a + prefix.many;
-  taken = rw (take-append-add a b prefix.many) (Appends-both x y z a (take prefix.many b) whole prefix.taken);
+  taken = rw (take-append-add a b prefix.many) (Appends-trans x y z a (take prefix.many b) whole prefix.taken);
 }
 
 -- a prefix of bytes is one of these and more

@@ -14,13 +14,13 @@ use Rattle.xfs_script.specs.Answer.{answer_of, line_answer, bytes_within, bytes_
 use Rattle.xfs_script.specs.declared.line.Line.{Line}
 use Rattle.xfs_script.specs.declared.line.LineFault.{LineFault}
 use Rattle.xfs_script.specs.declared.line.LineFault.TheVariants.{Quota, TooLong}
-use Rattle.xfs_script.proofs.Blocks.{Consumes-append, Consumes-same}
+use Rattle.std.proofs.KnownBytes.{Consumes-nil, Consumes-trans}
 
 pub Gives-trans : (r s t : Reading) (x y z : Option (List ℕ)) → Gives r s x y → Gives s t y z → Gives r t x z
 Gives-trans r s t x y z a b = record {
   bytes = a.bytes ++ b.bytes;
   given = let e = length-append a.bytes b.bytes in omega (arith, a.given, b.given, e);
-  taken = Consumes-append x y z a.bytes b.bytes a.taken b.taken;
+  taken = Consumes-trans x y z a.bytes b.bytes a.taken b.taken;
 }
 
 -- the due answer on three tests
@@ -141,7 +141,7 @@ read-quota s t x y z g reads =
 
 -- nothing is read at first
 pub Gives-start : (r : Reading) (x : Option (List ℕ)) → r ≡ nothing_read → Gives nothing_read r x x
-Gives-start r x is = rw is (record { bytes = []; given = refl; taken = Consumes-same x })
+Gives-start r x is = rw is (record { bytes = []; given = refl; taken = Consumes-nil x })
 
 -- where the reading is cut off, no line ends before the bytes that are left
 pub read-limit : (r s : Reading) (y z : Option (List ℕ)) (many : ℕ) (text : List ℕ) (fault : LineFault) → bytes_ahead r y ≡ Some (behind many text) → ReadsLine r s y z (Err fault) → IsCutOff (Err fault) → IfTold z (NoLineEnds many text)

@@ -106,7 +106,7 @@ zeros_all : (n : ℕ) → list_all is_upper_hex (replicate n 48) ≡ true
 zeros_all zero = refl
 zeros_all (suc n) = zeros_all n
 
-length-zeros : (n : ℕ) → length {A = ℕ} (replicate n 48) ≡ n
+pub length-zeros : (n : ℕ) → length {A = ℕ} (replicate n 48) ≡ n
 length-zeros zero = refl
 length-zeros (suc n) = ap suc (length-zeros n)
 

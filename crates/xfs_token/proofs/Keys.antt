@@ -9,10 +9,7 @@ use Rattle.std.proofs.lemmas.Slice.Eq.{bytes_eq-Decides}
 use Rattle.xfs_token.specs.Token.{is_key, is_key_byte, is_letter, is_free_key, is_reserved, has_key}
 use Rattle.xfs_token.specs.Reading.{Stops, IsStuck, Tail}
 use Rattle.xfs_token.proofs.Stuck.{both_ways, stuck_now, same_run, no_longer, no_stop}
-use Rattle.xfs_token.proofs.Tails.{FirstFails, KeyFront, key_front, key_is_free, value_into, comma_into, some_tail, ending}
-
-key_bytes : (key : List ℕ) → is_key key ≡ true → list_all is_key_byte key ≡ true
-key_bytes key h = (and_parts (nat_le 1 (length key) && nat_le (length key) 32 && is_letter (slice_index key 0)) (list_all is_key_byte key) h).1
+use Rattle.xfs_token.proofs.Tails.{FirstFails, KeyFront, key_front, key_is_free, value_into, comma_into, some_tail, ending, key_bytes}
 
 -- the parts of a key of the grammar
 record KeyParts (key : List ℕ) : Type 0 where

@@ -14,6 +14,7 @@ use Rattle.xfs_token.proofs.Tails.{FirstFails, some_tail, ending}
 use Rattle.xfs_token.proofs.Front.{some_length, number_from, number_of_digits}
 use Rattle.xfs_token.proofs.AmountText.{digit_is}
 use Rattle.xfs_token.proofs.Runs.{Run, byte_behind, other_first}
+use Rattle.xfs_token.proofs.HexText.{length-zeros}
 
 -- the number of four digits in a list
 abbrev pub number_in : List ℕ → ℕ
@@ -41,10 +42,6 @@ all_four n = and_from _ _ (digit_is (n / 1000 % 10) (omega arith)) (and_from _ _
 all-zeros : (n : ℕ) → list_all is_digit (replicate n 48) ≡ true
 all-zeros zero = refl
 all-zeros (suc n) = all-zeros n
-
-length-zeros : (n : ℕ) → length {A = ℕ} (replicate n 48) ≡ n
-length-zeros zero = refl
-length-zeros (suc n) = ap suc (length-zeros n)
 
 stuck_few : (ds rest : List ℕ) → length ds < 4 → list_all is_digit ds ≡ true → FirstFails is_digit rest → IsStuck LengthThen (ds ++ rest) (length rest)
 stuck_few ds rest few h fails =

@@ -25,7 +25,7 @@ pair-chain v0 v1 v2 v3 v4 v5 x3 x4 x5 whole part letters k h1 h2 h3 h4 h5 e3 e4 
     order : (v0 whole part letters : List ℕ) → v0 ++ codes ",DISPENSE" ++ (48 + k) ∷ 61 ∷ [] ++ whole ++ part ++ letters ≡ v0 ++ (codes "," ++ dispense_key k ++ codes "=" ++ (whole ++ part ++ letters))
     order v0 whole part letters = simp append_assoc
 
-drop_at : {X : Type 0} (xs : List X) (i : ℕ) (x : X) → slice_get xs i ≡ Some x → drop i xs ≡ x ∷ drop (i + 1) xs
+pub drop_at : {X : Type 0} (xs : List X) (i : ℕ) (x : X) → slice_get xs i ≡ Some x → drop i xs ≡ x ∷ drop (i + 1) xs
 drop_at [] i x h = absurd (cc)
 drop_at (y ∷ ys) zero x h = cc
 drop_at (y ∷ ys) (suc i) x h = let e : suc i + 1 ≡ suc (i + 1) = omega arith in rw e (drop_at ys i x h)

@@ -1,10 +1,9 @@
 -- A frame that was sent to one connection and taken back.
-use Rattle.std.proofs.Common.{◌≡◌, ℕ, ◌<◌, ◌-◌, ◌&&◌, Bool, true, false, cond, List, [], ◌∷◌, ◌++◌, length, get_or, map, set, position, Some, None, AllPairs, refl, sym, ◌∙◌, ap, inl, inr, arith, length-append}
-use Rattle.std.proofs.lemmas.Bool.{and_parts, cases_Bool, eqb-true, ne_eqb}
-use Rattle.std.proofs.Math.Seq.{take-append_seam}
+use Rattle.std.proofs.Common.{◌≡◌, ℕ, ◌<◌, ◌-◌, cond, List, [], ◌∷◌, get_or, map, set, position, Some, None, AllPairs, refl, sym, ◌∙◌, ap, inl, inr}
+use Rattle.std.proofs.lemmas.Bool.{cases_Bool}
 use Rattle.xfs_base.specs.declared.moment.ClientId.{ClientId}
 use Rattle.xfs_base.specs.declared.moment.Service.{Service}
-use Rattle.xfs_model.specs.Connections.{is_at, is_client, is_service, with_mail}
+use Rattle.xfs_model.specs.Connections.{is_at, with_mail}
 use Rattle.xfs_model.specs.State.{Connection}
 use Rattle.xfs_traffic.specs.TakenBack.{all_but_last}
 use Rattle.xfs_traffic.proofs.Announced.{all_but_last_push}

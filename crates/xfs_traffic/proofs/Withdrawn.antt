@@ -1,7 +1,7 @@
 -- A command that was taken in and taken out again leaves the queues as they were.
 use Rattle.std.proofs.Common.{◌≡◌, true, false, List, [], ◌∷◌, ◌++◌, refl, ap}
 use Rattle.std.specs.List.{list_any}
-use Rattle.std.proofs.lemmas.Bool.{or_parts, or_right, eq-eqb}
+use Rattle.std.proofs.lemmas.Bool.{or_parts, or_right}
 use Rattle.xfs_base.specs.declared.moment.Service.{Service}
 use Rattle.xfs_base.specs.declared.moment.Service.TheVariants.{Publisher, Cash, Card, Keys}
 use Rattle.xfs_queue.specs.declared.command.Command.{Command}

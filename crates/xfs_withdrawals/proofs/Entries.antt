@@ -12,7 +12,7 @@ use Rattle.xfs_dispenser.specs.declared.plan.Plan.{Plan}
 use Rattle.xfs_dispenser.proofs.TurnLaws.{calm-rest, follows-later, rose-within, turns-later, works-later, written-kind}
 use Rattle.xfs_guard.specs.View.{View}
 use Rattle.xfs_guard.specs.declared.ask.Ask.TheVariants as Ask
-use Rattle.xfs_guard.specs.declared.open.Open.TheVariants.{No, Written, Acted}
+use Rattle.xfs_guard.specs.declared.open.Open.TheVariants.{No, Acted}
 use Rattle.xfs_guard.proofs.RecordLaws.{length-pushed}
 use Rattle.xfs_mech.specs.Mechanism.{AddsEntry}
 use Rattle.xfs_mech.specs.declared.motion.Motion.{Motion}

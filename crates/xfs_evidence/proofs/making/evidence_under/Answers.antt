@@ -1,10 +1,10 @@
-use Rattle.std.proofs.Common.{◌≡◌, ◌∙◌, ◌+◌, ◌-◌, ◌++◌, ℕ, List, Option, Bool, ◌||◌, true, false, None, Some, refl, sym, ap, ap₂, drop, take, get_or}
+use Rattle.std.proofs.Common.{◌≡◌, ◌∙◌, ◌+◌, ◌-◌, ◌++◌, ℕ, List, Option, true, false, None, Some, refl, sym, ap, ap₂, drop, take, get_or}
 use Rattle.std.specs.Option.{option_map}
 use Rattle.std.specs.List.{before_first}
 use Rattle.xfs_journal.specs.declared.record.Rec.{Rec}
 use Rattle.xfs_journal.specs.Journal.{is_mark, is_issue}
 use Rattle.xfs_guard.specs.Presented.{presented_in}
-use Rattle.xfs_guard.proofs.SegmentLaws.{has_issue-append, behind_issue-append, issue_of-append}
+use Rattle.xfs_guard.proofs.SegmentLaws.{has_issue-append, behind_issue-append, issue_of-append, or-true}
 use Rattle.xfs_guard.specs.Segment.{has_issue, last_issue, segment, carried}
 use Rattle.xfs_evidence.specs.Evidence.{evidence_refusal, open_order, first_open}
 use Rattle.xfs_evidence.specs.declared.faults.EvidenceFault.TheVariants.{Unsettled}
@@ -19,10 +19,6 @@ segment-is records behind seg place some at cut front = front ∙ ap (before_fir
 -- whether there is an order without a Done
 refusal-is : (base : ℕ) (records : List Rec) (o : Option ℕ) → has_issue records ≡ true → open_order base records ≡ o → evidence_refusal base records ≡ option_map (λ number. Unsettled number) o
 refusal-is base records o some found = rw (some, found) refl
-
-or-true : (b : Bool) → b || true ≡ true
-or-true true = refl
-or-true false = refl
 
 -- the record at the place
 here : (records front : List Rec) (place : ℕ) (d : Rec) → d ≡ get_or front (place - 1) d → front ≡ take place records → place ≡ last_issue records → d ≡ get_or (take (last_issue records) records) (last_issue records - 1) d

@@ -10,9 +10,9 @@ pub loop-a-preserved : goal.loop-a-preserved
 loop-a-preserved c =
     let ks = c.args.kinds.now in
     let kind = get_or ks c.args.u c.index-kinds-u.result in
-    let stands = slice_get-get_or ks c.args.u c.index-kinds-u.result c.requires.unit.0 in
-    let facts = rw stands at c.requires.of in
-    let in_limits : c.args.u < length c.args.limits.now.0 = omega (arith, c.requires.eight, c.requires.unit) in
+    let stands = slice_get-get_or ks c.args.u c.index-kinds-u.result c.requires.unit.unit.0 in
+    let facts = rw stands at c.requires.unit.of in
+    let in_limits : c.args.u < length c.args.limits.now.0 = omega (arith, c.requires.unit.eight, c.requires.unit.unit) in
     let new = with_more c.args.limits.now c.args.u c.args.n in
     let more : IsMore ks c.args.currency c.args.u c.args.n kind.value c.args.limits.now new = record {
       kind = kind;
@@ -33,9 +33,9 @@ pub returns-clause-table : goal.returns-clause-table
 returns-clause-table c =
     let ks = c.args.kinds.now in
     let kind = get_or ks c.args.u c.index-kinds-u.result in
-    let stands = slice_get-get_or ks c.args.u c.index-kinds-u.result c.requires.unit.0 in
-    let facts = rw stands at c.requires.of in
-    let in_limits : c.args.u < length c.args.limits.now.0 = omega (arith, c.requires.eight, c.requires.unit) in
+    let stands = slice_get-get_or ks c.args.u c.index-kinds-u.result c.requires.unit.unit.0 in
+    let facts = rw stands at c.requires.unit.of in
+    let in_limits : c.args.u < length c.args.limits.now.0 = omega (arith, c.requires.unit.eight, c.requires.unit.unit) in
     let new = with_more c.args.limits.now c.args.u c.args.n in
     let more : IsMore ks c.args.currency c.args.u c.args.n kind.value c.args.limits.now new = record {
       kind = kind;

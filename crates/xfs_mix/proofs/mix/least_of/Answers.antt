@@ -1,4 +1,5 @@
 use Rattle.std.proofs.Common.{◌≡◌, ◌<◌, ◌%◌, ◌∙◌, arith}
+use Rattle.std.proofs.lemmas.List.{length-map}
 use Rattle.std.specs.Prelude.{map}
 use Rattle.xfs_mix.specs.Steps.{in_steps}
 use Rattle.xfs_mix.proofs.StepLaws.{values_in_steps, no_mix_between, no_mix_without, answer_of_steps}
@@ -14,10 +15,10 @@ returns-then-step-eq0 c = λ m is. elim c.then-step-eq0.branch [
       no_mix_between c.step_of-step.result c.args.currency c.args.kinds.now c.args.have.now c.args.amount m c.step_of-step.ensures.multiples (λ even. omega (arith, even, w.if-amount-step-ne0)) is
 ]
 
-pub least_in_steps-requires-clause-values : goal.least_in_steps-requires-clause-values
-least_in_steps-requires-clause-values c =
+pub least_in_steps-requires-clause-kinds : goal.least_in_steps-requires-clause-kinds
+least_in_steps-requires-clause-kinds c =
     let same : c.deref.result.now ≡ map (in_steps c.step_of-step.result c.args.currency) c.args.kinds.now = c.deref.ensures.value ∙ c.in_ok-kinds.ensures in
-    rw same (values_in_steps c.step_of-step.result c.args.currency c.args.kinds.now c.step_of-step.ensures.multiples c.requires.values)
+    rw same record { few = rw length-map c.requires.kinds.few; values = values_in_steps c.step_of-step.result c.args.currency c.args.kinds.now c.step_of-step.ensures.multiples c.requires.kinds.values }
 
 pub returns : goal.returns
 returns c =

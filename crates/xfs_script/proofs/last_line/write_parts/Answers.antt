@@ -1,6 +1,6 @@
 use Rattle.std.proofs.Common.{◌++◌, ◌∷◌, []}
-use Rattle.xfs_script.proofs.AnswerLaws.{Appends-both}
 use Rattle.xfs_script.proofs.LastLaws.{err-more, on-err, prefix-before, prefix-behind}
+use Rattle.std.proofs.KnownBytes.{Appends-trans}
 use Rattle.xfs_script.proofs.last_line.write_parts.Goals as goal
 
 pub returns-in_err-write_all-clause-err : goal.returns-in_err-write_all-clause-err
@@ -23,7 +23,7 @@ returns-in_err-write_all-3-clause-err g c =
     let first = c.args.first.now in
     let second = c.args.second.now in
     let third = c.args.third.now in
-    let both = Appends-both _ _ _ first second c.in_ok-write_all.ensures.ok c.in_ok-write_all-2.ensures.ok in
+    let both = Appends-trans _ _ _ first second c.in_ok-write_all.ensures.ok c.in_ok-write_all-2.ensures.ok in
     on-err _ _ (prefix-before _ _ (first ++ second ++ third) (10 ∷ []) (prefix-behind _ _ _ (first ++ second) third both c.in_err-write_all-3.ensures.err))
 
 pub returns-clause-err : goal.returns-clause-err
@@ -31,6 +31,6 @@ returns-clause-err g c =
     let first = c.args.first.now in
     let second = c.args.second.now in
     let third = c.args.third.now in
-    let both = Appends-both _ _ _ first second c.in_ok-write_all.ensures.ok c.in_ok-write_all-2.ensures.ok in
-    let all = Appends-both _ _ _ (first ++ second) third both c.in_ok-write_all-3.ensures.ok in
+    let both = Appends-trans _ _ _ first second c.in_ok-write_all.ensures.ok c.in_ok-write_all-2.ensures.ok in
+    let all = Appends-trans _ _ _ (first ++ second) third both c.in_ok-write_all-3.ensures.ok in
     err-more _ (λ prefix. prefix-behind _ _ _ (first ++ second ++ third) (10 ∷ []) all prefix) c.write_all-4.ensures.err

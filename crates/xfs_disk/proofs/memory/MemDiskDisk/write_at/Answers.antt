@@ -1,3 +1,4 @@
+use Rattle.std.proofs.Common.{rules}
 use Rattle.xfs_disk.specs.Steps.{history}
 use Rattle.xfs_disk.proofs.Outcomes.{by_outcome, both, wrote_since, write_time, write_images, write_sound}
 use Rattle.xfs_disk.proofs.memory.MemDiskDisk.write_at.Goals as goal
@@ -16,10 +17,9 @@ returns-clause-crash c =
     write_images m.bytes.items (history past m.steps.items) o.new.all.items (history past o.new.steps.items) c.args.at c.args.bytes.now c.requires.within
     (wrote_since past m.bytes.items m.steps.items o.new.all.items o.new.steps.items c.args.at c.args.bytes.now (by_outcome _ _ o.result (both _ _ o.result o.ensures.written o.ensures.noted) o.ensures.err))
 
-pub returns-clause-time : goal.returns-clause-time
-returns-clause-time c =
+pub returns-clause-acts : goal.returns-clause-acts
+returns-clause-acts c =
     let m = c.args.self.now in
     let o = c.overwrite in
     let past = m.settled.items in
-    write_time m.bytes.items (history past m.steps.items) o.new.all.items (history past o.new.steps.items) c.args.at c.args.bytes.now c.requires.within
-    (wrote_since past m.bytes.items m.steps.items o.new.all.items o.new.steps.items c.args.at c.args.bytes.now (by_outcome _ _ o.result (both _ _ o.result o.ensures.written o.ensures.noted) o.ensures.err))
+    record { time = write_time m.bytes.items (history past m.steps.items) o.new.all.items (history past o.new.steps.items) c.args.at c.args.bytes.now c.requires.within (wrote_since past m.bytes.items m.steps.items o.new.all.items o.new.steps.items c.args.at c.args.bytes.now (by_outcome _ _ o.result (both _ _ o.result o.ensures.written o.ensures.noted) o.ensures.err)); cause = search rules; unread = search rules; refused = search rules }

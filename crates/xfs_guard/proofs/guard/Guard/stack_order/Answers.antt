@@ -12,7 +12,7 @@ pub over_budget-requires : goal.over_budget-requires
 over_budget-requires g c =
     let fit = fit-at _ _ c.self.view_is c.requires.fit in
     let live = live-number c.self.inside.ledger.records c.in-Some.nonce (nonce-open c.self.inside.ledger.boot_missing c.self.inside.ledger.records c.in-Some.nonce fit.2 (sym c.in-Some.ensures)) in
-    record { open_still = (fit.0, fit.2); told = told-live _ live.0 (c.self.invariant.0.sound fit.0 fit.2) live.1 }
+    record { tells = record { open_still = (fit.0, fit.2); told = told-live _ live.0 (c.self.invariant.0.sound fit.0 fit.2) live.1 } }
 
 pub returns-then-places-from-clause-err : goal.returns-then-places-from-clause-err
 returns-then-places-from-clause-err g c =

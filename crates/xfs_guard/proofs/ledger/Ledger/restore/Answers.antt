@@ -2,11 +2,12 @@ use Rattle.std.proofs.Common.{arith, inl, inr, Err, ap, refl, rules, ◌∙◌}
 use Rattle.xfs_journal.specs.Journal.{boot_of}
 use Rattle.xfs_journal.proofs.StartLaws.{boot-ends, boot-issues_none, boot-marks, boot_of-places}
 use Rattle.xfs_guard.proofs.LedgerLaws.{boot_of-doubts, front-possible, longer-possible, IsRead-mark, KeepsLedger-read}
-use Rattle.xfs_guard.proofs.CrashedLaws.{begins-same, begins-push, IsTorn-missing, IsTorn-in_doubt}
+use Rattle.xfs_guard.proofs.CrashedLaws.{begins-push, IsTorn-missing, IsTorn-in_doubt}
 use Rattle.xfs_guard.proofs.PossibleLaws.{leaves-list, leaves-either}
 use Rattle.xfs_guard.proofs.RereadLaws.{reread-append}
 use Rattle.xfs_guard.proofs.RestoreLaws.{base_then-within}
 use Rattle.xfs_guard.proofs.TellableLaws.{tells-doubted, tells-missing, tells-restored}
+use Rattle.xfs_guard.proofs.LifeLaws.{begins-same}
 use Rattle.xfs_guard.proofs.ledger.Ledger.restore.Goals as goal
 
 pub invariant_of-self-in-Ok : goal.invariant_of-self-in-Ok

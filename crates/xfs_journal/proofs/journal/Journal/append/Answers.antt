@@ -32,12 +32,13 @@ invariant_of-self-then-is_err g c =
     rw (all, base) (record { end_is = m.end_is; far_is = far; led = m.led }) in
     (kept, c.write_record.ensures.in_doubt, unknown _, measured)
 
-pub push-requires-clause-few : goal.push-requires-clause-few
-push-requires-clause-few g c =
+pub push-requires : goal.push-requires
+push-requires g c =
     let j = c.self.inside in
     let all : c.prepare.new.recent.all ≡ j.recent.all = c.prepare.ensures.same.0 in
     let small : j.end < 2 ^ 64 = search rules in
-    omega (arith, ap length all, records-few j.recent.all, c.self.invariant.3.end_is, small)
+    let few : length c.prepare.new.recent.all + 1 < 2 ^ 64 = omega (arith, ap length all, records-few j.recent.all, c.self.invariant.3.end_is, small) in
+    record { fits = record { room = search rules; few = few } }
 
 pub invariant_of-self-2 : goal.invariant_of-self-2
 invariant_of-self-2 g c =
