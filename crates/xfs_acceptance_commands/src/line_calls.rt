@@ -4,7 +4,10 @@ use crate::tables::halves;
 use std::alloc::{AllocError, Global};
 use std::test::Fail;
 use xfs_base::{Counts, Failed, MemSource, Source};
-use xfs_script::{Given, GuardLine, LineFault, Lines, counts_text, read_guard};
+use xfs_script::{
+    FleetLine, Given, GuardLine, LineFault, Lines, ReplayLine, ScriptFault, counts_text,
+    read_fleet, read_guard,
+};
 
 /// Gives one byte a call.
 #[derive(Drop)]
@@ -173,4 +176,34 @@ fn counts_are_read_and_written(rt: HostRuntime) -> Result<(), Fail> {
     assert!(rt; told.as_str() == "unit1:5,unit4:20,unit8:4294967295");
     assert!(rt; counts(alloc, &Counts([0; 8]))?.as_str() == "none");
     Ok(())
+}
+
+// Lines of `fleet`, and whose they are.
+const OF_FLEET: &str = "a rest => a rests
+b rest => b rests
+b # one => b skips
+# one => skipped
+rest => no line
+arest => no line
+c rest => no line
+b  rest => no line";
+
+fn whose(alloc: Global, text: &str) -> &'static str {
+    match &read_fleet(alloc, text.as_bytes()) {
+        Ok(FleetLine::Skip) => "skipped",
+        Ok(FleetLine::A(ReplayLine::Rest)) => "a rests",
+        Ok(FleetLine::B(ReplayLine::Rest)) => "b rests",
+        Ok(FleetLine::B(ReplayLine::Skip)) => "b skips",
+        Ok(_) => "another line",
+        Err(ScriptFault::NotALine) => "no line",
+        Err(ScriptFault::Memory) => "no memory",
+    }
+}
+
+#[test]
+fn a_line_of_fleet_is_of_the_machine_with_its_letter(rt: HostRuntime) {
+    for row in OF_FLEET.lines() {
+        let (line, due) = halves(row);
+        assert!(rt; whose(rt.alloc(), line) == due, "{line}");
+    }
 }

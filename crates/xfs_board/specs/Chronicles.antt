@@ -19,7 +19,7 @@ at_opening machine = record { start = guard_of machine; machine = machine }
 abbrev pub chronicle : {M D : Type 0} → Shared D → List (Entry M D)
 chronicle s = Began s.start ∷ map Written (drop s.start.state.base s.machine.state.seen.guard.records)
 
--- as many records stand in front of those in memory as when the lock was opened
+-- the records in front of those in memory are as many as when the lock was opened
 abbrev pub HasBase : {D : Type 0} → GuardView D → MachineView D → Type 0
 HasBase start m = m.state.seen.guard.base ≡ start.state.base
 

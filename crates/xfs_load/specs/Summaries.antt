@@ -21,11 +21,11 @@ presented_after units p r = record { ordered = false; worth = p.worth }
 abbrev pub presented_euros : List NoteKind → List Rec → ℕ
 presented_euros units records = (fold (presented_after units) (record { ordered = false; worth = 0 }) records).worth
 
--- the records behind so many
+-- the summary of rounds, with those that were refused and the records that were written
 abbrev pub summary_of : ℕ → ℕ → List NoteKind → List Rec → Summary
 summary_of rounds refused units written = record { rounds = rounds; presented = presented_euros units written / 1000; refused = refused; records = length written }
 
--- so many rounds are played from a boot on, and summed up of what the client heard and of the records from the boot record on
+-- rounds are played from a boot on, and summed up of what the client heard and of the records from the boot record on
 pub record IsSummary (key : List ℕ) (rounds : ℕ) (s new : State) (summary : Summary) : Type 0 where
   pub client : Client
   pub plays : PlaysRounds key rounds s client new

@@ -29,7 +29,7 @@ abbrev pub token_member : Option (List ℕ) → List ℕ
 token_member None = []
 token_member (Some token) = codes ",\"token\":\"" ++ token ++ codes "\""
 
--- so many whole EUR, in as few notes as can be
+-- an amount of whole EUR, in as few notes as can be
 abbrev pub dispense_payload : ℕ → Option (List ℕ) → List ℕ
 dispense_payload amount token = codes "{\"denomination\":{\"currencies\":{\"EUR\":" ++ decimal amount ++ codes "}},\"mix\":\"minimum\"" ++ token_member token ++ codes "}"
 

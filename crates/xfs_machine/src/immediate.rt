@@ -15,9 +15,9 @@ ghost use Rattle.xfs_common.specs.declared.error.ErrorCode.TheVariants.{NoMatchi
 ghost use Rattle.xfs_model.specs.Immediate.{ids_of, told_of};
 ghost use Rattle.xfs_model.specs.Results.{error, plain, success};
 ghost use Rattle.xfs_envelope.specs.declared.code.Code.TheVariants.{InvalidCommand};
-ghost use Rattle.xfs_machine.specs.Immediate.{Completes, is_told};
+ghost use Rattle.xfs_machine.specs.Immediate.{Completes, CompletesBy, is_told};
 ghost use Rattle.xfs_units.specs.Payloads.{storage_payload};
-ghost use Rattle.xfs_model.specs.State.{Outcome as OutcomeView, State};
+ghost use Rattle.xfs_model.specs.State.{State};
 ghost use Rattle.xfs_queue.specs.Commands.{names};
 ghost use Rattle.xfs_queue.specs.Queue.{is_named};
 
@@ -102,8 +102,7 @@ fn send_both(
     command: &Envelope,
     last: Bytes,
 ) -> Result<(), Memory>
-    ensures ok { OnOk result ((o : OutcomeView) → Completes (said command.now) o last
-        → IsCompleted sender (said command.now) o connections.old connections.new) }
+    ensures ok { OnOk result (CompletesBy sender (said command.now) last connections.old connections.new) }
     ensures err { OnErr result (connections.new ≡ connections.old) }
 {
     let reply = acceptance_reply(alloc, command)?;

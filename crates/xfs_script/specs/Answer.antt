@@ -3,7 +3,7 @@ use Rattle.std.specs.Prelude.{◌≡◌, ℕ, ◌+◌, ◌-◌, ◌<◌, ◌≤�
 use Rattle.std.specs.declared.result.Result.{Result}
 use Rattle.std.specs.declared.option.Option.{Option}
 use Rattle.std.specs.Io.KnownBytes.{prepend_known, IsAtEnd}
-use Rattle.xfs_base.specs.Causes.{IfTold}
+use Rattle.xfs_base.specs.Causes.{IfTold, Rose}
 use Rattle.xfs_script.specs.Lines.{has_line_feed, first_line, rest, without_return}
 use Rattle.xfs_script.specs.Reading.{Reading, Gives, line_off}
 use Rattle.xfs_script.specs.declared.line.Line.{Line}
@@ -90,3 +90,8 @@ pub record KeepsLine (old new : Reading) (before after : Option (List ℕ)) (end
   pub within : end ≤ length new.pending
   pub some : 0 < length new.pending
   pub ahead : IfTold before (λ left. bytes_ahead new after ≡ Some (old.pending ++ left))
+
+-- the source's count of faults didn't fall, and rose where it failed to give bytes of a line
+pub record HasReadCause {T : Type 0} (before now : ℕ) (result : Result T LineFault) : Type 0 where
+  pub later : before ≤ now
+  pub failed : result ≡ Err Read → Rose before now

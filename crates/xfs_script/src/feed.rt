@@ -4,7 +4,7 @@ ghost use Rattle.xfs_base.specs.Causes.{HasCause, Rose};
 ghost use Rattle.xfs_script.specs.Lines.{line_end, without_return};
 ghost use Rattle.xfs_script.specs.Reading.{nothing_read, line_off, Grows, Drops, GivesBehind};
 ghost use Rattle.xfs_script.specs.Found.{IsFound, IsOpen, IsPassed, IsRefusal};
-ghost use Rattle.xfs_script.specs.Answer.{ReadsLine, KeepsLine, IsDueAnswer, line_answer, line_found, past_line};
+ghost use Rattle.xfs_script.specs.Answer.{HasReadCause, ReadsLine, KeepsLine, IsDueAnswer, line_answer, line_found, past_line};
 ghost use Rattle.xfs_script.specs.declared.feed.TheConstants.{LONGEST, QUOTA};
 ghost use Rattle.xfs_script.specs.declared.line.LineFault.TheVariants as LineFault;
 
@@ -168,8 +168,7 @@ impl Feed {
     ) -> Result<Option<usize>, LineFault>
         ensures reads { ReadsLine self.old (past_line self.new result) (S.left source.old) (S.left source.new) (line_found self.new result) }
         ensures kept { IfOk result (λ found. IfSome found (KeepsLine self.old self.new (S.left source.old) (S.left source.new))) }
-        ensures later { S.faults source.old ≤ S.faults source.new }
-        ensures cause { result ≡ Err LineFault.Read → Rose (S.faults source.old) (S.faults source.new) }
+        ensures cause { HasReadCause (S.faults source.old) (S.faults source.new) result }
     {
         match self.seek(source) {
             Ok(Found::Feed(place)) => self.measure(place),
@@ -229,8 +228,7 @@ impl Feed {
         source: &mut S,
     ) -> Result<Option<Line>, LineFault>
         ensures reads { ReadsLine self.old self.new (S.left source.old) (S.left source.new) result }
-        ensures later { S.faults source.old ≤ S.faults source.new }
-        ensures cause { result ≡ Err LineFault.Read → Rose (S.faults source.old) (S.faults source.new) }
+        ensures cause { HasReadCause (S.faults source.old) (S.faults source.new) result }
     {
         let Some(end) = self.find_line(source)? else {
             return Ok(None);

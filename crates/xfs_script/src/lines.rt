@@ -1,8 +1,6 @@
-ghost use Rattle.std.specs.Prelude.{◌≡◌, ◌≤◌, Err};
-ghost use Rattle.xfs_base.specs.Causes.{Rose};
+ghost use Rattle.std.specs.Prelude.{◌≡◌};
 ghost use Rattle.xfs_script.specs.Reading.{nothing_read};
-ghost use Rattle.xfs_script.specs.Answer.{ReadsLine};
-ghost use Rattle.xfs_script.specs.declared.line.LineFault.TheVariants as LineFault;
+ghost use Rattle.xfs_script.specs.Answer.{HasReadCause, ReadsLine};
 
 use crate::feed::Feed;
 use crate::line::{Line, LineFault};
@@ -40,8 +38,7 @@ impl Lines {
     /// of what the source gave is left that a line feed ends.
     pub fn next<S: Source>(&mut self, source: &mut S) -> Result<Option<Line>, LineFault>
         ensures reads { ReadsLine self.old self.new (S.left source.old) (S.left source.new) result }
-        ensures later { S.faults source.old ≤ S.faults source.new }
-        ensures cause { result ≡ Err LineFault.Read → Rose (S.faults source.old) (S.faults source.new) }
+        ensures cause { HasReadCause (S.faults source.old) (S.faults source.new) result }
     {
         if self.feed.is_none() {
             match Feed::new(self.alloc) {

@@ -1,5 +1,6 @@
 -- One withdrawal over a link that was dialled for it: the texts that the link handed over, the asks that it sent, and how it ended.
-use Rattle.std.specs.Prelude.{◌≡◌, ◌<◌, ℕ, List, [], ◌∷◌, ◌++◌, codes, Bool, true, false, Option, None, Some}
+use Rattle.std.specs.Prelude.{◌≡◌, ◌<◌, ℕ, List, [], ◌∷◌, ◌++◌, codes, Bool, true, false, Option, None, Some, IfErr, OnOk}
+use Rattle.std.specs.declared.result.Result.{Result}
 use Rattle.xfs_base.specs.Causes.{IfTold}
 use Rattle.xfs_envelope.specs.Fields.{empty}
 use Rattle.xfs_client.specs.Commands.{command_text}
@@ -116,3 +117,9 @@ pub record HasTaken (w : Withdrawing) (quiets : ℕ) (text : List ℕ) (l : Link
   pub has_asks : HasAsked w.terms texts asks
   pub tells : LinkTells l None (texts ++ text ∷ []) asks
   pub count : l.quiets ≡ quiets
+
+-- a step over the link leaves the withdrawal under way, or ends it; its terms stay
+pub record EndsOrGoesOn {T : Type 0} (old new : Withdrawing) (quiets : ℕ) (result : Result T Ending) (l : LinkLog) : Type 0 where
+  pub goes_on : OnOk result (IsUnderWay new quiets l)
+  pub ends : IfErr result (λ ending. Withdraws old.terms ending l)
+  pub terms : new.terms ≡ old.terms

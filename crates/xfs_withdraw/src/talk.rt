@@ -1,7 +1,7 @@
-ghost use Rattle.std.specs.Prelude.{◌≡◌, [], OnOk, IfErr};
+ghost use Rattle.std.specs.Prelude.{[]};
 ghost use Rattle.xfs_client.specs.Desks.{Recalls};
 ghost use Rattle.xfs_server.specs.Links.{IsFresh};
-ghost use Rattle.xfs_withdraw.specs.Talks.{IsUnderWay, HasTaken, Withdraws};
+ghost use Rattle.xfs_withdraw.specs.Talks.{EndsOrGoesOn, IsUnderWay, HasTaken, Withdraws};
 
 use crate::Ending;
 use std::sync::Wait;
@@ -34,9 +34,7 @@ pub fn talk<R: Wait, L: Link, C: Clock>(
 fn begin<L: Link>(withdrawal: &mut Withdrawal, link: &mut L) -> Result<(), Ending>
     requires desk { Recalls withdrawal.old.desk [] }
     requires link { IsFresh (L.log link.old) }
-    ensures ok { OnOk result (IsUnderWay withdrawal.new 0 (L.log link.new)) }
-    ensures err { IfErr result (λ ending. Withdraws withdrawal.old.terms ending (L.log link.new)) }
-    ensures terms { withdrawal.new.terms ≡ withdrawal.old.terms }
+    ensures { EndsOrGoesOn withdrawal.old withdrawal.new 0 result (L.log link.new) }
 {
     let ask = withdrawal.start()?;
     link.give(&ask)?;
@@ -70,9 +68,7 @@ fn turn<L: Link, C: Clock>(
     clock: &C,
 ) -> Result<(), Ending>
     requires { IsUnderWay withdrawal.old quiets.old (L.log link.old) }
-    ensures ok { OnOk result (IsUnderWay withdrawal.new quiets.new (L.log link.new)) }
-    ensures err { IfErr result (λ ending. Withdraws withdrawal.old.terms ending (L.log link.new)) }
-    ensures terms { withdrawal.new.terms ≡ withdrawal.old.terms }
+    ensures { EndsOrGoesOn withdrawal.old withdrawal.new quiets.new result (L.log link.new) }
 {
     match link.take() {
         Taking::Text(text) => hear(withdrawal, *quiets, link, &text),
@@ -98,9 +94,7 @@ fn hear<L: Link>(
     text: &Bytes,
 ) -> Result<(), Ending>
     requires { HasTaken withdrawal.old quiets text.now (L.log link.old) }
-    ensures ok { OnOk result (IsUnderWay withdrawal.new quiets (L.log link.new)) }
-    ensures err { IfErr result (λ ending. Withdraws withdrawal.old.terms ending (L.log link.new)) }
-    ensures terms { withdrawal.new.terms ≡ withdrawal.old.terms }
+    ensures { EndsOrGoesOn withdrawal.old withdrawal.new quiets result (L.log link.new) }
 {
     match withdrawal.next(text.list())? {
         Move::Ask(ask) => {

@@ -48,7 +48,7 @@ loop-preserved g c =
     let found : Line = record { number = c.find_line.new.self.handed + 1; text = without_return (take c.in-Ok-Some.end c.find_line.new.self.pending) } in
     record {
       keeps = g.met.A.Answerer.keeps_then _ _ _ c.loop.invariant.keeps c.in-Ok-answer_line.ensures.keeps;
-      source_later = omega (arith, c.loop.invariant.source_later, c.find_line.ensures.later);
+      source_later = omega (arith, c.loop.invariant.source_later, c.find_line.ensures.cause.later);
       sink_later = omega (arith, c.loop.invariant.sink_later, c.answer_line.ensures.later);
       gives = rw c.pass.ensures (Gives-trans _ _ _ _ _ _ c.loop.invariant.gives (rw c.in-Ok-Some.field-0-is at c.in-Ok-Some.ensures.reads).gives);
       answered = rw c.pass.ensures (answered-line g.A.Answerer.command _ _ _ _ _ _ _ _ _ _ _ found c.loop.invariant.answered (rw c.in-Ok-Some.field-0-is at c.in-Ok-Some.ensures.reads) (rw c.line.ensures at c.in-Ok-answer_line.ensures.ok));
