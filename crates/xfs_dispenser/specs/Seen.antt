@@ -2,7 +2,9 @@
 use Rattle.std.specs.Prelude.{◌≡◌, ◌≤◌, ℕ, Bool, true}
 use Rattle.xfs_base.specs.Causes.{Rose}
 use Rattle.xfs_disk.specs.declared.disk.Disk.{Ghosts}
+use Rattle.xfs_guard.specs.Keeps.{Proceeds}
 use Rattle.xfs_guard.specs.View.{View, GuardView}
+use Rattle.xfs_guard.specs.declared.open.Open.TheVariants.{No}
 
 -- a guard, and how often its disk failed
 pub record Seen : Type 0 where
@@ -28,3 +30,8 @@ pub record MechCalled (old : Seen) (failed : Bool) (new : Seen) : Type 0 where
   pub later : old.guard.faults ≤ new.guard.faults
   pub cause : failed ≡ true → Rose old.guard.faults new.guard.faults
   pub disk_same : new.disk_faults ≡ old.disk_faults
+
+-- the guard went on, and no order is open then
+pub record LeavesNoOrder {D : Type 0} (g : Ghosts D) (old new : GuardView D) : Type 0 where
+  pub proceeds : Proceeds g old new
+  pub none : new.state.open_order ≡ No

@@ -1,13 +1,12 @@
 //! How an order is carried out at once, and how notes are stacked by one order a unit.
 
 ghost use Rattle.std.specs.Prelude.{◌≡◌, ◌≢◌, Err, IfErr, IsTrue, drop, length};
-ghost use Rattle.xfs_guard.specs.Keeps.{Proceeds};
 ghost use Rattle.xfs_guard.specs.Refusals.{Answers, IsAsk};
 ghost use Rattle.xfs_guard.specs.declared.deny.Deny.TheVariants.{Memory as NoMemory};
 ghost use Rattle.xfs_guard.specs.declared.open.Open.TheVariants.{No};
 ghost use Rattle.xfs_mix.specs.Asked.{is_none};
 ghost use Rattle.xfs_dispenser.specs.Carried.{CarriesOut, StacksAll, StacksFirst};
-ghost use Rattle.xfs_dispenser.specs.Seen.{seen};
+ghost use Rattle.xfs_dispenser.specs.Seen.{seen, LeavesNoOrder};
 ghost use Rattle.xfs_dispenser.specs.Steps.{refusal_of};
 
 use xfs_base::Counts;
@@ -23,8 +22,7 @@ pub fn carry_out<M: Mechanism, D: Disk>(guard: &mut Guard<M, D>, ask: Ask) -> Re
     ensures carried { result ≢ Err NoMemory → CarriesOut (seen D.Disk guard.old) ask result (seen D.Disk guard.new) }
     ensures refused { Answers result (refusal_of guard.old.state ask) }
     ensures same { IfErr result (λ e. e ≢ Deny.Disk → guard.new ≡ guard.old) }
-    ensures none { guard.new.state.open_order ≡ No }
-    ensures proceeds { Proceeds D.Disk guard.old guard.new }
+    ensures leaves { LeavesNoOrder D.Disk guard.old guard.new }
 {
     guard.order(ask)?;
     let outcome = guard.act();
@@ -43,8 +41,7 @@ pub fn stack_all<M: Mechanism, D: Disk>(
     requires few { IsTrue (is_none (drop (length guard.old.state.units) counts.now.0)) }
     ensures stacked { result ≢ Err NoMemory → StacksAll issue counts.now (seen D.Disk guard.old) result (seen D.Disk guard.new) }
     ensures memory { result ≡ Err NoMemory → StacksFirst issue counts.now.0 (seen D.Disk guard.old) (seen D.Disk guard.new) }
-    ensures none { guard.new.state.open_order ≡ No }
-    ensures proceeds { Proceeds D.Disk guard.old guard.new }
+    ensures leaves { LeavesNoOrder D.Disk guard.old guard.new }
 {
     let mut all = Outcome {
         moved: Counts([0; 8]),

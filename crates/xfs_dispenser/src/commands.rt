@@ -2,7 +2,7 @@
 
 ghost use Rattle.std.specs.Prelude.{◌≡◌, ◌≢◌, ◌↔◌, true, false, Ok, Err, IfOk, IfSome, OnErr, None, IsTrue};
 ghost use Rattle.std.specs.Option.{option_map};
-ghost use Rattle.xfs_guard.specs.Keeps.{Keeps, NoEntry, Proceeds};
+ghost use Rattle.xfs_guard.specs.Keeps.{Keeps, NoEntry};
 ghost use Rattle.xfs_guard.specs.Upheld.{IsUpheld};
 ghost use Rattle.xfs_guard.specs.declared.deny.Deny.TheVariants.{Disk};
 ghost use Rattle.xfs_guard.specs.declared.open.Open.TheVariants.{No};
@@ -14,7 +14,7 @@ ghost use Rattle.xfs_dispenser.specs.Begins.{Begins, EndsExchange, UnitsHaveRoom
 ghost use Rattle.xfs_dispenser.specs.Checks.{active_refusal, inactive_refusal};
 ghost use Rattle.xfs_dispenser.specs.Denominations.{Denominates};
 ghost use Rattle.xfs_dispenser.specs.Plans.{IsPlanned};
-ghost use Rattle.xfs_dispenser.specs.Seen.{seen};
+ghost use Rattle.xfs_dispenser.specs.Seen.{seen, LeavesNoOrder};
 ghost use Rattle.xfs_dispenser.specs.declared.begun.Begun.TheVariants as Begun;
 ghost use Rattle.xfs_dispenser.specs.declared.plan.Plan.{Plan};
 ghost use Rattle.xfs_dispenser.specs.declared.refusal.Refusal.TheVariants as Refusal;
@@ -50,8 +50,7 @@ pub fn begin<M: Mechanism, D: Disk>(
     ensures planned { (plan : Plan) → result ≡ Ok (Begun.Plan plan) → IsPlanned guard.new.state plan }
     ensures payload { IfOk result (λ b. IfSome (start_payload (start_of b)) IsPayload) }
     ensures memory { OnErr result ((guard.new ≡ guard.old) × (exchange.new ≡ exchange.old)) }
-    ensures none { guard.new.state.open_order ≡ No }
-    ensures proceeds { Proceeds D.Disk guard.old guard.new }
+    ensures leaves { LeavesNoOrder D.Disk guard.old guard.new }
     ensures keeps { IsUpheld D.Disk guard.old → Keeps D.Disk NoEntry guard.old guard.new }
 {
     match ask {
@@ -189,8 +188,7 @@ fn dispense<M: Mechanism, D: Disk>(
     requires { guard.old.state.open_order ≡ No }
     ensures dispensed { IfOk result (λ b. IsDispensed (seen D.Disk guard.old) exchange notes.now token.now (seen D.Disk guard.new) (start_of b)) }
     ensures memory { OnErr result (guard.new ≡ guard.old) }
-    ensures none { guard.new.state.open_order ≡ No }
-    ensures proceeds { Proceeds D.Disk guard.old guard.new }
+    ensures leaves { LeavesNoOrder D.Disk guard.old guard.new }
     ensures keeps { IsUpheld D.Disk guard.old → Keeps D.Disk NoEntry guard.old guard.new }
 {
     if let Some(refusal) = members_refusal(notes) {

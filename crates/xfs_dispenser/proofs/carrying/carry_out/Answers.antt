@@ -1,4 +1,4 @@
-use Rattle.std.proofs.Common.{inr, ap}
+use Rattle.std.proofs.Common.{inr, ap, rules}
 use Rattle.xfs_guard.proofs.KeepsLaws.{Proceeds-trans}
 use Rattle.xfs_dispenser.specs.Seen.{seen}
 use Rattle.xfs_dispenser.proofs.CarryLaws.{carried-err, stopped-order}
@@ -33,9 +33,12 @@ returns-in_err-settle-clause-carried g c = λ some.
       }),
     ))
 
-pub returns-in_err-settle-clause-proceeds : goal.returns-in_err-settle-clause-proceeds
-returns-in_err-settle-clause-proceeds g c =
-    Proceeds-trans g.D.Disk _ _ _ g.met.D.Disk.counts_now c.in_ok-order.ensures.writes.keeps.proceeds (Proceeds-trans g.D.Disk _ _ _ g.met.D.Disk.counts_now c.act-outcome.ensures.uses.keeps.proceeds c.in_err-settle.ensures.keeps.proceeds)
+pub returns-in_err-settle-clause-leaves : goal.returns-in_err-settle-clause-leaves
+returns-in_err-settle-clause-leaves g c = record {
+  proceeds =
+      Proceeds-trans g.D.Disk _ _ _ g.met.D.Disk.counts_now c.in_ok-order.ensures.writes.keeps.proceeds (Proceeds-trans g.D.Disk _ _ _ g.met.D.Disk.counts_now c.act-outcome.ensures.uses.keeps.proceeds c.in_err-settle.ensures.keeps.proceeds);
+  none = search rules;
+}
 
 pub returns-clause-carried : goal.returns-clause-carried
 returns-clause-carried g c = λ some.
@@ -56,6 +59,9 @@ returns-clause-carried g c = λ some.
       },
     )
 
-pub returns-clause-proceeds : goal.returns-clause-proceeds
-returns-clause-proceeds g c =
-    Proceeds-trans g.D.Disk _ _ _ g.met.D.Disk.counts_now c.in_ok-order.ensures.writes.keeps.proceeds (Proceeds-trans g.D.Disk _ _ _ g.met.D.Disk.counts_now c.act-outcome.ensures.uses.keeps.proceeds c.in_ok-settle.ensures.keeps.proceeds)
+pub returns-clause-leaves : goal.returns-clause-leaves
+returns-clause-leaves g c = record {
+  proceeds =
+      Proceeds-trans g.D.Disk _ _ _ g.met.D.Disk.counts_now c.in_ok-order.ensures.writes.keeps.proceeds (Proceeds-trans g.D.Disk _ _ _ g.met.D.Disk.counts_now c.act-outcome.ensures.uses.keeps.proceeds c.in_ok-settle.ensures.keeps.proceeds);
+  none = search rules;
+}

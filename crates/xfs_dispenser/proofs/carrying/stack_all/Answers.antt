@@ -1,4 +1,4 @@
-use Rattle.std.proofs.Common.{◌≡◌, Ok, ap, arith, drop, length, refl, subst, sym}
+use Rattle.std.proofs.Common.{◌≡◌, Ok, ap, arith, drop, length, refl, subst, sym, rules}
 use Rattle.std.specs.Prelude.{IsTrue}
 use Rattle.xfs_mix.specs.Asked.{is_none}
 use Rattle.xfs_guard.proofs.KeepsLaws.{Proceeds-same, Proceeds-trans}
@@ -21,21 +21,21 @@ returns-in_err-outcome-clause-stacked g c = λ some.
     c.loop-place.invariant.onward c.from_residual.result _
     (stacks-stop _ _ _ _ _ _ _ c.carry_out.result c.from_residual.result c.in_err-outcome.field-0.0 c.from-at.ensures c.if-count-eq0.false c.in_err-outcome.was c.from_residual.ensures.1 some c.carry_out.ensures.carried)
 
-pub returns-in_err-outcome-clause-proceeds : goal.returns-in_err-outcome-clause-proceeds
-returns-in_err-outcome-clause-proceeds g c = Proceeds-trans g.D.Disk _ _ _ g.met.D.Disk.counts_now c.loop-place.invariant.proceeds c.carry_out.ensures.proceeds
+pub returns-in_err-outcome-clause-leaves : goal.returns-in_err-outcome-clause-leaves
+returns-in_err-outcome-clause-leaves g c = record { proceeds = Proceeds-trans g.D.Disk _ _ _ g.met.D.Disk.counts_now c.loop-place.invariant.proceeds c.carry_out.ensures.leaves.proceeds; none = search rules }
 
 pub returns-then-all-clause-stacked : goal.returns-then-all-clause-stacked
 returns-then-all-clause-stacked g c = λ some.
     c.loop-place.invariant.onward _ _
     (stacks-over _ _ _ _ _ c.in_ok-outcome.outcome _ _ c.from-at.ensures c.if-count-eq0.false (c.in_ok-outcome.ensures.carried (λ e. cc)) c.if-all.true)
 
-pub returns-then-all-clause-proceeds : goal.returns-then-all-clause-proceeds
-returns-then-all-clause-proceeds g c = Proceeds-trans g.D.Disk _ _ _ g.met.D.Disk.counts_now c.loop-place.invariant.proceeds c.carry_out.ensures.proceeds
+pub returns-then-all-clause-leaves : goal.returns-then-all-clause-leaves
+returns-then-all-clause-leaves g c = record { proceeds = Proceeds-trans g.D.Disk _ _ _ g.met.D.Disk.counts_now c.loop-place.invariant.proceeds c.carry_out.ensures.leaves.proceeds; none = search rules }
 
 pub loop-place-preserved : goal.loop-place-preserved
 loop-place-preserved g c = record {
-  proceeds = Proceeds-trans g.D.Disk _ _ _ g.met.D.Disk.counts_now c.loop-place.invariant.proceeds c.carry_out.ensures.proceeds;
-  none = c.carry_out.ensures.none;
+  proceeds = Proceeds-trans g.D.Disk _ _ _ g.met.D.Disk.counts_now c.loop-place.invariant.proceeds c.carry_out.ensures.leaves.proceeds;
+  none = c.carry_out.ensures.leaves.none;
   fine = c.if-all.false;
   front = front-unit _ _ _ _ _ c.in_ok-outcome.outcome _ _ _ c.from-at.ensures c.if-count-eq0.false (c.in_ok-outcome.ensures.carried (λ e. cc)) c.if-all.false c.loop-place.invariant.front;
   onward = λ result last h. c.loop-place.invariant.onward result last

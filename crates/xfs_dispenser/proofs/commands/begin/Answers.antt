@@ -1,4 +1,4 @@
-use Rattle.std.proofs.Common.{refl}
+use Rattle.std.proofs.Common.{refl, rules}
 use Rattle.std.proofs.lemmas.Result.{IfOk-weaker}
 use Rattle.xfs_dispenser.specs.Answers.{start_of}
 use Rattle.xfs_dispenser.specs.Begins.{IsDispensed, IsStorageSet}
@@ -10,50 +10,50 @@ use Rattle.xfs_dispenser.proofs.CommandLaws.{at-plan}
 use Rattle.xfs_dispenser.proofs.SendLaws.{begins-sent, unless-start}
 use Rattle.xfs_dispenser.proofs.commands.begin.Goals as goal
 
-pub returns-in-Denominate-clause-proceeds : goal.returns-in-Denominate-clause-proceeds
-returns-in-Denominate-clause-proceeds g c = Proceeds-same g.D.Disk _ g.met.D.Disk.only_now
+pub returns-in-Denominate-clause-leaves : goal.returns-in-Denominate-clause-leaves
+returns-in-Denominate-clause-leaves g c = record { proceeds = Proceeds-same g.D.Disk _ g.met.D.Disk.only_now; none = search rules }
 
 pub returns-in-Denominate-clause-keeps : goal.returns-in-Denominate-clause-keeps
 returns-in-Denominate-clause-keeps g c = λ upheld. Keeps-same g.D.Disk _ g.met.D.Disk.only_now upheld
 
-pub returns-in-Present-clause-proceeds : goal.returns-in-Present-clause-proceeds
-returns-in-Present-clause-proceeds g c = Proceeds-same g.D.Disk _ g.met.D.Disk.only_now
+pub returns-in-Present-clause-leaves : goal.returns-in-Present-clause-leaves
+returns-in-Present-clause-leaves g c = record { proceeds = Proceeds-same g.D.Disk _ g.met.D.Disk.only_now; none = search rules }
 
 pub returns-in-Present-clause-keeps : goal.returns-in-Present-clause-keeps
 returns-in-Present-clause-keeps g c = λ upheld. Keeps-same g.D.Disk _ g.met.D.Disk.only_now upheld
 
-pub returns-in-Reject-clause-proceeds : goal.returns-in-Reject-clause-proceeds
-returns-in-Reject-clause-proceeds g c = Proceeds-same g.D.Disk _ g.met.D.Disk.only_now
+pub returns-in-Reject-clause-leaves : goal.returns-in-Reject-clause-leaves
+returns-in-Reject-clause-leaves g c = record { proceeds = Proceeds-same g.D.Disk _ g.met.D.Disk.only_now; none = search rules }
 
 pub returns-in-Reject-clause-keeps : goal.returns-in-Reject-clause-keeps
 returns-in-Reject-clause-keeps g c = λ upheld. Keeps-same g.D.Disk _ g.met.D.Disk.only_now upheld
 
-pub returns-in-Retract-clause-proceeds : goal.returns-in-Retract-clause-proceeds
-returns-in-Retract-clause-proceeds g c = Proceeds-same g.D.Disk _ g.met.D.Disk.only_now
+pub returns-in-Retract-clause-leaves : goal.returns-in-Retract-clause-leaves
+returns-in-Retract-clause-leaves g c = record { proceeds = Proceeds-same g.D.Disk _ g.met.D.Disk.only_now; none = search rules }
 
 pub returns-in-Retract-clause-keeps : goal.returns-in-Retract-clause-keeps
 returns-in-Retract-clause-keeps g c = λ upheld. Keeps-same g.D.Disk _ g.met.D.Disk.only_now upheld
 
-pub returns-in-Reset-clause-proceeds : goal.returns-in-Reset-clause-proceeds
-returns-in-Reset-clause-proceeds g c = Proceeds-same g.D.Disk _ g.met.D.Disk.only_now
+pub returns-in-Reset-clause-leaves : goal.returns-in-Reset-clause-leaves
+returns-in-Reset-clause-leaves g c = record { proceeds = Proceeds-same g.D.Disk _ g.met.D.Disk.only_now; none = search rules }
 
 pub returns-in-Reset-clause-keeps : goal.returns-in-Reset-clause-keeps
 returns-in-Reset-clause-keeps g c = λ upheld. Keeps-same g.D.Disk _ g.met.D.Disk.only_now upheld
 
-pub returns-in-SetStorage-clause-proceeds : goal.returns-in-SetStorage-clause-proceeds
-returns-in-SetStorage-clause-proceeds g c = Proceeds-same g.D.Disk _ g.met.D.Disk.only_now
+pub returns-in-SetStorage-clause-leaves : goal.returns-in-SetStorage-clause-leaves
+returns-in-SetStorage-clause-leaves g c = record { proceeds = Proceeds-same g.D.Disk _ g.met.D.Disk.only_now; none = search rules }
 
 pub returns-in-SetStorage-clause-keeps : goal.returns-in-SetStorage-clause-keeps
 returns-in-SetStorage-clause-keeps g c = λ upheld. Keeps-same g.D.Disk _ g.met.D.Disk.only_now upheld
 
-pub returns-in-StartExchange-clause-proceeds : goal.returns-in-StartExchange-clause-proceeds
-returns-in-StartExchange-clause-proceeds g c = Proceeds-same g.D.Disk _ g.met.D.Disk.only_now
+pub returns-in-StartExchange-clause-leaves : goal.returns-in-StartExchange-clause-leaves
+returns-in-StartExchange-clause-leaves g c = record { proceeds = Proceeds-same g.D.Disk _ g.met.D.Disk.only_now; none = search rules }
 
 pub returns-in-StartExchange-clause-keeps : goal.returns-in-StartExchange-clause-keeps
 returns-in-StartExchange-clause-keeps g c = λ upheld. Keeps-same g.D.Disk _ g.met.D.Disk.only_now upheld
 
-pub returns-in-EndExchange-clause-proceeds : goal.returns-in-EndExchange-clause-proceeds
-returns-in-EndExchange-clause-proceeds g c = Proceeds-same g.D.Disk _ g.met.D.Disk.only_now
+pub returns-in-EndExchange-clause-leaves : goal.returns-in-EndExchange-clause-leaves
+returns-in-EndExchange-clause-leaves g c = record { proceeds = Proceeds-same g.D.Disk _ g.met.D.Disk.only_now; none = search rules }
 
 pub returns-in-EndExchange-clause-keeps : goal.returns-in-EndExchange-clause-keeps
 returns-in-EndExchange-clause-keeps g c = λ upheld. Keeps-same g.D.Disk _ g.met.D.Disk.only_now upheld

@@ -21,10 +21,10 @@ pub stack_all-requires-clause-few : goal.stack_all-requires-clause-few
 stack_all-requires-clause-few g c = rw c.allow.ensures.proceeds.continues.units (few-allowed _ _ c.args.counts.now c.in-Ok.grant _ (c.in-Ok.ensures.allowed (λ e. cc)))
 
 pub returns-in-Ok-stack_all-clause-proceeds : goal.returns-in-Ok-stack_all-clause-proceeds
-returns-in-Ok-stack_all-clause-proceeds g c = Proceeds-trans g.D.Disk _ _ _ g.met.D.Disk.counts_now c.allow.ensures.proceeds c.stack_all.ensures.proceeds
+returns-in-Ok-stack_all-clause-proceeds g c = Proceeds-trans g.D.Disk _ _ _ g.met.D.Disk.counts_now c.allow.ensures.proceeds c.stack_all.ensures.leaves.proceeds
 
 pub returns-in-Err-stack_all-clause-proceeds : goal.returns-in-Err-stack_all-clause-proceeds
-returns-in-Err-stack_all-clause-proceeds g c = Proceeds-trans g.D.Disk _ _ _ g.met.D.Disk.counts_now c.allow.ensures.proceeds c.stack_all.ensures.proceeds
+returns-in-Err-stack_all-clause-proceeds g c = Proceeds-trans g.D.Disk _ _ _ g.met.D.Disk.counts_now c.allow.ensures.proceeds c.stack_all.ensures.leaves.proceeds
 
 pub returns-in-Err-clause-memory : goal.returns-in-Err-clause-memory
 returns-in-Err-clause-memory g c =
