@@ -27,11 +27,7 @@ asked_at text name id payload reads object = elim (cases_Bool (nat_lt 65536 (len
   | inr n ↦ let not_longer = ltb-false 65536 (length text) n in subst (IsReadAt id) (sym (reads object (omega (arith, not_longer)))) refl
 ]
 
--- what follows where there is a value, of which two things hold
-pub if_both : {T E : Type 0} (r : Result T E) (P Q R : T → Type 0) → ((t : T) → P t → Q t → R t) → IfOk r P → IfOk r Q → IfOk r R
-if_both (Ok t) P Q R follows p q = follows t p q
-if_both (Err e) P Q R follows p q = tt
-
+-- what follows where there is a value: something holds of it, and something else besides
 pub on_both : {T E : Type 0} (r : Result T E) (P : Type 0) (Q R : T → Type 0) → ((t : T) → P → Q t → R t) → OnOk r P → IfOk r Q → IfOk r R
 on_both (Ok t) P Q R follows p q = follows t p q
 on_both (Err e) P Q R follows p q = tt

@@ -1,8 +1,7 @@
-ghost use Rattle.std.specs.Prelude.{◌≡◌, ◌≢◌, ◌↔◌, ◌<◌, ◌≤◌, ◌+◌, ◌++◌, ◌∷◌, [], List, true, IsTrue, IfOk, IfErr, OnOk, OnErr, Ok, Err};
+ghost use Rattle.std.specs.Prelude.{◌≡◌, ◌≢◌, ◌↔◌, ◌<◌, ◌≤◌, ◌+◌, ◌++◌, ◌∷◌, [], List, true, IfOk, IfErr, OnOk, OnErr, Ok, Err};
 ghost use Rattle.serde_json.specs.View.{view};
-ghost use Rattle.xfs_envelope.specs.Names.{is_name};
 ghost use Rattle.xfs_envelope.specs.Replies as replies;
-ghost use Rattle.xfs_client.specs.Commands.{IsWritable, ReadsAs, command_text};
+ghost use Rattle.xfs_client.specs.Commands.{IsAskable, IsCommand};
 ghost use Rattle.xfs_client.specs.History as history;
 ghost use Rattle.xfs_client.specs.History.{Entry, Told, addressee, first_unacknowledged, is_open, of_ask, open_ask, told, told_by, told_in, with_status, completion_in};
 ghost use Rattle.xfs_client.specs.Desks.{GrowsBy, IsEndOf, Recalls, OfKept, HearsOpen};
@@ -86,10 +85,8 @@ impl Desk {
     /// The text of the next command, to be sent as it is. The asks of a desk have the ids 1, 2, 3
     /// and so on.
     pub fn ask(&mut self, name: &str, payload: &Value) -> Result<Vec<u8>, AskFault>
-        requires name { IsTrue (is_name name.now) }
-        requires payload { IsWritable (view payload.now) }
-        ensures text { IfOk result (λ t. t.items ≡ command_text name.now (self.old.asked + 1) (view payload.now)) }
-        ensures reads_back { IfOk result (λ t. ReadsAs t.items name.now (self.old.asked + 1) (view payload.now)) }
+        requires command { IsAskable name.now (view payload.now) }
+        ensures written { IfOk result (λ t. IsCommand name.now (self.old.asked + 1) (view payload.now) t.items) }
         ensures grown { OnOk result (GrowsBy history.ask self.old self.new) }
         ensures ids { (result ≡ Err AskFault.Ids) ↔ (self.old.asked ≡ 2147483647) }
         ensures same { OnErr result (self.new ≡ self.old) }
@@ -122,10 +119,8 @@ impl Desk {
 
     pub(crate) fn ask_next(&mut self, name: &str, payload: &Value) -> Result<Vec<u8>, Memory>
         requires room { self.old.asked < 2147483647 }
-        requires name { IsTrue (is_name name.now) }
-        requires payload { IsWritable (view payload.now) }
-        ensures text { IfOk result (λ t. t.items ≡ command_text name.now (self.old.asked + 1) (view payload.now)) }
-        ensures reads_back { IfOk result (λ t. ReadsAs t.items name.now (self.old.asked + 1) (view payload.now)) }
+        requires command { IsAskable name.now (view payload.now) }
+        ensures written { IfOk result (λ t. IsCommand name.now (self.old.asked + 1) (view payload.now) t.items) }
         ensures grown { OnOk result (GrowsBy history.ask self.old self.new) }
         ensures same { OnErr result (self.new ≡ self.old) }
     {

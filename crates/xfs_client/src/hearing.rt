@@ -1,11 +1,10 @@
 //! What a client hears of a lawful conversation: the calls of a desk and of a withdrawal, as they go on with what
 //! was asked and heard.
 
-ghost use Rattle.std.specs.Prelude.{◌≡◌, ◌≢◌, ◌↔◌, ◌+◌, ◌++◌, ◌∷◌, [], IsTrue, IsSome, IfOk, IfErr, OnErr, Ok, Err, OnOk};
+ghost use Rattle.std.specs.Prelude.{◌≡◌, ◌≢◌, ◌↔◌, ◌+◌, ◌++◌, ◌∷◌, [], IsSome, IfOk, IfErr, OnErr, Ok, Err, OnOk};
 ghost use Rattle.serde_json.specs.Find.{as_object};
 ghost use Rattle.serde_json.specs.View.{view};
-ghost use Rattle.xfs_envelope.specs.Names.{is_name};
-ghost use Rattle.xfs_client.specs.Commands.{IsCommand, IsWritable};
+ghost use Rattle.xfs_client.specs.Commands.{IsAskable, IsCommand};
 ghost use Rattle.xfs_client.specs.Desks.{GrowsBy, OfKept};
 ghost use Rattle.xfs_client.specs.History.{told, told_in};
 ghost use Rattle.xfs_client.specs.Hearings.{AsksOn, ComesNext, HearsOn};
@@ -21,9 +20,8 @@ use xfs_json::Value;
 /// Asks a command whose payload is an object. It is the desk's next ask, also for a service that
 /// finds its text too long.
 pub fn ask(desk: &mut Desk, name: &str, payload: &Value) -> Result<Vec<u8>, AskFault>
-    requires name { IsTrue (is_name name.now) }
+    requires command { IsAskable name.now (view payload.now) }
     requires object { IsSome (as_object (view payload.now)) }
-    requires payload { IsWritable (view payload.now) }
     ensures written { IfOk result (λ t. IsCommand name.now (desk.old.asked + 1) (view payload.now) t.items) }
     ensures ids { (result ≡ Err AskFault.Ids) ↔ (desk.old.asked ≡ 2147483647) }
     ensures goes_on { IfOk result (λ t. AsksOn t.items desk.old desk.new) }

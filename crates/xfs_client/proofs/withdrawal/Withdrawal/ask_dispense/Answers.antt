@@ -1,4 +1,4 @@
-use Rattle.std.proofs.Common.{sym, ap, subst, arith}
+use Rattle.std.proofs.Common.{rules, sym, ap, subst, arith}
 use Rattle.std.specs.Str.{IsUtf8}
 use Rattle.serde_json.specs.Data.{depth}
 use Rattle.serde_json.specs.Written.{has_float}
@@ -13,10 +13,10 @@ payload-requires c = subst IsUtf8 (sym c.deref.ensures.value) (spelled-IsUtf8 _ 
 pub ask_next-requires-clause-room : goal.ask_next-requires-clause-room
 ask_next-requires-clause-room c = omega (arith, ap (λ (w : Withdrawing). w.desk.asked) c.self.view_is, c.requires)
 
-pub ask_next-requires-clause-payload : goal.ask_next-requires-clause-payload
-ask_next-requires-clause-payload c = record {
-  no_float = ap has_float c.in_ok-payload.ensures;
-  shallow = omega (arith, ap depth c.in_ok-payload.ensures);
+pub ask_next-requires-clause-command : goal.ask_next-requires-clause-command
+ask_next-requires-clause-command c = record {
+  named = search rules;
+  writable = record { no_float = ap has_float c.in_ok-payload.ensures; shallow = omega (arith, ap depth c.in_ok-payload.ensures) };
 }
 
 pub returns-clause-grown : goal.returns-clause-grown
