@@ -31,7 +31,7 @@ impl Bell {
     /// Sleeps until it rings, or for so many milliseconds; not at all where it has rung since `listen`. True where it rang.
     pub fn sleep<R: Wait>(&self, rt: &R, millis: u64) -> bool {
         self.state
-            .park_timeout(rt, 1, Duration::from_millis(millis));
+            .park_timeout(rt, LISTENS as u32, Duration::from_millis(millis));
         self.state.load(Ordering::SeqCst) == QUIET
     }
 
